@@ -1,0 +1,3 @@
+pub mod Stream
+pub mod Lines
+pub mod Memory

@@ -1,0 +1,11 @@
+-- Counts of faults, and what a whole write leaves.
+use Rattle.std.specs.Prelude.{ℕ, ◌+◌, ◌-◌, ◌^◌, ◌≤◌, List, Option, min, take, length}
+use Rattle.std.specs.Io.KnownBytes.{Appends}
+
+-- A count of faults rose by one at least. It stays at the last number that a u64 can show, where it counts as risen.
+abbrev pub Rose : ℕ → ℕ → Type 0
+Rose before now = min (before + 1) (2 ^ 64 - 1) ≤ now
+
+-- known bytes grow by a front of these bytes
+abbrev pub AppendsFront : Option (List ℕ) → Option (List ℕ) → List ℕ → Type 0
+AppendsFront old new bytes = (n : ℕ) × (n ≤ length bytes) × Appends old new (take n bytes)

@@ -1,0 +1,326 @@
+ghost use Rattle.std.specs.Prelude.{◌≡◌, ◌≢◌, ◌↔◌, ℕ, ◌+◌, ◌-◌, ◌<◌, ◌≤◌, ◌^◌, List, [], ◌∷◌, ◌++◌, All, Some, None, IfSome, IfNone, IfOk, OnOk, OnErr, IsTrue, MatchOption, length, take, drop, slice_index, vec_len};
+ghost use Rattle.std.specs.List.{slice_range};
+ghost use Rattle.std.specs.Io.KnownBytes.{IsAtEnd, Keeps};
+ghost use Rattle.edge_io.specs.Stream.{Rose};
+ghost use Rattle.edge_io.specs.Lines.{Reader, NoneBelow, IsFirstNewline, Stays, Reads, ReadsOn, Fills, HoldsAnswer, AnswersHeld, Wants, OneAnswer, ahead};
+
+use crate::Source;
+use memchr::memchr;
+use std::alloc::{AllocError, Global};
+use std::marker::Model;
+
+/// The most bytes that a line may have, its newline not counted.
+pub const MAX_LINE: usize = 16_777_216;
+
+/// The most bytes that are taken of a source.
+pub const MAX_INPUT: u64 = 1 << 40;
+
+// The most bytes of one read, and the room of the first buffer.
+const ROOM: usize = 65_536;
+
+const NEWLINE: u8 = 0x0a;
+
+/// What a call of `Lines::next` came to.
+#[derive(Clone, Copy, Debug, PartialEq, Eq)]
+pub enum LineRead {
+    /// A line was read.
+    Line,
+    /// The source ended behind a newline, or gave no byte.
+    End,
+    /// The source ended, with fewer than 2^40 bytes, within a line of at most `MAX_LINE` bytes.
+    Torn,
+    /// A line has more than `MAX_LINE` bytes within the first 2^40 bytes.
+    TooLong,
+    /// 2^40 bytes were taken, no whole line of them is left, and what is left isn't too long.
+    InputTooLong,
+    /// A read failed. The next call goes on where this one stopped.
+    SourceFault,
+    /// Memory ran out. The next call goes on where this one stopped.
+    Memory,
+}
+
+// What one read of the source came to.
+#[derive(Clone, Copy)]
+enum Filled {
+    More,
+    End,
+    Fault,
+    Memory,
+}
+
+/// Reads a source line by line, through a buffer.
+///
+/// A read asks for at most 65,536 bytes, and comes only where no answer is in hand.
+#[derive(Drop)]
+pub struct Lines {
+    // The last line stands from `line_at` up to `line_end`, what is not given yet from `start` on.
+    buf: Vec<u8>,
+    line_at: usize,
+    line_end: usize,
+    start: usize,
+    // How far behind `start` the first newline stands.
+    newline: Option<usize>,
+    number: u64,
+    passed: u64,
+    stop: Option<LineRead>,
+}
+
+impl Model for Lines {
+    ghost use Rattle.std.specs.Prelude.{◌+◌, ◌-◌, ◌^◌, ◌≤◌, drop, vec_len};
+    ghost use Rattle.std.specs.List.{slice_range};
+    ghost use Rattle.edge_io.specs.Lines.{Reader, IsFirstNewline};
+
+    ghost Value = { Reader };
+
+    ghost view = { λ r. record { held = drop r.start r.buf.items; passed = r.passed; line = slice_range r.buf.items r.line_at r.line_end; number = r.number; stop = r.stop } };
+
+    ghost invariant = { λ r. (r.line_at ≤ r.line_end) × (r.line_end ≤ r.start) × (r.start ≤ vec_len r.buf) × (r.number ≤ r.passed) × (r.passed + (vec_len r.buf - r.start) ≤ 2 ^ 40) × IsFirstNewline (drop r.start r.buf.items) r.newline };
+}
+
+impl Lines {
+    /// A reader that has read nothing.
+    pub fn new(alloc: Global) -> Result<Lines, AllocError>
+        ensures { IfOk result (λ r. r ≡ record { held = []; passed = 0; line = []; number = 0; stop = None }) }
+    {
+        Ok(Lines {
+            buf: Vec::with_capacity(alloc, ROOM)?,
+            line_at: 0,
+            line_end: 0,
+            start: 0,
+            newline: None,
+            number: 0,
+            passed: 0,
+            stop: None,
+        })
+    }
+
+    /// The last line that was read, without its newline.
+    pub fn line(&self) -> &[u8]
+        ensures { result.now ≡ self.now.line }
+    {
+        &self.buf[self.line_at..self.line_end]
+    }
+
+    /// The number of that line, from 1; 0 before the first.
+    pub fn number(&self) -> u64
+        ensures { result ≡ self.now.number }
+    {
+        self.number
+    }
+
+    /// Whether the next call of `next` answers without a read.
+    pub fn holds_line(&self) -> bool
+        ensures { IsTrue result ↔ HoldsAnswer self.now }
+    {
+        self.stop.is_some()
+            || self.newline.is_some()
+            || self.buf.len() - self.start > MAX_LINE
+            || self.taken() == MAX_INPUT
+    }
+
+    /// Reads the next line. Where it is torn or too long, or the input is, each later call says so.
+    pub fn next<S: Source>(&mut self, source: &mut S) -> LineRead
+        ensures read { IfNone self.old.stop (Reads self.old self.new (ahead self.old (S.left source.old)) (ahead self.new (S.left source.new)) result) }
+        ensures stopped { IfSome self.old.stop (λ stop. (result ≡ stop) × (self.new ≡ self.old) × (source.new ≡ source.old)) }
+        ensures unread { HoldsAnswer self.old → source.new ≡ source.old }
+        ensures faults { S.read_faults source.old ≤ S.read_faults source.new }
+        ensures failed { result ≡ LineRead.SourceFault → self.old.stop ≡ None → Rose (S.read_faults source.old) (S.read_faults source.new) }
+    {
+        if let Some(stop) = self.stop {
+            return stop;
+        }
+        'reads: loop {
+            if let Some(answer) = self.answer() {
+                return answer;
+            }
+            match self.fill(source) {
+                Filled::More => {}
+                Filled::End => return self.end(),
+                Filled::Fault => return LineRead::SourceFault,
+                Filled::Memory => return LineRead::Memory,
+            }
+        }
+    }
+
+    // The answer that is in hand.
+    fn answer(&mut self) -> Option<LineRead>
+        requires { self.old.stop ≡ None }
+        ensures some { IfSome result (AnswersHeld self.old self.new) }
+        ensures none { IfNone result ((self.new ≡ self.old) × Wants self.old) }
+    {
+        if let Some(len) = self.first_newline() {
+            if len > MAX_LINE {
+                return Some(self.halt(LineRead::TooLong));
+            }
+            self.pass(len);
+            return Some(LineRead::Line);
+        }
+        if self.held_len() > MAX_LINE {
+            return Some(self.halt(LineRead::TooLong));
+        }
+        if self.taken() == MAX_INPUT {
+            return Some(self.halt(LineRead::InputTooLong));
+        }
+        None
+    }
+
+    // The answer where the source has ended.
+    fn end(&mut self) -> LineRead
+        ensures end { length self.old.held ≡ 0 → (result ≡ LineRead.End) × (self.new ≡ self.old) }
+        ensures torn { 0 < length self.old.held → (result ≡ LineRead.Torn) × (self.new ≡ record self.old { stop = Some LineRead.Torn }) }
+    {
+        if self.held_len() == 0 {
+            return LineRead::End;
+        }
+        self.halt(LineRead::Torn)
+    }
+
+    fn first_newline(&self) -> Option<usize>
+        ensures place { IsFirstNewline self.now.held result }
+        ensures bound { self.now.passed + length self.now.held ≤ 2 ^ 40 }
+    {
+        self.newline
+    }
+
+    fn held_len(&self) -> usize
+        ensures value { result ≡ length self.now.held }
+        ensures bound { self.now.passed + length self.now.held ≤ 2 ^ 40 }
+    {
+        self.buf.len() - self.start
+    }
+
+    // How many bytes were taken.
+    fn taken(&self) -> u64
+        ensures value { result ≡ self.now.passed + length self.now.held }
+        ensures bound { result ≤ 2 ^ 40 }
+    {
+        self.passed + (self.buf.len() - self.start) as u64
+    }
+
+    // Stops for good.
+    fn halt(&mut self, stop: LineRead) -> LineRead
+        ensures result { result ≡ stop }
+        ensures after { self.new ≡ record self.old { stop = Some stop } }
+    {
+        self.stop = Some(stop);
+        stop
+    }
+
+    // Gives a line of this length, which a newline follows.
+    fn pass(&mut self, len: usize)
+        requires within { len < length self.old.held }
+        requires newline { slice_index self.old.held len ≡ 10 }
+        ensures line { self.new.line ≡ take len self.old.held }
+        ensures held { self.new.held ≡ drop (len + 1) self.old.held }
+        ensures number { self.new.number ≡ self.old.number + 1 }
+        ensures passed { self.new.passed ≡ self.old.passed + len + 1 }
+        ensures stop { self.new.stop ≡ self.old.stop }
+        ensures bound { self.new.passed ≤ 2 ^ 40 }
+    {
+        self.line_at = self.start;
+        self.line_end = self.start + len;
+        self.start = self.line_end + 1;
+        self.number += 1;
+        self.passed += len as u64 + 1;
+        let (_, held) = self.buf.split_at(self.start);
+        self.newline = newline_from(held, 0);
+    }
+
+    // Reads more bytes behind what is there.
+    fn fill<S: Source>(&mut self, source: &mut S) -> Filled
+        requires none { NoneBelow self.old.held (length self.old.held) }
+        requires within { self.old.passed + length self.old.held < 2 ^ 40 }
+        ensures filled { Fills self.old.held self.new.held (ahead self.old (S.left source.old)) (ahead self.new (S.left source.new)) result }
+        ensures stays { Stays self.old self.new }
+        ensures stop { self.new.stop ≡ self.old.stop }
+        ensures end { result ≡ Filled.End → IsAtEnd (S.left source.new) }
+        ensures faults { S.read_faults source.old ≤ S.read_faults source.new }
+        ensures failed { result ≡ Filled.Fault → Rose (S.read_faults source.old) (S.read_faults source.new) }
+    {
+        let count = self.room();
+        let searched = self.buf.len() - self.start;
+        let filled = read_on(&mut self.buf, count, source);
+        let (_, held) = self.buf.split_at(self.start);
+        self.newline = newline_from(held, searched);
+        filled
+    }
+
+    // Moves the last line and what follows it to the front, and answers how many bytes to read.
+    fn room(&mut self) -> usize
+        requires { self.old.passed + length self.old.held < 2 ^ 40 }
+        ensures same { self.new ≡ self.old }
+        ensures some { 0 < result }
+        ensures small { result ≤ 65536 }
+        ensures bound { self.old.passed + length self.old.held + result ≤ 2 ^ 40 }
+    {
+        let shift = self.line_at;
+        if shift > 0 {
+            give_up_front(&mut self.buf, shift);
+            self.line_at = 0;
+            self.line_end -= shift;
+            self.start -= shift;
+        }
+        let len = self.buf.len();
+        let count = if len < ROOM / 2 { ROOM - len } else { ROOM };
+        (count as u64).min(MAX_INPUT - self.taken()) as usize
+    }
+}
+
+// Gives up so many bytes at the front.
+fn give_up_front(buf: &mut Vec<u8>, count: usize)
+    requires { count ≤ vec_len buf.old }
+    ensures items { buf.new.items ≡ drop count buf.old.items }
+    ensures len { vec_len buf.new + count ≡ vec_len buf.old }
+{
+    let len = buf.len();
+    buf.copy_within(count..len, 0);
+    buf.truncate(len - count);
+}
+
+// Reads at most so many bytes behind those that are there.
+fn read_on<S: Source>(buf: &mut Vec<u8>, count: usize, source: &mut S) -> Filled
+    requires some { 0 < count }
+    requires bound { vec_len buf.old + count < 2 ^ 64 }
+    ensures read { ReadsOn buf.old.items buf.new.items (S.left source.old) (S.left source.new) result }
+    ensures bound { vec_len buf.new ≤ vec_len buf.old + count }
+    ensures faults { S.read_faults source.old ≤ S.read_faults source.new }
+    ensures failed { result ≡ Filled.Fault → Rose (S.read_faults source.old) (S.read_faults source.new) }
+{
+    let len = buf.len();
+    let Ok(()) = buf.resize(len + count, 0) else {
+        return Filled::Memory;
+    };
+    match source.read(&mut buf[len..]) {
+        Ok(0) => {
+            buf.truncate(len);
+            Filled::End
+        }
+        Ok(more) => {
+            buf.truncate(len + more);
+            Filled::More
+        }
+        Err(_) => {
+            buf.truncate(len);
+            Filled::Fault
+        }
+    }
+}
+
+// The place of the first newline, which is not among the first bytes that were searched.
+fn newline_from(bytes: &[u8], searched: usize) -> Option<usize>
+    requires within { searched ≤ length bytes.now }
+    requires none { NoneBelow bytes.now searched }
+    ensures { IsFirstNewline bytes.now result }
+{
+    let (_, rest) = bytes.split_at(searched);
+    match memchr(NEWLINE, rest) {
+        Some(k) => Some(searched + k),
+        None => None,
+    }
+}
+
+/// Where the bytes are told, each answer of `Lines::next` but want of memory and a failed read comes
+/// exactly in its case: no two cases hold of the same bytes.
+pub fn one_answer()
+    ensures { OneAnswer }
+{}

@@ -1,0 +1,131 @@
+use super::*;
+use std::alloc::{AllocError, Global};
+use std::process::Abort;
+use std::test::Fail;
+
+// A source that gives at most so many bytes a read.
+#[derive(Drop)]
+struct Pieces {
+    source: MemSource,
+    most: usize,
+}
+
+impl Source for Pieces {
+    ghost left = { λ s. ⟦<MemSource as Source>⟧.left s.source };
+
+    ghost read_faults = { λ s. ⟦<MemSource as Source>⟧.read_faults s.source };
+
+    fn read(&mut self, buf: &mut [u8]) -> Result<usize, Failed> {
+        let most = self.most.max(1).min(buf.len());
+        self.source.read(&mut buf[..most])
+    }
+}
+
+fn in_pieces(alloc: Global, bytes: &[u8], most: usize) -> Result<Pieces, AllocError> {
+    Ok(Pieces {
+        source: MemSource::new(alloc, bytes, &[])?,
+        most,
+    })
+}
+
+// All lines, each with a `|` behind it, and what came at their end, twice.
+fn expect_lines(
+    rt: &impl Abort,
+    alloc: Global,
+    source: &mut Pieces,
+    wanted: &[u8],
+    end: LineRead,
+) -> Result<(), Fail> {
+    let mut lines = Lines::new(alloc)?;
+    let mut text = Vec::new(alloc);
+    for number in 1..9u64 {
+        if lines.next(source) != LineRead::Line {
+            break;
+        }
+        text.extend_from_slice(lines.line())?;
+        text.push(b'|')?;
+        assert_eq!(rt; lines.number(), number);
+    }
+    assert_eq!(rt; text.as_slice(), wanted);
+    assert_eq!(rt; lines.next(source), end);
+    Ok(())
+}
+
+#[test]
+fn lines_are_read_whole_in_whatever_pieces_they_come(rt: HostRuntime) -> Result<(), Fail> {
+    let table = [
+        ("", "", LineRead::End),
+        ("\n", "|", LineRead::End),
+        ("one\ntwo\n", "one|two|", LineRead::End),
+        ("one\n\n\r\n", "one||\r|", LineRead::End),
+        ("t", "", LineRead::Torn),
+        ("one\nt", "one|", LineRead::Torn),
+    ];
+    for (text, wanted, end) in table {
+        for most in [1usize, 2, 7, 65_536] {
+            let mut source = in_pieces(rt.alloc(), text.as_bytes(), most)?;
+            expect_lines(&rt, rt.alloc(), &mut source, wanted.as_bytes(), end)?;
+        }
+    }
+    Ok(())
+}
+
+fn expect_longest(
+    rt: &impl Abort,
+    alloc: Global,
+    len: usize,
+    wanted: LineRead,
+) -> Result<(), Fail> {
+    let mut bytes = vec![in alloc; b'x'; len]?;
+    bytes.push(b'\n')?;
+    let mut source = MemSource::new(alloc, &bytes, &[])?;
+    let mut lines = Lines::new(alloc)?;
+    assert_eq!(rt; lines.next(&mut source), wanted);
+    Ok(())
+}
+
+#[test]
+fn a_line_of_16777216_bytes_is_the_longest(rt: HostRuntime) -> Result<(), Fail> {
+    expect_longest(&rt, rt.alloc(), 16_777_216, LineRead::Line)?;
+    expect_longest(&rt, rt.alloc(), 16_777_217, LineRead::TooLong)
+}
+
+#[test]
+fn reading_goes_on_after_a_failed_read(rt: HostRuntime) -> Result<(), Fail> {
+    let mut source = MemSource::new(rt.alloc(), b"one\ntwo\n", &[1, 3])?;
+    let mut lines = Lines::new(rt.alloc())?;
+    assert!(rt; !lines.holds_line());
+    assert_eq!(rt; lines.next(&mut source), LineRead::SourceFault);
+    assert_eq!(rt; lines.next(&mut source), LineRead::Line);
+    assert!(rt; lines.holds_line());
+    assert_eq!(rt; lines.next(&mut source), LineRead::Line);
+    assert_eq!(rt; lines.line(), b"two".as_slice());
+    assert!(rt; !lines.holds_line());
+    assert_eq!(rt; lines.next(&mut source), LineRead::SourceFault);
+    assert_eq!(rt; lines.next(&mut source), LineRead::End);
+    Ok(())
+}
+
+#[test]
+fn a_sink_in_memory_fails_where_told_and_where_it_is_full(rt: HostRuntime) -> Result<(), Fail> {
+    let mut sink = MemSink::new(rt.alloc(), 5, &[2])?;
+    assert_eq!(rt; write_whole(&mut sink, b"one"), Ok(()));
+    assert_eq!(rt; write_whole(&mut sink, b"tw"), Err(Failed));
+    assert_eq!(rt; write_whole(&mut sink, b"two"), Err(Failed));
+    assert_eq!(rt; write_whole(&mut sink, b"tw"), Ok(()));
+    assert_eq!(rt; sink.bytes(), b"onetw".as_slice());
+    Ok(())
+}
+
+#[test]
+fn standard_streams_are_read_and_written(rt: HostRuntime) -> Result<(), Fail> {
+    let mut source = StdSource::new(b"ab".as_slice());
+    let mut buf = [0u8; 4];
+    assert_eq!(rt; source.read(&mut buf), Ok(2));
+    assert_eq!(rt; source.read(&mut buf), Ok(0));
+    let mut out = [0u8; 3];
+    let mut sink = StdSink::new(out.as_mut_slice());
+    assert_eq!(rt; write_whole(&mut sink, b"abc"), Ok(()));
+    assert_eq!(rt; write_whole(&mut sink, b"d"), Err(Failed));
+    Ok(())
+}
