@@ -103,7 +103,8 @@ impl Lines {
 
     /// The number of that line, from 1; 0 before the first.
     pub fn number(&self) -> u64
-        ensures { result ≡ self.now.number }
+        ensures value { result ≡ self.now.number }
+        ensures bound { result ≤ 2 ^ 40 }
     {
         self.number
     }
