@@ -1,0 +1,9 @@
+pub mod ReadLemmas
+pub mod Written
+pub mod GrammarLemmas
+pub mod FieldLemmas
+pub mod FaultLemmas
+pub mod ContentsLemmas
+pub mod FieldTexts
+pub mod MessageLemmas
+pub mod SignedLemmas
