@@ -1,0 +1,4 @@
+pub mod Segments
+pub mod Keys
+pub mod Refusals
+pub mod KeyNames

@@ -1,0 +1,3 @@
+pub mod Name
+pub mod Key
+pub mod Laws
