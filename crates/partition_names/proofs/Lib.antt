@@ -1,0 +1,4 @@
+pub mod NameLemmas
+pub mod PartLemmas
+pub mod PathLemmas
+pub mod UnitLemmas
