@@ -138,7 +138,7 @@ escaped-HasNoNewline [] = All-nil (λ x. x ≢ 10)
 escaped-HasNoNewline (x ∷ b) = All-append (λ x. x ≢ 10) (code_of x) (escaped b) (code_whole x) (escaped-HasNoNewline b)
 
 -- lines without newlines, told apart by the newline behind them
-lines_apart : (u v x y : List ℕ) → AllByRecursion (λ z. z ≢ 10) u → AllByRecursion (λ z. z ≢ 10) v → u ++ 10 ∷ x ≡ v ++ 10 ∷ y → (u ≡ v) × (x ≡ y)
+pub lines_apart : (u v x y : List ℕ) → AllByRecursion (λ z. z ≢ 10) u → AllByRecursion (λ z. z ≢ 10) v → u ++ 10 ∷ x ≡ v ++ 10 ∷ y → (u ≡ v) × (x ≡ y)
 lines_apart [] [] x y h k e = (refl, cc)
 lines_apart [] (q ∷ v) x y h k e = absurd (let same : q ≡ 10 = cc in k.0 same)
 lines_apart (p ∷ u) [] x y h k e = absurd (let same : p ≡ 10 = cc in h.0 same)
