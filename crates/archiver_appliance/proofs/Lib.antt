@@ -1,1 +1,4 @@
+pub mod Answers
+pub mod Extracting
+pub mod Running
 pub mod Words

@@ -1,6 +1,6 @@
 ghost use Rattle.std.specs.Prelude.{◌≡◌, ℕ, IfSome, IfNone, map};
 ghost use Rattle.series_model.specs.declared.sample.Query.{Query};
-ghost use Rattle.archiver_appliance.specs.Command.{IsMillisecondText, IsInterval, IsExtract};
+ghost use Rattle.archiver_appliance.specs.Command.{IsInterval, IsExtract};
 
 use arch_time::parse_iso;
 use series_model::Query;
@@ -21,25 +21,11 @@ fn interval(from: &str, to: &str) -> Option<Query>
     ensures found { IfSome result (IsInterval from.now to.now) }
     ensures none { IfNone result ((query : Query) → IsInterval from.now to.now query → ⊥) }
 {
-    let Some(from) = moment_of(from.as_bytes()) else {
+    let Ok(from) = parse_iso(from.as_bytes()) else {
         return None;
     };
-    let Some(to) = moment_of(to.as_bytes()) else {
+    let Ok(to) = parse_iso(to.as_bytes()) else {
         return None;
     };
     Some(Query { from, to })
-}
-
-// The moment of a text of the form `YYYY-MM-DDTHH:MM:SS.mmmZ`.
-fn moment_of(text: &[u8]) -> Option<u64>
-    ensures found { IfSome result (IsMillisecondText text.now) }
-    ensures none { IfNone result ((t : ℕ) → IsMillisecondText text.now t → ⊥) }
-{
-    if text.len() != 24 || text[19] != b'.' || text[23] != b'Z' {
-        return None;
-    }
-    match parse_iso(text) {
-        Ok(t) => Some(t),
-        Err(_) => None,
-    }
 }

@@ -1,14 +1,19 @@
-ghost use Rattle.std.specs.Prelude.{◌≡◌, ◌⊎◌, ◌≤◌, OnErr, None};
-ghost use Rattle.edge_io.specs.Stream.{Rose};
+ghost use Rattle.std.specs.Prelude.{◌≡◌, ◌⊎◌, ◌≤◌, ◌∷◌, [], ◌++◌, Some, None, OnOk, OnErr, if◌then◌else◌};
+ghost use Rattle.std.specs.Io.{StartsWith};
+ghost use Rattle.std.specs.Io.KnownBytes.{Appends};
+ghost use Rattle.edge_io.specs.Stream.{Rose, AppendsFront};
+ghost use Rattle.series_model.specs.declared.sample.Query.{Query};
+ghost use Rattle.archiver_appliance.specs.Text.{Extracts, IsFlushed};
 
-use crate::chunk::Chunk;
+use crate::answer::{Answer, add_line};
 use crate::status::Status;
-use edge_io::{Failed, LineRead, Lines, Sink, Source, write_whole};
+use edge_io::{Failed, Sink, Source, write_whole};
+use pb_lines::{ChunkItem, ChunkReader};
 use series_model::Query;
-use std::alloc::Global;
+use std::alloc::{AllocError, Global};
 
-/// Writes the header of the one chunk of the source, the last sample before the interval and the
-/// interval's samples, each line as it stands.
+/// Writes, of each chunk of the source, its header, the last sample before the interval and the
+/// interval's samples, each line as it stands, and an empty line between two chunks.
 ///
 /// What is to be written is gathered, and goes out in one write before each read, at the end, and
 /// before a refusal.
@@ -18,42 +23,87 @@ pub fn extract<S: Source, K: Sink>(
     source: &mut S,
     sink: &mut K,
 ) -> Status
+    ensures text { Extracts query (S.left source.old) (K.written sink.old) (K.written sink.new) result }
     ensures source_fault { result ≡ Status.SourceFault → Rose (S.read_faults source.old) (S.read_faults source.new) }
     ensures sink_fault { result ≡ Status.SinkFault → Rose (K.write_faults sink.old) (K.write_faults sink.new) }
-    ensures usage { result ≡ Status.Usage → ⊥ }
 {
-    let Ok(mut lines) = Lines::new(alloc) else {
+    let Ok(mut reader) = ChunkReader::new(alloc) else {
         return Status::OutOfMemory;
     };
-    let mut chunk = Chunk::new(alloc, query);
+    let mut answer = Answer::new(alloc, query);
     let mut out = Vec::new(alloc);
+    let mut later = false;
     'lines: loop {
-        if !lines.holds_line() && write_out(&mut out, sink).is_err() {
+        if before_read(&reader, &mut out, sink).is_err() {
             return Status::SinkFault;
         }
-        match lines.next(source) {
-            LineRead::Line => match chunk.take(lines.line(), &mut out) {
-                Ok(()) => {}
-                Err(refusal) => return ended(refusal.status(), &out, sink),
-            },
-            LineRead::End => {
-                let status = match chunk.finish(&mut out) {
-                    Ok(()) => Status::Done,
-                    Err(refusal) => refusal.status(),
-                };
-                return ended(status, &out, sink);
+        let done = match reader.read_line(source) {
+            None => Ok(()),
+            Some(ChunkItem::Header) => {
+                answer.begin();
+                let done = add_header(later, reader.line(), &mut out);
+                later = true;
+                done
             }
-            LineRead::SourceFault => return ended(Status::SourceFault, &out, sink),
-            LineRead::Memory => return ended(Status::OutOfMemory, &out, sink),
-            LineRead::Torn | LineRead::TooLong | LineRead::InputTooLong => {
-                return ended(Status::Refused, &out, sink);
+            Some(ChunkItem::Sample { t }) => answer.take(t, reader.line(), &mut out),
+            Some(ChunkItem::ChunkEnd) => answer.finish(&mut out),
+            Some(ChunkItem::End) => return ended(Status::Done, &out, sink),
+            Some(ChunkItem::Refused(fault)) => {
+                let line = reader.number();
+                return ended(Status::Refused { line, fault }, &out, sink);
             }
+            Some(ChunkItem::SourceFault) => return ended(Status::SourceFault, &out, sink),
+            Some(ChunkItem::Memory) => return ended(Status::OutOfMemory, &out, sink),
+        };
+        if done.is_err() {
+            return ended(Status::OutOfMemory, &out, sink);
         }
     }
 }
 
+// Adds a header's line, behind an empty line where a chunk came before. Where memory runs out,
+// `out` stays.
+fn add_header(later: bool, line: &[u8], out: &mut Vec<u8>) -> Result<(), AllocError>
+    ensures ok { OnOk result (out.new.items ≡ out.old.items ++ ((if later then 10 ∷ [] else []) ++ (line.now ++ 10 ∷ []))) }
+    ensures err { OnErr result (out.new.items ≡ out.old.items) }
+{
+    let before = out.len();
+    let done = add_header_lines(later, line, out);
+    if done.is_err() {
+        out.truncate(before);
+    }
+    done
+}
+
+// The same, but where memory runs out a part may stand behind the old bytes.
+fn add_header_lines(later: bool, line: &[u8], out: &mut Vec<u8>) -> Result<(), AllocError>
+    ensures ok { OnOk result (out.new.items ≡ out.old.items ++ ((if later then 10 ∷ [] else []) ++ (line.now ++ 10 ∷ []))) }
+    ensures grows { StartsWith out.new.items out.old.items }
+{
+    if later {
+        out.push(b'\n')?;
+    }
+    add_line(line, out)
+}
+
+// Writes what was gathered where the next line isn't held yet: one write for each read.
+fn before_read<K: Sink>(reader: &ChunkReader, out: &mut Vec<u8>, sink: &mut K) -> Result<(), Failed>
+    ensures ok { OnOk result (IsFlushed (K.written sink.old) (K.written sink.new) out.old.items out.new.items) }
+    ensures front { OnErr result (AppendsFront (K.written sink.old) (K.written sink.new) out.old.items) }
+    ensures faults { K.write_faults sink.old ≤ K.write_faults sink.new }
+    ensures failed { OnErr result (Rose (K.write_faults sink.old) (K.write_faults sink.new)) }
+{
+    if reader.holds_line() {
+        return Ok(());
+    }
+    write_out(out, sink)
+}
+
 // Writes what was gathered, and gathers anew.
 fn write_out<K: Sink>(out: &mut Vec<u8>, sink: &mut K) -> Result<(), Failed>
+    ensures ok { OnOk result (Appends (K.written sink.old) (K.written sink.new) out.old.items) }
+    ensures empty { OnOk result (out.new.items ≡ []) }
+    ensures front { OnErr result (AppendsFront (K.written sink.old) (K.written sink.new) out.old.items) }
     ensures faults { K.write_faults sink.old ≤ K.write_faults sink.new }
     ensures failed { OnErr result (Rose (K.write_faults sink.old) (K.write_faults sink.new)) }
 {
@@ -62,10 +112,14 @@ fn write_out<K: Sink>(out: &mut Vec<u8>, sink: &mut K) -> Result<(), Failed>
     Ok(())
 }
 
-// Writes what was gathered last. The sink's fault comes before what ended the input.
+// Writes what was gathered last. The sink's fault is told in place of what ended the input.
 fn ended<K: Sink>(status: Status, out: &[u8], sink: &mut K) -> Status
+    requires { status ≡ Status.SinkFault → ⊥ }
+    ensures all { result ≡ status → Appends (K.written sink.old) (K.written sink.new) out.now }
+    ensures front { AppendsFront (K.written sink.old) (K.written sink.new) out.now }
     ensures status { (result ≡ status) ⊎ (result ≡ Status.SinkFault) }
-    ensures fault { result ≡ Status.SinkFault → (status ≡ Status.SinkFault → ⊥) → Rose (K.write_faults sink.old) (K.write_faults sink.new) }
+    ensures faults { K.write_faults sink.old ≤ K.write_faults sink.new }
+    ensures failed { result ≡ Status.SinkFault → Rose (K.write_faults sink.old) (K.write_faults sink.new) }
 {
     match write_whole(sink, out) {
         Ok(()) => status,

@@ -3,13 +3,14 @@
 //! `run` does all that the program does, over a source, a sink and a sink for complaints; `main`
 //! hands it the standard streams and ends with its status.
 //!
-//! Model: a command is a function from the words and the source's bytes to a text and a status.
+//! Model: a command is a function from the words and the source's bytes to a text, a status and a
+//! complaint.
 #![tactic(auto)]
 
-mod chunk;
+mod answer;
 mod command;
+mod complaint;
 mod extract;
-mod message;
 mod run;
 mod status;
 #[cfg(test)]
@@ -22,7 +23,14 @@ use std::io::ErrorKind;
 use std::process::ExitCode;
 
 fn main(rt: HostRuntime) -> ExitCode {
-    ExitCode::from(started(&rt).unwrap_or(status::Status::OutOfMemory.number()))
+    match started(&rt) {
+        Ok(number) => ExitCode::from(number),
+        Err(AllocError) => {
+            let status = status::Status::OutOfMemory;
+            complaint::complain(status, &mut StdSink::new(rt.stderr()));
+            ExitCode::from(status.number())
+        }
+    }
 }
 
 // An argument that isn't UTF-8 makes a faulty command line, as no words do.

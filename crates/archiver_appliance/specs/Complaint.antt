@@ -1,0 +1,20 @@
+-- The one line that tells why a command ended with a status other than 0.
+use Rattle.std.specs.Prelude.{◌⊎◌, ℕ, List, [], ◌∷◌, ◌++◌, Option, codes, decimal}
+use Rattle.std.specs.Io.KnownBytes.{Appends}
+use Rattle.edge_io.specs.Stream.{Rose, AppendsFront}
+use Rattle.pb_lines.specs.Fault.{fault_number}
+use Rattle.archiver_appliance.specs.declared.status.Status.{Status}
+use Rattle.archiver_appliance.specs.declared.status.Status.TheVariants.{Done, Usage, Refused, SourceFault, SinkFault, OutOfMemory}
+
+-- nothing where the command was done
+abbrev pub complaint_of : Status → List ℕ
+complaint_of Done = []
+complaint_of Usage = codes "archappl: usage: archappl extract FROM TO / ingest / get NAME FROM TO / etl / status / check / drill N / serve FEEDPORT HTTPPORT WORKERS LINKS\n"
+complaint_of (Refused line fault) = codes "archappl: line " ++ decimal line ++ codes ": E" ++ decimal (fault_number fault) ++ codes "\n"
+complaint_of SourceFault = codes "archappl: input failed\n"
+complaint_of SinkFault = codes "archappl: output failed\n"
+complaint_of OutOfMemory = codes "archappl: out of memory\n"
+
+-- The text went out whole, or a front of it where the count of faults rose.
+abbrev pub Complains : Option (List ℕ) → Option (List ℕ) → ℕ → ℕ → List ℕ → Type 0
+Complains a b before now text = Appends a b text ⊎ (AppendsFront a b text × Rose before now)

@@ -1,0 +1,10 @@
+pub mod Append
+pub mod Contents
+pub mod Crash
+pub mod Disk
+pub mod Files
+pub mod Image
+pub mod Order
+pub mod Past
+pub mod Record
+pub mod Table

@@ -1,0 +1,47 @@
+use Rattle.std.proofs.Common.{◌≡◌, ℕ, List, ◌+◌, [], ◌∷◌, ◌++◌, subst, refl, ◌∙◌, ap, arith, length, length-append}
+use Rattle.disk_model.specs.Files.{At, Overwritten}
+use Rattle.gate_journal.specs.Batches.{framed_bytes}
+use Rattle.gate_journal.proofs.Bytes.{length-framed_bytes}
+use Rattle.gate_journal.proofs.Steps.{first, both, added, in_doubt, written_twice}
+use Rattle.gate_journal.proofs.journal.Journal.commit.Goals as goal
+
+pub returns-in_err-put-clause-any_moment : goal.returns-in_err-put-clause-any_moment
+returns-in_err-put-clause-any_moment g c = rw (← c.self.view_is) (λ tells bs settled. first _ bs c.args.batch.now _ _ _ settled _ _ (c.put.ensures.crash tells))
+
+pub returns-in_err-put-2-clause-any_moment : goal.returns-in_err-put-2-clause-any_moment
+returns-in_err-put-2-clause-any_moment g c = rw (← c.self.view_is) (λ tells bs settled.
+    both _ bs c.args.batch.now _ _ _ settled (omega (arith, c.requires.not_long)) (g.D.Disk.files c.put.new.disk) (g.D.Disk.past c.put.new.disk) _ (c.deref.ensures.value ∙ c.in_ok-frame.ensures)
+    (c.in_ok-put.ensures.written tells) (c.in_ok-put.ensures.durable tells) (g.D.Disk.past c.put-2.new.disk) (c.put.ensures.crash tells) (c.put-2.ensures.crash tells))
+
+pub returns-clause-any_moment : goal.returns-clause-any_moment
+returns-clause-any_moment g c = rw (← c.self.view_is) (λ tells bs settled.
+    both _ bs c.args.batch.now _ _ _ settled (omega (arith, c.requires.not_long)) (g.D.Disk.files c.put.new.disk) (g.D.Disk.past c.put.new.disk) _ (c.deref.ensures.value ∙ c.in_ok-frame.ensures)
+    (c.in_ok-put.ensures.written tells) (c.in_ok-put.ensures.durable tells) (g.D.Disk.past c.put-2.new.disk) (c.put.ensures.crash tells) (c.put-2.ensures.crash tells))
+
+pub returns-clause-added : goal.returns-clause-added
+returns-clause-added g c = rw (← c.self.view_is) (λ tells bs settled.
+    added _ bs c.args.batch.now _ _ _ settled (omega (arith, c.requires.not_long)) (g.D.Disk.files c.put.new.disk) (g.D.Disk.past c.put.new.disk) _ (c.deref.ensures.value ∙ c.in_ok-frame.ensures)
+    (c.in_ok-put.ensures.written tells) (c.in_ok-put.ensures.durable tells) (g.D.Disk.files c.put-2.new.disk) (g.D.Disk.past c.put-2.new.disk) (g.D.Disk.opened c.put-2.new.disk) _ refl (omega (arith, c.len.ensures, ap length c.deref.ensures.value)) (c.put-2.ensures.opened tells ∙ c.put.ensures.opened tells)
+    (c.in_ok-put-2.ensures.written tells) (c.in_ok-put-2.ensures.durable tells))
+
+pub returns-in_err-put-clause-in_doubt : goal.returns-in_err-put-clause-in_doubt
+returns-in_err-put-clause-in_doubt g c =
+    let pending : c.len.result ≡ 5 + length c.args.batch.now = omega (arith, c.len.ensures, ap length c.in_ok-frame.ensures, length-append (framed_bytes c.args.batch.now) (0 ∷ []), length-framed_bytes c.args.batch.now) in
+    rw (← c.self.view_is) (λ tells bs settled fault.
+    in_doubt _ _ bs c.args.batch.now _ (g.D.Disk.files c.put.new.disk) _ (g.D.Disk.opened c.put.new.disk) _ (g.D.Disk.past c.put.new.disk) settled refl refl pending (g.met.D.Disk.seen c.put.new.disk tells) (c.put.ensures.opened tells)
+    (first _ bs c.args.batch.now _ _ _ settled _ _ (c.put.ensures.crash tells)))
+
+pub returns-in_err-put-2-clause-in_doubt : goal.returns-in_err-put-2-clause-in_doubt
+returns-in_err-put-2-clause-in_doubt g c =
+    let pending : c.len.result ≡ 5 + length c.args.batch.now = omega (arith, c.len.ensures, ap length c.in_ok-frame.ensures, length-append (framed_bytes c.args.batch.now) (0 ∷ []), length-framed_bytes c.args.batch.now) in
+    rw (← c.self.view_is) (λ tells bs settled fault.
+    in_doubt _ _ bs c.args.batch.now _ (g.D.Disk.files c.put-2.new.disk) _ (g.D.Disk.opened c.put-2.new.disk) _ (g.D.Disk.past c.put-2.new.disk) settled refl refl pending (g.met.D.Disk.seen c.put-2.new.disk tells)
+    (c.put-2.ensures.opened tells ∙ c.put.ensures.opened tells)
+    (both _ bs c.args.batch.now _ _ _ settled (omega (arith, c.requires.not_long)) (g.D.Disk.files c.put.new.disk) (g.D.Disk.past c.put.new.disk) _ (c.deref.ensures.value ∙ c.in_ok-frame.ensures)
+    (c.in_ok-put.ensures.written tells) (c.in_ok-put.ensures.durable tells) (g.D.Disk.past c.put-2.new.disk) (c.put.ensures.crash tells) (c.put-2.ensures.crash tells)))
+
+pub returns-clause-bytes : goal.returns-clause-bytes
+returns-clause-bytes g c = rw (← c.self.view_is) (λ tells b is.
+    written_twice c.self.inside.name (g.D.Disk.files c.args.disk.now) (g.D.Disk.files c.put.new.disk) (g.D.Disk.files c.put-2.new.disk) (c.self.inside.place + 1) c.self.inside.place (framed_bytes c.args.batch.now ++ 0 ∷ []) (1 ∷ []) b is
+    (subst (λ (l : List ℕ). At c.self.inside.name (Overwritten (c.self.inside.place + 1) l) (g.D.Disk.files c.args.disk.now) (g.D.Disk.files c.put.new.disk)) (c.deref.ensures.value ∙ c.in_ok-frame.ensures) (c.in_ok-put.ensures.written tells))
+    (c.in_ok-put-2.ensures.written tells))

@@ -1,0 +1,4 @@
+pub mod Batches
+pub mod Journal
+pub mod Load
+pub mod Window

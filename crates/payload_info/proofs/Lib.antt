@@ -1,0 +1,4 @@
+pub mod FieldsLemmas
+pub mod TypeLemmas
+pub mod SpellingLemmas
+pub mod RoundTrip

@@ -1,0 +1,4 @@
+pub mod Fields
+pub mod FieldValue
+pub mod Info
+pub mod Spelling

@@ -1,0 +1,99 @@
+ghost use Rattle.std.specs.Prelude.{◌≡◌, ◌%◌, ◌^◌, IfOk};
+ghost use Rattle.std.specs.Option.{option_map, ok_or};
+ghost use Rattle.payload_info.specs.Info.{type_of, in_range, info_of, info_with, Gives, IsSampleYear};
+
+use crate::field_value::{Headers, number_of, read_pair, text_of};
+use crate::{InfoErr, InfoFault, PayloadInfo};
+use pb_wire::{Fields, PayloadType};
+use series_model::Blob;
+use std::alloc::Global;
+
+// The last value of each number so far, and the headers.
+#[derive(Drop)]
+struct Members<'a> {
+    ty: Option<u64>,
+    name: Option<&'a [u8]>,
+    year: Option<u64>,
+    count: Option<u64>,
+    headers: Headers,
+}
+
+impl Members<'_> {
+    // The required members come first, in the order of their numbers, then the type and the year.
+    #[tactic(auto, unfolding(crate::specs::Info::info_with))]
+    fn into_info(self, alloc: Global) -> Result<PayloadInfo, InfoErr>
+        ensures header { Gives result (info_with self.entry.ty (option_map (λ t. t.now) self.entry.name) self.entry.year self.entry.count self.entry.headers) }
+        ensures year { IfOk result (λ info. IsSampleYear info.year) }
+    {
+        let number = self.ty.ok_or(InfoFault::Missing { field: 1 })?;
+        let name = self.name.ok_or(InfoFault::Missing { field: 2 })?;
+        let year = self.year.ok_or(InfoFault::Missing { field: 3 })?;
+        let headers = self.headers.into_pairs();
+        let headers = headers.ok_or(InfoFault::Missing { field: 15 })?;
+        let ty = type_of(low_bits(number))?;
+        let year = year_of(low_bits(year).cast_signed())?;
+        let name = Blob::from(Vec::from_slice(alloc, name)?);
+        let count = self.count.map(|count| low_bits(count).cast_signed());
+        Ok(PayloadInfo {
+            ty,
+            name,
+            year,
+            count,
+            headers,
+        })
+    }
+}
+
+// What a 32-bit field keeps of a varint.
+fn low_bits(number: u64) -> u32
+    ensures { result ≡ number % 2 ^ 32 }
+{
+    (number % (1 << 32)) as u32
+}
+
+fn type_of(number: u32) -> Result<PayloadType, InfoFault>
+    ensures { result ≡ ok_or (type_of number) (InfoFault.UnknownType number) }
+{
+    PayloadType::from_number(number).ok_or(InfoFault::UnknownType { number })
+}
+
+fn year_of(year: i32) -> Result<i32, InfoFault>
+    ensures value { result ≡ in_range year }
+    ensures range { IfOk result IsSampleYear }
+{
+    if year >= 1991 && year <= 2499 {
+        Ok(year)
+    } else {
+        Err(InfoFault::YearRange { year })
+    }
+}
+
+/// The header that the bytes hold, or its first fault.
+#[tactic(auto, using(crate::proofs::FieldsLemmas::joined_assoc), unfolding(crate::specs::Info::info_of))]
+pub fn decode_info(alloc: Global, bytes: &[u8]) -> Result<PayloadInfo, InfoErr>
+    ensures header { Gives result (info_of bytes.now) }
+    ensures year { IfOk result (λ info. IsSampleYear info.year) }
+{
+    let mut members = Members {
+        ty: None,
+        name: None,
+        year: None,
+        count: None,
+        headers: Headers::new(alloc),
+    };
+    let mut fields = Fields::of(bytes);
+    while let Some(field) = fields.next()? {
+        match field.number {
+            1 => members.ty = Some(number_of(field)?),
+            2 => members.name = Some(text_of(field, 2)?),
+            3 => members.year = Some(number_of(field)?),
+            4 => members.count = Some(number_of(field)?),
+            15 => {
+                let pair = read_pair(text_of(field, 15)?, fields.place(), 15)?;
+                members.headers.push(alloc, pair)?;
+            }
+            _ => {}
+        }
+    }
+    members.into_info(alloc)
+}

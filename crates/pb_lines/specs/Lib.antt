@@ -1,0 +1,5 @@
+pub mod Sample
+pub mod Fault
+pub mod Header
+pub mod Stream
+pub mod Reader

@@ -1,0 +1,296 @@
+ghost use Rattle.std.specs.Prelude.{◌≡◌, ◌≢◌, ◌↔◌, ◌≤◌, [], IfOk, IfSome, IfNone, IsTrue, IsSome};
+ghost use Rattle.std.specs.Option.{option_copied};
+ghost use Rattle.edge_io.specs.Stream.{Rose};
+ghost use Rattle.pb_lines.specs.Reader.{IsFresh, HoldsLine, ReadsItem, ReadsLine, Fetches, EndsStream, TakesLine, to_come, line_number};
+
+use crate::fault::{ChunkFault, LineErr};
+use crate::header::{HeadErr, header_of_line};
+use crate::sample::moment_of_line;
+use arch_time::YearStart;
+use edge_io::{LineRead, Lines, Source};
+use payload_info::PayloadInfo;
+use std::alloc::{AllocError, Global};
+use std::marker::Model;
+
+/// What a call of `ChunkReader` came to.
+#[derive(Clone, Copy, Debug, PartialEq, Eq)]
+pub enum ChunkItem {
+    /// A header was read, which begins a chunk.
+    Header,
+    /// A sample of the chunk was read, which stands at this moment, in nanoseconds since 1970.
+    Sample { t: u64 },
+    /// The chunk ended, at an empty line or at the end of the stream.
+    ChunkEnd,
+    /// The stream ended.
+    End,
+    /// The first bad line was met. Each later call says the same, and reads nothing.
+    Refused(ChunkFault),
+    /// A read of the source failed. The next call goes on where this one stopped.
+    SourceFault,
+    /// Memory ran out. The next call goes on where this one stopped.
+    Memory,
+}
+
+// A chunk's header, and where its year starts.
+#[derive(Drop)]
+struct Chunk {
+    info: PayloadInfo,
+    year: YearStart,
+    ghost same_year: { year.year ≡ info.year },
+}
+
+/// Reads a stream of chunks, item by item: `new`, then `next` up to `End` or `Refused`.
+///
+/// Behind `Header` its fields are `info`, and behind `Header` and `Sample` the line is `line`. One
+/// buffer is kept for the messages of all lines.
+#[derive(Drop)]
+pub struct ChunkReader {
+    alloc: Global,
+    lines: Lines,
+    // The last line of `lines` is still to be taken.
+    pending: bool,
+    // A header was read.
+    begun: bool,
+    chunk: Option<Chunk>,
+    refused: Option<ChunkFault>,
+    // The message of a line.
+    work: Vec<u8>,
+}
+
+impl Model for ChunkReader {
+    ghost use Rattle.std.specs.Prelude.{true};
+    ghost use Rattle.std.specs.Option.{option_map};
+    ghost use Rattle.pb_lines.specs.Reader.{Chunks, IsReady};
+
+    ghost Value = { Chunks };
+
+    ghost view = { λ r. record { lines = r.lines; pending = r.pending; section = record { begun = r.begun; chunk = option_map (λ c. c.info) r.chunk }; refused = r.refused } };
+
+    ghost invariant = { λ r. IsReady r.lines r.pending r.refused };
+}
+
+impl ChunkReader {
+    /// A reader of a stream from its start.
+    pub fn new(alloc: Global) -> Result<ChunkReader, AllocError>
+        ensures { IfOk result IsFresh }
+    {
+        Ok(ChunkReader {
+            alloc,
+            lines: Lines::new(alloc)?,
+            pending: false,
+            begun: false,
+            chunk: None,
+            refused: None,
+            work: Vec::new(alloc),
+        })
+    }
+
+    /// The header of the chunk in which the next line stands, none outside a chunk.
+    pub fn info(&self) -> Option<&PayloadInfo>
+        ensures { option_copied result ≡ self.now.section.chunk }
+    {
+        match &self.chunk {
+            Some(chunk) => Some(&chunk.info),
+            None => None,
+        }
+    }
+
+    /// The line that was read last, as it stands, without its newline.
+    pub fn line(&self) -> &[u8]
+        ensures { result.now ≡ self.now.lines.line }
+    {
+        self.lines.line()
+    }
+
+    /// The number of that line, from 1; 0 before the first. Behind a refusal it is the bad line's
+    /// number, or in a stream without any header the number after the last line.
+    pub fn number(&self) -> u64
+        ensures { result ≡ line_number self.now }
+    {
+        let number = self.lines.number();
+        match self.refused {
+            None | Some(ChunkFault::BadHeader(_) | ChunkFault::BadLine(_)) => number,
+            Some(_) => number + 1,
+        }
+    }
+
+    /// Whether the next call of `read_line` answers without a read.
+    pub fn holds_line(&self) -> bool
+        ensures { IsTrue result ↔ HoldsLine self.now }
+    {
+        self.refused.is_some() || self.pending || self.lines.holds_line()
+    }
+
+    /// Reads the next item, and skips empty lines outside a chunk before it.
+    pub fn next<S: Source>(&mut self, source: &mut S) -> ChunkItem
+        ensures item { IfNone self.old.refused (ReadsItem self.old self.new (to_come self.old (S.left source.old)) (to_come self.new (S.left source.new)) result) }
+        ensures refused { IfSome self.old.refused (λ f. (result ≡ ChunkItem.Refused f) × (self.new ≡ self.old) × (source.new ≡ source.old)) }
+        ensures faults { S.read_faults source.old ≤ S.read_faults source.new }
+        ensures failed { result ≡ ChunkItem.SourceFault → Rose (S.read_faults source.old) (S.read_faults source.new) }
+    {
+        'lines: loop {
+            if let Some(item) = self.read_line(source) {
+                return item;
+            }
+        }
+    }
+
+    /// Reads one line at most: the item that it gives, or `None` where it is an empty line outside
+    /// a chunk. So a caller can turn to other work between two lines.
+    pub fn read_line<S: Source>(&mut self, source: &mut S) -> Option<ChunkItem>
+        ensures item { IfNone self.old.refused (ReadsLine self.old self.new (to_come self.old (S.left source.old)) (to_come self.new (S.left source.new)) result) }
+        ensures refused { IfSome self.old.refused (λ f. (result ≡ Some (ChunkItem.Refused f)) × (self.new ≡ self.old) × (source.new ≡ source.old)) }
+        ensures unread { HoldsLine self.old → source.new ≡ source.old }
+        ensures faults { S.read_faults source.old ≤ S.read_faults source.new }
+        ensures failed { result ≡ Some ChunkItem.SourceFault → Rose (S.read_faults source.old) (S.read_faults source.new) }
+    {
+        if let Some(fault) = self.refused {
+            return Some(ChunkItem::Refused(fault));
+        }
+        if let Some(item) = self.fetch(source) {
+            return Some(item);
+        }
+        self.take_line()
+    }
+
+    // Reads a line that is to be taken, unless there is one.
+    fn fetch<S: Source>(&mut self, source: &mut S) -> Option<ChunkItem>
+        requires { self.old.refused ≡ None }
+        ensures line { IfNone result (Fetches self.old self.new (to_come self.old (S.left source.old)) (to_come self.new (S.left source.new))) }
+        ensures item { IfSome result (ReadsItem self.old self.new (to_come self.old (S.left source.old)) (to_come self.new (S.left source.new))) }
+        ensures unread { HoldsLine self.old → source.new ≡ source.old }
+        ensures faults { S.read_faults source.old ≤ S.read_faults source.new }
+        ensures failed { result ≡ Some ChunkItem.SourceFault → Rose (S.read_faults source.old) (S.read_faults source.new) }
+    {
+        if self.pending {
+            return None;
+        }
+        match self.lines.next(source) {
+            LineRead::Line => {
+                self.pending = true;
+                None
+            }
+            LineRead::End => Some(self.end()),
+            LineRead::Torn => {
+                self.refused = Some(ChunkFault::Torn);
+                Some(ChunkItem::Refused(ChunkFault::Torn))
+            }
+            LineRead::TooLong => {
+                self.refused = Some(ChunkFault::LineTooLong);
+                Some(ChunkItem::Refused(ChunkFault::LineTooLong))
+            }
+            LineRead::InputTooLong => {
+                self.refused = Some(ChunkFault::InputTooLong);
+                Some(ChunkItem::Refused(ChunkFault::InputTooLong))
+            }
+            LineRead::SourceFault => Some(ChunkItem::SourceFault),
+            LineRead::Memory => Some(ChunkItem::Memory),
+        }
+    }
+
+    // What the end of the stream comes to.
+    fn end(&mut self) -> ChunkItem
+        requires { self.old.refused ≡ None }
+        ensures { EndsStream self.old self.new result }
+    {
+        if self.chunk.is_some() {
+            self.chunk = None;
+            self.begun = true;
+            return ChunkItem::ChunkEnd;
+        }
+        if self.begun {
+            return ChunkItem::End;
+        }
+        self.refused = Some(ChunkFault::NoHeader);
+        ChunkItem::Refused(ChunkFault::NoHeader)
+    }
+
+    // Takes the line that is to be taken. Where memory runs out it still is.
+    fn take_line(&mut self) -> Option<ChunkItem>
+        requires pending { IsTrue self.old.pending }
+        requires going { self.old.refused ≡ None }
+        ensures { TakesLine self.old self.new result }
+    {
+        if self.lines.line().is_empty() {
+            self.take_empty_line()
+        } else if self.chunk.is_some() {
+            Some(self.take_sample())
+        } else {
+            Some(self.take_header())
+        }
+    }
+
+    // An empty line ends a chunk, and is skipped outside one.
+    fn take_empty_line(&mut self) -> Option<ChunkItem>
+        requires pending { IsTrue self.old.pending }
+        requires going { self.old.refused ≡ None }
+        requires empty { self.old.lines.line ≡ [] }
+        ensures { TakesLine self.old self.new result }
+    {
+        self.pending = false;
+        if self.chunk.is_none() {
+            return None;
+        }
+        self.chunk = None;
+        self.begun = true;
+        Some(ChunkItem::ChunkEnd)
+    }
+
+    // Outside a chunk a line is a header.
+    fn take_header(&mut self) -> ChunkItem
+        requires pending { IsTrue self.old.pending }
+        requires going { self.old.refused ≡ None }
+        requires some { self.old.lines.line ≢ [] }
+        requires outside { self.old.section.chunk ≡ None }
+        ensures { TakesLine self.old self.new (Some result) }
+    {
+        let info = match header_of_line(self.alloc, self.lines.line(), &mut self.work) {
+            Ok(info) => info,
+            Err(HeadErr::Memory) => return ChunkItem::Memory,
+            Err(HeadErr::Fault(fault)) => {
+                let fault = ChunkFault::BadHeader(fault);
+                self.pending = false;
+                self.refused = Some(fault);
+                return ChunkItem::Refused(fault);
+            }
+        };
+        let Ok(year) = YearStart::new(info.year) else {
+            unreachable!();
+        };
+        self.pending = false;
+        self.begun = true;
+        self.chunk = Some(Chunk { info, year });
+        ChunkItem::Header
+    }
+
+    // Within a chunk a line is a sample.
+    fn take_sample(&mut self) -> ChunkItem
+        requires pending { IsTrue self.old.pending }
+        requires going { self.old.refused ≡ None }
+        requires some { self.old.lines.line ≢ [] }
+        requires inside { IsSome self.old.section.chunk }
+        ensures { TakesLine self.old self.new (Some result) }
+    {
+        let Some(chunk) = &self.chunk else {
+            unreachable!();
+        };
+        match moment_of_line(
+            chunk.info.ty,
+            &chunk.year,
+            self.lines.line(),
+            &mut self.work,
+        ) {
+            Ok(t) => {
+                self.pending = false;
+                ChunkItem::Sample { t }
+            }
+            Err(LineErr::Memory) => ChunkItem::Memory,
+            Err(LineErr::Fault(fault)) => {
+                let fault = ChunkFault::BadLine(fault);
+                self.pending = false;
+                self.refused = Some(fault);
+                ChunkItem::Refused(fault)
+            }
+        }
+    }
+}
