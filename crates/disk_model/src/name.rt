@@ -4,10 +4,12 @@ use std::alloc::{AllocError, Global};
 use std::cmp::Ordering;
 use std::marker::Model;
 
-/// A file's name: the number of its store, and its path within the store as bytes. Contracts see a number and a list.
+/// A file's name. Contracts see a number and a list.
 #[derive(Drop)]
 pub struct FileName {
+    /// The number of its store.
     pub store: u8,
+    /// Its path within the store.
     pub path: Vec<u8>,
 }
 

@@ -13,7 +13,9 @@ pub enum Method {
 /// Whether a variable's samples are taken.
 #[derive(Clone, Copy, Debug, PartialEq, Eq)]
 pub enum State {
+    /// Samples are tried.
     Running,
+    /// Samples are dropped until the variable is resumed.
     Paused,
     /// The variable has another name now.
     Retired,
@@ -22,7 +24,9 @@ pub enum State {
 /// What is known of a variable beside its name.
 #[derive(Clone, Debug, Drop)]
 pub struct About {
+    /// The type that all its samples have.
     pub ty: PayloadType,
+    /// How its samples are taken.
     pub method: Method,
     /// The number of elements of a waveform.
     pub count: Option<i32>,

@@ -23,6 +23,7 @@ pub enum EventFault {
 /// Why an event can't be given.
 #[derive(Clone, Copy, Debug, PartialEq, Eq)]
 pub enum EventErr {
+    /// The bytes are no event.
     Fault(EventFault),
     /// Memory ran out.
     Memory,

@@ -1,11 +1,8 @@
-ghost use Rattle.std.specs.Prelude.{◌≡◌, ◌≤◌, ◌+◌, ◌*◌, ◌++◌, [], ◌∷◌, OnOk, OnErr, IfOk, length, map};
-ghost use Rattle.std.specs.List.{flat_map};
-ghost use Rattle.std.specs.Option.{option_map};
-ghost use Rattle.std.specs.Int.{w32, w64, to_le_bytes};
+ghost use Rattle.std.specs.Prelude.{◌≡◌, ◌≤◌, ◌+◌, ◌*◌, ◌++◌, [], ◌∷◌, OnOk, OnErr, length, map};
 ghost use Rattle.std.specs.Io.{StartsWith};
 ghost use Rattle.pb_wire.specs.Message.{IsFieldNumber};
 ghost use Rattle.pb_wire.specs.Spelling.{number_text};
-ghost use Rattle.event_types.specs.Spelling.{message_text, text_field, pair_field, pair_text, optional_field, unless_zero, sint32_text, sfixed32_text, packed_head, val_fields, stamp_fields, state_fields, last_fields, event_text};
+ghost use Rattle.event_types.specs.Spelling.{message_text, text_field, pair_field, pair_text, optional_field, unless_zero, val_fields, stamp_fields, state_fields, last_fields, event_text};
 ghost use Rattle.event_types.specs.Event.{IsOfType};
 
 use crate::packed::{put_doubles, put_floats, put_sfixed32s, put_sint32s};

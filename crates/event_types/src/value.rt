@@ -8,7 +8,8 @@ use series_model::{Blob, Blobs};
 use std::alloc::{AllocError, Global};
 use std::mem;
 
-/// The value of a sample, by its payload type. Floating-point numbers are kept as their bits.
+/// The value of a sample, by its payload type: seven kinds of one value and then the waveforms of
+/// each. Floating-point numbers are kept as their bits, strings as their bytes.
 #[derive(Debug, Drop)]
 pub enum Value {
     Str(Blob),

@@ -12,8 +12,11 @@ use arch_time::{END, START};
 /// A partition: a unit of the UTC calendar, from its start up to, not including, its end.
 #[derive(Clone, Copy, Debug, PartialEq, Eq)]
 pub struct Part {
+    /// Its name, which tells its start and its granularity's unit.
     pub name: PartName,
+    /// Its first moment, in nanoseconds since 1970.
     pub start: u64,
+    /// The first moment behind it.
     pub end: u64,
 }
 

@@ -26,6 +26,7 @@ pub enum InfoFault {
 /// Why a header can't be given.
 #[derive(Clone, Copy, Debug, PartialEq, Eq)]
 pub enum InfoErr {
+    /// The bytes are no header.
     Fault(InfoFault),
     /// Memory ran out.
     Memory,

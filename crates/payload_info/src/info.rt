@@ -4,6 +4,7 @@ use series_model::{Blob, Pairs};
 /// What a header says of the samples behind it.
 #[derive(Debug, Drop)]
 pub struct PayloadInfo {
+    /// The type of all samples.
     pub ty: PayloadType,
     /// The variable's name, as bytes.
     pub name: Blob,

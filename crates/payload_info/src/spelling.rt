@@ -1,8 +1,7 @@
 ghost use Rattle.std.specs.Prelude.{◌≡◌, ◌≤◌, ◌+◌, ◌*◌, ◌++◌, [], ◌∷◌, OnOk, OnErr, length, map};
-ghost use Rattle.std.specs.Option.{option_map};
 ghost use Rattle.std.specs.Io.{StartsWith};
-ghost use Rattle.pb_wire.specs.Message.{blob, IsFieldNumber};
-ghost use Rattle.pb_wire.specs.Spelling.{number_text, field_text};
+ghost use Rattle.pb_wire.specs.Message.{IsFieldNumber};
+ghost use Rattle.pb_wire.specs.Spelling.{number_text};
 ghost use Rattle.payload_info.specs.Spelling.{message_text, pair_field, pair_text, optional_field, required_fields, sign_extended, info_text};
 
 use crate::PayloadInfo;
