@@ -11,15 +11,19 @@ use line_escape::{EscapeErr, escape, unescape};
 use payload_info::{InfoErr, PayloadInfo, decode_info, encode_info};
 use std::alloc::{AllocError, Global};
 
-// Why a header's line wasn't read.
-#[derive(Clone, Copy)]
-pub(crate) enum HeadErr {
+/// Why a header's line wasn't read.
+#[derive(Clone, Copy, Debug, PartialEq, Eq)]
+pub enum HeadErr {
+    /// The line is no header.
     Fault(HeadFault),
+    /// Memory ran out.
     Memory,
 }
 
-// The header that the line means.
-pub(crate) fn header_of_line(
+/// The header that the escaped line means.
+///
+/// `line` has no newline. `work` is scratch space: what it held is lost, its room is kept.
+pub fn header_of_line(
     alloc: Global,
     line: &[u8],
     work: &mut Vec<u8>,

@@ -24,9 +24,9 @@ mod reader;
 mod sample;
 
 pub use fault::{ChunkFault, HeadFault, LineErr, LineFault};
-pub use header::header_line;
+pub use header::{HeadErr, header_line, header_of_line};
 pub use reader::{ChunkItem, ChunkReader};
-pub use sample::sample_of;
+pub use sample::{moment_of_line, sample_of};
 
 #[cfg(test)]
 mod tests;

@@ -31,8 +31,9 @@ pub fn sample_of(
     }
 }
 
-// The same, of a year whose start is known.
-pub(crate) fn moment_of_line(
+/// The same as `sample_of`, of a year whose start is known: the year is looked up once, and not for
+/// each line.
+pub fn moment_of_line(
     ty: PayloadType,
     year: &YearStart,
     line: &[u8],
