@@ -1,4 +1,5 @@
 pub mod Batches
 pub mod Journal
+pub mod Kept
 pub mod Load
 pub mod Window
