@@ -17,7 +17,7 @@ pub record FirstLine (bytes : List ℕ) : Type 0 where
   pub split : bytes ≡ line ++ 10 ∷ rest
   pub whole : All (λ x. x ≢ 10) line
 
-first_line : (bytes : List ℕ) → FirstLine bytes ⊎ All (λ x. x ≢ 10) bytes
+pub first_line : (bytes : List ℕ) → FirstLine bytes ⊎ All (λ x. x ≢ 10) bytes
 first_line [] = inr (All-nil (λ x. x ≢ 10))
 first_line (b ∷ bytes) =
     elim (eqb_tells b 10) [

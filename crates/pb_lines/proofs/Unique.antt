@@ -96,7 +96,7 @@ one_stamp ty line s n s₂ n₂ h k =
     let both = ok_is (stamp_of ty k.0) (s, n) (s₂, n₂) (sym is) k.2 in
     (ap (λ (x : ℕ × ℕ). x.0) both, ap (λ (x : ℕ × ℕ). x.1) both)
 
-one_moment : (ty : PayloadType) (year : ℤ) (line : List ℕ) (t u : ℕ) → IsSampleLine ty year line t → IsSampleLine ty year line u → t ≡ u
+pub one_moment : (ty : PayloadType) (year : ℤ) (line : List ℕ) (t u : ℕ) → IsSampleLine ty year line t → IsSampleLine ty year line u → t ≡ u
 one_moment ty year line t u h k =
     let same = one_stamp ty line h.secs h.nano k.secs k.nano h.stamp k.stamp in
     h.at ∙ ap (λ (s : ℕ). moment year s h.nano) same.0 ∙ ap (λ (n : ℕ). moment year k.secs n) same.1 ∙ sym k.at
@@ -106,7 +106,7 @@ stamp_or_fault ty line m s n e h means is =
     let same = ap (λ (b : List ℕ). stamp_of ty b) (meaning_unique line h.0 m h.1 means) in
     let found = h.2 in cc
 
-sample_or_fault : (ty : PayloadType) (year : ℤ) (line : List ℕ) (t : ℕ) (f : LineFault) → IsSampleLine ty year line t → IsLineFault ty year line f → ⊥
+pub sample_or_fault : (ty : PayloadType) (year : ℤ) (line : List ℕ) (t : ℕ) (f : LineFault) → IsSampleLine ty year line t → IsLineFault ty year line f → ⊥
 sample_or_fault ty year line t (line_fault.Escape at) h k = bad_means_nothing line h.stamp.0 at k h.stamp.1
 sample_or_fault ty year line t (line_fault.Event e) h k = stamp_or_fault ty line k.0 h.secs h.nano e h.stamp k.1 k.2
 sample_or_fault ty year line t line_fault.Time h k =
@@ -126,12 +126,12 @@ one_line_fault ty year line line_fault.Time (line_fault.Escape j) h k = absurd (
 one_line_fault ty year line line_fault.Time (line_fault.Event e) h k = absurd (stamp_or_fault ty line k.0 h.0 h.1 e h.2 k.1 k.2)
 one_line_fault ty year line line_fault.Time line_fault.Time h k = refl
 
-one_header : (line : List ℕ) (a b : PayloadInfo) → IsHeaderLine line a → IsHeaderLine line b → a ≡ b
+pub one_header : (line : List ℕ) (a b : PayloadInfo) → IsHeaderLine line a → IsHeaderLine line b → a ≡ b
 one_header line a b h k =
     let same = ap info_of (meaning_unique line h.0 k.0 h.1 k.1) in
     ok_is (info_of k.0) a b (sym same ∙ h.2) k.2
 
-header_or_fault : (line : List ℕ) (info : PayloadInfo) (f : HeadFault) → IsHeaderLine line info → IsHeadFault line f → ⊥
+pub header_or_fault : (line : List ℕ) (info : PayloadInfo) (f : HeadFault) → IsHeaderLine line info → IsHeadFault line f → ⊥
 header_or_fault line info (head_fault.Escape at) h k = bad_means_nothing line h.0 at k h.1
 header_or_fault line info (head_fault.Info e) h k =
     let same = ap info_of (meaning_unique line h.0 k.0 h.1 k.1) in

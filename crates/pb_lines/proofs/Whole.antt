@@ -28,7 +28,7 @@ use Rattle.pb_lines.proofs.Lines.{cut_of}
 abbrev pub Outcome : Section → List ℕ → Type 0
 Outcome s line = Skips s line ⊎ (((item : Item) × (behind : Section) × Gives s line item behind) ⊎ ((f : ChunkFault) × Fails s line f))
 
-in_year_or_not : (y : ℤ) (s n : ℕ) → (IsSampleYear y × IsInYear y s n) ⊎ (IsSampleYear y × IsInYear y s n → ⊥)
+pub in_year_or_not : (y : ℤ) (s n : ℕ) → (IsSampleYear y × IsInYear y s n) ⊎ (IsSampleYear y × IsInYear y s n → ⊥)
 in_year_or_not (negsuc m) s n = inr (λ h. omega (arith, ints, h.0.0))
 in_year_or_not (pos m) s n =
     elim (cases_lt m 1991) [

@@ -1,0 +1,5 @@
+use Rattle.pb_file.proofs.Meaning as meaning
+use Rattle.pb_file.proofs.laws.a_file_grows.Goals as goal
+
+pub returns : goal.returns
+returns c = meaning.grows

@@ -1,0 +1,24 @@
+-- A block of a file in memory, and what a read of a line through it gives.
+use Rattle.std.specs.Prelude.{◌≡◌, ℕ, ◌+◌, List, [], ◌∷◌, ◌++◌, length, take, drop}
+use Rattle.pb_file.specs.declared.block.Block.{Block}
+use Rattle.pb_file.specs.declared.block.LineRead.{LineRead}
+use Rattle.pb_file.specs.declared.block.LineRead.TheVariants.{Line, Torn}
+
+-- the bytes that a block has in memory, and where they stand in the file
+pub record Piece : Type 0 where
+  pub start : ℕ
+  pub bytes : List ℕ
+
+-- the block's bytes
+abbrev pub piece_of : Block → Piece
+piece_of block = record { start = block.start; bytes = block.bytes.items }
+
+-- the file has these bytes there
+abbrev pub IsPieceOf : Piece → List ℕ → Type 0
+IsPieceOf piece file = piece.bytes ≡ take (length piece.bytes) (drop piece.start file)
+
+-- what of the file a read of the line at a place gave, up to `len`
+abbrev pub GivesLine : List ℕ → ℕ → ℕ → List ℕ → LineRead → Type 0
+GivesLine file len at line Line = take (at + length line + 1) file ≡ take at file ++ (line ++ 10 ∷ [])
+GivesLine file len at line Torn = take len file ≡ take at file ++ line
+GivesLine file len at line _ = Unit {0}

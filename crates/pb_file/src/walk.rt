@@ -1,0 +1,216 @@
+ghost use Rattle.std.specs.Prelude.{◌≡◌, ◌≤◌, ◌+◌, ◌↔◌, ℕ, List, Option, Some, None, IfSome, IfNone, IsSome, IsTrue, length};
+ghost use Rattle.std.specs.Option.{option_copied};
+ghost use Rattle.line_escape.specs.Unescaping.{HasNoNewline};
+ghost use Rattle.disk_model.specs.Files.{Rose};
+ghost use Rattle.pb_file.specs.Block.{IsPieceOf};
+ghost use Rattle.pb_file.specs.Walk.{Front, HasWalked, Gives, Walks, Takes, fresh, behind};
+
+use crate::block::{Block, LineRead};
+use arch_time::YearStart;
+use disk_model::ReadAt;
+use payload_info::PayloadInfo;
+use pb_lines::{HeadErr, LineErr, header_of_line, moment_of_line};
+use std::alloc::Global;
+use std::marker::Model;
+
+/// What a call of `FileWalk::next` came to.
+#[derive(Clone, Copy, Debug, PartialEq, Eq)]
+pub enum Walked {
+    /// The header's line was read.
+    Header,
+    /// A sample's line was read, which stands at this moment, in nanoseconds since 1970.
+    Sample { t: u64 },
+    /// The file ended behind a line.
+    End,
+    /// A read of the file failed. The next call goes on where this one stopped.
+    ReadFault,
+    /// The first bad line begins at this place.
+    Damaged { at: u64 },
+    /// Memory ran out. The next call goes on where this one stopped.
+    Memory,
+}
+
+// A file's header, and where its year starts.
+#[derive(Drop)]
+struct Header {
+    info: PayloadInfo,
+    year: YearStart,
+    ghost same_year: { year.year ≡ info.year },
+}
+
+/// Reads the first bytes of one file line by line: `new`, then `next` up to `End` or `Damaged`.
+#[derive(Drop)]
+pub struct FileWalk {
+    alloc: Global,
+    block: Block,
+    place: u64,
+    header: Option<Header>,
+    last: Option<u64>,
+    stop: Option<Walked>,
+    // The message of a line.
+    work: Vec<u8>,
+}
+
+impl Model for FileWalk {
+    ghost use Rattle.std.specs.Prelude.{◌≤◌};
+    ghost use Rattle.std.specs.Option.{option_map};
+    ghost use Rattle.pb_file.specs.Block.{piece_of};
+    ghost use Rattle.pb_file.specs.Walk.{Walk, IsFinal, behind};
+
+    ghost Value = { Walk };
+
+    ghost view = { λ w. record { len = w.block.len; place = w.place; info = option_map (λ h. h.info) w.header; earliest = behind w.last; stop = w.stop; piece = piece_of w.block } };
+
+    ghost invariant = { λ w. (w.place ≤ w.block.len) × IsFinal w.stop };
+}
+
+impl FileWalk {
+    /// A walk over the first `len` bytes of a file. It takes no memory yet.
+    pub fn new(alloc: Global, len: u64) -> FileWalk
+        ensures start { result ≡ fresh len }
+        ensures walked { (bytes : List ℕ) → HasWalked result bytes None }
+    {
+        FileWalk {
+            alloc,
+            block: Block {
+                len,
+                start: 0,
+                bytes: Vec::new(alloc),
+            },
+            place: 0,
+            header: None,
+            last: None,
+            stop: None,
+            work: Vec::new(alloc),
+        }
+    }
+
+    /// The header, once it was read.
+    pub fn info(&self) -> Option<&PayloadInfo>
+        ensures { option_copied result ≡ self.now.info }
+    {
+        match &self.header {
+            Some(header) => Some(&header.info),
+            None => None,
+        }
+    }
+
+    /// Where the next line begins.
+    pub fn place(&self) -> u64
+        ensures place { result ≡ self.now.place }
+        ensures within { result ≤ self.now.len }
+    {
+        self.place
+    }
+
+    /// Reads the next line into `line`, without its newline, or tells the end of the file or its first bad line. After `End`
+    /// and `Damaged` the same comes again. After `ReadFault` and `Memory` the walk goes on at the same line.
+    ///
+    /// Each call is given the same file. What `line` had may be lost.
+    pub fn next<H: ReadAt>(&mut self, file: &mut H, line: &mut Vec<u8>) -> Walked
+        requires file { IsTrue H.tells → self.old.len ≤ length (H.bytes file.old) }
+        ensures walked { IsTrue H.tells → (front : Option Front) → HasWalked self.old (H.bytes file.old) front → Walks front (H.bytes file.old) line.new.items result self.new }
+        ensures gives { IfNone self.old.stop (Gives self.old line.new.items result self.new) }
+        ensures stopped { IfSome self.old.stop (λ stop. (result ≡ stop) × (self.new ≡ self.old) × (line.new ≡ line.old) × (file.new ≡ file.old)) }
+        ensures within { self.new.place ≤ self.new.len }
+        ensures same { IsTrue H.tells → H.bytes file.new ≡ H.bytes file.old }
+        ensures faults { H.faults file.old ≤ H.faults file.new }
+        ensures cause { result ≡ Walked.ReadFault → Rose (H.faults file.old) (H.faults file.new) }
+    {
+        if let Some(stop) = self.stop {
+            return stop;
+        }
+        if self.is_at_end() {
+            self.stop = Some(Walked::End);
+            return Walked::End;
+        }
+        match self.block.read_line(file, self.place, line) {
+            LineRead::Line => self.take(line),
+            LineRead::Torn => self.refuse(),
+            LineRead::ReadFault => Walked::ReadFault,
+            LineRead::Memory => Walked::Memory,
+        }
+    }
+
+    fn is_at_end(&self) -> bool
+        ensures { IsTrue result ↔ (IsSome self.now.info × (self.now.place ≡ self.now.len)) }
+    {
+        self.header.is_some() && self.place == self.block.len
+    }
+
+    // What a line that was read comes to. Where memory runs out it is read again.
+    fn take(&mut self, line: &[u8]) -> Walked
+        requires going { self.old.stop ≡ None }
+        requires whole { HasNoNewline line.now }
+        requires room { self.old.place + length line.now + 1 ≤ self.old.len }
+        ensures { Takes self.old line.now result self.new }
+    {
+        if self.header.is_some() {
+            self.take_sample(line)
+        } else {
+            self.take_header(line)
+        }
+    }
+
+    fn take_header(&mut self, line: &[u8]) -> Walked
+        requires going { self.old.stop ≡ None }
+        requires whole { HasNoNewline line.now }
+        requires room { self.old.place + length line.now + 1 ≤ self.old.len }
+        requires first { self.old.info ≡ None }
+        ensures { Takes self.old line.now result self.new }
+    {
+        let info = match header_of_line(self.alloc, line, &mut self.work) {
+            Ok(info) => info,
+            Err(HeadErr::Memory) => return Walked::Memory,
+            Err(HeadErr::Fault(_)) => return self.refuse(),
+        };
+        let Ok(year) = YearStart::new(info.year) else {
+            unreachable!();
+        };
+        self.place += line.len() as u64 + 1;
+        self.header = Some(Header { info, year });
+        Walked::Header
+    }
+
+    fn take_sample(&mut self, line: &[u8]) -> Walked
+        requires going { self.old.stop ≡ None }
+        requires whole { HasNoNewline line.now }
+        requires room { self.old.place + length line.now + 1 ≤ self.old.len }
+        requires later { IsSome self.old.info }
+        ensures { Takes self.old line.now result self.new }
+    {
+        let Some(header) = &self.header else {
+            unreachable!();
+        };
+        let t = match moment_of_line(header.info.ty, &header.year, line, &mut self.work) {
+            Ok(t) => t,
+            Err(LineErr::Memory) => return Walked::Memory,
+            Err(LineErr::Fault(_)) => return self.refuse(),
+        };
+        if is_behind(self.last, t) {
+            self.place += line.len() as u64 + 1;
+            self.last = Some(t);
+            return Walked::Sample { t };
+        }
+        self.refuse()
+    }
+
+    // Stops for good at the line that comes next.
+    fn refuse(&mut self) -> Walked
+        ensures result { result ≡ Walked.Damaged self.old.place }
+        ensures after { self.new ≡ record self.old { stop = Some (Walked.Damaged self.old.place) } }
+    {
+        let answer = Walked::Damaged { at: self.place };
+        self.stop = Some(answer);
+        answer
+    }
+}
+
+fn is_behind(last: Option<u64>, t: u64) -> bool
+    ensures { IsTrue result ↔ (behind last ≤ t) }
+{
+    match last {
+        Some(last) => last < t,
+        None => true,
+    }
+}
