@@ -1,0 +1,7 @@
+pub mod Bytes
+pub mod Committing
+pub mod Meaning
+pub mod Order
+pub mod Lists
+pub mod Slots
+pub mod Written

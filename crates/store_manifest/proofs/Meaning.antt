@@ -1,0 +1,255 @@
+-- Batches have one meaning, and each one more goes on from what those before it mean.
+use Rattle.std.proofs.Common.{◌≡◌, ◌≢◌, inl, inr, ℕ, zero, suc, ◌+◌, ◌<◌, ◌≤◌, List, [], ◌∷◌, ◌++◌, Some, length, take, drop, All, refl, sym, ◌∙◌, ap, subst, arith, append_assoc, take-append-drop}
+use Rattle.std.proofs.lemmas.Bool.{cases_order}
+use Rattle.std.proofs.lemmas.List.{take_at, take-append-le, take_more, take_all, drop_more, length-take-le, length_push}
+use Rattle.std.proofs.lemmas.List.Elements.{All-head, All-tail}
+use Rattle.std.proofs.lemmas.Option.{get_or_from_slice_get}
+use Rattle.std.specs.List.{slice_get}
+use Rattle.partition_names.specs.declared.granularity.Granularity.{Granularity}
+use Rattle.partition_names.specs.declared.granularity.Granularity.TheVariants.{FiveMinutes, FifteenMinutes, ThirtyMinutes, Hour, Day, Month, Year}
+use Rattle.partition_names.specs.Granularity.{number_of}
+use Rattle.store_manifest.specs.declared.entry.Entry.{Entry}
+use Rattle.store_manifest.specs.declared.entry.Change.{Change}
+use Rattle.store_manifest.specs.declared.entry.Change.TheVariants.{Set, Drop}
+use Rattle.store_manifest.specs.Batches.{members_of, encoded, batch_of, config, Makes, IsBatch, AreBatches, Configured, Folds, IsBadBatch}
+use Rattle.store_manifest.specs.Entries.{changed, all_changed, CanFollow, InTurn, AllCanFollow}
+use Rattle.store_manifest.specs.Numbers.{HasSizes}
+use Rattle.store_manifest.specs.Reading.{HasPart, IsFront, IsAllowed}
+use Rattle.store_manifest.proofs.Bytes.{one_front}
+
+abbrev Good : Granularity → List Entry → Change → Type 0
+Good g es c = HasSizes c × CanFollow g es c
+
+can_follow : (g : Granularity) (es : List Entry) (c : Change) → HasPart g c → IsAllowed es c → CanFollow g es c
+can_follow g es (Set e) part allowed = part
+can_follow g es (Drop s t) part allowed = allowed
+
+has_part : (g : Granularity) (es : List Entry) (c : Change) → CanFollow g es c → HasPart g c
+has_part g es (Set e) can = can
+has_part g es (Drop s t) can = tt
+
+is_allowed : (g : Granularity) (es : List Entry) (c : Change) → CanFollow g es c → IsAllowed es c
+is_allowed g es (Set e) can = tt
+is_allowed g es (Drop s t) can = can
+
+-- ONE BATCH
+
+first_front : (g : Granularity) (es : List Entry) (c : Change) (cs : List Change) (bytes : List ℕ) → bytes ≡ batch_of (c ∷ cs) → InTurn (Good g) es (c ∷ cs) → IsFront g bytes c (batch_of cs)
+first_front g es c cs bytes is follow = record { split = is; sizes = follow.0.0; part = has_part g es c follow.0.1 }
+
+no_change : (c : Change) (rest : List ℕ) → encoded c ++ rest ≡ [] → ⊥
+no_change (Set e) rest is = let both : 2 ∷ (members_of e ++ rest) ≡ [] = is in cc both
+no_change (Drop s t) rest is = omega (arith, ap length is)
+
+same_changes : (g : Granularity) (es : List Entry) (cs ds : List Change) (bytes : List ℕ) → bytes ≡ batch_of cs → bytes ≡ batch_of ds → InTurn (Good g) es cs → InTurn (Good g) es ds → cs ≡ ds
+same_changes g es [] [] bytes one two good too = refl
+same_changes g es [] (d ∷ ds) bytes one two good too = absurd (no_change d (batch_of ds) (sym two ∙ one))
+same_changes g es (c ∷ cs) [] bytes one two good too = absurd (no_change c (batch_of cs) (sym one ∙ two))
+same_changes g es (c ∷ cs) (d ∷ ds) bytes one two good too =
+    let first = one_front g bytes c d (batch_of cs) (batch_of ds) (first_front g es c cs bytes one good) (first_front g es d ds bytes two too) in
+    let P : Change → Type 0 = λ z. InTurn (Good g) (changed es z) ds in
+    let rest = same_changes g (changed es c) cs ds (batch_of cs) refl first.1 good.1 (subst P (sym first.0) too.1) in
+    ap (λ (l : List Change). c ∷ l) rest ∙ ap (λ (z : Change). z ∷ ds) first.0
+
+pub one_made : (g : Granularity) (es : List Entry) (bytes : List ℕ) (a b : List Entry) → Makes g es bytes a → Makes g es bytes b → a ≡ b
+one_made g es bytes a b one two =
+    one.next_is ∙ ap (λ (cs : List Change). all_changed es cs) (same_changes g es one.changes two.changes bytes one.bytes_are two.bytes_are one.follow two.follow) ∙ sym two.next_is
+
+-- READING ON
+
+pub made_none : (g : Granularity) (es : List Entry) → Makes g es [] es
+made_none g es = record { changes = []; bytes_are = refl; follow = tt; next_is = refl }
+
+pub only_none : (g : Granularity) (es next : List Entry) → Makes g es [] next → next ≡ es
+only_none g es next made = one_made g es [] next es made (made_none g es)
+
+pub made_first : (g : Granularity) (es : List Entry) (bytes rest : List ℕ) (c : Change) (next : List Entry) → IsFront g bytes c rest → IsAllowed es c → Makes g (changed es c) rest next → Makes g es bytes next
+made_first g es bytes rest c next front allowed made = record {
+  changes = c ∷ made.changes;
+  bytes_are = front.split ∙ ap (λ (l : List ℕ). encoded c ++ l) made.bytes_are;
+  follow = ((front.sizes, can_follow g es c front.part allowed), made.follow);
+  next_is = made.next_is;
+}
+
+-- bytes that aren't empty begin with a change that is allowed, and go on
+begins : (g : Granularity) (es : List Entry) (bytes : List ℕ) (cs : List Change) (next : List Entry) → bytes ≢ [] → bytes ≡ batch_of cs → InTurn (Good g) es cs → next ≡ all_changed es cs
+    → (c : Change) × (rest : List ℕ) × IsFront g bytes c rest × IsAllowed es c × Makes g (changed es c) rest next
+begins g es bytes [] next some is follow next_is = absurd (some is)
+begins g es bytes (c ∷ cs) next some is follow next_is =
+    (c, batch_of cs, first_front g es c cs bytes is follow, is_allowed g es c follow.0.1, record { changes = cs; bytes_are = refl; follow = follow.1; next_is = next_is })
+
+pub made_begins : (g : Granularity) (es : List Entry) (bytes : List ℕ) (next : List Entry) → bytes ≢ [] → Makes g es bytes next → (c : Change) × (rest : List ℕ) × IsFront g bytes c rest × IsAllowed es c × Makes g (changed es c) rest next
+made_begins g es bytes next some made = begins g es bytes made.changes next some made.bytes_are made.follow made.next_is
+
+pub made_rest : (g : Granularity) (es : List Entry) (bytes rest : List ℕ) (c : Change) (next : List Entry) → bytes ≢ [] → IsFront g bytes c rest → Makes g es bytes next → IsAllowed es c × Makes g (changed es c) rest next
+made_rest g es bytes rest c next some front made =
+    let begun = made_begins g es bytes next some made in
+    let same = one_front g bytes begun.0 c begun.1 rest begun.2 front in
+    let P : Change → Type 0 = λ z. IsAllowed es z in
+    let Q : Change → Type 0 = λ z. Makes g (changed es z) rest next in
+    let R : List ℕ → Type 0 = λ l. Makes g (changed es begun.0) l next in
+    (subst P same.0 begun.3, subst Q same.0 (subst R same.1 begun.4))
+
+-- WRITTEN BATCHES
+
+in_turn : (g : Granularity) (es : List Entry) (cs : List Change) → All HasSizes cs → AllCanFollow g es cs → InTurn (Good g) es cs
+in_turn g es [] sizes follow = tt
+in_turn g es (c ∷ cs) sizes follow = ((All-head HasSizes c cs sizes, follow.0), in_turn g (changed es c) cs (All-tail HasSizes c cs sizes) follow.1)
+
+pub some_bytes : (cs : List Change) → cs ≢ [] → batch_of cs ≢ []
+some_bytes [] some = absurd (some refl)
+some_bytes (c ∷ cs) some = λ none. no_change c (batch_of cs) none
+
+pub written_batch : (g : Granularity) (es : List Entry) (cs : List Change) (batch : List ℕ) → batch ≡ batch_of cs → cs ≢ [] → All HasSizes cs → AllCanFollow g es cs → IsBatch g es batch (all_changed es cs)
+written_batch g es cs batch is some sizes follow = (
+  λ none. some_bytes cs some (sym is ∙ none),
+  record { changes = cs; bytes_are = is; follow = in_turn g es cs sizes follow; next_is = refl },
+)
+
+-- ALL BATCHES
+
+back : ℕ → Granularity
+back zero = FiveMinutes
+back (suc zero) = FifteenMinutes
+back (suc (suc zero)) = ThirtyMinutes
+back (suc (suc (suc zero))) = Hour
+back (suc (suc (suc (suc zero)))) = Day
+back (suc (suc (suc (suc (suc zero))))) = Month
+back (suc (suc (suc (suc (suc (suc n)))))) = Year
+
+back_of : (g : Granularity) → back (number_of g) ≡ g
+unfolding back
+back_of FiveMinutes = refl
+back_of FifteenMinutes = refl
+back_of ThirtyMinutes = refl
+back_of Hour = refl
+back_of Day = refl
+back_of Month = refl
+back_of Year = refl
+
+pub one_config : (g h : Granularity) → config g ≡ config h → g ≡ h
+one_config g h same = let number : number_of g ≡ number_of h = cc same in sym (back_of g) ∙ ap back number ∙ back_of h
+
+same_made : (g : Granularity) (es : List Entry) (bs : List (List ℕ)) (a b : List Entry) → AreBatches g es bs a → AreBatches g es bs b → a ≡ b
+same_made g es [] a b one two = one ∙ sym two
+same_made g es (x ∷ bs) a b one two =
+    let P : List Entry → Type 0 = λ l. AreBatches g l bs b in
+    same_made g one.0 bs a b one.2 (subst P (sym (one_made g es x one.0 two.0 one.1.1 two.1.1)) two.2)
+
+pub one_granularity : (g h : Granularity) (bs : List (List ℕ)) (a b : List Entry) → Configured g bs a → Configured h bs b → g ≡ h
+one_granularity g h [] a b one two = absurd one
+one_granularity g h (x ∷ bs) a b one two = one_config g h (sym one.0 ∙ two.0)
+
+pub one_fold : (g h : Granularity) (bs : List (List ℕ)) (a b : List Entry) → Folds g bs a → Folds h bs b → a ≡ b
+one_fold g h [] a b one two = one ∙ sym two
+one_fold g h (x ∷ bs) a b one two =
+    let P : Granularity → Type 0 = λ z. AreBatches z [] bs b in
+    same_made g [] bs a b one.1 (subst P (sym (one_granularity g h (x ∷ bs) a b one two)) two.1)
+
+-- a front of batches folds too
+batches_front : (g : Granularity) (es : List Entry) (xs ys : List (List ℕ)) (last : List Entry) → AreBatches g es (xs ++ ys) last → (mid : List Entry) × AreBatches g es xs mid
+batches_front g es [] ys last are = (es, refl)
+batches_front g es (x ∷ xs) ys last are = let front = batches_front g are.0 xs ys last are.2 in (front.0, (are.0, are.1, front.1))
+
+folds_front : (g : Granularity) (xs ys : List (List ℕ)) (last : List Entry) → Folds g (xs ++ ys) last → (mid : List Entry) × Folds g xs mid
+folds_front g [] ys last folds = ([], refl)
+folds_front g (x ∷ xs) ys last folds = let front = batches_front g [] xs ys last folds.1 in (front.0, (folds.0, front.1))
+
+-- and one more batch
+batches_more : (g : Granularity) (es : List Entry) (bs : List (List ℕ)) (mid next : List Entry) (batch : List ℕ) → AreBatches g es bs mid → IsBatch g mid batch next → AreBatches g es (bs ++ batch ∷ []) next
+batches_more g es [] mid next batch are is = let P : List Entry → Type 0 = λ l. IsBatch g l batch next in (next, subst P are is, refl)
+batches_more g es (b ∷ bs) mid next batch are is = (are.0, are.1, batches_more g are.0 bs mid next batch are.2 is)
+
+pub configured_more : (g : Granularity) (bs : List (List ℕ)) (es next : List Entry) (batch : List ℕ) → Configured g bs es → IsBatch g es batch next → Configured g (bs ++ batch ∷ []) next
+configured_more g [] es next batch folds is = absurd folds
+configured_more g (b ∷ bs) es next batch folds is = (folds.0, batches_more g [] bs es next batch folds.1 is)
+
+pub configured_folds : (g : Granularity) (bs : List (List ℕ)) (es : List Entry) → Configured g bs es → Folds g bs es
+configured_folds g [] es folds = absurd folds
+configured_folds g (b ∷ bs) es folds = folds
+
+-- the last batch of those that fold
+batches_last : (g : Granularity) (es : List Entry) (bs : List (List ℕ)) (batch : List ℕ) (last : List Entry) → AreBatches g es (bs ++ batch ∷ []) last → (mid : List Entry) × AreBatches g es bs mid × IsBatch g mid batch last
+batches_last g es [] batch last are = let P : List Entry → Type 0 = λ l. IsBatch g es batch l in (es, refl, subst P (sym are.2) are.1)
+batches_last g es (b ∷ bs) batch last are = let more = batches_last g are.0 bs batch last are.2 in (more.0, (are.0, are.1, more.1), more.2)
+
+-- BAD BATCHES
+
+pub folds_good : (g : Granularity) (bs : List (List ℕ)) (es : List Entry) (n : ℕ) → Folds g bs es → IsBadBatch bs n → ⊥
+folds_good g bs es n folds bad =
+    let P : List (List ℕ) → Type 0 = λ l. Folds g l es in
+    let front = folds_front g (bad.front ++ bad.batch ∷ []) bad.rest es (subst P (bad.split ∙ sym (append_assoc bad.front (bad.batch ∷ []) bad.rest)) folds) in
+    bad.bad g front.0 front.1
+
+-- a front up to a bad batch is no front that folds
+not_before : (bs : List (List ℕ)) (m n : ℕ) → IsBadBatch bs m → IsBadBatch bs n → m < n → ⊥
+not_before bs m n one two less =
+    let to = m + 1 in
+    let bad : take to bs ≡ one.front ++ one.batch ∷ [] = ap (λ (l : List (List ℕ)). take to l) (one.split ∙ sym (append_assoc one.front (one.batch ∷ []) one.rest)) ∙ take_at (one.front ++ one.batch ∷ []) one.rest to (length_push one.front one.batch ∙ omega (arith, one.counted)) in
+    let good : take to bs ≡ take to two.front = ap (λ (l : List (List ℕ)). take to l) two.split ∙ take-append-le to two.front (two.batch ∷ two.rest) (omega (arith, two.counted, less)) in
+    let P : List (List ℕ) → Type 0 = λ l. Folds two.good.0 l two.good.1 in
+    let Q : List (List ℕ) → Type 0 = λ l. Folds two.good.0 l (folds_front two.good.0 (take to two.front) (drop to two.front) two.good.1 (subst P (sym (take-append-drop to two.front)) two.good.2)).0 in
+    one.bad two.good.0 _ (subst Q (sym good ∙ bad) (folds_front two.good.0 (take to two.front) (drop to two.front) two.good.1 (subst P (sym (take-append-drop to two.front)) two.good.2)).1)
+
+pub one_bad : (bs : List (List ℕ)) (m n : ℕ) → IsBadBatch bs m → IsBadBatch bs n → m ≡ n
+one_bad bs m n one two = elim (cases_order m n) [
+  | inl same ↦ same
+  | inr other ↦ elim other [ inl less ↦ absurd (not_before bs m n one two less) | inr more ↦ absurd (not_before bs n m two one more) ]
+]
+
+-- a first batch that is no config
+pub bad_first : (b : List ℕ) (bs : List (List ℕ)) → ((g : Granularity) → b ≡ config g → ⊥) → IsBadBatch (b ∷ bs) 0
+bad_first b bs bad = record {
+  front = [];
+  batch = b;
+  rest = bs;
+  split = refl;
+  counted = refl;
+  good = (FiveMinutes, [], refl);
+  bad = λ g es folds. bad g folds.0;
+}
+
+-- a batch that doesn't go on
+pub bad_later : (g : Granularity) (bs front rest : List (List ℕ)) (batch : List ℕ) (es : List Entry) (n : ℕ) → bs ≡ front ++ batch ∷ rest → n ≡ length front → Configured g front es → ((next : List Entry) → IsBatch g es batch next → ⊥) → IsBadBatch bs n
+bad_later g bs front rest batch es n split counted good bad = record {
+  front = front;
+  batch = batch;
+  rest = rest;
+  split = split;
+  counted = counted;
+  good = (g, es, configured_folds g front es good);
+  bad = goes_on front good;
+}
+  where
+    goes_on : (front : List (List ℕ)) → Configured g front es → (h : Granularity) (last : List Entry) → Folds h (front ++ batch ∷ []) last → ⊥
+    goes_on [] good h last folds = good
+    goes_on (b ∷ front) good h last folds =
+        let same = one_config h g (sym folds.0 ∙ good.0) in
+        let P : Granularity → Type 0 = λ z. AreBatches z [] (front ++ batch ∷ []) last in
+        let more = batches_last g [] front batch last (subst P same folds.1) in
+        let Q : List Entry → Type 0 = λ l. IsBatch g l batch last in
+        bad last (subst Q (same_made g [] front more.0 es more.1 good.1) more.2)
+
+-- BY PLACES
+
+at_split : (bs : List (List ℕ)) (i : ℕ) (batch : List ℕ) → i < length bs → slice_get bs i ≡ Some batch → bs ≡ take i bs ++ batch ∷ drop (i + 1) bs
+at_split bs i batch below is =
+    sym (take-append-drop i bs) ∙ ap (λ (l : List (List ℕ)). take i bs ++ l) (drop_more bs i [] below ∙ ap (λ (b : List ℕ). b ∷ drop (i + 1) bs) (get_or_from_slice_get bs i batch [] is))
+
+pub bad_at_first : (bs : List (List ℕ)) (batch : List ℕ) → 1 ≤ length bs → slice_get bs 0 ≡ Some batch → ((g : Granularity) → batch ≡ config g → ⊥) → IsBadBatch bs 0
+bad_at_first bs batch some is bad = let P : List (List ℕ) → Type 0 = λ l. IsBadBatch l 0 in subst P (sym (at_split bs 0 batch (omega (arith, some)) is)) (bad_first batch (drop (0 + 1) bs) bad)
+
+pub bad_at : (g : Granularity) (bs : List (List ℕ)) (i : ℕ) (batch : List ℕ) (es : List Entry) → i < length bs → slice_get bs i ≡ Some batch → Configured g (take i bs) es → ((next : List Entry) → IsBatch g es batch next → ⊥) → IsBadBatch bs i
+bad_at g bs i batch es below is good bad = bad_later g bs (take i bs) (drop (i + 1) bs) batch es i (at_split bs i batch below is) (sym (length-take-le i bs (omega (arith, below)))) good bad
+
+pub good_at : (g : Granularity) (bs : List (List ℕ)) (i : ℕ) (batch : List ℕ) (es next : List Entry) → i < length bs → slice_get bs i ≡ Some batch → Configured g (take i bs) es → IsBatch g es batch next → Configured g (take (i + 1) bs) next
+good_at g bs i batch es next below is good made =
+    let P : List (List ℕ) → Type 0 = λ l. Configured g l next in
+    subst P (sym (take_more bs i [] below ∙ ap (λ (b : List ℕ). take i bs ++ b ∷ []) (get_or_from_slice_get bs i batch [] is))) (configured_more g (take i bs) es next batch good made)
+
+pub good_at_first : (g : Granularity) (bs : List (List ℕ)) (batch : List ℕ) → 1 ≤ length bs → slice_get bs 0 ≡ Some batch → batch ≡ config g → Configured g (take 1 bs) []
+good_at_first g bs batch some is config_is =
+    let P : List (List ℕ) → Type 0 = λ l. Configured g (take 1 l) [] in subst P (sym (at_split bs 0 batch (omega (arith, some)) is)) (config_is, refl)
+
+pub good_at_last : (g : Granularity) (bs : List (List ℕ)) (i : ℕ) (es : List Entry) → length bs ≤ i → Configured g (take i bs) es → Configured g bs es
+good_at_last g bs i es end good = let P : List (List ℕ) → Type 0 = λ l. Configured g l es in subst P (take_all i bs end) good

@@ -1,0 +1,113 @@
+-- Entries stay in order, each of one of the granularity's partitions.
+use Rattle.std.proofs.Common.{◌≡◌, ℕ, Bool, true, false, cond, List, [], ◌∷◌, ◌++◌, All, refl, sym, subst, arith}
+use Rattle.std.proofs.lemmas.Bool.Decides.{nat_tests}
+use Rattle.std.proofs.lemmas.List.Elements.{All-from_recursion, recursion_from_All}
+use Rattle.std.specs.List.{filter, AllByRecursion}
+use Rattle.partition_names.specs.declared.granularity.Granularity.{Granularity}
+use Rattle.partition_names.specs.Part.{IsPart}
+use Rattle.store_manifest.specs.declared.entry.Entry.{Entry}
+use Rattle.store_manifest.specs.declared.entry.Change.{Change}
+use Rattle.store_manifest.specs.declared.entry.Change.TheVariants.{Set, Drop}
+use Rattle.store_manifest.specs.Batches.{AreBatches, Configured, Folds}
+use Rattle.store_manifest.specs.Entries.{Place, place, place_of, comes_before, changed, all_changed, CanFollow, InTurn, AllCanFollow, InOrder, AreEntries}
+use Rattle.store_manifest.specs.Numbers.{IsSized, HasSizes}
+use Rattle.store_manifest.proofs.Meaning.{configured_folds}
+use Rattle.store_manifest.proofs.Lists.{mid_of, changed_is, filtered, joined}
+
+before_trans : (a b c : Place) → comes_before a b ≡ true → comes_before b c ≡ true → comes_before a c ≡ true
+before_trans a b c one two = grind (arith, nat_tests)
+
+filter_passes : (p : Entry → Bool) (xs : List Entry) → AllByRecursion (λ x. p x ≡ true) (filter p xs)
+filter_passes p [] = tt
+filter_passes p (x ∷ xs) = go (filter_passes p xs) (p x) refl
+  where
+    go : AllByRecursion (λ x. p x ≡ true) (filter p xs) → (b : Bool) → p x ≡ b → AllByRecursion (λ x. p x ≡ true) (cond b (x ∷ filter p xs) (filter p xs))
+    go rest true is = (is, rest)
+    go rest false is = rest
+
+order_filter : (p : Entry → Bool) (xs : List Entry) → InOrder xs → InOrder (filter p xs)
+order_filter p [] order = tt
+order_filter p (x ∷ xs) order = go (order_filter p xs order.1) (p x)
+  where
+    go : InOrder (filter p xs) → (b : Bool) → InOrder (cond b (x ∷ filter p xs) (filter p xs))
+    go rest true = (filtered p (λ d. comes_before (place x) (place d) ≡ true) xs order.0, rest)
+    go rest false = rest
+
+order_append : (q : Place) (xs ys : List Entry) → AllByRecursion (λ x. comes_before (place x) q ≡ true) xs → InOrder xs → InOrder ys
+    → ((x : Entry) → comes_before (place x) q ≡ true → AllByRecursion (λ d. comes_before (place x) (place d) ≡ true) ys) → InOrder (xs ++ ys)
+order_append q [] ys below one two apart = two
+order_append q (x ∷ xs) ys below one two apart = (joined (λ d. comes_before (place x) (place d) ≡ true) xs ys one.0 (apart x below.0), order_append q xs ys below.1 one.1 two apart)
+
+behind_all : (q : Place) (x : Entry) (ys : List Entry) → comes_before (place x) q ≡ true → AllByRecursion (λ d. comes_before q (place d) ≡ true) ys → AllByRecursion (λ d. comes_before (place x) (place d) ≡ true) ys
+behind_all q x [] below behind = tt
+behind_all q x (y ∷ ys) below behind = (before_trans (place x) q (place y) below behind.0, behind_all q x ys below behind.1)
+
+order_changed : (xs : List Entry) (c : Change) → InOrder xs → InOrder (changed xs c)
+order_changed xs (Set e) order =
+    let before : Entry → Bool = λ y. comes_before (place y) (place e) in
+    let behind : Entry → Bool = λ y. comes_before (place e) (place y) in
+    let last = filter_passes behind xs in
+    order_append (place e) (filter before xs) (e ∷ filter behind xs) (filter_passes before xs) (order_filter before xs order) (last, order_filter behind xs order) (λ x below. (below, behind_all (place e) x (filter behind xs) below last))
+order_changed xs (Drop s t) order =
+    let q : Place = (s, t) in
+    let before : Entry → Bool = λ y. comes_before (place y) q in
+    let behind : Entry → Bool = λ y. comes_before q (place y) in
+    order_append q (filter before xs) (filter behind xs) (filter_passes before xs) (order_filter before xs order) (order_filter behind xs order) (λ x below. behind_all q x (filter behind xs) below (filter_passes behind xs))
+
+-- what holds of each entry, and of one that is set
+each_changed : (P : Entry → Type 0) (xs : List Entry) (c : Change) → AllByRecursion P xs → AllByRecursion P (mid_of c) → AllByRecursion P (changed xs c)
+each_changed P xs c all mid =
+    let before : Entry → Bool = λ y. comes_before (place y) (place_of c) in
+    let behind : Entry → Bool = λ y. comes_before (place_of c) (place y) in
+    let Q : List Entry → Type 0 = λ l. AllByRecursion P l in
+    subst Q (sym (changed_is xs c)) (joined P (filter before xs) (mid_of c ++ filter behind xs) (filtered before P xs all) (joined P (mid_of c) (filter behind xs) mid (filtered behind P xs all)))
+
+abbrev Parts : Granularity → List Entry → Type 0
+Parts g xs = AllByRecursion (λ e. IsPart g e.part) xs
+
+mid_part : (g : Granularity) (xs : List Entry) (c : Change) → CanFollow g xs c → Parts g (mid_of c)
+mid_part g xs (Set e) can = (can, tt)
+mid_part g xs (Drop s t) can = tt
+
+mid_size : (c : Change) → HasSizes c → AllByRecursion IsSized (mid_of c)
+mid_size (Set e) sizes = (sizes, tt)
+mid_size (Drop s t) sizes = tt
+
+kept_by : (g : Granularity) (xs : List Entry) (cs : List Change) → InOrder xs × Parts g xs → AllCanFollow g xs cs → InOrder (all_changed xs cs) × Parts g (all_changed xs cs)
+kept_by g xs [] are follow = are
+kept_by g xs (c ∷ cs) are follow = kept_by g (changed xs c) cs (order_changed xs c are.0, each_changed (λ e. IsPart g e.part) xs c are.1 (mid_part g xs c follow.0)) follow.1
+
+entries_from : (g : Granularity) (xs : List Entry) → InOrder xs × Parts g xs → AreEntries g xs
+entries_from g xs are = record { in_order = are.0; parts = All-from_recursion (λ e. IsPart g e.part) xs are.1 }
+
+pub changes_keep : (g : Granularity) (xs : List Entry) (cs : List Change) → AreEntries g xs → AllCanFollow g xs cs → AreEntries g (all_changed xs cs)
+changes_keep g xs cs are follow = entries_from g (all_changed xs cs) (kept_by g xs cs (are.in_order, recursion_from_All (λ e. IsPart g e.part) xs are.parts) follow)
+
+-- what a batch makes
+abbrev Fine : Granularity → List Entry → Type 0
+Fine g xs = (InOrder xs × Parts g xs) × AllByRecursion IsSized xs
+
+fine_turn : (g : Granularity) (xs : List Entry) (cs : List Change) → Fine g xs → InTurn (λ es c. HasSizes c × CanFollow g es c) xs cs → Fine g (all_changed xs cs)
+fine_turn g xs [] fine turn = fine
+fine_turn g xs (c ∷ cs) fine turn =
+    fine_turn g (changed xs c) cs ((order_changed xs c fine.0.0, each_changed (λ e. IsPart g e.part) xs c fine.0.1 (mid_part g xs c turn.0.1)), each_changed IsSized xs c fine.1 (mid_size c turn.0.0)) turn.1
+
+fine_batches : (g : Granularity) (xs : List Entry) (bs : List (List ℕ)) (last : List Entry) → Fine g xs → AreBatches g xs bs last → Fine g last
+fine_batches g xs [] last fine are = let P : List Entry → Type 0 = λ l. Fine g l in subst P (sym are) fine
+fine_batches g xs (b ∷ bs) last fine are =
+    let P : List Entry → Type 0 = λ l. Fine g l in
+    let made = are.1.1 in
+    fine_batches g are.0 bs last (subst P (sym made.next_is) (fine_turn g xs made.changes fine made.follow)) are.2
+
+fine_folds : (g : Granularity) (bs : List (List ℕ)) (xs : List Entry) → Folds g bs xs → Fine g xs
+fine_folds g [] xs folds = let P : List Entry → Type 0 = λ l. Fine g l in subst P (sym folds) ((tt, tt), tt)
+fine_folds g (b ∷ bs) xs folds = fine_batches g [] bs xs ((tt, tt), tt) folds.1
+
+pub folds_entries : (g : Granularity) (bs : List (List ℕ)) (xs : List Entry) → Folds g bs xs → AreEntries g xs
+folds_entries g bs xs folds = entries_from g xs (fine_folds g bs xs folds).0
+
+pub folds_sized : (g : Granularity) (bs : List (List ℕ)) (xs : List Entry) → Folds g bs xs → All IsSized xs
+folds_sized g bs xs folds = All-from_recursion IsSized xs (fine_folds g bs xs folds).1
+
+pub configured_entries : (g : Granularity) (bs : List (List ℕ)) (xs : List Entry) → Configured g bs xs → AreEntries g xs
+configured_entries g bs xs folds = folds_entries g bs xs (configured_folds g bs xs folds)

@@ -1,0 +1,50 @@
+use Rattle.store_manifest.proofs.Committing.{load_moment, first_moment, if_ok}
+use Rattle.store_manifest.proofs.Order.{configured_entries}
+use Rattle.store_manifest.proofs.manifest.Manifest.load.Goals as goal
+
+pub returns-in_err-journal-clause-any_moment : goal.returns-in_err-journal-clause-any_moment
+returns-in_err-journal-clause-any_moment g c tells = load_moment c.args.g (g.D.Disk.files c.args.disk.now) _ _ c.in_ok-name.ensures _ _ (c.load.ensures.any_moment tells)
+
+pub returns-in_err-manifest-clause-any_moment : goal.returns-in_err-manifest-clause-any_moment
+returns-in_err-manifest-clause-any_moment g c tells =
+    first_moment
+    c.args.g
+    (g.D.Disk.files c.args.disk.now)
+    _
+    _
+    c.in_ok-name.ensures
+    _
+    _
+    _
+    _
+    c.in_ok-journal.batches
+    c.in_ok-journal.ensures.journal.0
+    (c.is_empty.ensures.0 c.if-is_empty.true)
+    (c.in_ok-journal.ensures.batches tells)
+    (c.load.ensures.any_moment tells)
+    (c.configure.ensures.any_moment tells)
+
+pub returns-then-is_empty-clause-any_moment : goal.returns-then-is_empty-clause-any_moment
+returns-then-is_empty-clause-any_moment g c tells =
+    first_moment
+    c.args.g
+    (g.D.Disk.files c.args.disk.now)
+    _
+    _
+    c.in_ok-name.ensures
+    _
+    _
+    _
+    _
+    c.in_ok-journal.batches
+    c.in_ok-journal.ensures.journal.0
+    (c.is_empty.ensures.0 c.if-is_empty.true)
+    (c.in_ok-journal.ensures.batches tells)
+    (c.load.ensures.any_moment tells)
+    (c.configure.ensures.any_moment tells)
+
+pub returns-clause-any_moment : goal.returns-clause-any_moment
+returns-clause-any_moment g c tells = load_moment c.args.g (g.D.Disk.files c.args.disk.now) _ _ c.in_ok-name.ensures _ _ (c.load.ensures.any_moment tells)
+
+pub returns-clause-are : goal.returns-clause-are
+returns-clause-are g c = if_ok c.opened.result (λ m good. configured_entries c.args.g c.in_ok-journal.batches m.entries good.2) c.opened.ensures.good

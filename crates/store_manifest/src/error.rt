@@ -1,0 +1,57 @@
+ghost use Rattle.std.specs.Prelude.{◌≡◌};
+ghost use Rattle.disk_model.specs.declared.disk.DiskErr.TheVariants.{Memory};
+ghost use Rattle.store_manifest.specs.declared.error.ManifestErr.TheVariants.{Disk as OfDisk};
+ghost use Rattle.store_manifest.specs.Load.{of_journal};
+
+use disk_model::DiskErr;
+use gate_journal::JournalErr;
+use partition_names::Granularity;
+use std::alloc::AllocError;
+
+/// Why a manifest couldn't be loaded, in the order in which the causes are looked for.
+#[derive(Clone, Copy, Debug, PartialEq, Eq)]
+pub enum ManifestErr {
+    /// The disk failed, which it has counted, or memory is wanting.
+    Disk(DiskErr),
+    /// The file isn't a journal: it has at least two bytes, and the length, the batch or the next gate behind the open gate at
+    /// place `at` doesn't lie wholly in it.
+    BadJournal {
+        at: u64,
+    },
+    /// The batch of this number, counted from 0, doesn't go on from those before it.
+    BadBatch {
+        number: u64,
+    },
+    /// The manifest is good, and of another granularity than the one asked for.
+    GranularityDiffers {
+        kept: Granularity,
+        asked: Granularity,
+    },
+}
+
+impl From<DiskErr> for ManifestErr {
+    ghost from_gives = { λ d e. e ≡ OfDisk d };
+
+    fn from(e: DiskErr) -> Self {
+        ManifestErr::Disk(e)
+    }
+}
+
+impl From<AllocError> for ManifestErr {
+    ghost from_gives = { λ _ e. e ≡ OfDisk Memory };
+
+    fn from(_: AllocError) -> Self {
+        ManifestErr::Disk(DiskErr::Memory)
+    }
+}
+
+impl From<JournalErr> for ManifestErr {
+    ghost from_gives = { λ j e. e ≡ of_journal j };
+
+    fn from(e: JournalErr) -> Self {
+        match e {
+            JournalErr::Disk(e) => ManifestErr::Disk(e),
+            JournalErr::BadJournal { at } => ManifestErr::BadJournal { at },
+        }
+    }
+}

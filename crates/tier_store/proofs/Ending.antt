@@ -1,0 +1,153 @@
+-- The commit that ends a flush.
+use Rattle.std.proofs.Common.{true, false, ◌≡◌, ◌≢◌, inl, inr, ℕ, ◌≤◌, List, [], ◌∷◌, ◌++◌, get_or, map, Bool, true, false, cond, refl, sym, ◌∙◌, ap, subst, arith}
+use Rattle.std.specs.Prelude.{All, filter}
+use Rattle.std.specs.List.{AllZip}
+use Rattle.std.proofs.lemmas.List.{map-append}
+use Rattle.std.proofs.lemmas.List.Elements.{All-head, All-tail}
+use Rattle.disk_model.specs.Files.{Name, Files, At}
+use Rattle.disk_model.specs.Past.{Past, Passes}
+use Rattle.disk_model.proofs.Passing.{passes_then}
+use Rattle.gate_journal.specs.Journal.{JournalState}
+use Rattle.gate_journal.specs.Kept.{Says, SaysEither, IsKept, IsUnsure}
+use Rattle.gate_journal.proofs.Keeping.{kept_stays}
+use Rattle.store_files.specs.Fronts.{Begins}
+use Rattle.partition_names.specs.declared.granularity.Granularity.{Granularity}
+use Rattle.partition_names.specs.Part.{IsPart}
+use Rattle.store_manifest.specs.declared.entry.Entry.{Entry}
+use Rattle.pv_catalog.specs.declared.row.Row.{Row}
+use Rattle.tier_store.specs.declared.piece.Piece.{Piece}
+use Rattle.store_manifest.specs.Entries.{place, put, comes_before, all_changed, AllCanFollow, changed}
+use Rattle.pv_catalog.specs.Rows.{IsCatalogue}
+use Rattle.pv_catalog.specs.Catalogue.{catalogue_name}
+use Rattle.store_manifest.specs.Batches.{Configured, Folds}
+use Rattle.tier_store.specs.Names.{short_manifest}
+use Rattle.tier_store.specs.Held.{Filed, Held, IsFiled, IsIn, entry_of, filed_at, file_of, bytes_of}
+use Rattle.tier_store.specs.Flush.{Grows, MakesFiles, put_all, with_files}
+use Rattle.tier_store.specs.Stored.{HoldsEither, AreHeld, AreSafe, IsStored, IsInDoubt}
+use Rattle.tier_store.specs.Writing.{set_of}
+use Rattle.tier_store.proofs.Names.{outside}
+use Rattle.tier_store.proofs.Listed.{all_put_all, rise_put_all}
+use Rattle.tier_store.proofs.Stays.{safe_stays}
+use Rattle.tier_store.proofs.Going.{all_filed}
+use Rattle.tier_store.proofs.Holding.{not_in_one, stored_left}
+
+-- WHAT THE CHANGES LIST
+
+filter-map : (test : Entry → Bool) (xs : List Filed) → filter test (map entry_of xs) ≡ map entry_of (filter (λ f. test (entry_of f)) xs)
+filter-map test [] = refl
+filter-map test (x ∷ xs) = go (filter-map test xs) (test (entry_of x))
+  where
+    go : filter test (map entry_of xs) ≡ map entry_of (filter (λ f. test (entry_of f)) xs) → (b : Bool) → cond b (entry_of x ∷ filter test (map entry_of xs)) (filter test (map entry_of xs)) ≡ map entry_of (cond b (x ∷ filter (λ f. test (entry_of f)) xs) (filter (λ f. test (entry_of f)) xs))
+    go more true = ap (λ (l : List Entry). entry_of x ∷ l) more
+    go more false = more
+
+map-put : (x : Filed) (xs : List Filed) → map entry_of (put filed_at x xs) ≡ put place (entry_of x) (map entry_of xs)
+map-put x xs =
+    map-append entry_of (filter (λ y. comes_before (filed_at y) (filed_at x)) xs) (x ∷ filter (λ y. comes_before (filed_at x) (filed_at y)) xs)
+    ∙ ap (λ (l : List Entry). l ++ (entry_of x ∷ map entry_of (filter (λ y. comes_before (filed_at x) (filed_at y)) xs))) (sym (filter-map (λ e. comes_before (place e) (filed_at x)) xs))
+    ∙ ap (λ (l : List Entry). filter (λ e. comes_before (place e) (filed_at x)) (map entry_of xs) ++ (entry_of x ∷ l)) (sym (filter-map (λ e. comes_before (filed_at x) (place e)) xs))
+
+-- the entries of all files, with those of the pieces set
+pub entries_are : (g : Granularity) (held : Held) (ps : List Piece) (fs files : List Filed) → AllZip (Grows g held) ps fs → all_changed (map entry_of files) (map set_of ps) ≡ map entry_of (put_all files fs)
+entries_are g held [] [] files each = refl
+entries_are g held [] (f ∷ fs) files each = absurd each
+entries_are g held (p ∷ ps) [] files each = absurd each
+entries_are g held (p ∷ ps) (f ∷ fs) files each =
+    let first : put place p.entry (map entry_of files) ≡ map entry_of (put filed_at f files) = ap (λ (e : Entry). put place e (map entry_of files)) each.0.entry ∙ sym (map-put f files) in
+    ap (λ (es : List Entry). all_changed es (map set_of ps)) first ∙ entries_are g held ps fs (put filed_at f files) each.1
+
+-- and they may be set
+pub all_follow : (g : Granularity) (ps : List Piece) (entries : List Entry) → All (λ (p : Piece). IsPart g p.entry.part) ps → AllCanFollow g entries (map set_of ps)
+all_follow g [] entries parts = tt
+all_follow g (p ∷ ps) entries parts =
+    (All-head (λ (q : Piece). IsPart g q.entry.part) p ps parts, all_follow g ps (changed entries (set_of p)) (All-tail (λ (q : Piece). IsPart g q.entry.part) p ps parts))
+
+pub valid_with : (g : Granularity) (held : Held) (ps : List Piece) (fs : List Filed) → AreHeld g held → MakesFiles g held ps fs → AreHeld g (with_files held fs)
+valid_with g held ps fs valid makes = record {
+  keys = valid.keys;
+  filed = all_put_all (IsFiled g held.rows) held.files fs valid.filed (all_filed g held ps fs makes.each);
+  apart = rise_put_all held.files fs valid.apart;
+}
+
+-- WHAT THE COMMIT LEAVES
+
+-- a commit of the manifest that is to list other files of the same rows, all of them safe
+pub record Lists (g : Granularity) (catalogue manifest : JournalState) (files later : Files) (opened after : Name → ℕ) (old new : Past) (held next : Held) : Type 0 where
+  pub stored : IsStored g catalogue manifest files opened old held
+  pub same_rows : next.rows ≡ held.rows
+  pub valid : AreHeld g next
+  pub safe : AreSafe next.rows next.files opened old
+  pub passes : Passes (At short_manifest (SaysEither (Folds g) (map entry_of held.files) (map entry_of next.files))) old new
+  pub elsewhere : (n : Name) → n ≢ short_manifest → later n ≡ files n
+  pub fewer : (n : Name) → after n ≤ opened n
+
+abbrev Step : Granularity → Held → Held → Files → Files → Type 0
+Step g held next = At short_manifest (SaysEither (Folds g) (map entry_of held.files) (map entry_of next.files))
+
+other_journal : catalogue_name ≢ short_manifest
+other_journal is = let first : get_or catalogue_name.1 0 0 ≡ get_or short_manifest.1 0 0 = ap (λ (n : Name). get_or n.1 0 0) is in absurd (omega (arith, first))
+
+in_elsewhere : (g : Granularity) (held next : Held) (rows : List Row) (files : List Filed) (b c : Files) → Step g held next b c → All (IsIn rows b) files → All (IsIn rows c) files
+in_elsewhere g held next rows files b c step all = λ k d lt.
+    let f : Filed = get_or files k d in
+    subst (Begins (bytes_of f)) (sym (step.elsewhere (file_of rows f.entry) (λ is. outside rows f.entry short_manifest (not_in_one short_manifest short_manifest refl refl) (sym is)))) (all k d lt)
+
+-- within the commit and behind it
+pub lists_either : (g : Granularity) (catalogue manifest : JournalState) (files later : Files) (opened after : Name → ℕ) (first old new : Past) (held next : Held) → Lists g catalogue manifest files later opened after old new held next
+    → Passes (HoldsEither g held next) first old → Passes (HoldsEither g held next) first new
+lists_either g catalogue manifest files later opened after first old new held next commit before = passes_then (HoldsEither g held next) (Step g held next) first old new before commit.passes (λ a b c was one now two.
+    let holds = stored_left g catalogue manifest files opened old held commit.stored b now in
+    let rows : Says IsCatalogue held.rows (c catalogue_name) = subst (Says IsCatalogue held.rows) (sym (two.elsewhere catalogue_name other_journal)) holds.rows in
+    elim two.here [
+      | inl lists ↦ inl (record {
+        rows = rows;
+        lists = lists;
+        filed = holds.filed;
+        files = in_elsewhere g held next held.rows held.files b c two holds.files;
+      })
+      | inr lists ↦ inr (record {
+        rows = subst (λ (r : List Row). Says IsCatalogue r (c catalogue_name)) (sym commit.same_rows) rows;
+        lists = lists;
+        filed = commit.valid.filed;
+        files = in_elsewhere g held next next.rows next.files b c two (commit.safe.left b now);
+      })
+    ])
+
+still_there : (g : Granularity) (held next : Held) (rows : List Row) (files : List Filed) (opened after : Name → ℕ) (old new : Past) → Passes (Step g held next) old new → ((n : Name) → after n ≤ opened n) → AreSafe rows files opened old → AreSafe rows files after new
+still_there g held next rows files opened after old new passes fewer safe = safe_stays rows files (Step g held next) opened after old new safe passes (λ a c step. in_elsewhere g held next rows files a c step) fewer
+
+catalogue_kept : (g : Granularity) (catalogue manifest : JournalState) (files later : Files) (opened after : Name → ℕ) (old new : Past) (held next : Held) → Lists g catalogue manifest files later opened after old new held next → IsKept IsCatalogue catalogue later after new held.rows
+catalogue_kept g catalogue manifest files later opened after old new held next commit =
+    let other : catalogue.name ≢ short_manifest = λ is. other_journal (sym commit.stored.is_catalogue ∙ is) in
+    kept_stays IsCatalogue catalogue files later opened after old new held.rows (Step g held next) commit.stored.rows commit.passes (λ a c step. step.elsewhere catalogue.name other) (commit.elsewhere catalogue.name other) (commit.fewer catalogue.name)
+
+pub lists_stored : (g : Granularity) (catalogue manifest listing : JournalState) (files later : Files) (opened after : Name → ℕ) (old new : Past) (held next : Held) → Lists g catalogue manifest files later opened after old new held next
+    → listing.name ≡ short_manifest → listing.sound ≡ true → IsKept (Configured g) listing later after new (map entry_of next.files) → IsStored g catalogue listing later after new next
+lists_stored g catalogue manifest listing files later opened after old new held next commit is sound kept = record {
+  is_catalogue = commit.stored.is_catalogue;
+  is_manifest = is;
+  sound = commit.stored.sound;
+  sound_too = sound;
+  rows = subst (IsKept IsCatalogue catalogue later after new) (sym commit.same_rows) (catalogue_kept g catalogue manifest files later opened after old new held next commit);
+  lists = kept;
+  valid = commit.valid;
+  safe = still_there g held next next.rows next.files opened after old new commit.passes commit.fewer commit.safe;
+}
+
+pub lists_in_doubt : (g : Granularity) (catalogue manifest listing : JournalState) (files later : Files) (opened after : Name → ℕ) (old new : Past) (held next : Held) → Lists g catalogue manifest files later opened after old new held next
+    → listing.name ≡ short_manifest → listing.sound ≡ false → IsUnsure (Configured g) listing later after new (map entry_of held.files) (map entry_of next.files) → IsInDoubt g catalogue listing later after new held next
+lists_in_doubt g catalogue manifest listing files later opened after old new held next commit is unsound unsure = record {
+  is_catalogue = commit.stored.is_catalogue;
+  is_manifest = is;
+  doubt = inr (record {
+    sound = commit.stored.sound;
+    unsound = unsound;
+    rows = catalogue_kept g catalogue manifest files later opened after old new held next commit;
+    lists = unsure;
+    same = commit.same_rows;
+  });
+  valid = commit.stored.valid;
+  valid_too = commit.valid;
+  safe = still_there g held next held.rows held.files opened after old new commit.passes commit.fewer commit.stored.safe;
+  safe_too = still_there g held next next.rows next.files opened after old new commit.passes commit.fewer commit.safe;
+}

@@ -1,0 +1,18 @@
+//! The durable write of the archiver: samples go to partition files behind what is listed of them, and one commit lists all.
+//!
+//! What an image of a disk holds is said once, in the archive's terms (`Holds`): rows, and per row the listed partition files with
+//! their samples. `TierStore::flush` plans which bytes go to which files, appends them behind the listed lengths, syncs each file,
+//! and commits the manifest. A crash at any moment leaves what was held before, or that with all of the batch. After a fault it
+//! may not be known which of the two; `TierStore::review` finds out, and every flush does so first.
+//!
+//! Caveats: rows are registered through the catalogue before the store is made; the store itself changes no row yet.
+#![tactic(auto)]
+
+mod flushing;
+pub mod laws;
+mod piece;
+mod plan;
+mod store;
+mod writing;
+
+pub use store::TierStore;
