@@ -1,5 +1,5 @@
 -- A call that changes the store, behind the settling of a doubt.
-use Rattle.std.proofs.Common.{◌≡◌, ◌⊎◌, inl, inr, true, false, Bool, ℕ, List, get_or, refl, sym, ◌∙◌, ap, subst}
+use Rattle.std.proofs.Common.{◌≡◌, ◌⊎◌, inl, inr, true, false, Bool, ℕ, List, get_or, refl, sym, ◌∙◌, ap, subst, ◌++◌, ◌∷◌, [], ◌<◌, length, arith}
 use Rattle.std.specs.Prelude.{All}
 use Rattle.disk_model.specs.Files.{Name, Files}
 use Rattle.disk_model.specs.Past.{Past, MayLeave, Passes}
@@ -7,9 +7,17 @@ use Rattle.disk_model.proofs.Passing.{passes_then, passes_weaker, passes_none}
 use Rattle.partition_names.specs.declared.granularity.Granularity.{Granularity}
 use Rattle.pb_wire.specs.declared.payload.PayloadType.{PayloadType}
 use Rattle.pb_file.specs.File.{IsSample}
-use Rattle.pv_catalog.specs.Catalogue.{CatalogueState}
+use Rattle.disk_model.specs.declared.disk.DiskErr.TheVariants as disk
+use Rattle.event_types.specs.declared.about.About.{About}
+use Rattle.event_types.specs.declared.about.State.{State}
+use Rattle.pv_catalog.specs.Catalogue.{CatalogueState, IsOfRows, registered}
+use Rattle.pv_catalog.specs.declared.error.RegisterErr.{RegisterErr}
+use Rattle.pv_catalog.specs.declared.error.RegisterErr.TheVariants as of_register
+use Rattle.pv_catalog.specs.declared.error.StateErr.{StateErr}
+use Rattle.pv_catalog.specs.declared.error.StateErr.TheVariants as of_state
 use Rattle.pv_catalog.specs.declared.row.Row.{Row}
-use Rattle.pv_catalog.specs.Rows.{KeepsRows}
+use Rattle.pv_catalog.specs.Rows.{KeepsRows, switched}
+use Rattle.std.proofs.lemmas.Option.{slice_get-get_or, slice_get_within}
 use Rattle.series_model.specs.declared.batch.RowSamples.{RowSamples}
 use Rattle.series_model.specs.declared.sample.Sample.{Sample}
 use Rattle.store_manifest.specs.Manifest.{ManifestState}
@@ -17,7 +25,7 @@ use Rattle.tier_store.specs.Held.{Held}
 use Rattle.tier_store.specs.Flush.{IsSampleOf, CanFlush, HoldsEntries}
 use Rattle.tier_store.specs.Stored.{Holds, HoldsEither}
 use Rattle.tier_store.specs.Writing.{IsStoredAs, IsDoubtedAs}
-use Rattle.tier_store.specs.Change.{Has, HasEither, Doubts, IsOpen, IsEither, Comes, HoldsBy, HoldsChange, IsLeft, EndsOpen, EndsMade}
+use Rattle.tier_store.specs.Change.{Has, HasEither, Doubts, IsOpen, IsEither, Comes, HoldsBy, HoldsChange, IsLeft, EndsOpen, EndsMade, Registers, Switches, with_rows}
 use Rattle.tier_store.proofs.Holding.{stored_left, doubt_left}
 
 -- what a crash leaves of a store that may be in doubt
@@ -122,3 +130,29 @@ flush_left By c m rows files opened past held next same by stored doubt = go m.j
     go : (sound : Bool) → m.journal.sound ≡ sound → IsLeft By c m files opened past held
     go true sound = inl (stored_has c m rows files opened past held same (stored sound))
     go false unsound = inr (next, by, inr (doubted c m rows files opened past held next same unsound (doubt unsound)))
+
+-- THE ROWS
+
+pub switched_by : (row : ℕ) (state : State) (c : CatalogueState) (held : Held) → held.rows ≡ c.rows → Switches row state held (with_rows held (switched row state c.rows))
+switched_by row state c held same = ap (λ (rows : List Row). with_rows held (switched row state rows)) (sym same)
+
+pub registered_by : (name : List ℕ) (about : About) (c : CatalogueState) (held : Held) → held.rows ≡ c.rows → Registers name about held (with_rows held (c.rows ++ registered c.rows name about ∷ []))
+registered_by name about c held same = ap (λ (rows : List Row). with_rows held (rows ++ registered rows name about ∷ [])) (sym same)
+
+pub register_cases : (e : RegisterErr) → IsOfRows e ⊎ ((e ≡ of_register.Disk disk.Fault) ⊎ (e ≡ of_register.Disk disk.Memory))
+register_cases (of_register.NameTaken i) = inl tt
+register_cases (of_register.KeyTaken i) = inl tt
+register_cases of_register.Full = inl tt
+register_cases (of_register.Disk disk.Fault) = inr (inl refl)
+register_cases (of_register.Disk disk.Memory) = inr (inr refl)
+
+pub state_cases : (e : StateErr) → ((e ≡ of_state.NotRunning) ⊎ (e ≡ of_state.NotPaused)) ⊎ ((e ≡ of_state.Disk disk.Fault) ⊎ (e ≡ of_state.Disk disk.Memory))
+state_cases of_state.NotRunning = inl (inl refl)
+state_cases of_state.NotPaused = inl (inr refl)
+state_cases (of_state.Disk disk.Fault) = inr (inl refl)
+state_cases (of_state.Disk disk.Memory) = inr (inr refl)
+
+-- rows that stood still stand
+pub still_within : (rows later : List Row) (i : ℕ) → KeepsRows rows later → i < length rows → i < length later
+still_within [] later i keeps lt = absurd (omega (arith, lt))
+still_within (r ∷ rows) later i keeps lt = let new = keeps i (get_or (r ∷ rows) i r) (slice_get-get_or (r ∷ rows) i r lt) in slice_get_within later i new.0 new.1

@@ -3,15 +3,18 @@
 //! What an image of a disk holds is said once, in the archive's terms (`Holds`): rows, and per row the listed partition files with
 //! their samples. `TierStore::flush` plans which bytes go to which files, appends them behind the listed lengths, syncs each file,
 //! and commits the manifest. A crash at any moment leaves what was held before, or that with all of the batch. After a fault it
-//! may not be known which of the two; `TierStore::review` finds out, and every flush does so first.
+//! may not be known which of the two; `TierStore::review` finds out, and every call that changes the store does so first.
 //!
-//! Caveats: rows are registered through the catalogue before the store is made; the store itself changes no row yet.
+//! `register`, `pause` and `resume` change the rows by commits of the catalogue, with the same promise.
+//!
+//! Caveats: one store so far, store 1. Its listed files can't be opened through it yet.
 #![tactic(auto)]
 
 mod flushing;
 pub mod laws;
 mod piece;
 mod plan;
+mod registry;
 mod store;
 mod writing;
 

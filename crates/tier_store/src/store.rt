@@ -18,10 +18,10 @@ use store_manifest::Manifest;
 /// A store of partition files: its disk, the catalogue of its rows and the manifest of its files.
 #[derive(Drop)]
 pub struct TierStore<D: Disk> {
-    alloc: Global,
-    disk: D,
-    catalogue: Catalogue,
-    manifest: Manifest,
+    pub(crate) alloc: Global,
+    pub(crate) disk: D,
+    pub(crate) catalogue: Catalogue,
+    pub(crate) manifest: Manifest,
 }
 
 impl<D: Disk> TierStore<D> {
