@@ -20,6 +20,7 @@ pub mod Rows
 pub mod Settling
 pub mod Stays
 pub mod Steps
+pub mod There
 pub mod Unique
 pub mod Whole
 pub mod Years

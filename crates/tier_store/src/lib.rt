@@ -7,11 +7,12 @@
 //!
 //! `register`, `pause` and `resume` change the rows by commits of the catalogue, with the same promise.
 //!
-//! Caveats: one store so far, store 1. Its listed files can't be opened through it yet.
+//! Caveats: one store so far, store 1.
 #![tactic(auto)]
 
 mod flushing;
 pub mod laws;
+mod opening;
 mod piece;
 mod plan;
 mod registry;

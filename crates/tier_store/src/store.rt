@@ -47,11 +47,13 @@ impl<D: Disk> TierStore<D> {
         &self.catalogue
     }
 
-    /// What it lists. It needs that no change of that stands in doubt.
-    pub fn manifest(&self) -> &Manifest
-        requires { IsTrue self.now.manifest.journal.sound }
+    /// What a store lists. It needs that no change of that stands in doubt. `store` is 1, the only one so far.
+    pub fn manifest(&self, store: u8) -> &Manifest
+        requires store { store ≡ 1 }
+        requires sound { IsTrue self.now.manifest.journal.sound }
         ensures { result.now ≡ self.now.manifest }
     {
+        let _ = store;
         &self.manifest
     }
 

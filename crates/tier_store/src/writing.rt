@@ -18,10 +18,10 @@ use store_files::extend;
 use store_manifest::Entry;
 
 // The number of the store that has the partition files.
-const STORE: u8 = 1;
+pub(crate) const STORE: u8 = 1;
 
 // Makes the name that of an entry's file, in the memory that it has.
-fn set_name(name: &mut FileName, rows: &[Row], entry: &Entry) -> Result<(), AllocError>
+pub(crate) fn set_name(name: &mut FileName, rows: &[Row], entry: &Entry) -> Result<(), AllocError>
     ensures { OnOk result (name.new ≡ file_of rows.now entry.now) }
 {
     // A piece without a row isn't planned.
