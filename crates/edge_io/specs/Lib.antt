@@ -1,3 +1,4 @@
 pub mod Stream
 pub mod Lines
 pub mod Memory
+pub mod Moments

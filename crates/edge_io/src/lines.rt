@@ -2,7 +2,7 @@ ghost use Rattle.std.specs.Prelude.{◌≡◌, ◌≢◌, ◌↔◌, ℕ, ◌+�
 ghost use Rattle.std.specs.List.{slice_range};
 ghost use Rattle.std.specs.Io.KnownBytes.{IsAtEnd, Keeps};
 ghost use Rattle.edge_io.specs.Stream.{Rose};
-ghost use Rattle.edge_io.specs.Lines.{Reader, NoneBelow, IsFirstNewline, Stays, Reads, ReadsOn, Fills, HoldsAnswer, AnswersHeld, Wants, OneAnswer, ahead};
+ghost use Rattle.edge_io.specs.Lines.{Reader, NoneBelow, IsFirstNewline, Stays, Reads, ReadsOn, Fills, HoldsAnswer, AnswersHeld, Wants, ahead};
 
 use crate::Source;
 use memchr::memchr;
@@ -319,9 +319,3 @@ fn newline_from(bytes: &[u8], searched: usize) -> Option<usize>
         None => None,
     }
 }
-
-/// Where the bytes are told, each answer of `Lines::next` but want of memory and a failed read comes
-/// exactly in its case: no two cases hold of the same bytes.
-pub fn one_answer()
-    ensures { OneAnswer }
-{}

@@ -129,3 +129,46 @@ fn standard_streams_are_read_and_written(rt: HostRuntime) -> Result<(), Fail> {
     assert_eq!(rt; write_whole(&mut sink, b"d"), Err(Failed));
     Ok(())
 }
+
+fn expect_moments(rt: &impl Abort, clock: &mut ListClock, wanted: &[u64]) {
+    for moment in wanted {
+        clock.rest(1);
+        assert_eq!(rt; clock.now(), *moment);
+    }
+}
+
+#[test]
+fn a_clock_in_memory_gives_its_list_and_its_splits_the_last_lists(
+    rt: HostRuntime,
+) -> Result<(), Fail> {
+    let alloc = rt.alloc();
+    let table: [(&[u64], &[u64], u64); 3] = [
+        (&[], &[0, 0], 0),
+        (&[7], &[7, 7], 7),
+        (&[9, 8, 9, 6], &[9, 8, 9, 6, 6, 6], 6),
+    ];
+    for (moments, wanted, end) in table {
+        let mut splits = Vec::new(alloc);
+        splits.push(Vec::from_slice(alloc, &[5u64])?)?;
+        splits.push(Vec::from_slice(alloc, &[3u64, 4])?)?;
+        let mut clock = ListClock::new(Vec::from_slice(alloc, moments)?, splits);
+        let mut second = clock.split();
+        expect_moments(&rt, &mut second, &[3, 4, 4]);
+        expect_moments(&rt, &mut second.split(), &[4, 4]);
+        expect_moments(&rt, &mut clock.split(), &[5, 5]);
+        expect_moments(&rt, &mut clock.split(), &[end, end]);
+        expect_moments(&rt, &mut clock, wanted);
+    }
+    Ok(())
+}
+
+#[test]
+fn the_clock_of_the_system_is_later_than_2020(rt: HostRuntime) -> Result<(), Fail> {
+    let mut clock = SystemClock::new(rt);
+    let mut second = clock.split();
+    clock.rest(1_000);
+    for moment in [clock.now(), second.now(), SystemClock::new(&rt).now()] {
+        assert!(rt; moment > 1_577_836_800_000_000_000);
+    }
+    Ok(())
+}

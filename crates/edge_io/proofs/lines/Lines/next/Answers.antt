@@ -1,7 +1,6 @@
 use Rattle.std.proofs.Common.{arith, refl, ◌∙◌, ◌≡◌}
-use Rattle.std.specs.Prelude.{IfNone}
 use Rattle.std.proofs.KnownBytes.{Keeps-trans}
-use Rattle.edge_io.specs.Lines.{ahead, Reads, Stays, HoldsAnswer, Reader, Wants}
+use Rattle.edge_io.specs.Lines.{ahead, Reads}
 use Rattle.edge_io.proofs.Ahead.{held_answers, end_answers, wants_still, never_wants, Stays-trans, if_none}
 use Rattle.edge_io.proofs.lines.Lines.next.Goals as goal
 
