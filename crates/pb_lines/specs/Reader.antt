@@ -2,11 +2,14 @@
 use Rattle.std.specs.Prelude.{◌≡◌, ◌≢◌, ◌⊎◌, ℕ, ◌+◌, ◌*◌, ◌-◌, ◌^◌, ◌<◌, ◌≤◌, List, [], ◌∷◌, ◌++◌, All, Option, Some, None, IfSome, IsSome, IsTrue, Bool, true, false, length, is_some, if◌then◌else◌}
 use Rattle.std.specs.Io.KnownBytes.{Keeps, prepend_known}
 use Rattle.edge_io.specs.Lines.{Reader, HoldsAnswer, ahead}
+use Rattle.line_escape.specs.Unescaping.{HasNoNewline}
 use Rattle.payload_info.specs.declared.info.PayloadInfo.{PayloadInfo}
 use Rattle.pb_lines.specs.declared.fault.ChunkFault.{ChunkFault}
 use Rattle.pb_lines.specs.declared.fault.ChunkFault.TheVariants as fault
 use Rattle.pb_lines.specs.declared.reader.ChunkItem.{ChunkItem}
 use Rattle.pb_lines.specs.declared.reader.ChunkItem.TheVariants as it
+use Rattle.pb_lines.specs.Header.{IsHeaderLine}
+use Rattle.pb_lines.specs.Sample.{IsSampleLine}
 use Rattle.pb_lines.specs.Stream.{Item, header, sample, chunk_end, Section, Stop, IsStream, Skips, Gives, Fails, first_section, within, between}
 
 -- The reader of lines below, whether its last line is still to be taken, where that line or the next stands, and the refusal for good.
@@ -74,6 +77,12 @@ ReadsItem old new before after it.Memory = (new.section ≡ old.section) × Pass
 abbrev pub ReadsLine : Chunks → Chunks → Option (List ℕ) → Option (List ℕ) → Option ChunkItem → Type 0
 ReadsLine old new before after None = (new.section ≡ old.section) × Passes old new before after [] × (new.refused ≡ None) × (work_left new < work_left old)
 ReadsLine old new before after (Some item) = ReadsItem old new before after item
+
+-- What a line is, over any source: a header, or a sample of its chunk's type and year at the moment that is told.
+abbrev pub IsLineOf : Chunks → ChunkItem → Type 0
+IsLineOf new it.Header = (info : PayloadInfo) × (new.section.chunk ≡ Some info) × IsHeaderLine new.lines.line info
+IsLineOf new (it.Sample t) = (info : PayloadInfo) × (new.section.chunk ≡ Some info) × HasNoNewline new.lines.line × IsSampleLine info.ty info.year new.lines.line t
+IsLineOf new _ = Unit {0}
 
 -- a reader that has read nothing
 abbrev pub IsFresh : Chunks → Type 0

@@ -1,7 +1,7 @@
 ghost use Rattle.std.specs.Prelude.{◌≡◌, ◌≢◌, ◌↔◌, ◌≤◌, [], IfOk, IfSome, IfNone, IsTrue, IsSome};
 ghost use Rattle.std.specs.Option.{option_copied};
 ghost use Rattle.edge_io.specs.Stream.{Rose};
-ghost use Rattle.pb_lines.specs.Reader.{IsFresh, HoldsLine, ReadsItem, ReadsLine, Fetches, EndsStream, TakesLine, to_come, line_number};
+ghost use Rattle.pb_lines.specs.Reader.{IsFresh, HoldsLine, ReadsItem, ReadsLine, Fetches, EndsStream, TakesLine, IsLineOf, to_come, line_number};
 
 use crate::fault::{ChunkFault, LineErr};
 use crate::header::{HeadErr, header_of_line};
@@ -124,6 +124,7 @@ impl ChunkReader {
     /// Reads the next item, and skips empty lines outside a chunk before it.
     pub fn next<S: Source>(&mut self, source: &mut S) -> ChunkItem
         ensures item { IfNone self.old.refused (ReadsItem self.old self.new (to_come self.old (S.left source.old)) (to_come self.new (S.left source.new)) result) }
+        ensures line { IsLineOf self.new result }
         ensures refused { IfSome self.old.refused (λ f. (result ≡ ChunkItem.Refused f) × (self.new ≡ self.old) × (source.new ≡ source.old)) }
         ensures faults { S.read_faults source.old ≤ S.read_faults source.new }
         ensures failed { result ≡ ChunkItem.SourceFault → Rose (S.read_faults source.old) (S.read_faults source.new) }
@@ -139,6 +140,7 @@ impl ChunkReader {
     /// a chunk. So a caller can turn to other work between two lines.
     pub fn read_line<S: Source>(&mut self, source: &mut S) -> Option<ChunkItem>
         ensures item { IfNone self.old.refused (ReadsLine self.old self.new (to_come self.old (S.left source.old)) (to_come self.new (S.left source.new)) result) }
+        ensures line { IfSome result (IsLineOf self.new) }
         ensures refused { IfSome self.old.refused (λ f. (result ≡ Some (ChunkItem.Refused f)) × (self.new ≡ self.old) × (source.new ≡ source.old)) }
         ensures unread { HoldsLine self.old → source.new ≡ source.old }
         ensures faults { S.read_faults source.old ≤ S.read_faults source.new }
@@ -158,6 +160,7 @@ impl ChunkReader {
         requires { self.old.refused ≡ None }
         ensures line { IfNone result (Fetches self.old self.new (to_come self.old (S.left source.old)) (to_come self.new (S.left source.new))) }
         ensures item { IfSome result (ReadsItem self.old self.new (to_come self.old (S.left source.old)) (to_come self.new (S.left source.new))) }
+        ensures no_line { IfSome result (IsLineOf self.new) }
         ensures unread { HoldsLine self.old → source.new ≡ source.old }
         ensures faults { S.read_faults source.old ≤ S.read_faults source.new }
         ensures failed { result ≡ Some ChunkItem.SourceFault → Rose (S.read_faults source.old) (S.read_faults source.new) }
@@ -191,7 +194,8 @@ impl ChunkReader {
     // What the end of the stream comes to.
     fn end(&mut self) -> ChunkItem
         requires { self.old.refused ≡ None }
-        ensures { EndsStream self.old self.new result }
+        ensures ends { EndsStream self.old self.new result }
+        ensures no_line { IsLineOf self.new result }
     {
         if self.chunk.is_some() {
             self.chunk = None;

@@ -17,7 +17,7 @@ returns-in-End-clause-item g c =
     let R : Reader → Type 0 = λ r. Reads r l (ahead r (left c.args.source.now)) (ahead l (left c.next.new.source)) read.End in
     let h = subst R (ap (λ (v : Chunks). v.lines) view) (when_none c.self.inside.lines.stop (R c.self.inside.lines) stop c.in-End.ensures.read) in
     let E : Chunks → Type 0 = λ v. EndsStream v c.end.new.self c.end.result in
-    let ends = subst E (ap (λ (v : Chunks). record v { lines = l }) view) c.end.ensures in
+    let ends = subst E (ap (λ (v : Chunks). record v { lines = l }) view) c.end.ensures.ends in
     ends_reads old c.end.new.self l (left c.args.source.now) (left c.next.new.source) c.end.result (ap (λ (v : Chunks). v.pending) (sym view) ∙ c.if-self.false) c.requires h.0 h.1 h.3 h.4 ends
 
 pub returns-in-Torn-clause-item : goal.returns-in-Torn-clause-item
