@@ -57,6 +57,8 @@ impl Catalogue {
 
         // What the file says it says at any moment, and of every other name a crash leaves what it might have left before.
         ensures any_moment { IsTrue D.tells → Passes (At catalogue_name (StillSays IsCatalogue (D.files disk.old catalogue_name))) (D.past disk.old) (D.past disk.new) }
+        // What reads give of the file is as before, or it had no batch and has none still.
+        ensures reads { IsTrue D.tells → (D.files disk.new catalogue_name ≡ D.files disk.old catalogue_name) ⊎ (HasBatches (D.files disk.old catalogue_name) [] × HasBatches (D.files disk.new catalogue_name) []) }
         ensures elsewhere { IsTrue D.tells → (n : Name) → n ≢ catalogue_name → D.files disk.new n ≡ D.files disk.old n }
         ensures opened { IsTrue D.tells → (n : Name) → n ≢ catalogue_name → D.opened disk.new n ≡ D.opened disk.old n }
         ensures unopened { IsTrue D.tells → D.opened disk.new catalogue_name ≡ 0 }

@@ -1,7 +1,7 @@
 -- A commit of changes, and what a load finds.
 use Rattle.std.proofs.Common.{◌≡◌, ◌≢◌, inl, inr, ℕ, ◌≤◌, ◌==◌, true, false, List, [], ◌∷◌, ◌++◌, length, All, Result, Ok, Err, IfOk, refl, sym, ◌∙◌, subst, arith}
 use Rattle.disk_model.specs.Files.{Name, Content, Files, At}
-use Rattle.disk_model.specs.Past.{Past, Passes}
+use Rattle.disk_model.specs.Past.{Past, Passes, MayLeave}
 use Rattle.disk_model.proofs.Passing.{passes_then}
 use Rattle.gate_journal.specs.Batches.{HasBatches}
 use Rattle.gate_journal.specs.Journal.{BeforeOrAfter}
@@ -63,6 +63,16 @@ configured_moment g seen name old mid new has loads commits = passes_then (At na
       inr (subst P (sym none) (elim found [ inl one ↦ one | inr one ↦ one ]));
   elsewhere = λ n other. step.elsewhere n other ∙ before.elsewhere n other;
 })
+
+-- what reads give of it then lists nothing
+pub configured_seen : (g : Granularity) (name own : Name) (files seen : Files) (bs : List (List ℕ)) (mid new : Past) → own ≡ name → bs ≡ [] → HasBatches (files name) bs → Passes (At own (BeforeOrAfter [] (config g))) mid new → MayLeave new seen
+    → HasBatches (files name) [] × Says (Folds g) [] (seen name)
+configured_seen g name own files seen bs mid new is none has passes left =
+    let come = passes.each new.now seen passes.later (omega arith) left in
+    let found = either_says (Folds g) [] (config g) [] [] (seen own) refl (refl, refl) come.2.here in
+    let P : Name → Type 0 = λ n. Says (Folds g) [] (seen n) in
+    let Q : List (List ℕ) → Type 0 = λ l. HasBatches (files name) l in
+    (subst Q none has, subst P is (elim found [ inl one ↦ one | inr one ↦ one ]))
 
 module _ (g : Granularity) (files : Files) (name own : Name) (is : own ≡ name) (old : Past) where
   pub load_moment : (new : Past) → Passes (At own (Loads (files own))) old new → Passes (At name (StillSays (Folds g) (files name))) old new

@@ -69,6 +69,8 @@ impl Manifest {
 
         // A crash at any moment leaves the entries that the file lists as reads give it, or the file as it might have been left before, and of every other name what it might have left before.
         ensures any_moment { IsTrue D.tells → Passes (At (manifest_name store) (StillSays (Folds g) (D.files disk.old (manifest_name store)))) (D.past disk.old) (D.past disk.new) }
+        // What reads give of the file is as before, or it had no batch and lists nothing still.
+        ensures reads { IsTrue D.tells → (D.files disk.new (manifest_name store) ≡ D.files disk.old (manifest_name store)) ⊎ (HasBatches (D.files disk.old (manifest_name store)) [] × Lists g [] (D.files disk.new (manifest_name store))) }
         ensures elsewhere { IsTrue D.tells → (n : Name) → n ≢ manifest_name store → D.files disk.new n ≡ D.files disk.old n }
         ensures opened { IsTrue D.tells → (n : Name) → n ≢ manifest_name store → D.opened disk.new n ≡ D.opened disk.old n }
         ensures unopened { IsTrue D.tells → D.opened disk.new (manifest_name store) ≡ 0 }

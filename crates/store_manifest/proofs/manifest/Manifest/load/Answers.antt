@@ -1,4 +1,7 @@
-use Rattle.store_manifest.proofs.Committing.{load_moment, first_moment, if_ok}
+use Rattle.std.proofs.Common.{inr, ◌∙◌, subst}
+use Rattle.disk_model.specs.Files.{Name}
+use Rattle.gate_journal.specs.Batches.{HasBatches}
+use Rattle.store_manifest.proofs.Committing.{load_moment, first_moment, configured_seen, if_ok}
 use Rattle.store_manifest.proofs.Order.{configured_entries}
 use Rattle.store_manifest.proofs.manifest.Manifest.load.Goals as goal
 
@@ -48,3 +51,10 @@ returns-clause-any_moment g c tells = load_moment c.args.g (g.D.Disk.files c.arg
 
 pub returns-clause-are : goal.returns-clause-are
 returns-clause-are g c = if_ok c.opened.result (λ m good. configured_entries c.args.g c.in_ok-journal.batches m.entries good.2) c.opened.ensures.good
+
+pub returns-in_err-manifest-clause-reads : goal.returns-in_err-manifest-clause-reads
+returns-in_err-manifest-clause-reads g c tells =
+    inr (
+    configured_seen c.args.g _ _ (g.D.Disk.files c.args.disk.now) (g.D.Disk.files c.configure.new.disk) c.in_ok-journal.batches _ _ (c.in_ok-journal.ensures.journal.0 ∙ c.in_ok-name.ensures) (c.is_empty.ensures.0 c.if-is_empty.true)
+    (subst (λ (n : Name). HasBatches (g.D.Disk.files c.args.disk.now n) c.in_ok-journal.batches) c.in_ok-name.ensures (c.in_ok-journal.ensures.batches tells)) (c.configure.ensures.any_moment tells) (g.met.D.Disk.seen c.configure.new.disk tells)
+    )
