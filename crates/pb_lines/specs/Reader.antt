@@ -78,10 +78,11 @@ abbrev pub ReadsLine : Chunks → Chunks → Option (List ℕ) → Option (List 
 ReadsLine old new before after None = (new.section ≡ old.section) × Passes old new before after [] × (new.refused ≡ None) × (work_left new < work_left old)
 ReadsLine old new before after (Some item) = ReadsItem old new before after item
 
--- What a line is, over any source: a header, or a sample of its chunk's type and year at the moment that is told.
+-- What a line is, over any source: a header, or a sample of its chunk's type and year at the moment that is told, no longer than a
+-- line may be.
 abbrev pub IsLineOf : Chunks → ChunkItem → Type 0
 IsLineOf new it.Header = (info : PayloadInfo) × (new.section.chunk ≡ Some info) × IsHeaderLine new.lines.line info
-IsLineOf new (it.Sample t) = (info : PayloadInfo) × (new.section.chunk ≡ Some info) × HasNoNewline new.lines.line × IsSampleLine info.ty info.year new.lines.line t
+IsLineOf new (it.Sample t) = (info : PayloadInfo) × (new.section.chunk ≡ Some info) × HasNoNewline new.lines.line × IsSampleLine info.ty info.year new.lines.line t × (length new.lines.line ≤ 16777216)
 IsLineOf new _ = Unit {0}
 
 -- a reader that has read nothing
