@@ -15,7 +15,7 @@ use Rattle.pv_catalog.specs.declared.row.Row.{Row}
 use Rattle.tier_store.specs.declared.piece.Piece.{Piece}
 use Rattle.store_manifest.specs.Entries.{Place, put, comes_before}
 use Rattle.pb_file.specs.File.{IsSample, lines_of}
-use Rattle.tier_store.specs.Held.{Filed, Held, IsFiled, entry_of, filed_at, bytes_of, samples_of, count_of}
+use Rattle.tier_store.specs.Held.{Filed, Held, IsFiled, IsListed, AreFiled, entry_of, filed_at, bytes_of, samples_of, count_of}
 
 -- THE BATCH
 
@@ -48,7 +48,8 @@ with_batch row xs (p ∷ ps) = with_batch row (if nat_eq p.row row then over xs 
 -- the rows stay, and each row has its samples with the batch's over them
 pub record IsFlushed (old : Held) (batch : List RowSamples) (new : Held) : Type 0 where
   pub rows : new.rows ≡ old.rows
-  pub samples : (row : ℕ) → samples_of row new.files ≡ with_batch row (samples_of row old.files) batch
+  pub stands : new.stands ≡ old.stands
+  pub samples : IsTrue old.stands → (row : ℕ) → samples_of row new.files ≡ with_batch row (samples_of row old.files) batch
 
 -- THE FILES
 
@@ -59,6 +60,11 @@ is_place a b = nat_eq a.0 b.0 && nat_eq a.1 b.1
 abbrev pub bytes_at : Place → List Filed → List ℕ
 bytes_at p [] = []
 bytes_at p (f ∷ fs) = if is_place (filed_at f) p then bytes_of f else bytes_at p fs
+
+-- how long the file of a place is listed, 0 where it isn't
+abbrev pub len_at : Place → List Filed → ℕ
+len_at p [] = 0
+len_at p (f ∷ fs) = if is_place (filed_at f) p then f.entry.len else len_at p fs
 
 -- the header of a row's file of this year
 abbrev pub header_of : Row → ℤ → PayloadInfo
@@ -80,14 +86,20 @@ pub record HasOwnHeader (rows : List Row) (f : Filed) : Type 0 where
   pub starts : StartsIn f.entry.part year
   pub head : f.head ≡ escaped (info_text (header_of row year))
 
+-- f is a file of the row, made of its listed bytes and the piece's, or of the row's own header and the piece's
+pub record GrowsOwn (g : Granularity) (held : Held) (p : Piece) (f : Filed) : Type 0 where
+  pub filed : IsFiled g held.rows f
+  pub bytes : bytes_of f ≡ bytes_at (filed_at f) held.files ++ p.bytes.items
+  pub anew : bytes_at (filed_at f) held.files ≡ [] → HasOwnHeader held.rows f
+
 -- The piece is what the file of its entry gets behind its listed bytes, and f is the file with it.
 pub record Grows (g : Granularity) (held : Held) (p : Piece) (f : Filed) : Type 0 where
   pub entry : p.entry ≡ f.entry
-  pub filed : IsFiled g held.rows f
-  pub at : p.at ≡ length (bytes_at (filed_at f) held.files)
-  pub bytes : bytes_of f ≡ bytes_at (filed_at f) held.files ++ p.bytes.items
+  pub listed : IsListed g held.rows f
+  pub at : p.at ≡ len_at (filed_at f) held.files
+  pub len : p.entry.len ≡ p.at + length p.bytes.items
   pub some : 1 ≤ length p.bytes.items
-  pub anew : bytes_at (filed_at f) held.files ≡ [] → HasOwnHeader held.rows f
+  pub own : IsTrue held.stands → GrowsOwn g held p f
 
 -- each place comes before the next
 abbrev pub PlacesRise : List Filed → Type 0
@@ -100,7 +112,7 @@ put_all files [] = files
 put_all files (f ∷ fs) = put_all (put filed_at f files) fs
 
 abbrev pub with_files : Held → List Filed → Held
-with_files held fs = record { rows = held.rows; files = put_all held.files fs }
+with_files held fs = record { rows = held.rows; files = put_all held.files fs; stands = held.stands }
 
 -- the pieces make these files, each of another place
 pub record MakesFiles (g : Granularity) (held : Held) (pieces : List Piece) (fs : List Filed) : Type 0 where
@@ -111,7 +123,7 @@ pub record MakesFiles (g : Granularity) (held : Held) (pieces : List Piece) (fs 
 pub record HoldsEntries (g : Granularity) (rows : List Row) (entries : List Entry) (held : Held) : Type 0 where
   pub of_rows : held.rows ≡ rows
   pub listed : entries ≡ map entry_of held.files
-  pub filed : All (IsFiled g held.rows) held.files
+  pub filed : AreFiled g held
   pub apart : PlacesRise held.files
 
 -- The pieces make files, with which the batch is flushed, and `count` samples more are held.
@@ -119,4 +131,4 @@ pub record Flushes (g : Granularity) (held : Held) (batch : List RowSamples) (pi
   pub files : List Filed
   pub makes : MakesFiles g held pieces files
   pub flushed : IsFlushed held batch (with_files held files)
-  pub more : count_of (put_all held.files files) ≡ count_of held.files + count
+  pub more : IsTrue held.stands → count_of (put_all held.files files) ≡ count_of held.files + count
