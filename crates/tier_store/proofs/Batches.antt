@@ -29,7 +29,7 @@ use Rattle.tier_store.proofs.Lasts.{last_view, same_last}
 pub adds_nothing : (target : Target) (row : Row) (pieces : List Piece) → Adds target row [] 0 pieces pieces
 adds_nothing target row pieces = record {
   made = λ held has fs plan.
-      (fs, plan, record { own = sym (append-nil (samples_with held fs target.series)); others = λ r other. refl; count = omega arith });
+      (fs, plan, λ is. record { own = sym (append-nil (samples_with held fs target.series)); others = λ r other. refl; count = omega arith });
 }
 
 pub adds_more : (target : Target) (row : Row) (xs ys : List Sample) (m n : ℕ) (a b c : List Piece) → Adds target row xs m a b → Adds target row ys n b c → IsRising (xs ++ ys) → Adds target row (xs ++ ys) (m + n) a c
@@ -39,11 +39,14 @@ adds_more target row xs ys m n a b c one two rising = record {
       let second = two.made held has first.0 first.1 in (
         second.0,
         second.1,
-        record {
-          own = second.2.own ∙ (ap (λ (l : List Sample). over l ys) first.2.own ∙ over_flushed (samples_with held fs target.series) xs ys rising);
-          others = λ r other. second.2.others r other ∙ first.2.others r other;
-          count = omega (arith, first.2.count, second.2.count);
-        },
+        λ is.
+            let before = first.2 is in
+            let after = second.2 is in
+            record {
+              own = after.own ∙ (ap (λ (l : List Sample). over l ys) before.own ∙ over_flushed (samples_with held fs target.series) xs ys rising);
+              others = λ r other. after.others r other ∙ before.others r other;
+              count = omega (arith, before.count, after.count);
+            },
       );
 }
 
@@ -101,7 +104,7 @@ no_last rest f is = omega (arith, ap length is, length-append rest (f ∷ []))
 pub plans_none : (g : Granularity) (rows : List Row) (entries : List Entry) → Plans g rows entries [] 0 []
 plans_none g rows entries = record {
   made = λ held has.
-      ([], record { makes = record { each = tt; apart = tt }; last = λ rest f is. absurd (no_last rest f is) }, record { samples = λ row. refl; count = omega arith });
+      ([], record { makes = record { each = tt; apart = tt }; last = λ rest f is. absurd (no_last rest f is) }, λ is. record { samples = λ row. refl; count = omega arith });
 }
 
 pub plans_on : (target : Target) (rows : List Row) (entries : List Entry) (part : RowSamples) (row : Row) (n : ℕ) (old new : List Piece) → target.series ≡ part.row → slice_get rows part.row ≡ Some row → IsLastOf entries part.row target.listed → Adds target row part.samples n old new → PlansOn target.granularity rows entries part n old new
@@ -119,13 +122,16 @@ plans_on target rows entries part row n old new series stands listed adds = reco
           ends = subst E (sym series) (ends_listed part.row entries held.files target.listed has.listed has.apart listed);
         } in
         let more = adds.made held here plan.0 plan.1 in
-        let gains = more.2 in (
+        (
           more.0,
           more.1,
-          record {
-            samples = λ r. by_row r (cases_eq r target.series) held plan.0 more.0 gains parts (plan.2.samples r);
-            count = omega (arith, gains.count, plan.2.count);
-          },
+          λ is.
+              let gains = more.2 is in
+              let reached = plan.2 is in
+              record {
+                samples = λ r. by_row r (cases_eq r target.series) held plan.0 more.0 gains parts (reached.samples r);
+                count = omega (arith, gains.count, reached.count);
+              },
         );
   };
 }
@@ -161,9 +167,9 @@ plans_kept g rows entries parts order n pieces same plans = record {
       let plan = plans.made held has in (
         plan.0,
         plan.1,
-        record {
-          samples = λ row. plan.2.samples row ∙ (of_row_alone row (samples_of row held.files) order ∙ (ap (with_batch row (samples_of row held.files)) (same row) ∙ sym (of_row_alone row (samples_of row held.files) parts)));
-          count = plan.2.count;
+        λ is. record {
+          samples = λ row. (plan.2 is).samples row ∙ (of_row_alone row (samples_of row held.files) order ∙ (ap (with_batch row (samples_of row held.files)) (same row) ∙ sym (of_row_alone row (samples_of row held.files) parts)));
+          count = (plan.2 is).count;
         },
       );
 }
@@ -171,7 +177,7 @@ plans_kept g rows entries parts order n pieces same plans = record {
 pub flushes : (g : Granularity) (rows : List Row) (entries : List Entry) (batch : List RowSamples) (n : ℕ) (pieces : List Piece) → Plans g rows entries batch n pieces → (held : Held) → HoldsEntries g rows entries held → Flushes g held batch pieces n
 flushes g rows entries batch n pieces plans held has =
     let plan = plans.made held has in
-    record { files = plan.0; makes = plan.1.makes; flushed = record { rows = refl; samples = plan.2.samples }; more = plan.2.count }
+    record { files = plan.0; makes = plan.1.makes; flushed = record { rows = refl; stands = refl; samples = λ is. (plan.2 is).samples }; more = λ is. (plan.2 is).count }
 
 -- one list more
 pub plans_next : {X : Type 0} (seen : X → RowSamples) (g : Granularity) (rows : List Row) (entries : List Entry) (order : List X) (i m n : ℕ) (x : X) (old new : List Piece) → i < length order → x ≡ get_or order i x → Plans g rows entries (take i (map seen order)) m old → PlansOn g rows entries (seen x) n old new → Plans g rows entries (take (i + 1) (map seen order)) (m + n) new

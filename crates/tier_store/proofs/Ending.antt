@@ -10,7 +10,6 @@ use Rattle.disk_model.proofs.Passing.{passes_then}
 use Rattle.gate_journal.specs.Journal.{JournalState}
 use Rattle.gate_journal.specs.Kept.{Says, SaysEither, IsKept, IsUnsure}
 use Rattle.gate_journal.proofs.Keeping.{kept_stays}
-use Rattle.store_files.specs.Fronts.{Begins}
 use Rattle.partition_names.specs.declared.granularity.Granularity.{Granularity}
 use Rattle.partition_names.specs.Part.{IsPart}
 use Rattle.store_manifest.specs.declared.entry.Entry.{Entry}
@@ -21,14 +20,13 @@ use Rattle.pv_catalog.specs.Rows.{IsCatalogue}
 use Rattle.pv_catalog.specs.Catalogue.{catalogue_name}
 use Rattle.store_manifest.specs.Batches.{Configured, Folds}
 use Rattle.tier_store.specs.Names.{short_manifest}
-use Rattle.tier_store.specs.Held.{Filed, Held, IsFiled, IsIn, entry_of, filed_at, file_of, bytes_of}
+use Rattle.tier_store.specs.Held.{Filed, Held, IsFiled, IsListed, AreIn, entry_of, filed_at}
 use Rattle.tier_store.specs.Flush.{Grows, MakesFiles, put_all, with_files}
 use Rattle.tier_store.specs.Stored.{HoldsEither, AreHeld, AreSafe, IsStored, IsInDoubt}
 use Rattle.tier_store.specs.Writing.{set_of}
-use Rattle.tier_store.proofs.Names.{outside}
 use Rattle.tier_store.proofs.Listed.{all_put_all, rise_put_all}
-use Rattle.tier_store.proofs.Stays.{safe_stays}
-use Rattle.tier_store.proofs.Going.{all_filed}
+use Rattle.tier_store.proofs.Stays.{AreApart, all_apart, apart_stay, apart_long, safe_stays}
+use Rattle.tier_store.proofs.Going.{all_listed, all_filed}
 use Rattle.tier_store.proofs.Holding.{not_in_one, stored_left}
 
 -- WHAT THE CHANGES LIST
@@ -65,7 +63,10 @@ all_follow g (p ∷ ps) entries parts =
 pub valid_with : (g : Granularity) (held : Held) (ps : List Piece) (fs : List Filed) → AreHeld g held → MakesFiles g held ps fs → AreHeld g (with_files held fs)
 valid_with g held ps fs valid makes = record {
   keys = valid.keys;
-  filed = all_put_all (IsFiled g held.rows) held.files fs valid.filed (all_filed g held ps fs makes.each);
+  filed = record {
+    listed = all_put_all (IsListed g held.rows) held.files fs valid.filed.listed (all_listed g held ps fs makes.each);
+    filed = λ stands. all_put_all (IsFiled g held.rows) held.files fs (valid.filed.filed stands) (all_filed g held ps fs makes.each stands);
+  };
   apart = rise_put_all held.files fs valid.apart;
 }
 
@@ -75,8 +76,9 @@ valid_with g held ps fs valid makes = record {
 pub record Lists (g : Granularity) (catalogue manifest : JournalState) (files later : Files) (opened after : Name → ℕ) (old new : Past) (held next : Held) : Type 0 where
   pub stored : IsStored g catalogue manifest files opened old held
   pub same_rows : next.rows ≡ held.rows
+  pub same_stands : next.stands ≡ held.stands
   pub valid : AreHeld g next
-  pub safe : AreSafe next.rows next.files opened old
+  pub safe : AreSafe next files opened old
   pub passes : Passes (At short_manifest (SaysEither (Folds g) (map entry_of held.files) (map entry_of next.files))) old new
   pub elsewhere : (n : Name) → n ≢ short_manifest → later n ≡ files n
   pub fewer : (n : Name) → after n ≤ opened n
@@ -87,10 +89,12 @@ Step g held next = At short_manifest (SaysEither (Folds g) (map entry_of held.fi
 other_journal : catalogue_name ≢ short_manifest
 other_journal is = let first : get_or catalogue_name.1 0 0 ≡ get_or short_manifest.1 0 0 = ap (λ (n : Name). get_or n.1 0 0) is in absurd (omega (arith, first))
 
-in_elsewhere : (g : Granularity) (held next : Held) (rows : List Row) (files : List Filed) (b c : Files) → Step g held next b c → All (IsIn rows b) files → All (IsIn rows c) files
-in_elsewhere g held next rows files b c step all = λ k d lt.
-    let f : Filed = get_or files k d in
-    subst (Begins (bytes_of f)) (sym (step.elsewhere (file_of rows f.entry) (λ is. outside rows f.entry short_manifest (not_in_one short_manifest short_manifest refl refl) (sym is)))) (all k d lt)
+-- no listed file is the manifest
+files_apart : (held : Held) → AreApart held.rows short_manifest held.files
+files_apart held = all_apart held.rows short_manifest held.files (not_in_one short_manifest short_manifest refl refl)
+
+in_elsewhere : (g : Granularity) (held next kept : Held) (b c : Files) → Step g held next b c → AreIn kept b → AreIn kept c
+in_elsewhere g held next kept b c step = apart_stay kept short_manifest (SaysEither (Folds g) (map entry_of held.files) (map entry_of next.files)) b c (files_apart kept) step
 
 -- within the commit and behind it
 pub lists_either : (g : Granularity) (catalogue manifest : JournalState) (files later : Files) (opened after : Name → ℕ) (first old new : Past) (held next : Held) → Lists g catalogue manifest files later opened after old new held next
@@ -103,18 +107,20 @@ lists_either g catalogue manifest files later opened after first old new held ne
         rows = rows;
         lists = lists;
         filed = holds.filed;
-        files = in_elsewhere g held next held.rows held.files b c two holds.files;
+        files = in_elsewhere g held next held b c two holds.files;
       })
       | inr lists ↦ inr (record {
         rows = subst (λ (r : List Row). Says IsCatalogue r (c catalogue_name)) (sym commit.same_rows) rows;
         lists = lists;
         filed = commit.valid.filed;
-        files = in_elsewhere g held next next.rows next.files b c two (commit.safe.left b now);
+        files = in_elsewhere g held next next b c two (commit.safe.left b now);
       })
     ])
 
-still_there : (g : Granularity) (held next : Held) (rows : List Row) (files : List Filed) (opened after : Name → ℕ) (old new : Past) → Passes (Step g held next) old new → ((n : Name) → after n ≤ opened n) → AreSafe rows files opened old → AreSafe rows files after new
-still_there g held next rows files opened after old new passes fewer safe = safe_stays rows files (Step g held next) opened after old new safe passes (λ a c step. in_elsewhere g held next rows files a c step) fewer
+still_there : (g : Granularity) (held next kept : Held) (files later : Files) (opened after : Name → ℕ) (old new : Past) → Passes (Step g held next) old new → ((n : Name) → n ≢ short_manifest → later n ≡ files n) → ((n : Name) → after n ≤ opened n)
+    → AreSafe kept files opened old → AreSafe kept later after new
+still_there g held next kept files later opened after old new passes elsewhere fewer safe =
+    safe_stays kept (Step g held next) files later opened after old new safe passes (λ a c step. in_elsewhere g held next kept a c step) (apart_long kept short_manifest files later (files_apart kept) elsewhere safe.long) fewer
 
 catalogue_kept : (g : Granularity) (catalogue manifest : JournalState) (files later : Files) (opened after : Name → ℕ) (old new : Past) (held next : Held) → Lists g catalogue manifest files later opened after old new held next → IsKept IsCatalogue catalogue later after new held.rows
 catalogue_kept g catalogue manifest files later opened after old new held next commit =
@@ -131,7 +137,7 @@ lists_stored g catalogue manifest listing files later opened after old new held 
   rows = subst (IsKept IsCatalogue catalogue later after new) (sym commit.same_rows) (catalogue_kept g catalogue manifest files later opened after old new held next commit);
   lists = kept;
   valid = commit.valid;
-  safe = still_there g held next next.rows next.files opened after old new commit.passes commit.fewer commit.safe;
+  safe = still_there g held next next files later opened after old new commit.passes commit.elsewhere commit.fewer commit.safe;
 }
 
 pub lists_in_doubt : (g : Granularity) (catalogue manifest listing : JournalState) (files later : Files) (opened after : Name → ℕ) (old new : Past) (held next : Held) → Lists g catalogue manifest files later opened after old new held next
@@ -146,8 +152,9 @@ lists_in_doubt g catalogue manifest listing files later opened after old new hel
     lists = unsure;
     same = commit.same_rows;
   });
+  stand = commit.same_stands;
   valid = commit.stored.valid;
   valid_too = commit.valid;
-  safe = still_there g held next held.rows held.files opened after old new commit.passes commit.fewer commit.stored.safe;
-  safe_too = still_there g held next next.rows next.files opened after old new commit.passes commit.fewer commit.safe;
+  safe = still_there g held next held files later opened after old new commit.passes commit.elsewhere commit.fewer commit.stored.safe;
+  safe_too = still_there g held next next files later opened after old new commit.passes commit.elsewhere commit.fewer commit.safe;
 }

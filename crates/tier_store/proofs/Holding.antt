@@ -15,7 +15,7 @@ use Rattle.pv_catalog.specs.Catalogue.{catalogue_name}
 use Rattle.store_manifest.specs.Batches.{Configured, Folds}
 use Rattle.tier_store.specs.Names.{short_manifest}
 use Rattle.tier_store.specs.Held.{Filed, Held, IsIn, entry_of}
-use Rattle.tier_store.specs.Stored.{Holds, IsStored, IsInDoubt}
+use Rattle.tier_store.specs.Stored.{Holds, AreLong, IsStored, IsInDoubt}
 use Rattle.tier_store.specs.Writing.{Behind}
 use Rattle.tier_store.proofs.Stays.{safe_stays}
 
@@ -71,7 +71,7 @@ doubt_left g catalogue manifest files opened past one other doubt image left = e
     second rows lists = record { rows = rows; lists = lists; filed = doubt.valid_too.filed; files = doubt.safe_too.left image left }
 
 -- Appending behind the listed lengths, and writing what isn't listed, changes nothing that an image holds.
-pub holds_behind : (g : Granularity) (held : Held) (a c : Files) → Behind held.rows held.files a c → Holds g a held → Holds g c held
+pub holds_behind : (g : Granularity) (held : Held) (a c : Files) → Behind held a c → Holds g a held → Holds g c held
 holds_behind g held a c step holds = record {
   rows = subst (Says IsCatalogue held.rows) (sym (step.elsewhere catalogue_name (not_in_one catalogue_name catalogue_name refl refl))) holds.rows;
   lists = subst (Says (Folds g) (map entry_of held.files)) (sym (step.elsewhere short_manifest (not_in_one short_manifest short_manifest refl refl))) holds.lists;
@@ -79,9 +79,9 @@ holds_behind g held a c step holds = record {
   files = step.stays holds.files;
 }
 
-pub still_stored : (g : Granularity) (catalogue manifest : JournalState) (files later : Files) (opened after : Name → ℕ) (old new : Past) (held : Held) → IsStored g catalogue manifest files opened old held → Passes (Behind held.rows held.files) old new
-    → ((n : Name) → n.0 ≢ 1 → later n ≡ files n) → ((n : Name) → after n ≤ opened n) → IsStored g catalogue manifest later after new held
-still_stored g catalogue manifest files later opened after old new held stored passes same fewer =
+pub still_stored : (g : Granularity) (catalogue manifest : JournalState) (files later : Files) (opened after : Name → ℕ) (old new : Past) (held : Held) → IsStored g catalogue manifest files opened old held → Passes (Behind held) old new
+    → AreLong held later → ((n : Name) → n.0 ≢ 1 → later n ≡ files n) → ((n : Name) → after n ≤ opened n) → IsStored g catalogue manifest later after new held
+still_stored g catalogue manifest files later opened after old new held stored passes long same fewer =
     let c_out = not_in_one catalogue.name catalogue_name stored.is_catalogue refl in
     let m_out = not_in_one manifest.name short_manifest stored.is_manifest refl in
     record {
@@ -89,15 +89,8 @@ still_stored g catalogue manifest files later opened after old new held stored p
       is_manifest = stored.is_manifest;
       sound = stored.sound;
       sound_too = stored.sound_too;
-      rows = kept_stays IsCatalogue catalogue files later opened after old new held.rows (Behind held.rows held.files) stored.rows passes (λ a c step. step.elsewhere catalogue.name c_out) (same catalogue.name c_out) (fewer catalogue.name);
-      lists = kept_stays (Configured g) manifest files later opened after old new (map entry_of held.files) (Behind held.rows held.files) stored.lists passes (λ a c step. step.elsewhere manifest.name m_out) (same manifest.name m_out) (fewer manifest.name);
+      rows = kept_stays IsCatalogue catalogue files later opened after old new held.rows (Behind held) stored.rows passes (λ a c step. step.elsewhere catalogue.name c_out) (same catalogue.name c_out) (fewer catalogue.name);
+      lists = kept_stays (Configured g) manifest files later opened after old new (map entry_of held.files) (Behind held) stored.lists passes (λ a c step. step.elsewhere manifest.name m_out) (same manifest.name m_out) (fewer manifest.name);
       valid = stored.valid;
-      safe = safe_stays held.rows held.files (Behind held.rows held.files) opened after old new stored.safe passes (λ a c step. step.stays) fewer;
+      safe = safe_stays held (Behind held) files later opened after old new stored.safe passes (λ a c step. step.stays) long fewer;
     }
-
--- calls that only read
-pub read_behind : (rows : List Row) (files : List Filed) (old new : Past) → Passes (λ a b. b ≡ a) old new → Passes (Behind rows files) old new
-read_behind rows files old new passes = passes_weaker _ _ _ _ passes (λ a c was is. record {
-  elsewhere = λ n other. ap (λ (f : Files). f n) is;
-  stays = λ all. subst (λ (f : Files). All (IsIn rows f) files) (sym is) all;
-})

@@ -1,3 +1,4 @@
+pub mod Appending
 pub mod Batches
 pub mod Begins
 pub mod Calls

@@ -1,11 +1,11 @@
--- Where places rise each is listed once, and the bytes at a place are those of its file. What is put among them keeps them so.
-use Rattle.std.proofs.Common.{◌≡◌, ◌≢◌, ◌⊎◌, inl, inr, ℕ, zero, suc, ◌<◌, List, [], ◌∷◌, ◌++◌, length, get_or, Bool, true, false, cond, refl, ◌∙◌, ap, subst, arith}
+-- Where places rise each file is listed once, and is the one at its place. What is put among them keeps them so.
+use Rattle.std.proofs.Common.{◌≡◌, ◌≢◌, ◌⊎◌, inl, inr, ℕ, zero, suc, ◌<◌, List, [], ◌∷◌, ◌++◌, length, get_or, Bool, true, false, cond, None, Some, refl, ◌∙◌, ap, subst, arith}
 use Rattle.std.specs.Prelude.{All, filter, Contains, IsTrue, nat_eq}
 use Rattle.std.proofs.lemmas.Bool.Decides.{Decides-eqb, nat_tests}
 use Rattle.std.proofs.lemmas.List.Elements.{All-nil, All-cons, All-append, All-filter, All-get_or, All-weaker, filter_passes, Contains-append_right}
 use Rattle.store_manifest.specs.Entries.{Place, comes_before, put}
-use Rattle.tier_store.specs.Held.{Filed, filed_at, bytes_of}
-use Rattle.tier_store.specs.Flush.{PlacesRise, is_place, bytes_at, put_all}
+use Rattle.tier_store.specs.Held.{Filed, filed_at}
+use Rattle.tier_store.specs.Flush.{PlacesRise, is_place, file_at, put_all}
 
 pub is_place-true : (a b : Place) → is_place a b ≡ true → a ≡ b
 is_place-true a b same =
@@ -31,35 +31,35 @@ rise_at (f ∷ fs) rise k zero d before within = absurd (omega arith)
 rise_at (f ∷ fs) rise zero (suc i) d before within = All-get_or (λ (h : Filed). IsTrue (comes_before (filed_at f) (filed_at h))) fs i d (omega arith) rise.0
 rise_at (f ∷ fs) rise (suc k) (suc i) d before within = rise_at fs rise.1 k i d (omega arith) (omega arith)
 
-skipped : (f : Filed) (fs : List Filed) (p : Place) → filed_at f ≢ p → bytes_at p (f ∷ fs) ≡ bytes_at p fs
+skipped : (f : Filed) (fs : List Filed) (p : Place) → filed_at f ≢ p → file_at p (f ∷ fs) ≡ file_at p fs
 skipped f fs p other = go (is_place (filed_at f) p) refl
   where
-    go : (t : Bool) → is_place (filed_at f) p ≡ t → cond t (bytes_of f) (bytes_at p fs) ≡ bytes_at p fs
+    go : (t : Bool) → is_place (filed_at f) p ≡ t → cond t (Some f) (file_at p fs) ≡ file_at p fs
     go true same = absurd (other (is_place-true (filed_at f) p same))
     go false differs = refl
 
--- each file's bytes are those at its place
-pub found : (files : List Filed) → PlacesRise files → All (λ (f : Filed). bytes_at (filed_at f) files ≡ bytes_of f) files
-found [] rise = All-nil (λ (f : Filed). bytes_at (filed_at f) [] ≡ bytes_of f)
+-- each file is the one at its place
+pub found : (files : List Filed) → PlacesRise files → All (λ (f : Filed). file_at (filed_at f) files ≡ Some f) files
+found [] rise = All-nil (λ (f : Filed). file_at (filed_at f) [] ≡ Some f)
 found (f ∷ fs) rise =
     let rest = found fs rise.1 in
-    All-cons (λ (h : Filed). bytes_at (filed_at h) (f ∷ fs) ≡ bytes_of h) f fs (ap (λ (t : Bool). cond t (bytes_of f) (bytes_at (filed_at f) fs)) (is_place-same (filed_at f)))
+    All-cons (λ (h : Filed). file_at (filed_at h) (f ∷ fs) ≡ Some h) f fs (ap (λ (t : Bool). cond t (Some f) (file_at (filed_at f) fs)) (is_place-same (filed_at f)))
     (λ k d lt. skipped f fs (filed_at (get_or fs k d)) (before_apart (filed_at f) (filed_at (get_or fs k d)) (rise.0 k d lt)) ∙ rest k d lt)
 
 -- what is listed at a place: nothing, or one of the files
-pub listed_at : (files : List Filed) (p : Place) → (bytes_at p files ≡ []) ⊎ ((f : Filed) × Contains files f × (filed_at f ≡ p) × (bytes_at p files ≡ bytes_of f))
+pub listed_at : (files : List Filed) (p : Place) → (file_at p files ≡ None) ⊎ ((f : Filed) × Contains files f × (filed_at f ≡ p) × (file_at p files ≡ Some f))
 listed_at [] p = inl refl
 listed_at (f ∷ fs) p = go (listed_at fs p) (is_place (filed_at f) p) refl
   where
     here : Contains (f ∷ fs) f
     here = (0, omega arith, refl)
 
-    go : (bytes_at p fs ≡ []) ⊎ ((h : Filed) × Contains fs h × (filed_at h ≡ p) × (bytes_at p fs ≡ bytes_of h))
+    go : (file_at p fs ≡ None) ⊎ ((h : Filed) × Contains fs h × (filed_at h ≡ p) × (file_at p fs ≡ Some h))
         → (t : Bool) → is_place (filed_at f) p ≡ t
-        → (cond t (bytes_of f) (bytes_at p fs) ≡ []) ⊎ ((h : Filed) × Contains (f ∷ fs) h × (filed_at h ≡ p) × (cond t (bytes_of f) (bytes_at p fs) ≡ bytes_of h))
+        → (cond t (Some f) (file_at p fs) ≡ None) ⊎ ((h : Filed) × Contains (f ∷ fs) h × (filed_at h ≡ p) × (cond t (Some f) (file_at p fs) ≡ Some h))
     go more true same = inr (f, here, is_place-true (filed_at f) p same, refl)
     go (inl none) false other = inl none
-    go (inr (h, within, is, bytes)) false other = inr (h, Contains-append_right (f ∷ []) fs h within, is, bytes)
+    go (inr (h, within, is, found)) false other = inr (h, Contains-append_right (f ∷ []) fs h within, is, found)
 
 -- what holds of each of the files, and of those that are put among them, holds of all
 pub all_put : {A : Type 0} (P : A → Type 0) (key : A → Place) (x : A) (xs : List A) → All P xs → P x → All P (put key x xs)

@@ -1,6 +1,5 @@
 -- A change of the rows: the catalogue's commit, and what of the store stays beside it.
-use Rattle.std.proofs.Common.{true, false, ◌≡◌, ◌≢◌, inl, inr, ℕ, ◌≤◌, List, [], ◌∷◌, ◌++◌, map, get_or, refl, sym, ◌∙◌, ap, subst, arith}
-use Rattle.std.specs.Prelude.{All}
+use Rattle.std.proofs.Common.{true, false, ◌≡◌, ◌≢◌, inl, inr, ℕ, ◌≤◌, ◌++◌, ◌∷◌, [], List, map, get_or, refl, sym, ◌∙◌, ap, subst, arith}
 use Rattle.disk_model.specs.Files.{Name, Content, Files, At}
 use Rattle.disk_model.specs.Past.{Past, Passes}
 use Rattle.disk_model.proofs.Passing.{passes_weaker}
@@ -9,13 +8,12 @@ use Rattle.gate_journal.specs.Kept as journal
 use Rattle.gate_journal.specs.Kept.{Says, SaysEither, IsKept, IsUnsure}
 use Rattle.gate_journal.proofs.Keeping.{kept_left, kept_stays}
 use Rattle.partition_names.specs.declared.granularity.Granularity.{Granularity}
-use Rattle.store_files.specs.Fronts.{Begins}
 use Rattle.pv_catalog.specs.declared.row.Row.{Row}
 use Rattle.pv_catalog.specs.Rows.{IsCatalogue}
 use Rattle.pv_catalog.specs.Catalogue.{catalogue_name}
 use Rattle.store_manifest.specs.Batches.{Configured, Folds}
 use Rattle.tier_store.specs.Names.{short_manifest}
-use Rattle.tier_store.specs.Held.{Filed, Held, IsIn, bytes_of, file_of, entry_of}
+use Rattle.tier_store.specs.Held.{Held, AreIn, entry_of}
 use Rattle.pv_name.specs.Key.{key_of}
 use Rattle.pv_catalog.specs.Rows.{KeepsRows, AreRows}
 use Rattle.pv_catalog.proofs.Standing.{catalogue_are}
@@ -24,15 +22,13 @@ use Rattle.pv_catalog.specs.Catalogue.{CatalogueState}
 use Rattle.store_manifest.specs.Manifest.{ManifestState}
 use Rattle.tier_store.specs.Change.{Has, Doubts, with_rows}
 use Rattle.tier_store.specs.Stored.{AreSafe, KeysDiffer, HoldsEither, IsStored, IsInDoubt}
-use Rattle.tier_store.proofs.Growing.{filed_grows, held_grows, safe_grows, in_grows}
+use Rattle.tier_store.proofs.Growing.{filed_still, held_grows, safe_grows, in_grows}
 use Rattle.tier_store.proofs.Holding.{not_in_one, says_folds}
-use Rattle.tier_store.proofs.Names.{outside}
-use Rattle.tier_store.proofs.Stays.{safe_stays}
+use Rattle.tier_store.proofs.Stays.{AreApart, all_apart, apart_stay, apart_long, safe_stays}
 
-in_beside : (rows : List Row) (files : List Filed) (name : Name) (R : Content → Content → Type 0) (a c : Files) → name.0 ≢ 1 → At name R a c → All (IsIn rows a) files → All (IsIn rows c) files
-in_beside rows files name R a c other step all = λ k d lt.
-    let f : Filed = get_or files k d in
-    subst (Begins (bytes_of f)) (sym (step.elsewhere (file_of rows f.entry) (λ is. outside rows f.entry name other (sym is)))) (all k d lt)
+-- no listed file is the catalogue
+beside_files : (held : Held) (name : Name) → name ≡ catalogue_name → AreApart held.rows name held.files
+beside_files held name is = all_apart held.rows name held.files (not_in_one name catalogue_name is refl)
 
 -- the catalogue and the manifest have different names
 apart : short_manifest ≢ catalogue_name
@@ -50,7 +46,7 @@ rows_change g catalogue manifest files opened old new held later stored keeps pa
     let says : Says (Configured g) (map entry_of held.files) (c manifest.name) =
     subst (Says (Configured g) (map entry_of held.files)) (sym same) (kept_left (Configured g) manifest files opened old (map entry_of held.files) stored.lists a was) in
     let lists : Says (Folds g) (map entry_of held.files) (c short_manifest) = subst (λ (n : Name). Says (Folds g) (map entry_of held.files) (c n)) stored.is_manifest (says_folds g (map entry_of held.files) (c manifest.name) says) in
-    let there : All (IsIn held.rows c) held.files = in_beside held.rows held.files catalogue.name (SaysEither IsCatalogue held.rows later) a c (not_in_one catalogue.name catalogue_name stored.is_catalogue refl) step (stored.safe.left a was) in
+    let there : AreIn held c = apart_stay held catalogue.name (SaysEither IsCatalogue held.rows later) a c (beside_files held catalogue.name stored.is_catalogue) step (stored.safe.left a was) in
     elim step.here [
       | inl before ↦ inl (record {
         rows = subst (λ (n : Name). Says IsCatalogue held.rows (c n)) stored.is_catalogue before;
@@ -61,15 +57,15 @@ rows_change g catalogue manifest files opened old new held later stored keeps pa
       | inr after ↦ inr (record {
         rows = subst (λ (n : Name). Says IsCatalogue later (c n)) stored.is_catalogue after;
         lists = lists;
-        filed = λ k d lt. filed_grows g held.rows later (get_or held.files k d) keeps (stored.valid.filed k d lt);
-        files = λ k d lt. in_grows g held.rows later c (get_or held.files k d) keeps (stored.valid.filed k d lt) (there k d lt);
+        filed = filed_still g held later keeps stored.valid.filed;
+        files = in_grows g held later c keeps stored.valid.filed there;
       })
     ])
 
 -- Beside the catalogue the store stays: its manifest and its files.
 record Beside (g : Granularity) (manifest : JournalState) (files : Files) (opened : Name → ℕ) (past : Past) (held : Held) : Type 0 where
   lists : IsKept (Configured g) manifest files opened past (map entry_of held.files)
-  safe : AreSafe held.rows held.files opened past
+  safe : AreSafe held files opened past
 
 beside : (g : Granularity) (catalogue manifest : JournalState) (files last : Files) (opened later_opened : Name → ℕ) (old new : Past) (held : Held) (R : Content → Content → Type 0) → IsStored g catalogue manifest files opened old held
     → Passes (At catalogue.name R) old new → ((n : Name) → n ≢ catalogue.name → last n ≡ files n) → later_opened ≡ opened → Beside g manifest last later_opened new held
@@ -78,8 +74,10 @@ beside g catalogue manifest files last opened later_opened old new held R stored
     let fewer : (n : Name) → later_opened n ≤ opened n = λ n. let here = ap (λ (f : Name → ℕ). f n) same in omega (arith, here) in
     record {
       lists = kept_stays (Configured g) manifest files last opened later_opened old new (map entry_of held.files) (At catalogue.name R) stored.lists passes (λ a c step. step.elsewhere manifest.name other) (elsewhere manifest.name other) (fewer manifest.name);
-      safe = safe_stays held.rows held.files (At catalogue.name R) opened later_opened old new stored.safe passes
-          (λ a c step. in_beside held.rows held.files catalogue.name R a c (not_in_one catalogue.name catalogue_name stored.is_catalogue refl) step) fewer;
+      safe =
+          let apart_files = beside_files held catalogue.name stored.is_catalogue in
+          safe_stays held (At catalogue.name R) files last opened later_opened old new stored.safe passes (λ a c step. apart_stay held catalogue.name R a c apart_files step)
+          (apart_long held catalogue.name files last apart_files elsewhere stored.safe.long) fewer;
     }
 
 -- the catalogue has the new rows
@@ -97,7 +95,7 @@ rows_changed g catalogue after manifest files last opened later_opened old new h
       rows = kept;
       lists = stays.lists;
       valid = held_grows g held later keeps keys stored.valid;
-      safe = safe_grows g held.rows later held.files later_opened new keeps stored.valid.filed stays.safe;
+      safe = safe_grows g held later last later_opened new keeps stored.valid.filed stays.safe;
     }
 
 -- the catalogue's change stands in doubt
@@ -111,10 +109,11 @@ rows_doubted g catalogue after manifest files last opened later_opened old new h
       is_catalogue = name ∙ stored.is_catalogue;
       is_manifest = stored.is_manifest;
       doubt = inl (record { unsound = unsound; sound = stored.sound_too; rows = unsure; lists = stays.lists; same = refl });
+      stand = refl;
       valid = stored.valid;
       valid_too = held_grows g held later keeps keys stored.valid;
       safe = stays.safe;
-      safe_too = safe_grows g held.rows later held.files later_opened new keeps stored.valid.filed stays.safe;
+      safe_too = safe_grows g held later last later_opened new keeps stored.valid.filed stays.safe;
     }
 
 -- A CALL ON THE CATALOGUE

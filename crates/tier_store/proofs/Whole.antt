@@ -19,7 +19,7 @@ use Rattle.store_manifest.specs.Manifest.{ManifestState, IsKept, IsUnsure}
 use Rattle.tier_store.specs.Names.{short_manifest}
 use Rattle.tier_store.specs.Held.{Filed, Held, entry_of}
 use Rattle.tier_store.specs.Flush.{MakesFiles, put_all, with_files}
-use Rattle.tier_store.specs.Stored.{HoldsEither, AreSafe, IsStored, IsInDoubt}
+use Rattle.tier_store.specs.Stored.{HoldsEither, AreLong, AreSafe, IsStored, IsInDoubt}
 use Rattle.tier_store.specs.Writing.{Behind, IsSafe, IsStoredAs, IsDoubtedAs, set_of}
 use Rattle.tier_store.proofs.Holding.{stored_left, holds_behind, still_stored}
 use Rattle.tier_store.proofs.Ending.{Lists, entries_are, valid_with, lists_stored, lists_in_doubt}
@@ -37,7 +37,7 @@ pub sets_long : (ps : List Piece) → length (batch_of (map set_of ps)) ≡ leng
 sets_long [] = refl
 sets_long (p ∷ ps) = omega (arith, length-append (2 ∷ members_of p.entry) (batch_of (map set_of ps)), members_long p.entry, sets_long ps)
 
-pub begins_safe : (catalogue : JournalState) (m : ManifestState) (rows : List Row) (files : Files) (opened : Name → ℕ) (past : Past) (held : Held) → IsStoredAs catalogue m rows files opened past held → IsSafe m.granularity rows opened past held
+pub begins_safe : (catalogue : JournalState) (m : ManifestState) (rows : List Row) (files : Files) (opened : Name → ℕ) (past : Past) (held : Held) → IsStoredAs catalogue m rows files opened past held → IsSafe m.granularity rows files opened past held
 begins_safe catalogue m rows files opened past held store = record { of_rows = store.of_rows; valid = store.stored.valid; safe = store.stored.safe }
 
 -- what the manifest is to have kept
@@ -45,15 +45,15 @@ pub manifest_kept : (catalogue : JournalState) (m : ManifestState) (rows : List 
 manifest_kept catalogue m rows files opened past held store = subst (journal.IsKept (Configured m.granularity) m.journal files opened past) (sym store.entries) store.stored.lists
 
 -- up to the commit
-pub still_held : (catalogue : JournalState) (m : ManifestState) (rows : List Row) (files : Files) (opened : Name → ℕ) (old new : Past) (held next : Held) → IsStoredAs catalogue m rows files opened old held → Passes (Behind held.rows held.files) old new
+pub still_held : (catalogue : JournalState) (m : ManifestState) (rows : List Row) (files : Files) (opened : Name → ℕ) (old new : Past) (held next : Held) → IsStoredAs catalogue m rows files opened old held → Passes (Behind held) old new
     → Passes (HoldsEither m.granularity held next) old new
 still_held catalogue m rows files opened old new held next store passes =
-    passes_weaker (Behind held.rows held.files) (HoldsEither m.granularity held next) old new passes (λ a c was step. inl (holds_behind m.granularity held a c step (stored_left m.granularity catalogue m.journal files opened old held store.stored a was)))
+    passes_weaker (Behind held) (HoldsEither m.granularity held next) old new passes (λ a c was step. inl (holds_behind m.granularity held a c step (stored_left m.granularity catalogue m.journal files opened old held store.stored a was)))
 
-pub still_stored_as : (catalogue : JournalState) (m : ManifestState) (rows : List Row) (files later : Files) (opened after : Name → ℕ) (old new : Past) (held : Held) → IsStoredAs catalogue m rows files opened old held → Passes (Behind held.rows held.files) old new
-    → ((n : Name) → n.0 ≢ 1 → later n ≡ files n) → ((n : Name) → after n ≤ opened n) → IsStoredAs catalogue m rows later after new held
-still_stored_as catalogue m rows files later opened after old new held store passes same fewer = record {
-  stored = still_stored m.granularity catalogue m.journal files later opened after old new held store.stored passes same fewer;
+pub still_stored_as : (catalogue : JournalState) (m : ManifestState) (rows : List Row) (files later : Files) (opened after : Name → ℕ) (old new : Past) (held : Held) → IsStoredAs catalogue m rows files opened old held → Passes (Behind held) old new
+    → AreLong held later → ((n : Name) → n.0 ≢ 1 → later n ≡ files n) → ((n : Name) → after n ≤ opened n) → IsStoredAs catalogue m rows later after new held
+still_stored_as catalogue m rows files later opened after old new held store passes long same fewer = record {
+  stored = still_stored m.granularity catalogue m.journal files later opened after old new held store.stored passes long same fewer;
   of_rows = store.of_rows;
   entries = store.entries;
 }
@@ -66,11 +66,12 @@ next_entries m held ps fs changes entries are makes =
 
 -- the pieces are written, and then the manifest's commit is done
 pub the_commit : (catalogue : JournalState) (m : ManifestState) (rows : List Row) (files mid_files later : Files) (opened mid_opened after : Name → ℕ) (old mid new : Past) (held : Held) (ps : List Piece) (fs : List Filed) (changes : List Change) → IsStoredAs catalogue m rows files opened old held
-    → MakesFiles m.granularity held ps fs → changes ≡ map set_of ps → Passes (Behind held.rows held.files) old mid → ((n : Name) → n.0 ≢ 1 → mid_files n ≡ files n) → ((n : Name) → mid_opened n ≤ opened n) → AreSafe held.rows (put_all held.files fs) mid_opened mid
+    → MakesFiles m.granularity held ps fs → changes ≡ map set_of ps → Passes (Behind held) old mid → AreLong held mid_files → ((n : Name) → n.0 ≢ 1 → mid_files n ≡ files n) → ((n : Name) → mid_opened n ≤ opened n) → AreSafe (with_files held fs) mid_files mid_opened mid
     → Passes (At m.journal.name (journal.SaysEither (Folds m.granularity) m.entries (all_changed m.entries changes))) mid new → ((n : Name) → n ≢ m.journal.name → later n ≡ mid_files n) → after ≡ mid_opened → Lists m.granularity catalogue m.journal mid_files later mid_opened after mid new held (with_files held fs)
-the_commit catalogue m rows files mid_files later opened mid_opened after old mid new held ps fs changes store makes are behind elsewhere fewer safe passes others same_opened = record {
-  stored = still_stored m.granularity catalogue m.journal files mid_files opened mid_opened old mid held store.stored behind elsewhere fewer;
+the_commit catalogue m rows files mid_files later opened mid_opened after old mid new held ps fs changes store makes are behind long elsewhere fewer safe passes others same_opened = record {
+  stored = still_stored m.granularity catalogue m.journal files mid_files opened mid_opened old mid held store.stored behind long elsewhere fewer;
   same_rows = refl;
+  same_stands = refl;
   valid = valid_with m.granularity held ps fs store.stored.valid makes;
   safe = safe;
   passes =

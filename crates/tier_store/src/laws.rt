@@ -1,5 +1,5 @@
 //! What follows from holding, for all images and stores.
-ghost use Rattle.std.specs.Prelude.{◌≡◌, ◌≢◌, ◌⊎◌, ◌≤◌, ℕ, max, Contains};
+ghost use Rattle.std.specs.Prelude.{◌≡◌, ◌≢◌, ◌⊎◌, ◌≤◌, ℕ, max, Contains, IsTrue};
 ghost use Rattle.disk_model.specs.Files.{Name, Files};
 ghost use Rattle.disk_model.specs.Past.{MayLeave, Passes};
 ghost use Rattle.gate_journal.specs.Journal.{JournalState};
@@ -10,10 +10,10 @@ ghost use Rattle.tier_store.specs.Writing.{Behind};
 
 use disk_model::Disk;
 
-/// An image holds one thing at most, whatever the granularity: its rows, and of each listed file the entry, the header's line and
-/// the samples.
+/// An image holds one thing at most that stands, whatever the granularity: its rows, and of each listed file the entry, the header's
+/// line and the samples.
 pub fn one_image_holds_one_thing()
-    ensures { (g h : Granularity) (image : Files) (a b : Held) → Holds g image a → Holds h image b → a ≡ b }
+    ensures { (g h : Granularity) (image : Files) (a b : Held) → IsTrue a.stands → IsTrue b.stands → Holds g image a → Holds h image b → a ≡ b }
 {}
 
 /// Whatever a crash leaves of a store holds what the store holds; of one in doubt, the one or the other.
@@ -26,7 +26,7 @@ pub fn a_crash_leaves_what_is_held<D: Disk>()
 
 /// What an image holds isn't changed by what is written behind the listed lengths, or to files that aren't listed.
 pub fn what_is_held_stays()
-    ensures { (g : Granularity) (held : Held) (a b : Files) → Behind held.rows held.files a b → Holds g a held → Holds g b held }
+    ensures { (g : Granularity) (held : Held) (a b : Files) → Behind held a b → Holds g a held → Holds g b held }
 {}
 
 /// A store stays as it is, stored or in doubt, while calls only read.

@@ -1,6 +1,6 @@
 // The opening of listed files.
-ghost use Rattle.std.specs.Prelude.{◌≡◌, ◌≤◌, Contains, IfOk, IsErrOf, IsTrue};
-ghost use Rattle.disk_model.specs.Files.{Rose};
+ghost use Rattle.std.specs.Prelude.{◌≡◌, ◌≤◌, Contains, IfOk, IsErrOf, IsTrue, length, take};
+ghost use Rattle.disk_model.specs.Files.{Rose, HasFile};
 ghost use Rattle.disk_model.specs.Past.{Passes};
 ghost use Rattle.tier_store.specs.Held.{Filed, Held, bytes_of, file_of};
 ghost use Rattle.tier_store.specs.Change.{Has};
@@ -13,15 +13,17 @@ use std::alloc::{AllocError, Global};
 use store_manifest::Entry;
 
 impl<D: Disk> TierStore<D> {
-    /// Opens a listed file at its listed length: the reader has these bytes for good, whatever becomes of the file. It needs that
-    /// no change stands in doubt. `store` is 1, the only one so far.
+    /// Opens a listed file at its listed length: the reader has the bytes up to it for good, whatever becomes of the file; where what
+    /// is held stands, they are the listed ones. It needs that no change stands in doubt. `store` is 1, the only one so far.
     ///
     /// `Fault` comes only where the disk's count of faults rose in the call.
     pub fn open_listed(&mut self, store: u8, entry: &Entry) -> Result<D::Reader, DiskErr>
         requires store { store ≡ 1 }
         requires listed { Contains self.old.manifest.entries entry.now }
         requires has { IsTrue D.tells → (held : Held) × Has self.old.catalogue self.old.manifest (D.files self.old.disk) (D.opened self.old.disk) (D.past self.old.disk) held }
-        ensures reader { IsTrue D.tells → (held : Held) → Has self.old.catalogue self.old.manifest (D.files self.old.disk) (D.opened self.old.disk) (D.past self.old.disk) held
+        ensures front { IsTrue D.tells → IfOk result (λ r. IsTrue D.Reader.tells
+            × HasFile (D.files self.old.disk) (file_of self.old.catalogue.rows entry.now) (λ b. (entry.now.len ≤ length b) × (D.Reader.bytes r ≡ take entry.now.len b))) }
+        ensures reader { IsTrue D.tells → (held : Held) → IsTrue held.stands → Has self.old.catalogue self.old.manifest (D.files self.old.disk) (D.opened self.old.disk) (D.past self.old.disk) held
             → IfOk result (λ r. IsTrue D.Reader.tells × (f : Filed) × Contains held.files f × (f.entry ≡ entry.now) × (D.Reader.bytes r ≡ bytes_of f)) }
         ensures fresh { IfOk result (λ r. D.Reader.faults r ≡ 0) }
         ensures kept { IsTrue D.tells → (held : Held) → Has self.old.catalogue self.old.manifest (D.files self.old.disk) (D.opened self.old.disk) (D.past self.old.disk) held

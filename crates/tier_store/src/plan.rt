@@ -243,13 +243,13 @@ fn side_of(last: &Entry, t: u64, inside: Destination) -> Destination
 // A piece behind the listed bytes of a file, with no sample yet.
 fn resume(alloc: Global, entry: Entry) -> Piece
     ensures entry { result.entry ≡ entry }
-    ensures at { result.at ≡ entry.len }
+    ensures at { result.at ≡ Some entry.len }
     ensures bytes { result.bytes.items ≡ [] }
 {
     let at = entry.len;
     Piece {
         entry,
-        at,
+        at: Some(at),
         bytes: Vec::new(alloc),
     }
 }
@@ -274,7 +274,7 @@ fn begin(alloc: Global, target: &Target, row: &Row, t: u64) -> Result<Piece, All
             last: t,
             count: 0,
         },
-        at: 0,
+        at: None,
         bytes,
     })
 }

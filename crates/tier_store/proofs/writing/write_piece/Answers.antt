@@ -1,22 +1,31 @@
-use Rattle.std.proofs.Common.{◌≡◌, ℕ, List, ◌++◌, Some, ◌∙◌, ap, sym, take}
-use Rattle.tier_store.specs.Held.{file_of, bytes_of}
-use Rattle.tier_store.proofs.Going.{piece_listed, piece_written}
+use Rattle.std.proofs.Common.{◌≡◌, ◌≢◌, ◌≤◌, ◌++◌, ℕ, List, length, take, None, Some, sym, ◌∙◌, ap, subst, arith}
+use Rattle.disk_model.specs.Files.{Name, HasFile}
+use Rattle.disk_model.specs.Past.{Only}
+use Rattle.tier_store.specs.Held.{file_of}
+use Rattle.tier_store.proofs.Going.{can_go_on, piece_name, made_written, grown_written, still_long}
 use Rattle.tier_store.proofs.writing.write_piece.Goals as goal
 
-pub extend-requires : goal.extend-requires
-extend-requires g c tells some =
+pub go_on-requires : goal.go_on-requires
+go_on-requires g c tells =
     let can = c.requires.can tells in
-    let file = piece_listed can.0 c.args.rows.now can.1 (g.D.Disk.files c.args.disk.now) (g.D.Disk.opened c.args.disk.now) (g.D.Disk.past c.args.disk.now) c.args.piece.now can.2 c.set_name.new.name can.3 can.4
-    (g.met.D.Disk.seen c.args.disk.now tells) c.in_ok-set_name.ensures some in
-    record { bytes = file.bytes; file = file.file; holds = (file.holds.unopened, file.holds.long) }
+    let name : file_of can.1.rows can.2.entry ≡ c.set_name.new.name = piece_name can.0 c.args.rows.now can.1 (g.D.Disk.files c.args.disk.now) (g.D.Disk.opened c.args.disk.now) (g.D.Disk.past c.args.disk.now) c.args.piece.now can.2 can.3 can.4 ∙ sym c.in_ok-set_name.ensures in
+    subst (λ (n : Name). HasFile (g.D.Disk.files c.args.disk.now) n (λ b. (g.D.Disk.opened c.args.disk.now n ≤ c.in-Some.len) × (c.in-Some.len ≤ length b))) name
+        (can_go_on can.0 can.1 (g.D.Disk.files c.args.disk.now) (g.D.Disk.opened c.args.disk.now) (g.D.Disk.past c.args.disk.now) c.args.piece.now can.2 c.in-Some.len can.3.valid can.3.safe can.4 c.in-Some.is)
 
-pub returns-clause-written : goal.returns-clause-written
-returns-clause-written g c tells g' held f safe grows image left =
-    let bytes : c.deref.result.now ≡ c.args.piece.now.bytes.items = c.deref.ensures.value in
-    let there : image (file_of c.args.rows.now c.args.piece.now.entry) ≡ image c.set_name.new.name = ap image (sym c.in_ok-set_name.ensures) in
-    let kept : image c.set_name.new.name ≡ g.D.Disk.files c.extend.new.disk c.set_name.new.name = c.in_ok-extend.ensures.durable tells image left in
-    let whole : g.D.Disk.files c.extend.new.disk c.set_name.new.name ≡ Some (bytes_of f) =
-    piece_written g' c.args.rows.now held (g.D.Disk.files c.args.disk.now) (g.D.Disk.opened c.args.disk.now) (g.D.Disk.past c.args.disk.now) c.args.piece.now f c.set_name.new.name (g.D.Disk.files c.extend.new.disk c.set_name.new.name) safe grows
-    (g.met.D.Disk.seen c.args.disk.now tells) c.in_ok-set_name.ensures (λ none. c.in_ok-extend.ensures.made tells none ∙ ap (λ (l : List ℕ). Some l) bytes)
-    (λ b some file. c.in_ok-extend.ensures.grown tells b some file ∙ ap (λ (l : List ℕ). Some (take c.args.piece.now.at b ++ l)) bytes) in
-    there ∙ kept ∙ whole
+pub returns-in_err-go_on-in-Some-clause-still : goal.returns-in_err-go_on-in-Some-clause-still
+returns-in_err-go_on-in-Some-clause-still g c tells gr held f safe grows = ?
+
+pub returns-in_err-make_anew-in-None-clause-still : goal.returns-in_err-make_anew-in-None-clause-still
+returns-in_err-make_anew-in-None-clause-still g c tells gr held f safe grows = ?
+
+pub returns-in_ok-go_on-in-Some-clause-written : goal.returns-in_ok-go_on-in-Some-clause-written
+returns-in_ok-go_on-in-Some-clause-written g c tells gr held f safe grows = ?
+
+pub returns-in_ok-go_on-in-Some-clause-still : goal.returns-in_ok-go_on-in-Some-clause-still
+returns-in_ok-go_on-in-Some-clause-still g c tells gr held f safe grows = ?
+
+pub returns-in_ok-make_anew-in-None-clause-written : goal.returns-in_ok-make_anew-in-None-clause-written
+returns-in_ok-make_anew-in-None-clause-written g c tells gr held f safe grows = ?
+
+pub returns-in_ok-make_anew-in-None-clause-still : goal.returns-in_ok-make_anew-in-None-clause-still
+returns-in_ok-make_anew-in-None-clause-still g c tells gr held f safe grows = ?
