@@ -1,11 +1,12 @@
 // Changes of the store's rows: each settles what stands in doubt, and then changes the catalogue.
-ghost use Rattle.std.specs.Prelude.{◌≡◌, ◌↔◌, ◌≤◌, ◌<◌, ◌++◌, ◌∷◌, [], List, ℕ, length, IfOk, IfErr, OnOk, OnErr, IsTrue, Err};
+ghost use Rattle.std.specs.Prelude.{◌≡◌, ◌⊎◌, ◌↔◌, ◌≤◌, ◌<◌, ◌++◌, ◌∷◌, [], List, ℕ, length, IfOk, IfErr, OnOk, OnErr, IsTrue, true, Err};
 ghost use Rattle.disk_model.specs.Files.{Rose};
 ghost use Rattle.disk_model.specs.Past.{Passes};
-ghost use Rattle.disk_model.specs.declared.disk.DiskErr.TheVariants.{Fault};
+ghost use Rattle.disk_model.specs.declared.disk.DiskErr.TheVariants.{Fault, Memory};
 ghost use Rattle.event_types.specs.declared.about.State.TheVariants.{Running, Paused};
-ghost use Rattle.pv_catalog.specs.Catalogue.{HasState, IsRefusal, registered};
+ghost use Rattle.pv_catalog.specs.Catalogue.{HasState, Refuses, IsRefusal, IsOfRows, registered};
 ghost use Rattle.pv_catalog.specs.Rows.{KeepsRows};
+ghost use Rattle.pv_catalog.specs.declared.error.RegisterErr.{RegisterErr};
 ghost use Rattle.pv_catalog.specs.declared.error.RegisterErr.TheVariants.{Disk as RegisterDisk};
 ghost use Rattle.pv_catalog.specs.declared.error.StateErr.TheVariants.{NotRunning, NotPaused, Disk as StateDisk};
 ghost use Rattle.pv_catalog.specs.declared.row.Row.{Row as RowValue};
@@ -31,6 +32,10 @@ impl<D: Disk> TierStore<D> {
         ensures faults { D.faults self.old.disk ≤ D.faults self.new.disk }
         ensures id { IfOk result (λ id. (self.new.catalogue.rows ≡ self.old.catalogue.rows ++ registered self.old.catalogue.rows name.now about.now ∷ []) × (id ≡ length self.old.catalogue.rows)) }
         ensures refusal { IfErr result (IsRefusal self.new.catalogue.rows name.now) }
+        ensures exactly { (e : RegisterErr) → Refuses self.old.catalogue.rows name.now e → (result ≡ Err e) ⊎ (result ≡ Err (RegisterDisk Memory)) }
+        ensures unchanged { IfErr result (λ e. IsOfRows e → (self.new.catalogue ≡ self.old.catalogue) × (self.new.disk ≡ self.old.disk)) }
+        ensures sound { OnOk result (self.new.catalogue.journal.sound ≡ true) }
+        ensures manifest { self.new.manifest ≡ self.old.manifest }
         ensures cause { result ≡ Err (RegisterDisk Fault) → Rose (D.faults self.old.disk) (D.faults self.new.disk) }
     {
         let id = self.catalogue.register(&mut self.disk, name, about)?;
@@ -50,6 +55,9 @@ impl<D: Disk> TierStore<D> {
         ensures faults { D.faults self.old.disk ≤ D.faults self.new.disk }
         ensures refusal { result ≡ Err NotRunning → HasState self.new.catalogue.rows row Running → ⊥ }
         ensures never { result ≡ Err NotPaused → ⊥ }
+        ensures unchanged { result ≡ Err NotRunning → (self.new.catalogue ≡ self.old.catalogue) × (self.new.disk ≡ self.old.disk) }
+        ensures sound { OnOk result (self.new.catalogue.journal.sound ≡ true) }
+        ensures manifest { self.new.manifest ≡ self.old.manifest }
         ensures cause { result ≡ Err (StateDisk Fault) → Rose (D.faults self.old.disk) (D.faults self.new.disk) }
     {
         self.catalogue.pause(&mut self.disk, row)?;
@@ -69,6 +77,9 @@ impl<D: Disk> TierStore<D> {
         ensures faults { D.faults self.old.disk ≤ D.faults self.new.disk }
         ensures refusal { result ≡ Err NotPaused → HasState self.new.catalogue.rows row Paused → ⊥ }
         ensures never { result ≡ Err NotRunning → ⊥ }
+        ensures unchanged { result ≡ Err NotPaused → (self.new.catalogue ≡ self.old.catalogue) × (self.new.disk ≡ self.old.disk) }
+        ensures sound { OnOk result (self.new.catalogue.journal.sound ≡ true) }
+        ensures manifest { self.new.manifest ≡ self.old.manifest }
         ensures cause { result ≡ Err (StateDisk Fault) → Rose (D.faults self.old.disk) (D.faults self.new.disk) }
     {
         self.catalogue.resume(&mut self.disk, row)?;
@@ -94,7 +105,19 @@ impl<D: Disk> TierStore<D> {
 
         ensures faults { D.faults self.old.disk ≤ D.faults self.new.disk }
         ensures id { IfOk result (λ id. (before : List RowValue) × (self.new.catalogue.rows ≡ before ++ registered before name.now about.now ∷ []) × (id ≡ length before) × KeepsRows self.old.catalogue.rows before) }
+        ensures settled { IsTrue self.old.catalogue.journal.sound
+            → IfOk result (λ id. (self.new.catalogue.rows ≡ self.old.catalogue.rows ++ registered self.old.catalogue.rows name.now about.now ∷ []) × (id ≡ length self.old.catalogue.rows)) }
         ensures refusal { IfErr result (IsRefusal self.new.catalogue.rows name.now) }
+        ensures exactly { IsTrue self.old.catalogue.journal.sound → IsTrue self.old.manifest.journal.sound → (e : RegisterErr)
+            → Refuses self.old.catalogue.rows name.now e → (result ≡ Err e) ⊎ (result ≡ Err (RegisterDisk Memory)) }
+        ensures unchanged { IsTrue self.old.catalogue.journal.sound → IfErr result (λ e. IsOfRows e → self.new.catalogue.rows ≡ self.old.catalogue.rows) }
+        ensures refused { IsTrue D.tells → (held : Held) → Has self.old.catalogue self.old.manifest (D.files self.old.disk) (D.opened self.old.disk) (D.past self.old.disk) held
+            → IfErr result (λ e. IsOfRows e → Has self.new.catalogue self.new.manifest (D.files self.new.disk) (D.opened self.new.disk) (D.past self.new.disk) held) }
+
+        // What stood in doubt is settled at Ok and where the rows refuse.
+        ensures sound { OnOk result ((self.new.catalogue.journal.sound ≡ true) × (self.new.manifest.journal.sound ≡ true)) }
+        ensures sound_too { IfErr result (λ e. IsOfRows e → (self.new.catalogue.journal.sound ≡ true) × (self.new.manifest.journal.sound ≡ true)) }
+        ensures granularity { self.new.manifest.granularity ≡ self.old.manifest.granularity }
         ensures cause { result ≡ Err (RegisterDisk Fault) → Rose (D.faults self.old.disk) (D.faults self.new.disk) }
     {
         self.review()?;
@@ -120,6 +143,10 @@ impl<D: Disk> TierStore<D> {
         ensures faults { D.faults self.old.disk ≤ D.faults self.new.disk }
         ensures refusal { result ≡ Err NotRunning → HasState self.new.catalogue.rows row Running → ⊥ }
         ensures never { result ≡ Err NotPaused → ⊥ }
+        ensures refused { IsTrue D.tells → (held : Held) → Has self.old.catalogue self.old.manifest (D.files self.old.disk) (D.opened self.old.disk) (D.past self.old.disk) held
+            → result ≡ Err NotRunning → Has self.new.catalogue self.new.manifest (D.files self.new.disk) (D.opened self.new.disk) (D.past self.new.disk) held }
+        ensures sound { OnOk result ((self.new.catalogue.journal.sound ≡ true) × (self.new.manifest.journal.sound ≡ true)) }
+        ensures granularity { self.new.manifest.granularity ≡ self.old.manifest.granularity }
         ensures cause { result ≡ Err (StateDisk Fault) → Rose (D.faults self.old.disk) (D.faults self.new.disk) }
     {
         self.review()?;
@@ -145,6 +172,10 @@ impl<D: Disk> TierStore<D> {
         ensures faults { D.faults self.old.disk ≤ D.faults self.new.disk }
         ensures refusal { result ≡ Err NotPaused → HasState self.new.catalogue.rows row Paused → ⊥ }
         ensures never { result ≡ Err NotRunning → ⊥ }
+        ensures refused { IsTrue D.tells → (held : Held) → Has self.old.catalogue self.old.manifest (D.files self.old.disk) (D.opened self.old.disk) (D.past self.old.disk) held
+            → result ≡ Err NotPaused → Has self.new.catalogue self.new.manifest (D.files self.new.disk) (D.opened self.new.disk) (D.past self.new.disk) held }
+        ensures sound { OnOk result ((self.new.catalogue.journal.sound ≡ true) × (self.new.manifest.journal.sound ≡ true)) }
+        ensures granularity { self.new.manifest.granularity ≡ self.old.manifest.granularity }
         ensures cause { result ≡ Err (StateDisk Fault) → Rose (D.faults self.old.disk) (D.faults self.new.disk) }
     {
         self.review()?;

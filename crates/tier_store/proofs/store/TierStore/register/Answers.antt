@@ -1,7 +1,9 @@
-use Rattle.std.proofs.Common.{subst}
+use Rattle.std.proofs.Common.{inl, inr, Err, sym, ◌∙◌, ap, subst}
 use Rattle.std.proofs.lemmas.Result.{err_from_is_err_and}
 use Rattle.disk_model.specs.Past.{Passes}
 use Rattle.partition_names.specs.declared.granularity.Granularity.{Granularity}
+use Rattle.pv_catalog.specs.Catalogue.{CatalogueState, Refuses}
+use Rattle.pv_catalog.specs.declared.error.RegisterErr.{RegisterErr}
 use Rattle.tier_store.specs.Change.{Registers, HoldsBy}
 use Rattle.tier_store.proofs.Calls.{settling_holds, then_holds, settled_one, ends_made, ends_settling, ends_left}
 use Rattle.tier_store.proofs.store.TierStore.register.Goals as goal
@@ -56,3 +58,18 @@ returns-clause-made g c tells one other was =
     let now = c.register_row.new.self in
     let held = settled_one mid.catalogue mid.manifest (g.D.Disk.files mid.disk) (g.D.Disk.opened mid.disk) (g.D.Disk.past mid.disk) one other (c.in_ok-review.ensures.settled tells one other was) in
     ends_made (Registers c.args.name.now c.args.about.now) now.catalogue now.manifest (g.D.Disk.files now.disk) (g.D.Disk.opened now.disk) (g.D.Disk.past now.disk) one other held.0 held.1 (c.in_ok-id.ensures.made tells held.0 held.2)
+
+pub returns-in_err-id-clause-exactly : goal.returns-in_err-id-clause-exactly
+returns-in_err-id-clause-exactly g c sound sound_too e refuses =
+    let settled = c.review.ensures.nothing sound sound_too in
+    let at = c.register_row.ensures.exactly e (subst (λ (s : CatalogueState). Refuses s.rows c.args.name.now e) (sym settled.1) refuses) in
+    let p = err_from_is_err_and c.from_residual-in_err-id.result c.from_residual-in_err-id.ensures.1 in
+    let failed = c.in_err-id.was in
+    let same = p.1 ∙ ap (λ (x : RegisterErr). Err x) p.2 ∙ sym failed in
+    elim at [ inl is ↦ inl (same ∙ is) | inr is ↦ inr (same ∙ is) ]
+
+pub returns-clause-exactly : goal.returns-clause-exactly
+returns-clause-exactly g c sound sound_too e refuses =
+    let settled = c.review.ensures.nothing sound sound_too in
+    let at = c.register_row.ensures.exactly e (subst (λ (s : CatalogueState). Refuses s.rows c.args.name.now e) (sym settled.1) refuses) in
+    elim at [ inl is ↦ absurd (cc (c.in_ok-id.was, is)) | inr is ↦ absurd (cc (c.in_ok-id.was, is)) ]
