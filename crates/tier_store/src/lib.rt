@@ -7,6 +7,10 @@
 //!
 //! `register`, `pause` and `resume` change the rows by commits of the catalogue, with the same promise.
 //!
+//! A store whose listed files somebody else damaged may be used as any other, as long as each is there and no shorter than it is
+//! listed. What is held then doesn't stand (`Held.stands`): nothing is promised of its samples, but no call writes below a listed
+//! length, and each can be made again.
+//!
 //! Caveats: one store so far, store 1.
 #![tactic(auto)]
 

@@ -1,7 +1,7 @@
 // The planning of a flush: which bytes go to which files. It stands apart from any disk.
 //
-// A disk that tells nothing may give entries of any numbers. Where a sum wouldn't fit, or more files would be listed than one commit
-// takes, the answer is want of memory; files of a disk that keeps its rules lead to neither.
+// A disk that tells nothing, or whose manifest somebody damaged, may give entries of any numbers. Where a sum wouldn't fit, or more
+// files would be listed than one commit takes, the answer is want of memory; what the archiver wrote leads to neither.
 ghost use Rattle.std.specs.Prelude.{IsTrue, ◌≡◌, ◌≢◌, All, map, ◌≤◌, ◌<◌, ◌+◌, ◌++◌, [], ◌∷◌, length, IfSome, IfOk, OnOk, FitsSigned, if◌then◌else◌};
 ghost use Rattle.std.specs.Int.{w32};
 ghost use Rattle.std.specs.List.Sorted.{IsPermutation, IsNonDecreasingBy};
