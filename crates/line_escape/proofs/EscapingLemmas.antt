@@ -23,6 +23,12 @@ pub Means-plain : (u : List ℕ) → AllByRecursion (λ x. (x ≢ 27) × (x ≢ 
 Means-plain [] h = refl
 Means-plain (x ∷ u) h = (x ∷ [], u, refl, (refl, h.0.0, h.0.1), Means-plain u h.1)
 
+-- a line in which neither stands means itself
+pub plain_means : (line : List ℕ) → All (λ x. x ≢ 27) line → HasNoNewline line → Means line line
+plain_means line plain whole =
+    let both : All (λ x. (x ≢ 27) × (x ≢ 10)) line = λ k d l. (plain k d l, whole k d l) in
+    Means-plain line (recursion_from_All (λ x. (x ≢ 27) × (x ≢ 10)) line both)
+
 -- one pair
 pub Means-pair : (c b : ℕ) → byte_of_pair c ≡ Some b → Means (27 ∷ c ∷ []) (b ∷ [])
 Means-pair c b h = (27 ∷ c ∷ [], [], refl, (refl, h), refl)

@@ -19,7 +19,7 @@ mod unescaping;
 pub use error::EscapeErr;
 pub use escaping::{escape, escaped_len};
 pub use laws::{every_line, no_line_begins_another, one_meaning, one_refusal, reads_back};
-pub use unescaping::unescape;
+pub use unescaping::{unescape, unescaped};
 
 #[cfg(test)]
 mod tests;

@@ -1,4 +1,4 @@
-use crate::{EscapeErr, escape, escaped_len, unescape};
+use crate::{EscapeErr, escape, escaped_len, unescape, unescaped};
 use std::test::Fail;
 
 #[test]
@@ -19,6 +19,7 @@ fn lines_and_what_they_mean(rt: HostRuntime) -> Result<(), Fail> {
         out.truncate(4);
         unescape(line, &mut out).ok().ok_or("refused")?;
         assert_eq!(rt; &out[4..], bytes);
+        assert_eq!(rt; unescaped(line, &mut out), Ok(bytes));
     }
     Ok(())
 }
@@ -37,6 +38,7 @@ fn a_bad_escape_is_told_with_its_place(rt: HostRuntime) -> Result<(), Fail> {
         let got = unescape(line, &mut out);
         assert_eq!(rt; got, Err(EscapeErr::BadEscape { at }));
         assert_eq!(rt; out.as_slice(), b"kept".as_slice());
+        assert_eq!(rt; unescaped(line, &mut out), Err(EscapeErr::BadEscape { at }));
     }
     let mut out = Vec::new(rt.alloc());
     unescape(b"\x0d\x0d", &mut out)

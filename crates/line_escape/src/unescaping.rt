@@ -1,5 +1,5 @@
-ghost use Rattle.std.specs.Prelude.{◌≡◌, ◌≢◌, ◌<◌, ◌≤◌, All, IfSome, IfNone, IfErr, OnOk, OnErr, length, take, slice_index};
-ghost use Rattle.line_escape.specs.Unescaping.{AppendsMeaning, BeginsBadEscape, BeginsPair, HasNoNewline, IsRefusal};
+ghost use Rattle.std.specs.Prelude.{◌≡◌, ◌≢◌, ◌<◌, ◌≤◌, All, IfSome, IfNone, IfOk, IfErr, IsTrue, OnOk, OnErr, length, take, slice_index};
+ghost use Rattle.line_escape.specs.Unescaping.{AppendsMeaning, BeginsBadEscape, BeginsPair, HasNoNewline, IsRefusal, Means};
 
 use crate::EscapeErr;
 use memchr::memchr;
@@ -50,6 +50,32 @@ fn unescape_runs(line: &[u8], out: &mut Vec<u8>) -> Result<(), EscapeErr>
         }
     }
     Ok(())
+}
+
+/// The bytes that the line means: its own where no 1B stands in it, and else those in `work`, whose
+/// old bytes are lost. `line` has no newline.
+///
+/// `BadEscape` comes exactly where the line means nothing, at its first bad 1B.
+pub fn unescaped<'a>(line: &'a [u8], work: &'a mut Vec<u8>) -> Result<&'a [u8], EscapeErr>
+    requires { HasNoNewline line.now }
+    ensures ok { IfOk result (λ message. Means line.now message.now) }
+    ensures refused { IfErr result (IsRefusal line.now) }
+{
+    if is_plain(line) {
+        return Ok(line);
+    }
+    work.clear();
+    unescape(line, work)?;
+    Ok(work)
+}
+
+// Whether no 1B stands in the line, so that it means its own bytes.
+#[tactic(auto, using(crate::proofs::EscapingLemmas::plain_means))]
+fn is_plain(line: &[u8]) -> bool
+    requires { HasNoNewline line.now }
+    ensures { IsTrue result → Means line.now line.now }
+{
+    !line.contains(&ESCAPE)
 }
 
 // How many bytes stand before the first 1B.

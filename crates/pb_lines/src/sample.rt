@@ -5,7 +5,7 @@ ghost use Rattle.pb_lines.specs.Sample.{IsSampleLine, IsStamp, IsLineErr, IsStam
 use crate::fault::{LineErr, LineFault};
 use arch_time::{BadTime, YearStart, instant};
 use event_types::{PayloadType, stamp};
-use line_escape::{EscapeErr, unescape};
+use line_escape::{EscapeErr, unescaped};
 
 /// The moment of a sample's line, in nanoseconds since 1970: the time of the event of type `ty`
 /// that the escaped line means, in its header's year. The event is validated whole.
@@ -59,13 +59,12 @@ fn stamp_of_line(ty: PayloadType, line: &[u8], work: &mut Vec<u8>) -> Result<(u3
     ensures ok { IfOk result (λ at. IsStamp ty line.now at.0 at.1) }
     ensures err { IfErr result (IsStampErr ty line.now) }
 {
-    work.clear();
-    match unescape(line, work) {
-        Ok(()) => {}
+    let message = match unescaped(line, work) {
+        Ok(message) => message,
         Err(EscapeErr::BadEscape { at }) => return Err(LineErr::Fault(LineFault::Escape { at })),
         Err(EscapeErr::Memory) => return Err(LineErr::Memory),
-    }
-    match stamp(ty, work) {
+    };
+    match stamp(ty, message) {
         Ok(at) => Ok(at),
         Err(fault) => Err(LineErr::Fault(LineFault::Event(fault))),
     }

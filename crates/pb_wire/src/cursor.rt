@@ -52,6 +52,7 @@ impl<'a> Fields<'a> {
     }
 
     /// The next field, or `None` at the end. A refusal comes again at each later call.
+    #[inline(always)]
     pub fn next(&mut self) -> Result<Option<Field<'a>>, WireErr>
         ensures next { GivesNext field_at view self.old self.new result }
         // The bytes of a value lie before the cursor, as `ending_at` asks.

@@ -7,7 +7,11 @@ use crate::{Field, Wire, WireErr};
 
 // Each reader gives what stands at the front of the bytes, and the bytes behind it. `end` is the
 // place behind the last byte, so a place is `end` less the number of bytes that are left there.
+//
+// Inlined into the loop that calls them, they hand their answers on in registers; each message of
+// a stream goes through them.
 
+#[inline(always)]
 #[tactic(auto, unfolding(crate::specs::Reading::field_at))]
 pub(crate) fn read_field(bytes: &[u8], end: usize) -> Result<(Field<'_>, &[u8]), WireErr>
     requires { length bytes.now ≤ end }
@@ -20,6 +24,7 @@ pub(crate) fn read_field(bytes: &[u8], end: usize) -> Result<(Field<'_>, &[u8]),
     Ok((Field { number, value }, rest))
 }
 
+#[inline(always)]
 #[tactic(auto, unfolding(crate::specs::Reading::tag_at))]
 fn read_tag(bytes: &[u8], end: usize) -> Result<(u64, &[u8]), WireErr>
     requires { length bytes.now ≤ end }
@@ -38,6 +43,7 @@ fn read_tag(bytes: &[u8], end: usize) -> Result<(u64, &[u8]), WireErr>
     Ok((tag, rest))
 }
 
+#[inline(always)]
 #[tactic(auto, unfolding(crate::specs::Reading::value_at))]
 fn read_value(bytes: &[u8], wire_type: u64, end: usize) -> Result<(Wire<'_>, &[u8]), WireErr>
     requires { length bytes.now ≤ end }
@@ -65,6 +71,7 @@ fn read_value(bytes: &[u8], wire_type: u64, end: usize) -> Result<(Wire<'_>, &[u
 }
 
 // Most tags, lengths and numbers have one byte.
+#[inline(always)]
 pub(crate) fn read_varint(bytes: &[u8], end: usize) -> Result<(u64, &[u8]), WireErr>
     requires { length bytes.now ≤ end }
     ensures read { Gives (λ x. (x.0, x.1.now)) result (varint_at end bytes.now) }
@@ -76,6 +83,7 @@ pub(crate) fn read_varint(bytes: &[u8], end: usize) -> Result<(u64, &[u8]), Wire
     }
 }
 
+#[inline(always)]
 fn read_long_varint(bytes: &[u8], end: usize) -> Result<(u64, &[u8]), WireErr>
     requires { length bytes.now ≤ end }
     ensures read { Gives (λ x. (x.0, x.1.now)) result (varint_at end bytes.now) }
