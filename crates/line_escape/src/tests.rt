@@ -19,7 +19,6 @@ fn lines_and_what_they_mean(rt: HostRuntime) -> Result<(), Fail> {
         out.truncate(4);
         unescape(line, &mut out).ok().ok_or("refused")?;
         assert_eq!(rt; &out[4..], bytes);
-        assert_eq!(rt; unescaped(line, &mut out), Ok(bytes));
     }
     Ok(())
 }
@@ -38,12 +37,13 @@ fn a_bad_escape_is_told_with_its_place(rt: HostRuntime) -> Result<(), Fail> {
         let got = unescape(line, &mut out);
         assert_eq!(rt; got, Err(EscapeErr::BadEscape { at }));
         assert_eq!(rt; out.as_slice(), b"kept".as_slice());
-        assert_eq!(rt; unescaped(line, &mut out), Err(EscapeErr::BadEscape { at }));
     }
     let mut out = Vec::new(rt.alloc());
     unescape(b"\x0d\x0d", &mut out)
         .ok()
         .ok_or("a return that isn't escaped")?;
     assert_eq!(rt; out.as_slice(), b"\x0d\x0d".as_slice());
+    let in_pairs = unescaped(b"A\x1b\x02\x1b\x03", &mut out);
+    assert_eq!(rt; in_pairs, Ok(b"A\x0a\x0d".as_slice()));
     Ok(())
 }
