@@ -23,4 +23,5 @@ mod registry;
 mod store;
 mod writing;
 
+pub use plan::header;
 pub use store::TierStore;

@@ -28,6 +28,8 @@ impl<D: Disk> TierStore<D> {
         ensures fresh { IfOk result (λ r. D.Reader.faults r ≡ 0) }
         ensures kept { IsTrue D.tells → (held : Held) → Has self.old.catalogue self.old.manifest (D.files self.old.disk) (D.opened self.old.disk) (D.past self.old.disk) held
             → Has self.new.catalogue self.new.manifest (D.files self.new.disk) (D.opened self.new.disk) (D.past self.new.disk) held }
+        ensures same { (self.new.catalogue ≡ self.old.catalogue) × (self.new.manifest ≡ self.old.manifest) }
+        ensures files { IsTrue D.tells → D.files self.new.disk ≡ D.files self.old.disk }
         ensures any_moment { IsTrue D.tells → Passes (λ a b. b ≡ a) (D.past self.old.disk) (D.past self.new.disk) }
         ensures faults { D.faults self.old.disk ≤ D.faults self.new.disk }
         ensures cause { IsErrOf result DiskErr.Fault → Rose (D.faults self.old.disk) (D.faults self.new.disk) }
