@@ -1,0 +1,4 @@
+pub mod Having
+pub mod Keeping
+pub mod Looking
+pub mod Verdicts
