@@ -1,0 +1,6 @@
+pub mod Entries
+pub mod Flushes
+pub mod Lives
+pub mod Offers
+pub mod Registering
+pub mod Streaming
