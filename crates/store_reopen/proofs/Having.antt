@@ -153,7 +153,8 @@ unopened_too rows entries opened after same was = λ k d lt. omega (arith, was k
 
 pub still_unopened : (g : Granularity) (files later : Files) (opened after : Name → ℕ) (old new : Past) → KeepsSaid g files opened old later after new → IsUnopened files opened → IsUnopened later after
 still_unopened g files later opened after old new keeps unopened = record {
-  journals = λ n zero_store. keeps.same_opened n ∙ unopened.journals n zero_store;
+  catalogue = keeps.same_opened catalogue_name ∙ unopened.catalogue;
+  manifest = keeps.same_opened short_manifest ∙ unopened.manifest;
   listed = λ h rows entries said.
       let before = unopened.listed h rows entries (record { rows_said = keeps.rows_before rows said.rows_said; entries_said = keeps.entries_before h entries said.entries_said }) in
       unopened_too rows entries opened after keeps.same_opened before;

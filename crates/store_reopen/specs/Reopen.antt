@@ -8,9 +8,10 @@ use Rattle.store_manifest.specs.declared.entry.Entry.{Entry}
 use Rattle.store_manifest.specs.Entries.{AreEntries}
 use Rattle.store_manifest.specs.Manifest.{ManifestState}
 use Rattle.pv_catalog.specs.declared.row.Row.{Row}
-use Rattle.pv_catalog.specs.Catalogue.{CatalogueState}
+use Rattle.pv_catalog.specs.Catalogue.{CatalogueState, catalogue_name}
 use Rattle.pv_catalog.specs.Rows.{AreRows}
 use Rattle.tier_store.specs.Held.{Held, file_of}
+use Rattle.tier_store.specs.Names.{short_manifest}
 use Rattle.tier_store.specs.Stored.{Holds}
 use Rattle.tier_store.specs.declared.store.TierStore.{TierStore}
 use Rattle.etl_rules.specs.Config.{ConfigState}
@@ -34,9 +35,10 @@ abbrev pub disk_of : {D R : Type 0} → Result (TierStore D R) (ReopenErr D R) �
 disk_of {D} {R} (Ok store) = store.disk
 disk_of {D} {R} (Err e) = disk_in e
 
--- no journal was opened, and no listed file beyond its listed length
+-- neither journal was opened, and no listed file beyond its listed length
 pub record IsUnopened (files : Files) (opened : Name → ℕ) : Type 0 where
-  pub journals : (n : Name) → n.0 ≡ 0 → opened n ≡ 0
+  pub catalogue : opened catalogue_name ≡ 0
+  pub manifest : opened short_manifest ≡ 0
   pub listed : (g : Granularity) (rows : List Row) (entries : List Entry) → AreSaid g files rows entries → All (λ (e : Entry). opened (file_of rows e) ≤ e.len) entries
 
 -- whatever a crash now may leave holds this

@@ -30,7 +30,7 @@ pub(crate) const STORE: u8 = 1;
 
 // Loads the catalogue, or tells where it is bad.
 pub(crate) fn load_catalogue<D: Disk>(alloc: Global, disk: &mut D) -> Result<Catalogue, Refusal>
-    requires unopened { IsTrue D.tells → (n : Name) → n.0 ≡ 0 → D.opened disk.old n ≡ 0 }
+    requires unopened { IsTrue D.tells → D.opened disk.old catalogue_name ≡ 0 }
     ensures stored { IsTrue D.tells → IfOk result (λ c. IsStored c (D.files disk.new) (D.opened disk.new) (D.past disk.new)) }
     ensures rows { IsTrue D.tells → IfOk result (λ c. Says IsCatalogue c.rows (D.files disk.old catalogue_name)) }
     ensures journal { IfOk result (λ c. (c.journal.name ≡ catalogue_name) × (c.journal.sound ≡ true)) }
@@ -58,7 +58,7 @@ pub(crate) fn load_manifest<D: Disk>(
     disk: &mut D,
     g: Granularity,
 ) -> Result<Manifest, Refusal>
-    requires unopened { IsTrue D.tells → (n : Name) → n.0 ≡ 0 → D.opened disk.old n ≡ 0 }
+    requires unopened { IsTrue D.tells → D.opened disk.old short_manifest ≡ 0 }
     ensures kept { IsTrue D.tells → IfOk result (λ m. IsKept m (D.files disk.new) (D.opened disk.new) (D.past disk.new)) }
     ensures entries { IsTrue D.tells → IfOk result (λ m. Lists g m.entries (D.files disk.old short_manifest)) }
     ensures are { IfOk result (λ m. AreEntries g m.entries) }

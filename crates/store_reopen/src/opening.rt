@@ -78,7 +78,7 @@ fn load_store<D: Disk>(
     disk: &mut D,
     g: Granularity,
 ) -> Result<(Catalogue, Manifest), Refusal>
-    requires unopened { IsTrue D.tells → (n : Name) → n.0 ≡ 0 → D.opened disk.old n ≡ 0 }
+    requires unopened { IsTrue D.tells → (D.opened disk.old catalogue_name ≡ 0) × (D.opened disk.old short_manifest ≡ 0) }
     ensures stored { IsTrue D.tells → IfOk result (λ r. IsStored r.0 (D.files disk.new) (D.opened disk.new) (D.past disk.new)) }
     ensures kept { IsTrue D.tells → IfOk result (λ r. IsKept r.1 (D.files disk.new) (D.opened disk.new) (D.past disk.new)) }
     ensures said { IsTrue D.tells → IfOk result (λ r. AreSaid g (D.files disk.old) r.0.rows r.1.entries) }

@@ -23,5 +23,6 @@ mod registry;
 mod store;
 mod writing;
 
+pub use opening::file_name;
 pub use plan::header;
 pub use store::TierStore;

@@ -10,23 +10,23 @@ use Rattle.store_reopen.proofs.journals.load_catalogue.Goals as goal
 pub returns-in-Ok-clause-keeps : goal.returns-in-Ok-clause-keeps
 returns-in-Ok-clause-keeps g c tells g' =
     kept_catalogue g' (g.D.Disk.files c.args.disk.now) (g.D.Disk.files c.load.new.disk) (g.D.Disk.opened c.args.disk.now) (g.D.Disk.opened c.load.new.disk) (g.D.Disk.past c.args.disk.now) (g.D.Disk.past c.load.new.disk) (c.load.ensures.any_moment tells) (c.load.ensures.elsewhere tells)
-    (c.load.ensures.reads tells) (c.load.ensures.opened tells) (c.requires.unopened tells catalogue_name refl) (c.load.ensures.unopened tells)
+    (c.load.ensures.reads tells) (c.load.ensures.opened tells) (c.requires.unopened tells) (c.load.ensures.unopened tells)
 
 pub returns-in-Err-Disk-clause-keeps : goal.returns-in-Err-Disk-clause-keeps
 returns-in-Err-Disk-clause-keeps g c tells g' =
     kept_catalogue g' (g.D.Disk.files c.args.disk.now) (g.D.Disk.files c.load.new.disk) (g.D.Disk.opened c.args.disk.now) (g.D.Disk.opened c.load.new.disk) (g.D.Disk.past c.args.disk.now) (g.D.Disk.past c.load.new.disk) (c.load.ensures.any_moment tells) (c.load.ensures.elsewhere tells)
-    (c.load.ensures.reads tells) (c.load.ensures.opened tells) (c.requires.unopened tells catalogue_name refl) (c.load.ensures.unopened tells)
+    (c.load.ensures.reads tells) (c.load.ensures.opened tells) (c.requires.unopened tells) (c.load.ensures.unopened tells)
 
 pub returns-in-Err-BadJournal-clause-keeps : goal.returns-in-Err-BadJournal-clause-keeps
 returns-in-Err-BadJournal-clause-keeps g c tells g' =
     kept_catalogue g' (g.D.Disk.files c.args.disk.now) (g.D.Disk.files c.load.new.disk) (g.D.Disk.opened c.args.disk.now) (g.D.Disk.opened c.load.new.disk) (g.D.Disk.past c.args.disk.now) (g.D.Disk.past c.load.new.disk) (c.load.ensures.any_moment tells) (c.load.ensures.elsewhere tells)
-    (c.load.ensures.reads tells) (c.load.ensures.opened tells) (c.requires.unopened tells catalogue_name refl) (c.load.ensures.unopened tells)
+    (c.load.ensures.reads tells) (c.load.ensures.opened tells) (c.requires.unopened tells) (c.load.ensures.unopened tells)
 
 pub returns-in_err-at-in-Err-BadBatch-clause-keeps : goal.returns-in_err-at-in-Err-BadBatch-clause-keeps
 returns-in_err-at-in-Err-BadBatch-clause-keeps g c tells g' =
     kept_then g' _ _ _ _ _ _ _ _ _
     (kept_catalogue g' (g.D.Disk.files c.args.disk.now) (g.D.Disk.files c.load.new.disk) (g.D.Disk.opened c.args.disk.now) (g.D.Disk.opened c.load.new.disk) (g.D.Disk.past c.args.disk.now) (g.D.Disk.past c.load.new.disk) (c.load.ensures.any_moment tells) (c.load.ensures.elsewhere tells)
-    (c.load.ensures.reads tells) (c.load.ensures.opened tells) (c.requires.unopened tells catalogue_name refl) (c.load.ensures.unopened tells))
+    (c.load.ensures.reads tells) (c.load.ensures.opened tells) (c.requires.unopened tells) (c.load.ensures.unopened tells))
     (
     catalogue_again g' c.in_ok-name.name (g.D.Disk.files c.load.new.disk) (g.D.Disk.files c.gate_of.new.disk) (g.D.Disk.opened c.load.new.disk) (g.D.Disk.opened c.gate_of.new.disk) (g.D.Disk.past c.load.new.disk) (g.D.Disk.past c.gate_of.new.disk) c.in_ok-name.ensures
     (record {
@@ -42,7 +42,7 @@ pub returns-in_ok-at-in-Err-BadBatch-clause-keeps : goal.returns-in_ok-at-in-Err
 returns-in_ok-at-in-Err-BadBatch-clause-keeps g c tells g' =
     kept_then g' _ _ _ _ _ _ _ _ _
     (kept_catalogue g' (g.D.Disk.files c.args.disk.now) (g.D.Disk.files c.load.new.disk) (g.D.Disk.opened c.args.disk.now) (g.D.Disk.opened c.load.new.disk) (g.D.Disk.past c.args.disk.now) (g.D.Disk.past c.load.new.disk) (c.load.ensures.any_moment tells) (c.load.ensures.elsewhere tells)
-    (c.load.ensures.reads tells) (c.load.ensures.opened tells) (c.requires.unopened tells catalogue_name refl) (c.load.ensures.unopened tells))
+    (c.load.ensures.reads tells) (c.load.ensures.opened tells) (c.requires.unopened tells) (c.load.ensures.unopened tells))
     (
     catalogue_again g' c.in_ok-name.name (g.D.Disk.files c.load.new.disk) (g.D.Disk.files c.gate_of.new.disk) (g.D.Disk.opened c.load.new.disk) (g.D.Disk.opened c.gate_of.new.disk) (g.D.Disk.past c.load.new.disk) (g.D.Disk.past c.gate_of.new.disk) c.in_ok-name.ensures
     (record {

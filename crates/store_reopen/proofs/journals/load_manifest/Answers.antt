@@ -12,28 +12,28 @@ use Rattle.store_reopen.proofs.journals.load_manifest.Goals as goal
 pub returns-in-Ok-clause-keeps : goal.returns-in-Ok-clause-keeps
 returns-in-Ok-clause-keeps g c tells =
     kept_manifest c.args.g (g.D.Disk.files c.args.disk.now) (g.D.Disk.files c.load.new.disk) (g.D.Disk.opened c.args.disk.now) (g.D.Disk.opened c.load.new.disk) (g.D.Disk.past c.args.disk.now) (g.D.Disk.past c.load.new.disk) (c.load.ensures.any_moment tells) (c.load.ensures.elsewhere tells)
-    (c.load.ensures.reads tells) (c.load.ensures.opened tells) (c.requires.unopened tells short_manifest refl) (c.load.ensures.unopened tells)
+    (c.load.ensures.reads tells) (c.load.ensures.opened tells) (c.requires.unopened tells) (c.load.ensures.unopened tells)
 
 pub returns-in-Err-Disk-clause-keeps : goal.returns-in-Err-Disk-clause-keeps
 returns-in-Err-Disk-clause-keeps g c tells =
     kept_manifest c.args.g (g.D.Disk.files c.args.disk.now) (g.D.Disk.files c.load.new.disk) (g.D.Disk.opened c.args.disk.now) (g.D.Disk.opened c.load.new.disk) (g.D.Disk.past c.args.disk.now) (g.D.Disk.past c.load.new.disk) (c.load.ensures.any_moment tells) (c.load.ensures.elsewhere tells)
-    (c.load.ensures.reads tells) (c.load.ensures.opened tells) (c.requires.unopened tells short_manifest refl) (c.load.ensures.unopened tells)
+    (c.load.ensures.reads tells) (c.load.ensures.opened tells) (c.requires.unopened tells) (c.load.ensures.unopened tells)
 
 pub returns-in-Err-BadJournal-clause-keeps : goal.returns-in-Err-BadJournal-clause-keeps
 returns-in-Err-BadJournal-clause-keeps g c tells =
     kept_manifest c.args.g (g.D.Disk.files c.args.disk.now) (g.D.Disk.files c.load.new.disk) (g.D.Disk.opened c.args.disk.now) (g.D.Disk.opened c.load.new.disk) (g.D.Disk.past c.args.disk.now) (g.D.Disk.past c.load.new.disk) (c.load.ensures.any_moment tells) (c.load.ensures.elsewhere tells)
-    (c.load.ensures.reads tells) (c.load.ensures.opened tells) (c.requires.unopened tells short_manifest refl) (c.load.ensures.unopened tells)
+    (c.load.ensures.reads tells) (c.load.ensures.opened tells) (c.requires.unopened tells) (c.load.ensures.unopened tells)
 
 pub returns-in-Err-GranularityDiffers-clause-keeps : goal.returns-in-Err-GranularityDiffers-clause-keeps
 returns-in-Err-GranularityDiffers-clause-keeps g c tells =
     kept_manifest c.args.g (g.D.Disk.files c.args.disk.now) (g.D.Disk.files c.load.new.disk) (g.D.Disk.opened c.args.disk.now) (g.D.Disk.opened c.load.new.disk) (g.D.Disk.past c.args.disk.now) (g.D.Disk.past c.load.new.disk) (c.load.ensures.any_moment tells) (c.load.ensures.elsewhere tells)
-    (c.load.ensures.reads tells) (c.load.ensures.opened tells) (c.requires.unopened tells short_manifest refl) (c.load.ensures.unopened tells)
+    (c.load.ensures.reads tells) (c.load.ensures.opened tells) (c.requires.unopened tells) (c.load.ensures.unopened tells)
 
 pub returns-in_err-at-in-Err-BadBatch-clause-keeps : goal.returns-in_err-at-in-Err-BadBatch-clause-keeps
 returns-in_err-at-in-Err-BadBatch-clause-keeps g c tells =
     kept_then c.args.g _ _ _ _ _ _ _ _ _
     (kept_manifest c.args.g (g.D.Disk.files c.args.disk.now) (g.D.Disk.files c.load.new.disk) (g.D.Disk.opened c.args.disk.now) (g.D.Disk.opened c.load.new.disk) (g.D.Disk.past c.args.disk.now) (g.D.Disk.past c.load.new.disk) (c.load.ensures.any_moment tells) (c.load.ensures.elsewhere tells)
-    (c.load.ensures.reads tells) (c.load.ensures.opened tells) (c.requires.unopened tells short_manifest refl) (c.load.ensures.unopened tells))
+    (c.load.ensures.reads tells) (c.load.ensures.opened tells) (c.requires.unopened tells) (c.load.ensures.unopened tells))
     (
     manifest_again c.args.g c.in_ok-name.name (g.D.Disk.files c.load.new.disk) (g.D.Disk.files c.gate_of.new.disk) (g.D.Disk.opened c.load.new.disk) (g.D.Disk.opened c.gate_of.new.disk) (g.D.Disk.past c.load.new.disk) (g.D.Disk.past c.gate_of.new.disk) c.in_ok-name.ensures
     (record {
@@ -49,7 +49,7 @@ pub returns-in_ok-at-in-Err-BadBatch-clause-keeps : goal.returns-in_ok-at-in-Err
 returns-in_ok-at-in-Err-BadBatch-clause-keeps g c tells =
     kept_then c.args.g _ _ _ _ _ _ _ _ _
     (kept_manifest c.args.g (g.D.Disk.files c.args.disk.now) (g.D.Disk.files c.load.new.disk) (g.D.Disk.opened c.args.disk.now) (g.D.Disk.opened c.load.new.disk) (g.D.Disk.past c.args.disk.now) (g.D.Disk.past c.load.new.disk) (c.load.ensures.any_moment tells) (c.load.ensures.elsewhere tells)
-    (c.load.ensures.reads tells) (c.load.ensures.opened tells) (c.requires.unopened tells short_manifest refl) (c.load.ensures.unopened tells))
+    (c.load.ensures.reads tells) (c.load.ensures.opened tells) (c.requires.unopened tells) (c.load.ensures.unopened tells))
     (
     manifest_again c.args.g c.in_ok-name.name (g.D.Disk.files c.load.new.disk) (g.D.Disk.files c.gate_of.new.disk) (g.D.Disk.opened c.load.new.disk) (g.D.Disk.opened c.gate_of.new.disk) (g.D.Disk.past c.load.new.disk) (g.D.Disk.past c.gate_of.new.disk) c.in_ok-name.ensures
     (record {

@@ -15,8 +15,11 @@ use Rattle.store_reopen.proofs.Keeping.{kept_then, kept_reading, kept_reads}
 use Rattle.store_reopen.proofs.Having.{all_there_in}
 use Rattle.store_reopen.proofs.opening.load_store.Goals as goal
 
+pub load_catalogue-requires : goal.load_catalogue-requires
+load_catalogue-requires g c = record { unopened = λ tells. (c.requires.unopened tells).0 }
+
 pub load_manifest-requires : goal.load_manifest-requires
-load_manifest-requires g c = record { unopened = λ tells n zero_store. (c.load_catalogue.ensures.keeps tells c.args.g).same_opened n ∙ c.requires.unopened tells n zero_store }
+load_manifest-requires g c = record { unopened = λ tells. (c.load_catalogue.ensures.keeps tells c.args.g).same_opened short_manifest ∙ (c.requires.unopened tells).1 }
 
 pub returns-in_err-catalogue-clause-told : goal.returns-in_err-catalogue-clause-told
 returns-in_err-catalogue-clause-told g c tells =

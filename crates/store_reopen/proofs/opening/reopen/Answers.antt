@@ -11,6 +11,9 @@ use Rattle.store_reopen.specs.Reopen.{IsUnopened, StillHolds, Opens, short_granu
 use Rattle.store_reopen.proofs.Having.{has_some, has_held, loaded_again, still_unopened, opening_moment, is_short}
 use Rattle.store_reopen.proofs.opening.reopen.Goals as goal
 
+pub load_store-requires : goal.load_store-requires
+load_store-requires g c = record { unopened = λ tells. ((c.requires.unopened tells).catalogue, (c.requires.unopened tells).manifest) }
+
 pub returns-in-Ok-clause-stands : goal.returns-in-Ok-clause-stands
 returns-in-Ok-clause-stands g c tells held opens =
     let loaded = loaded_again c.granularity.result c.in-Ok.catalogue c.in-Ok.manifest (g.D.Disk.files c.args.disk) (g.D.Disk.files c.load_store.new.disk) (g.D.Disk.opened c.args.disk) (g.D.Disk.opened c.load_store.new.disk) (g.D.Disk.past c.args.disk) (g.D.Disk.past c.load_store.new.disk) (c.load_store.ensures.keeps tells) (c.requires.unopened tells)
