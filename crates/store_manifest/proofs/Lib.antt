@@ -1,4 +1,5 @@
 pub mod Bytes
+pub mod Changes
 pub mod Committing
 pub mod Meaning
 pub mod Order

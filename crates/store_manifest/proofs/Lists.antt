@@ -1,5 +1,5 @@
 -- One list more, or one in place of another, in memory.
-use Rattle.std.proofs.Common.{◌≡◌, ◌⊎◌, inl, inr, ℕ, ◌==◌, Bool, true, false, cond, List, [], ◌∷◌, ◌++◌, Option, Some, None, Result, Ok, Err, IsSome, IfSome, OnOk, OnErr, Vec, refl, sym, ◌∙◌, ap, subst, arith}
+use Rattle.std.proofs.Common.{◌≡◌, inl, inr, ℕ, ◌==◌, Bool, true, false, cond, List, [], Option, Some, None, Result, Ok, Err, IsSome, IfSome, OnOk, OnErr, Vec, refl, sym, ◌∙◌, ap, subst, arith}
 use Rattle.std.proofs.lemmas.Bool.{cases_eq}
 use Rattle.std.proofs.lemmas.Bool.Decides.{nat_tests}
 use Rattle.std.specs.BTreeMap.{is_at, insert_entry}
@@ -12,9 +12,10 @@ use Rattle.std.specs.declared.alloc.Global.{Global}
 use Rattle.store_manifest.specs.declared.entry.Entry.{Entry}
 use Rattle.store_manifest.specs.declared.entry.Change.{Change}
 use Rattle.store_manifest.specs.declared.entry.Change.TheVariants.{Set, Drop}
-use Rattle.store_manifest.specs.Entries.{place, place_of, comes_before, spliced, changed}
+use Rattle.store_manifest.specs.Entries.{place, place_of, spliced, changed}
 use Rattle.store_manifest.specs.Listing.{Slot, find, own, coming, OfSeries, AreLists}
-use Rattle.store_manifest.proofs.Slots.{shown, series_slots, spliced_slots, empty_slot, slot_more, taken_slot, owns_coming}
+use Rattle.store_manifest.proofs.Changes.{mid_of, changed_is, order_changed, each_changed}
+use Rattle.store_manifest.proofs.Slots.{shown, shown_series, series_slots, spliced_slots, empty_slot, slot_more, taken_slot, owns_coming}
 
 at_same : (s q : ℕ) → s ≡ q → is_at (nat_cmp s) q ≡ true
 at_same s q is = grind (arith, nat_tests)
@@ -82,7 +83,7 @@ opened s v listed new to_come are empty ordered is differ =
     let P : List Slot → Type 0 = λ l. AllByRecursion (λ slot. OfSeries slot.0 (own slot)) l in
     record {
       ordered = ordered;
-      own_entries = subst P (sym is) (slot_more (λ slot. OfSeries slot.0 (own slot)) s v listed (λ k at. let Q : List Entry → Type 0 = λ l. OfSeries k l in subst Q (sym empty) tt) are.own_entries);
+      own_entries = subst P (sym is) (slot_more (λ slot. OfSeries slot.0 (own slot)) s v listed (λ k at. let Q : List Entry → Type 0 = λ l. OfSeries k l in subst Q (sym empty) (tt, tt)) are.own_entries);
       coming_entries = are.coming_entries;
       present = λ q there. stays listed new s q v differ (are.present q there);
     }
@@ -101,51 +102,20 @@ opened_next s v listed new to_come are empty is none =
 
 -- A LIST TO COME
 
-pub filtered : (p : Entry → Bool) (P : Entry → Type 0) (xs : List Entry) → AllByRecursion P xs → AllByRecursion P (filter p xs)
-filtered p P [] all = tt
-filtered p P (x ∷ xs) all = go (filtered p P xs all.1) (p x)
-  where
-    go : AllByRecursion P (filter p xs) → (b : Bool) → AllByRecursion P (cond b (x ∷ filter p xs) (filter p xs))
-    go rest true = (all.0, rest)
-    go rest false = rest
-
-pub joined : (P : Entry → Type 0) (xs ys : List Entry) → AllByRecursion P xs → AllByRecursion P ys → AllByRecursion P (xs ++ ys)
-joined P [] ys one two = two
-joined P (x ∷ xs) ys one two = (one.0, joined P xs ys one.1 two)
-
-abbrev pub mid_of : Change → List Entry
-mid_of (Set e) = e ∷ []
-mid_of (Drop series start) = []
-
-pub changed_is : (xs : List Entry) (c : Change) → changed xs c ≡ spliced place (place_of c) (mid_of c) xs
-changed_is xs (Set e) = refl
-changed_is xs (Drop series start) = refl
-
-mid_series : (c : Change) → OfSeries (place_of c).0 (mid_of c)
+mid_series : (c : Change) → AllByRecursion (λ e. e.series ≡ (place_of c).0) (mid_of c)
 mid_series (Set e) = (refl, tt)
 mid_series (Drop series start) = tt
 
 changed_series : (s : ℕ) (xs : List Entry) (c : Change) → s ≡ (place_of c).0 → OfSeries s xs → OfSeries s (changed xs c)
 changed_series s xs c is all =
+    let Q : ℕ → Type 0 = λ k. AllByRecursion (λ e. e.series ≡ k) (mid_of c) in
+    (each_changed (λ e. e.series ≡ s) xs c all.0 (subst Q (sym is) (mid_series c)), order_changed xs c all.1)
+
+-- the entries of a series that are to be are of the series, in order
+pub next_series : (s : ℕ) (listed to_come : List Slot) → AreLists listed to_come → OfSeries s (filter (λ x. x.series == s) (flat_map (coming to_come) listed))
+next_series s listed to_come are =
     let P : List Entry → Type 0 = λ l. OfSeries s l in
-    let Q : ℕ → Type 0 = λ k. OfSeries k (mid_of c) in
-    let test : Entry → Bool = λ y. comes_before (place y) (place_of c) in
-    let behind : Entry → Bool = λ y. comes_before (place_of c) (place y) in
-    subst P (sym (changed_is xs c)) (joined (λ e. e.series ≡ s) (filter test xs) (mid_of c ++ filter behind xs) (filtered test (λ e. e.series ≡ s) xs all) (joined (λ e. e.series ≡ s) (mid_of c) (filter behind xs) (subst Q (sym is) (mid_series c)) (filtered behind (λ e. e.series ≡ s) xs all)))
-
-series_only : (s : ℕ) (xs : List Entry) → OfSeries s (filter (λ x. x.series == s) xs)
-series_only s [] = tt
-series_only s (x ∷ xs) = go (series_only s xs) (cases_eq x.series s)
-  where
-    this : (x.series ≡ s) → (x.series == s) ≡ true
-    this is = grind (arith, nat_tests)
-
-    other : (x.series ≡ s → ⊥) → (x.series == s) ≡ false
-    other apart = grind (arith, nat_tests)
-
-    go : OfSeries s (filter (λ x. x.series == s) xs) → (x.series ≡ s) ⊎ (x.series ≡ s → ⊥) → OfSeries s (cond (x.series == s) (x ∷ filter (λ x. x.series == s) xs) (filter (λ x. x.series == s) xs))
-    go rest (inl is) = let R : Bool → Type 0 = λ b. OfSeries s (cond b (x ∷ filter (λ x. x.series == s) xs) (filter (λ x. x.series == s) xs)) in subst R (sym (this is)) (is, rest)
-    go rest (inr apart) = let R : Bool → Type 0 = λ b. OfSeries s (cond b (x ∷ filter (λ x. x.series == s) xs) (filter (λ x. x.series == s) xs)) in subst R (sym (other apart)) rest
+    subst P (sym (shows_coming s listed to_come are)) (shown_series s (coming to_come) listed (owns_coming to_come listed are.coming_entries are.own_entries))
 
 module _ (s : ℕ) (c : Change) (v : Vec Entry Global) (listed to_come new : List Slot) (are : AreLists listed to_come) (of : s ≡ (place_of c).0) (there : IsSome (find s listed))
     (is : v.items ≡ changed (filter (λ x. x.series == s) (flat_map (coming to_come) listed)) c) (differ : Differ to_come new s (Some v)) where
@@ -161,7 +131,7 @@ module _ (s : ℕ) (c : Change) (v : Vec Entry Global) (listed to_come new : Lis
               subst P (sym (differ_same to_come new s q (Some v) differ (sym at))) (
               let R : ℕ → Type 0 = λ k. OfSeries k v.items in
               let S : List Entry → Type 0 = λ l. OfSeries s l in
-              subst R (sym at) (subst S (sym is) (changed_series s (filter (λ x. x.series == s) (flat_map (coming to_come) listed)) c of (series_only s (flat_map (coming to_come) listed))))
+              subst R (sym at) (subst S (sym is) (changed_series s (filter (λ x. x.series == s) (flat_map (coming to_come) listed)) c of (next_series s listed to_come are)))
               )
           | inr apart ↦ subst P (sym (differ_other to_come new s q (Some v) differ apart)) (are.coming_entries q)
         ];
@@ -197,6 +167,31 @@ module _ (s : ℕ) (c : Change) (v : Vec Entry Global) (listed to_come new : Lis
       (owns_coming to_come listed are.coming_entries are.own_entries)
       found
       ∙ sym (changed_is (flat_map (coming to_come) listed) c)
+
+-- A LIST TAKEN OUT
+
+-- a list that is taken out and put back changed is one that takes its place
+pub put_back : (old rest new : List Slot) (s : ℕ) (o w : Option (Vec Entry Global)) → Differ old rest s o → Differ rest new s w → Differ old new s w
+put_back old rest new s o w first second q = second q ∙ go (is_at (nat_cmp s) q) (first q)
+  where
+    go : (b : Bool) → find q rest ≡ cond b o (find q old) → cond b w (find q rest) ≡ cond b w (find q old)
+    go true is = refl
+    go false is = is
+
+pub drawn : (s : ℕ) (listed to_come rest : List Slot) → AreLists listed to_come → Differ to_come rest s None → AreLists listed rest
+drawn s listed to_come rest are left = record {
+  ordered = are.ordered;
+  own_entries = are.own_entries;
+  coming_entries = λ q.
+      let P : Option (Vec Entry Global) → Type 0 = λ x. IfSome x (λ w. OfSeries q w.items) in
+      elim (cases_eq q s) [ inl at ↦ subst P (sym (differ_same to_come rest s q None left (sym at))) tt | inr apart ↦ subst P (sym (differ_other to_come rest s q None left apart)) (are.coming_entries q) ];
+  present = λ q some.
+      let P : Option (Vec Entry Global) → Type 0 = λ x. IsSome x in
+      elim (cases_eq q s) [
+        | inl at ↦ let no : false ≡ true = subst P (differ_same to_come rest s q None left (sym at)) some in absurd (cc no)
+        | inr apart ↦ are.present q (subst P (differ_other to_come rest s q None left apart) some)
+      ];
+}
 
 -- A LIST TAKES ITS PLACE
 

@@ -1,66 +1,17 @@
 -- Entries stay in order, each of one of the granularity's partitions.
-use Rattle.std.proofs.Common.{◌≡◌, ℕ, Bool, true, false, cond, List, [], ◌∷◌, ◌++◌, All, refl, sym, subst, arith}
-use Rattle.std.proofs.lemmas.Bool.Decides.{nat_tests}
+use Rattle.std.proofs.Common.{ℕ, List, [], ◌∷◌, All, sym, subst}
 use Rattle.std.proofs.lemmas.List.Elements.{All-from_recursion, recursion_from_All}
-use Rattle.std.specs.List.{filter, AllByRecursion}
+use Rattle.std.specs.List.{AllByRecursion}
 use Rattle.partition_names.specs.declared.granularity.Granularity.{Granularity}
 use Rattle.partition_names.specs.Part.{IsPart}
 use Rattle.store_manifest.specs.declared.entry.Entry.{Entry}
 use Rattle.store_manifest.specs.declared.entry.Change.{Change}
 use Rattle.store_manifest.specs.declared.entry.Change.TheVariants.{Set, Drop}
 use Rattle.store_manifest.specs.Batches.{AreBatches, Configured, Folds}
-use Rattle.store_manifest.specs.Entries.{Place, place, place_of, comes_before, changed, all_changed, CanFollow, InTurn, AllCanFollow, InOrder, AreEntries}
+use Rattle.store_manifest.specs.Entries.{changed, all_changed, CanFollow, InTurn, AllCanFollow, InOrder, AreEntries}
 use Rattle.store_manifest.specs.Numbers.{IsSized, HasSizes}
 use Rattle.store_manifest.proofs.Meaning.{configured_folds}
-use Rattle.store_manifest.proofs.Lists.{mid_of, changed_is, filtered, joined}
-
-before_trans : (a b c : Place) → comes_before a b ≡ true → comes_before b c ≡ true → comes_before a c ≡ true
-before_trans a b c one two = grind (arith, nat_tests)
-
-filter_passes : (p : Entry → Bool) (xs : List Entry) → AllByRecursion (λ x. p x ≡ true) (filter p xs)
-filter_passes p [] = tt
-filter_passes p (x ∷ xs) = go (filter_passes p xs) (p x) refl
-  where
-    go : AllByRecursion (λ x. p x ≡ true) (filter p xs) → (b : Bool) → p x ≡ b → AllByRecursion (λ x. p x ≡ true) (cond b (x ∷ filter p xs) (filter p xs))
-    go rest true is = (is, rest)
-    go rest false is = rest
-
-order_filter : (p : Entry → Bool) (xs : List Entry) → InOrder xs → InOrder (filter p xs)
-order_filter p [] order = tt
-order_filter p (x ∷ xs) order = go (order_filter p xs order.1) (p x)
-  where
-    go : InOrder (filter p xs) → (b : Bool) → InOrder (cond b (x ∷ filter p xs) (filter p xs))
-    go rest true = (filtered p (λ d. comes_before (place x) (place d) ≡ true) xs order.0, rest)
-    go rest false = rest
-
-order_append : (q : Place) (xs ys : List Entry) → AllByRecursion (λ x. comes_before (place x) q ≡ true) xs → InOrder xs → InOrder ys
-    → ((x : Entry) → comes_before (place x) q ≡ true → AllByRecursion (λ d. comes_before (place x) (place d) ≡ true) ys) → InOrder (xs ++ ys)
-order_append q [] ys below one two apart = two
-order_append q (x ∷ xs) ys below one two apart = (joined (λ d. comes_before (place x) (place d) ≡ true) xs ys one.0 (apart x below.0), order_append q xs ys below.1 one.1 two apart)
-
-behind_all : (q : Place) (x : Entry) (ys : List Entry) → comes_before (place x) q ≡ true → AllByRecursion (λ d. comes_before q (place d) ≡ true) ys → AllByRecursion (λ d. comes_before (place x) (place d) ≡ true) ys
-behind_all q x [] below behind = tt
-behind_all q x (y ∷ ys) below behind = (before_trans (place x) q (place y) below behind.0, behind_all q x ys below behind.1)
-
-order_changed : (xs : List Entry) (c : Change) → InOrder xs → InOrder (changed xs c)
-order_changed xs (Set e) order =
-    let before : Entry → Bool = λ y. comes_before (place y) (place e) in
-    let behind : Entry → Bool = λ y. comes_before (place e) (place y) in
-    let last = filter_passes behind xs in
-    order_append (place e) (filter before xs) (e ∷ filter behind xs) (filter_passes before xs) (order_filter before xs order) (last, order_filter behind xs order) (λ x below. (below, behind_all (place e) x (filter behind xs) below last))
-order_changed xs (Drop s t) order =
-    let q : Place = (s, t) in
-    let before : Entry → Bool = λ y. comes_before (place y) q in
-    let behind : Entry → Bool = λ y. comes_before q (place y) in
-    order_append q (filter before xs) (filter behind xs) (filter_passes before xs) (order_filter before xs order) (order_filter behind xs order) (λ x below. behind_all q x (filter behind xs) below (filter_passes behind xs))
-
--- what holds of each entry, and of one that is set
-each_changed : (P : Entry → Type 0) (xs : List Entry) (c : Change) → AllByRecursion P xs → AllByRecursion P (mid_of c) → AllByRecursion P (changed xs c)
-each_changed P xs c all mid =
-    let before : Entry → Bool = λ y. comes_before (place y) (place_of c) in
-    let behind : Entry → Bool = λ y. comes_before (place_of c) (place y) in
-    let Q : List Entry → Type 0 = λ l. AllByRecursion P l in
-    subst Q (sym (changed_is xs c)) (joined P (filter before xs) (mid_of c ++ filter behind xs) (filtered before P xs all) (joined P (mid_of c) (filter behind xs) mid (filtered behind P xs all)))
+use Rattle.store_manifest.proofs.Changes.{mid_of, order_changed, each_changed}
 
 abbrev Parts : Granularity → List Entry → Type 0
 Parts g xs = AllByRecursion (λ e. IsPart g e.part) xs

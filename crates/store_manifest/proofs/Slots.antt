@@ -18,6 +18,7 @@ use Rattle.std.specs.declared.cmp.Ordering.TheVariants.{Less, Equal, Greater}
 use Rattle.store_manifest.specs.declared.entry.Entry.{Entry}
 use Rattle.store_manifest.specs.Entries.{Place, place, comes_before, is_listed, spliced}
 use Rattle.store_manifest.specs.Listing.{Slot, find, own, coming, OfSeries}
+use Rattle.store_manifest.proofs.Changes.{filter_all, filter_none, each, joined}
 
 -- ORDER
 
@@ -65,29 +66,11 @@ none_there there = let no : false ≡ true = there in cc
 is_none : (o : Option (Vec Entry Global)) → o ≡ None → IsSome o → ⊥
 is_none o none some = let P : Option (Vec Entry Global) → Type 0 = λ x. IsSome x in none_there (subst P none some)
 
--- FILTERS
-
-filter_all : (p : Entry → Bool) (xs : List Entry) → AllByRecursion (λ x. p x ≡ true) xs → filter p xs ≡ xs
-filter_all p [] all = refl
-filter_all p (x ∷ xs) all = ap (λ (b : Bool). cond b (x ∷ filter p xs) (filter p xs)) all.0 ∙ ap (λ (l : List Entry). x ∷ l) (filter_all p xs all.1)
-
-filter_none : (p : Entry → Bool) (xs : List Entry) → AllByRecursion (λ x. p x ≡ false) xs → filter p xs ≡ []
-filter_none p [] all = refl
-filter_none p (x ∷ xs) all = ap (λ (b : Bool). cond b (x ∷ filter p xs) (filter p xs)) all.0 ∙ filter_none p xs all.1
-
-each : (P Q : Entry → Type 0) → ((x : Entry) → P x → Q x) → (xs : List Entry) → AllByRecursion P xs → AllByRecursion Q xs
-each P Q f [] all = tt
-each P Q f (x ∷ xs) all = (f x all.0, each P Q f xs all.1)
-
-both : (P : Entry → Type 0) (xs ys : List Entry) → AllByRecursion P xs → AllByRecursion P ys → AllByRecursion P (xs ++ ys)
-both P [] ys one two = two
-both P (x ∷ xs) ys one two = (one.0, both P xs ys one.1 two)
-
 -- each entry of slots above a series is above it
 above : (s : ℕ) (p : Slot → List Entry) (es : List Slot) → Owns p es → AllAbove s es → AllByRecursion (λ x. s < x.series) (flat_map p es)
 above s p [] owns high = tt
 above s p (e ∷ es) owns high =
-    both (λ x. s < x.series) (p e) (flat_map p es) (each (λ x. x.series ≡ e.0) (λ x. s < x.series) (λ x is. omega (arith, is, less_means s e.0 high.0)) (p e) owns.0) (above s p es owns.1 high.1)
+    joined (λ x. s < x.series) (p e) (flat_map p es) (each (λ x. x.series ≡ e.0) (λ x. s < x.series) (λ x is. omega (arith, is, less_means s e.0 high.0)) (p e) owns.0.0) (above s p es owns.1 high.1)
 
 before_low : (q : Place) (x : Entry) → x.series < q.0 → comes_before (place x) q ≡ true
 before_low q x low = grind (arith, nat_tests)
@@ -136,7 +119,7 @@ above_head : (e : Slot) (es : List Slot) (s : ℕ) → Ordered (e ∷ es) → e.
 above_head e es s ordered is = let P : ℕ → Type 0 = λ k. AllAbove k es in subst P is (sorted_head nat_cmp e.0 (keys_of es) ordered)
 
 lows : (q : Place) (xs : List Entry) (k : ℕ) → OfSeries k xs → k < q.0 → AllByRecursion (λ x. x.series < q.0) xs
-lows q xs k owns less = each (λ x. x.series ≡ k) (λ x. x.series < q.0) (λ x is. omega (arith, is, less)) xs owns
+lows q xs k owns less = each (λ x. x.series ≡ k) (λ x. x.series < q.0) (λ x is. omega (arith, is, less)) xs owns.0
 
 -- a splice into the list of one series is a splice into all
 pub spliced_slots : (q : Place) (mid : List Entry) (p p' : Slot → List Entry) (w : Vec Entry Global) → ((e : Slot) → (e.0 ≡ q.0 → ⊥) → p' e ≡ p e) → p' (q.0, w) ≡ spliced place q mid (p (q.0, w))
@@ -165,6 +148,16 @@ abbrev pub shown : (Slot → List Entry) → ℕ → Option (Vec Entry Global) �
 shown p s None = []
 shown p s (Some v) = p (s, v)
 
+-- and they are of the series
+pub shown_series : (s : ℕ) (p : Slot → List Entry) (es : List Slot) → Owns p es → OfSeries s (shown p s (find s es))
+shown_series s p [] owns = (tt, tt)
+shown_series s p (e ∷ es) owns = go (shown_series s p es owns.1) (nat_cmp s e.0) refl
+  where
+    go : OfSeries s (shown p s (find s es)) → (o : Ordering) → nat_cmp s e.0 ≡ o → OfSeries s (shown p s (cond (is_eq o) (Some e.1) (find s es)))
+    go rest Less is = rest
+    go rest Equal is = let P : ℕ → Type 0 = λ k. OfSeries k (p (k, e.1)) in subst P (sym (equal_means s e.0 is)) owns.0
+    go rest Greater is = rest
+
 of_other : (s : ℕ) (x : Entry) (k : ℕ) → x.series ≡ k → (k ≡ s → ⊥) → (x.series == s) ≡ false
 of_other s x k is apart = grind (arith, nat_tests)
 
@@ -183,7 +176,7 @@ series_slots s p (e ∷ es) ordered owns =
     elim (cases_order e.0 s) [
       | inl is ↦
           apart
-          ∙ ap (λ (l : List Entry). l ++ filter test (flat_map p es)) (filter_all test (p e) (each (λ x. x.series ≡ e.0) (λ x. test x ≡ true) (λ x h. of_this s x (h ∙ is)) (p e) owns.0))
+          ∙ ap (λ (l : List Entry). l ++ filter test (flat_map p es)) (filter_all test (p e) (each (λ x. x.series ≡ e.0) (λ x. test x ≡ true) (λ x h. of_this s x (h ∙ is)) (p e) owns.0.0))
           ∙ ap (λ (l : List Entry). p e ++ l) (none_above s (flat_map p es) (above s p es owns.1 (above_head e es s ordered is)))
           ∙ append-nil (p e)
           ∙ ap (λ (k : ℕ). p (k, e.1)) is
@@ -191,12 +184,12 @@ series_slots s p (e ∷ es) ordered owns =
       | inr other ↦ elim other [
         | inl less ↦
             apart
-            ∙ ap (λ (l : List Entry). l ++ filter test (flat_map p es)) (filter_none test (p e) (each (λ x. x.series ≡ e.0) (λ x. test x ≡ false) (λ x h. of_other s x e.0 h (λ is. omega (arith, is, less))) (p e) owns.0))
+            ∙ ap (λ (l : List Entry). l ++ filter test (flat_map p es)) (filter_none test (p e) (each (λ x. x.series ≡ e.0) (λ x. test x ≡ false) (λ x h. of_other s x e.0 h (λ is. omega (arith, is, less))) (p e) owns.0.0))
             ∙ series_slots s p es (sorted_tail nat_cmp e.0 (keys_of es) ordered) owns.1
             ∙ ap (λ (o : Option (Vec Entry Global)). shown p s o) (sym (found_later s e es less))
         | inr more ↦
             apart
-            ∙ ap (λ (l : List Entry). l ++ filter test (flat_map p es)) (none_above s (p e) (each (λ x. x.series ≡ e.0) (λ x. s < x.series) (λ x h. omega (arith, h, more)) (p e) owns.0))
+            ∙ ap (λ (l : List Entry). l ++ filter test (flat_map p es)) (none_above s (p e) (each (λ x. x.series ≡ e.0) (λ x. s < x.series) (λ x h. omega (arith, h, more)) (p e) owns.0.0))
             ∙ none_above s (flat_map p es) (above s p es owns.1 (high_tail s e es ordered more))
             ∙ ap (λ (o : Option (Vec Entry Global)). shown p s o) (sym (not_found s e es ordered more))
       ]

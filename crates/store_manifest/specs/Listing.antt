@@ -9,6 +9,7 @@ use Rattle.std.specs.Ordering.{nat_cmp}
 use Rattle.std.specs.declared.alloc.Global.{Global}
 use Rattle.store_manifest.specs.declared.entry.Entry.{Entry}
 use Rattle.store_manifest.specs.declared.listing.Listing.{Listing}
+use Rattle.store_manifest.specs.Entries.{InOrder}
 
 -- a series and its list
 abbrev pub Slot : Type 0
@@ -34,10 +35,11 @@ entries_of l = flat_map own l.listed.entries
 abbrev pub next_of : Listing → List Entry
 next_of l = flat_map (coming l.coming.entries) l.listed.entries
 
+-- entries of one series, in order
 abbrev pub OfSeries : ℕ → List Entry → Type 0
-OfSeries series entries = AllByRecursion (λ e. e.series ≡ series) entries
+OfSeries series entries = AllByRecursion (λ e. e.series ≡ series) entries × InOrder entries
 
--- each series has one list, of its own entries, and so has each list that is to come
+-- each series has one list, of its own entries in order, and of such are the lists that are to come
 pub record AreLists (listed to_come : List Slot) : Type 0 where
   pub ordered : IsStrictlySortedBy nat_cmp (keys_of listed)
   pub own_entries : AllByRecursion (λ slot. OfSeries slot.0 (own slot)) listed

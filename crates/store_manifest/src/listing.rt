@@ -1,8 +1,11 @@
 // The entries of a manifest in memory: a list for each series. A commit makes new lists of the series that it changes, and puts them
 // in place of the old ones when it is done, which takes no memory.
-ghost use Rattle.std.specs.Prelude.{◌≡◌, ◌==◌, [], IfOk, OnOk, IsSome, IsTrue, filter, ◌++◌};
-ghost use Rattle.std.specs.List.{list_any};
-ghost use Rattle.store_manifest.specs.Entries.{place, comes_before, changed, all_changed};
+ghost use Rattle.std.specs.Prelude.{◌≡◌, ◌==◌, [], List, None, IfOk, OnOk, IsSome, IsTrue, filter, ◌++◌};
+ghost use Rattle.std.specs.BTreeMap.{UpdatesBy};
+ghost use Rattle.std.specs.List.{list_all, list_any};
+ghost use Rattle.std.specs.Ordering.{nat_cmp};
+ghost use Rattle.store_manifest.specs.declared.entry.Entry.{Entry as EntryValue};
+ghost use Rattle.store_manifest.specs.Entries.{place, comes_before, is_place, spliced, put, without, changed, all_changed, InOrder};
 ghost use Rattle.store_manifest.specs.Reading.{IsAllowed};
 
 use crate::{AllEntries, Change, Entry};
@@ -86,7 +89,24 @@ impl Listing {
         Ok(())
     }
 
-    // Makes one change more in the lists that are to come.
+    // Takes out the list that a series has after the changes so far: the one that is to come, or a copy of its own.
+    fn draw(&mut self, series: u32) -> Result<Vec<Entry>, AllocError>
+        requires { IsListing self.old }
+        ensures good { IsListing self.new }
+        ensures listed { self.new.listed.entries ≡ self.old.listed.entries }
+        ensures coming { UpdatesBy nat_cmp (nat_cmp series) self.old.coming self.new.coming None }
+        ensures list { IfOk result (λ v. v.items ≡ filter (λ e. e.series == series) (next_of self.old)) }
+    {
+        match self.coming.remove(&series) {
+            Some(list) => Ok(list),
+            None => {
+                let list = Vec::from_slice(self.alloc, self.entries(series))?;
+                Ok(list)
+            }
+        }
+    }
+
+    // Makes one change more in the lists that are to come. Of changes in the order of time only a series' first one copies its list.
     pub(crate) fn change(&mut self, change: &Change) -> Result<(), AllocError>
         requires { IsListing self.old }
         ensures good { IsListing self.new }
@@ -95,8 +115,9 @@ impl Listing {
     {
         let series = change.series();
         self.open(series)?;
-        let list = with_change(self.alloc, self.next(series), change)?;
-        self.coming.insert(series, list)?;
+        let list = self.draw(series)?;
+        let next = with_change(self.alloc, list, change)?;
+        self.coming.insert(series, next)?;
         Ok(())
     }
 
@@ -180,22 +201,83 @@ fn add_behind(
     Ok(())
 }
 
-// The entries with one change made.
-fn with_change(alloc: Global, entries: &[Entry], change: &Change) -> Result<Vec<Entry>, AllocError>
-    ensures { IfOk result (λ v. v.items ≡ changed entries.now change.now) }
+// A copy of the entries with one in its place.
+fn copy_with(alloc: Global, entries: &[Entry], entry: &Entry) -> Result<Vec<Entry>, AllocError>
+    ensures { IfOk result (λ v. v.items ≡ put place entry.now entries.now) }
 {
     let mut out = Vec::new(alloc);
+    add_before(&mut out, entries, entry.series, entry.part.start)?;
+    out.push(*entry)?;
+    add_behind(&mut out, entries, entry.series, entry.part.start)?;
+    Ok(out)
+}
+
+// A copy of the entries without the one at a place.
+fn copy_without(
+    alloc: Global,
+    entries: &[Entry],
+    series: u32,
+    start: u64,
+) -> Result<Vec<Entry>, AllocError>
+    ensures { IfOk result (λ v. v.items ≡ without place (series, start) entries.now) }
+{
+    let mut out = Vec::new(alloc);
+    add_before(&mut out, entries, series, start)?;
+    add_behind(&mut out, entries, series, start)?;
+    Ok(out)
+}
+
+fn is_at(entry: &Entry, series: u32, start: u64) -> bool
+    ensures { result ≡ is_place (place entry.now) (series, start) }
+{
+    entry.series == series && entry.part.start == start
+}
+
+// Takes the last entry off if it is at this place. Before and behind the place nothing changes.
+fn clear_end(list: &mut Vec<Entry>, series: u32, start: u64)
+    ensures around { (mid : List EntryValue) → spliced place (series, start) mid list.new.items ≡ spliced place (series, start) mid list.old.items }
+    ensures order { InOrder list.old.items → InOrder list.new.items }
+{
+    let Some((last, _)) = list.as_slice().split_last() else {
+        return;
+    };
+    if is_at(last, series, start) {
+        list.pop();
+    }
+}
+
+// Whether entries in order are all before a place, for which it looks at the last one alone.
+fn ends_before(entries: &[Entry], series: u32, start: u64) -> bool
+    requires { InOrder entries.now }
+    ensures { result ≡ list_all (λ e. comes_before (place e) (series, start)) entries.now }
+{
+    match entries.split_last() {
+        Some((last, _)) => is_before(last, series, start),
+        None => true,
+    }
+}
+
+// The list with an entry in its place. One that comes behind all others is put there without a copy.
+fn with_entry(alloc: Global, mut list: Vec<Entry>, entry: &Entry) -> Result<Vec<Entry>, AllocError>
+    requires { InOrder list.items }
+    ensures { IfOk result (λ v. v.items ≡ put place entry.now list.items) }
+{
+    clear_end(&mut list, entry.series, entry.part.start);
+    if ends_before(list.as_slice(), entry.series, entry.part.start) {
+        list.push(*entry)?;
+        return Ok(list);
+    }
+    let copy = copy_with(alloc, list.as_slice(), entry)?;
+    Ok(copy)
+}
+
+// The list with one change made.
+fn with_change(alloc: Global, list: Vec<Entry>, change: &Change) -> Result<Vec<Entry>, AllocError>
+    requires { InOrder list.items }
+    ensures { IfOk result (λ v. v.items ≡ changed list.items change.now) }
+{
     match change {
-        Change::Set(entry) => {
-            add_before(&mut out, entries, entry.series, entry.part.start)?;
-            out.push(*entry)?;
-            add_behind(&mut out, entries, entry.series, entry.part.start)?;
-            Ok(out)
-        }
-        Change::Drop { series, start } => {
-            add_before(&mut out, entries, *series, *start)?;
-            add_behind(&mut out, entries, *series, *start)?;
-            Ok(out)
-        }
+        Change::Set(entry) => with_entry(alloc, list, entry),
+        Change::Drop { series, start } => copy_without(alloc, list.as_slice(), *series, *start),
     }
 }
