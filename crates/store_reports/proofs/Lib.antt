@@ -1,0 +1,4 @@
+pub mod Counting
+pub mod Rowwise
+pub mod Sending
+pub mod Telling

@@ -1,0 +1,111 @@
+// What a check tells: a line for each file, and the first damaged one.
+ghost use Rattle.std.specs.Prelude.{◌≡◌, ◌≤◌, [], ◌++◌, codes, decimal, None, OnOk, IsErrOf};
+ghost use Rattle.edge_io.specs.Stream.{Rose, AppendsFront};
+ghost use Rattle.sink_buffer.specs.Sent.{Sends};
+ghost use Rattle.store_reports.specs.Check.{finding_text, named_line};
+ghost use Rattle.store_reports.specs.Telling.{first_of};
+
+use disk_model::FileName;
+use edge_io::Sink;
+use itoa::Buffer;
+use sink_buffer::{PutErr, SinkBuffer};
+use std::alloc::{AllocError, Global};
+
+/// What a listed file is found to be.
+#[derive(Clone, Copy, Debug, PartialEq, Eq)]
+pub enum Finding {
+    /// One of its partition, of so many samples.
+    Good { count: u64 },
+    /// Its first line that fails begins at this place.
+    Damaged { at: u64 },
+}
+
+/// A damaged file.
+#[derive(Drop)]
+pub struct Damage {
+    pub name: FileName,
+    /// Where its first line that fails begins.
+    pub at: u64,
+}
+
+// What is told so far: bytes that are gathered, and the first damaged file.
+#[derive(Drop)]
+pub(crate) struct Report {
+    line: Vec<u8>,
+    pub(crate) buffer: SinkBuffer,
+    pub(crate) first: Option<Damage>,
+}
+
+impl Report {
+    pub(crate) fn new(alloc: Global) -> Report
+        ensures buffer { result.buffer ≡ [] }
+        ensures first { result.first ≡ None }
+    {
+        Report {
+            line: Vec::new(alloc),
+            buffer: SinkBuffer::new(alloc),
+            first: None,
+        }
+    }
+
+    // Tells a file.
+    pub(crate) fn tell<K: Sink>(
+        &mut self,
+        name: FileName,
+        finding: Finding,
+        sink: &mut K,
+    ) -> Result<(), PutErr>
+        ensures line { OnOk result (Sends (K.written sink.old) (K.written sink.new) (self.old.buffer ++ named_line name finding) self.new.buffer) }
+        ensures first { OnOk result (self.new.first ≡ first_of self.old.first name finding) }
+        ensures memory { IsErrOf result PutErr.Memory → Sends (K.written sink.old) (K.written sink.new) self.old.buffer self.new.buffer }
+        ensures fault { IsErrOf result PutErr.SinkFault → AppendsFront (K.written sink.old) (K.written sink.new) (self.old.buffer ++ named_line name finding) }
+        ensures faults { K.write_faults sink.old ≤ K.write_faults sink.new }
+        ensures cause { IsErrOf result PutErr.SinkFault → Rose (K.write_faults sink.old) (K.write_faults sink.new) }
+    {
+        fill_line(&mut self.line, &name, finding)?;
+        self.buffer.put(&self.line, sink)?;
+        keep_first(&mut self.first, name, finding);
+        Ok(())
+    }
+}
+
+// Takes the file for the first damaged one if it is.
+fn keep_first(first: &mut Option<Damage>, name: FileName, finding: Finding)
+    ensures { first.new ≡ first_of first.old name finding }
+{
+    if first.is_some() {
+        return;
+    }
+    if let Finding::Damaged { at } = finding {
+        *first = Some(Damage { name, at });
+    }
+}
+
+// Makes the line that of a file, in the memory that it has.
+fn fill_line(line: &mut Vec<u8>, name: &FileName, finding: Finding) -> Result<(), AllocError>
+    ensures { OnOk result (line.new.items ≡ named_line name.now finding) }
+{
+    line.clear();
+    line.extend_from_slice(b"1 ")?;
+    line.extend_from_slice(&name.path)?;
+    line.extend_from_slice(b" ")?;
+    add_finding(line, finding)?;
+    line.extend_from_slice(b"\n")?;
+    Ok(())
+}
+
+fn add_finding(line: &mut Vec<u8>, finding: Finding) -> Result<(), AllocError>
+    ensures { OnOk result (line.new.items ≡ line.old.items ++ finding_text finding) }
+{
+    let mut digits = Buffer::new();
+    match finding {
+        Finding::Good { count } => {
+            line.extend_from_slice(b"ok ")?;
+            line.extend_from_slice(digits.format(count).as_bytes())
+        }
+        Finding::Damaged { at } => {
+            line.extend_from_slice(b"damaged ")?;
+            line.extend_from_slice(digits.format(at).as_bytes())
+        }
+    }
+}
