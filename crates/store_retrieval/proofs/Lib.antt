@@ -1,0 +1,10 @@
+pub mod Sending
+pub mod Texts
+pub mod Knowing
+pub mod Finishing
+pub mod Years
+pub mod Taking
+pub mod Reading
+pub mod Series
+pub mod Choosing
+pub mod Listing

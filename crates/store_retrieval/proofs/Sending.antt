@@ -1,0 +1,110 @@
+-- How much of a text went out, call by call.
+use Rattle.std.proofs.Common.{◌≡◌, ℕ, ◌+◌, List, [], ◌++◌, Option, Result, Ok, Err, length, take, arith, refl, sym, ap, ◌∙◌, subst, append_assoc}
+use Rattle.std.specs.Prelude.{OnOk, OnErr, IsErrOf}
+use Rattle.std.specs.Io.KnownBytes.{Appends}
+use Rattle.std.proofs.KnownBytes.{Appends-trans, Appends-nil}
+use Rattle.std.proofs.lemmas.List.{append-nil, length-append, take-append-le, take_all}
+use Rattle.std.proofs.Math.Seq.{take-append-add}
+use Rattle.edge_io.specs.Stream.{AppendsFront}
+use Rattle.sink_buffer.specs.Sent.{Sends}
+use Rattle.sink_buffer.specs.declared.buffer.PutErr.{PutErr}
+use Rattle.sink_buffer.specs.declared.buffer.PutErr.TheVariants.{Memory, SinkFault}
+use Rattle.store_retrieval.specs.Text.{SendsFront, SentBy}
+
+front_then : (a b c : Option (List ℕ)) (out rest : List ℕ) → Appends a b out → AppendsFront b c rest → AppendsFront a c (out ++ rest)
+front_then a b c out rest sent f =
+    (length out + f.0, omega (arith, length-append out rest, f.1), rw (take-append-add out rest f.0) (Appends-trans a b c out (take f.0 rest) sent f.2))
+
+front_more : (a b : Option (List ℕ)) (bytes more : List ℕ) → AppendsFront a b bytes → AppendsFront a b (bytes ++ more)
+front_more a b bytes more f = (f.0, omega (arith, length-append bytes more, f.1), rw (take-append-le f.0 bytes more f.1) f.2)
+
+pub sends_none : (a : Option (List ℕ)) → Sends a a [] []
+sends_none a = ([], refl, Appends-nil a)
+
+pub sends_same : (a : Option (List ℕ)) (bytes : List ℕ) → Sends a a bytes bytes
+sends_same a bytes = ([], refl, Appends-nil a)
+
+-- what is left of one piece, and what is put behind it
+sends_then : (a b c : Option (List ℕ)) (text old piece new : List ℕ) → Sends a b text old → Sends b c (old ++ piece) new → Sends a c (text ++ piece) new
+sends_then a b c text old piece new one two =
+    (one.0 ++ two.0, ap (λ (u : List ℕ). u ++ piece) one.1 ∙ append_assoc one.0 old piece ∙ ap (λ (u : List ℕ). one.0 ++ u) two.1 ∙ sym (append_assoc one.0 two.0 new), Appends-trans a b c one.0 two.0 one.2 two.2)
+
+pub sent_then : {X : Type 0} (r : Result X PutErr) (a b c : Option (List ℕ)) (text old piece new : List ℕ) → Sends a b text old → SentBy r b c (old ++ piece) new → SentBy r a c (text ++ piece) new
+sent_then (Ok x) a b c text old piece new one two = sends_then a b c text old piece new one two
+sent_then (Err Memory) a b c text old piece new one two =
+    let is : text ++ piece ≡ one.0 ++ (old ++ piece) = ap (λ (u : List ℕ). u ++ piece) one.1 ∙ append_assoc one.0 old piece in (
+      one.0 ++ two.0,
+      two.1,
+      is ∙ ap (λ (u : List ℕ). one.0 ++ u) two.2 ∙ sym (append_assoc one.0 two.0 two.1),
+      (one.0 ++ two.3.0, ap (λ (u : List ℕ). one.0 ++ u) two.3.1 ∙ sym (append_assoc one.0 two.3.0 new), Appends-trans a b c one.0 two.3.0 one.2 two.3.2),
+    )
+sent_then (Err SinkFault) a b c text old piece new one two =
+    let is : text ++ piece ≡ one.0 ++ (old ++ piece) = ap (λ (u : List ℕ). u ++ piece) one.1 ∙ append_assoc one.0 old piece in
+    rw is (front_then a b c one.0 (old ++ piece) one.2 two)
+
+-- what broke off within a text broke off within a longer one
+pub sent_more : (X : Type 0) (e : PutErr) (a b : Option (List ℕ)) (text more left : List ℕ) → SentBy {X = X} (Err e) a b text left → SentBy {X = X} (Err e) a b (text ++ more) left
+sent_more X Memory a b text more left s = (s.0, s.1 ++ more, ap (λ (u : List ℕ). u ++ more) s.2 ∙ append_assoc s.0 s.1 more, s.3)
+sent_more X SinkFault a b text more left s = front_more a b text more s
+
+-- where memory ran out before anything was put
+pub sent_yet : (X : Type 0) (a b : Option (List ℕ)) (text left : List ℕ) → Sends a b text left → SentBy {X = X} (Err Memory) a b text left
+sent_yet X a b text left s = (text, [], sym (append-nil text), s)
+
+-- what a put of one piece comes to
+pub put_sent : (r : Result Unit PutErr) (a b : Option (List ℕ)) (old piece new : List ℕ) → OnOk r (Sends a b (old ++ piece) new) → OnErr r (AppendsFront a b (old ++ piece)) → (IsErrOf r Memory → Sends a b old new) → SentBy r a b (old ++ piece) new
+put_sent (Ok x) a b old piece new all front memory = all
+put_sent (Err Memory) a b old piece new all front memory = (old, piece, refl, memory refl)
+put_sent (Err SinkFault) a b old piece new all front memory = front
+
+-- two pieces, one behind the other
+pub sent_both : {X : Type 0} (r : Result X PutErr) (a b c : Option (List ℕ)) (old one mid two new : List ℕ) → Sends a b (old ++ one) mid → SentBy r b c (mid ++ two) new → SentBy r a c (old ++ (one ++ two)) new
+sent_both r a b c old one mid two new first second = rw (sym (append_assoc old one two)) (sent_then r a b c (old ++ one) mid two new first second)
+
+-- the first of two pieces broke off
+pub sent_first : (X : Type 0) (e : PutErr) (a b : Option (List ℕ)) (old one two new : List ℕ) → SentBy {X = X} (Err e) a b (old ++ one) new → SentBy {X = X} (Err e) a b (old ++ (one ++ two)) new
+sent_first X e a b old one two new first = rw (sym (append_assoc old one two)) (sent_more X e a b (old ++ one) two new first)
+
+-- ONCE WHAT IS GATHERED GOES OUT
+
+pub all_out : (a b c : Option (List ℕ)) (text left : List ℕ) → Sends a b text left → Appends b c left → Appends a c text
+all_out a b c text left s out = rw s.1 (Appends-trans a b c s.0 left s.2 out)
+
+pub part_out : (a b c : Option (List ℕ)) (text left : List ℕ) → Sends a b text left → AppendsFront b c left → AppendsFront a c text
+part_out a b c text left s out = rw s.1 (front_then a b c s.0 left s.2 out)
+
+pub front_out : (a b c : Option (List ℕ)) (text left : List ℕ) → SendsFront a b text left → AppendsFront b c left → AppendsFront a c text
+front_out a b c text left s out = rw s.2 (front_more a c s.0 s.1 (part_out a b c s.0 left s.3 out))
+
+pub whole_front : (a c : Option (List ℕ)) (text : List ℕ) → Appends a c text → AppendsFront a c text
+whole_front a c text all = (length text, omega arith, rw (take_whole text) all)
+  where
+    take_whole : (u : List ℕ) → take (length u) u ≡ u
+    take_whole u = take_all (length u) u (omega arith)
+
+-- AT THE EXIT OF A CALL
+
+-- an error that is handed on says the same of what went out
+pub sent_on : {X Y : Type 0} (r : Result X PutErr) (q : Result Y PutErr) (d e : PutErr) (a b : Option (List ℕ)) (bytes left : List ℕ) → r ≡ Err d → q ≡ Err e → e ≡ d → SentBy r a b bytes left → SentBy q a b bytes left
+sent_on {X} {Y} r q d e a b bytes left was now same sent =
+    let P : Result X PutErr → Type 0 = λ k. SentBy {X = X} k a b bytes left in
+    let Q : Result Y PutErr → Type 0 = λ k. SentBy {X = Y} k a b bytes left in
+    let E : PutErr → Type 0 = λ k. SentBy {X = Y} (Err k) a b bytes left in
+    subst Q (sym now) (subst E (sym same) (over d a b bytes left (subst P was sent)))
+  where
+    over : (k : PutErr) (a b : Option (List ℕ)) (bytes left : List ℕ) → SentBy {X = X} (Err k) a b bytes left → SentBy {X = Y} (Err k) a b bytes left
+    over Memory a b bytes left s = s
+    over SinkFault a b bytes left s = s
+
+pub sent_at : {Y : Type 0} (q : Result Y PutErr) (d e : PutErr) (a b : Option (List ℕ)) (bytes left : List ℕ) → q ≡ Err e → e ≡ d → SentBy {X = Unit} (Err d) a b bytes left → SentBy q a b bytes left
+sent_at q d e a b bytes left now same sent = sent_on {X = Unit} (Err d) q d e a b bytes left refl now same sent
+
+pub sent_err : {X : Type 0} (r : Result X PutErr) (d : PutErr) (a b : Option (List ℕ)) (bytes left : List ℕ) → r ≡ Err d → SentBy r a b bytes left → SentBy {X = Unit} (Err d) a b bytes left
+sent_err r d a b bytes left was sent = sent_on {Y = Unit} r (Err d) d d a b bytes left was refl refl sent
+
+-- the same bytes under other names
+pub sent_named : {X : Type 0} (r : Result X PutErr) (a b : Option (List ℕ)) (u old v piece new : List ℕ) → u ≡ old → v ≡ piece → SentBy r a b (u ++ v) new → SentBy r a b (old ++ piece) new
+sent_named r a b u old v piece new is is₂ sent =
+    let P : List ℕ → Type 0 = λ x. SentBy r a b (x ++ piece) new in
+    let Q : List ℕ → Type 0 = λ x. SentBy r a b (u ++ x) new in
+    subst P is (subst Q is₂ sent)
