@@ -19,7 +19,7 @@ use Rattle.pb_lines.specs.Stream.{Item, header, sample, chunk_end, Section, Stop
 use Rattle.pb_lines.specs.Reader.{Chunks, Holds, Passes, Stops, ReadsItem, ReadsLine, IsFresh, to_come, lines_taken, bytes_taken}
 use Rattle.pb_lines.proofs.Whole.{every_stream}
 use Rattle.archiver_appliance.specs.declared.status.Status.{Status}
-use Rattle.archiver_appliance.specs.declared.status.Status.TheVariants.{Done, Usage, Refused, SourceFault, SinkFault, OutOfMemory}
+use Rattle.archiver_appliance.specs.declared.status.Status.TheVariants.{Done, Refused, SourceFault, SinkFault, OutOfMemory}
 use Rattle.archiver_appliance.specs.Extract.{line_text, lines_text, is_reached, known, Before, nothing, chunks, samples, text_behind, extracted}
 use Rattle.archiver_appliance.specs.Answer.{Answering, Covers, Adds, Takes, next_of}
 use Rattle.archiver_appliance.specs.Text.{WritesAll, WritesFront, Extracts, IsFlushed}
@@ -260,7 +260,7 @@ front_known q (samples xs) (chunk_end ∷ rest) =
 front_known q nothing rest = (text_behind q nothing rest, refl)
 front_known q chunks rest = (text_behind q chunks rest, refl)
 
-front_of : (a b b' : Option (List ℕ)) (out gathered more whole : List ℕ) → Appends a b out → AppendsFront b b' gathered → whole ≡ (out ++ gathered) ++ more → AppendsFront a b' whole
+pub front_of : (a b b' : Option (List ℕ)) (out gathered more whole : List ℕ) → Appends a b out → AppendsFront b b' gathered → whole ≡ (out ++ gathered) ++ more → AppendsFront a b' whole
 front_of a b b' out gathered more whole written f is =
     let n = length out + f.0 in
     let all : whole ≡ out ++ (gathered ++ more) = is ∙ append_assoc out gathered more in

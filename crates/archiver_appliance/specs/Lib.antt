@@ -2,6 +2,9 @@ pub mod Answer
 pub mod Command
 pub mod Complaint
 pub mod Extract
+pub mod Ingesting
+pub mod Judging
+pub mod Reporting
 pub mod Run
 pub mod Status
 pub mod Text

@@ -5,7 +5,7 @@ use Rattle.edge_io.specs.Stream.{AppendsFront}
 use Rattle.series_model.specs.declared.sample.Query.{Query}
 use Rattle.pb_lines.specs.Stream.{Item, Stop, IsWholeStream}
 use Rattle.archiver_appliance.specs.declared.status.Status.{Status}
-use Rattle.archiver_appliance.specs.declared.status.Status.TheVariants.{Done, Usage, Refused, SourceFault, SinkFault, OutOfMemory}
+use Rattle.archiver_appliance.specs.declared.status.Status.TheVariants.{Done, Refused, SourceFault, SinkFault, OutOfMemory}
 use Rattle.archiver_appliance.specs.Extract.{extracted}
 
 -- The bytes are a stream up to this stop, and the sink got the whole text of its items.
@@ -24,7 +24,7 @@ Extracts q source a b (Refused line fault) = IfSome source (WritesAll q (Some (l
 Extracts q source a b SourceFault = IfSome source (WritesFront q a b)
 Extracts q source a b SinkFault = IfSome source (WritesFront q a b)
 Extracts q source a b OutOfMemory = IfSome source (WritesFront q a b)
-Extracts q source a b Usage = ⊥
+Extracts q source a b _ = ⊥
 
 -- What was gathered went out, or is still gathered.
 abbrev pub IsFlushed : Option (List ℕ) → Option (List ℕ) → List ℕ → List ℕ → Type 0

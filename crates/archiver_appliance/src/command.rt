@@ -1,19 +1,103 @@
-ghost use Rattle.std.specs.Prelude.{◌≡◌, ℕ, IfSome, IfNone, map};
+ghost use Rattle.std.specs.Prelude.{◌≡◌, ◌∷◌, [], IfSome, IfNone, map};
+ghost use Rattle.std.specs.List.{list_any};
 ghost use Rattle.series_model.specs.declared.sample.Query.{Query};
-ghost use Rattle.archiver_appliance.specs.Command.{IsInterval, IsExtract};
+ghost use Rattle.archiver_appliance.specs.declared.command.Command.{Command as CommandValue};
+ghost use Rattle.archiver_appliance.specs.Command.{IsInterval, AsksFor, IsCommand, IsFaulty, has_dash};
 
 use arch_time::parse_iso;
 use series_model::Query;
 
-/// What the words ask for, which is `extract FROM TO`.
-pub fn query_of(words: &[&str]) -> Option<Query>
-    ensures found { IfSome result (IsExtract (map (λ w. w.now) words.now)) }
-    ensures none { IfNone result ((query : Query) → IsExtract (map (λ w. w.now) words.now) query → ⊥) }
+/// What the words ask for.
+#[derive(Clone, Copy)]
+pub enum Command<'a> {
+    /// `extract FROM TO`
+    Extract { query: Query },
+    /// `ingest`
+    Ingest,
+    /// `get NAME FROM TO`
+    Get { name: &'a str, query: Query },
+    /// `status`
+    Status,
+    /// `check`
+    Check,
+}
+
+/// The command of these words. A word that begins with `-` is of none.
+pub fn command_of<'a>(words: &[&'a str]) -> Option<Command<'a>>
+    ensures found { IfSome result (IsCommand (map (λ w. w.now) words.now)) }
+    ensures none { IfNone result (IsFaulty (map (λ w. w.now) words.now)) }
+{
+    if have_dash(words) {
+        return None;
+    }
+    asked_for(words)
+}
+
+// Whether a word begins with `-`.
+fn have_dash(words: &[&str]) -> bool
+    ensures { result ≡ list_any (λ w. has_dash w.now) words.now }
+{
+    words.iter().any(|word| has_dash(word))
+}
+
+// Whether the word begins with `-`.
+fn has_dash(word: &str) -> bool
+    ensures { result ≡ has_dash word.now }
+{
+    match word.as_bytes() {
+        [first, ..] => *first == b'-',
+        [] => false,
+    }
+}
+
+// The command that these words ask for.
+fn asked_for<'a>(words: &[&'a str]) -> Option<Command<'a>>
+    ensures found { IfSome result (λ c. AsksFor c (map (λ w. w.now) words.now)) }
+    ensures none { IfNone result ((c : CommandValue) → AsksFor c (map (λ w. w.now) words.now) → ⊥) }
 {
     match words {
-        [command, from, to] if *command == "extract" => interval(from, to),
+        [word] => bare_command(word),
+        [word, from, to] => extract_command(word, from, to),
+        [word, name, from, to] => get_command(word, name, from, to),
         _ => None,
     }
+}
+
+// The command of a word that stands alone.
+fn bare_command<'a>(word: &str) -> Option<Command<'a>>
+    ensures found { IfSome result (λ c. AsksFor c (word.now ∷ [])) }
+    ensures none { IfNone result ((c : CommandValue) → AsksFor c (word.now ∷ []) → ⊥) }
+{
+    match word {
+        "ingest" => Some(Command::Ingest),
+        "status" => Some(Command::Status),
+        "check" => Some(Command::Check),
+        _ => None,
+    }
+}
+
+// The command of a word and the ends of an interval.
+fn extract_command<'a>(word: &str, from: &str, to: &str) -> Option<Command<'a>>
+    ensures found { IfSome result (λ c. AsksFor c (word.now ∷ from.now ∷ to.now ∷ [])) }
+    ensures none { IfNone result ((c : CommandValue) → AsksFor c (word.now ∷ from.now ∷ to.now ∷ []) → ⊥) }
+{
+    if word != "extract" {
+        return None;
+    }
+    let query = interval(from, to)?;
+    Some(Command::Extract { query })
+}
+
+// The command of a word, a name and the ends of an interval.
+fn get_command<'a>(word: &str, name: &'a str, from: &str, to: &str) -> Option<Command<'a>>
+    ensures found { IfSome result (λ c. AsksFor c (word.now ∷ name.now ∷ from.now ∷ to.now ∷ [])) }
+    ensures none { IfNone result ((c : CommandValue) → AsksFor c (word.now ∷ name.now ∷ from.now ∷ to.now ∷ []) → ⊥) }
+{
+    if word != "get" {
+        return None;
+    }
+    let query = interval(from, to)?;
+    Some(Command::Get { name, query })
 }
 
 // The interval between two moments.

@@ -1,47 +1,74 @@
-ghost use Rattle.std.specs.Prelude.{◌≡◌};
-ghost use Rattle.archiver_appliance.specs.declared.status.Status.TheVariants.{Refused};
+ghost use Rattle.std.specs.Prelude.{◌≤◌};
+ghost use Rattle.std.specs.List.{flat_map};
 ghost use Rattle.archiver_appliance.specs.Complaint.{Complains, complaint_of};
 
 use crate::status::Status;
-use arrayvec::ArrayString;
 use edge_io::{Sink, write_whole};
 use itoa::Buffer;
-use pb_lines::ChunkFault;
 
-/// Writes the one line that tells why a command ended with a status other than 0. Takes no memory.
-pub fn complain<E: Sink>(status: Status, complaints: &mut E)
-    ensures { Complains (E.written complaints.old) (E.written complaints.new) (E.write_faults complaints.old) (E.write_faults complaints.new) (complaint_of status) }
+/// Writes the one line that tells why a command ended with a status other than 0, or a front of it. Takes no memory.
+pub fn complain<E: Sink>(status: &Status, complaints: &mut E)
+    ensures told { Complains (E.written complaints.old) (E.written complaints.new) (E.write_faults complaints.old) (E.write_faults complaints.new) (complaint_of status.now) }
+    ensures faults { E.write_faults complaints.old ≤ E.write_faults complaints.new }
 {
+    let mut first = Buffer::new();
+    let mut second = Buffer::new();
     match status {
-        Status::Done => tell("", complaints),
+        Status::Done => tell(&[], complaints),
         Status::Usage => tell(
-            "archappl: usage: archappl extract FROM TO / ingest / get NAME FROM TO / etl / status / check / drill N / serve FEEDPORT HTTPPORT WORKERS LINKS\n",
+            &[
+                b"archappl: usage: archappl extract FROM TO / ingest / get NAME FROM TO / etl / status / check / drill N / serve FEEDPORT HTTPPORT WORKERS LINKS\n",
+            ],
             complaints,
         ),
-        Status::Refused { line, fault } => tell(refusal(line, fault).as_str(), complaints),
-        Status::SourceFault => tell("archappl: input failed\n", complaints),
-        Status::SinkFault => tell("archappl: output failed\n", complaints),
-        Status::OutOfMemory => tell("archappl: out of memory\n", complaints),
+        Status::Refused { line, fault } => tell(
+            &[
+                b"archappl: line ",
+                first.format(*line).as_bytes(),
+                b": E",
+                second.format(fault.number()).as_bytes(),
+                b"\n",
+            ],
+            complaints,
+        ),
+        Status::NoSuchVariable => tell(&[b"archappl: no such variable\n"], complaints),
+        Status::SourceFault => tell(&[b"archappl: input failed\n"], complaints),
+        Status::SinkFault => tell(&[b"archappl: output failed\n"], complaints),
+        Status::DiskFault => tell(&[b"archappl: disk failed\n"], complaints),
+        Status::Damaged { name, at } => tell(
+            &[
+                b"archappl: damaged: ",
+                first.format(name.store).as_bytes(),
+                b" ",
+                name.path.as_slice(),
+                b" at ",
+                second.format(*at).as_bytes(),
+                b"\n",
+            ],
+            complaints,
+        ),
+        Status::OutOfMemory => tell(&[b"archappl: out of memory\n"], complaints),
+        Status::GranularityDiffers { kept, asked } => tell(
+            &[
+                b"archappl: granularity: kept ",
+                kept.name(),
+                b", asked ",
+                asked.name(),
+                b"\n",
+            ],
+            complaints,
+        ),
     }
 }
 
-// Writes a text. Nobody is left to hear of a fault here.
-fn tell<E: Sink>(text: &str, complaints: &mut E)
-    ensures { Complains (E.written complaints.old) (E.written complaints.new) (E.write_faults complaints.old) (E.write_faults complaints.new) text.now }
+// Writes the pieces of a line, one after another. Nobody is left to hear of a fault here.
+fn tell<E: Sink>(pieces: &[&[u8]], complaints: &mut E)
+    ensures told { Complains (E.written complaints.old) (E.written complaints.new) (E.write_faults complaints.old) (E.write_faults complaints.new) (flat_map (λ piece. piece.now) pieces.now) }
+    ensures faults { E.write_faults complaints.old ≤ E.write_faults complaints.new }
 {
-    let _ = write_whole(complaints, text.as_bytes());
-}
-
-// The line that tells the input's first bad line.
-fn refusal(line: u64, fault: ChunkFault) -> ArrayString<64>
-    ensures { result.bytes ≡ complaint_of (Refused line fault) }
-{
-    let mut digits = Buffer::new();
-    let mut text = ArrayString::new();
-    text.push_str("archappl: line ");
-    text.push_str(digits.format(line));
-    text.push_str(": E");
-    text.push_str(digits.format(fault.number()));
-    text.push_str("\n");
-    text
+    for piece in pieces {
+        if write_whole(complaints, piece).is_err() {
+            return;
+        }
+    }
 }

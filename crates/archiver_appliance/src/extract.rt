@@ -26,6 +26,8 @@ pub fn extract<S: Source, K: Sink>(
     ensures text { Extracts query (S.left source.old) (K.written sink.old) (K.written sink.new) result }
     ensures source_fault { result ≡ Status.SourceFault → Rose (S.read_faults source.old) (S.read_faults source.new) }
     ensures sink_fault { result ≡ Status.SinkFault → Rose (K.write_faults sink.old) (K.write_faults sink.new) }
+    ensures source_faults { S.read_faults source.old ≤ S.read_faults source.new }
+    ensures sink_faults { K.write_faults sink.old ≤ K.write_faults sink.new }
 {
     let Ok(mut reader) = ChunkReader::new(alloc) else {
         return Status::OutOfMemory;

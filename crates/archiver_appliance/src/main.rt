@@ -1,40 +1,74 @@
 //! `archappl`, the program: its words, its commands and their statuses.
 //!
-//! `run` does all that the program does, over a source, a sink and a sink for complaints; `main`
-//! hands it the standard streams and ends with its status.
+//! `run` does all that the program does, over a source, a sink, a sink for complaints, a disk and a clock; `main` hands it the
+//! standard streams, the disk of the folders that the environment names and the system's clock, and ends with its status.
 //!
-//! Model: a command is a function from the words and the source's bytes to a text, a status and a
-//! complaint.
+//! Model: a command is a function from the words, the source's bytes, the image of the disk and the clock's moments to a text, an
+//! image, a status and a complaint.
 #![tactic(auto)]
 
 mod answer;
 mod command;
 mod complaint;
 mod extract;
+mod opened;
 mod run;
 mod status;
 #[cfg(test)]
+mod store_tests;
+#[cfg(test)]
 mod tests;
 
-use edge_io::{StdSink, StdSource};
-use std::alloc::AllocError;
-use std::env;
+use disk_model::FolderDisk;
+use edge_io::{StdSink, StdSource, SystemClock};
+use etl_rules::Config;
+use std::alloc::{AllocError, Global};
+use std::env::{self, VarError};
 use std::io::ErrorKind;
 use std::process::ExitCode;
 
 fn main(rt: HostRuntime) -> ExitCode {
     match started(&rt) {
         Ok(number) => ExitCode::from(number),
-        Err(AllocError) => {
-            let status = status::Status::OutOfMemory;
-            complaint::complain(status, &mut StdSink::new(rt.stderr()));
+        Err(err) => {
+            let status = match err {
+                VarError::OutOfMemory => status::Status::OutOfMemory,
+                VarError::NotPresent | VarError::NotUnicode => status::Status::DiskFault,
+            };
+            complaint::complain(&status, &mut StdSink::new(rt.stderr()));
             ExitCode::from(status.number())
         }
     }
 }
 
-// An argument that isn't UTF-8 makes a faulty command line, as no words do.
-fn started(rt: &HostRuntime) -> Result<u8, AllocError> {
+// Runs over the standard streams. A folder whose name isn't UTF-8 can't be used.
+fn started(rt: &HostRuntime) -> Result<u8, VarError> {
+    let arguments = arguments(rt)?;
+    let words = texts(rt.alloc(), &arguments)?;
+    let site = folder(rt, "ARCHAPPL_SITE_FOLDER", "site")?;
+    let short = folder(rt, "ARCHAPPL_SHORT_TERM_FOLDER", "sts")?;
+    let medium = folder(rt, "ARCHAPPL_MEDIUM_TERM_FOLDER", "mts")?;
+    let long = folder(rt, "ARCHAPPL_LONG_TERM_FOLDER", "lts")?;
+    let disk = FolderDisk::new(rt, rt.alloc(), &site, &short, &medium, &long)?;
+    let mut source = StdSource::new(rt.stdin());
+    let mut sink = StdSink::new(rt.stdout());
+    let mut complaints = StdSink::new(rt.stderr());
+    let mut clock = SystemClock::new(rt);
+    let ended = run::run(
+        rt.alloc(),
+        &words,
+        &Config::shipped(),
+        &mut source,
+        &mut sink,
+        &mut complaints,
+        disk,
+        &mut clock,
+    );
+    Ok(ended.status)
+}
+
+// The arguments. One that isn't UTF-8 makes a faulty command line, as no words do.
+fn arguments(rt: &HostRuntime) -> Result<Vec<String>, AllocError> {
     let mut words = Vec::new(rt.alloc());
     match env::args(rt) {
         Ok(args) => {
@@ -45,12 +79,21 @@ fn started(rt: &HostRuntime) -> Result<u8, AllocError> {
         Err(err) if err.kind() == ErrorKind::OutOfMemory => return Err(AllocError),
         Err(_) => {}
     }
-    let mut texts = Vec::new(rt.alloc());
-    for word in &words {
+    Ok(words)
+}
+
+fn texts<'a>(alloc: Global, words: &'a [String]) -> Result<Vec<&'a str>, AllocError> {
+    let mut texts = Vec::new(alloc);
+    for word in words {
         texts.push(word.as_str())?;
     }
-    let mut source = StdSource::new(rt.stdin());
-    let mut sink = StdSink::new(rt.stdout());
-    let mut complaints = StdSink::new(rt.stderr());
-    Ok(run::run(rt.alloc(), &texts, &mut source, &mut sink, &mut complaints))
+    Ok(texts)
+}
+
+// The folder that the environment names, or else this one.
+fn folder(rt: &HostRuntime, name: &str, default: &str) -> Result<String, VarError> {
+    match env::var(rt, name) {
+        Err(VarError::NotPresent) => Ok(default.to_string(rt.alloc())?),
+        folder => folder,
+    }
 }

@@ -1,5 +1,7 @@
 use crate::run::run;
-use edge_io::{Failed, MemSink, MemSource, Source};
+use disk_model::MemDisk;
+use edge_io::{Failed, ListClock, MemSink, MemSource, Source};
+use etl_rules::Config;
 use std::alloc::{AllocError, Global};
 use std::process::Abort;
 use std::test::Fail;
@@ -105,7 +107,7 @@ fn line(sign: char) -> &'static [u8] {
     }
 }
 
-fn lines(alloc: Global, signs: &str) -> Result<Vec<u8>, AllocError> {
+pub(crate) fn lines(alloc: Global, signs: &str) -> Result<Vec<u8>, AllocError> {
     let mut bytes = Vec::new(alloc);
     for sign in signs.chars() {
         bytes.extend_from_slice(line(sign))?;
@@ -119,6 +121,29 @@ struct Wanted<'a> {
     status: u8,
     output: &'a str,
     complaint: &'a str,
+}
+
+// The status of a run over an empty disk.
+fn status_of<S: Source>(
+    alloc: Global,
+    words: &[&str],
+    source: &mut S,
+    sink: &mut MemSink,
+    complaints: &mut MemSink,
+) -> Result<u8, AllocError> {
+    let disk = MemDisk::new(alloc, &[], None)?;
+    let mut clock = ListClock::new(Vec::new(alloc), Vec::new(alloc));
+    let ended = run(
+        alloc,
+        words,
+        &Config::shipped(),
+        source,
+        sink,
+        complaints,
+        disk,
+        &mut clock,
+    );
+    Ok(ended.status)
 }
 
 fn expect(
@@ -135,7 +160,7 @@ fn expect(
     };
     let mut sink = MemSink::new(alloc, 2000, &[])?;
     let mut complaints = MemSink::new(alloc, 2000, &[])?;
-    let status = run(alloc, words, &mut source, &mut sink, &mut complaints);
+    let status = status_of(alloc, words, &mut source, &mut sink, &mut complaints)?;
     assert_eq!(rt; status, wanted.status, "{input} by {most}");
     assert_eq!(rt;
         sink.bytes(),
@@ -336,7 +361,7 @@ fn expect_fault(
     let mut sink = MemSink::new(alloc, 1000, writes)?;
     let mut complaints = MemSink::new(alloc, room, &[])?;
     let words = ["extract", t, t];
-    let status = run(alloc, &words, &mut source, &mut sink, &mut complaints);
+    let status = status_of(alloc, &words, &mut source, &mut sink, &mut complaints)?;
     assert_eq!(rt; status, wanted.status);
     assert_eq!(rt; sink.bytes(), lines(alloc, wanted.output)?.as_slice());
     assert_eq!(rt; complaints.bytes(), wanted.complaint.as_bytes());
@@ -393,7 +418,7 @@ fn a_line_has_at_most_16_mebibytes(rt: HostRuntime) -> Result<(), Fail> {
         let mut source = MemSource::new(rt.alloc(), &bytes, &[])?;
         let mut sink = MemSink::new(rt.alloc(), 100, &[])?;
         let mut complaints = MemSink::new(rt.alloc(), 100, &[])?;
-        let status = run(rt.alloc(), &words, &mut source, &mut sink, &mut complaints);
+        let status = status_of(rt.alloc(), &words, &mut source, &mut sink, &mut complaints)?;
         assert_eq!(&rt; status, 3);
         assert_eq!(&rt; sink.bytes(), lines(rt.alloc(), "F")?.as_slice());
         assert_eq!(&rt; complaints.bytes(), complaint.as_bytes());
