@@ -42,11 +42,12 @@ class Refused(Exception):
 # Lines
 
 MEANING = {b"\x1b\x01": b"\x1b", b"\x1b\x02": b"\n", b"\x1b\x03": b"\r"}
-ESCAPED = {0x1B: b"\x1b\x01", 0x0A: b"\x1b\x02", 0x0D: b"\x1b\x03"}
 
 
 def escape(message):
-    return b"".join(ESCAPED.get(byte, bytes([byte])) for byte in message)
+    for pair, byte in MEANING.items():  # 1B first, since the others bring it in
+        message = message.replace(byte, pair)
+    return message
 
 
 def unescape(line):

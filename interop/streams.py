@@ -219,12 +219,17 @@ def stream(rng, first_type, count=None):
     chunks = [chunk(rng, first_type, rng.randrange(13) if count is None else count)]
     while chance(rng, 50):
         chunks.append(chunk(rng, rng.randrange(len(TYPE_NAMES)), rng.randrange(6)))
+    return joined(rng, chunks)
+
+
+def joined(rng, chunks):
+    """The stream of some chunks, with empty lines round them."""
     gaps = [b"\n" * rng.choice((1, 1, 1, 2, 3)) for _ in chunks]
     last = b"\n" * rng.choice((0, 0, 1, 2))
     bodies = [one.line + b"".join(line for _, line in one.samples) for one in chunks]
     head = b"\n" * rng.choice((0, 0, 0, 1, 2))
-    joined = b"".join(body + gap for body, gap in zip(bodies, gaps[:-1] + [last]))
-    return Stream(head + joined, chunks)
+    text = b"".join(body + gap for body, gap in zip(bodies, gaps[:-1] + [last]))
+    return Stream(head + text, chunks)
 
 
 def interval(rng, chunks):
