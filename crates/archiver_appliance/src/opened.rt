@@ -80,7 +80,6 @@ pub fn get_from<D: Disk, K: Sink>(
     disk: D,
 ) -> Came<D>
     requires unopened { IsTrue D.tells → IsUnopened (D.files disk) (D.opened disk) }
-    requires readers { IsTrue D.Reader.tells → IsTrue D.tells }
     ensures judges { IsTrue D.tells → Judges (short_granularity config.now) (command.Get name.entry query) (D.files disk) result.status }
     ensures gets { IsTrue D.tells → (first : Held) → Opens (short_granularity config.now) (D.past disk) first → IsTrue first.stands
         → Gets first name.now query (K.written sink.old) (K.written sink.new) result.status }
@@ -144,7 +143,6 @@ pub fn status_of<D: Disk, K: Sink>(alloc: Global, config: &Config, sink: &mut K,
 /// Opens the disk, and writes for each of its listed files whether it is whole.
 pub fn check_of<D: Disk, K: Sink>(alloc: Global, config: &Config, sink: &mut K, disk: D) -> Came<D>
     requires unopened { IsTrue D.tells → IsUnopened (D.files disk) (D.opened disk) }
-    requires readers { IsTrue D.Reader.tells → IsTrue D.tells }
     ensures judges { IsTrue D.tells → Judges (short_granularity config.now) command.Check (D.files disk) result.status }
     ensures checks { IsTrue D.tells → (whole : IsWhole (short_granularity config.now) (D.files disk))
         → ChecksAll whole.rows (D.files disk) whole.entries (K.written sink.old) (K.written sink.new) result.status }

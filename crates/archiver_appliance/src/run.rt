@@ -44,8 +44,7 @@ pub struct Ended<D: Disk> {
 /// | 9 | memory was wanting |
 /// | 12 | the disk keeps another granularity than the configured one |
 ///
-/// It needs a disk of which no journal was opened, and no listed file beyond its listed length, and leaves it so. Its opened files tell
-/// their bytes only where it tells its files.
+/// It needs a disk of which no journal was opened, and no listed file beyond its listed length, and leaves it so.
 pub fn run<S: Source, K: Sink, E: Sink, D: Disk, C: Clock>(
     alloc: Global,
     words: &[&str],
@@ -57,7 +56,6 @@ pub fn run<S: Source, K: Sink, E: Sink, D: Disk, C: Clock>(
     clock: &mut C,
 ) -> Ended<D>
     requires unopened { IsTrue D.tells → IsUnopened (D.files disk) (D.opened disk) }
-    requires readers { IsTrue D.Reader.tells → IsTrue D.tells }
 
     ensures ran { Ran (map (λ w. w.now) words.now) (short_granularity config.now) D.tells
         (record { source = S.left source.old; sink = K.written sink.old; clock = C.coming clock.old; files = D.files disk; past = D.past disk })
@@ -109,7 +107,6 @@ fn obey<S: Source, K: Sink, D: Disk, C: Clock>(
     clock: &mut C,
 ) -> Came<D>
     requires unopened { IsTrue D.tells → IsUnopened (D.files disk) (D.opened disk) }
-    requires readers { IsTrue D.Reader.tells → IsTrue D.tells }
     ensures obeys { Obeys (map (λ w. w.now) words.now) (short_granularity config.now) D.tells
         (record { source = S.left source.old; sink = K.written sink.old; clock = C.coming clock.old; files = D.files disk; past = D.past disk })
         (record { source = S.left source.new; sink = K.written sink.new; clock = C.coming clock.new; files = D.files result.disk; past = D.past result.disk })

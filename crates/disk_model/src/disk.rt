@@ -170,6 +170,9 @@ pub trait Disk: Drop {
 
     /// What reads give is one of the images that a crash now may leave.
     ghost seen: { (disk : Self) → IsTrue tells → MayLeave (past disk) (files disk) };
+
+    /// Its opened files tell their bytes only where it tells its files.
+    ghost readers: { IsTrue Self.Reader.tells → IsTrue tells };
 }
 
 impl From<AllocError> for DiskErr {

@@ -57,7 +57,8 @@ impl<F: Read + Seek + OpenFile + Drop> ReadAt for FolderFile<F> {
 }
 
 /// Files of the operating system in four folders: the site's for store 0, which has the catalogue and the manifests, and the
-/// short, medium and long term's for the stores 1, 2 and 3. A folder that is absent is made. It keeps the last used file open.
+/// short, medium and long term's for the stores 1, 2 and 3. A folder that is absent is made. It keeps the last used file of each
+/// store open, and after a sync that failed it syncs nothing more.
 #[derive(Drop)]
 pub struct FolderDisk<R: Files + Drop> {
     folders: Folders<R>,
@@ -116,6 +117,8 @@ impl<R: Files + Drop> Disk for FolderDisk<R> {
     ghost faults = { λ d. d.faults };
 
     ghost seen = { λ d tells. absurd (told_not tells) };
+
+    ghost readers = { λ tells. tells };
 
     fn create(&mut self, name: &FileName) -> Result<(), DiskErr> {
         let answer = self.folders.create(name);

@@ -3,17 +3,17 @@ ghost use Rattle.std.specs.Prelude.{◌≤◌, ◌<◌, ◌+◌, ◌^◌, IfOk, 
 
 use crate::FileName;
 use std::alloc::{AllocError, Global};
+use std::collections::BTreeSet;
 use std::fs::{self, OpenFile, OpenOptions};
 use std::io::{self, ErrorKind, Read, Seek, SeekFrom, Write};
 use std::rt::Files;
 use std::str;
 
-// The file that was used last. `in_folder` says that its folders were synced since it was opened.
+// A file that is kept open.
 #[derive(Drop)]
 struct Held<F: Drop> {
     name: FileName,
     file: F,
-    in_folder: bool,
 }
 
 #[derive(Drop)]
@@ -21,7 +21,12 @@ pub struct Folders<R: Files + Drop> {
     files: R,
     alloc: Global,
     roots: Vec<String>,
-    held: Option<Held<R::File>>,
+    // Of each store the file that was used last.
+    held: Vec<Option<Held<R::File>>>,
+    // The folders that were synced since a name was last made or removed in them.
+    synced: BTreeSet<String>,
+    // A sync failed. The system tells that once, and a later sync would answer as if all were written.
+    failed: bool,
 }
 
 // Whether a path names something within a folder: it has no empty segment and none that is `.` or `..`.
@@ -43,13 +48,21 @@ fn parent(folder: &str) -> &str {
     }
 }
 
-// Syncs a folder, where it is there.
-fn sync_folder<R: Files>(files: &R, path: &str) -> io::Result<()> {
-    match fs::open(files, path) {
-        Ok(folder) => folder.sync_all(),
-        Err(e) if e.kind() == ErrorKind::NotFound => Ok(()),
-        Err(e) => Err(e),
+// The folder that has a store's folder, whose path has `root` bytes, that one, and each from there to a file of the store.
+fn ancestors(alloc: Global, path: &str, root: usize) -> Result<Vec<&str>, AllocError> {
+    let mut folders = Vec::new(alloc);
+    for end in root..path.len() {
+        match path.split_at_checked(end) {
+            Some((folder, rest)) if rest.starts_with('/') => {
+                if end == root {
+                    folders.push(parent(folder))?;
+                }
+                folders.push(folder)?;
+            }
+            _ => {}
+        }
     }
+    Ok(folders)
 }
 
 // Reads until `buf` is full or the file ends.
@@ -98,14 +111,18 @@ fn write_at<F: Write + Seek + OpenFile>(file: &mut F, at: u64, bytes: &[u8]) -> 
 impl<R: Files + Drop> Folders<R> {
     pub fn new(files: R, alloc: Global, roots: [&str; 4]) -> Result<Folders<R>, AllocError> {
         let mut paths = Vec::new(alloc);
+        let mut held = Vec::new(alloc);
         for root in roots {
             paths.push(String::from_str(alloc, root)?)?;
+            held.push(None)?;
         }
         Ok(Folders {
             files,
             alloc,
             roots: paths,
-            held: None,
+            held,
+            synced: BTreeSet::new(alloc),
+            failed: false,
         })
     }
 
@@ -126,37 +143,45 @@ impl<R: Files + Drop> Folders<R> {
     }
 
     fn holds(&self, name: &FileName) -> bool {
-        match &self.held {
-            Some(held) => held.name.is_same(name),
-            None => false,
+        match self.held.get(name.store as usize) {
+            Some(Some(held)) => held.name.is_same(name),
+            _ => false,
         }
     }
 
     fn keep(&mut self, name: &FileName, file: R::File) -> io::Result<()> {
-        self.held = Some(Held {
-            name: name.copy(self.alloc)?,
-            file,
-            in_folder: false,
-        });
+        let name = name.copy(self.alloc)?;
+        if let Some(held) = self.held.get_mut(name.store as usize) {
+            *held = Some(Held { name, file });
+        }
         Ok(())
     }
 
-    // Opens a name's file, where it isn't held.
-    fn hold(&mut self, name: &FileName) -> io::Result<()> {
-        if self.holds(name) {
-            return Ok(());
+    fn release(&mut self, store: u8) {
+        if let Some(held) = self.held.get_mut(store as usize) {
+            *held = None;
         }
-        let path = self.path(name)?;
-        let file = OpenOptions::new()
-            .read(true)
-            .write(true)
-            .open(&self.files, path.as_str())?;
-        self.keep(name, file)
+    }
+
+    // A name's file, which is opened where it isn't held.
+    fn file(&mut self, name: &FileName) -> io::Result<&mut R::File> {
+        if !self.holds(name) {
+            let path = self.path(name)?;
+            let file = OpenOptions::new()
+                .read(true)
+                .write(true)
+                .open(&self.files, path.as_str())?;
+            self.keep(name, file)?;
+        }
+        match self.held.get_mut(name.store as usize) {
+            Some(Some(held)) => Ok(&mut held.file),
+            _ => Err(ErrorKind::NotFound.into()),
+        }
     }
 
     pub fn create(&mut self, name: &FileName) -> io::Result<()> {
         let path = self.path(name)?;
-        fs::create_dir_all(&self.files, parent(path.as_str()))?;
+        self.make_folder(name, path.as_str())?;
         let file = OpenOptions::new()
             .read(true)
             .write(true)
@@ -165,27 +190,33 @@ impl<R: Files + Drop> Folders<R> {
         self.keep(name, file)
     }
 
+    // Makes the folder of a new file, where it isn't known to be there. No folder that got a name counts as synced.
+    fn make_folder(&mut self, name: &FileName, path: &str) -> io::Result<()> {
+        let folder = parent(path);
+        if self.synced.remove(folder) {
+            return Ok(());
+        }
+        fs::create_dir_all(&self.files, folder)?;
+        let root = self.root(name.store)?.len();
+        for folder in ancestors(self.alloc, path, root)? {
+            self.synced.remove(folder);
+        }
+        Ok(())
+    }
+
     pub fn write(&mut self, name: &FileName, at: u64, bytes: &[u8]) -> io::Result<()>
         ensures { OnOk result (at + length bytes.now < 2 ^ 64) }
     {
         if bytes.len() as u64 > u64::MAX - at {
             return Err(ErrorKind::InvalidInput.into());
         }
-        self.hold(name)?;
-        match &mut self.held {
-            Some(held) => write_at(&mut held.file, at, bytes),
-            None => Err(ErrorKind::NotFound.into()),
-        }
+        write_at(self.file(name)?, at, bytes)
     }
 
     pub fn read(&mut self, name: &FileName, at: u64, buf: &mut [u8]) -> io::Result<usize>
         ensures { IfOk result (λ n. n ≤ length buf.old) }
     {
-        self.hold(name)?;
-        match &mut self.held {
-            Some(held) => read_at(&mut held.file, at, buf),
-            None => Err(ErrorKind::NotFound.into()),
-        }
+        read_at(self.file(name)?, at, buf)
     }
 
     pub fn size(&mut self, name: &FileName) -> io::Result<Option<u64>> {
@@ -199,54 +230,59 @@ impl<R: Files + Drop> Folders<R> {
     }
 
     pub fn cut(&mut self, name: &FileName, len: u64) -> io::Result<()> {
-        self.hold(name)?;
-        match &mut self.held {
-            Some(held) if len <= held.file.metadata()?.len() => held.file.set_len(len),
-            _ => Err(ErrorKind::InvalidInput.into()),
+        let file = self.file(name)?;
+        if file.metadata()?.len() < len {
+            return Err(ErrorKind::InvalidInput.into());
         }
+        file.set_len(len)
     }
 
-    // Syncs the file, and, once since it was opened, the folders that lead to it. An absent name is synced by its folders.
+    // Syncs the file, and the folders that lead to it. An absent name is synced by its folders. None is synced after a sync failed.
     pub fn sync(&mut self, name: &FileName) -> io::Result<()> {
-        match self.hold(name) {
-            Ok(()) => {}
-            Err(e) if e.kind() == ErrorKind::NotFound => return self.sync_folders(name),
-            Err(e) => return Err(e),
+        if self.failed {
+            return Err(ErrorKind::Other.into());
         }
-        let settled = match &mut self.held {
-            Some(held) => {
-                held.file.sync_all()?;
-                held.in_folder
-            }
-            None => return Err(ErrorKind::NotFound.into()),
+        let written = match self.file(name) {
+            Ok(file) => file.sync_data(),
+            Err(e) if e.kind() == ErrorKind::NotFound => Ok(()),
+            Err(e) => return Err(e),
         };
-        if !settled {
-            self.sync_folders(name)?;
-            if let Some(held) = &mut self.held {
-                held.in_folder = true;
+        self.failed = written.is_err();
+        written?;
+        self.sync_folders(name)
+    }
+
+    fn sync_folders(&mut self, name: &FileName) -> io::Result<()> {
+        let path = self.path(name)?;
+        let root = self.root(name.store)?.len();
+        for folder in ancestors(self.alloc, path.as_str(), root)? {
+            if !self.synced.contains(folder) {
+                self.sync_folder(folder)?;
             }
         }
         Ok(())
     }
 
-    // Each folder from the file's up to its store's, and the one that has that.
-    fn sync_folders(&self, name: &FileName) -> io::Result<()> {
-        let root = self.root(name.store)?;
-        let path = self.path(name)?;
-        for end in root.len()..path.len() {
-            match path.as_str().split_at_checked(end) {
-                Some((folder, rest)) if rest.starts_with('/') => sync_folder(&self.files, folder)?,
-                _ => {}
-            }
-        }
-        sync_folder(&self.files, parent(root))
+    // Syncs a folder, where it is there.
+    fn sync_folder(&mut self, path: &str) -> io::Result<()> {
+        let folder = match fs::open(&self.files, path) {
+            Ok(folder) => folder,
+            Err(e) if e.kind() == ErrorKind::NotFound => return Ok(()),
+            Err(e) => return Err(e),
+        };
+        let written = folder.sync_all();
+        self.failed = written.is_err();
+        written?;
+        self.synced.insert(String::from_str(self.alloc, path)?)?;
+        Ok(())
     }
 
     pub fn remove(&mut self, name: &FileName) -> io::Result<()> {
         let path = self.path(name)?;
         if self.holds(name) {
-            self.held = None;
+            self.release(name.store);
         }
+        self.synced.remove(parent(path.as_str()));
         fs::remove_file(&self.files, path.as_str())
     }
 

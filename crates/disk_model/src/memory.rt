@@ -225,6 +225,8 @@ impl Disk for MemDisk {
 
     ghost seen = { λ d tells. seen_now d.calls };
 
+    ghost readers = { λ tells. tells };
+
     fn create(&mut self, name: &FileName) -> Result<(), DiskErr>
         requires { files_of self.old.calls name.now ≡ None }
         ensures made { OnOk result (At name.now (Becomes (Some [])) (files_of self.old.calls) (files_of self.new.calls)) }

@@ -4,7 +4,7 @@ ghost use Rattle.disk_model.specs.Files.{Rose};
 ghost use Rattle.disk_model.specs.declared.disk.DiskErr.TheVariants.{Fault};
 
 use super::*;
-use disk_model::{Disk, DiskErr, FileName, MemDisk, MemFile};
+use disk_model::{Disk, DiskErr, FileName, MemDisk, ReadAt, ReadFailed};
 use std::alloc::{AllocError, Global};
 use std::fmt::Write as _;
 use std::test::Fail;
@@ -65,8 +65,28 @@ fn put(bytes: &mut Vec<u8>, at: u64, new: &[u8]) -> Result<(), AllocError> {
     Ok(())
 }
 
+// What it would open.
+#[derive(Drop)]
+struct NoFile {
+    faults: u64,
+}
+
+impl ReadAt for NoFile {
+    ghost use Rattle.std.specs.Prelude.{false, []};
+
+    ghost tells = { false };
+
+    ghost bytes = { λ f. [] };
+
+    ghost faults = { λ f. f.faults };
+
+    fn read_at(&mut self, _: u64, _: &mut [u8]) -> Result<usize, ReadFailed> {
+        Ok(0)
+    }
+}
+
 impl Disk for OneFile {
-    type Reader = MemFile;
+    type Reader = NoFile;
 
     ghost use Rattle.std.specs.Prelude.{false, None};
     ghost use Rattle.disk_model.specs.Past.{untold, told_not};
@@ -82,6 +102,8 @@ impl Disk for OneFile {
     ghost faults = { λ d. d.faults };
 
     ghost seen = { λ d tells. absurd (told_not tells) };
+
+    ghost readers = { λ tells. tells };
 
     fn create(&mut self, _: &FileName) -> Result<(), DiskErr> {
         self.note(b'c')
@@ -131,7 +153,7 @@ impl Disk for OneFile {
         self.fault()
     }
 
-    fn open_file(&mut self, _: &FileName, _: u64) -> Result<MemFile, DiskErr> {
+    fn open_file(&mut self, _: &FileName, _: u64) -> Result<NoFile, DiskErr> {
         self.fault()
     }
 }

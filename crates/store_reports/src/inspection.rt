@@ -49,7 +49,6 @@ pub fn check<D: Disk, K: Sink>(
     store: &mut TierStore<D>,
     sink: &mut K,
 ) -> Checked<D::Reader>
-    requires readers { IsTrue D.Reader.tells → IsTrue D.tells }
     requires has { IsTrue D.tells → (held : Held) × Has store.old.catalogue store.old.manifest (D.files store.old.disk) (D.opened store.old.disk) (D.past store.old.disk) held }
     requires sound { (store.old.catalogue.journal.sound ≡ true) × (store.old.manifest.journal.sound ≡ true) }
 
@@ -125,7 +124,6 @@ fn check_rows<D: Disk, K: Sink>(
     report: &mut Report,
     sink: &mut K,
 ) -> Result<(), Stop<D::Reader>>
-    requires readers { IsTrue D.Reader.tells → IsTrue D.tells }
     requires has { IsTrue D.tells → (held : Held) × Has store.old.catalogue store.old.manifest (D.files store.old.disk) (D.opened store.old.disk) (D.past store.old.disk) held }
     requires sound { (store.old.catalogue.journal.sound ≡ true) × (store.old.manifest.journal.sound ≡ true) }
     ensures told { IsTrue D.tells → (a : Option (List ℕ)) → AreTold store.old.catalogue.rows (D.files store.old.disk) [] a (K.written sink.old) report.old.buffer report.old.first
@@ -157,7 +155,6 @@ fn check_entries<D: Disk, K: Sink>(
     sink: &mut K,
 ) -> Result<(), Stop<D::Reader>>
     requires listed { All (λ e. Contains store.old.manifest.entries e) entries.now }
-    requires readers { IsTrue D.Reader.tells → IsTrue D.tells }
     requires has { IsTrue D.tells → (held : Held) × Has store.old.catalogue store.old.manifest (D.files store.old.disk) (D.opened store.old.disk) (D.past store.old.disk) held }
     requires sound { store.old.catalogue.journal.sound ≡ true }
     ensures told { IsTrue D.tells → (before : List EntryValue) (a : Option (List ℕ)) → AreTold store.old.catalogue.rows (D.files store.old.disk) before a (K.written sink.old) report.old.buffer report.old.first
@@ -185,7 +182,6 @@ fn check_entry<D: Disk, K: Sink>(
     sink: &mut K,
 ) -> Result<(), Stop<D::Reader>>
     requires listed { Contains store.old.manifest.entries entry.now }
-    requires readers { IsTrue D.Reader.tells → IsTrue D.tells }
     requires has { IsTrue D.tells → (held : Held) × Has store.old.catalogue store.old.manifest (D.files store.old.disk) (D.opened store.old.disk) (D.past store.old.disk) held }
     requires sound { store.old.catalogue.journal.sound ≡ true }
     ensures told { IsTrue D.tells → (before : List EntryValue) (a : Option (List ℕ)) → AreTold store.old.catalogue.rows (D.files store.old.disk) before a (K.written sink.old) report.old.buffer report.old.first
@@ -211,7 +207,6 @@ fn find<D: Disk>(
     entry: &Entry,
 ) -> Result<Finding, Stop<D::Reader>>
     requires listed { Contains store.old.manifest.entries entry.now }
-    requires readers { IsTrue D.Reader.tells → IsTrue D.tells }
     requires has { IsTrue D.tells → (held : Held) × Has store.old.catalogue store.old.manifest (D.files store.old.disk) (D.opened store.old.disk) (D.past store.old.disk) held }
     ensures found { IsTrue D.tells → IfOk result (IsFound store.old.catalogue.rows (D.files store.old.disk) entry.now) }
     ensures reads { IsTrue D.tells → OnlyReads store.old.catalogue store.new.catalogue store.old.manifest store.new.manifest (D.files store.old.disk) (D.files store.new.disk) (D.opened store.old.disk) (D.opened store.new.disk) (D.past store.old.disk) (D.past store.new.disk) }

@@ -32,7 +32,6 @@ pub(crate) fn read_files<D: Disk, K: Sink>(
     answer: &mut Answer,
     sink: &mut K,
 ) -> Result<(), Got<D::Reader>>
-    requires readers { IsTrue D.Reader.tells → IsTrue D.tells }
     requires has { IsTrue D.tells → (held : Held) × Has store.old.catalogue store.old.manifest (D.files store.old.disk) (D.opened store.old.disk) (D.past store.old.disk) held }
     requires sound { (store.old.catalogue.journal.sound ≡ true) × (store.old.manifest.journal.sound ≡ true) }
     requires row { id < length store.old.catalogue.rows }
@@ -96,7 +95,6 @@ fn read_listed<D: Disk, K: Sink>(
     line: &mut Vec<u8>,
     sink: &mut K,
 ) -> Result<Flow, Got<D::Reader>>
-    requires readers { IsTrue D.Reader.tells → IsTrue D.tells }
     requires has { IsTrue D.tells → (held : Held) × Has store.old.catalogue store.old.manifest (D.files store.old.disk) (D.opened store.old.disk) (D.past store.old.disk) held }
     requires sound { IsTrue store.old.catalogue.journal.sound }
     requires listed { Contains store.old.manifest.entries entry.now }

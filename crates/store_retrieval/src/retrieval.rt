@@ -56,7 +56,6 @@ pub fn get<D: Disk, K: Sink>(
     query: Query,
     sink: &mut K,
 ) -> Got<D::Reader>
-    requires readers { IsTrue D.Reader.tells → IsTrue D.tells }
     requires has { IsTrue D.tells → (held : Held) × Has store.old.catalogue store.old.manifest (D.files store.old.disk) (D.opened store.old.disk) (D.past store.old.disk) held }
     requires sound { (store.old.catalogue.journal.sound ≡ true) × (store.old.manifest.journal.sound ≡ true) }
 
@@ -95,7 +94,6 @@ fn retrieve<D: Disk, K: Sink>(
     answer: &mut Answer,
     sink: &mut K,
 ) -> Got<D::Reader>
-    requires readers { IsTrue D.Reader.tells → IsTrue D.tells }
     requires has { IsTrue D.tells → (held : Held) × Has store.old.catalogue store.old.manifest (D.files store.old.disk) (D.opened store.old.disk) (D.past store.old.disk) held }
     requires sound { (store.old.catalogue.journal.sound ≡ true) × (store.old.manifest.journal.sound ≡ true) }
     requires row { id < length store.old.catalogue.rows }

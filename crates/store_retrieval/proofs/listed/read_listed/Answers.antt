@@ -20,7 +20,7 @@ returns-in-Err-Memory-clause-reads g c tells held has stands f there of_entry ro
 pub read_file-requires : goal.read_file-requires
 read_file-requires g c = record {
   file = λ tells.
-      let front = c.in-Ok.ensures.front (c.requires.readers tells) in
+      let front = c.in-Ok.ensures.front (g.met.D.Disk.readers tells) in
       let bytes = front.1.holds.1 in
       let len = length-take-le c.args.entry.now.len front.1.bytes front.1.holds.0 in
       let long = ap length bytes in
