@@ -15,8 +15,6 @@ mod calendar;
 mod digits;
 mod iso;
 pub mod laws;
-#[cfg(test)]
-mod tests;
 mod year_time;
 
 pub use calendar::{CivilDate, LAST_DAY, UNIX_DAY, year_length, year_start};

@@ -19,8 +19,6 @@ mod lines;
 mod memory;
 mod standard;
 mod stream;
-#[cfg(test)]
-mod tests;
 
 pub use clock::{Clock, ListClock, SystemClock};
 pub use lines::{LineRead, Lines, MAX_INPUT, MAX_LINE};

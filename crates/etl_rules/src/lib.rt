@@ -11,6 +11,3 @@
 mod config;
 
 pub use config::Config;
-
-#[cfg(test)]
-mod tests;

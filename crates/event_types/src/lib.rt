@@ -44,6 +44,3 @@ pub use pb_wire::PayloadType;
 pub use reading::{decode, stamp};
 pub use spelling::encode;
 pub use value::Value;
-
-#[cfg(test)]
-mod tests;

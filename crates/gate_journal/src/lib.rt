@@ -26,6 +26,3 @@ pub use laws::{
     every_file_is_read, one_meaning, one_refusal, other_files_may_change, past_the_closed_gate,
 };
 pub use load::JournalErr;
-
-#[cfg(test)]
-mod tests;

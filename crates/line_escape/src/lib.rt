@@ -20,6 +20,3 @@ pub use error::EscapeErr;
 pub use escaping::{escape, escaped_len};
 pub use laws::{every_line, no_line_begins_another, one_meaning, one_refusal, reads_back};
 pub use unescaping::{unescape, unescaped};
-
-#[cfg(test)]
-mod tests;

@@ -14,8 +14,6 @@ pub mod laws;
 mod name;
 mod part;
 mod path;
-#[cfg(test)]
-mod tests;
 mod unit;
 
 pub use granularity::{Granularity, holds};

@@ -27,6 +27,3 @@ pub use error::{InfoErr, InfoFault};
 pub use info::PayloadInfo;
 pub use reading::decode_info;
 pub use spelling::encode_info;
-
-#[cfg(test)]
-mod tests;

@@ -24,8 +24,6 @@ mod block;
 mod check;
 pub mod laws;
 mod line;
-#[cfg(test)]
-mod tests;
 mod walk;
 
 pub use check::{Verdict, check_file};

@@ -27,6 +27,3 @@ pub use fault::{ChunkFault, HeadFault, LineErr, LineFault};
 pub use header::{HeadErr, header_line, header_of_line};
 pub use reader::{ChunkItem, ChunkReader};
 pub use sample::{moment_of_line, sample_of};
-
-#[cfg(test)]
-mod tests;

@@ -27,6 +27,3 @@ pub use message::{Field, Wire};
 pub use payload::PayloadType;
 pub use signed::{unzigzag, zigzag};
 pub use spelling::{put_field, put_varint};
-
-#[cfg(test)]
-mod tests;

@@ -9,8 +9,6 @@
 mod key;
 pub mod laws;
 mod name;
-#[cfg(test)]
-mod tests;
 
 pub use key::{key_path, same_key};
 pub use name::{NameErr, PvName};

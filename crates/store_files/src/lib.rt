@@ -15,6 +15,3 @@ mod files;
 pub mod laws;
 
 pub use files::{GREATEST_PIECE, append, extend, make, settle};
-
-#[cfg(test)]
-mod tests;

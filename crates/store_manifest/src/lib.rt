@@ -21,8 +21,6 @@ mod laws;
 mod listing;
 mod manifest;
 mod reading;
-#[cfg(test)]
-mod tests;
 mod writing;
 
 pub use all::AllEntries;

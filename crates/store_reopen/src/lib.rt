@@ -26,6 +26,3 @@ mod opening;
 
 pub use error::ReopenErr;
 pub use opening::reopen;
-
-#[cfg(test)]
-mod tests;
