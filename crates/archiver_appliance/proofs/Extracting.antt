@@ -1,27 +1,25 @@
 -- How far an extraction has come.
-use Rattle.std.proofs.Common.{◌≡◌, ℕ, ◌+◌, ◌<◌, ◌≤◌, ◌⊎◌, inl, inr, List, [], ◌∷◌, ◌++◌, Bool, true, false, Option, Some, None, Result, Ok, Err, length, take, arith, refl, sym, ap, ◌∙◌, subst, append_assoc}
+use Rattle.std.proofs.Common.{◌≡◌, ℕ, ◌+◌, ◌⊎◌, inl, inr, List, [], ◌∷◌, ◌++◌, Bool, true, false, Option, Some, None, Result, Ok, Err, length, take, arith, refl, sym, ap, ◌∙◌, subst, append_assoc}
 use Rattle.std.specs.Prelude.{IfSome, IsSome, OnOk, OnErr, is_err, if◌then◌else◌}
 use Rattle.std.specs.Io.KnownBytes.{Appends}
-use Rattle.std.proofs.KnownBytes.{Appends-trans, Appends-nil, prepend_known-nil}
-use Rattle.std.proofs.lemmas.List.{append-nil, length-append, take_at, take-append-le}
+use Rattle.std.proofs.KnownBytes.{Appends-trans, Appends-nil}
+use Rattle.std.proofs.lemmas.List.{append-nil, length-append, take-append-le}
 use Rattle.std.proofs.Math.Seq.{take-append-add}
 use Rattle.edge_io.specs.Stream.{AppendsFront}
 use Rattle.series_model.specs.declared.sample.Sample.{Sample}
 use Rattle.series_model.specs.declared.sample.Query.{Query}
-use Rattle.series_model.specs.Series.{taken, end_of}
+use Rattle.series_model.specs.Series.{taken}
 use Rattle.series_model.specs.Retrieval.{answer}
-use Rattle.series_model.proofs.RisingLists.{taken_more}
-use Rattle.std.proofs.lemmas.Bool.{cases_lt, cases_Bool}
 use Rattle.payload_info.specs.declared.info.PayloadInfo.{PayloadInfo}
-use Rattle.pb_lines.specs.declared.reader.ChunkItem.{ChunkItem}
 use Rattle.pb_lines.specs.declared.reader.ChunkItem.TheVariants as it
-use Rattle.pb_lines.specs.Stream.{Item, header, sample, chunk_end, Section, Stop, IsStream, IsWholeStream, first_section, between, within}
-use Rattle.pb_lines.specs.Reader.{Chunks, Holds, Passes, Stops, ReadsItem, ReadsLine, IsFresh, to_come, lines_taken, bytes_taken}
+use Rattle.pb_lines.specs.Stream.{Item, header, sample, chunk_end, Section, Stop, first_section, between, within}
+use Rattle.pb_lines.specs.Reader.{Chunks, Passes, Stops, ReadsItem, ReadsLine, IsFresh, to_come, lines_taken, bytes_taken}
 use Rattle.pb_lines.proofs.Whole.{every_stream}
+use Rattle.store_ingest.proofs.Streaming.{passes_join, nothing_read, fresh_before, fresh_holds}
 use Rattle.archiver_appliance.specs.declared.status.Status.{Status}
-use Rattle.archiver_appliance.specs.declared.status.Status.TheVariants.{Done, Refused, SourceFault, SinkFault, OutOfMemory}
-use Rattle.archiver_appliance.specs.Extract.{line_text, lines_text, is_reached, known, Before, nothing, chunks, samples, text_behind, extracted}
-use Rattle.archiver_appliance.specs.Answer.{Answering, Covers, Adds, Takes, next_of}
+use Rattle.archiver_appliance.specs.declared.status.Status.TheVariants.{SinkFault}
+use Rattle.archiver_appliance.specs.Extract.{lines_text, known, Before, nothing, chunks, samples, text_behind, extracted}
+use Rattle.archiver_appliance.specs.Answer.{Answering, Covers, Adds, Takes}
 use Rattle.archiver_appliance.specs.Text.{WritesAll, WritesFront, Extracts, IsFlushed}
 use Rattle.archiver_appliance.proofs.Answers.{known_more, held_more}
 
@@ -47,24 +45,6 @@ pub record Progress (q : Query) (a b : Option (List ℕ)) (old new : Chunks) (be
   pub so_far : (rest : List Item) → extracted q (items ++ rest) ≡ text ++ text_behind q mode rest
 
 -- THE STEPS
-
-passes_join : (old mid new : Chunks) (before middle after : Option (List ℕ)) (items more : List Item) → Passes old mid before middle items → Passes mid new middle after more → Passes old new before after (items ++ more)
-passes_join old mid new None middle after items more h k = tt
-passes_join old mid new (Some xs) None after items more h k = absurd h
-passes_join old mid new (Some xs) (Some ys) None items more h k = k
-passes_join old mid new (Some xs) (Some ys) (Some zs) items more h k = λ rest stop l.
-    let P : List Item → Type 0 = λ all. Holds old xs all stop in
-    subst P (sym (append_assoc items more rest)) (h (more ++ rest) stop (k rest stop l))
-
-nothing_read : (c : Chunks) (left : Option (List ℕ)) → Passes c c left left []
-nothing_read c None = tt
-nothing_read c (Some xs) = λ rest stop h. h
-
--- a fresh reader has all of the source before it
-fresh_before : (c : Chunks) (left : Option (List ℕ)) → IsFresh c → to_come c left ≡ left
-fresh_before c left is =
-    let P : Chunks → Type 0 = λ c. to_come c left ≡ left in
-    subst P (sym is) (prepend_known-nil left)
 
 pub starts : (q : Query) (a : Option (List ℕ)) (c : Chunks) (left : Option (List ℕ)) (answering : Answering) → IsFresh c → answering.query ≡ q → Progress q a a c c left (to_come c left) [] false answering
 starts q a c left answering fresh query =
@@ -266,9 +246,6 @@ front_of a b b' out gathered more whole written f is =
     let all : whole ≡ out ++ (gathered ++ more) = is ∙ append_assoc out gathered more in
     let front : take n whole ≡ out ++ take f.0 gathered = ap (λ (u : List ℕ). take n u) all ∙ take-append-add out (gathered ++ more) f.0 ∙ ap (λ (u : List ℕ). out ++ u) (take-append-le f.0 gathered more f.1) in
     (n, omega (arith, ap length all, length-append out (gathered ++ more), length-append gathered more, f.1), rw front (Appends-trans a b b' out (take f.0 gathered) written f.2))
-
-fresh_holds : (c : Chunks) (xs : List ℕ) (items : List Item) (stop : Stop) → IsFresh c → Holds c xs items stop → IsWholeStream xs items stop
-fresh_holds c xs items stop is h = let P : Chunks → Type 0 = λ c. Holds c xs items stop in subst P is h
 
 -- where nothing was read or written yet
 pub nothing_written : (q : Query) (a left : Option (List ℕ)) → IfSome left (WritesFront q a a)

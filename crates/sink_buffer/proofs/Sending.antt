@@ -1,10 +1,10 @@
 -- What went out of gathered bytes, and what goes out behind it.
-use Rattle.std.proofs.Common.{◌≡◌, ℕ, ◌+◌, ◌≤◌, List, [], ◌++◌, Option, Result, Ok, Err, length, take, arith, refl, sym, ap, ◌∙◌, append_assoc}
+use Rattle.std.proofs.Common.{◌≡◌, ℕ, ◌+◌, List, [], ◌++◌, Option, Result, Ok, Err, length, take, arith, refl, sym, ap, ◌∙◌, append_assoc}
 use Rattle.std.specs.Prelude.{OnErr}
 use Rattle.std.specs.Io.KnownBytes.{Appends}
 use Rattle.std.proofs.KnownBytes.{Appends-trans, Appends-nil}
-use Rattle.std.proofs.lemmas.List.{append-nil, length-append}
-use Rattle.std.proofs.Math.Seq.{take-append-add}
+use Rattle.std.proofs.lemmas.List.{append-nil, length-append, take-append-le}
+use Rattle.std.proofs.Math.Seq.{take-append-add, take-length}
 use Rattle.edge_io.specs.Stream.{AppendsFront}
 use Rattle.sink_buffer.specs.Sent.{Sends}
 
@@ -12,9 +12,35 @@ pub on_err : {A E : Type 0} (r : Result A E) (P : Type 0) → P → OnErr r P
 on_err {A} {E} (Ok a) P p = tt
 on_err {A} {E} (Err e) P p = p
 
-front_then : (a b c : Option (List ℕ)) (out rest : List ℕ) → Appends a b out → AppendsFront b c rest → AppendsFront a c (out ++ rest)
+pub front_then : (a b c : Option (List ℕ)) (out rest : List ℕ) → Appends a b out → AppendsFront b c rest → AppendsFront a c (out ++ rest)
 front_then a b c out rest sent f =
     (length out + f.0, omega (arith, length-append out rest, f.1), rw (take-append-add out rest f.0) (Appends-trans a b c out (take f.0 rest) sent f.2))
+
+pub front_longer : (a c : Option (List ℕ)) (xs ys : List ℕ) → AppendsFront a c xs → AppendsFront a c (xs ++ ys)
+front_longer a c xs ys f = (f.0, omega (arith, f.1, length-append xs ys), rw (take-append-le f.0 xs ys f.1) f.2)
+
+pub front_all : (a c : Option (List ℕ)) (xs : List ℕ) → Appends a c xs → AppendsFront a c xs
+front_all a c xs all = (length xs, omega arith, rw (take-length xs) all)
+
+-- WHAT IS GATHERED, CALL BY CALL
+
+pub sends_none : (a : Option (List ℕ)) → Sends a a [] []
+sends_none a = ([], refl, Appends-nil a)
+
+-- what is left of one piece, and what is put behind it
+pub sends_then : (a b c : Option (List ℕ)) (text left more new : List ℕ) → Sends a b text left → Sends b c (left ++ more) new → Sends a c (text ++ more) new
+sends_then a b c text left more new old next =
+    let is : text ++ more ≡ (old.0 ++ next.0) ++ new = ap (λ (u : List ℕ). u ++ more) old.1 ∙ append_assoc old.0 left more ∙ ap (λ (u : List ℕ). old.0 ++ u) next.1 ∙ sym (append_assoc old.0 next.0 new) in
+    (old.0 ++ next.0, is, Appends-trans a b c old.0 next.0 old.2 next.2)
+
+-- what is gathered goes out, or a front of it
+pub all_out : (a b c : Option (List ℕ)) (text left : List ℕ) → Sends a b text left → Appends b c left → Appends a c text
+all_out a b c text left sent all = rw sent.1 (Appends-trans a b c sent.0 left sent.2 all)
+
+pub front_out : (a b c : Option (List ℕ)) (text left : List ℕ) → Sends a b text left → AppendsFront b c left → AppendsFront a c text
+front_out a b c text left sent front = rw sent.1 (front_then a b c sent.0 left sent.2 front)
+
+-- WHAT A PUT DOES
 
 -- where nothing is left of what was gathered, all of it went out
 all_sent : (old out mid : List ℕ) → old ≡ out ++ mid → mid ≡ [] → old ≡ out

@@ -45,7 +45,7 @@ pub record Read (old new : Chunks) (before after : Option (List ℕ)) : Type 0 w
   pub items : List Item
   pub passed : Passes old new before after items
 
-passes_join : (old mid new : Chunks) (before middle after : Option (List ℕ)) (items more : List Item) → Passes old mid before middle items → Passes mid new middle after more → Passes old new before after (items ++ more)
+pub passes_join : (old mid new : Chunks) (before middle after : Option (List ℕ)) (items more : List Item) → Passes old mid before middle items → Passes mid new middle after more → Passes old new before after (items ++ more)
 passes_join old mid new None middle after items more h k = tt
 passes_join old mid new (Some xs) None after items more h k = absurd h
 passes_join old mid new (Some xs) (Some ys) None items more h k = k
@@ -53,12 +53,12 @@ passes_join old mid new (Some xs) (Some ys) (Some zs) items more h k = λ rest s
     let P : List Item → Type 0 = λ all. Holds old xs all stop in
     subst P (sym (append_assoc items more rest)) (h (more ++ rest) stop (k rest stop l))
 
-nothing_read : (c : Chunks) (left : Option (List ℕ)) → Passes c c left left []
+pub nothing_read : (c : Chunks) (left : Option (List ℕ)) → Passes c c left left []
 nothing_read c None = tt
 nothing_read c (Some xs) = λ rest stop h. h
 
 -- a fresh reader has all of the source before it
-fresh_before : (c : Chunks) (left : Option (List ℕ)) → IsFresh c → to_come c left ≡ left
+pub fresh_before : (c : Chunks) (left : Option (List ℕ)) → IsFresh c → to_come c left ≡ left
 fresh_before c left is =
     let P : Chunks → Type 0 = λ c. to_come c left ≡ left in
     subst P (sym is) (prepend_known-nil left)
@@ -68,7 +68,7 @@ read_nothing c left fresh =
     let P : Option (List ℕ) → Type 0 = λ all. Passes c c all (to_come c left) [] in
     subst P (fresh_before c left fresh) (nothing_read c (to_come c left))
 
-fresh_holds : (c : Chunks) (xs : List ℕ) (items : List Item) (stop : Stop) → IsFresh c → Holds c xs items stop → IsWholeStream xs items stop
+pub fresh_holds : (c : Chunks) (xs : List ℕ) (items : List Item) (stop : Stop) → IsFresh c → Holds c xs items stop → IsWholeStream xs items stop
 fresh_holds c xs items stop is h = let P : Chunks → Type 0 = λ c. Holds c xs items stop in subst P is h
 
 -- some of the stream's items, and the rest

@@ -1,53 +1,30 @@
 -- What goes out of gathered bytes, piece by piece.
-use Rattle.std.proofs.Common.{◌≡◌, ◌⊎◌, inl, inr, ℕ, ◌+◌, List, [], ◌++◌, Option, Err, length, take, drop, arith, refl, sym, ap, subst, ◌∙◌, append_assoc}
+use Rattle.std.proofs.Common.{◌≡◌, ◌⊎◌, inl, inr, ℕ, ◌+◌, List, ◌++◌, Option, Err, length, take, drop, refl, sym, ap, subst, ◌∙◌, append_assoc}
 use Rattle.std.specs.Io.KnownBytes.{Appends}
-use Rattle.std.proofs.KnownBytes.{Appends-trans, Appends-nil}
-use Rattle.std.proofs.lemmas.List.{length-append, take-append-le, take-append-drop}
-use Rattle.std.proofs.Math.Seq.{take-append-add, take-append_seam, take-length}
+use Rattle.std.proofs.KnownBytes.{Appends-trans}
+use Rattle.std.proofs.lemmas.List.{take-append-drop}
+use Rattle.std.proofs.Math.Seq.{take-append_seam}
 use Rattle.edge_io.specs.Stream.{AppendsFront}
 use Rattle.sink_buffer.specs.declared.buffer.PutErr.{PutErr}
 use Rattle.sink_buffer.specs.declared.buffer.PutErr.TheVariants as fault
 use Rattle.sink_buffer.specs.Sent.{Sends}
+use Rattle.sink_buffer.proofs.Sending.{front_longer, front_all, all_out, front_out}
+use Rattle.sink_buffer.proofs.Sending as behind
 use Rattle.store_reports.specs.declared.summary.Reported.{Reported}
 use Rattle.store_reports.specs.declared.summary.Reported.TheVariants as reported
 use Rattle.store_reports.specs.Status.{Takes, Reports}
 
-pub sends_none : (a : Option (List ℕ)) → Sends a a [] []
-sends_none a = ([], refl, Appends-nil a)
-
 -- a text and what is gathered of it, with a piece more
 joined : (text left out more : List ℕ) → text ≡ out ++ left → text ++ more ≡ out ++ (left ++ more)
 joined text left out more is = ap (λ (u : List ℕ). u ++ more) is ∙ append_assoc out left more
-
-pub sends_then : (a b c : Option (List ℕ)) (text left more new : List ℕ) → Sends a b text left → Sends b c (left ++ more) new → Sends a c (text ++ more) new
-sends_then a b c text left more new old next =
-    let is : text ++ more ≡ (old.0 ++ next.0) ++ new = joined text left old.0 more old.1 ∙ (ap (λ (u : List ℕ). old.0 ++ u) next.1 ∙ sym (append_assoc old.0 next.0 new)) in
-    (old.0 ++ next.0, is, Appends-trans a b c old.0 next.0 old.2 next.2)
 
 pub sends_still : (a b c : Option (List ℕ)) (text left new : List ℕ) → Sends a b text left → Sends b c left new → Sends a c text new
 sends_still a b c text left new old next =
     let is : text ≡ (old.0 ++ next.0) ++ new = old.1 ∙ (ap (λ (u : List ℕ). old.0 ++ u) next.1 ∙ sym (append_assoc old.0 next.0 new)) in
     (old.0 ++ next.0, is, Appends-trans a b c old.0 next.0 old.2 next.2)
 
-front_behind : (a b c : Option (List ℕ)) (out rest : List ℕ) → Appends a b out → AppendsFront b c rest → AppendsFront a c (out ++ rest)
-front_behind a b c out rest sent f =
-    (length out + f.0, omega (arith, length-append out rest, f.1), rw (take-append-add out rest f.0) (Appends-trans a b c out (take f.0 rest) sent f.2))
-
 pub front_then : (a b c : Option (List ℕ)) (text left more : List ℕ) → Sends a b text left → AppendsFront b c (left ++ more) → AppendsFront a c (text ++ more)
-front_then a b c text left more old front = subst (AppendsFront a c) (sym (joined text left old.0 more old.1)) (front_behind a b c old.0 (left ++ more) old.2 front)
-
--- what is gathered goes out, or a front of it
-pub front_goes : (a b c : Option (List ℕ)) (text left : List ℕ) → Sends a b text left → AppendsFront b c left → AppendsFront a c text
-front_goes a b c text left old front = subst (AppendsFront a c) (sym old.1) (front_behind a b c old.0 left old.2 front)
-
-pub all_goes : (a b c : Option (List ℕ)) (text left : List ℕ) → Sends a b text left → Appends b c left → Appends a c text
-all_goes a b c text left old all = subst (Appends a c) (sym old.1) (Appends-trans a b c old.0 left old.2 all)
-
-pub front_longer : (a c : Option (List ℕ)) (xs ys : List ℕ) → AppendsFront a c xs → AppendsFront a c (xs ++ ys)
-front_longer a c xs ys f = (f.0, omega (arith, f.1, length-append xs ys), subst (Appends a c) (sym (take-append-le f.0 xs ys f.1)) f.2)
-
-pub front_all : (a c : Option (List ℕ)) (xs : List ℕ) → Appends a c xs → AppendsFront a c xs
-front_all a c xs all = (length xs, omega arith, subst (Appends a c) (sym (take-length xs)) all)
+front_then a b c text left more old front = subst (AppendsFront a c) (sym (joined text left old.0 more old.1)) (behind.front_then a b c old.0 (left ++ more) old.2 front)
 
 -- a front of a text is some first bytes of it
 pub sends_front : (a b : Option (List ℕ)) (old text part rest new : List ℕ) → text ≡ part ++ rest → Sends a b (old ++ part) new → (n : ℕ) × Sends a b (old ++ take n text) new
@@ -57,7 +34,7 @@ sends_front a b old text part rest new is sent =
 
 -- a front of some first bytes is one of all
 front_some : (a b c : Option (List ℕ)) (left text : List ℕ) (n : ℕ) → Sends a b (take n text) left → AppendsFront b c left → AppendsFront a c text
-front_some a b c left text n sent front = subst (AppendsFront a c) (take-append-drop n text) (front_longer a c (take n text) (drop n text) (front_goes a b c (take n text) left sent front))
+front_some a b c left text n sent front = subst (AppendsFront a c) (take-append-drop n text) (front_longer a c (take n text) (drop n text) (front_out a b c (take n text) left sent front))
 
 -- WHAT WAS PUT
 
@@ -75,8 +52,8 @@ abbrev pub Went : {T : Type 0} → Option (List ℕ) → Option (List ℕ) → L
 Went {T} b c left outcome failed result X = ((result ≡ outcome) × Appends b c left) ⊎ ((result ≡ failed) × AppendsFront b c left × X)
 
 pub all_reported : (X : Type 0) (a b c : Option (List ℕ)) (left text : List ℕ) (result : Reported) → Sends a b text left → Went b c left reported.Done reported.SinkFault result X → Reports a c text result
-all_reported X a b c left text result sent (inl went) = subst (Reports a c text) (sym went.0) (all_goes a b c text left sent went.1)
-all_reported X a b c left text result sent (inr went) = subst (Reports a c text) (sym went.0) (front_goes a b c text left sent went.1)
+all_reported X a b c left text result sent (inl went) = subst (Reports a c text) (sym went.0) (all_out a b c text left sent went.1)
+all_reported X a b c left text result sent (inr went) = subst (Reports a c text) (sym went.0) (front_out a b c text left sent went.1)
 
 pub front_reported : (X : Type 0) (a b c : Option (List ℕ)) (left text : List ℕ) (n : ℕ) (result : Reported) → Sends a b (take n text) left → Went b c left reported.OutOfMemory reported.SinkFault result X → Reports a c text result
 front_reported X a b c left text n result sent (inl went) = subst (Reports a c text) (sym went.0) (front_some a b c left text n sent (front_all b c left went.1))

@@ -35,7 +35,8 @@ use Rattle.store_reports.specs.declared.inspection.Stop.{Stop}
 use Rattle.store_reports.specs.declared.inspection.Stop.TheVariants as stop
 use Rattle.store_reports.specs.Check.{Finds, IsFound, AreFound, IsFirstDamaged, WritesFront, Checks, file_line, named_line}
 use Rattle.store_reports.specs.Telling.{IsFirst, first_of, AreTold, SomeTold, IsStopped, OnlyReads, stopped_by, stop_of_put}
-use Rattle.store_reports.proofs.Sending.{Went, sends_none, sends_then, sends_still, front_then, front_goes, all_goes, front_all}
+use Rattle.sink_buffer.proofs.Sending.{sends_none, sends_then, all_out, front_out, front_all}
+use Rattle.store_reports.proofs.Sending.{Went, sends_still, front_then}
 
 -- READING
 
@@ -169,14 +170,14 @@ stopped_unwritten rows files es a b left stop.OutOfMemory not some = some
 -- THE END
 
 front_of_told : (rows : List Row) (files : Files) (es : List Entry) (a b c : Option (List ℕ)) (left : List ℕ) (first : Option Damage) → AreTold rows files es a b left first → AppendsFront b c left → WritesFront rows files es a c
-front_of_told rows files es a b c left first told front = (es, [], sym (append-nil es), (told.findings, told.text, told.found, front_goes a b c told.text left told.sent front))
+front_of_told rows files es a b c left first told front = (es, [], sym (append-nil es), (told.findings, told.text, told.found, front_out a b c told.text left told.sent front))
 
 pub all_good : {R : Type 0} (X : Type 0) (rows : List Row) (files : Files) (es : List Entry) (a b c : Option (List ℕ)) (left : List ℕ) (result : Checked R) → AreTold rows files es a b left None → Went b c left checked.Done checked.SinkFault result X → Checks rows files es a c result
-all_good {R} X rows files es a b c left result told (inl went) = subst (Checks {R = R} rows files es a c) (sym went.0) ((told.findings, told.text, told.found, all_goes a b c told.text left told.sent went.1), told.known)
+all_good {R} X rows files es a b c left result told (inl went) = subst (Checks {R = R} rows files es a c) (sym went.0) ((told.findings, told.text, told.found, all_out a b c told.text left told.sent went.1), told.known)
 all_good {R} X rows files es a b c left result told (inr went) = subst (Checks {R = R} rows files es a c) (sym went.0) (front_of_told rows files es a b c left None told went.1)
 
 pub one_damaged : {R : Type 0} (X : Type 0) (rows : List Row) (files : Files) (es : List Entry) (a b c : Option (List ℕ)) (left : List ℕ) (d : Damage) (result : Checked R) → AreTold rows files es a b left (Some d) → Went b c left (checked.Damaged d.name d.at) checked.SinkFault result X → Checks rows files es a c result
-one_damaged {R} X rows files es a b c left d result told (inl went) = subst (Checks {R = R} rows files es a c) (sym went.0) ((told.findings, told.text, told.found, all_goes a b c told.text left told.sent went.1), told.known)
+one_damaged {R} X rows files es a b c left d result told (inl went) = subst (Checks {R = R} rows files es a c) (sym went.0) ((told.findings, told.text, told.found, all_out a b c told.text left told.sent went.1), told.known)
 one_damaged {R} X rows files es a b c left d result told (inr went) = subst (Checks {R = R} rows files es a c) (sym went.0) (front_of_told rows files es a b c left (Some d) told went.1)
 
 -- of a check that stopped a front went out
@@ -184,7 +185,7 @@ pub some_went : {R : Type 0} (X : Type 0) (rows : List Row) (files : Files) (es 
 some_went {R} X rows files es a b c left s result not stopped went = by_stop s not stopped went
   where
     front : SomeTold rows files es a b left → AppendsFront b c left → WritesFront rows files es a c
-    front some out = (some.done, some.rest, some.split, (some.findings, some.text, some.found, front_goes a b c some.text left some.sent out))
+    front some out = (some.done, some.rest, some.split, (some.findings, some.text, some.found, front_out a b c some.text left some.sent out))
 
     by_stop : (s : Stop R) → (s ≡ stop.SinkFault → ⊥) → IsStopped rows files es a b left s → Went b c left (stopped_by s) checked.SinkFault result X → Checks rows files es a c result
     by_stop stop.SinkFault not stopped went = absurd (not refl)

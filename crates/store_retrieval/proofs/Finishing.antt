@@ -16,7 +16,8 @@ use Rattle.store_retrieval.specs.Text.{SentBy, IsWritten, IsOpening}
 use Rattle.store_retrieval.specs.Answer.{Answering, IsKnown, Finishes}
 use Rattle.store_retrieval.specs.Listed.{BreaksOff, ReadsAll, Comes, IsSentAs}
 use Rattle.store_retrieval.specs.Get.{IsAnswer, Writes}
-use Rattle.store_retrieval.proofs.Sending.{sent_then, sent_more, all_out, part_out, front_out}
+use Rattle.sink_buffer.proofs.Sending.{all_out, front_out}
+use Rattle.store_retrieval.proofs.Sending.{sent_then, sent_more, some_out}
 use Rattle.store_retrieval.proofs.Texts.{raw_front, raw_begun, raw_alone}
 use Rattle.store_retrieval.proofs.Knowing.{known_front, years_more}
 
@@ -87,19 +88,19 @@ sent_as row q a b c left all Done other h out front = (h.0, h.1, all_out a b c h
 sent_as row q a b c left all NoSuchVariable other h out front = h
 sent_as row q a b c left all (Damaged name at) other h out front = h
 sent_as row q a b c left all SinkFault other h out front = absurd (other refl)
-sent_as row q a b c left all DiskFault other h out front = (h.0, h.1, front_out a b c h.0 left h.2 front)
-sent_as row q a b c left all (ReadFault file) other h out front = (h.0, h.1, front_out a b c h.0 left h.2 front)
-sent_as row q a b c left all OutOfMemory other h out front = (h.0, h.1, front_out a b c h.0 left h.2 front)
+sent_as row q a b c left all DiskFault other h out front = (h.0, h.1, some_out a b c h.0 left h.2 front)
+sent_as row q a b c left all (ReadFault file) other h out front = (h.0, h.1, some_out a b c h.0 left h.2 front)
+sent_as row q a b c left all OutOfMemory other h out front = (h.0, h.1, some_out a b c h.0 left h.2 front)
 
 -- the last write failed
 pub sent_part : {R : Type 0} (row : Row) (q : Query) (a b c : Option (List ℕ)) (left : List ℕ) (all : List Sample) (got : Got R) → (got ≡ SinkFault → ⊥) → Comes {R = R} row q a b left all got → AppendsFront b c left → IsSentAs {R = R} row q a c all SinkFault
-sent_part row q a b c left all Done other h front = (h.0, h.1, part_out a b c h.0 left h.2 front)
+sent_part row q a b c left all Done other h front = (h.0, h.1, front_out a b c h.0 left h.2 front)
 sent_part row q a b c left all NoSuchVariable other h front = absurd h
 sent_part row q a b c left all (Damaged name at) other h front = absurd h
 sent_part row q a b c left all SinkFault other h front = absurd (other refl)
-sent_part row q a b c left all DiskFault other h front = (h.0, h.1, front_out a b c h.0 left h.2 front)
-sent_part row q a b c left all (ReadFault file) other h front = (h.0, h.1, front_out a b c h.0 left h.2 front)
-sent_part row q a b c left all OutOfMemory other h front = (h.0, h.1, front_out a b c h.0 left h.2 front)
+sent_part row q a b c left all DiskFault other h front = (h.0, h.1, some_out a b c h.0 left h.2 front)
+sent_part row q a b c left all (ReadFault file) other h front = (h.0, h.1, some_out a b c h.0 left h.2 front)
+sent_part row q a b c left all OutOfMemory other h front = (h.0, h.1, some_out a b c h.0 left h.2 front)
 
 pub sent_failed : {R : Type 0} (row : Row) (q : Query) (a b : Option (List ℕ)) (left : List ℕ) (all : List Sample) (got : Got R) → got ≡ SinkFault → Comes {R = R} row q a b left all got → IsSentAs {R = R} row q a b all got
 sent_failed {R} row q a b left all got is h =

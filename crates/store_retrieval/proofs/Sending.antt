@@ -1,33 +1,17 @@
 -- How much of a text went out, call by call.
-use Rattle.std.proofs.Common.{◌≡◌, ℕ, ◌+◌, List, [], ◌++◌, Option, Result, Ok, Err, length, take, arith, refl, sym, ap, ◌∙◌, subst, append_assoc}
+use Rattle.std.proofs.Common.{◌≡◌, ℕ, ◌+◌, List, [], ◌++◌, Option, Result, Ok, Err, refl, sym, ap, ◌∙◌, subst, append_assoc}
 use Rattle.std.specs.Prelude.{OnOk, OnErr, IsErrOf}
-use Rattle.std.specs.Io.KnownBytes.{Appends}
 use Rattle.std.proofs.KnownBytes.{Appends-trans, Appends-nil}
-use Rattle.std.proofs.lemmas.List.{append-nil, length-append, take-append-le, take_all}
-use Rattle.std.proofs.Math.Seq.{take-append-add}
+use Rattle.std.proofs.lemmas.List.{append-nil}
 use Rattle.edge_io.specs.Stream.{AppendsFront}
 use Rattle.sink_buffer.specs.Sent.{Sends}
+use Rattle.sink_buffer.proofs.Sending.{front_then, front_longer, sends_then, front_out}
 use Rattle.sink_buffer.specs.declared.buffer.PutErr.{PutErr}
 use Rattle.sink_buffer.specs.declared.buffer.PutErr.TheVariants.{Memory, SinkFault}
 use Rattle.store_retrieval.specs.Text.{SendsFront, SentBy}
 
-front_then : (a b c : Option (List ℕ)) (out rest : List ℕ) → Appends a b out → AppendsFront b c rest → AppendsFront a c (out ++ rest)
-front_then a b c out rest sent f =
-    (length out + f.0, omega (arith, length-append out rest, f.1), rw (take-append-add out rest f.0) (Appends-trans a b c out (take f.0 rest) sent f.2))
-
-front_more : (a b : Option (List ℕ)) (bytes more : List ℕ) → AppendsFront a b bytes → AppendsFront a b (bytes ++ more)
-front_more a b bytes more f = (f.0, omega (arith, length-append bytes more, f.1), rw (take-append-le f.0 bytes more f.1) f.2)
-
-pub sends_none : (a : Option (List ℕ)) → Sends a a [] []
-sends_none a = ([], refl, Appends-nil a)
-
 pub sends_same : (a : Option (List ℕ)) (bytes : List ℕ) → Sends a a bytes bytes
 sends_same a bytes = ([], refl, Appends-nil a)
-
--- what is left of one piece, and what is put behind it
-sends_then : (a b c : Option (List ℕ)) (text old piece new : List ℕ) → Sends a b text old → Sends b c (old ++ piece) new → Sends a c (text ++ piece) new
-sends_then a b c text old piece new one two =
-    (one.0 ++ two.0, ap (λ (u : List ℕ). u ++ piece) one.1 ∙ append_assoc one.0 old piece ∙ ap (λ (u : List ℕ). one.0 ++ u) two.1 ∙ sym (append_assoc one.0 two.0 new), Appends-trans a b c one.0 two.0 one.2 two.2)
 
 pub sent_then : {X : Type 0} (r : Result X PutErr) (a b c : Option (List ℕ)) (text old piece new : List ℕ) → Sends a b text old → SentBy r b c (old ++ piece) new → SentBy r a c (text ++ piece) new
 sent_then (Ok x) a b c text old piece new one two = sends_then a b c text old piece new one two
@@ -45,7 +29,7 @@ sent_then (Err SinkFault) a b c text old piece new one two =
 -- what broke off within a text broke off within a longer one
 pub sent_more : (X : Type 0) (e : PutErr) (a b : Option (List ℕ)) (text more left : List ℕ) → SentBy {X = X} (Err e) a b text left → SentBy {X = X} (Err e) a b (text ++ more) left
 sent_more X Memory a b text more left s = (s.0, s.1 ++ more, ap (λ (u : List ℕ). u ++ more) s.2 ∙ append_assoc s.0 s.1 more, s.3)
-sent_more X SinkFault a b text more left s = front_more a b text more s
+sent_more X SinkFault a b text more left s = front_longer a b text more s
 
 -- where memory ran out before anything was put
 pub sent_yet : (X : Type 0) (a b : Option (List ℕ)) (text left : List ℕ) → Sends a b text left → SentBy {X = X} (Err Memory) a b text left
@@ -67,20 +51,8 @@ sent_first X e a b old one two new first = rw (sym (append_assoc old one two)) (
 
 -- ONCE WHAT IS GATHERED GOES OUT
 
-pub all_out : (a b c : Option (List ℕ)) (text left : List ℕ) → Sends a b text left → Appends b c left → Appends a c text
-all_out a b c text left s out = rw s.1 (Appends-trans a b c s.0 left s.2 out)
-
-pub part_out : (a b c : Option (List ℕ)) (text left : List ℕ) → Sends a b text left → AppendsFront b c left → AppendsFront a c text
-part_out a b c text left s out = rw s.1 (front_then a b c s.0 left s.2 out)
-
-pub front_out : (a b c : Option (List ℕ)) (text left : List ℕ) → SendsFront a b text left → AppendsFront b c left → AppendsFront a c text
-front_out a b c text left s out = rw s.2 (front_more a c s.0 s.1 (part_out a b c s.0 left s.3 out))
-
-pub whole_front : (a c : Option (List ℕ)) (text : List ℕ) → Appends a c text → AppendsFront a c text
-whole_front a c text all = (length text, omega arith, rw (take_whole text) all)
-  where
-    take_whole : (u : List ℕ) → take (length u) u ≡ u
-    take_whole u = take_all (length u) u (omega arith)
+pub some_out : (a b c : Option (List ℕ)) (text left : List ℕ) → SendsFront a b text left → AppendsFront b c left → AppendsFront a c text
+some_out a b c text left s out = rw s.2 (front_longer a c s.0 s.1 (front_out a b c s.0 left s.3 out))
 
 -- AT THE EXIT OF A CALL
 

@@ -14,7 +14,8 @@ use Rattle.tier_store.proofs.Places.{All-front}
 use Rattle.store_retrieval.specs.Raw.{Chunk, IsChunk, HasMoment, HasYear, YearsDiffer, AreCut, header_text, chunk_text, chunks_text, IsNearestYear, IsRaw}
 use Rattle.sink_buffer.specs.declared.buffer.PutErr.{PutErr}
 use Rattle.store_retrieval.specs.Text.{IsOfYear, IsText, IsOpening, IsWritten, SentBy, last_year, gap}
-use Rattle.store_retrieval.proofs.Sending.{sent_then, sent_at, sends_none}
+use Rattle.sink_buffer.proofs.Sending.{sends_none}
+use Rattle.store_retrieval.proofs.Sending.{sent_then, sent_at}
 
 abbrev pub samples_in : Chunk → List Sample
 samples_in c = c.samples

@@ -6,7 +6,8 @@ use Rattle.store_manifest.specs.declared.entry.Entry.{Entry}
 use Rattle.sink_buffer.specs.Sent.{Sends}
 use Rattle.store_reports.specs.Status.{listed_text, row_line}
 use Rattle.store_reports.proofs.Counting.{one_more, rest_of}
-use Rattle.store_reports.proofs.Sending.{sends_then, sends_front, put_stopped}
+use Rattle.sink_buffer.proofs.Sending.{sends_then}
+use Rattle.store_reports.proofs.Sending.{sends_front, put_stopped}
 use Rattle.store_reports.proofs.summary.put_rows.Goals as goal
 
 pub returns-in_err-fill_line-clause-text : goal.returns-in_err-fill_line-clause-text
