@@ -1,8 +1,10 @@
 ghost use Rattle.std.specs.Prelude.{◌≤◌};
 ghost use Rattle.std.specs.List.{flat_map};
+ghost use Rattle.archiver_appliance.specs.declared.status.Status.TheVariants.{Damaged};
 ghost use Rattle.archiver_appliance.specs.Complaint.{Complains, complaint_of};
 
 use crate::status::Status;
+use disk_model::FileName;
 use edge_io::{Sink, write_whole};
 use itoa::Buffer;
 
@@ -35,18 +37,7 @@ pub fn complain<E: Sink>(status: &Status, complaints: &mut E)
         Status::SourceFault => tell(&[b"archappl: input failed\n"], complaints),
         Status::SinkFault => tell(&[b"archappl: output failed\n"], complaints),
         Status::DiskFault => tell(&[b"archappl: disk failed\n"], complaints),
-        Status::Damaged { name, at } => tell(
-            &[
-                b"archappl: damaged: ",
-                first.format(name.store).as_bytes(),
-                b" ",
-                name.path.as_slice(),
-                b" at ",
-                second.format(*at).as_bytes(),
-                b"\n",
-            ],
-            complaints,
-        ),
+        Status::Damaged { name, at } => tell_damage(name, *at, complaints),
         Status::OutOfMemory => tell(&[b"archappl: out of memory\n"], complaints),
         Status::GranularityDiffers { kept, asked } => tell(
             &[
@@ -59,6 +50,26 @@ pub fn complain<E: Sink>(status: &Status, complaints: &mut E)
             complaints,
         ),
     }
+}
+
+fn tell_damage<E: Sink>(name: &FileName, at: u64, complaints: &mut E)
+    ensures told { Complains (E.written complaints.old) (E.written complaints.new) (E.write_faults complaints.old) (E.write_faults complaints.new) (complaint_of (Damaged name.now at)) }
+    ensures faults { E.write_faults complaints.old ≤ E.write_faults complaints.new }
+{
+    let mut store = Buffer::new();
+    let mut place = Buffer::new();
+    tell(
+        &[
+            b"archappl: damaged: ",
+            store.format(name.store).as_bytes(),
+            b" ",
+            name.path.as_slice(),
+            b" at ",
+            place.format(at).as_bytes(),
+            b"\n",
+        ],
+        complaints,
+    );
 }
 
 // Writes the pieces of a line, one after another. Nobody is left to hear of a fault here.

@@ -9,15 +9,17 @@
 
 mod answer;
 mod command;
+#[cfg(test)]
+mod command_tests;
 mod complaint;
 mod extract;
+#[cfg(test)]
+mod extract_tests;
+#[cfg(test)]
+mod harness;
 mod opened;
 mod run;
 mod status;
-#[cfg(test)]
-mod store_tests;
-#[cfg(test)]
-mod tests;
 
 use disk_model::FolderDisk;
 use edge_io::{StdSink, StdSource, SystemClock};

@@ -1,8 +1,8 @@
-use Rattle.std.proofs.Common.{◌≡◌, ◌≤◌, ℕ, List, Option, None, Some, length, sym, ◌∙◌, ap, arith}
+use Rattle.std.proofs.Common.{◌≡◌, ◌≤◌, ℕ, Option, None, Some, length, sym, ◌∙◌, ap, arith}
 use Rattle.std.specs.Prelude.{unwrap_or}
 use Rattle.disk_model.specs.Files.{Name, Content, Files, HasFile, size_of}
 use Rattle.disk_model.specs.Record.{files_of, opened_of}
-use Rattle.archiver_appliance.proofs.store_tests.spoiled.Goals as goal
+use Rattle.archiver_appliance.proofs.command_tests.spoiled.Goals as goal
 
 no_file_no_size : (size : ℕ) → size_of None ≡ Some size → ⊥
 no_file_no_size size is = cc
