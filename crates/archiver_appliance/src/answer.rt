@@ -160,6 +160,7 @@ impl Answer {
         ensures ok { OnOk result ((xs : List Sample) → Covers self.old xs → Adds (lines_text (known self.old.query xs)) (lines_text (answer (taken xs) self.old.query)) out.old.items out.new.items) }
         ensures err { OnErr result (out.new.items ≡ out.old.items) }
         ensures query { self.new.query ≡ self.old.query }
+        ensures same { self.new ≡ self.old }
     {
         self.give_held(out)?;
         Ok(())

@@ -3,6 +3,7 @@ ghost use Rattle.std.specs.Io.{StartsWith};
 ghost use Rattle.std.specs.Io.KnownBytes.{Appends};
 ghost use Rattle.edge_io.specs.Stream.{Rose, AppendsFront};
 ghost use Rattle.series_model.specs.declared.sample.Query.{Query};
+ghost use Rattle.pb_lines.specs.Reader.{HoldsLine};
 ghost use Rattle.archiver_appliance.specs.Text.{Extracts, IsFlushed};
 
 use crate::answer::{Answer, add_line};
@@ -91,6 +92,7 @@ fn add_header_lines(later: bool, line: &[u8], out: &mut Vec<u8>) -> Result<(), A
 // Writes what was gathered where the next line isn't held yet: one write for each read.
 fn before_read<K: Sink>(reader: &ChunkReader, out: &mut Vec<u8>, sink: &mut K) -> Result<(), Failed>
     ensures ok { OnOk result (IsFlushed (K.written sink.old) (K.written sink.new) out.old.items out.new.items) }
+    ensures all { (HoldsLine reader.now → ⊥) → OnOk result (out.new.items ≡ []) }
     ensures front { OnErr result (AppendsFront (K.written sink.old) (K.written sink.new) out.old.items) }
     ensures faults { K.write_faults sink.old ≤ K.write_faults sink.new }
     ensures failed { OnErr result (Rose (K.write_faults sink.old) (K.write_faults sink.new)) }
