@@ -27,8 +27,10 @@ class Place:
         self.folder = folder
         self.streams = 0
         self.kills = 0
-        prefix = {0: "", 1: f"{folder}/", 2: "below/more/"}[way]
-        names = [prefix + name for name in ("sts", "mts", "lts", "site")]
+        # The words that a run of the program begins with.
+        self.before = []
+        self.prefix = {0: "", 1: f"{folder}/", 2: "below/more/"}[way]
+        names = [self.prefix + name for name in ("sts", "mts", "lts", "site")]
         self.short, self.site = folder / names[0], folder / names[3]
         self.environment = {name: value for name, value in os.environ.items() if not name.startswith("ARCHAPPL_")}
         if way:
@@ -37,7 +39,11 @@ class Place:
 
     def run(self, *words, data=b""):
         """A run of the program in the folder."""
-        return comparing.run([self.program, *words], data, cwd=self.folder, env=self.environment)
+        return comparing.run([*self.before, self.program, *words], data, cwd=self.folder, env=self.environment)
+
+    def told(self, path):
+        """A path as the program tells it."""
+        return self.prefix + str(path.relative_to(self.folder / self.prefix))
 
     def expect(self, wanted, *words, data=b""):
         """Runs the program, which must come to what is wanted."""

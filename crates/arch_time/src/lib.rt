@@ -21,5 +21,6 @@ pub use calendar::{CivilDate, LAST_DAY, UNIX_DAY, year_length, year_start};
 pub use digits::{number, two_digits};
 pub use iso::{BadIso, parse_iso, print_iso};
 pub use year_time::{
-    BadTime, END, FIRST_YEAR, LAST_YEAR, START, YearStart, YearTime, instant, split,
+    BadTime, END, FIRST_YEAR, LAST_YEAR, NANOS_PER_SECOND, SECONDS_PER_DAY, START, YearStart,
+    YearTime, instant, split,
 };

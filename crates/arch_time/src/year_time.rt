@@ -17,9 +17,11 @@ pub const START: u64 = 662_688_000 * NANOS_PER_SECOND;
 /// 2500-01-01T00:00:00Z, the first moment that is too late.
 pub const END: u64 = 16_725_225_600 * NANOS_PER_SECOND;
 
-pub(crate) const NANOS_PER_SECOND: u64 = 1_000_000_000;
+/// The nanoseconds of a second.
+pub const NANOS_PER_SECOND: u64 = 1_000_000_000;
 
-pub(crate) const SECONDS_PER_DAY: u64 = 86_400;
+/// The seconds of a day; leap seconds have no moment.
+pub const SECONDS_PER_DAY: u64 = 86_400;
 
 pub(crate) const NANOS_PER_DAY: u64 = SECONDS_PER_DAY * NANOS_PER_SECOND;
 

@@ -15,7 +15,7 @@ use Rattle.pb_lines.specs.declared.reader.ChunkItem.TheVariants as it
 use Rattle.pb_lines.specs.Stream.{Item, header, sample, chunk_end, Section, Stop, first_section, between, within}
 use Rattle.pb_lines.specs.Reader.{Chunks, Passes, Stops, ReadsItem, ReadsLine, IsFresh, to_come, lines_taken, bytes_taken}
 use Rattle.pb_lines.proofs.Whole.{every_stream}
-use Rattle.store_ingest.proofs.Streaming.{passes_join, nothing_read, fresh_before, fresh_holds}
+use Rattle.store_ingest.proofs.Stream.{passes_join, nothing_read, fresh_before, fresh_holds}
 use Rattle.archiver_appliance.specs.declared.status.Status.{Status}
 use Rattle.archiver_appliance.specs.declared.status.Status.TheVariants.{SinkFault}
 use Rattle.archiver_appliance.specs.Extract.{lines_text, known, Before, nothing, chunks, samples, text_behind, extracted}
@@ -82,7 +82,7 @@ flushed q a b b' old new before after gathered later answering p w =
     }
 
 -- what was gathered was written, or is still gathered
-pub flushed_or_kept : (q : Query) (a b b' : Option (List ℕ)) (old new : Chunks) (before after : Option (List ℕ)) (gathered left : List ℕ) (later : Bool) (answering : Answering) → Progress q a b old new before after gathered later answering → IsFlushed b b' gathered left → Progress q a b' old new before after left later answering
+flushed_or_kept : (q : Query) (a b b' : Option (List ℕ)) (old new : Chunks) (before after : Option (List ℕ)) (gathered left : List ℕ) (later : Bool) (answering : Answering) → Progress q a b old new before after gathered later answering → IsFlushed b b' gathered left → Progress q a b' old new before after left later answering
 flushed_or_kept q a b b' old new before after gathered left later answering p (inl f) =
     let P : List ℕ → Type 0 = λ left. Progress q a b' old new before after left later answering in
     subst P (sym f.1) (flushed q a b b' old new before after gathered later answering p f.0)
@@ -98,6 +98,11 @@ on_ok (Err e) P is h = cc
 pub on_err : {A E : Type 0} (r : Result A E) (P : Type 0) → true ≡ is_err r → OnErr r P → P
 on_err (Ok x) P is h = cc
 on_err (Err e) P is h = h
+
+-- before a line is read what was gathered was written, or is still gathered
+pub read_from : {A E : Type 0} {q : Query} {a s : Option (List ℕ)} {old mid : Chunks} {before middle : Option (List ℕ)} {out : List ℕ} {later : Bool} {answering : Answering} (b : Option (List ℕ)) (gathered : List ℕ) (r : Result A E)
+    → Progress q a s old mid before middle out later answering → false ≡ is_err r → OnOk r (IsFlushed s b out gathered) → Progress q a b old mid before middle gathered later answering
+read_from {A} {E} {q} {a} {s} {old} {mid} {before} {middle} {out} {later} {answering} b gathered r p is flushed = flushed_or_kept q a s b old mid before middle out gathered later answering p (on_ok r (IsFlushed s b out gathered) is flushed)
 
 -- a line was skipped
 pub skipped : (q : Query) (a b : Option (List ℕ)) (old mid new : Chunks) (before middle after : Option (List ℕ)) (gathered : List ℕ) (later : Bool) (answering : Answering) → Progress q a b old mid before middle gathered later answering → ReadsLine mid new middle after None → Progress q a b old new before after gathered later answering
@@ -266,7 +271,7 @@ writes_front q a b b' old new (Some xs) (Some ys) gathered later answering fresh
     (p.items ++ still.0, still.1, fresh_holds old xs (p.items ++ still.0) still.1 fresh (p.passed still.0 still.1 still.2), front_of a b b' p.out gathered known.0 (extracted q (p.items ++ still.0)) p.written f text)
 
 -- where the stream stops, the whole text was written
-pub writes_all : (q : Query) (stop : Stop) (a b b' : Option (List ℕ)) (old new : Chunks) (before after : Option (List ℕ)) (gathered : List ℕ) (later : Bool) (answering : Answering) → IsFresh old → Progress q a b old new before after gathered later answering → Stops new after stop → Appends b b' gathered → IfSome before (WritesAll q stop a b')
+writes_all : (q : Query) (stop : Stop) (a b b' : Option (List ℕ)) (old new : Chunks) (before after : Option (List ℕ)) (gathered : List ℕ) (later : Bool) (answering : Answering) → IsFresh old → Progress q a b old new before after gathered later answering → Stops new after stop → Appends b b' gathered → IfSome before (WritesAll q stop a b')
 writes_all q stop a b b' old new None after gathered later answering fresh p stops f = tt
 writes_all q stop a b b' old new (Some xs) None gathered later answering fresh p stops f = absurd p.passed
 writes_all q stop a b b' old new (Some xs) (Some ys) gathered later answering fresh p stops f =
@@ -274,6 +279,20 @@ writes_all q stop a b b' old new (Some xs) (Some ys) gathered later answering fr
     (p.items ++ [], fresh_holds old xs (p.items ++ []) stop fresh (p.passed [] stop stops), rw text (Appends-trans a b b' p.out gathered p.written f))
 
 -- The sink's fault stands in place of what ended the input.
-pub ended_extracts : (q : Query) (source a b : Option (List ℕ)) (status result : Status) → (result ≡ status) ⊎ (result ≡ SinkFault) → (result ≡ status → Extracts q source a b status) → IfSome source (WritesFront q a b) → Extracts q source a b result
+ended_extracts : (q : Query) (source a b : Option (List ℕ)) (status result : Status) → (result ≡ status) ⊎ (result ≡ SinkFault) → (result ≡ status → Extracts q source a b status) → IfSome source (WritesFront q a b) → Extracts q source a b result
 ended_extracts q source a b status result (inl is) all front = let P : Status → Type 0 = λ s. Extracts q source a b s in subst P (sym is) (all is)
 ended_extracts q source a b status result (inr is) all front = let P : Status → Type 0 = λ s. Extracts q source a b s in subst P (sym is) front
+
+-- What was gathered last was written, all of it or a front, once the reading ended.
+module _ {q : Query} {a b : Option (List ℕ)} {old mid : Chunks} {before middle : Option (List ℕ)} {gathered : List ℕ} {later : Bool} {answering : Answering} (fresh : IsFresh old) (p : Progress q a b old mid before middle gathered later answering)
+    (b' : Option (List ℕ)) (out : List ℕ) (same : out ≡ gathered) (front : AppendsFront b b' out) (status result : Status) (is : (result ≡ status) ⊎ (result ≡ SinkFault)) where
+  front_written : IfSome before (WritesFront q a b')
+  front_written = writes_front q a b b' old mid before middle gathered later answering fresh p (subst (AppendsFront b b') same front)
+
+  -- before the stream's end
+  pub ended_early : (IfSome before (WritesFront q a b') → Extracts q before a b' status) → Extracts q before a b' result
+  ended_early early = ended_extracts q before a b' status result is (λ equal. early front_written) front_written
+
+  -- at the stream's end, or at its first bad line
+  pub ended_whole : (stop : Stop) → Stops mid middle stop → (result ≡ status → Appends b b' out) → (IfSome before (WritesAll q stop a b') → Extracts q before a b' status) → Extracts q before a b' result
+  ended_whole stop stops all whole = ended_extracts q before a b' status result is (λ equal. whole (writes_all q stop a b b' old mid before middle gathered later answering fresh p stops (subst (Appends b b') same (all equal)))) front_written

@@ -1,11 +1,11 @@
 pub mod Answers
 pub mod Checking
 pub mod Complaining
+pub mod Completeness
 pub mod Extracting
 pub mod Ingests
 pub mod Judgements
 pub mod Opening
 pub mod Outcomes
 pub mod Refusals
-pub mod Running
 pub mod Words

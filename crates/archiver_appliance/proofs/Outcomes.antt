@@ -1,148 +1,120 @@
--- The statuses of what the calls on a store came to.
-use Rattle.std.proofs.Common.{◌≡◌, ◌⊎◌, inl, inr, ℕ, ◌≤◌, List, Option, Some, None, refl, sym, ◌∙◌, ap, subst, arith}
-use Rattle.std.specs.Prelude.{IsSome}
+-- With which statuses the calls on a store end, and for which causes.
+use Rattle.std.proofs.Common.{◌≡◌, ◌⊎◌, inl, inr, Bor, ℕ, ◌≤◌, Bool, List, Option, Some, None, Result, Ok, Err, refl, sym, ◌∙◌, ap, subst, arith}
+use Rattle.std.specs.Prelude.{IfErr, IfOk}
+use Rattle.edge_io.specs.Stream.{Rose}
+use Rattle.disk_model.specs.Files.{Rose as DiskRose}
 use Rattle.series_model.specs.declared.sample.Query.{Query}
+use Rattle.pb_lines.specs.Stream.{Item}
+use Rattle.tier_store.specs.Ends.{IsFailed}
 use Rattle.tier_store.specs.Held.{Held}
-use Rattle.store_retrieval.specs.declared.retrieval.Got.{Got}
-use Rattle.store_retrieval.specs.declared.retrieval.Got.TheVariants as got
-use Rattle.store_retrieval.specs.Get.{Writes}
-use Rattle.store_reports.specs.declared.summary.Reported.{Reported}
-use Rattle.store_reports.specs.declared.summary.Reported.TheVariants as reported
-use Rattle.store_reports.specs.Status.{Reports}
-use Rattle.store_reports.specs.declared.inspection.Checked.{Checked}
-use Rattle.store_reports.specs.declared.inspection.Checked.TheVariants as checked
+use Rattle.tier_store.specs.Seen.{Seen}
+use Rattle.sink_buffer.specs.declared.buffer.PutErr.{PutErr}
+use Rattle.sink_buffer.specs.declared.buffer.PutErr.TheVariants as put
+use Rattle.store_reopen.specs.declared.error.ReopenErr.{ReopenErr}
+use Rattle.store_reopen.specs.declared.error.ReopenErr.TheVariants as reopening
+use Rattle.store_ingest.specs.Ingest.{ReadsOf}
+use Rattle.store_ingest.specs.Ingest as ingest
 use Rattle.store_ingest.specs.declared.ingest.Ingested.{Ingested}
 use Rattle.store_ingest.specs.declared.ingest.Ingested.TheVariants as ingested
-use Rattle.archiver_appliance.specs.declared.status.Status.TheVariants.{SourceFault, SinkFault, DiskFault, Damaged}
+use Rattle.store_retrieval.specs.declared.retrieval.GetErr.{GetErr}
+use Rattle.store_retrieval.specs.declared.retrieval.GetErr.TheVariants as got
+use Rattle.store_retrieval.specs.Damage.{HasCause, end_of}
+use Rattle.store_retrieval.specs.Get.{Writes}
+use Rattle.store_reports.specs.Status.{Reports}
+use Rattle.store_reports.specs.Telling as telling
+use Rattle.store_reports.specs.declared.report.Damage.{Damage}
+use Rattle.store_reports.specs.declared.inspection.CheckErr.{CheckErr}
+use Rattle.store_reports.specs.declared.inspection.CheckErr.TheVariants as checked
+use Rattle.archiver_appliance.specs.declared.command.StoreCommand.{StoreCommand}
+use Rattle.archiver_appliance.specs.declared.command.StoreCommand.TheVariants as command
 use Rattle.archiver_appliance.specs.Ingesting.{ingested_status}
+use Rattle.archiver_appliance.specs.Judging.{refusal_of}
+use Rattle.archiver_appliance.specs.Outside.{Outside, IsCaused}
 use Rattle.archiver_appliance.specs.Reporting.{Gets, Tells, HasNone, got_status, got_file, reported_status, checked_status, checked_file}
+use Rattle.archiver_appliance.specs.Run.{EndsAs, NoDamage}
+use Rattle.archiver_appliance.specs.Status.{number_of}
 
--- A RETRIEVAL
+-- A DISK THAT ISN'T OPENED
 
-pub gets_of : {R : Type 0} (held : Held) (name : List ℕ) (query : Query) (a b : Option (List ℕ)) (came : Got R) → (came ≡ got.NoSuchVariable → HasNone held.rows name) → Writes held name query a b came → Gets held name query a b (got_status came)
-gets_of {R} held name query a b got.Done none w = w
-gets_of {R} held name query a b got.NoSuchVariable none w = (w, none refl)
-gets_of {R} held name query a b got.SinkFault none w = w
-gets_of {R} held name query a b got.DiskFault none w = inr w
-gets_of {R} held name query a b (got.ReadFault file) none w = inr w
-gets_of {R} held name query a b (got.Damaged file at) none w = w
-gets_of {R} held name query a b got.OutOfMemory none w = inr w
+pub refused_ends : {D R : Type 0} (asked : StoreCommand) (source : Option (List ℕ)) (err : ReopenErr D R) → EndsAs asked source (refusal_of err)
+refused_ends {D} {R} asked source (reopening.DiskFault disk) = tt
+refused_ends {D} {R} asked source err = tt
 
-pub got_sink : {R : Type 0} (came : Got R) → got_status came ≡ SinkFault → came ≡ got.SinkFault
-got_sink {R} got.Done is = cc
-got_sink {R} got.NoSuchVariable is = cc
-got_sink {R} got.SinkFault is = refl
-got_sink {R} got.DiskFault is = cc
-got_sink {R} (got.ReadFault file) is = cc
-got_sink {R} (got.Damaged file at) is = cc
-got_sink {R} got.OutOfMemory is = cc
-
-pub got_source : {R : Type 0} (came : Got R) → got_status came ≡ SourceFault → ⊥
-got_source {R} got.Done is = cc
-got_source {R} got.NoSuchVariable is = cc
-got_source {R} got.SinkFault is = cc
-got_source {R} got.DiskFault is = cc
-got_source {R} (got.ReadFault file) is = cc
-got_source {R} (got.Damaged file at) is = cc
-got_source {R} got.OutOfMemory is = cc
-
--- the disk failed, or a read of the file that is handed back
-pub got_disk : {R : Type 0} (came : Got R) → got_status came ≡ DiskFault → (came ≡ got.DiskFault) ⊎ IsSome (got_file came)
-got_disk {R} got.Done is = cc
-got_disk {R} got.NoSuchVariable is = cc
-got_disk {R} got.SinkFault is = cc
-got_disk {R} got.DiskFault is = inl refl
-got_disk {R} (got.ReadFault file) is = inr refl
-got_disk {R} (got.Damaged file at) is = cc
-got_disk {R} got.OutOfMemory is = cc
-
-pub got_read : {R : Type 0} (came : Got R) (file : R) → got_file came ≡ Some file → (got_status came ≡ DiskFault) × (came ≡ got.ReadFault file)
-got_read {R} got.Done file is = cc
-got_read {R} got.NoSuchVariable file is = cc
-got_read {R} got.SinkFault file is = cc
-got_read {R} got.DiskFault file is = cc
-got_read {R} (got.ReadFault other) file is = (refl, let same : other ≡ file = cc in ap (λ (f : R). got.ReadFault f) same)
-got_read {R} (got.Damaged name at) file is = cc
-got_read {R} got.OutOfMemory file is = cc
-
--- A REPORT OF ROWS
-
-pub tells_of : (text : List ℕ) (a b : Option (List ℕ)) (came : Reported) → Reports a b text came → Tells text a b (reported_status came)
-tells_of text a b reported.Done w = w
-tells_of text a b reported.SinkFault w = w
-tells_of text a b reported.OutOfMemory w = w
-
-pub reported_sink : (came : Reported) → reported_status came ≡ SinkFault → came ≡ reported.SinkFault
-reported_sink reported.Done is = cc
-reported_sink reported.SinkFault is = refl
-reported_sink reported.OutOfMemory is = cc
-
-pub reported_no : (came : Reported) → ((reported_status came ≡ SourceFault) → ⊥) × ((reported_status came ≡ DiskFault) → ⊥)
-reported_no reported.Done = (λ is. cc, λ is. cc)
-reported_no reported.SinkFault = (λ is. cc, λ is. cc)
-reported_no reported.OutOfMemory = (λ is. cc, λ is. cc)
-
--- A CHECK
-
-pub checked_sink : {R : Type 0} (came : Checked R) → checked_status came ≡ SinkFault → came ≡ checked.SinkFault
-checked_sink {R} checked.Done is = cc
-checked_sink {R} (checked.Damaged file at) is = cc
-checked_sink {R} checked.SinkFault is = refl
-checked_sink {R} checked.DiskFault is = cc
-checked_sink {R} (checked.ReadFault file) is = cc
-checked_sink {R} checked.OutOfMemory is = cc
-
-pub checked_source : {R : Type 0} (came : Checked R) → checked_status came ≡ SourceFault → ⊥
-checked_source {R} checked.Done is = cc
-checked_source {R} (checked.Damaged file at) is = cc
-checked_source {R} checked.SinkFault is = cc
-checked_source {R} checked.DiskFault is = cc
-checked_source {R} (checked.ReadFault file) is = cc
-checked_source {R} checked.OutOfMemory is = cc
-
-pub checked_disk : {R : Type 0} (came : Checked R) → checked_status came ≡ DiskFault → (came ≡ checked.DiskFault) ⊎ IsSome (checked_file came)
-checked_disk {R} checked.Done is = cc
-checked_disk {R} (checked.Damaged file at) is = cc
-checked_disk {R} checked.SinkFault is = cc
-checked_disk {R} checked.DiskFault is = inl refl
-checked_disk {R} (checked.ReadFault file) is = inr refl
-checked_disk {R} checked.OutOfMemory is = cc
-
-pub checked_read : {R : Type 0} (came : Checked R) (file : R) → checked_file came ≡ Some file → (checked_status came ≡ DiskFault) × (came ≡ checked.ReadFault file)
-checked_read {R} checked.Done file is = cc
-checked_read {R} (checked.Damaged name at) file is = cc
-checked_read {R} checked.SinkFault file is = cc
-checked_read {R} checked.DiskFault file is = cc
-checked_read {R} (checked.ReadFault other) file is = (refl, let same : other ≡ file = cc in ap (λ (f : R). checked.ReadFault f) same)
-checked_read {R} checked.OutOfMemory file is = cc
-
-pub checked_damaged : {R : Type 0} (came : Checked R) (name : ℕ × List ℕ) (at : ℕ) → checked_status came ≡ Damaged name at → came ≡ checked.Damaged name at
-checked_damaged {R} checked.Done name at is = cc
-checked_damaged {R} (checked.Damaged other place) name at is = let same : (other ≡ name) × (place ≡ at) = (cc, cc) in cc
-checked_damaged {R} checked.SinkFault name at is = cc
-checked_damaged {R} checked.DiskFault name at is = cc
-checked_damaged {R} (checked.ReadFault file) name at is = cc
-checked_damaged {R} checked.OutOfMemory name at is = cc
+pub refused_caused : {D R X : Type 0} (faults : X → ℕ) (old new : Outside) (err : ReopenErr D R) → ((d : D) → err ≡ reopening.DiskFault d → DiskRose old.disk_faults new.disk_faults) → IsCaused faults old new (refusal_of err) None
+refused_caused {D} {R} {X} faults old new (reopening.DiskFault disk) rose = rose disk refl
+refused_caused {D} {R} {X} faults old new err rose = tt
 
 -- AN INGEST
 
-pub ingested_source : (came : Ingested) → ingested_status came ≡ SourceFault → came ≡ ingested.SourceFault
-ingested_source ingested.Done is = cc
-ingested_source (ingested.Refused line fault) is = cc
-ingested_source ingested.SourceFault is = refl
-ingested_source ingested.DiskFault is = cc
-ingested_source ingested.OutOfMemory is = cc
+pub ingest_ends : (source : Option (List ℕ)) (items : List Item) (came : Ingested) → ReadsOf came source items → EndsAs command.Ingest source (ingested_status came)
+ingest_ends source items ingested.Done reads = (items, reads)
+ingest_ends source items (ingested.Refused line fault) reads = (tt, (items, reads))
+ingest_ends source items came reads = tt
 
-pub ingested_disk : (came : Ingested) → ingested_status came ≡ DiskFault → came ≡ ingested.DiskFault
-ingested_disk ingested.Done is = cc
-ingested_disk (ingested.Refused line fault) is = cc
-ingested_disk ingested.SourceFault is = cc
-ingested_disk ingested.DiskFault is = refl
-ingested_disk ingested.OutOfMemory is = cc
+pub ingest_caused : {X : Type 0} (faults : X → ℕ) (old new : Outside) (came : Ingested) → (came ≡ ingested.SourceFault → Rose old.read_faults new.read_faults) → (IsFailed (ingest.end_of came) → DiskRose old.disk_faults new.disk_faults) → IsCaused faults old new (ingested_status came) None
+ingest_caused {X} faults old new ingested.SourceFault source disk = source refl
+ingest_caused {X} faults old new ingested.DiskFault source disk = disk tt
+ingest_caused {X} faults old new came source disk = tt
 
-pub ingested_sink : (came : Ingested) → ingested_status came ≡ SinkFault → ⊥
-ingested_sink ingested.Done is = cc
-ingested_sink (ingested.Refused line fault) is = cc
-ingested_sink ingested.SourceFault is = cc
-ingested_sink ingested.DiskFault is = cc
-ingested_sink ingested.OutOfMemory is = cc
+-- A RETRIEVAL
+
+pub get_ends : {R : Type 0} (source : Option (List ℕ)) (name : Bor (List ℕ)) (query : Query) (came : Result Unit (GetErr R)) → EndsAs (command.Get name query) source (got_status came)
+get_ends {R} source name query (Err got.NoSuchVariable) = tt
+get_ends {R} source name query came = tt
+
+pub get_caused : {R : Type 0} (tells : Bool) (s : Seen) (name : List ℕ) (faults : R → ℕ) (old new : Outside) (came : Result Unit (GetErr R)) → IfErr came (HasCause tells s faults old.write_faults new.write_faults name) → (IsFailed (end_of came) → DiskRose old.disk_faults new.disk_faults)
+    → IsCaused faults old new (got_status came) (got_file came)
+get_caused {R} tells s name faults old new (Err got.SinkFault) cause disk = cause
+get_caused {R} tells s name faults old new (Err got.DiskFault) cause disk = disk tt
+get_caused {R} tells s name faults old new (Err (got.ReadFault file)) cause disk = cause
+get_caused {R} tells s name faults old new came cause disk = tt
+
+pub gets_of : {R : Type 0} (held : Held) (name : List ℕ) (query : Query) (a b : Option (List ℕ)) (came : Result Unit (GetErr R)) → (came ≡ Err got.NoSuchVariable → HasNone held.rows name) → Writes held name query a b came → Gets held name query a b (got_status came)
+gets_of {R} held name query a b (Ok done) none w = w
+gets_of {R} held name query a b (Err got.NoSuchVariable) none w = (w, none refl)
+gets_of {R} held name query a b (Err got.SinkFault) none w = w
+gets_of {R} held name query a b (Err got.DiskFault) none w = inr w
+gets_of {R} held name query a b (Err (got.ReadFault file)) none w = inr w
+gets_of {R} held name query a b (Err (got.Damaged file at)) none w = w
+gets_of {R} held name query a b (Err got.OutOfMemory) none w = inr w
+
+-- it ends with 4 where no row has the name, and never with 12
+pub get_refused : {R : Type 0} (came : Result Unit (GetErr R)) → (number_of (got_status came) ≡ 4) ⊎ (number_of (got_status came) ≡ 12) → came ≡ Err got.NoSuchVariable
+get_refused {R} (Err got.NoSuchVariable) is = refl
+get_refused {R} came (inl is) = cc
+get_refused {R} came (inr is) = cc
+
+-- A REPORT OF ROWS
+
+pub report_ends : (source : Option (List ℕ)) (came : Result Unit PutErr) → EndsAs command.Status source (reported_status came)
+report_ends source (Err put.Memory) = tt
+report_ends source came = tt
+
+pub report_caused : {X : Type 0} (faults : X → ℕ) (old new : Outside) (came : Result Unit PutErr) → (came ≡ Err put.SinkFault → Rose old.write_faults new.write_faults) → IsCaused faults old new (reported_status came) None
+report_caused {X} faults old new (Err put.SinkFault) sink = sink refl
+report_caused {X} faults old new came sink = tt
+
+pub tells_of : (text : List ℕ) (a b : Option (List ℕ)) (came : Result Unit PutErr) → Reports a b text came → Tells text a b (reported_status came)
+tells_of text a b (Err put.Memory) w = w
+tells_of text a b came w = w
+
+-- A CHECK
+
+pub check_ends : {R : Type 0} (source : Option (List ℕ)) (came : Result (Option Damage) (CheckErr R)) → EndsAs command.Check source (checked_status came)
+check_ends {R} source (Ok None) = tt
+check_ends {R} source (Err checked.SinkFault) = tt
+check_ends {R} source came = tt
+
+pub check_caused : {R : Type 0} (faults : R → ℕ) (old new : Outside) (came : Result (Option Damage) (CheckErr R)) → IfErr came (telling.IsCounted faults old.write_faults new.write_faults) → (IsFailed (telling.end_of came) → DiskRose old.disk_faults new.disk_faults) → IsCaused faults old new (checked_status came) (checked_file came)
+check_caused {R} faults old new (Ok None) cause disk = tt
+check_caused {R} faults old new (Ok (Some damage)) cause disk = tt
+check_caused {R} faults old new (Err checked.SinkFault) cause disk = cause
+check_caused {R} faults old new (Err checked.DiskFault) cause disk = disk tt
+check_caused {R} faults old new (Err (checked.ReadFault file)) cause disk = cause
+check_caused {R} faults old new (Err checked.OutOfMemory) cause disk = tt
+
+-- no damage is found
+pub check_stands : {R : Type 0} (came : Result (Option Damage) (CheckErr R)) → IfOk came (λ damage. damage ≡ None) → NoDamage (checked_status came)
+check_stands {R} (Ok (Some damage)) none = cc
+check_stands {R} (Err (checked.ReadFault file)) none = tt
+check_stands {R} came none = tt

@@ -5,8 +5,12 @@ use Rattle.std.specs.List.{list_any}
 use Rattle.std.proofs.lemmas.Bool.{false≢true}
 use Rattle.series_model.specs.declared.sample.Query.{Query}
 use Rattle.archiver_appliance.specs.declared.command.Command.{Command}
-use Rattle.archiver_appliance.specs.declared.command.Command.TheVariants.{Extract, Ingest, Get, Status, Check}
-use Rattle.archiver_appliance.specs.Run.{IsOverStore}
+use Rattle.archiver_appliance.specs.declared.command.Command.TheVariants.{Extract, OverStore}
+use Rattle.archiver_appliance.specs.declared.command.StoreCommand.{StoreCommand}
+use Rattle.archiver_appliance.specs.declared.command.StoreCommand.TheVariants.{Ingest, Get, Status, Check}
+use Rattle.pv_catalog.specs.Rows.{HasName}
+use Rattle.tier_store.specs.Held.{Held}
+use Rattle.archiver_appliance.specs.Run.{IsReport, IsServable}
 use Rattle.archiver_appliance.specs.Command.{AsksFor, IsCommand, IsFaulty, IsInterval, has_dash}
 
 abbrev pub texts : List (Bor (List ℕ)) → List (List ℕ)
@@ -36,103 +40,59 @@ four_texts (a ∷ b ∷ c ∷ e ∷ f ∷ words) d least most = absurd (omega ar
 
 -- THE FIRST LETTER
 
-pub letter : List (List ℕ) → ℕ
+letter : List (List ℕ) → ℕ
 letter words = get_or (get_or words 0 []) 0 0
 
-pub letter_of : Command → ℕ
+letter_of : Command → ℕ
 letter_of (Extract query) = 101
-letter_of Ingest = 105
-letter_of (Get name query) = 103
-letter_of Status = 115
-letter_of Check = 99
+letter_of (OverStore Ingest) = 105
+letter_of (OverStore (Get name query)) = 103
+letter_of (OverStore Status) = 115
+letter_of (OverStore Check) = 99
 
-pub asked_letter : (words : List (List ℕ)) (c : Command) → AsksFor c words → letter words ≡ letter_of c
+asked_letter : (words : List (List ℕ)) (c : Command) → AsksFor c words → letter words ≡ letter_of c
 unfolding letter letter_of
 asked_letter words (Extract query) h = ap letter h.2
-asked_letter words Ingest h = ap letter h
-asked_letter words (Get name query) h = ap letter h.2
-asked_letter words Status h = ap letter h
-asked_letter words Check h = ap letter h
+asked_letter words (OverStore (Get name query)) h = ap letter h.2
+asked_letter words (OverStore Ingest) h = ap letter h
+asked_letter words (OverStore Status) h = ap letter h
+asked_letter words (OverStore Check) h = ap letter h
 
-pub same_letter : (words : List (List ℕ)) (a b : Command) → IsCommand words a → IsCommand words b → letter_of b ≡ letter_of a
+same_letter : (words : List (List ℕ)) (a b : Command) → IsCommand words a → IsCommand words b → letter_of b ≡ letter_of a
 same_letter words a b one two = sym (asked_letter words b two.1) ∙ asked_letter words a one.1
-
-pub extract_letter : (c : Command) (query : Query) → c ≡ Extract query → letter_of c ≡ 101
-unfolding letter_of
-extract_letter c query is = ap letter_of is
-
-pub ingest_letter : letter_of Ingest ≡ 105
-unfolding letter_of
-ingest_letter = refl
-
-pub get_letter : (name : Bor (List ℕ)) (query : Query) → letter_of (Get name query) ≡ 103
-unfolding letter_of
-get_letter name query = refl
-
-pub status_letter : letter_of Status ≡ 115
-unfolding letter_of
-status_letter = refl
-
-pub check_letter : letter_of Check ≡ 99
-unfolding letter_of
-check_letter = refl
-
-pub is_extract : (c : Command) → letter_of c ≡ 101 → (query : Query) × (c ≡ Extract query)
-unfolding letter_of
-is_extract (Extract query) is = (query, refl)
-is_extract Ingest is = absurd (omega (arith, is))
-is_extract (Get name query) is = absurd (omega (arith, is))
-is_extract Status is = absurd (omega (arith, is))
-is_extract Check is = absurd (omega (arith, is))
-
-pub is_ingest : (c : Command) → letter_of c ≡ 105 → c ≡ Ingest
-unfolding letter_of
-is_ingest (Extract query) is = absurd (omega (arith, is))
-is_ingest Ingest is = refl
-is_ingest (Get name query) is = absurd (omega (arith, is))
-is_ingest Status is = absurd (omega (arith, is))
-is_ingest Check is = absurd (omega (arith, is))
-
-pub is_get : (c : Command) → letter_of c ≡ 103 → (name : Bor (List ℕ)) × (query : Query) × (c ≡ Get name query)
-unfolding letter_of
-is_get (Extract query) is = absurd (omega (arith, is))
-is_get Ingest is = absurd (omega (arith, is))
-is_get (Get name query) is = (name, query, refl)
-is_get Status is = absurd (omega (arith, is))
-is_get Check is = absurd (omega (arith, is))
-
-pub is_status : (c : Command) → letter_of c ≡ 115 → c ≡ Status
-unfolding letter_of
-is_status (Extract query) is = absurd (omega (arith, is))
-is_status Ingest is = absurd (omega (arith, is))
-is_status (Get name query) is = absurd (omega (arith, is))
-is_status Status is = refl
-is_status Check is = absurd (omega (arith, is))
-
-pub is_check : (c : Command) → letter_of c ≡ 99 → c ≡ Check
-unfolding letter_of
-is_check (Extract query) is = absurd (omega (arith, is))
-is_check Ingest is = absurd (omega (arith, is))
-is_check (Get name query) is = absurd (omega (arith, is))
-is_check Status is = absurd (omega (arith, is))
-is_check Check is = refl
-
-pub over_letter : (asked : Command) → IsOverStore asked → letter_of asked ≢ 101
-unfolding letter_of
-over_letter (Extract query) over is = absurd over
-over_letter Ingest over is = absurd (omega (arith, is))
-over_letter (Get name query) over is = absurd (omega (arith, is))
-over_letter Status over is = absurd (omega (arith, is))
-over_letter Check over is = absurd (omega (arith, is))
-
--- THE NAME
 
 name_in : List (List ℕ) → List ℕ
 name_in words = get_or words 1 []
 
-pub same_name : (words : List (List ℕ)) (a b : Bor (List ℕ)) (q r : Query) → IsCommand words (Get a q) → IsCommand words (Get b r) → a.now ≡ b.now
+same_name : (words : List (List ℕ)) (a b : Bor (List ℕ)) (q r : Query) → IsCommand words (OverStore (Get a q)) → IsCommand words (OverStore (Get b r)) → a.now ≡ b.now
 unfolding name_in
 same_name words a b q r one two = sym (ap name_in one.1.2) ∙ ap name_in two.1.2
+
+-- words ask for one command: what one needs of its name and the input, the other needs
+pub servable_same : (words : List (List ℕ)) (a b : StoreCommand) (source : Option (List ℕ)) (first : Held) → IsCommand words (OverStore a) → IsCommand words (OverStore b) → IsServable a source first → IsServable b source first
+unfolding letter_of
+servable_same words Ingest Ingest source first one two can = can
+servable_same words (Get a q) (Get b r) source first one two can = (can.0, subst (λ (n : List ℕ). HasName first.rows can.0 n) (same_name words a b q r one two) can.1)
+servable_same words a Status source first one two can = tt
+servable_same words a Check source first one two can = tt
+servable_same words a b source first one two can = absurd (omega (arith, same_letter words (OverStore a) (OverStore b) one two))
+
+-- or is an ingest, or a report, as that is
+pub ingest_same : (words : List (List ℕ)) (c : StoreCommand) → IsCommand words (OverStore c) → IsCommand words (OverStore Ingest) → c ≡ Ingest
+unfolding letter_of
+ingest_same words Ingest one two = refl
+ingest_same words c one two = absurd (omega (arith, same_letter words (OverStore c) (OverStore Ingest) one two))
+
+pub report_same : (words : List (List ℕ)) (c d : StoreCommand) → IsCommand words (OverStore c) → IsCommand words (OverStore d) → IsReport d → IsReport c
+unfolding letter_of
+report_same words Ingest Ingest one two report = report
+report_same words Ingest d one two report = absurd (omega (arith, same_letter words (OverStore Ingest) (OverStore d) one two))
+report_same words c d one two report = tt
+
+pub not_both : (words : List (List ℕ)) (q : Query) (c : StoreCommand) → IsCommand words (Extract q) → IsCommand words (OverStore c) → ⊥
+unfolding letter_of
+not_both words q Ingest one two = omega (arith, same_letter words (Extract q) (OverStore Ingest) one two)
+not_both words q c one two = omega (arith, same_letter words (Extract q) (OverStore c) one two)
 
 -- FAULTY WORDS
 
@@ -157,25 +117,25 @@ not_extract word from to none (Extract query) h =
     let first : h.0 ≡ from = sym (ap (λ (l : List (List ℕ)). get_or l 1 []) h.2) in
     let last : h.1 ≡ to = sym (ap (λ (l : List (List ℕ)). get_or l 2 []) h.2) in
     none query (subst (λ (t : List ℕ). IsInterval from t query) last (subst (λ (f : List ℕ). IsInterval f h.1 query) first h.3))
-not_extract word from to none Ingest h = let long : 3 ≡ 1 = ap length h in omega (arith, long)
-not_extract word from to none (Get name query) h = let long : 3 ≡ 4 = ap length h.2 in omega (arith, long)
-not_extract word from to none Status h = let long : 3 ≡ 1 = ap length h in omega (arith, long)
-not_extract word from to none Check h = let long : 3 ≡ 1 = ap length h in omega (arith, long)
+not_extract word from to none (OverStore Ingest) h = let long : 3 ≡ 1 = ap length h in omega (arith, long)
+not_extract word from to none (OverStore (Get name query)) h = let long : 3 ≡ 4 = ap length h.2 in omega (arith, long)
+not_extract word from to none (OverStore Status) h = let long : 3 ≡ 1 = ap length h in omega (arith, long)
+not_extract word from to none (OverStore Check) h = let long : 3 ≡ 1 = ap length h in omega (arith, long)
 
 pub not_get : (word name from to : List ℕ) → ((query : Query) → IsInterval from to query → ⊥) → (c : Command) → AsksFor c (word ∷ name ∷ from ∷ to ∷ []) → ⊥
 not_get word name from to none (Extract query) h = let long : 4 ≡ 3 = ap length h.2 in omega (arith, long)
-not_get word name from to none Ingest h = let long : 4 ≡ 1 = ap length h in omega (arith, long)
-not_get word name from to none (Get other query) h =
+not_get word name from to none (OverStore Ingest) h = let long : 4 ≡ 1 = ap length h in omega (arith, long)
+not_get word name from to none (OverStore (Get other query)) h =
     let first : h.0 ≡ from = sym (ap (λ (l : List (List ℕ)). get_or l 2 []) h.2) in
     let last : h.1 ≡ to = sym (ap (λ (l : List (List ℕ)). get_or l 3 []) h.2) in
     none query (subst (λ (t : List ℕ). IsInterval from t query) last (subst (λ (f : List ℕ). IsInterval f h.1 query) first h.3))
-not_get word name from to none Status h = let long : 4 ≡ 1 = ap length h in omega (arith, long)
-not_get word name from to none Check h = let long : 4 ≡ 1 = ap length h in omega (arith, long)
+not_get word name from to none (OverStore Status) h = let long : 4 ≡ 1 = ap length h in omega (arith, long)
+not_get word name from to none (OverStore Check) h = let long : 4 ≡ 1 = ap length h in omega (arith, long)
 
 -- no command has another number of words
 pub other_length : (words : List (List ℕ)) → length words ≢ 1 → length words ≢ 3 → length words ≢ 4 → (c : Command) → AsksFor c words → ⊥
 other_length words one three four (Extract query) h = three (ap length h.2)
-other_length words one three four Ingest h = one (ap length h)
-other_length words one three four (Get name query) h = four (ap length h.2)
-other_length words one three four Status h = one (ap length h)
-other_length words one three four Check h = one (ap length h)
+other_length words one three four (OverStore Ingest) h = one (ap length h)
+other_length words one three four (OverStore (Get name query)) h = four (ap length h.2)
+other_length words one three four (OverStore Status) h = one (ap length h)
+other_length words one three four (OverStore Check) h = one (ap length h)

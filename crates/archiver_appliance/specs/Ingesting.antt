@@ -1,19 +1,20 @@
 -- What `ingest` makes of what a disk holds.
-use Rattle.std.specs.Prelude.{◌≡◌, ℕ, List, ◌++◌, Option}
-use Rattle.disk_model.specs.Past.{Past, MayLeave, Passes}
+use Rattle.std.specs.Prelude.{◌≡◌, ◌⊎◌, ℕ, List, ◌++◌}
 use Rattle.disk_model.specs.Files.{Files}
-use Rattle.edge_io.specs.Moments.{Moments, Gives}
+use Rattle.disk_model.specs.Past.{Past, Passes}
+use Rattle.edge_io.specs.Moments.{Gives}
 use Rattle.partition_names.specs.declared.granularity.Granularity.{Granularity}
 use Rattle.pb_lines.specs.Stream.{Item}
 use Rattle.tier_store.specs.Held.{Held}
-use Rattle.tier_store.specs.Stored.{Holds}
-use Rattle.store_reopen.specs.Reopen.{Opens}
-use Rattle.store_ingest.specs.Life.{Life, first_life, TakesAll, HoldsAll, HoldsFlushed, IsBetween, LeavesBetween}
-use Rattle.store_ingest.specs.Ingest.{TakesOf, UnusedOf}
+use Rattle.tier_store.specs.Stored.{HoldsEither}
+use Rattle.store_reopen.specs.Reopen.{Opens, OpensEither}
+use Rattle.store_ingest.specs.Life.{Life, first_life, TakesAll, HoldsAll, HoldsFlushed, IsFlushedWith}
+use Rattle.store_ingest.specs.Ingest.{ReadsOf, StopsAt, LeavesAt}
 use Rattle.store_ingest.specs.declared.ingest.Ingested.{Ingested}
 use Rattle.store_ingest.specs.declared.ingest.Ingested.TheVariants as ingested
 use Rattle.archiver_appliance.specs.declared.status.Status.{Status}
 use Rattle.archiver_appliance.specs.declared.status.Status.TheVariants.{Done, Refused, SourceFault, DiskFault, OutOfMemory}
+use Rattle.archiver_appliance.specs.Outside.{Outside}
 
 -- the status of what an ingest came to
 abbrev pub ingested_status : Ingested → Status
@@ -23,31 +24,42 @@ ingested_status ingested.SourceFault = SourceFault
 ingested_status ingested.DiskFault = DiskFault
 ingested_status ingested.OutOfMemory = OutOfMemory
 
--- each image holds something that lies between all that is flushed and all that is accepted
-abbrev pub HoldBetween : Granularity → Life → Past → Type 0
-HoldBetween g life past = (image : Files) → MayLeave past image → (held : Held) × Holds g image held × IsBetween life.rows life.flushed life held
+-- whatever a crash now may leave holds one thing of this kind
+pub record HoldsOf (g : Granularity) (Is : Held → Type 0) (past : Past) : Type 0 where
+  pub held : Held
+  pub is : Is held
+  pub opens : Opens g past held
 
--- What a crash now may leave: at the end, and at the first bad line, all that was accepted; after a fault of the source, all that was
--- flushed; otherwise something between the two.
-abbrev pub Leaves : Granularity → Ingested → Life → Past → Type 0
-Leaves g ingested.Done life past = (held : Held) × HoldsAll life held × Opens g past held
-Leaves g (ingested.Refused line fault) life past = (held : Held) × HoldsAll life held × Opens g past held
-Leaves g ingested.SourceFault life past = (held : Held) × HoldsFlushed life held × Opens g past held
-Leaves g ingested.DiskFault life past = HoldBetween g life past
-Leaves g ingested.OutOfMemory life past = HoldBetween g life past
+-- it holds what was flushed, or that with what comes of the item that was begun
+pub record HoldsUnsure (g : Granularity) (life : Life) (begun : List Item) (unused : List ℕ) (past : Past) : Type 0 where
+  pub before : Held
+  pub after : Held
+  pub flushed : HoldsFlushed life before
+  pub flushed_with : IsFlushedWith life begun unused after
+  pub opens : OpensEither g past before after
 
--- What an ingest made of what was held at first: which items of the stream it took, the moments at which their samples were offered, and
--- what was accepted. At each moment a crash left something that lies between what was held at first and what was accepted.
-pub record IngestsInto (g : Granularity) (first : Held) (status : Status) (source : Option (List ℕ)) (clock clock' : Option Moments) (old new : Past) : Type 0 where
+-- What a crash now may leave: at the end, and at the first bad line, all that was accepted; otherwise what was flushed, and after a fault
+-- of the disk it isn't known whether what comes of the item that was begun was flushed too.
+abbrev pub Leaves : Granularity → Ingested → Life → List Item → List ℕ → Past → Type 0
+Leaves g ingested.Done life begun unused past = HoldsOf g (HoldsAll life) past
+Leaves g (ingested.Refused line fault) life begun unused past = HoldsOf g (HoldsAll life) past
+Leaves g ingested.DiskFault life begun unused past = HoldsOf g (HoldsFlushed life) past ⊎ HoldsUnsure g life begun unused past
+Leaves g _ life begun unused past = HoldsOf g (HoldsFlushed life) past
+
+-- What an ingest made of what reads gave at first: which items of the stream it took, the moments at which their samples were offered, what
+-- was accepted, and the item at which it stopped. At each moment a crash left the one or the other of what it might have left before, or
+-- what was flushed at one point of the stream.
+pub record IngestsInto (g : Granularity) (one other first : Held) (old new : Outside) (status : Status) : Type 0 where
   pub came : Ingested
   pub told : status ≡ ingested_status came
   pub items : List Item
   pub moments : List ℕ
-  pub unused : List ℕ
   pub life : Life
+  pub begun : List Item
+  pub unused : List ℕ
   pub takes : TakesAll (first_life first) items moments life
-  pub of_stream : TakesOf came source items
-  pub at : Gives clock clock' (moments ++ unused)
-  pub none_else : UnusedOf came unused
-  pub leaves : Leaves g came life new
-  pub any_moment : Passes (LeavesBetween g first life) old new
+  pub reads : ReadsOf came old.source (items ++ begun)
+  pub at : Gives old.clock new.clock (moments ++ unused)
+  pub stops : StopsAt came begun unused
+  pub leaves : Leaves g came life begun unused new.past
+  pub any_moment : Passes (λ a c. HoldsEither g one other a c ⊎ LeavesAt g first items moments life begun unused a c) old.past new.past

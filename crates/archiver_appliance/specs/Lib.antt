@@ -4,6 +4,7 @@ pub mod Complaint
 pub mod Extract
 pub mod Ingesting
 pub mod Judging
+pub mod Outside
 pub mod Reporting
 pub mod Run
 pub mod Status

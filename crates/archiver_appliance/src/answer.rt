@@ -1,3 +1,4 @@
+// The answer over the samples of a chunk, as they come.
 ghost use Rattle.std.specs.Prelude.{◌≡◌, ◌++◌, ◌∷◌, [], List, OnOk, OnErr, Some, true, if◌then◌else◌};
 ghost use Rattle.std.specs.Io.{StartsWith};
 ghost use Rattle.series_model.specs.declared.sample.Sample.{Sample};

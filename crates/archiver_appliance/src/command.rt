@@ -1,3 +1,4 @@
+// The words of the command line, and what they ask for.
 ghost use Rattle.std.specs.Prelude.{◌≡◌, ◌∷◌, [], IfSome, IfNone, map};
 ghost use Rattle.std.specs.List.{list_any};
 ghost use Rattle.series_model.specs.declared.sample.Query.{Query};
@@ -12,6 +13,13 @@ use series_model::Query;
 pub enum Command<'a> {
     /// `extract FROM TO`
     Extract { query: Query },
+    /// A command over a store.
+    OverStore(StoreCommand<'a>),
+}
+
+/// What the words ask of a store.
+#[derive(Clone, Copy)]
+pub enum StoreCommand<'a> {
     /// `ingest`
     Ingest,
     /// `get NAME FROM TO`
@@ -69,9 +77,9 @@ fn bare_command<'a>(word: &str) -> Option<Command<'a>>
     ensures none { IfNone result ((c : CommandValue) → AsksFor c (word.now ∷ []) → ⊥) }
 {
     match word {
-        "ingest" => Some(Command::Ingest),
-        "status" => Some(Command::Status),
-        "check" => Some(Command::Check),
+        "ingest" => Some(Command::OverStore(StoreCommand::Ingest)),
+        "status" => Some(Command::OverStore(StoreCommand::Status)),
+        "check" => Some(Command::OverStore(StoreCommand::Check)),
         _ => None,
     }
 }
@@ -97,7 +105,7 @@ fn get_command<'a>(word: &str, name: &'a str, from: &str, to: &str) -> Option<Co
         return None;
     }
     let query = interval(from, to)?;
-    Some(Command::Get { name, query })
+    Some(Command::OverStore(StoreCommand::Get { name, query }))
 }
 
 // The interval between two moments.

@@ -1,3 +1,4 @@
+// The one line that tells why a command ended with a status other than 0.
 ghost use Rattle.std.specs.Prelude.{◌≤◌};
 ghost use Rattle.std.specs.List.{flat_map};
 ghost use Rattle.archiver_appliance.specs.declared.status.Status.TheVariants.{Damaged};

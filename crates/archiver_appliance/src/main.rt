@@ -21,8 +21,8 @@ mod opened;
 mod run;
 mod status;
 
-use disk_model::FolderDisk;
-use edge_io::{StdSink, StdSource, SystemClock};
+use disk_model::{Access, FolderDisk, Trouble};
+use edge_io::{StdSink, StdSource, SystemClock, write_whole};
 use etl_rules::Config;
 use std::alloc::{AllocError, Global};
 use std::env::{self, VarError};
@@ -43,7 +43,7 @@ fn main(rt: HostRuntime) -> ExitCode {
     }
 }
 
-// Runs over the standard streams. A folder whose name isn't UTF-8 can't be used.
+// Runs over the standard streams, and tells what befell the disk behind the complaint. A folder whose name isn't UTF-8 can't be used.
 fn started(rt: &HostRuntime) -> Result<u8, VarError> {
     let arguments = arguments(rt)?;
     let words = texts(rt.alloc(), &arguments)?;
@@ -51,12 +51,18 @@ fn started(rt: &HostRuntime) -> Result<u8, VarError> {
     let short = folder(rt, "ARCHAPPL_SHORT_TERM_FOLDER", "sts")?;
     let medium = folder(rt, "ARCHAPPL_MEDIUM_TERM_FOLDER", "mts")?;
     let long = folder(rt, "ARCHAPPL_LONG_TERM_FOLDER", "lts")?;
-    let disk = FolderDisk::new(rt, rt.alloc(), &site, &short, &medium, &long)?;
+    let folders = [
+        site.as_str(),
+        short.as_str(),
+        medium.as_str(),
+        long.as_str(),
+    ];
+    let disk = FolderDisk::new(rt, rt.alloc(), access(&words), folders)?;
     let mut source = StdSource::new(rt.stdin());
     let mut sink = StdSink::new(rt.stdout());
     let mut complaints = StdSink::new(rt.stderr());
     let mut clock = SystemClock::new(rt);
-    let ended = run::run(
+    let mut ended = run::run(
         rt.alloc(),
         &words,
         &Config::shipped(),
@@ -66,7 +72,32 @@ fn started(rt: &HostRuntime) -> Result<u8, VarError> {
         disk,
         &mut clock,
     );
+    if ended.status == status::Status::DiskFault.number() {
+        let trouble = match &mut ended.failed {
+            Some(file) => file.take_trouble(),
+            None => ended.disk.take_trouble(),
+        };
+        tell(rt, trouble);
+    }
     Ok(ended.status)
+}
+
+// The commands that change nothing leave others beside them, and need not be allowed to write.
+fn access(words: &[&str]) -> Access {
+    match words.first() {
+        Some(word) if ["get", "status", "check"].contains(word) => Access::Read,
+        _ => Access::Write,
+    }
+}
+
+// A line with the path and the system's error. Nobody is left to hear where it can't be written.
+fn tell(rt: &HostRuntime, trouble: Option<Trouble>) {
+    let Some(trouble) = trouble else {
+        return;
+    };
+    if let Ok(line) = format!(in rt.alloc(); "archappl: {trouble}\n") {
+        let _ = write_whole(&mut StdSink::new(rt.stderr()), line.as_bytes());
+    }
 }
 
 // The arguments. One that isn't UTF-8 makes a faulty command line, as no words do.
@@ -92,10 +123,11 @@ fn texts<'a>(alloc: Global, words: &'a [String]) -> Result<Vec<&'a str>, AllocEr
     Ok(texts)
 }
 
-// The folder that the environment names, or else this one.
+// The folder that the environment names, or else this one. An empty name is none.
 fn folder(rt: &HostRuntime, name: &str, default: &str) -> Result<String, VarError> {
     match env::var(rt, name) {
-        Err(VarError::NotPresent) => Ok(default.to_string(rt.alloc())?),
-        folder => folder,
+        Ok(folder) if !folder.is_empty() => Ok(folder),
+        Ok(_) | Err(VarError::NotPresent) => Ok(default.to_string(rt.alloc())?),
+        Err(err) => Err(err),
     }
 }

@@ -1,3 +1,4 @@
+// What a command came to, and the number that it ends with.
 ghost use Rattle.std.specs.Prelude.{◌≡◌};
 ghost use Rattle.archiver_appliance.specs.Status.{number_of};
 

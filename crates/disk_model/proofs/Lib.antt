@@ -1,4 +1,3 @@
-mod Appending
 mod Crashing
 pub mod Fronts
 mod Listing

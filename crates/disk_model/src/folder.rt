@@ -3,32 +3,39 @@ ghost use Rattle.std.specs.Prelude.{◌≡◌, ◌≤◌, IfOk, IsErr, Ok, Err, 
 ghost use Rattle.disk_model.specs.declared.disk.DiskErr.TheVariants.{Fault};
 ghost use Rattle.disk_model.specs.Files.{Rose};
 
-use crate::folders::{Folders, read_at};
+use crate::folders::{Access, Folders, read_from};
+use crate::trouble::Trouble;
 use crate::{Disk, DiskErr, FileName, ReadAt, ReadFailed};
 use std::alloc::{AllocError, Global};
-use std::fs::OpenFile;
-use std::io::{self, Read, Seek};
+use std::fs::File;
+use std::io;
 use std::rt::Files;
 
 /// A file that a `FolderDisk` opened. It keeps the file open, so that its bytes stay when the name is removed.
 #[derive(Drop)]
-pub struct FolderFile<F: Read + Seek + OpenFile + Drop> {
-    file: F,
+pub struct FolderFile {
+    file: File,
+    path: Option<String>,
     len: u64,
     faults: u64,
+    trouble: Option<Trouble>,
 }
 
-impl<F: Read + Seek + OpenFile + Drop> FolderFile<F> {
+impl FolderFile {
+    /// Why its first read that failed did, since this was asked last.
+    pub fn take_trouble(&mut self) -> Option<Trouble> {
+        self.trouble.take()
+    }
+
     // All bytes from `at` that fit into `buf`; fewer than the file had when it was opened are a fault.
-    fn read_whole(&mut self, at: u64, buf: &mut [u8]) -> io::Result<usize>
+    fn read_whole(&self, at: u64, buf: &mut [u8]) -> io::Result<usize>
         ensures fits { IfOk result (λ n. n ≤ length buf.old) }
-        ensures same { self.new.faults ≡ self.old.faults }
     {
         if self.len < at {
             return Err(io::ErrorKind::InvalidInput.into());
         }
         let want = (buf.len() as u64).min(self.len - at) as usize;
-        let got = read_at(&mut self.file, at, &mut buf[..want])?;
+        let got = read_from(&self.file, at, &mut buf[..want])?;
         if got < want {
             return Err(io::ErrorKind::UnexpectedEof.into());
         }
@@ -36,7 +43,7 @@ impl<F: Read + Seek + OpenFile + Drop> FolderFile<F> {
     }
 }
 
-impl<F: Read + Seek + OpenFile + Drop> ReadAt for FolderFile<F> {
+impl ReadAt for FolderFile {
     ghost use Rattle.std.specs.Prelude.{false, []};
 
     ghost tells = { false };
@@ -48,8 +55,12 @@ impl<F: Read + Seek + OpenFile + Drop> ReadAt for FolderFile<F> {
     fn read_at(&mut self, at: u64, buf: &mut [u8]) -> Result<usize, ReadFailed> {
         match self.read_whole(at, buf) {
             Ok(n) => Ok(n),
-            Err(_) => {
+            Err(error) => {
                 self.faults = self.faults.saturating_add(1);
+                if self.trouble.is_none() {
+                    let path = self.path.take();
+                    self.trouble = Some(Trouble { path, error });
+                }
                 Err(ReadFailed)
             }
         }
@@ -57,34 +68,52 @@ impl<F: Read + Seek + OpenFile + Drop> ReadAt for FolderFile<F> {
 }
 
 /// Files of the operating system in four folders: the site's for store 0, which has the catalogue and the manifests, and the
-/// short, medium and long term's for the stores 1, 2 and 3. A folder that is absent is made. It keeps the last used file of each
-/// store open, and after a sync that failed it syncs nothing more.
+/// short, medium and long term's for the stores 1, 2 and 3. A folder that is absent is made before the first file in it. It keeps
+/// the last used file of each store open, and after a sync that failed it syncs nothing more.
+///
+/// Its first call takes the lock of the site's folder, which it keeps: one program writes and no other reads or writes, or some
+/// read. Where another has the lock, each call is a fault. So it is where two stores have one folder, and where a link, a pipe or a
+/// folder stands in a file's place.
+///
+/// A disk that only reads makes no folder, and where the site's is absent there are no files. What loading writes into the journals
+/// of the site's folder, to begin them, it keeps in memory. Any other change is a fault.
 #[derive(Drop)]
-pub struct FolderDisk<R: Files + Drop> {
+pub struct FolderDisk<R: Files<File = File> + Drop> {
     folders: Folders<R>,
     faults: u64,
+    trouble: Option<Trouble>,
 }
 
-impl<R: Files + Drop> FolderDisk<R> {
-    /// Folders by their paths. Nothing is read or made yet.
+impl<R: Files<File = File> + Drop> FolderDisk<R> {
+    /// Folders by their paths, in the order of the stores. Nothing is read or made yet.
     pub fn new(
         files: R,
         alloc: Global,
-        site: &str,
-        short: &str,
-        medium: &str,
-        long: &str,
+        access: Access,
+        folders: [&str; 4],
     ) -> Result<FolderDisk<R>, AllocError>
         ensures { IfOk result (λ disk. disk.faults ≡ 0) }
     {
         Ok(FolderDisk {
-            folders: Folders::new(files, alloc, [site, short, medium, long])?,
+            folders: Folders::new(files, alloc, access, folders)?,
             faults: 0,
+            trouble: None,
         })
     }
 
-    // Counts what the system refused.
-    fn counted<T: Drop>(&mut self, answer: io::Result<T>) -> Result<T, DiskErr>
+    /// Why its first call that failed did, since this was asked last.
+    pub fn take_trouble(&mut self) -> Option<Trouble>
+        ensures { self.new.faults ≡ self.old.faults }
+    {
+        self.trouble.take()
+    }
+
+    // Counts what the system refused, and remembers the first of it.
+    fn counted<T: Drop>(
+        &mut self,
+        name: Option<&FileName>,
+        answer: io::Result<T>,
+    ) -> Result<T, DiskErr>
         ensures value { IfOk result (λ x. answer ≡ Ok x) }
         ensures fault { IsErr result → result ≡ Err Fault }
         ensures faults { self.old.faults ≤ self.new.faults }
@@ -92,16 +121,20 @@ impl<R: Files + Drop> FolderDisk<R> {
     {
         match answer {
             Ok(value) => Ok(value),
-            Err(_) => {
+            Err(error) => {
                 self.faults = self.faults.saturating_add(1);
+                if self.trouble.is_none() {
+                    let path = self.folders.place_of(name);
+                    self.trouble = Some(Trouble { path, error });
+                }
                 Err(DiskErr::Fault)
             }
         }
     }
 }
 
-impl<R: Files + Drop> Disk for FolderDisk<R> {
-    type Reader = FolderFile<R::File>;
+impl<R: Files<File = File> + Drop> Disk for FolderDisk<R> {
+    type Reader = FolderFile;
 
     ghost use Rattle.std.specs.Prelude.{false, None};
     ghost use Rattle.disk_model.specs.Past.{untold, told_not};
@@ -122,51 +155,53 @@ impl<R: Files + Drop> Disk for FolderDisk<R> {
 
     fn create(&mut self, name: &FileName) -> Result<(), DiskErr> {
         let answer = self.folders.create(name);
-        self.counted(answer)
+        self.counted(Some(name), answer)
     }
 
     fn write(&mut self, name: &FileName, at: u64, bytes: &[u8]) -> Result<(), DiskErr> {
         let answer = self.folders.write(name, at, bytes);
-        self.counted(answer)
+        self.counted(Some(name), answer)
     }
 
     fn read(&mut self, name: &FileName, at: u64, buf: &mut [u8]) -> Result<usize, DiskErr> {
         let answer = self.folders.read(name, at, buf);
-        self.counted(answer)
+        self.counted(Some(name), answer)
     }
 
     fn size(&mut self, name: &FileName) -> Result<Option<u64>, DiskErr> {
         let answer = self.folders.size(name);
-        self.counted(answer)
+        self.counted(Some(name), answer)
     }
 
     fn cut(&mut self, name: &FileName, len: u64) -> Result<(), DiskErr> {
         let answer = self.folders.cut(name, len);
-        self.counted(answer)
+        self.counted(Some(name), answer)
     }
 
     fn sync(&mut self, name: &FileName) -> Result<(), DiskErr> {
         let answer = self.folders.sync(name);
-        self.counted(answer)
+        self.counted(Some(name), answer)
     }
 
     fn remove(&mut self, name: &FileName) -> Result<(), DiskErr> {
         let answer = self.folders.remove(name);
-        self.counted(answer)
+        self.counted(Some(name), answer)
     }
 
     fn names(&mut self, store: u8) -> Result<Vec<FileName>, DiskErr> {
         let answer = self.folders.names(store);
-        self.counted(answer)
+        self.counted(None, answer)
     }
 
-    fn open_file(&mut self, name: &FileName, len: u64) -> Result<FolderFile<R::File>, DiskErr> {
+    fn open_file(&mut self, name: &FileName, len: u64) -> Result<FolderFile, DiskErr> {
         let answer = self.folders.open(name, len);
-        let file = self.counted(answer)?;
+        let (file, path) = self.counted(Some(name), answer)?;
         Ok(FolderFile {
             file,
+            path: Some(path),
             len,
             faults: 0,
+            trouble: None,
         })
     }
 }

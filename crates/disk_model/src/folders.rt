@@ -2,71 +2,67 @@
 ghost use Rattle.std.specs.Prelude.{◌≤◌, ◌<◌, ◌+◌, ◌^◌, IfOk, OnOk, length};
 
 use crate::FileName;
+use crate::drafts::{Drafts, copy_from, written};
+use crate::paths::{ancestors, parent, stays_inside, trimmed};
 use std::alloc::{AllocError, Global};
 use std::collections::BTreeSet;
-use std::fs::{self, OpenFile, OpenOptions};
-use std::io::{self, ErrorKind, Read, Seek, SeekFrom, Write};
+use std::fs::{self, File, OpenOptions, TryLockError};
+use std::io::{self, ErrorKind};
+use std::os::unix::fs::{FileExt, MetadataExt};
 use std::rt::Files;
 use std::str;
 
+/// What a disk of folders may do with them.
+#[derive(Clone, Copy, Debug, PartialEq, Eq)]
+pub enum Access {
+    /// Read alone, beside others that read. No file and no folder is made but the lock, and none is changed.
+    Read,
+    /// Read and write, and nobody else meanwhile.
+    Write,
+}
+
+// The file of the site's folder that is locked. No file of a store has its name.
+const LOCK: &str = "lock";
+
+// Whether the folders may be used.
+#[derive(Drop)]
+enum Turn {
+    // No call was made yet that could be.
+    Waits,
+    // The site's folder is locked, or it has no file to lock and this program may make none.
+    Taken(Option<File>),
+    // There is no site's folder, and none is made. No store has a file.
+    Empty,
+}
+
 // A file that is kept open.
 #[derive(Drop)]
-struct Held<F: Drop> {
+struct Held {
     name: FileName,
-    file: F,
+    file: File,
 }
 
 #[derive(Drop)]
-pub struct Folders<R: Files + Drop> {
+pub struct Folders<R: Files<File = File> + Drop> {
     files: R,
     alloc: Global,
+    access: Access,
     roots: Vec<String>,
+    turn: Turn,
     // Of each store the file that was used last.
-    held: Vec<Option<Held<R::File>>>,
+    held: Vec<Option<Held>>,
+    // The journals that a disk which only reads was to write.
+    drafts: Drafts,
     // The folders that were synced since a name was last made or removed in them.
     synced: BTreeSet<String>,
     // A sync failed. The system tells that once, and a later sync would answer as if all were written.
     failed: bool,
-}
-
-// Whether a path names something within a folder: it has no empty segment and none that is `.` or `..`.
-fn stays_inside(path: &str) -> bool {
-    for segment in path.split('/') {
-        if segment.is_empty() || segment == "." || segment == ".." {
-            return false;
-        }
-    }
-    true
-}
-
-// What has this folder.
-fn parent(folder: &str) -> &str {
-    match folder.rsplit_once('/') {
-        Some(("", _)) => "/",
-        Some((parent, _)) => parent,
-        None => ".",
-    }
-}
-
-// The folder that has a store's folder, whose path has `root` bytes, that one, and each from there to a file of the store.
-fn ancestors(alloc: Global, path: &str, root: usize) -> Result<Vec<&str>, AllocError> {
-    let mut folders = Vec::new(alloc);
-    for end in root..path.len() {
-        match path.split_at_checked(end) {
-            Some((folder, rest)) if rest.starts_with('/') => {
-                if end == root {
-                    folders.push(parent(folder))?;
-                }
-                folders.push(folder)?;
-            }
-            _ => {}
-        }
-    }
-    Ok(folders)
+    // The path of the last call that failed, where it isn't that of the file that was asked for.
+    place: Option<String>,
 }
 
 // Reads until `buf` is full or the file ends.
-fn fill<F: Read>(file: &mut F, buf: &mut [u8]) -> io::Result<usize>
+pub fn read_from(file: &File, at: u64, buf: &mut [u8]) -> io::Result<usize>
     ensures { IfOk result (λ n. n ≤ length buf.old) }
 {
     let mut n = 0;
@@ -74,7 +70,7 @@ fn fill<F: Read>(file: &mut F, buf: &mut [u8]) -> io::Result<usize>
         if n >= buf.len() {
             break;
         }
-        match file.read(&mut buf[n..]) {
+        match file.read_at(&mut buf[n..], at.saturating_add(n as u64)) {
             Ok(0) => break,
             Ok(more) => n += more,
             Err(e) if e.kind() == ErrorKind::Interrupted => {}
@@ -84,46 +80,64 @@ fn fill<F: Read>(file: &mut F, buf: &mut [u8]) -> io::Result<usize>
     Ok(n)
 }
 
-// Reads all bytes from a place that fit into `buf`. A place past the end is refused.
-pub fn read_at<F: Read + Seek + OpenFile>(
-    file: &mut F,
-    at: u64,
-    buf: &mut [u8],
-) -> io::Result<usize>
-    ensures { IfOk result (λ n. n ≤ length buf.old) }
-{
-    if file.metadata()?.len() < at {
-        return Err(ErrorKind::InvalidInput.into());
-    }
-    file.seek(SeekFrom::Start(at))?;
-    fill(file, buf)
+fn not_a_file() -> io::Error {
+    io::Error::new(ErrorKind::InvalidInput, "not a regular file")
 }
 
-// Writes at a place that isn't past the end.
-fn write_at<F: Write + Seek + OpenFile>(file: &mut F, at: u64, bytes: &[u8]) -> io::Result<()> {
-    if file.metadata()?.len() < at {
-        return Err(ErrorKind::InvalidInput.into());
-    }
-    file.seek(SeekFrom::Start(at))?;
-    file.write_all(bytes)
+fn only_reads() -> io::Error {
+    io::Error::new(ErrorKind::ReadOnlyFilesystem, "opened to read alone")
 }
 
-impl<R: Files + Drop> Folders<R> {
-    pub fn new(files: R, alloc: Global, roots: [&str; 4]) -> Result<Folders<R>, AllocError> {
+// Whether nothing may be written there.
+fn is_closed(kind: ErrorKind) -> bool {
+    matches!(
+        kind,
+        ErrorKind::PermissionDenied | ErrorKind::ReadOnlyFilesystem
+    )
+}
+
+impl<R: Files<File = File> + Drop> Folders<R> {
+    pub fn new(
+        files: R,
+        alloc: Global,
+        access: Access,
+        roots: [&str; 4],
+    ) -> Result<Folders<R>, AllocError> {
         let mut paths = Vec::new(alloc);
         let mut held = Vec::new(alloc);
         for root in roots {
-            paths.push(String::from_str(alloc, root)?)?;
+            paths.push(String::from_str(alloc, trimmed(root))?)?;
             held.push(None)?;
         }
         Ok(Folders {
             files,
             alloc,
+            access,
             roots: paths,
+            turn: Turn::Waits,
             held,
+            drafts: Drafts::new(alloc),
             synced: BTreeSet::new(alloc),
             failed: false,
+            place: None,
         })
+    }
+
+    // The path of the last call that failed: the one that was noted, or else that of a name.
+    pub fn place_of(&mut self, name: Option<&FileName>) -> Option<String> {
+        match (self.place.take(), name) {
+            (Some(place), _) => Some(place),
+            (None, Some(name)) => self.path(name).ok(),
+            (None, None) => None,
+        }
+    }
+
+    // Notes the path of a call that failed.
+    fn noted<T: Drop>(&mut self, path: &str, answer: io::Result<T>) -> io::Result<T> {
+        if answer.is_err() {
+            self.place = String::from_str(self.alloc, path).ok();
+        }
+        answer
     }
 
     fn root(&self, store: u8) -> io::Result<&str> {
@@ -133,12 +147,115 @@ impl<R: Files + Drop> Folders<R> {
         }
     }
 
+    fn root_copy(&self, store: u8) -> io::Result<String> {
+        Ok(String::from_str(self.alloc, self.root(store)?)?)
+    }
+
     // The path of a name, which stays within its store's folder.
     fn path(&self, name: &FileName) -> io::Result<String> {
         let root = self.root(name.store)?;
         match str::from_utf8(&name.path) {
-            Ok(path) if stays_inside(path) => Ok(format!(in self.alloc; "{root}/{path}")?),
+            Ok(path) if stays_inside(path) && (name.store != 0 || path != LOCK) => {
+                Ok(format!(in self.alloc; "{root}/{path}")?)
+            }
             _ => Err(ErrorKind::InvalidInput.into()),
+        }
+    }
+
+    // Before the first call: takes the lock, and looks whether the stores have folders of their own.
+    fn begin(&mut self) -> io::Result<()> {
+        if matches!(self.turn, Turn::Waits) {
+            let site = self.root_copy(0)?;
+            let turn = self.take_turn(site.as_str())?;
+            self.stand_apart()?;
+            self.turn = turn;
+        }
+        Ok(())
+    }
+
+    fn take_turn(&mut self, site: &str) -> io::Result<Turn> {
+        match self.access {
+            Access::Write => {
+                self.make_folder(site, site.len())?;
+            }
+            Access::Read => {
+                let found = fs::exists(&self.files, site);
+                if !self.noted(site, found)? {
+                    return Ok(Turn::Empty);
+                }
+            }
+        }
+        let path = format!(in self.alloc; "{site}/{LOCK}")?;
+        let locked = self.lock(path.as_str());
+        Ok(Turn::Taken(self.noted(path.as_str(), locked)?))
+    }
+
+    // The lock, alone or with others that read, if there is a file for it.
+    fn lock(&self, path: &str) -> io::Result<Option<File>> {
+        let Some(file) = self.open_lock(path)? else {
+            return Ok(None);
+        };
+        let taken = match self.access {
+            Access::Read => file.try_lock_shared(),
+            Access::Write => file.try_lock(),
+        };
+        match taken {
+            Ok(()) => Ok(Some(file)),
+            Err(TryLockError::WouldBlock) => {
+                let held = "lock held by another program";
+                Err(io::Error::new(ErrorKind::WouldBlock, held))
+            }
+            Err(TryLockError::Error(e)) => Err(e),
+        }
+    }
+
+    // The file that is locked, which is made where there is none. One that only reads goes without where it may make none.
+    fn open_lock(&self, path: &str) -> io::Result<Option<File>> {
+        let is_there = self.size_of(path)?.is_some();
+        let made = OpenOptions::new()
+            .read(true)
+            .write(true)
+            .create(true)
+            .open(&self.files, path);
+        match made {
+            Ok(file) => Ok(Some(file)),
+            Err(e) if is_closed(e.kind()) && is_there => Ok(Some(fs::open(&self.files, path)?)),
+            Err(e) if is_closed(e.kind()) && self.access == Access::Read => Ok(None),
+            Err(e) => Err(e),
+        }
+    }
+
+    // Two stores in one folder would write over each other's files.
+    fn stand_apart(&mut self) -> io::Result<()> {
+        let mut seen: Vec<(u64, u64)> = Vec::new(self.alloc);
+        for store in 0..4u8 {
+            let root = self.root_copy(store)?;
+            match fs::metadata(&self.files, root.as_str()) {
+                Ok(found) => {
+                    let folder = (found.dev(), found.ino());
+                    if seen.contains(&folder) {
+                        let twice = io::Error::new(ErrorKind::InvalidInput, "folder of two stores");
+                        return self.noted(root.as_str(), Err(twice));
+                    }
+                    seen.push(folder)?;
+                }
+                Err(e) if e.kind() == ErrorKind::NotFound => {}
+                Err(e) => return self.noted(root.as_str(), Err(e)),
+            }
+        }
+        Ok(())
+    }
+
+    // The size of a path's file, if there is one. A link, a pipe or a folder in its place is refused.
+    fn size_of(&self, path: &str) -> io::Result<Option<u64>> {
+        if matches!(self.turn, Turn::Empty) {
+            return Ok(None);
+        }
+        match fs::symlink_metadata(&self.files, path) {
+            Ok(found) if found.is_file() => Ok(Some(found.len())),
+            Ok(_) => Err(not_a_file()),
+            Err(e) if e.kind() == ErrorKind::NotFound => Ok(None),
+            Err(e) => Err(e),
         }
     }
 
@@ -149,7 +266,7 @@ impl<R: Files + Drop> Folders<R> {
         }
     }
 
-    fn keep(&mut self, name: &FileName, file: R::File) -> io::Result<()> {
+    fn keep(&mut self, name: &FileName, file: File) -> io::Result<()> {
         let name = name.copy(self.alloc)?;
         if let Some(held) = self.held.get_mut(name.store as usize) {
             *held = Some(Held { name, file });
@@ -164,24 +281,33 @@ impl<R: Files + Drop> Folders<R> {
     }
 
     // A name's file, which is opened where it isn't held.
-    fn file(&mut self, name: &FileName) -> io::Result<&mut R::File> {
+    fn file(&mut self, name: &FileName) -> io::Result<&File> {
         if !self.holds(name) {
             let path = self.path(name)?;
+            if self.size_of(path.as_str())?.is_none() {
+                return Err(ErrorKind::NotFound.into());
+            }
             let file = OpenOptions::new()
                 .read(true)
-                .write(true)
+                .write(self.access == Access::Write)
                 .open(&self.files, path.as_str())?;
             self.keep(name, file)?;
         }
-        match self.held.get_mut(name.store as usize) {
-            Some(Some(held)) => Ok(&mut held.file),
+        match self.held.get(name.store as usize) {
+            Some(Some(held)) => Ok(&held.file),
             _ => Err(ErrorKind::NotFound.into()),
         }
     }
 
     pub fn create(&mut self, name: &FileName) -> io::Result<()> {
+        self.begin()?;
+        if self.access == Access::Read {
+            self.may_draft(name)?;
+            self.drafts.put(name, &[])?;
+            return Ok(());
+        }
         let path = self.path(name)?;
-        self.make_folder(name, path.as_str())?;
+        self.make_way(name.store, parent(path.as_str()))?;
         let file = OpenOptions::new()
             .read(true)
             .write(true)
@@ -191,17 +317,56 @@ impl<R: Files + Drop> Folders<R> {
     }
 
     // Makes the folder of a new file, where it isn't known to be there. No folder that got a name counts as synced.
-    fn make_folder(&mut self, name: &FileName, path: &str) -> io::Result<()> {
-        let folder = parent(path);
+    fn make_way(&mut self, store: u8, folder: &str) -> io::Result<()> {
         if self.synced.remove(folder) {
             return Ok(());
         }
-        fs::create_dir_all(&self.files, folder)?;
-        let root = self.root(name.store)?.len();
-        for folder in ancestors(self.alloc, path, root)? {
-            self.synced.remove(folder);
+        let root = self.root(store)?.len();
+        if self.make_folder(folder, root)? {
+            let apart = self.stand_apart();
+            if apart.is_err() {
+                self.turn = Turn::Waits;
+            }
+            apart?;
         }
         Ok(())
+    }
+
+    // Makes a folder, and what of those that lead to it is absent, and tells whether any was. Those down to a store's own, whose path
+    // has `root` bytes, are synced at once: where the program is stopped between two of them, the next one begins above the last that
+    // is there.
+    fn make_folder(&mut self, folder: &str, root: usize) -> io::Result<bool> {
+        let mut absent = Vec::new(self.alloc);
+        let mut level = folder;
+        for _ in 0..folder.len() {
+            if self.has_folder(level)? {
+                break;
+            }
+            absent.push(level)?;
+            level = parent(level);
+        }
+        if !absent.is_empty() && level.len() <= root {
+            self.sync_above(level)?;
+        }
+        for made in absent.iter().rev() {
+            let answer = fs::create_dir(&self.files, *made);
+            self.noted(made, answer)?;
+            let above = parent(made);
+            self.synced.remove(above);
+            if made.len() <= root {
+                self.sync_folder(above)?;
+            }
+        }
+        Ok(!absent.is_empty())
+    }
+
+    fn has_folder(&mut self, path: &str) -> io::Result<bool> {
+        match fs::metadata(&self.files, path) {
+            Ok(found) if found.is_dir() => Ok(true),
+            Ok(_) => self.noted(path, Err(ErrorKind::NotADirectory.into())),
+            Err(e) if e.kind() == ErrorKind::NotFound => Ok(false),
+            Err(e) => self.noted(path, Err(e)),
+        }
     }
 
     pub fn write(&mut self, name: &FileName, at: u64, bytes: &[u8]) -> io::Result<()>
@@ -210,26 +375,70 @@ impl<R: Files + Drop> Folders<R> {
         if bytes.len() as u64 > u64::MAX - at {
             return Err(ErrorKind::InvalidInput.into());
         }
-        write_at(self.file(name)?, at, bytes)
+        self.begin()?;
+        match self.access {
+            Access::Write => self.file(name)?.write_all_at(bytes, at),
+            Access::Read => {
+                self.may_draft(name)?;
+                self.draft(name, at, bytes)
+            }
+        }
+    }
+
+    // Where one only reads, loading may begin the journals of the site's folder, which is kept in memory. Nothing else is written.
+    fn may_draft(&self, name: &FileName) -> io::Result<()> {
+        if name.store == 0 {
+            Ok(())
+        } else {
+            Err(only_reads())
+        }
+    }
+
+    // Writes into a journal in memory, which is begun with what its file has.
+    fn draft(&mut self, name: &FileName, at: u64, bytes: &[u8]) -> io::Result<()> {
+        let content = self.content(name)?;
+        match written(self.alloc, &content, at as usize, bytes)? {
+            Some(content) => Ok(self.drafts.put(name, &content)?),
+            None => Err(ErrorKind::InvalidInput.into()),
+        }
+    }
+
+    // All that a file has.
+    fn content(&mut self, name: &FileName) -> io::Result<Vec<u8>> {
+        let Some(size) = self.size(name)? else {
+            return Err(ErrorKind::NotFound.into());
+        };
+        let mut content = vec![in self.alloc; 0u8; size as usize]?;
+        if self.read(name, 0, &mut content)? < content.len() {
+            return Err(ErrorKind::UnexpectedEof.into());
+        }
+        Ok(content)
     }
 
     pub fn read(&mut self, name: &FileName, at: u64, buf: &mut [u8]) -> io::Result<usize>
         ensures { IfOk result (λ n. n ≤ length buf.old) }
     {
-        read_at(self.file(name)?, at, buf)
+        self.begin()?;
+        if let Some(bytes) = self.drafts.get(name) {
+            return Ok(copy_from(bytes, at, buf));
+        }
+        read_from(self.file(name)?, at, buf)
     }
 
     pub fn size(&mut self, name: &FileName) -> io::Result<Option<u64>> {
-        let path = self.path(name)?;
-        match fs::metadata(&self.files, path.as_str()) {
-            Ok(found) if found.is_file() => Ok(Some(found.len())),
-            Ok(_) => Err(ErrorKind::InvalidInput.into()),
-            Err(e) if e.kind() == ErrorKind::NotFound => Ok(None),
-            Err(e) => Err(e),
+        self.begin()?;
+        if let Some(bytes) = self.drafts.get(name) {
+            return Ok(Some(bytes.len() as u64));
         }
+        let path = self.path(name)?;
+        self.size_of(path.as_str())
     }
 
     pub fn cut(&mut self, name: &FileName, len: u64) -> io::Result<()> {
+        self.begin()?;
+        if self.access == Access::Read {
+            return Err(only_reads());
+        }
         let file = self.file(name)?;
         if file.metadata()?.len() < len {
             return Err(ErrorKind::InvalidInput.into());
@@ -239,46 +448,86 @@ impl<R: Files + Drop> Folders<R> {
 
     // Syncs the file, and the folders that lead to it. An absent name is synced by its folders. None is synced after a sync failed.
     pub fn sync(&mut self, name: &FileName) -> io::Result<()> {
+        self.begin()?;
+        if matches!(self.turn, Turn::Empty) || self.drafts.get(name).is_some() {
+            return Ok(());
+        }
         if self.failed {
-            return Err(ErrorKind::Other.into());
+            return Err(io::Error::new(ErrorKind::Other, "an earlier sync failed"));
         }
         let written = match self.file(name) {
             Ok(file) => file.sync_data(),
             Err(e) if e.kind() == ErrorKind::NotFound => Ok(()),
             Err(e) => return Err(e),
         };
-        self.failed = written.is_err();
-        written?;
+        self.synced_well(written)?;
         self.sync_folders(name)
+    }
+
+    // Remembers a sync that failed. A file system that is only read may have none.
+    fn synced_well(&mut self, written: io::Result<()>) -> io::Result<()> {
+        match written {
+            Err(e)
+                if self.access == Access::Read
+                    && matches!(
+                        e.kind(),
+                        ErrorKind::InvalidInput | ErrorKind::ReadOnlyFilesystem
+                    ) => { Ok(()) }
+            Err(e) => {
+                self.failed = true;
+                Err(e)
+            }
+            Ok(()) => Ok(()),
+        }
     }
 
     fn sync_folders(&mut self, name: &FileName) -> io::Result<()> {
         let path = self.path(name)?;
-        let root = self.root(name.store)?.len();
-        for folder in ancestors(self.alloc, path.as_str(), root)? {
-            if !self.synced.contains(folder) {
-                self.sync_folder(folder)?;
-            }
+        let root = self.root_copy(name.store)?;
+        self.sync_above(root.as_str())?;
+        for folder in ancestors(self.alloc, path.as_str(), root.len())? {
+            self.sync_folder(folder)?;
         }
         Ok(())
     }
 
-    // Syncs a folder, where it is there.
+    // Syncs what has this folder. Where this account may not even list that, it made no folder in it.
+    fn sync_above(&mut self, folder: &str) -> io::Result<()> {
+        let above = parent(folder);
+        match self.sync_folder(above) {
+            Err(e) if e.kind() == ErrorKind::PermissionDenied => {
+                self.place = None;
+                self.synced.insert(String::from_str(self.alloc, above)?)?;
+                Ok(())
+            }
+            answer => answer,
+        }
+    }
+
+    // Syncs a folder, where it is there and wasn't synced.
     fn sync_folder(&mut self, path: &str) -> io::Result<()> {
+        if self.synced.contains(path) {
+            return Ok(());
+        }
         let folder = match fs::open(&self.files, path) {
             Ok(folder) => folder,
             Err(e) if e.kind() == ErrorKind::NotFound => return Ok(()),
-            Err(e) => return Err(e),
+            Err(e) => return self.noted(path, Err(e)),
         };
         let written = folder.sync_all();
-        self.failed = written.is_err();
-        written?;
+        let written = self.synced_well(written);
+        self.noted(path, written)?;
         self.synced.insert(String::from_str(self.alloc, path)?)?;
         Ok(())
     }
 
     pub fn remove(&mut self, name: &FileName) -> io::Result<()> {
+        self.begin()?;
+        if self.access == Access::Read {
+            return Err(only_reads());
+        }
         let path = self.path(name)?;
+        self.size_of(path.as_str())?;
         if self.holds(name) {
             self.release(name.store);
         }
@@ -287,9 +536,18 @@ impl<R: Files + Drop> Folders<R> {
     }
 
     // The names of a store, over its folders.
-    pub fn names(&self, store: u8) -> io::Result<Vec<FileName>> {
-        fs::create_dir_all(&self.files, self.root(store)?)?;
+    pub fn names(&mut self, store: u8) -> io::Result<Vec<FileName>> {
+        self.begin()?;
+        let root = self.root_copy(store)?;
+        let names = self.listed(store);
+        self.noted(root.as_str(), names)
+    }
+
+    fn listed(&self, store: u8) -> io::Result<Vec<FileName>> {
         let mut names = Vec::new(self.alloc);
+        if matches!(self.turn, Turn::Empty) || !fs::exists(&self.files, self.root(store)?)? {
+            return Ok(names);
+        }
         let mut waiting = Vec::new(self.alloc);
         waiting.push(String::new(self.alloc))?;
         for _ in 0..u64::MAX {
@@ -314,24 +572,31 @@ impl<R: Files + Drop> Folders<R> {
         let path = format!(in self.alloc; "{root}/{folder}")?;
         for entry in fs::read_dir(&(&self.files, self.alloc), path.as_str())? {
             let entry = entry?;
-            let name = entry.file_name();
-            if entry.file_type()?.is_dir() {
-                waiting.push(format!(in self.alloc; "{folder}{name}/")?)?;
-            } else {
-                let path = format!(in self.alloc; "{folder}{name}")?.into_bytes();
+            let name = format!(in self.alloc; "{folder}{}", entry.file_name())?;
+            let kind = entry.file_type()?;
+            if kind.is_dir() {
+                waiting.push(format!(in self.alloc; "{name}/")?)?;
+            } else if !kind.is_file() {
+                return Err(not_a_file());
+            } else if store != 0 || name.as_str() != LOCK {
+                let path = name.into_bytes();
                 names.push(FileName { store, path })?;
             }
         }
         Ok(())
     }
 
-    pub fn open(&self, name: &FileName, len: u64) -> io::Result<R::File> {
+    // A file to read of at least so many bytes, and its path.
+    pub fn open(&mut self, name: &FileName, len: u64) -> io::Result<(File, String)> {
+        self.begin()?;
         let path = self.path(name)?;
-        let file = fs::open(&self.files, path.as_str())?;
-        let found = file.metadata()?;
-        if !found.is_file() || found.len() < len {
-            return Err(ErrorKind::InvalidInput.into());
+        if self.size_of(path.as_str())?.is_none() {
+            return Err(ErrorKind::NotFound.into());
         }
-        Ok(file)
+        let file = fs::open(&self.files, path.as_str())?;
+        if file.metadata()?.len() < len {
+            return Err(io::Error::new(ErrorKind::InvalidInput, "shorter than is listed"));
+        }
+        Ok((file, path))
     }
 }

@@ -8,25 +8,30 @@
 //! disk that doesn't tell its files promises nothing but its count of faults: so `FolderDisk`.
 #![tactic(auto)]
 
-mod append;
 mod calls;
 mod disk;
+mod drafts;
 mod folder;
 mod folders;
 mod image;
 mod laws;
 mod memory;
 mod name;
+mod paths;
 mod state;
+mod synced;
 mod table;
+mod trouble;
 
-pub use append::append_synced;
 pub use calls::{Call, Change};
 pub use disk::{Disk, DiskErr, ReadAt, ReadFailed};
 pub use folder::{FolderDisk, FolderFile};
+pub use folders::Access;
 pub use laws::{a_front_stays, a_synced_disk_stays, other_names_stay};
 pub use memory::{MemDisk, MemFile};
 pub use name::FileName;
+pub use synced::write_synced;
+pub use trouble::Trouble;
 
 #[cfg(test)]
 mod folder_tests;

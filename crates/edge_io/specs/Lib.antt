@@ -2,3 +2,4 @@ pub mod Stream
 pub mod Lines
 pub mod Memory
 pub mod Moments
+pub mod Doors

@@ -14,6 +14,13 @@ pub record Reader : Type 0 where
   pub number : ℕ
   pub stop : Option LineRead
 
+-- what a reader can stop at for good
+abbrev pub IsStop : LineRead → Type 0
+IsStop Torn = Unit {0}
+IsStop TooLong = Unit {0}
+IsStop InputTooLong = Unit {0}
+IsStop _ = ⊥
+
 -- what is still to come: what the reader holds, and then what the source has left
 abbrev pub ahead : Reader → Option (List ℕ) → Option (List ℕ)
 ahead r left = prepend_known r.held left

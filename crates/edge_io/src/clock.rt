@@ -1,3 +1,4 @@
+// Clocks: the trait, a clock in memory, and that of the system.
 ghost use Rattle.std.specs.Prelude.{◌≡◌, ℕ, ◌-◌, ◌^◌, map, drop, get_or, min, Option, None, Some, [], ◌∷◌};
 ghost use Rattle.std.specs.Time.{system_time_nanos};
 ghost use Rattle.edge_io.specs.Moments.{Moments, Gives, Listed, listed, repeating, coming_of, IsSplit};

@@ -4,24 +4,35 @@
 //! `Failed` only where that count rose in it. Where a source or a sink tells its bytes, as those in
 //! memory do, the contracts say which bytes were read and written. `Lines` reads a source line by
 //! line, with the limits of a raw stream of PB lines (PB file format of the EPICS Archiver
-//! Appliance). A `Clock` tells the time.
+//! Appliance). A `Link` is a source and a sink, and a `Door` gives links and takes them back: from a
+//! list, or from a TCP listener. A `Clock` tells the time.
 //!
 //! Model: a source is the bytes that are left, a sink the bytes that were written, a reader of lines
-//! is what it holds, how much it gave, and where it stopped for good, a clock the moments to come.
+//! is what it holds, how much it gave, and where it stopped for good, a door whether it is closed,
+//! how many links it gave and those that came back, a clock the moments to come.
 //!
-//! Caveats: `StdSource` and `StdSink` tell nothing of content, since no contract can say what a real
-//! file, pipe or terminal holds, and `SystemClock` nothing of the moments to come.
+//! Caveats: no contract can say what a file, a pipe, a terminal or a peer gives or takes. So
+//! `StdSource` and `StdSink` tell only what std's reader and writer tell, `TcpLink` and `TcpDoor`
+//! nothing of content, and `SystemClock` nothing of the moments to come.
+//!
+//! Tests: `format_tests`.
 #![tactic(auto)]
 
 mod clock;
 pub mod laws;
 mod lines;
+mod link;
 mod memory;
+mod memory_links;
 mod standard;
 mod stream;
+mod tcp;
 
 pub use clock::{Clock, ListClock, SystemClock};
 pub use lines::{LineRead, Lines, MAX_INPUT, MAX_LINE};
+pub use link::{Door, Link, Next};
 pub use memory::{MemSink, MemSource};
+pub use memory_links::{ListDoor, MemLink};
 pub use standard::{StdSink, StdSource};
-pub use stream::{Failed, Sink, Source, write_whole};
+pub use stream::{Failed, Sink, Source, write_two, write_whole};
+pub use tcp::{Limits, TcpDoor, TcpLink};

@@ -1,13 +1,16 @@
-ghost use Rattle.std.specs.Prelude.{◌≡◌, ◌≢◌, ◌↔◌, ℕ, ◌+◌, ◌-◌, ◌<◌, ◌≤◌, ◌^◌, List, [], ◌∷◌, ◌++◌, All, Some, None, IfSome, IfNone, IfOk, OnOk, OnErr, IsTrue, MatchOption, length, take, drop, slice_index, vec_len};
+// A reader of lines.
+ghost use Rattle.std.specs.Prelude.{◌≡◌, ◌≢◌, ◌↔◌, ℕ, ◌+◌, ◌-◌, ◌<◌, ◌≤◌, ◌^◌, List, [], ◌∷◌, ◌++◌, ◌==◌, map, All, Some, None, IfSome, IfNone, IfOk, OnOk, OnErr, IsTrue, MatchOption, length, take, drop, slice_index, vec_len};
 ghost use Rattle.std.specs.List.{slice_range};
+ghost use Rattle.std.specs.Simd.Lanes.{mask_l};
 ghost use Rattle.std.specs.Io.KnownBytes.{IsAtEnd, Keeps};
 ghost use Rattle.edge_io.specs.Stream.{Rose};
-ghost use Rattle.edge_io.specs.Lines.{Reader, NoneBelow, IsFirstNewline, Stays, Reads, ReadsOn, Fills, HoldsAnswer, AnswersHeld, Wants, ahead};
+ghost use Rattle.edge_io.specs.Lines.{Reader, NoneBelow, IsFirstNewline, IsStop, Stays, Reads, ReadsOn, Fills, HoldsAnswer, AnswersHeld, Wants, ahead};
 
 use crate::Source;
 use memchr::memchr;
 use std::alloc::{AllocError, Global};
 use std::marker::Model;
+use std::simd::prelude::*;
 
 /// The most bytes that a line may have, its newline not counted.
 pub const MAX_LINE: usize = 16_777_216;
@@ -66,15 +69,15 @@ pub struct Lines {
 }
 
 impl Model for Lines {
-    ghost use Rattle.std.specs.Prelude.{◌+◌, ◌-◌, ◌^◌, ◌≤◌, drop, vec_len};
+    ghost use Rattle.std.specs.Prelude.{◌+◌, ◌-◌, ◌^◌, ◌≤◌, drop, vec_len, IfSome};
     ghost use Rattle.std.specs.List.{slice_range};
-    ghost use Rattle.edge_io.specs.Lines.{Reader, IsFirstNewline};
+    ghost use Rattle.edge_io.specs.Lines.{Reader, IsFirstNewline, IsStop};
 
     ghost Value = { Reader };
 
     ghost view = { λ r. record { held = drop r.start r.buf.items; passed = r.passed; line = slice_range r.buf.items r.line_at r.line_end; number = r.number; stop = r.stop } };
 
-    ghost invariant = { λ r. (r.line_at ≤ r.line_end) × (r.line_end ≤ r.start) × (r.start ≤ vec_len r.buf) × (r.number ≤ r.passed) × (r.passed + (vec_len r.buf - r.start) ≤ 2 ^ 40) × IsFirstNewline (drop r.start r.buf.items) r.newline };
+    ghost invariant = { λ r. (r.line_at ≤ r.line_end) × (r.line_end ≤ r.start) × (r.start ≤ vec_len r.buf) × (r.number ≤ r.passed) × (r.passed + (vec_len r.buf - r.start) ≤ 2 ^ 40) × IsFirstNewline (drop r.start r.buf.items) r.newline × IfSome r.stop IsStop };
 }
 
 impl Lines {
@@ -95,6 +98,7 @@ impl Lines {
     }
 
     /// The last line that was read, without its newline.
+    #[inline(always)]
     pub fn line(&self) -> &[u8]
         ensures { result.now ≡ self.now.line }
     {
@@ -110,6 +114,7 @@ impl Lines {
     }
 
     /// Whether the next call of `next` answers without a read.
+    #[inline(always)]
     pub fn holds_line(&self) -> bool
         ensures { IsTrue result ↔ HoldsAnswer self.now }
     {
@@ -120,12 +125,13 @@ impl Lines {
     }
 
     /// Reads the next line. Where it is torn or too long, or the input is, each later call says so.
+    #[inline(always)]
     pub fn next<S: Source>(&mut self, source: &mut S) -> LineRead
         ensures read { IfNone self.old.stop (Reads self.old self.new (ahead self.old (S.left source.old)) (ahead self.new (S.left source.new)) result) }
         ensures stopped { IfSome self.old.stop (λ stop. (result ≡ stop) × (self.new ≡ self.old) × (source.new ≡ source.old)) }
         ensures unread { HoldsAnswer self.old → source.new ≡ source.old }
         ensures faults { S.read_faults source.old ≤ S.read_faults source.new }
-        ensures failed { result ≡ LineRead.SourceFault → self.old.stop ≡ None → Rose (S.read_faults source.old) (S.read_faults source.new) }
+        ensures failed { result ≡ LineRead.SourceFault → Rose (S.read_faults source.old) (S.read_faults source.new) }
     {
         if let Some(stop) = self.stop {
             return stop;
@@ -144,6 +150,7 @@ impl Lines {
     }
 
     // The answer that is in hand.
+    #[inline(always)]
     fn answer(&mut self) -> Option<LineRead>
         requires { self.old.stop ≡ None }
         ensures some { IfSome result (AnswersHeld self.old self.new) }
@@ -176,6 +183,7 @@ impl Lines {
         self.halt(LineRead::Torn)
     }
 
+    #[inline(always)]
     fn first_newline(&self) -> Option<usize>
         ensures place { IsFirstNewline self.now.held result }
         ensures bound { self.now.passed + length self.now.held ≤ 2 ^ 40 }
@@ -183,6 +191,7 @@ impl Lines {
         self.newline
     }
 
+    #[inline(always)]
     fn held_len(&self) -> usize
         ensures value { result ≡ length self.now.held }
         ensures bound { self.now.passed + length self.now.held ≤ 2 ^ 40 }
@@ -191,6 +200,7 @@ impl Lines {
     }
 
     // How many bytes were taken.
+    #[inline(always)]
     fn taken(&self) -> u64
         ensures value { result ≡ self.now.passed + length self.now.held }
         ensures bound { result ≤ 2 ^ 40 }
@@ -199,7 +209,9 @@ impl Lines {
     }
 
     // Stops for good.
+    #[inline(always)]
     fn halt(&mut self, stop: LineRead) -> LineRead
+        requires { IsStop stop }
         ensures result { result ≡ stop }
         ensures after { self.new ≡ record self.old { stop = Some stop } }
     {
@@ -208,6 +220,7 @@ impl Lines {
     }
 
     // Gives a line of this length, which a newline follows.
+    #[inline(always)]
     fn pass(&mut self, len: usize)
         requires within { len < length self.old.held }
         requires newline { slice_index self.old.held len ≡ 10 }
@@ -308,14 +321,40 @@ fn read_on<S: Source>(buf: &mut Vec<u8>, count: usize, source: &mut S) -> Filled
 }
 
 // The place of the first newline, which is not among the first bytes that were searched.
+#[inline(always)]
 fn newline_from(bytes: &[u8], searched: usize) -> Option<usize>
     requires within { searched ≤ length bytes.now }
     requires none { NoneBelow bytes.now searched }
     ensures { IsFirstNewline bytes.now result }
 {
     let (_, rest) = bytes.split_at(searched);
+    if let Some(k) = near_newline(rest) {
+        return Some(searched + k);
+    }
     match memchr(NEWLINE, rest) {
         Some(k) => Some(searched + k),
         None => None,
     }
+}
+
+// The place of the first newline, where it is among the first 32 bytes, and there are so many. Most
+// lines are short.
+#[inline(always)]
+fn near_newline(bytes: &[u8]) -> Option<usize>
+    ensures { IfSome result (λ k. (k < length bytes.now) × (slice_index bytes.now k ≡ 10) × NoneBelow bytes.now k) }
+{
+    let (near, _) = bytes.split_first_chunk::<32>()?;
+    let marks = newline_marks(u8x32::from_array(*near));
+    if marks == 0 {
+        return None;
+    }
+    Some(marks.trailing_zeros() as usize)
+}
+
+// Bit k tells whether a newline stands at place k.
+#[inline(always)]
+fn newline_marks(bytes: u8x32) -> u64
+    ensures { result ≡ mask_l (map (λ x. x == 10) bytes) }
+{
+    bytes.simd_eq(u8x32::splat(NEWLINE)).to_bitmask()
 }

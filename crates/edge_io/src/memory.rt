@@ -1,3 +1,4 @@
+// Sources and sinks in memory, whose listed calls fail.
 ghost use Rattle.std.specs.Prelude.{◌≡◌, ◌↔◌, ◌⊎◌, ℕ, ◌+◌, ◌-◌, ◌<◌, ◌≤◌, ◌++◌, List, [], Some, length, take, drop, vec_len, vec_capacity, IfOk, OnErr, IsErr, IsTrue, is_err, Contains, min};
 ghost use Rattle.std.specs.Io.KnownBytes.{ReadConsumes, WriteAppends};
 ghost use Rattle.edge_io.specs.Stream.{Rose};
@@ -9,7 +10,7 @@ use std::marker::Model;
 
 // The numbered calls of an object in memory, of which those listed fail.
 #[derive(Drop)]
-struct Script {
+pub(crate) struct Script {
     failing: Vec<u64>,
     made: u64,
     faults: u64,
@@ -24,7 +25,7 @@ impl Model for Script {
 }
 
 impl Script {
-    fn new(alloc: Global, failing: &[u64]) -> Result<Script, AllocError>
+    pub(crate) fn new(alloc: Global, failing: &[u64]) -> Result<Script, AllocError>
         ensures { IfOk result (λ s. s ≡ record { failing = failing.now; made = 0; faults = 0 }) }
     {
         Ok(Script {
@@ -35,7 +36,7 @@ impl Script {
     }
 
     // Counts a call, and a fault where it is listed or `unfit`.
-    fn call(&mut self, unfit: bool) -> Result<(), Failed>
+    pub(crate) fn call(&mut self, unfit: bool) -> Result<(), Failed>
         ensures which { IsErr result ↔ (IsTrue unfit ⊎ IsNextListed self.old) }
         ensures after { self.new ≡ after_call self.old (is_err result) }
         ensures faults { self.old.faults ≤ self.new.faults }

@@ -1,4 +1,5 @@
-ghost use Rattle.std.specs.Prelude.{◌≡◌, ℕ, ◌+◌, ◌<◌, ◌≤◌, List, Option, length, IfOk, OnOk, OnErr, None};
+// What bytes are read from and written to, and writes of whole texts.
+ghost use Rattle.std.specs.Prelude.{◌≡◌, ℕ, ◌+◌, ◌<◌, ◌≤◌, List, Option, ◌++◌, length, IfOk, OnOk, OnErr, None};
 ghost use Rattle.std.specs.Io.KnownBytes.{Appends, ReadConsumes, WriteAppends};
 ghost use Rattle.edge_io.specs.Stream.{Rose, AppendsFront};
 
@@ -60,4 +61,20 @@ pub fn write_whole<K: Sink>(sink: &mut K, bytes: &[u8]) -> Result<(), Failed>
         at += sink.write(&bytes[at..])?;
     }
     Ok(())
+}
+
+/// Writes all the bytes of both texts, the second behind the first, in as many writes as it takes.
+/// Takes no memory.
+///
+/// After `Failed` a front of the two went out; `Failed` comes only where the sink's count of failed
+/// writes rose.
+#[tactic(auto, using(crate::proofs::Writes::appends_more, crate::proofs::Writes::front_first, crate::proofs::Writes::front_more))]
+pub fn write_two<K: Sink>(sink: &mut K, first: &[u8], second: &[u8]) -> Result<(), Failed>
+    ensures front { AppendsFront (K.written sink.old) (K.written sink.new) (first.now ++ second.now) }
+    ensures all { OnOk result (Appends (K.written sink.old) (K.written sink.new) (first.now ++ second.now)) }
+    ensures faults { K.write_faults sink.old ≤ K.write_faults sink.new }
+    ensures failed { OnErr result (Rose (K.write_faults sink.old) (K.write_faults sink.new)) }
+{
+    write_whole(sink, first)?;
+    write_whole(sink, second)
 }

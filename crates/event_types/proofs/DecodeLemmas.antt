@@ -5,11 +5,11 @@ use Rattle.pb_wire.specs.declared.message.Field.{Field}
 use Rattle.pb_wire.specs.Message.{Entry, view}
 use Rattle.pb_wire.specs.Reading.{field_at}
 use Rattle.pb_wire.specs.Cursor.{Cursor, Placed, place_of, contents_of, TakesItem, GivesNext}
-use Rattle.event_types.specs.declared.error.EventFault.{EventFault}
+use Rattle.pb_wire.specs.declared.fault.FieldFault.{FieldFault}
 use Rattle.event_types.specs.declared.layout.Layout.{Layout}
 use Rattle.event_types.specs.declared.reading.Members as reading
-use Rattle.event_types.specs.Fields.{first_fault}
-use Rattle.event_types.specs.FieldValue.{fields_of}
+use Rattle.pb_wire.specs.Fields.{first_fault}
+use Rattle.pb_wire.specs.FieldValue.{fields_of}
 use Rattle.event_types.specs.Layout.{layout_of}
 use Rattle.event_types.specs.Event.{fault_in, event_of, event_with}
 use Rattle.event_types.specs.Reading.{seen, no_members, with_fields}
@@ -17,7 +17,7 @@ use Rattle.event_types.proofs.EventLemmas.{event_found}
 use Rattle.event_types.proofs.FieldsLemmas.{more_fields, no_fields}
 
 -- behind a field without a fault the first fault stays
-pub fault_stays : (layout : Layout) (old new : Cursor) (x : Entry) (total : Option EventFault) → TakesItem field_at old new x → fault_in layout (record { item = x; behind = place_of new }) ≡ None
+pub fault_stays : (layout : Layout) (old new : Cursor) (x : Entry) (total : Option FieldFault) → TakesItem field_at old new x → fault_in layout (record { item = x; behind = place_of new }) ≡ None
     → first_fault (fault_in layout) (contents_of field_at old) ≡ total → first_fault (fault_in layout) (contents_of field_at new) ≡ total
 fault_stays layout old new x total taken none so_far = rw (taken.contents, none) at so_far
 

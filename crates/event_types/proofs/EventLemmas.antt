@@ -2,18 +2,19 @@
 use Rattle.std.proofs.Common.{◌≡◌, ℕ, ◌||◌, if◌then◌else◌, Bool, true, false, List, Option, Some, None, Ok, Err, length, refl, sym, ◌∙◌, ap}
 use Rattle.std.specs.Prelude.{is_some}
 use Rattle.pb_wire.specs.declared.payload.PayloadType.{PayloadType}
-use Rattle.event_types.specs.declared.error.EventFault.{EventFault}
+use Rattle.pb_wire.specs.declared.fault.FieldFault.{FieldFault}
 use Rattle.event_types.specs.declared.reading.Members as reading
 use Rattle.event_types.specs.declared.value.Value.{Value}
-use Rattle.event_types.specs.Fields.{number_in, last_of, first_fault}
-use Rattle.event_types.specs.FieldValue.{fields_of}
+use Rattle.pb_wire.specs.Fields.{number_in, last_of, first_fault}
+use Rattle.pb_wire.specs.FieldValue.{fields_of}
 use Rattle.event_types.specs.Layout.{layout_of}
-use Rattle.event_types.proofs.FieldsLemmas.{joined_some}
+use Rattle.series_model.proofs.PairLists.{joined_some}
 use Rattle.event_types.specs.Reading.{seen, no_members, with_fields}
 use Rattle.pb_wire.specs.declared.payload.PayloadType.TheVariants.{ScalarString, ScalarShort, ScalarFloat, ScalarEnum, ScalarByte, ScalarInt, ScalarDouble, WaveformString, WaveformShort, WaveformFloat, WaveformEnum, WaveformByte, WaveformInt, WaveformDouble}
 use Rattle.pb_wire.specs.Message.{Value as Element}
 use Rattle.event_types.specs.Adding.{blank, with_elements}
-use Rattle.event_types.specs.Event.{elements_of, value_of, ◌>>=◌, Members, members_of, fault_in, has_val, val_of, pairs_of, event_with, event_of, stamp_of, stamp_with}
+use Rattle.pb_wire.specs.Reading.{◌>>=◌}
+use Rattle.event_types.specs.Event.{elements_of, value_of, Members, members_of, fault_in, has_val, val_of, pairs_of, event_with, event_of, stamp_of, stamp_with}
 
 stamp_of-members : (m : Members) (secs nano : Option ℕ) (value : Option Value) (fields : Option (List (List ℕ × List ℕ))) → m.secs ≡ secs → m.nano ≡ nano → m.value ≡ value → m.fields ≡ fields
     → (event_with m >>= λ event. Ok (event.secs, event.nano)) ≡ stamp_with secs nano (is_some value) (is_some fields)
@@ -41,7 +42,7 @@ stamp_found ty bytes secs nano value fields sound e1 e2 e3 e4 =
     let so_far : (event_with m >>= λ event. Ok (event.secs, event.nano)) ≡ stamp_with m.secs m.nano (is_some m.value) (is_some m.fields) = stamp_of-members m m.secs m.nano m.value m.fields refl refl refl refl in
     rw (sound, e1, e2, e4) (so_far ∙ ap (λ (b : Bool). stamp_with m.secs m.nano b (is_some m.fields)) given)
 
-pub stamp_fault : (ty : PayloadType) (bytes : List ℕ) (fault : EventFault) → first_fault (fault_in (layout_of ty)) (fields_of bytes (length bytes)) ≡ Some fault → stamp_of ty bytes ≡ Err fault
+pub stamp_fault : (ty : PayloadType) (bytes : List ℕ) (fault : FieldFault) → first_fault (fault_in (layout_of ty)) (fields_of bytes (length bytes)) ≡ Some fault → stamp_of ty bytes ≡ Err fault
 unfolding stamp_of event_of
 stamp_fault ty bytes fault e = rw e refl
 
@@ -68,6 +69,6 @@ pub event_found : (ty : PayloadType) (bytes : List ℕ) (m : reading.Members) �
 unfolding event_of
 event_found ty bytes m sound e = rw (sound, e, joined_some (pairs_of (fields_of bytes (length bytes)).items), value_made ty (elements_of (layout_of ty) (fields_of bytes (length bytes)).items)) refl
 
-pub event_fault : (ty : PayloadType) (bytes : List ℕ) (fault : EventFault) → first_fault (fault_in (layout_of ty)) (fields_of bytes (length bytes)) ≡ Some fault → event_of ty bytes ≡ Err fault
+pub event_fault : (ty : PayloadType) (bytes : List ℕ) (fault : FieldFault) → first_fault (fault_in (layout_of ty)) (fields_of bytes (length bytes)) ≡ Some fault → event_of ty bytes ≡ Err fault
 unfolding event_of
 event_fault ty bytes fault e = rw e refl

@@ -4,26 +4,17 @@ use Rattle.std.specs.List.{filter_map, cons_option, last_or}
 use Rattle.std.proofs.lemmas.List.{append-nil}
 use Rattle.pb_wire.specs.Message.{Value, Entry}
 use Rattle.pb_wire.specs.Cursor.{Placed}
+use Rattle.series_model.proofs.PairLists.{joined_assoc, joined_nothing}
 use Rattle.event_types.specs.declared.layout.Layout.{Layout}
 use Rattle.event_types.specs.declared.reading.Members.{Members}
 use Rattle.event_types.specs.declared.singular.Singular.{Singular}
-use Rattle.event_types.specs.Fields.{number_in}
-use Rattle.event_types.specs.FieldValue.{joined}
+use Rattle.pb_wire.specs.Fields.{number_in}
+use Rattle.series_model.specs.PairLists.{joined}
 use Rattle.event_types.specs.Event.{part_of, elements_of, elements_as, pairs_of, pairs_as, has_val}
 use Rattle.event_types.specs.Adding.{with_elements}
 use Rattle.event_types.specs.Singular.{with_numbers}
 use Rattle.event_types.specs.Reading.{with_fields}
 use Rattle.event_types.proofs.ElementLemmas.{no_elements, elements_apart}
-
-pub joined_assoc : {A : Type 0} (xs ys zs : Option (List A)) → joined (joined xs ys) zs ≡ joined xs (joined ys zs)
-joined_assoc None ys zs = refl
-joined_assoc (Some xs) None zs = refl
-joined_assoc (Some xs) (Some ys) None = refl
-joined_assoc {A} (Some xs) (Some ys) (Some zs) = ap (λ (us : List A). Some us) (append_assoc xs ys zs)
-
-pub joined_nothing : {A : Type 0} (xs : Option (List A)) → joined xs (Some []) ≡ xs
-joined_nothing None = refl
-joined_nothing {A} (Some xs) = ap (λ (us : List A). Some us) (append-nil xs)
 
 last_or-more : {A : Type 0} (given o : Option A) (rest : List A) → last_or (last_or o (cons_option given [])) rest ≡ last_or o (cons_option given rest)
 last_or-more None o rest = refl
@@ -50,10 +41,6 @@ or_more false false c = refl
 pub or_false : (b : Bool) → (b || false) ≡ b
 or_false true = refl
 or_false false = refl
-
-pub joined_some : {A : Type 0} (xs : Option (List A)) → joined (Some []) xs ≡ xs
-joined_some None = refl
-joined_some (Some xs) = refl
 
 pub same_members : (a b : Members) → a.numbers ≡ b.numbers → a.val ≡ b.val → a.value ≡ b.value → a.fields ≡ b.fields → a ≡ b
 same_members a b numbers val value fields = λ i. record { numbers = numbers i; val = val i; value = value i; fields = fields i }

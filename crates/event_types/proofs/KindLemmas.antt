@@ -3,13 +3,14 @@ use Rattle.std.proofs.Common.{◌≡◌, ℕ, ◌||◌, if◌then◌else◌, Boo
 use Rattle.pb_wire.specs.declared.payload.PayloadType.{PayloadType}
 use Rattle.pb_wire.specs.declared.payload.PayloadType.TheVariants.{ScalarString, ScalarShort, ScalarFloat, ScalarEnum, ScalarByte, ScalarInt, ScalarDouble, WaveformString, WaveformShort, WaveformFloat, WaveformEnum, WaveformByte, WaveformInt, WaveformDouble}
 use Rattle.pb_wire.specs.Message.{Value as Element}
-use Rattle.event_types.specs.declared.error.EventFault.{EventFault}
+use Rattle.pb_wire.specs.declared.fault.FieldFault.{FieldFault}
 use Rattle.event_types.specs.declared.event.Event.{Event}
 use Rattle.event_types.specs.declared.value.Value.{Value}
-use Rattle.event_types.specs.Fields.{first_fault}
-use Rattle.event_types.specs.FieldValue.{fields_of}
+use Rattle.pb_wire.specs.Fields.{first_fault}
+use Rattle.pb_wire.specs.FieldValue.{fields_of}
 use Rattle.event_types.specs.Layout.{layout_of}
-use Rattle.event_types.specs.Event.{Members, members_of, fault_in, has_val, elements_of, value_of, event_with, event_of, unless, IsOfType}
+use Rattle.pb_wire.specs.Fields.{unless}
+use Rattle.event_types.specs.Event.{Members, members_of, fault_in, has_val, elements_of, value_of, event_with, event_of, IsOfType}
 
 -- whatever its elements, a value is one of its type
 value_kind : (ty : PayloadType) (es : List Element) → IsOfType ty (value_of ty es)
@@ -32,7 +33,7 @@ value_where : (b : Bool) (w v : Value) → (if b then Some w else None) ≡ Some
 value_where true w v e = cc
 value_where false w v e = absurd cc
 
-abbrev found : Event → Result Event EventFault
+abbrev found : Event → Result Event FieldFault
 found event = Ok event
 
 value_is : (v w : Value) → v ≡ w → Some v ≡ Some w
@@ -50,7 +51,7 @@ event_value m (Some s) (Some n) None fields event e1 e2 e3 e4 h = absurd (let g 
 event_value m (Some s) (Some n) (Some v) None event e1 e2 e3 e4 h = absurd (let g = rw (e1, e2, e3, e4) at h in cc)
 event_value m (Some s) (Some n) (Some v) (Some f) event e1 e2 e3 e4 h = let g = rw (e1, e2, e3, e4) at h in value_is v event.val (same_val _ event g)
 
-unless_ok : (fault : Option EventFault) (read : Result Event EventFault) (event : Event) → unless fault read ≡ Ok event → read ≡ Ok event
+unless_ok : (fault : Option FieldFault) (read : Result Event FieldFault) (event : Event) → unless fault read ≡ Ok event → read ≡ Ok event
 unless_ok None read event e = e
 unless_ok (Some fault) read event e = absurd cc
 

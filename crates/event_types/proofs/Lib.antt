@@ -2,9 +2,9 @@ pub mod ElementLemmas
 pub mod FieldsLemmas
 pub mod EventLemmas
 pub mod DecodeLemmas
-pub mod SpellingLemmas
 pub mod PackedLemmas
 pub mod KindLemmas
 pub mod WrittenFields
 pub mod WrittenValues
 pub mod RoundTrip
+mod UsualLemmas

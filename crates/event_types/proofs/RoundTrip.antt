@@ -18,18 +18,23 @@ use Rattle.event_types.specs.declared.reading.Members as reading
 use Rattle.event_types.specs.declared.value.Value.{Value}
 use Rattle.event_types.specs.declared.value.Value.TheVariants.{Str, Short, Float, Enum, Byte, Int, Double, Strs, Shorts, Floats, Enums, Bytes, IntList, Doubles}
 use Rattle.pb_wire.specs.Cursor.{Contents}
-use Rattle.event_types.specs.Fields.{first_of, first_fault}
-use Rattle.event_types.specs.FieldValue.{fields_of, joined}
+use Rattle.pb_wire.specs.Fields.{first_of, first_fault}
+use Rattle.pb_wire.specs.FieldValue.{fields_of}
+use Rattle.series_model.specs.PairLists.{joined}
 use Rattle.event_types.specs.Layout.{layout_of, elements_in}
-use Rattle.event_types.specs.Event.{Members, fault_in, int32_of, uint32_of, event_with, event_of, IsOfType}
+use Rattle.pb_wire.specs.Numbers.{int32_of, uint32_of}
+use Rattle.event_types.specs.Event.{Members, fault_in, event_with, event_of, IsOfType}
 use Rattle.event_types.specs.Adding.{blank, with_elements}
 use Rattle.event_types.specs.Reading.{seen, no_members, with_fields}
-use Rattle.event_types.specs.Spelling.{message_text, number_field, text_field, optional_field, pair_field, ShortPairs, val_fields, stamp_fields, state_fields, last_fields, event_fields, event_text, packed_field, unless_zero, sign_extended, bool_number, sint32_text, sfixed32_text, FitsVal, FitsEvent}
+use Rattle.pb_wire.specs.FieldSpelling.{message_text, number_field, text_field, optional_field, pair_field, ShortPairs}
+use Rattle.pb_wire.specs.Numbers.{sign_extended}
+use Rattle.event_types.specs.Spelling.{val_fields, stamp_fields, state_fields, last_fields, event_fields, event_text, packed_field, unless_zero, bool_number, sint32_text, sfixed32_text, FitsVal, FitsEvent}
 use Rattle.std.proofs.lemmas.List.{append-nil}
 use Rattle.event_types.proofs.FieldsLemmas.{no_fields}
 use Rattle.event_types.proofs.EventLemmas.{event_found}
 use Rattle.event_types.proofs.ElementLemmas.{more_elements, no_elements}
-use Rattle.event_types.proofs.WrittenFields.{FitsField, contents_written, both_fit, placed, Acts, acts_then, number_acts, val_acts, pairs_act, severity_acts, status_acts, repeat_acts, change_acts}
+use Rattle.pb_wire.proofs.PairWritten.{FitsField, contents_written, both_fit, placed, pairs_fit, int32_back, extended_small}
+use Rattle.event_types.proofs.WrittenFields.{Acts, acts_then, number_acts, val_acts, pairs_act, severity_acts, status_acts, repeat_acts, change_acts}
 use Rattle.event_types.proofs.WrittenValues.{zigzag_back, sfixed_back, packed_varints-written, packed_words, packed_longs, zigzags_mean, words_mean, sfixeds_mean, longs_mean, strings_mean}
 
 -- val of an event: it acts on the members, and on those of no fields it leaves the value
@@ -120,13 +125,6 @@ val_written ty (IntList ns) is fits = subst (λ (t : PayloadType). ActsAsVal t (
 val_written ty (Doubles ns) is fits = subst (λ (t : PayloadType). ActsAsVal t (Doubles ns)) (sym is) (packed_value WaveformDouble (Doubles ns) (to_le_bytes w64) (λ xs. map (λ t. fixed64 (from_le_bytes w64 t)) (map (to_le_bytes w64) xs)) refl ns refl refl (λ behind. packed_longs (to_le_bytes w64) (λ x. refl) ns behind) (ap (λ (l : List ℕ). Doubles l) (longs_mean ns fits.0)))
 
 -- the members are read back
-int32_back : (z : ℤ) → FitsSigned w32 z → int32_of (sign_extended z) ≡ z
-int32_back (pos n) fits = omega (arith, ints)
-int32_back (negsuc n) fits =
-    let small : n < 2 ^ 31 = omega (arith, ints) in
-    let low : (2 ^ 64 - suc n) % 2 ^ 32 ≡ 2 ^ 32 - suc n = omega arith in
-    ap (cast_signed w32) low ∙ to_z-of_z w32 (negsuc n) fits
-
 zero_only : (z : ℤ) → int_eq z (pos 0) ≡ true → z ≡ pos 0
 zero_only z e = grind (arith, ints)
 
@@ -155,10 +153,7 @@ members_written e = record { secs = Some e.secs; nano = Some e.nano; value = Som
 
 event_made : (e : Event) → FitsEvent e → event_with (members_written e) ≡ Ok e
 unfolding event_with members_written
-event_made e fits = rw (mod-eq_of_lt fits.secs, mod-eq_of_lt fits.nano, state_back e.severity fits.severity, state_back e.status fits.status, repeat_back e.repeat fits.repeat, change_back e.actual_change) refl
-
-extended_small : (z : ℤ) → FitsSigned w32 z → sign_extended z < 2 ^ 64
-extended_small z fits = omega (arith, ints)
+event_made e fits = rw (mod-eq_of_lt fits.secs, mod-eq_of_lt fits.nano, state_back e.severity fits.state.severity, state_back e.status fits.state.status, repeat_back e.repeat fits.state.repeat, change_back e.actual_change) refl
 
 zigzag_fits : (z : ℤ) → FitsSigned w32 z → zigzag_of z < 2 ^ 64
 zigzag_fits (pos n) fits = omega (arith, ints)
@@ -211,24 +206,20 @@ change_fits None = tt
 change_fits (Some true) = omega arith
 change_fits (Some false) = omega arith
 
-pairs_fit : (ps : List (List ℕ × List ℕ)) → ShortPairs ps → AllByRecursion FitsField (map (pair_field 7) ps)
-pairs_fit [] fits = tt
-pairs_fit (p ∷ ps) fits = (((omega arith, omega arith), fits.0), pairs_fit ps fits.1)
-
 event_fits : (e : Event) → FitsEvent e → AllByRecursion FitsField (event_fields e)
 event_fits e fits =
     let secs : e.secs < 2 ^ 64 = omega (arith, fits.secs) in
     let nano : e.nano < 2 ^ 64 = omega (arith, fits.nano) in
     let stamp : AllByRecursion FitsField (stamp_fields e) = (((omega arith, omega arith), secs), (((omega arith, omega arith), nano), tt)) in
-    let severity = optional_fits 4 (unless_zero e.severity) (omega arith) (omega arith) (state_fits e.severity fits.severity (int_eq e.severity (pos 0))) in
-    let status = optional_fits 5 (unless_zero e.status) (omega arith) (omega arith) (state_fits e.status fits.status (int_eq e.status (pos 0))) in
-    let repeat = optional_fits 6 e.repeat (omega arith) (omega arith) (repeat_fits e.repeat fits.repeat) in
+    let severity = optional_fits 4 (unless_zero e.severity) (omega arith) (omega arith) (state_fits e.severity fits.state.severity (int_eq e.severity (pos 0))) in
+    let status = optional_fits 5 (unless_zero e.status) (omega arith) (omega arith) (state_fits e.status fits.state.status (int_eq e.status (pos 0))) in
+    let repeat = optional_fits 6 e.repeat (omega arith) (omega arith) (repeat_fits e.repeat fits.state.repeat) in
     let change = optional_fits 8 (option_map bool_number e.actual_change) (omega arith) (omega arith) (change_fits e.actual_change) in
     both_fit (stamp_fields e ++ val_fields e.val) (state_fields e ++ last_fields e)
     (both_fit (stamp_fields e) (val_fields e.val) stamp (val_fits e.val fits.val))
     (both_fit (state_fields e) (last_fields e)
     (both_fit (optional_field 4 (unless_zero e.severity)) (optional_field 5 (unless_zero e.status) ++ optional_field 6 e.repeat) severity (both_fit (optional_field 5 (unless_zero e.status)) (optional_field 6 e.repeat) status repeat))
-    (both_fit (map (pair_field 7) e.fields) (optional_field 8 (option_map bool_number e.actual_change)) (pairs_fit e.fields fits.fields) change))
+    (both_fit (map (pair_field 7) e.fields) (optional_field 8 (option_map bool_number e.actual_change)) (pairs_fit 7 e.fields (omega arith, omega arith) fits.fields) change))
 
 -- what the fields of an event do to the members
 after_event : (Bool → Bool) → List Element → Event → reading.Members → reading.Members

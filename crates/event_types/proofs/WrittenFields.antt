@@ -9,41 +9,21 @@ use Rattle.pb_wire.specs.Cursor.{Cursor, Placed, Contents, with_first}
 use Rattle.pb_wire.specs.Spelling.{field_text, FitsValue}
 use Rattle.pb_wire.proofs.ContentsLemmas.{contents_by, contents_end}
 use Rattle.pb_wire.proofs.FieldTexts.{field_shrinks, next_written}
+use Rattle.pb_wire.proofs.PairWritten.{placed, pair_sound, pair_back}
 use Rattle.event_types.specs.declared.layout.Layout.{Layout}
 use Rattle.event_types.specs.declared.reading.Members.{Members}
-use Rattle.event_types.specs.Fields.{first_of}
-use Rattle.event_types.specs.FieldValue.{fields_of, pair_fault, pair_of, joined}
+use Rattle.pb_wire.specs.Fields.{first_of}
+use Rattle.pb_wire.specs.FieldValue.{fields_of, pair_fault, pair_of}
+use Rattle.series_model.specs.PairLists.{joined}
 use Rattle.event_types.specs.Layout.{Elements, elements_in}
 use Rattle.event_types.specs.Event.{number, part_of, fault_in}
 use Rattle.event_types.specs.Adding.{with_elements}
 use Rattle.event_types.specs.Singular.{with_numbers}
 use Rattle.event_types.specs.Reading.{with_fields}
-use Rattle.event_types.specs.Spelling.{message_text, number_field, text_field, pair_text, pair_field, optional_field, ShortPairs}
+use Rattle.pb_wire.specs.FieldSpelling.{message_text, number_field, text_field, pair_text, pair_field, optional_field, ShortPairs}
 use Rattle.event_types.proofs.ElementLemmas.{no_elements}
-use Rattle.event_types.proofs.FieldsLemmas.{joined_assoc, joined_nothing, or_false, same_members, more_fields}
-use Rattle.event_types.proofs.SpellingLemmas.{pair_length}
-
-abbrev pub FitsField : Entry → Type 0
-FitsField f = IsFieldNumber f.number × FitsValue f.value
-
--- fields behind one another in bytes that end at this place
-abbrev pub placed : ℕ → List Entry → List (Placed Entry)
-placed end [] = []
-placed end (f ∷ fields) = record { item = f; behind = end - length (message_text fields) } ∷ placed end fields
-
--- what is written is read field by field, and nothing else
-pub contents_written : (end : ℕ) (fields : List Entry) → AllByRecursion FitsField fields → fields_of (message_text fields) end ≡ record { items = placed end fields; fault = None }
-contents_written end [] fits = contents_end field_at field_shrinks end
-contents_written end (f ∷ fields) fits =
-    let rest = message_text fields in
-    let c : Cursor = record { rest = field_text f.number f.value ++ rest; end = end } in
-    let d : Cursor = record { rest = rest; end = end } in
-    let first : Placed Entry = record { item = f; behind = end - length rest } in
-    contents_by field_at field_shrinks c (Ok (Some (f, d))) (next_written end f.number f.value rest fits.0.0 fits.0.1) ∙ ap (λ (more : Contents Entry). with_first first more) (contents_written end fields fits.1)
-
-pub both_fit : (xs ys : List Entry) → AllByRecursion FitsField xs → AllByRecursion FitsField ys → AllByRecursion FitsField (xs ++ ys)
-both_fit [] ys a b = b
-both_fit (x ∷ xs) ys a b = (a.0, both_fit xs ys a.1 b)
+use Rattle.series_model.proofs.PairLists.{joined_assoc, joined_nothing}
+use Rattle.event_types.proofs.FieldsLemmas.{or_false, same_members, more_fields}
 
 -- what some fields do to the members that were read before them, whatever follows
 pub record Acts (layout : Layout) (fields : List Entry) (f : Members → Members) : Type 0 where
@@ -86,19 +66,6 @@ val_acts layout v es read =
     (λ behind. ap (λ (e : Elements). e.fault) (read behind))
     (λ behind m. same_members (with_fields layout m (record { item = record { number = 3; value = v }; behind = behind } ∷ [])) (record m { val = true; value = with_elements m.value es })
     refl (or_true m.val) (ap (λ (e : Elements). with_elements m.value (e.values ++ [])) (read behind) ∙ ap (with_elements m.value) (append-nil es)) (joined_nothing m.fields))
-
-pair_fits : (p : List ℕ × List ℕ) → length (pair_text p) < 2 ^ 64 → AllByRecursion FitsField (text_field 1 p.0 ∷ text_field 2 p.1 ∷ [])
-pair_fits p short =
-    let both = pair_length p.0 p.1 in
-    (((omega arith, omega arith), omega (arith, both, short)), (((omega arith, omega arith), omega (arith, both, short)), tt))
-
-pair_sound : (p : List ℕ × List ℕ) (n behind : ℕ) → length (pair_text p) < 2 ^ 64 → pair_fault n (pair_text p) behind ≡ None
-unfolding pair_fault
-pair_sound p n behind short = rw (contents_written behind (text_field 1 p.0 ∷ text_field 2 p.1 ∷ []) (pair_fits p short)) refl
-
-pair_back : (p : List ℕ × List ℕ) (behind : ℕ) → length (pair_text p) < 2 ^ 64 → pair_of (pair_text p) behind ≡ Some p
-unfolding pair_of
-pair_back p behind short = rw (contents_written behind (text_field 1 p.0 ∷ text_field 2 p.1 ∷ []) (pair_fits p short)) refl
 
 pair_acts : (layout : Layout) (p : List ℕ × List ℕ) → length (pair_text p) < 2 ^ 64 → Acts layout (pair_field 7 p ∷ []) (λ m. record m { fields = joined m.fields (Some (p ∷ [])) })
 pair_acts layout p short =

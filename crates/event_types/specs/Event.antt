@@ -6,17 +6,20 @@ use Rattle.std.specs.Int.{w32, cast_signed}
 use Rattle.pb_wire.specs.declared.payload.PayloadType.{PayloadType}
 use Rattle.pb_wire.specs.declared.payload.PayloadType.TheVariants.{ScalarString, ScalarShort, ScalarFloat, ScalarEnum, ScalarByte, ScalarInt, ScalarDouble, WaveformString, WaveformShort, WaveformFloat, WaveformEnum, WaveformByte, WaveformInt, WaveformDouble}
 use Rattle.pb_wire.specs.Message.{Value as Element, blob, Entry}
+use Rattle.pb_wire.specs.Reading.{◌>>=◌}
 use Rattle.pb_wire.specs.Cursor.{Placed}
-use Rattle.event_types.specs.declared.error.EventFault.{EventFault}
-use Rattle.event_types.specs.declared.error.EventFault.TheVariants.{WrongWire, Missing}
+use Rattle.pb_wire.specs.declared.fault.FieldFault.{FieldFault}
+use Rattle.pb_wire.specs.declared.fault.FieldFault.TheVariants.{WrongWire, Missing}
 use Rattle.event_types.specs.declared.error.EventErr.{EventErr}
 use Rattle.event_types.specs.declared.error.EventErr.TheVariants.{Fault, Memory}
 use Rattle.event_types.specs.declared.layout.Layout.{Layout}
 use Rattle.event_types.specs.declared.value.Value.{Value}
 use Rattle.event_types.specs.declared.value.Value.TheVariants.{Str, Short, Float, Enum, Byte, Int, Double, Strs, Shorts, Floats, Enums, Bytes, IntList, Doubles}
 use Rattle.event_types.specs.declared.event.Event.{Event}
-use Rattle.event_types.specs.Fields.{varint_number, number_in, last_of, wrong_where, first_fault}
-use Rattle.event_types.specs.FieldValue.{fields_of, pair_fault, pair_of, joined}
+use Rattle.pb_wire.specs.Numbers.{uint32_of, int32_of}
+use Rattle.pb_wire.specs.Fields.{varint_number, number_in, last_of, wrong_where, first_fault, unless}
+use Rattle.pb_wire.specs.FieldValue.{fields_of, pair_fault, pair_of}
+use Rattle.series_model.specs.PairLists.{joined}
 use Rattle.event_types.specs.Element.{int_of, bits32_of, bits64_of, bytes_of}
 use Rattle.event_types.specs.Layout.{layout_of, elements_in}
 
@@ -34,14 +37,14 @@ abbrev pub part_of : ℕ → Part
 part_of n = if n == 3 then val else (if n == 7 then field_value else (if is_singular n then number else unknown))
 
 -- The fault in one field, whose last byte stands before `behind`.
-abbrev pub fault_as : Layout → Part → ℕ → Element → ℕ → Option EventFault
+abbrev pub fault_as : Layout → Part → ℕ → Element → ℕ → Option FieldFault
 fault_as layout number n v behind = wrong_where (varint_number v) n
 fault_as layout val n v behind = (elements_in layout v behind).fault
 fault_as layout field_value n (blob b) behind = pair_fault n b behind
 fault_as layout field_value n v behind = Some (WrongWire n)
 fault_as layout unknown n v behind = None
 
-abbrev pub fault_in : Layout → Placed Entry → Option EventFault
+abbrev pub fault_in : Layout → Placed Entry → Option FieldFault
 fault_in layout x = fault_as layout (part_of x.item.number) x.item.number x.item.value x.behind
 
 -- The elements of a field.
@@ -65,13 +68,6 @@ pairs_as part v behind = Some []
 abbrev pub pairs_of : List (Placed Entry) → Option (List (List ℕ × List ℕ))
 pairs_of [] = Some []
 pairs_of (x ∷ items) = joined (pairs_as (part_of x.item.number) x.item.value x.behind) (pairs_of items)
-
--- A 32-bit field keeps the low 32 bits of a varint; signed ones are of two's complement, or zigzag in sint32.
-abbrev pub uint32_of : ℕ → ℕ
-uint32_of n = n % 2 ^ 32
-
-abbrev pub int32_of : ℕ → ℤ
-int32_of n = cast_signed w32 (n % 2 ^ 32)
 
 -- The last of a list, or else x.
 abbrev pub last_else : {A : Type 0} → A → List A → A
@@ -121,16 +117,6 @@ abbrev pub val_of : PayloadType → List (Placed Entry) → Option Value
 val_of ty items =
     if (layout_of ty).repeated || has_val items then Some (value_of ty (elements_of (layout_of ty) items)) else None
 
-infixl 10 ◌>>=◌
-abbrev pub ◌>>=◌ : {A B : Type 0} → Result A EventFault → (A → Result B EventFault) → Result B EventFault
-(Ok x) >>= f = f x
-(Err e) >>= f = Err e
-
--- A fault comes before everything else.
-abbrev pub unless : {A : Type 0} → Option EventFault → Result A EventFault → Result A EventFault
-unless None read = read
-unless (Some fault) read = Err fault
-
 -- What fields say, member by member.
 pub record Members : Type 0 where
   pub secs : Option ℕ
@@ -156,7 +142,7 @@ members_of ty items = record {
 }
 
 -- The event of these members, the required ones in the order of their numbers.
-unfoldable pub event_with : Members → Result Event EventFault
+unfoldable pub event_with : Members → Result Event FieldFault
 event_with m =
     ok_or m.secs (Missing 1) >>= λ secs.
     ok_or m.nano (Missing 2) >>= λ nano.
@@ -174,21 +160,21 @@ event_with m =
     })
 
 -- The event that bytes hold, or the first fault.
-unfoldable pub event_of : PayloadType → List ℕ → Result Event EventFault
+unfoldable pub event_of : PayloadType → List ℕ → Result Event FieldFault
 event_of ty bytes = let c = fields_of bytes (length bytes) in unless (first_fault (fault_in (layout_of ty)) c) (event_with (members_of ty c.items))
 
 -- What a function returned is that event or that fault, unless memory ran out.
-abbrev pub Gives : Result Event EventErr → Result Event EventFault → Type 0
+abbrev pub Gives : Result Event EventErr → Result Event FieldFault → Type 0
 Gives (Ok event) read = read ≡ Ok event
 Gives (Err (Fault fault)) read = read ≡ Err fault
 Gives (Err Memory) read = Unit {0}
 
 -- The seconds and nanoseconds of the event that bytes hold, or the first fault.
-unfoldable pub stamp_of : PayloadType → List ℕ → Result (ℕ × ℕ) EventFault
+unfoldable pub stamp_of : PayloadType → List ℕ → Result (ℕ × ℕ) FieldFault
 stamp_of ty bytes = event_of ty bytes >>= λ event. Ok (event.secs, event.nano)
 
 -- The same by the required members alone, of which val and the field values are there or not.
-abbrev pub stamp_with : Option ℕ → Option ℕ → Bool → Bool → Result (ℕ × ℕ) EventFault
+abbrev pub stamp_with : Option ℕ → Option ℕ → Bool → Bool → Result (ℕ × ℕ) FieldFault
 stamp_with secs nano value fields =
     ok_or secs (Missing 1) >>= λ secs.
     ok_or nano (Missing 2) >>= λ nano.

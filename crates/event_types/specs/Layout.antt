@@ -9,8 +9,8 @@ use Rattle.pb_wire.specs.declared.payload.PayloadType.TheVariants.{ScalarString,
 use Rattle.pb_wire.specs.Message.{Value, varint, fixed64, blob, fixed32}
 use Rattle.pb_wire.specs.Reading.{varint_at}
 use Rattle.pb_wire.specs.Cursor.{contents_of, items_of}
-use Rattle.event_types.specs.declared.error.EventFault.{EventFault}
-use Rattle.event_types.specs.declared.error.EventFault.TheVariants.{Wire, WrongWire}
+use Rattle.pb_wire.specs.declared.fault.FieldFault.{FieldFault}
+use Rattle.pb_wire.specs.declared.fault.FieldFault.TheVariants.{Wire, WrongWire}
 use Rattle.event_types.specs.declared.layout.Element.{Element}
 use Rattle.event_types.specs.declared.layout.Element.TheVariants.{Bytes, Sint32, Fixed32, Fixed64}
 use Rattle.event_types.specs.declared.layout.Layout.{Layout}
@@ -41,7 +41,7 @@ layout_of WaveformDouble = many Fixed64
 -- The elements of one field val, as values of the wire, and its fault.
 pub record Elements : Type 0 where
   pub values : List Value
-  pub fault : Option EventFault
+  pub fault : Option FieldFault
 
 abbrev pub wrong : Elements
 wrong = record { values = []; fault = Some (WrongWire 3) }
@@ -65,7 +65,7 @@ abbrev pub pieces_of : ℕ → List ℕ → List (List ℕ)
 pieces_of n bytes = first_chunks n (length bytes / n) bytes
 
 -- A length that is no multiple is short at the start of the value.
-abbrev pub unless_multiple : ℕ → List ℕ → ℕ → Option EventFault
+abbrev pub unless_multiple : ℕ → List ℕ → ℕ → Option FieldFault
 unless_multiple n bytes behind = if length bytes % n == 0 then None else Some (Wire (Short (behind - length bytes)))
 
 abbrev pub packed_fixed32 : List ℕ → List Value

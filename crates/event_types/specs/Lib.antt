@@ -1,5 +1,3 @@
-pub mod Fields
-pub mod FieldValue
 pub mod Layout
 pub mod Element
 pub mod Event

@@ -7,7 +7,7 @@ use Rattle.event_types.specs.declared.error.EventErr.{EventErr}
 use Rattle.event_types.specs.declared.error.EventErr.TheVariants.{Fault, Memory}
 use Rattle.event_types.specs.declared.layout.Layout.{Layout}
 use Rattle.event_types.specs.declared.reading.Members as reading
-use Rattle.event_types.specs.FieldValue.{joined}
+use Rattle.series_model.specs.PairLists.{joined}
 use Rattle.event_types.specs.Event.{Members, fault_in, has_val, elements_of, pairs_of}
 use Rattle.event_types.specs.Adding.{blank, with_elements}
 use Rattle.event_types.specs.Singular.{no_numbers, with_numbers}

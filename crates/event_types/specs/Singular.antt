@@ -3,9 +3,9 @@ use Rattle.std.specs.Prelude.{◌≡◌, if◌then◌else◌, List, [], ◌∷�
 use Rattle.std.specs.List.{filter_map, last_or}
 use Rattle.pb_wire.specs.Message.{Entry}
 use Rattle.pb_wire.specs.Cursor.{Placed}
-use Rattle.event_types.specs.declared.error.EventFault.{EventFault}
+use Rattle.pb_wire.specs.declared.fault.FieldFault.{FieldFault}
 use Rattle.event_types.specs.declared.singular.Singular.{Singular}
-use Rattle.event_types.specs.Fields.{varint_number, number_in, wrong_where}
+use Rattle.pb_wire.specs.Fields.{varint_number, number_in, wrong_where}
 use Rattle.event_types.specs.Event.{is_singular}
 
 abbrev pub no_numbers : Singular
@@ -22,10 +22,10 @@ with_numbers s items = record {
   actual_change = last_or s.actual_change (filter_map (number_in 8) items);
 }
 
-abbrev pub singular_fault : Entry → Option EventFault
+abbrev pub singular_fault : Entry → Option FieldFault
 singular_fault e = if is_singular e.number then wrong_where (varint_number e.value) e.number else None
 
 -- The field is taken, or its fault is told.
-abbrev pub TakesNumber : {X : Type 0} → Singular → Singular → Entry → Result X EventFault → Type 0
+abbrev pub TakesNumber : {X : Type 0} → Singular → Singular → Entry → Result X FieldFault → Type 0
 TakesNumber old new e (Ok x) = (singular_fault e ≡ None) × (new ≡ with_numbers old (record { item = e; behind = 0 } ∷ []))
 TakesNumber old new e (Err fault) = singular_fault e ≡ Some fault

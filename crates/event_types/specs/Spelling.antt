@@ -7,41 +7,17 @@ use Rattle.std.specs.Int.{w32, w64, cast_unsigned, to_le_bytes}
 use Rattle.pb_wire.specs.Signed.{zigzag_of}
 use Rattle.pb_wire.specs.Message.{varint, fixed64, blob, fixed32, Entry}
 use Rattle.pb_wire.specs.Spelling.{number_text, field_text}
+use Rattle.pb_wire.specs.Numbers.{sign_extended}
+use Rattle.pb_wire.specs.FieldSpelling.{message_text, number_field, text_field, pair_field, optional_field, ShortPairs}
 use Rattle.event_types.specs.declared.value.Value.{Value}
 use Rattle.event_types.specs.declared.value.Value.TheVariants.{Str, Short, Float, Enum, Byte, Int, Double, Strs, Shorts, Floats, Enums, Bytes, IntList, Doubles}
 use Rattle.event_types.specs.declared.event.Event.{Event}
-
--- The shortest spelling of fields, one after another.
-abbrev pub message_text : List Entry → List ℕ
-message_text fields = flat_map (λ f. field_text f.number f.value) fields
-
-abbrev pub number_field : ℕ → ℕ → Entry
-number_field n v = record { number = n; value = varint v }
-
-abbrev pub text_field : ℕ → List ℕ → Entry
-text_field n b = record { number = n; value = blob b }
 
 abbrev pub fixed32_field : ℕ → ℕ → Entry
 fixed32_field n v = record { number = n; value = fixed32 v }
 
 abbrev pub fixed64_field : ℕ → ℕ → Entry
 fixed64_field n v = record { number = n; value = fixed64 v }
-
--- A FieldValue is a message of a name and a value.
-abbrev pub pair_text : List ℕ × List ℕ → List ℕ
-pair_text p = message_text (text_field 1 p.0 ∷ text_field 2 p.1 ∷ [])
-
-abbrev pub pair_field : ℕ → List ℕ × List ℕ → Entry
-pair_field n p = text_field n (pair_text p)
-
--- An int32 is written with its sign in 64 bits.
-abbrev pub sign_extended : ℤ → ℕ
-sign_extended z = cast_unsigned w64 z
-
--- A field that is left out where there is no value.
-abbrev pub optional_field : ℕ → Option ℕ → List Entry
-optional_field n None = []
-optional_field n (Some v) = number_field n v ∷ []
 
 -- A number that is left out where it is 0.
 abbrev pub unless_zero : ℤ → Option ℕ
@@ -95,15 +71,7 @@ event_fields e = (stamp_fields e ++ val_fields e.val) ++ (state_fields e ++ last
 unfoldable pub event_text : Event → List ℕ
 event_text e = message_text (event_fields e)
 
--- The tag and the length of packed elements, which are left out where there are none.
-abbrev pub packed_head : ℕ → List ℕ
-packed_head zero = []
-packed_head (suc n) = number_text 26 ++ number_text (suc n)
-
 -- The members fit their types, and each length is a number of 64 bits.
-abbrev pub ShortPairs : List (List ℕ × List ℕ) → Type 0
-ShortPairs ps = AllByRecursion (λ p. length (pair_text p) < 2 ^ 64) ps
-
 abbrev pub FitsPacked : {A : Type 0} → (A → Type 0) → (A → List ℕ) → List A → Type 0
 FitsPacked Fits spell xs = AllByRecursion Fits xs × (length (flat_map spell xs) < 2 ^ 64)
 
@@ -123,11 +91,14 @@ FitsVal (Bytes b) = length b < 2 ^ 64
 FitsVal (IntList ns) = FitsPacked (FitsSigned w32) sfixed32_text ns
 FitsVal (Doubles ns) = FitsPacked (λ n. n < 2 ^ 64) (to_le_bytes w64) ns
 
+pub record FitsState (e : Event) : Type 0 where
+  pub severity : FitsSigned w32 e.severity
+  pub status : FitsSigned w32 e.status
+  pub repeat : IfSome e.repeat (λ n. n < 2 ^ 32)
+
 pub record FitsEvent (e : Event) : Type 0 where
   pub secs : e.secs < 2 ^ 32
   pub nano : e.nano < 2 ^ 32
   pub val : FitsVal e.val
-  pub severity : FitsSigned w32 e.severity
-  pub status : FitsSigned w32 e.status
-  pub repeat : IfSome e.repeat (λ n. n < 2 ^ 32)
+  pub state : FitsState e
   pub fields : ShortPairs e.fields

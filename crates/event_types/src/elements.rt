@@ -1,6 +1,6 @@
 ghost use Rattle.std.specs.Prelude.{◌≡◌, ◌≤◌, ◌<◌, OnOk, length};
 ghost use Rattle.pb_wire.specs.Message.{view_value, blob_len};
-ghost use Rattle.event_types.specs.Fields.{Tells};
+ghost use Rattle.pb_wire.specs.Fields.{Tells};
 ghost use Rattle.event_types.specs.Layout.{is_single, packed_varints, unless_multiple, packed_of, packed_fixed32, packed_fixed64, elements_in};
 ghost use Rattle.event_types.specs.Adding.{Adds, with_elements};
 

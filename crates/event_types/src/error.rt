@@ -1,24 +1,10 @@
 ghost use Rattle.std.specs.Prelude.{◌≡◌};
-ghost use Rattle.event_types.specs.declared.error.EventFault.TheVariants as faults;
+ghost use Rattle.pb_wire.specs.declared.fault.FieldFault.TheVariants as faults;
 ghost use Rattle.event_types.specs.declared.error.EventErr.TheVariants as errors;
 
+use crate::EventFault;
 use pb_wire::WireErr;
 use std::alloc::{AllocError, AllocFailed};
-
-/// Why bytes are no event.
-///
-/// The first `Wire` or `WrongWire` in the order of the bytes comes before all others, also one
-/// inside a field value or among packed numbers; then the least missing field.
-#[derive(Clone, Copy, Debug, PartialEq, Eq)]
-pub enum EventFault {
-    /// The bytes are no fields, or packed bytes no elements. Every place counts from the start of the
-    /// whole message.
-    Wire(WireErr),
-    /// A known field has another wire type. A member of a field value tells the field value's number, 7.
-    WrongWire { field: u32 },
-    /// A required field isn't there. A field value that lacks a member is told by its number, 7.
-    Missing { field: u32 },
-}
 
 /// Why an event can't be given.
 #[derive(Clone, Copy, Debug, PartialEq, Eq)]
@@ -27,14 +13,6 @@ pub enum EventErr {
     Fault(EventFault),
     /// Memory ran out.
     Memory,
-}
-
-impl From<WireErr> for EventFault {
-    ghost from_gives = { λ e fault. fault ≡ faults.Wire e };
-
-    fn from(e: WireErr) -> EventFault {
-        EventFault::Wire(e)
-    }
 }
 
 impl From<WireErr> for EventErr {

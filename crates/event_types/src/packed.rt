@@ -1,79 +1,138 @@
-ghost use Rattle.std.specs.Prelude.{◌≡◌, ◌*◌, ◌<◌, ◌++◌, OnOk, IfOk, length};
-ghost use Rattle.std.specs.List.{flat_map};
-ghost use Rattle.std.specs.Int.{w32, w64, to_le_bytes};
+ghost use Rattle.std.specs.Prelude.{◌≡◌, ◌≤◌, ◌++◌, List, ℕ, OnOk, IfOk, length};
+ghost use Rattle.std.specs.List.{flat_map, AllByRecursion};
 ghost use Rattle.std.specs.Io.{StartsWith};
-ghost use Rattle.event_types.specs.Spelling.{message_text, sint32_text, sfixed32_text, packed_field, packed_head};
+ghost use Rattle.pb_wire.specs.FieldSpelling.{message_text};
+ghost use Rattle.event_types.specs.Spelling.{packed_field, FitsPacked};
 
-use crate::spelling::{put_head, varint_len};
-use pb_wire::{put_varint, zigzag};
+use pb_wire::{put_head, put_varint, varint_len, zigzag};
 use std::alloc::AllocError;
 
-// Elements that are numbers stand packed in one field, behind its tag and their length in bytes.
+/// How numbers stand packed: one after another, each as it stands by itself behind its tag.
+pub(crate) trait Packing<T> {
+    /// The bytes of a number.
+    ghost text: { T → List ℕ };
 
-#[tactic(auto, using(crate::proofs::PackedLemmas::sint32s_written))]
-pub(crate) fn put_sint32s(out: &mut Vec<u8>, numbers: &[i32]) -> Result<(), AllocError>
-    ensures ok { OnOk result (out.new.items ≡ out.old.items ++ message_text (packed_field sint32_text numbers.now)) }
-    ensures grows { StartsWith out.new.items out.old.items }
-{
-    put_packed_head(out, sint32s_len(numbers)?)?;
-    put_zigzags(out, numbers)
+    /// What holds of each number of the type.
+    ghost in_type: { T → Type 0 };
+
+    /// How many bytes a number has.
+    fn len(number: T) -> usize
+        ensures len { result ≡ length (text number) }
+        ensures few { result ≤ 10 };
+
+    /// Appends a number.
+    fn put(out: &mut Vec<u8>, number: T) -> Result<(), AllocError>
+        ensures ok { OnOk result (out.new.items ≡ out.old.items ++ text number) }
+        ensures grows { StartsWith out.new.items out.old.items }
+        ensures fits { in_type number };
 }
 
-#[tactic(auto, using(crate::proofs::PackedLemmas::floats_written))]
-pub(crate) fn put_floats(out: &mut Vec<u8>, floats: &[u32]) -> Result<(), AllocError>
-    ensures ok { OnOk result (out.new.items ≡ out.old.items ++ message_text (packed_field (to_le_bytes w32) floats.now)) }
-    ensures grows { StartsWith out.new.items out.old.items }
-{
-    put_packed_head(out, fixed_len(floats.len(), 4)?)?;
-    put_words(out, floats)
+/// Zigzag varints: `sint32`.
+pub(crate) struct Sint32;
+
+impl Packing<i32> for Sint32 {
+    ghost use Rattle.std.specs.Prelude.{FitsSigned};
+    ghost use Rattle.std.specs.Int.{w32};
+    ghost use Rattle.event_types.specs.Spelling.{sint32_text};
+
+    ghost text = { sint32_text };
+
+    ghost in_type = { FitsSigned w32 };
+
+    fn len(number: i32) -> usize {
+        varint_len(u64::from(zigzag(number)))
+    }
+
+    fn put(out: &mut Vec<u8>, number: i32) -> Result<(), AllocError> {
+        put_varint(out, u64::from(zigzag(number)))
+    }
 }
 
-#[tactic(auto, using(crate::proofs::PackedLemmas::sfixed32s_written))]
-pub(crate) fn put_sfixed32s(out: &mut Vec<u8>, numbers: &[i32]) -> Result<(), AllocError>
-    ensures ok { OnOk result (out.new.items ≡ out.old.items ++ message_text (packed_field sfixed32_text numbers.now)) }
-    ensures grows { StartsWith out.new.items out.old.items }
-{
-    put_packed_head(out, fixed_len(numbers.len(), 4)?)?;
-    put_signed_words(out, numbers)
+/// Four bytes, the least first: `sfixed32`.
+pub(crate) struct Sfixed32;
+
+impl Packing<i32> for Sfixed32 {
+    ghost use Rattle.std.specs.Prelude.{FitsSigned};
+    ghost use Rattle.std.specs.Int.{w32};
+    ghost use Rattle.event_types.specs.Spelling.{sfixed32_text};
+
+    ghost text = { sfixed32_text };
+
+    ghost in_type = { FitsSigned w32 };
+
+    fn len(_number: i32) -> usize {
+        4
+    }
+
+    fn put(out: &mut Vec<u8>, number: i32) -> Result<(), AllocError> {
+        out.extend_from_slice(&number.cast_unsigned().to_le_bytes())
+    }
 }
 
-#[tactic(auto, using(crate::proofs::PackedLemmas::doubles_written))]
-pub(crate) fn put_doubles(out: &mut Vec<u8>, doubles: &[u64]) -> Result<(), AllocError>
-    ensures ok { OnOk result (out.new.items ≡ out.old.items ++ message_text (packed_field (to_le_bytes w64) doubles.now)) }
-    ensures grows { StartsWith out.new.items out.old.items }
-{
-    put_packed_head(out, fixed_len(doubles.len(), 8)?)?;
-    put_long_words(out, doubles)
+/// Four bytes, the least first: the bits of a `float`.
+pub(crate) struct Float;
+
+impl Packing<u32> for Float {
+    ghost use Rattle.std.specs.Prelude.{◌<◌, ◌^◌};
+    ghost use Rattle.std.specs.Int.{w32, to_le_bytes};
+
+    ghost text = { to_le_bytes w32 };
+
+    ghost in_type = { λ n. n < 2 ^ 32 };
+
+    fn len(_number: u32) -> usize {
+        4
+    }
+
+    fn put(out: &mut Vec<u8>, number: u32) -> Result<(), AllocError> {
+        out.extend_from_slice(&number.to_le_bytes())
+    }
 }
 
-// The tag and the length, which are left out where there are no elements.
-fn put_packed_head(out: &mut Vec<u8>, len: usize) -> Result<(), AllocError>
-    ensures ok { OnOk result (out.new.items ≡ out.old.items ++ packed_head len) }
+/// Eight bytes, the least first: the bits of a `double`.
+pub(crate) struct Double;
+
+impl Packing<u64> for Double {
+    ghost use Rattle.std.specs.Prelude.{◌<◌, ◌^◌};
+    ghost use Rattle.std.specs.Int.{w64, to_le_bytes};
+
+    ghost text = { to_le_bytes w64 };
+
+    ghost in_type = { λ n. n < 2 ^ 64 };
+
+    fn len(_number: u64) -> usize {
+        8
+    }
+
+    fn put(out: &mut Vec<u8>, number: u64) -> Result<(), AllocError> {
+        out.extend_from_slice(&number.to_le_bytes())
+    }
+}
+
+/// Appends numbers packed in one field val, which is left out where there are none.
+#[tactic(auto, using(crate::proofs::PackedLemmas::packed_written))]
+pub(crate) fn put_packed<T: Copy, P: Packing<T>>(
+    out: &mut Vec<u8>,
+    numbers: &[T],
+) -> Result<(), AllocError>
+    ensures ok { OnOk result (out.new.items ≡ out.old.items ++ message_text (packed_field P.text numbers.now)) }
     ensures grows { StartsWith out.new.items out.old.items }
+    ensures fits { OnOk result (FitsPacked P.in_type P.text numbers.now) }
 {
-    if len == 0 {
+    if numbers.is_empty() {
         return Ok(());
     }
-    put_head(out, 3, len)
+    put_head(out, 3, packed_len::<T, P>(numbers)?)?;
+    put_numbers::<T, P>(out, numbers)
 }
 
 // A length that isn't a number of the machine doesn't fit into memory either.
-fn fixed_len(count: usize, size: usize) -> Result<usize, AllocError>
-    requires { 0 < size }
-    ensures { IfOk result (λ len. len ≡ count * size) }
-{
-    if count > usize::MAX / size {
-        return Err(AllocError);
-    }
-    Ok(count * size)
-}
-
-fn sint32s_len(numbers: &[i32]) -> Result<usize, AllocError>
-    ensures { IfOk result (λ len. len ≡ length (flat_map sint32_text numbers.now)) }
+fn packed_len<T: Copy, P: Packing<T>>(numbers: &[T]) -> Result<usize, AllocError>
+    ensures { IfOk result (λ len. len ≡ length (flat_map P.text numbers.now)) }
 {
     let mut len = 0usize;
     for number in numbers {
-        let more = varint_len(u64::from(zigzag(*number)));
+        let more = P::len(*number);
         if more > usize::MAX - len {
             return Err(AllocError);
         }
@@ -82,42 +141,13 @@ fn sint32s_len(numbers: &[i32]) -> Result<usize, AllocError>
     Ok(len)
 }
 
-fn put_zigzags(out: &mut Vec<u8>, numbers: &[i32]) -> Result<(), AllocError>
-    ensures ok { OnOk result (out.new.items ≡ out.old.items ++ flat_map sint32_text numbers.now) }
+fn put_numbers<T: Copy, P: Packing<T>>(out: &mut Vec<u8>, numbers: &[T]) -> Result<(), AllocError>
+    ensures ok { OnOk result (out.new.items ≡ out.old.items ++ flat_map P.text numbers.now) }
     ensures grows { StartsWith out.new.items out.old.items }
+    ensures fits { OnOk result (AllByRecursion P.in_type numbers.now) }
 {
     for number in numbers {
-        put_varint(out, u64::from(zigzag(*number)))?;
-    }
-    Ok(())
-}
-
-fn put_words(out: &mut Vec<u8>, words: &[u32]) -> Result<(), AllocError>
-    ensures ok { OnOk result (out.new.items ≡ out.old.items ++ flat_map (to_le_bytes w32) words.now) }
-    ensures grows { StartsWith out.new.items out.old.items }
-{
-    for word in words {
-        out.extend_from_slice(&word.to_le_bytes())?;
-    }
-    Ok(())
-}
-
-fn put_signed_words(out: &mut Vec<u8>, words: &[i32]) -> Result<(), AllocError>
-    ensures ok { OnOk result (out.new.items ≡ out.old.items ++ flat_map sfixed32_text words.now) }
-    ensures grows { StartsWith out.new.items out.old.items }
-{
-    for word in words {
-        out.extend_from_slice(&word.cast_unsigned().to_le_bytes())?;
-    }
-    Ok(())
-}
-
-fn put_long_words(out: &mut Vec<u8>, words: &[u64]) -> Result<(), AllocError>
-    ensures ok { OnOk result (out.new.items ≡ out.old.items ++ flat_map (to_le_bytes w64) words.now) }
-    ensures grows { StartsWith out.new.items out.old.items }
-{
-    for word in words {
-        out.extend_from_slice(&word.to_le_bytes())?;
+        P::put(out, *number)?;
     }
     Ok(())
 }

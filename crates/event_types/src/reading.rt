@@ -1,14 +1,15 @@
-ghost use Rattle.std.specs.Prelude.{◌≡◌, ◌≤◌, ◌%◌, ◌^◌, IfOk};
+ghost use Rattle.std.specs.Prelude.{◌≡◌, ◌≤◌, Ok, IfOk, IfSome};
 ghost use Rattle.pb_wire.specs.Message.{view, view_value, blob_len};
-ghost use Rattle.event_types.specs.Event.{int32_of, event_of, event_with, stamp_of, stamp_with, Gives, IsOfType};
+ghost use Rattle.event_types.specs.Event.{event_of, event_with, stamp_of, stamp_with, Gives, IsOfType};
+ghost use Rattle.event_types.specs.Layout.{layout_of};
 ghost use Rattle.event_types.specs.Reading.{no_members, seen, TakesField};
 
 use crate::elements::{add_val, check_val};
-use crate::field_value::{FieldValues, number_of, read_pair, text_of};
-use crate::layout::Layout;
+use crate::layout::{Element, Layout};
 use crate::singular::Singular;
 use crate::{Event, EventErr, EventFault, Value};
-use pb_wire::{Field, Fields, PayloadType};
+use pb_wire::{Field, Fields, PayloadType, int32_of, number_of, read_pair, text_of, uint32_of};
+use series_model::PairList;
 use std::alloc::Global;
 
 // The members so far: the numbers, the value with its elements, and the field values.
@@ -17,7 +18,7 @@ struct Members {
     numbers: Singular,
     val: bool,
     value: Value,
-    fields: FieldValues,
+    fields: PairList,
 }
 
 impl Members {
@@ -29,7 +30,7 @@ impl Members {
             numbers: Singular::new(),
             val,
             value: Value::blank(alloc, ty),
-            fields: FieldValues::new(alloc),
+            fields: PairList::new(alloc),
         }
     }
 
@@ -72,12 +73,12 @@ impl Members {
         let fields = self.fields.into_pairs();
         let fields = fields.ok_or(EventFault::Missing { field: 7 })?;
         Ok(Event {
-            secs: low_bits(secs),
-            nano: low_bits(nano),
+            secs: uint32_of(secs),
+            nano: uint32_of(nano),
             val: self.value,
-            severity: numbers.severity.map_or(0, signed),
-            status: numbers.status.map_or(0, signed),
-            repeat: numbers.repeat.map(low_bits),
+            severity: numbers.severity.map_or(0, |number| int32_of(number)),
+            status: numbers.status.map_or(0, |number| int32_of(number)),
+            repeat: numbers.repeat.map(|number| uint32_of(number)),
             fields,
             actual_change: numbers.actual_change.map(|number| number != 0),
         })
@@ -101,8 +102,20 @@ pub fn decode(alloc: Global, ty: PayloadType, bytes: &[u8]) -> Result<Event, Eve
 
 /// The seconds and nanoseconds of the event that the bytes hold, or its first fault. The whole
 /// message is looked at, without memory.
-#[tactic(auto, using(crate::proofs::EventLemmas::stamp_found, crate::proofs::EventLemmas::stamp_fault), unfolding(crate::specs::Event::stamp_of, crate::specs::Event::event_of))]
+#[inline(always)]
 pub fn stamp(ty: PayloadType, bytes: &[u8]) -> Result<(u32, u32), EventFault>
+    ensures { result ≡ stamp_of ty bytes.now }
+{
+    match usual_stamp(ty, Layout::of(ty), bytes) {
+        Some(at) => Ok(at),
+        None => any_stamp(ty, bytes),
+    }
+}
+
+// The same, of any spelling.
+#[inline(never)]
+#[tactic(auto, using(crate::proofs::EventLemmas::stamp_found, crate::proofs::EventLemmas::stamp_fault), unfolding(crate::specs::Event::stamp_of, crate::specs::Event::event_of))]
+fn any_stamp(ty: PayloadType, bytes: &[u8]) -> Result<(u32, u32), EventFault>
     ensures { result ≡ stamp_of ty bytes.now }
 {
     let layout = Layout::of(ty);
@@ -132,6 +145,34 @@ pub fn stamp(ty: PayloadType, bytes: &[u8]) -> Result<(u32, u32), EventFault>
     stamp_with(secs, nano, val, whole)
 }
 
+// The same of an event as most scalars are: the second, the nanosecond and a number, in this order
+// and each spelled shortly, and nothing else.
+#[inline(always)]
+fn usual_stamp(ty: PayloadType, layout: Layout, bytes: &[u8]) -> Option<(u32, u32)>
+    requires { layout ≡ layout_of ty }
+    ensures { IfSome result (λ at. stamp_of ty bytes.now ≡ Ok at) }
+{
+    let mut fields = Fields::of(bytes);
+    let secs = fields.next_number(1)?;
+    let nano = fields.next_number(2)?;
+    match layout.element {
+        Element::Fixed64 => {
+            fields.next_fixed64(3)?;
+        }
+        Element::Fixed32 => {
+            fields.next_fixed32(3)?;
+        }
+        Element::Sint32 => {
+            fields.next_number(3)?;
+        }
+        Element::Bytes => return None,
+    }
+    if !fields.is_empty() {
+        return None;
+    }
+    Some((uint32_of(secs), uint32_of(nano)))
+}
+
 // The required members in the order of their numbers.
 fn stamp_with(
     secs: Option<u64>,
@@ -149,18 +190,5 @@ fn stamp_with(
     if !whole {
         return Err(EventFault::Missing { field: 7 });
     }
-    Ok((low_bits(secs), low_bits(nano)))
-}
-
-// What a 32-bit field keeps of a varint.
-fn low_bits(number: u64) -> u32
-    ensures { result ≡ number % 2 ^ 32 }
-{
-    (number % (1 << 32)) as u32
-}
-
-fn signed(number: u64) -> i32
-    ensures { result ≡ int32_of number }
-{
-    low_bits(number).cast_signed()
+    Ok((uint32_of(secs), uint32_of(nano)))
 }

@@ -3,8 +3,7 @@ ghost use Rattle.pb_wire.specs.Message.{view};
 ghost use Rattle.event_types.specs.Singular.{no_numbers, TakesNumber};
 
 use crate::EventFault;
-use crate::field_value::number_of;
-use pb_wire::Field;
+use pb_wire::{Field, number_of};
 
 /// The last value of each number that isn't repeated, as its varint.
 #[derive(Clone, Copy)]

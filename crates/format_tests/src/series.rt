@@ -203,22 +203,32 @@ fn a_blob_gives_its_bytes_back(rt: HostRuntime) -> Result<(), Fail> {
 #[test]
 fn blobs_give_their_items_back(rt: HostRuntime) -> Result<(), Fail> {
     let blobs = Blobs::from(vec![in rt.alloc(); blob(rt.alloc())?]?);
-    assert_eq!(rt; blobs.clone()?.into_vec().as_slice(), blobs.items());
+    let expected = vec![in rt.alloc(); blob(rt.alloc())?]?;
+    assert_eq!(rt; blobs.items(), expected.as_slice());
+    assert_eq!(rt; blobs.clone()?.into_vec().as_slice(), expected.as_slice());
     Ok(())
+}
+
+fn pair(alloc: Global) -> Result<(Blob, Blob), AllocError> {
+    let unit = Blob::from(Vec::from_slice(alloc, b"mA")?);
+    Ok((blob(alloc)?, unit))
 }
 
 #[test]
 fn pairs_give_their_items_back(rt: HostRuntime) -> Result<(), Fail> {
-    let pair = (blob(rt.alloc())?, blob(rt.alloc())?);
-    let pairs = Pairs::from(vec![in rt.alloc(); pair]?);
-    assert_eq!(rt; pairs.clone()?.into_vec().as_slice(), pairs.items());
+    let pairs = Pairs::from(vec![in rt.alloc(); pair(rt.alloc())?]?);
+    let expected = vec![in rt.alloc(); pair(rt.alloc())?]?;
+    assert_eq!(rt; pairs.items(), expected.as_slice());
+    assert_eq!(rt; pairs.clone()?.into_vec().as_slice(), expected.as_slice());
     Ok(())
 }
 
 #[test]
 fn samples_give_their_items_back(rt: HostRuntime) -> Result<(), Fail> {
     let samples = Samples::from(list(rt.alloc(), &[7], b"line")?);
-    assert_eq!(rt; samples.clone()?.into_vec().as_slice(), samples.items());
+    let expected = list(rt.alloc(), &[7], b"line")?;
+    assert_eq!(rt; samples.items(), expected.as_slice());
+    assert_eq!(rt; samples.clone()?.into_vec().as_slice(), expected.as_slice());
     Ok(())
 }
 
@@ -226,7 +236,13 @@ fn samples_give_their_items_back(rt: HostRuntime) -> Result<(), Fail> {
 fn a_batch_gives_its_parts_back(rt: HostRuntime) -> Result<(), Fail> {
     let samples = Samples::from(list(rt.alloc(), &[7], b"line")?);
     let batch = Batch::from(vec![in rt.alloc(); RowSamples { row: 3, samples }]?);
+    let expected = list(rt.alloc(), &[7], b"line")?;
     assert_eq!(rt; batch.parts().len(), 1);
-    assert_eq!(rt; batch.into_vec().len(), 1);
+    assert_eq!(rt; batch.parts()[0].row, 3);
+    assert_eq!(rt; batch.parts()[0].samples.items(), expected.as_slice());
+    let parts = batch.into_vec();
+    assert_eq!(rt; parts.len(), 1);
+    assert_eq!(rt; parts[0].row, 3);
+    assert_eq!(rt; parts[0].samples.items(), expected.as_slice());
     Ok(())
 }

@@ -1,11 +1,14 @@
 ghost use Rattle.std.specs.Prelude.{◌≡◌, ◌↔◌, ◌<◌, [], length, IsTrue, slice_get, Some};
 ghost use Rattle.gate_journal.specs.Batches.{lists};
 
+use crate::BatchFold;
+use std::alloc::{AllocError, Global};
 use std::marker::Model;
 
 /// The batches of a journal, oldest first. Contracts see a list of lists of bytes.
-#[derive(Debug, Drop)]
+#[derive(Drop)]
 pub struct Batches {
+    alloc: Global,
     items: Vec<Vec<u8>>,
 }
 
@@ -18,15 +21,26 @@ impl Model for Batches {
     ghost view = { λ b. lists b.items.items };
 }
 
-impl From<Vec<Vec<u8>>> for Batches {
-    ghost from_gives = { λ items batches. batches ≡ lists items.items };
+impl BatchFold for Batches {
+    ghost took = { λ b batches. b ≡ batches };
 
-    fn from(items: Vec<Vec<u8>>) -> Self {
-        Batches { items }
+    fn take(&mut self, _number: u64, batch: &[u8]) -> Result<(), AllocError> {
+        self.items.push(batch.to_vec(self.alloc)?)?;
+        Ok(())
     }
 }
 
 impl Batches {
+    // None yet.
+    pub(crate) fn new(alloc: Global) -> Batches
+        ensures { result ≡ [] }
+    {
+        Batches {
+            alloc,
+            items: Vec::new(alloc),
+        }
+    }
+
     /// How many there are.
     pub fn len(&self) -> usize
         ensures { result ≡ length self.now }
@@ -47,12 +61,5 @@ impl Batches {
         ensures { slice_get self.now index ≡ Some result.now }
     {
         self.items[index].as_slice()
-    }
-
-    /// The vectors that it was made from.
-    pub fn into_vec(self) -> Vec<Vec<u8>>
-        ensures { lists result.items ≡ self }
-    {
-        self.items
     }
 }

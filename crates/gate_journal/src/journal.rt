@@ -5,7 +5,7 @@ ghost use Rattle.disk_model.specs.Past.{Passes, Only};
 ghost use Rattle.gate_journal.specs.Batches.{framed_bytes, committed};
 ghost use Rattle.gate_journal.specs.Journal.{JournalState, BeforeOrAfter, IsSettled, IsInDoubt};
 
-use disk_model::{Disk, DiskErr, FileName};
+use disk_model::{Disk, DiskErr, FileName, write_synced};
 use std::alloc::{AllocError, Global};
 use std::marker::Model;
 
@@ -89,8 +89,8 @@ impl Journal {
         frame(&mut self.frame, batch)?;
         self.sound = false;
         self.pending = self.frame.len() as u64;
-        put(disk, &self.name, self.place + 1, &self.frame)?;
-        put(disk, &self.name, self.place, &[OPEN])?;
+        write_synced(disk, &self.name, self.place + 1, &self.frame)?;
+        write_synced(disk, &self.name, self.place, &[OPEN])?;
         self.place += self.pending;
         self.sound = true;
         Ok(())
@@ -149,29 +149,6 @@ fn frame(bytes: &mut Vec<u8>, batch: &[u8]) -> Result<(), AllocError>
     bytes.extend_from_slice(batch)?;
     bytes.push(CLOSED)?;
     Ok(())
-}
-
-// Writes bytes and then syncs the file.
-pub(crate) fn put<D: Disk>(
-    disk: &mut D,
-    name: &FileName,
-    at: u64,
-    bytes: &[u8],
-) -> Result<(), DiskErr>
-    requires { IsTrue D.tells → HasFile (D.files disk.old) name.now (λ b. (D.opened disk.old name.now ≤ at) × (at ≤ length b)) }
-    ensures written { IsTrue D.tells → OnOk result (At name.now (Overwritten at bytes.now) (D.files disk.old) (D.files disk.new)) }
-    ensures torn { IsTrue D.tells → OnErr result (At name.now (Torn at (length bytes.now)) (D.files disk.old) (D.files disk.new)) }
-    ensures durable { IsTrue D.tells → OnOk result (Only (D.past disk.new) name.now (D.files disk.new name.now)) }
-    ensures elsewhere { IsTrue D.tells → (n : Name) → n ≢ name.now → D.files disk.new n ≡ D.files disk.old n }
-    ensures crash { IsTrue D.tells → Passes (At name.now (Torn at (length bytes.now))) (D.past disk.old) (D.past disk.new) }
-    ensures opened { IsTrue D.tells → D.opened disk.new ≡ D.opened disk.old }
-    ensures fits { OnOk result (at + length bytes.now < 2 ^ 64) }
-    ensures faults { D.faults disk.old ≤ D.faults disk.new }
-    ensures cause { IsErr result → Rose (D.faults disk.old) (D.faults disk.new) }
-    ensures no_memory { IsErrOf result DiskErr.Memory → ⊥ }
-{
-    disk.write(name, at, bytes)?;
-    disk.sync(name)
 }
 
 // Whether the gate at this place is open, and as many bytes stand behind it in the file.

@@ -14,6 +14,7 @@ pub(crate) const RETURN: u8 = 0x0d;
 ///
 /// `BadEscape` comes exactly where the line means nothing, at its first bad 1B. After a refusal
 /// `out` is as before.
+#[inline(never)]
 pub fn unescape(line: &[u8], out: &mut Vec<u8>) -> Result<(), EscapeErr>
     requires { HasNoNewline line.now }
     ensures ok { OnOk result (AppendsMeaning line.now out.old.items out.new.items) }
@@ -56,6 +57,7 @@ fn unescape_runs(line: &[u8], out: &mut Vec<u8>) -> Result<(), EscapeErr>
 /// old bytes are lost. `line` has no newline.
 ///
 /// `BadEscape` comes exactly where the line means nothing, at its first bad 1B.
+#[inline(always)]
 pub fn unescaped<'a>(line: &'a [u8], work: &'a mut Vec<u8>) -> Result<&'a [u8], EscapeErr>
     requires { HasNoNewline line.now }
     ensures ok { IfOk result (λ message. Means line.now message.now) }
@@ -71,6 +73,7 @@ pub fn unescaped<'a>(line: &'a [u8], work: &'a mut Vec<u8>) -> Result<&'a [u8], 
 
 // Whether no 1B stands in the line, so that it means its own bytes.
 #[tactic(auto, using(crate::proofs::EscapingLemmas::plain_means))]
+#[inline(always)]
 fn is_plain(line: &[u8]) -> bool
     requires { HasNoNewline line.now }
     ensures { IsTrue result → Means line.now line.now }

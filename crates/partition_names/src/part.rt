@@ -7,7 +7,7 @@ ghost use Rattle.partition_names.specs.Part.{IsPartFrom, IsPart, HoldsMoment};
 use crate::granularity::Granularity;
 use crate::name::{PartName, name_length, name_parts, part_name};
 use crate::unit::{CivilMinute, is_unit_start, minute_at, moment, seconds, unit_start};
-use arch_time::{END, START};
+use arch_time::{END, NANOS_PER_SECOND, START};
 
 /// A partition: a unit of the UTC calendar, from its start up to, not including, its end.
 #[derive(Clone, Copy, Debug, PartialEq, Eq)]
@@ -53,6 +53,6 @@ fn part_from(g: Granularity, from: CivilMinute) -> Part
     Part {
         name: part_name(g, from),
         start,
-        end: start + seconds(g, from) * 1_000_000_000,
+        end: start + seconds(g, from) * NANOS_PER_SECOND,
     }
 }

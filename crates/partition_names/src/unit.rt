@@ -4,11 +4,7 @@ ghost use Rattle.std.specs.Int.{IsInRange};
 ghost use Rattle.partition_names.specs.Unit.{IsMinute, IsUnitStart, unit_seconds, moment_of, IsUnitOf};
 
 use crate::granularity::Granularity;
-use arch_time::{CivilDate, END, START, UNIX_DAY, year_length};
-
-const NANOS_PER_SECOND: u64 = 1_000_000_000;
-
-const SECONDS_PER_DAY: u64 = 86_400;
+use arch_time::{CivilDate, END, NANOS_PER_SECOND, SECONDS_PER_DAY, START, UNIX_DAY, year_length};
 
 /// A minute of the UTC calendar.
 #[derive(Clone, Copy)]

@@ -1,4 +1,3 @@
-pub mod FieldsLemmas
 pub mod TypeLemmas
 pub mod SpellingLemmas
 pub mod RoundTrip

@@ -16,43 +16,14 @@ use Rattle.pb_wire.specs.Spelling.{field_text, FitsValue}
 use Rattle.pb_wire.proofs.ContentsLemmas.{contents_by, contents_end}
 use Rattle.pb_wire.proofs.FieldTexts.{field_shrinks, next_written}
 use Rattle.payload_info.specs.declared.info.PayloadInfo.{PayloadInfo}
-use Rattle.payload_info.specs.Fields.{number_in, text_in, last_of, first_of}
-use Rattle.payload_info.specs.FieldValue.{fields_of, pair_fault, pair_of}
-use Rattle.payload_info.specs.Info.{fault_in, pairs_of, info_from, info_with, info_of, int32_of, in_range, type_of}
-use Rattle.payload_info.specs.Spelling.{message_text, text_field, pair_text, pair_field, optional_field, sign_extended, required_fields, info_fields, info_text, FitsInfo}
+use Rattle.pb_wire.specs.Fields.{number_in, text_in, last_of, first_of}
+use Rattle.pb_wire.specs.FieldValue.{fields_of}
+use Rattle.pb_wire.specs.Numbers.{int32_of, sign_extended}
+use Rattle.pb_wire.specs.FieldSpelling.{message_text, text_field, pair_text, pair_field, optional_field, ShortPairs}
+use Rattle.pb_wire.proofs.PairWritten.{FitsField, placed, contents_written, pair_sound, pair_back, pairs_fit, int32_back, extended_small}
+use Rattle.payload_info.specs.Info.{fault_in, pairs_of, info_from, info_with, info_of, in_range, type_of}
+use Rattle.payload_info.specs.Spelling.{required_fields, info_fields, info_text, FitsInfo}
 use Rattle.payload_info.proofs.TypeLemmas.{type_of-number}
-use Rattle.payload_info.proofs.SpellingLemmas.{pair_length}
-
-abbrev FitsField : Entry → Type 0
-FitsField f = IsFieldNumber f.number × FitsValue f.value
-
--- fields behind one another in bytes that end at this place
-abbrev placed : ℕ → List Entry → List (Placed Entry)
-placed end [] = []
-placed end (f ∷ fields) = record { item = f; behind = end - length (message_text fields) } ∷ placed end fields
-
--- what is written is read field by field, and nothing else
-contents_written : (end : ℕ) (fields : List Entry) → AllByRecursion FitsField fields → fields_of (message_text fields) end ≡ record { items = placed end fields; fault = None }
-contents_written end [] fits = contents_end field_at field_shrinks end
-contents_written end (f ∷ fields) fits =
-    let rest = message_text fields in
-    let c : Cursor = record { rest = field_text f.number f.value ++ rest; end = end } in
-    let d : Cursor = record { rest = rest; end = end } in
-    let first : Placed Entry = record { item = f; behind = end - length rest } in
-    contents_by field_at field_shrinks c (Ok (Some (f, d))) (next_written end f.number f.value rest fits.0.0 fits.0.1) ∙ ap (λ (more : Contents Entry). with_first first more) (contents_written end fields fits.1)
-
-pair_fits : (p : List ℕ × List ℕ) → length (pair_text p) < 2 ^ 64 → AllByRecursion FitsField (text_field 1 p.0 ∷ text_field 2 p.1 ∷ [])
-pair_fits p short =
-    let both = pair_length p.0 p.1 in
-    (((omega arith, omega arith), omega (arith, both, short)), (((omega arith, omega arith), omega (arith, both, short)), tt))
-
-pair_sound : (p : List ℕ × List ℕ) (n behind : ℕ) → length (pair_text p) < 2 ^ 64 → pair_fault n (pair_text p) behind ≡ None
-unfolding pair_fault
-pair_sound p n behind short = rw (contents_written behind (text_field 1 p.0 ∷ text_field 2 p.1 ∷ []) (pair_fits p short)) refl
-
-pair_back : (p : List ℕ × List ℕ) (behind : ℕ) → length (pair_text p) < 2 ^ 64 → pair_of (pair_text p) behind ≡ Some p
-unfolding pair_of
-pair_back p behind short = rw (contents_written behind (text_field 1 p.0 ∷ text_field 2 p.1 ∷ []) (pair_fits p short)) refl
 
 -- what the fields behind the required ones say
 record SaysRest (n : Option ℕ) (ps : List (List ℕ × List ℕ)) (items : List (Placed Entry)) : Type 0 where
@@ -62,9 +33,6 @@ record SaysRest (n : Option ℕ) (ps : List (List ℕ × List ℕ)) (items : Lis
   year : filter_map (number_in 3) items ≡ []
   count : last_of (number_in 4) items ≡ n
   headers : pairs_of items ≡ Some ps
-
-abbrev ShortPairs : List (List ℕ × List ℕ) → Type 0
-ShortPairs ps = AllByRecursion (λ p. length (pair_text p) < 2 ^ 64) ps
 
 no_count : (end : ℕ) (ps : List (List ℕ × List ℕ)) → filter_map (number_in 4) (placed end (map (pair_field 15) ps)) ≡ []
 no_count end [] = refl
@@ -90,24 +58,9 @@ rest_says end (Some n) ps fits =
     let more = pairs_say end ps fits in
     record { sound = more.sound; ty = more.ty; name = more.name; year = more.year; count = rw (no_count end ps) refl; headers = rw more.headers refl }
 
-pairs_fit : (ps : List (List ℕ × List ℕ)) → ShortPairs ps → AllByRecursion FitsField (map (pair_field 15) ps)
-pairs_fit [] fits = tt
-pairs_fit (p ∷ ps) fits = (((omega arith, omega arith), fits.0), pairs_fit ps fits.1)
-
 rest_fit : (count : Option ℕ) (ps : List (List ℕ × List ℕ)) → IfSome count (λ n. n < 2 ^ 64) → ShortPairs ps → AllByRecursion FitsField (optional_field 4 count ++ map (pair_field 15) ps)
-rest_fit None ps small fits = pairs_fit ps fits
-rest_fit (Some n) ps small fits = (((omega arith, omega arith), small), pairs_fit ps fits)
-
--- an int32 is read back
-int32_back : (z : ℤ) → FitsSigned w32 z → int32_of (sign_extended z) ≡ z
-int32_back (pos n) fits = omega (arith, ints)
-int32_back (negsuc n) fits =
-    let small : n < 2 ^ 31 = omega (arith, ints) in
-    let low : (2 ^ 64 - suc n) % 2 ^ 32 ≡ 2 ^ 32 - suc n = omega arith in
-    ap (cast_signed w32) low ∙ to_z-of_z w32 (negsuc n) fits
-
-extended_small : (z : ℤ) → FitsSigned w32 z → sign_extended z < 2 ^ 64
-extended_small z fits = omega (arith, ints)
+rest_fit None ps small fits = pairs_fit 15 ps (omega arith, omega arith) fits
+rest_fit (Some n) ps small fits = (((omega arith, omega arith), small), pairs_fit 15 ps (omega arith, omega arith) fits)
 
 in_range-year : (y : ℤ) → pos 1991 ≤ℤ y → y ≤ℤ pos 2499 → in_range y ≡ Ok y
 in_range-year y low high = grind (arith, ints)

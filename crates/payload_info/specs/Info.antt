@@ -7,14 +7,26 @@ use Rattle.pb_wire.specs.declared.payload.PayloadType.{PayloadType}
 use Rattle.pb_wire.specs.declared.payload.PayloadType.TheVariants.{ScalarString, ScalarShort, ScalarFloat, ScalarEnum, ScalarByte, ScalarInt, ScalarDouble, WaveformString, WaveformShort, WaveformFloat, WaveformEnum, WaveformByte, WaveformInt, WaveformDouble}
 use Rattle.pb_wire.specs.Payload.{row_of}
 use Rattle.pb_wire.specs.Message.{Value, blob, Entry}
+use Rattle.pb_wire.specs.Reading.{◌>>=◌}
 use Rattle.pb_wire.specs.Cursor.{Placed}
+use Rattle.arch_time.specs.YearTime.{IsSampleYear}
+use Rattle.pb_wire.specs.declared.fault.FieldFault.{FieldFault}
+use Rattle.pb_wire.specs.declared.fault.FieldFault.TheVariants as field
+use Rattle.pb_wire.specs.Numbers.{int32_of, uint32_of}
 use Rattle.payload_info.specs.declared.error.InfoFault.{InfoFault}
-use Rattle.payload_info.specs.declared.error.InfoFault.TheVariants.{WrongWire, Missing, UnknownType, YearRange}
+use Rattle.payload_info.specs.declared.error.InfoFault.TheVariants.{Wire, WrongWire, Missing, UnknownType, YearRange}
 use Rattle.payload_info.specs.declared.error.InfoErr.{InfoErr}
 use Rattle.payload_info.specs.declared.error.InfoErr.TheVariants.{Fault, Memory}
 use Rattle.payload_info.specs.declared.info.PayloadInfo.{PayloadInfo}
-use Rattle.payload_info.specs.Fields.{varint_number, blob_bytes, number_in, text_in, last_of, wrong_where, first_fault}
-use Rattle.payload_info.specs.FieldValue.{fields_of, pair_fault, pair_of, joined}
+use Rattle.pb_wire.specs.Fields.{varint_number, blob_bytes, number_in, text_in, last_of, wrong_where, first_fault, unless}
+use Rattle.pb_wire.specs.FieldValue.{fields_of, pair_fault, pair_of}
+use Rattle.series_model.specs.PairLists.{joined}
+
+-- A fault of the fields is one of the header.
+abbrev pub info_fault : FieldFault → InfoFault
+info_fault (field.Wire e) = Wire e
+info_fault (field.WrongWire n) = WrongWire n
+info_fault (field.Missing n) = Missing n
 
 -- What a field holds, by its number.
 pub data Part : Type 0 where
@@ -27,14 +39,14 @@ abbrev pub part_of : ℕ → Part
 part_of n = if n == 1 || n == 3 || n == 4 then number else (if n == 2 then text else (if n == 15 then header else unknown))
 
 -- The fault in one field, whose last byte stands before `behind`.
-abbrev pub fault_as : Part → ℕ → Value → ℕ → Option InfoFault
+abbrev pub fault_as : Part → ℕ → Value → ℕ → Option FieldFault
 fault_as number n v behind = wrong_where (varint_number v) n
 fault_as text n v behind = wrong_where (blob_bytes v) n
 fault_as header n (blob b) behind = pair_fault n b behind
-fault_as header n v behind = Some (WrongWire n)
+fault_as header n v behind = Some (field.WrongWire n)
 fault_as unknown n v behind = None
 
-abbrev pub fault_in : Placed Entry → Option InfoFault
+abbrev pub fault_in : Placed Entry → Option FieldFault
 fault_in x = fault_as (part_of x.item.number) x.item.number x.item.value x.behind
 
 -- The pair that a field has, None where one of its members is missing.
@@ -50,16 +62,6 @@ abbrev pub pairs_of : List (Placed Entry) → Option (List (List ℕ × List ℕ
 pairs_of [] = Some []
 pairs_of (x ∷ items) = joined (pairs_as (part_of x.item.number) x.item.value x.behind) (pairs_of items)
 
-infixl 10 ◌>>=◌
-abbrev pub ◌>>=◌ : {A B : Type 0} → Result A InfoFault → (A → Result B InfoFault) → Result B InfoFault
-(Ok x) >>= f = f x
-(Err e) >>= f = Err e
-
--- A fault comes before everything else.
-abbrev pub unless : {A : Type 0} → Option InfoFault → Result A InfoFault → Result A InfoFault
-unless None read = read
-unless (Some fault) read = Err fault
-
 abbrev pub all_types : List PayloadType
 all_types = ScalarString ∷ ScalarShort ∷ ScalarFloat ∷ ScalarEnum ∷ ScalarByte ∷ ScalarInt ∷ ScalarDouble ∷ WaveformString ∷ WaveformShort ∷ WaveformFloat ∷ WaveformEnum ∷ WaveformByte ∷ WaveformInt ∷ WaveformDouble ∷ []
 
@@ -67,14 +69,7 @@ all_types = ScalarString ∷ ScalarShort ∷ ScalarFloat ∷ ScalarEnum ∷ Scal
 unfoldable pub type_of : ℕ → Option PayloadType
 type_of n = find (λ t. (row_of t).number == n) all_types
 
--- The low 32 bits of a varint, as a number of two's complement.
-abbrev pub int32_of : ℕ → ℤ
-int32_of n = cast_signed w32 (n % 2 ^ 32)
-
 -- Samples stand in the years 1991 to 2499.
-abbrev pub IsSampleYear : ℤ → Type 0
-IsSampleYear y = (pos 1991 ≤ℤ y) × (y ≤ℤ pos 2499)
-
 abbrev pub in_range : ℤ → Result ℤ InfoFault
 in_range y = if int_le (pos 1991) y && int_le y (pos 2499) then Ok y else Err (YearRange y)
 
@@ -95,7 +90,7 @@ info_from items = info_with (last_of (number_in 1) items) (last_of (text_in 2) i
 
 -- The header that bytes hold, or the first fault.
 unfoldable pub info_of : List ℕ → Result PayloadInfo InfoFault
-info_of bytes = let c = fields_of bytes (length bytes) in unless (first_fault fault_in c) (info_from c.items)
+info_of bytes = let c = fields_of bytes (length bytes) in unless (option_map info_fault (first_fault fault_in c)) (info_from c.items)
 
 -- What a function returned is that header or that fault, unless memory ran out.
 abbrev pub Gives : Result PayloadInfo InfoErr → Result PayloadInfo InfoFault → Type 0

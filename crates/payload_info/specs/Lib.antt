@@ -1,4 +1,2 @@
-pub mod Fields
-pub mod FieldValue
 pub mod Info
 pub mod Spelling

@@ -1,8 +1,9 @@
 ghost use Rattle.std.specs.Prelude.{◌≡◌};
 ghost use Rattle.payload_info.specs.declared.error.InfoFault.TheVariants as faults;
+ghost use Rattle.payload_info.specs.Info.{info_fault};
 ghost use Rattle.payload_info.specs.declared.error.InfoErr.TheVariants as errors;
 
-use pb_wire::WireErr;
+use pb_wire::{FieldFault, WireErr};
 use std::alloc::{AllocError, AllocFailed};
 
 /// Why bytes are no header.
@@ -32,11 +33,23 @@ pub enum InfoErr {
     Memory,
 }
 
-impl From<WireErr> for InfoFault {
-    ghost from_gives = { λ e fault. fault ≡ faults.Wire e };
+impl From<FieldFault> for InfoFault {
+    ghost from_gives = { λ fault info. info ≡ info_fault fault };
 
-    fn from(e: WireErr) -> InfoFault {
-        InfoFault::Wire(e)
+    fn from(fault: FieldFault) -> InfoFault {
+        match fault {
+            FieldFault::Wire(e) => InfoFault::Wire(e),
+            FieldFault::WrongWire { field } => InfoFault::WrongWire { field },
+            FieldFault::Missing { field } => InfoFault::Missing { field },
+        }
+    }
+}
+
+impl From<FieldFault> for InfoErr {
+    ghost from_gives = { λ fault err. err ≡ errors.Fault (info_fault fault) };
+
+    fn from(fault: FieldFault) -> InfoErr {
+        InfoErr::Fault(InfoFault::from(fault))
     }
 }
 

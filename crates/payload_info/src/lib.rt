@@ -17,7 +17,6 @@
 #![tactic(auto)]
 
 mod error;
-mod field_value;
 mod info;
 pub mod laws;
 mod reading;

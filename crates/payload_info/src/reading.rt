@@ -1,11 +1,12 @@
-ghost use Rattle.std.specs.Prelude.{◌≡◌, ◌%◌, ◌^◌, IfOk};
+ghost use Rattle.std.specs.Prelude.{◌≡◌, IfOk};
 ghost use Rattle.std.specs.Option.{option_map, ok_or};
-ghost use Rattle.payload_info.specs.Info.{type_of, in_range, info_of, info_with, Gives, IsSampleYear};
+ghost use Rattle.arch_time.specs.YearTime.{IsSampleYear};
+ghost use Rattle.payload_info.specs.Info.{type_of, in_range, info_of, info_with, Gives};
 
-use crate::field_value::{Headers, number_of, read_pair, text_of};
 use crate::{InfoErr, InfoFault, PayloadInfo};
-use pb_wire::{Fields, PayloadType};
-use series_model::Blob;
+use arch_time::{FIRST_YEAR, LAST_YEAR};
+use pb_wire::{Fields, PayloadType, int32_of, number_of, read_pair, text_of, uint32_of};
+use series_model::{Blob, PairList};
 use std::alloc::Global;
 
 // The last value of each number so far, and the headers.
@@ -15,7 +16,7 @@ struct Members<'a> {
     name: Option<&'a [u8]>,
     year: Option<u64>,
     count: Option<u64>,
-    headers: Headers,
+    headers: PairList,
 }
 
 impl Members<'_> {
@@ -30,10 +31,10 @@ impl Members<'_> {
         let year = self.year.ok_or(InfoFault::Missing { field: 3 })?;
         let headers = self.headers.into_pairs();
         let headers = headers.ok_or(InfoFault::Missing { field: 15 })?;
-        let ty = type_of(low_bits(number))?;
-        let year = year_of(low_bits(year).cast_signed())?;
+        let ty = type_of(uint32_of(number))?;
+        let year = year_of(int32_of(year))?;
         let name = Blob::from(Vec::from_slice(alloc, name)?);
-        let count = self.count.map(|count| low_bits(count).cast_signed());
+        let count = self.count.map(|count| int32_of(count));
         Ok(PayloadInfo {
             ty,
             name,
@@ -42,13 +43,6 @@ impl Members<'_> {
             headers,
         })
     }
-}
-
-// What a 32-bit field keeps of a varint.
-fn low_bits(number: u64) -> u32
-    ensures { result ≡ number % 2 ^ 32 }
-{
-    (number % (1 << 32)) as u32
 }
 
 fn type_of(number: u32) -> Result<PayloadType, InfoFault>
@@ -61,7 +55,7 @@ fn year_of(year: i32) -> Result<i32, InfoFault>
     ensures value { result ≡ in_range year }
     ensures range { IfOk result IsSampleYear }
 {
-    if year >= 1991 && year <= 2499 {
+    if year >= FIRST_YEAR && year <= LAST_YEAR {
         Ok(year)
     } else {
         Err(InfoFault::YearRange { year })
@@ -69,7 +63,7 @@ fn year_of(year: i32) -> Result<i32, InfoFault>
 }
 
 /// The header that the bytes hold, or its first fault.
-#[tactic(auto, using(crate::proofs::FieldsLemmas::joined_assoc), unfolding(crate::specs::Info::info_of))]
+#[tactic(auto, using(series_model::proofs::PairLists::joined_assoc), unfolding(crate::specs::Info::info_of))]
 pub fn decode_info(alloc: Global, bytes: &[u8]) -> Result<PayloadInfo, InfoErr>
     ensures header { Gives result (info_of bytes.now) }
     ensures year { IfOk result (λ info. IsSampleYear info.year) }
@@ -79,7 +73,7 @@ pub fn decode_info(alloc: Global, bytes: &[u8]) -> Result<PayloadInfo, InfoErr>
         name: None,
         year: None,
         count: None,
-        headers: Headers::new(alloc),
+        headers: PairList::new(alloc),
     };
     let mut fields = Fields::of(bytes);
     while let Some(field) = fields.next()? {

@@ -7,7 +7,7 @@ use Rattle.arch_time.specs.YearTime.{moment}
 use Rattle.line_escape.specs.Unescaping.{HasNoNewline, Means}
 use Rattle.line_escape.proofs.EscapingLemmas.{lines_apart, every_line}
 use Rattle.event_types.specs.Event.{stamp_of}
-use Rattle.event_types.specs.declared.error.EventFault.{EventFault}
+use Rattle.pb_wire.specs.declared.fault.FieldFault.{FieldFault as EventFault}
 use Rattle.series_model.specs.declared.sample.Sample.{Sample}
 use Rattle.payload_info.specs.declared.info.PayloadInfo.{PayloadInfo}
 use Rattle.payload_info.specs.declared.error.InfoFault.{InfoFault}

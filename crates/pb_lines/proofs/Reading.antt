@@ -3,7 +3,7 @@ use Rattle.std.proofs.Common.{◌≡◌, ℕ, ◌+◌, ◌-◌, ◌*◌, ◌<◌
 use Rattle.std.specs.Prelude.{◌^◌, IfSome, IfNone, IsSome, IsTrue, is_some, if◌then◌else◌}
 use Rattle.std.specs.Io.KnownBytes.{Keeps, IsAtEnd, prepend_known}
 use Rattle.std.proofs.lemmas.List.{length-append}
-use Rattle.edge_io.specs.Lines.{Reader, Stays, ahead}
+use Rattle.edge_io.specs.Lines.{Reader, Stays, Reads, ahead}
 use Rattle.edge_io.specs.declared.lines.LineRead.{LineRead}
 use Rattle.edge_io.specs.declared.lines.LineRead.TheVariants.{Line, End, Torn, TooLong, InputTooLong, SourceFault, Memory}
 use Rattle.payload_info.specs.declared.info.PayloadInfo.{PayloadInfo}
@@ -12,7 +12,7 @@ use Rattle.pb_lines.specs.declared.fault.ChunkFault.TheVariants as fault
 use Rattle.pb_lines.specs.declared.reader.ChunkItem.{ChunkItem}
 use Rattle.pb_lines.specs.declared.reader.ChunkItem.TheVariants as it
 use Rattle.pb_lines.specs.Stream.{Item, header, sample, chunk_end, Section, Stop, IsStream, IsLines, IsItems, IsEnding, Skips, Gives, Fails, Ends, within, between}
-use Rattle.pb_lines.specs.Reader.{Chunks, to_come, lines_taken, bytes_taken, Holds, Passes, Stops, ReadsItem, ReadsLine, TakesLine, Fetches, EndsStream, HasLine, line_number, work_left}
+use Rattle.pb_lines.specs.Reader.{Chunks, to_come, lines_taken, bytes_taken, Holds, Passes, Stops, ReadsItem, ReadsLine, TakesLine, Fetches, EndsStream, HasLine, TakesOne, TakesNone, Counts, CountsOn, line_number, work_left}
 use Rattle.pb_lines.proofs.Lines.{cut_of}
 
 -- THE LINE AT THE FRONT
@@ -236,6 +236,69 @@ refused_reads old l left after ending f idle going cut read number =
     let Q : Stop → Type 0 = λ stop. Stops (behind_line old.lines old.section None) (ahead old.lines left) stop in
     (refl, subst P (sym is) (subst Q stop (ending_stops old.section old.lines (ahead old.lines left) ending (Some (old.lines.number + 1, f)) cut read)), refl)
 
+-- an ending at which the stream is refused, and its fault
+abbrev pub IsStop : LineRead → ChunkFault → Type 0
+IsStop Torn fault.Torn = Unit {0}
+IsStop TooLong fault.LineTooLong = Unit {0}
+IsStop InputTooLong fault.InputTooLong = Unit {0}
+IsStop _ _ = ⊥
+
+-- what such an ending comes to
+pub stop_reads : (old new : Chunks) (l : Reader) (left after : Option (List ℕ)) (ending : LineRead) (f : ChunkFault) → IsStop ending f → new ≡ record old { lines = l; refused = Some f } → old.pending ≡ false → old.refused ≡ None → Reads old.lines l (ahead old.lines left) (ahead l after) ending → ReadsItem old new (to_come old left) (to_come new after) (it.Refused f)
+stop_reads old new l left after Torn fault.Torn is made idle going h =
+    subst (λ (n : Chunks). ReadsItem old n (to_come old left) (to_come n after) (it.Refused fault.Torn)) (sym made) (refused_reads old l left after Torn fault.Torn idle going h.3 (refl, refl) (ap (λ (n : ℕ). n + 1) h.0.number))
+stop_reads old new l left after TooLong fault.LineTooLong is made idle going h =
+    subst (λ (n : Chunks). ReadsItem old n (to_come old left) (to_come n after) (it.Refused fault.LineTooLong)) (sym made) (refused_reads old l left after TooLong fault.LineTooLong idle going h.3 (refl, refl) (ap (λ (n : ℕ). n + 1) h.0.number))
+stop_reads old new l left after InputTooLong fault.InputTooLong is made idle going h =
+    subst (λ (n : Chunks). ReadsItem old n (to_come old left) (to_come n after) (it.Refused fault.InputTooLong)) (sym made) (refused_reads old l left after InputTooLong fault.InputTooLong idle going h.3 (refl, refl) (ap (λ (n : ℕ). n + 1) h.0.number))
+stop_reads old new l left after ending f is made idle going h = absurd is
+
+-- HOW MANY LINES ARE TAKEN
+
+one_taken : (r : Reader) (s : Section) (refused : Option ChunkFault) → HasLine r → TakesOne (r.number - 1) (r.passed - (length r.line + 1)) (behind_line r s refused)
+one_taken r s refused has = record { lines = sym (count_up r has); bytes = omega (arith, has.room); number = sym (count_up r has) }
+
+counts_before : (r : Reader) (s : Section) (new : Chunks) (o : Option ChunkItem) → HasLine r → TakesLine (before_line r s) new o → Counts (r.number - 1) (r.passed - (length r.line + 1)) new o
+counts_before r s new None has h = subst (λ (n : Chunks). Counts (r.number - 1) (r.passed - (length r.line + 1)) n None) (sym h.1) (one_taken r s None has, h.0.1)
+counts_before r s new (Some it.Header) has h = subst (λ (n : Chunks). TakesOne (r.number - 1) (r.passed - (length r.line + 1)) n) (sym h.2) (one_taken r (within h.0) None has)
+counts_before r s new (Some (it.Sample t)) has h = subst (λ (n : Chunks). TakesOne (r.number - 1) (r.passed - (length r.line + 1)) n) (sym h.1) (one_taken r s None has)
+counts_before r s new (Some it.ChunkEnd) has h = subst (λ (n : Chunks). Counts (r.number - 1) (r.passed - (length r.line + 1)) n (Some it.ChunkEnd)) (sym h.1) (inr (one_taken r between None has, h.0.2))
+counts_before r s new (Some (it.Refused (fault.BadHeader f))) has h = subst (λ (n : Chunks). TakesOne (r.number - 1) (r.passed - (length r.line + 1)) n) (sym h.1) (one_taken r s (Some (fault.BadHeader f)) has)
+counts_before r s new (Some (it.Refused (fault.BadLine f))) has h = subst (λ (n : Chunks). TakesOne (r.number - 1) (r.passed - (length r.line + 1)) n) (sym h.1) (one_taken r s (Some (fault.BadLine f)) has)
+counts_before r s new (Some (it.Refused fault.NoHeader)) has h = absurd h.0
+counts_before r s new (Some (it.Refused fault.Torn)) has h = absurd h.0
+counts_before r s new (Some (it.Refused fault.LineTooLong)) has h = absurd h.0
+counts_before r s new (Some (it.Refused fault.InputTooLong)) has h = absurd h.0
+counts_before r s new (Some it.Memory) has h = subst (λ (n : Chunks). TakesNone (r.number - 1) (r.passed - (length r.line + 1)) n) (sym h) (record { lines = refl; bytes = refl })
+counts_before r s new (Some it.End) has h = absurd h
+counts_before r s new (Some it.SourceFault) has h = absurd h
+
+-- the line that was fetched counts as the next of the reader before
+pub line_counts : (old mid new : Chunks) (before middle : Option (List ℕ)) (o : Option ChunkItem) → Fetches old mid before middle → TakesLine mid new o → Counts (lines_taken old) (bytes_taken old) new o
+line_counts old mid new before middle o f h =
+    let is : mid ≡ before_line mid.lines mid.section =
+    ap (λ (b : Bool). record { lines = mid.lines; pending = b; section = mid.section; refused = mid.refused }) f.pending
+    ∙ ap (λ (r : Option ChunkFault). record { lines = mid.lines; pending = true; section = mid.section; refused = r }) f.refused in
+    let taken = counts_before mid.lines mid.section new o f.line (subst (λ (c : Chunks). TakesLine c new o) is h) in
+    let same : (lines_taken old ≡ mid.lines.number - 1) × (bytes_taken old ≡ mid.lines.passed - (length mid.lines.line + 1)) = (sym f.lines ∙ ap lines_taken is, sym f.bytes ∙ ap bytes_taken is) in
+    rw (same.0, same.1) taken
+
+pub none_taken : (old new : Chunks) (l : Reader) → old.pending ≡ false → Stays old.lines l → new.pending ≡ false → new.lines ≡ l → TakesNone (lines_taken old) (bytes_taken old) new
+none_taken old new l idle stays still is = rw (idle, still, is) (record { lines = stays.number; bytes = stays.passed })
+
+-- the end of the stream, and an ending at which it is refused, take no line
+pub end_counts : (old new : Chunks) (l : Reader) (r : ChunkItem) → old.pending ≡ false → Stays old.lines l → EndsStream (record old { lines = l }) new r → Counts (lines_taken old) (bytes_taken old) new (Some r)
+end_counts old new l it.ChunkEnd idle stays h = inl (none_taken old new l idle stays (ap (λ (c : Chunks). c.pending) h.1 ∙ idle) (ap (λ (c : Chunks). c.lines) h.1))
+end_counts old new l it.End idle stays h = none_taken old new l idle stays (ap (λ (c : Chunks). c.pending) h.2 ∙ idle) (ap (λ (c : Chunks). c.lines) h.2)
+end_counts old new l (it.Refused fault.NoHeader) idle stays h = none_taken old new l idle stays (ap (λ (c : Chunks). c.pending) h.2 ∙ idle) (ap (λ (c : Chunks). c.lines) h.2)
+end_counts old new l r idle stays h = absurd h
+
+pub stop_counts : (old new : Chunks) (l : Reader) (ending : LineRead) (f : ChunkFault) → IsStop ending f → new ≡ record old { lines = l; refused = Some f } → old.pending ≡ false → Stays old.lines l → Counts (lines_taken old) (bytes_taken old) new (Some (it.Refused f))
+stop_counts old new l Torn fault.Torn is made idle stays = none_taken old new l idle stays (ap (λ (c : Chunks). c.pending) made ∙ idle) (ap (λ (c : Chunks). c.lines) made)
+stop_counts old new l TooLong fault.LineTooLong is made idle stays = none_taken old new l idle stays (ap (λ (c : Chunks). c.pending) made ∙ idle) (ap (λ (c : Chunks). c.lines) made)
+stop_counts old new l InputTooLong fault.InputTooLong is made idle stays = none_taken old new l idle stays (ap (λ (c : Chunks). c.pending) made ∙ idle) (ap (λ (c : Chunks). c.lines) made)
+stop_counts old new l ending f is made idle stays = absurd is
+
 -- FROM A CALL TO THE NEXT
 
 -- Holds speaks of the section and of how many lines and bytes were taken alone.
@@ -295,9 +358,12 @@ pub record Later (old new : Chunks) (before after : Option (List ℕ)) : Type 0 
   pub passes : Passes old new before after []
   pub going : new.refused ≡ None
   pub work : work_left new ≤ work_left old
+  pub skipped : ℕ
+  pub lines : lines_taken new ≡ lines_taken old + skipped
+  pub bytes : bytes_taken new ≡ bytes_taken old + skipped
 
 pub later_start : (c : Chunks) (left : Option (List ℕ)) → c.refused ≡ None → Later c c left left
-later_start c left going = record { section = refl; passes = passes_nothing c left; going = going; work = omega arith }
+later_start c left going = record { section = refl; passes = passes_nothing c left; going = going; work = omega arith; skipped = 0; lines = omega arith; bytes = omega arith }
 
 passes_behind : (old mid new : Chunks) (before middle after : Option (List ℕ)) (items : List Item) → Passes old mid before middle [] → Passes mid new middle after items → Passes old new before after items
 passes_behind old mid new None middle after items f h = tt
@@ -310,14 +376,23 @@ stops_behind old mid None middle stop f h = tt
 stops_behind old mid (Some xs) None stop f h = absurd f
 stops_behind old mid (Some xs) (Some ys) stop f h = f [] stop h
 
-pub later_line : (old mid new : Chunks) (before middle after : Option (List ℕ)) → Later old mid before middle → ReadsLine mid new middle after None → Later old new before after
-later_line old mid new before middle after f h =
+pub later_line : (old mid new : Chunks) (before middle after : Option (List ℕ)) → Later old mid before middle → ReadsLine mid new middle after None → Counts (lines_taken mid) (bytes_taken mid) new None → Later old new before after
+later_line old mid new before middle after f h counts =
     record {
       section = h.0 ∙ f.section;
       passes = passes_behind old mid new before middle after [] f.passes h.1;
       going = h.2;
       work = omega (arith, f.work, h.3);
+      skipped = f.skipped + 1;
+      lines = omega (arith, f.lines, counts.0.lines);
+      bytes = omega (arith, f.bytes, counts.0.bytes, ap length counts.1);
     }
+
+pub later_counts : (old mid new : Chunks) (before middle : Option (List ℕ)) (item : ChunkItem) → Later old mid before middle → Counts (lines_taken mid) (bytes_taken mid) new (Some item) → CountsOn old new item
+later_counts old mid new before middle item f h =
+    let P : ℕ → Type 0 = λ n. Counts n (bytes_taken mid) new (Some item) in
+    let Q : ℕ → Type 0 = λ p. Counts (lines_taken old + f.skipped) p new (Some item) in
+    (f.skipped, subst Q f.bytes (subst P f.lines h))
 
 -- what is read behind skipped lines is read
 pub later_item : (old mid new : Chunks) (before middle after : Option (List ℕ)) (item : ChunkItem) → Later old mid before middle → ReadsItem mid new middle after item → ReadsItem old new before after item

@@ -6,7 +6,7 @@ use Rattle.std.proofs.lemmas.List.Elements.{recursion_from_All}
 use Rattle.line_escape.specs.Unescaping.{Means}
 use Rattle.line_escape.proofs.EscapingLemmas.{meaning_unique, bad_means_nothing, one_bad_place, lines_apart}
 use Rattle.event_types.specs.Event.{stamp_of}
-use Rattle.event_types.specs.declared.error.EventFault.{EventFault}
+use Rattle.pb_wire.specs.declared.fault.FieldFault.{FieldFault}
 use Rattle.arch_time.specs.YearTime.{moment}
 use Rattle.pb_wire.specs.declared.payload.PayloadType.{PayloadType}
 use Rattle.payload_info.specs.declared.info.PayloadInfo.{PayloadInfo}
@@ -101,7 +101,7 @@ one_moment ty year line t u h k =
     let same = one_stamp ty line h.secs h.nano k.secs k.nano h.stamp k.stamp in
     h.at ∙ ap (λ (s : ℕ). moment year s h.nano) same.0 ∙ ap (λ (n : ℕ). moment year k.secs n) same.1 ∙ sym k.at
 
-stamp_or_fault : (ty : PayloadType) (line m : List ℕ) (s n : ℕ) (e : EventFault) → IsStamp ty line s n → Means line m → stamp_of ty m ≡ Err e → ⊥
+stamp_or_fault : (ty : PayloadType) (line m : List ℕ) (s n : ℕ) (e : FieldFault) → IsStamp ty line s n → Means line m → stamp_of ty m ≡ Err e → ⊥
 stamp_or_fault ty line m s n e h means is =
     let same = ap (λ (b : List ℕ). stamp_of ty b) (meaning_unique line h.0 m h.1 means) in
     let found = h.2 in cc

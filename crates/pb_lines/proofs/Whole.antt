@@ -6,7 +6,7 @@ use Rattle.std.proofs.lemmas.Bool.{cases_lt}
 use Rattle.line_escape.specs.Unescaping.{Means}
 use Rattle.line_escape.proofs.EscapingLemmas.{every_line}
 use Rattle.event_types.specs.Event.{stamp_of}
-use Rattle.event_types.specs.declared.error.EventFault.{EventFault}
+use Rattle.pb_wire.specs.declared.fault.FieldFault.{FieldFault}
 use Rattle.arch_time.specs.YearTime.{moment, IsInYear, IsSampleYear}
 use Rattle.arch_time.specs.Calendar.{days_in_year}
 use Rattle.payload_info.specs.declared.info.PayloadInfo.{PayloadInfo}
@@ -49,7 +49,7 @@ header_outcome : (s : Section) (line message : List ℕ) (r : Result PayloadInfo
 header_outcome s line message (Ok info) outside some means is = inr (inl (header info line, within info, (outside, some, (message, means, is), refl, refl)))
 header_outcome s line message (Err f) outside some means is = inr (inr (fault.BadHeader (head_fault.Info f), (outside, some, (message, means, is))))
 
-sample_outcome : (s : Section) (info : PayloadInfo) (line message : List ℕ) (r : Result (ℕ × ℕ) EventFault) → s.chunk ≡ Some info → line ≢ [] → Means line message → stamp_of info.ty message ≡ r → Outcome s line
+sample_outcome : (s : Section) (info : PayloadInfo) (line message : List ℕ) (r : Result (ℕ × ℕ) FieldFault) → s.chunk ≡ Some info → line ≢ [] → Means line message → stamp_of info.ty message ≡ r → Outcome s line
 sample_outcome s info line message (Err f) inside some means is = inr (inr (fault.BadLine (line_fault.Event f), (info, inside, some, (message, means, is))))
 sample_outcome s info line message (Ok (secs, nano)) inside some means is =
     let stamp : IsStamp info.ty line secs nano = (message, means, is) in

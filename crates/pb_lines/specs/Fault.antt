@@ -2,8 +2,8 @@
 use Rattle.std.specs.Prelude.{ℕ}
 use Rattle.pb_wire.specs.declared.error.WireErr.{WireErr}
 use Rattle.pb_wire.specs.declared.error.WireErr.TheVariants.{BadVarint, BadTag, Group, Short}
-use Rattle.event_types.specs.declared.error.EventFault.{EventFault}
-use Rattle.event_types.specs.declared.error.EventFault.TheVariants as event
+use Rattle.pb_wire.specs.declared.fault.FieldFault.{FieldFault}
+use Rattle.pb_wire.specs.declared.fault.FieldFault.TheVariants as event
 use Rattle.payload_info.specs.declared.error.InfoFault.{InfoFault}
 use Rattle.payload_info.specs.declared.error.InfoFault.TheVariants as info
 use Rattle.pb_lines.specs.declared.fault.LineFault.{LineFault}
@@ -21,7 +21,7 @@ wire_number (Group at) = 3
 wire_number (Short at) = 4
 
 -- a message that is no event
-abbrev pub event_number : EventFault → ℕ
+abbrev pub event_number : FieldFault → ℕ
 event_number (event.Wire e) = wire_number e
 event_number (event.Missing field) = 9
 event_number (event.WrongWire field) = 10

@@ -78,6 +78,34 @@ abbrev pub ReadsLine : Chunks → Chunks → Option (List ℕ) → Option (List 
 ReadsLine old new before after None = (new.section ≡ old.section) × Passes old new before after [] × (new.refused ≡ None) × (work_left new < work_left old)
 ReadsLine old new before after (Some item) = ReadsItem old new before after item
 
+-- One line was taken behind n lines of p bytes, or none was.
+pub record TakesOne (n p : ℕ) (new : Chunks) : Type 0 where
+  pub lines : lines_taken new ≡ n + 1
+  pub bytes : bytes_taken new ≡ p + length new.lines.line + 1
+  pub number : new.lines.number ≡ n + 1
+
+pub record TakesNone (n p : ℕ) (new : Chunks) : Type 0 where
+  pub lines : lines_taken new ≡ n
+  pub bytes : bytes_taken new ≡ p
+
+-- The lines that one item takes behind n lines of p bytes, over any source: at a skipped line, a header, a sample and a bad line the
+-- one that was read last, and at a chunk's end none where the stream ends.
+abbrev pub Counts : ℕ → ℕ → Chunks → Option ChunkItem → Type 0
+Counts n p new None = TakesOne n p new × (new.lines.line ≡ [])
+Counts n p new (Some it.Header) = TakesOne n p new
+Counts n p new (Some (it.Sample t)) = TakesOne n p new
+Counts n p new (Some it.ChunkEnd) = TakesNone n p new ⊎ (TakesOne n p new × (new.lines.line ≡ []))
+Counts n p new (Some it.End) = TakesNone n p new
+Counts n p new (Some (it.Refused (fault.BadHeader f))) = TakesOne n p new
+Counts n p new (Some (it.Refused (fault.BadLine f))) = TakesOne n p new
+Counts n p new (Some (it.Refused _)) = TakesNone n p new
+Counts n p new (Some it.SourceFault) = TakesNone n p new
+Counts n p new (Some it.Memory) = TakesNone n p new
+
+-- The same behind some skipped lines, each of which is empty.
+abbrev pub CountsOn : Chunks → Chunks → ChunkItem → Type 0
+CountsOn old new item = (skipped : ℕ) × Counts (lines_taken old + skipped) (bytes_taken old + skipped) new (Some item)
+
 -- What a line is, over any source: a header, or a sample of its chunk's type and year at the moment that is told, no longer than a
 -- line may be.
 abbrev pub IsLineOf : Chunks → ChunkItem → Type 0

@@ -1,8 +1,9 @@
-ghost use Rattle.std.specs.Prelude.{◌≡◌, ◌++◌, ◌∷◌, [], IfOk, IfErr, OnOk, OnErr};
+ghost use Rattle.std.specs.Prelude.{◌≡◌, ◌++◌, ◌∷◌, [], Ok, IfOk, IfErr, OnOk, OnErr};
 ghost use Rattle.std.specs.Io.{StartsWith};
 ghost use Rattle.line_escape.specs.Escaping.{escaped};
 ghost use Rattle.line_escape.specs.Unescaping.{HasNoNewline};
-ghost use Rattle.payload_info.specs.Spelling.{info_text, FitsInfo};
+ghost use Rattle.payload_info.specs.Info.{info_of};
+ghost use Rattle.payload_info.specs.Spelling.{info_text};
 ghost use Rattle.arch_time.specs.YearTime.{IsSampleYear};
 ghost use Rattle.pb_lines.specs.Header.{IsHeaderLine, IsHeadErr};
 
@@ -46,12 +47,12 @@ pub fn header_of_line(
     }
 }
 
-/// Appends a header's line with its newline: its one spelling, escaped. Where memory runs out,
-/// `out` stays.
+/// Appends a header's line with its newline: its one spelling, escaped, which is read as that header
+/// where its year is one of samples. Where memory runs out, `out` stays.
 pub fn header_line(info: &PayloadInfo, out: &mut Vec<u8>) -> Result<(), AllocError>
     ensures ok { OnOk result (out.new.items ≡ out.old.items ++ (escaped (info_text info.now) ++ 10 ∷ [])) }
     ensures err { OnErr result (out.new.items ≡ out.old.items) }
-    ensures reads_back { FitsInfo info.now → IsHeaderLine (escaped (info_text info.now)) info.now }
+    ensures back { OnOk result (IsSampleYear info.now.year → IsHeaderLine (escaped (info_text info.now)) info.now) }
 {
     let before = out.len();
     let done = add_header_line(info, out);
@@ -65,6 +66,7 @@ pub fn header_line(info: &PayloadInfo, out: &mut Vec<u8>) -> Result<(), AllocErr
 fn add_header_line(info: &PayloadInfo, out: &mut Vec<u8>) -> Result<(), AllocError>
     ensures ok { OnOk result (out.new.items ≡ out.old.items ++ (escaped (info_text info.now) ++ 10 ∷ [])) }
     ensures grows { StartsWith out.new.items out.old.items }
+    ensures back { OnOk result (IsSampleYear info.now.year → info_of (info_text info.now) ≡ Ok info.now) }
 {
     let mut message = Vec::new(*out.allocator());
     encode_info(info, &mut message)?;

@@ -1,7 +1,7 @@
 ghost use Rattle.std.specs.Prelude.{◌≡◌, ◌≢◌, ◌↔◌, ◌≤◌, [], IfOk, IfSome, IfNone, IsTrue, IsSome};
 ghost use Rattle.std.specs.Option.{option_copied};
 ghost use Rattle.edge_io.specs.Stream.{Rose};
-ghost use Rattle.pb_lines.specs.Reader.{IsFresh, HoldsLine, ReadsItem, ReadsLine, Fetches, EndsStream, TakesLine, IsLineOf, to_come, line_number};
+ghost use Rattle.pb_lines.specs.Reader.{IsFresh, HoldsLine, ReadsItem, ReadsLine, Fetches, EndsStream, TakesLine, IsLineOf, Counts, CountsOn, to_come, lines_taken, bytes_taken, line_number};
 
 use crate::fault::{ChunkFault, LineErr};
 use crate::header::{HeadErr, header_of_line};
@@ -96,6 +96,7 @@ impl ChunkReader {
     }
 
     /// The line that was read last, as it stands, without its newline.
+    #[inline(always)]
     pub fn line(&self) -> &[u8]
         ensures { result.now ≡ self.now.lines.line }
     {
@@ -115,6 +116,7 @@ impl ChunkReader {
     }
 
     /// Whether the next call of `read_line` answers without a read.
+    #[inline(always)]
     pub fn holds_line(&self) -> bool
         ensures { IsTrue result ↔ HoldsLine self.now }
     {
@@ -125,6 +127,7 @@ impl ChunkReader {
     pub fn next<S: Source>(&mut self, source: &mut S) -> ChunkItem
         ensures item { IfNone self.old.refused (ReadsItem self.old self.new (to_come self.old (S.left source.old)) (to_come self.new (S.left source.new)) result) }
         ensures line { IsLineOf self.new result }
+        ensures lines { IfNone self.old.refused (CountsOn self.old self.new result) }
         ensures refused { IfSome self.old.refused (λ f. (result ≡ ChunkItem.Refused f) × (self.new ≡ self.old) × (source.new ≡ source.old)) }
         ensures faults { S.read_faults source.old ≤ S.read_faults source.new }
         ensures failed { result ≡ ChunkItem.SourceFault → Rose (S.read_faults source.old) (S.read_faults source.new) }
@@ -138,9 +141,11 @@ impl ChunkReader {
 
     /// Reads one line at most: the item that it gives, or `None` where it is an empty line outside
     /// a chunk. So a caller can turn to other work between two lines.
+    #[inline(always)]
     pub fn read_line<S: Source>(&mut self, source: &mut S) -> Option<ChunkItem>
         ensures item { IfNone self.old.refused (ReadsLine self.old self.new (to_come self.old (S.left source.old)) (to_come self.new (S.left source.new)) result) }
         ensures line { IfSome result (IsLineOf self.new) }
+        ensures lines { IfNone self.old.refused (Counts (lines_taken self.old) (bytes_taken self.old) self.new result) }
         ensures refused { IfSome self.old.refused (λ f. (result ≡ Some (ChunkItem.Refused f)) × (self.new ≡ self.old) × (source.new ≡ source.old)) }
         ensures unread { HoldsLine self.old → source.new ≡ source.old }
         ensures faults { S.read_faults source.old ≤ S.read_faults source.new }
@@ -161,6 +166,7 @@ impl ChunkReader {
         ensures line { IfNone result (Fetches self.old self.new (to_come self.old (S.left source.old)) (to_come self.new (S.left source.new))) }
         ensures item { IfSome result (ReadsItem self.old self.new (to_come self.old (S.left source.old)) (to_come self.new (S.left source.new))) }
         ensures no_line { IfSome result (IsLineOf self.new) }
+        ensures lines { IfSome result (λ item. Counts (lines_taken self.old) (bytes_taken self.old) self.new (Some item)) }
         ensures unread { HoldsLine self.old → source.new ≡ source.old }
         ensures faults { S.read_faults source.old ≤ S.read_faults source.new }
         ensures failed { result ≡ Some ChunkItem.SourceFault → Rose (S.read_faults source.old) (S.read_faults source.new) }
@@ -168,27 +174,20 @@ impl ChunkReader {
         if self.pending {
             return None;
         }
-        match self.lines.next(source) {
+        let fault = match self.lines.next(source) {
             LineRead::Line => {
                 self.pending = true;
-                None
+                return None;
             }
-            LineRead::End => Some(self.end()),
-            LineRead::Torn => {
-                self.refused = Some(ChunkFault::Torn);
-                Some(ChunkItem::Refused(ChunkFault::Torn))
-            }
-            LineRead::TooLong => {
-                self.refused = Some(ChunkFault::LineTooLong);
-                Some(ChunkItem::Refused(ChunkFault::LineTooLong))
-            }
-            LineRead::InputTooLong => {
-                self.refused = Some(ChunkFault::InputTooLong);
-                Some(ChunkItem::Refused(ChunkFault::InputTooLong))
-            }
-            LineRead::SourceFault => Some(ChunkItem::SourceFault),
-            LineRead::Memory => Some(ChunkItem::Memory),
-        }
+            LineRead::End => return Some(self.end()),
+            LineRead::SourceFault => return Some(ChunkItem::SourceFault),
+            LineRead::Memory => return Some(ChunkItem::Memory),
+            LineRead::Torn => ChunkFault::Torn,
+            LineRead::TooLong => ChunkFault::LineTooLong,
+            LineRead::InputTooLong => ChunkFault::InputTooLong,
+        };
+        self.refused = Some(fault);
+        Some(ChunkItem::Refused(fault))
     }
 
     // What the end of the stream comes to.
@@ -210,6 +209,7 @@ impl ChunkReader {
     }
 
     // Takes the line that is to be taken. Where memory runs out it still is.
+    #[inline(always)]
     fn take_line(&mut self) -> Option<ChunkItem>
         requires pending { IsTrue self.old.pending }
         requires going { self.old.refused ≡ None }
@@ -225,6 +225,7 @@ impl ChunkReader {
     }
 
     // An empty line ends a chunk, and is skipped outside one.
+    #[inline(always)]
     fn take_empty_line(&mut self) -> Option<ChunkItem>
         requires pending { IsTrue self.old.pending }
         requires going { self.old.refused ≡ None }
@@ -241,6 +242,7 @@ impl ChunkReader {
     }
 
     // Outside a chunk a line is a header.
+    #[inline(never)]
     fn take_header(&mut self) -> ChunkItem
         requires pending { IsTrue self.old.pending }
         requires going { self.old.refused ≡ None }
@@ -268,6 +270,7 @@ impl ChunkReader {
     }
 
     // Within a chunk a line is a sample.
+    #[inline(always)]
     fn take_sample(&mut self) -> ChunkItem
         requires pending { IsTrue self.old.pending }
         requires going { self.old.refused ≡ None }

@@ -33,6 +33,7 @@ pub fn sample_of(
 
 /// The same as `sample_of`, of a year whose start is known: the year is looked up once, and not for
 /// each line.
+#[inline(always)]
 pub fn moment_of_line(
     ty: PayloadType,
     year: &YearStart,
@@ -54,6 +55,7 @@ pub fn moment_of_line(
 }
 
 // The second and nanosecond of the event that the line means.
+#[inline(always)]
 fn stamp_of_line(ty: PayloadType, line: &[u8], work: &mut Vec<u8>) -> Result<(u32, u32), LineErr>
     requires { HasNoNewline line.now }
     ensures ok { IfOk result (λ at. IsStamp ty line.now at.0 at.1) }

@@ -7,3 +7,8 @@ pub mod ContentsLemmas
 pub mod FieldTexts
 pub mod MessageLemmas
 pub mod SignedLemmas
+pub mod LengthLemmas
+mod ShortLemmas
+pub mod EachLemmas
+pub mod PairTexts
+pub mod PairWritten

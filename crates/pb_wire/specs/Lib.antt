@@ -6,3 +6,7 @@ pub mod Cursor
 pub mod Spelling
 pub mod Signed
 pub mod Payload
+pub mod Numbers
+pub mod Fields
+pub mod FieldValue
+pub mod FieldSpelling

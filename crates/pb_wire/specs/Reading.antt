@@ -11,7 +11,7 @@ Reader A = ℕ → List ℕ → Result (A × List ℕ) WireErr
 
 -- The second step goes on with what the first gave, and a fault of either is the fault of both.
 infixl 10 ◌>>=◌
-abbrev pub ◌>>=◌ : {A B : Type 0} → Result A WireErr → (A → Result B WireErr) → Result B WireErr
+abbrev pub ◌>>=◌ : {A B E : Type 0} → Result A E → (A → Result B E) → Result B E
 (Ok x) >>= f = f x
 (Err e) >>= f = Err e
 

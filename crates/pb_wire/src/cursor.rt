@@ -1,9 +1,11 @@
-ghost use Rattle.std.specs.Prelude.{◌≡◌, ◌≤◌, IfOk, IfSome, length};
-ghost use Rattle.pb_wire.specs.Message.{view, view_value, blob_len};
+ghost use Rattle.std.specs.Prelude.{◌≡◌, ◌≤◌, ◌↔◌, [], IsTrue, IfOk, IfSome, IfNone, length};
+ghost use Rattle.pb_wire.specs.Message.{view, view_value, blob_len, varint, fixed64, fixed32};
 ghost use Rattle.pb_wire.specs.Reading.{varint_at, field_at};
-ghost use Rattle.pb_wire.specs.Cursor.{Cursor, GivesNext, place_of};
+ghost use Rattle.pb_wire.specs.Cursor.{Cursor, GivesNext, TakesItem, place_of};
 
-use crate::reading::{read_field, read_varint};
+use crate::reading::{
+    read_field, read_short_fixed32, read_short_fixed64, read_short_number, read_varint,
+};
 use crate::{Field, WireErr};
 use std::marker::Model;
 
@@ -64,6 +66,52 @@ impl<'a> Fields<'a> {
         let (field, rest) = read_field(self.rest, self.end)?;
         self.rest = rest;
         Ok(Some(field))
+    }
+
+    /// The varint of the next field, where that is of this number and spelled as most are: a tag of
+    /// one byte, and a varint of at most five. `None` says nothing of the field, which `next` reads
+    /// in any spelling; the cursor stays.
+    #[inline(always)]
+    pub fn next_number(&mut self, number: u32) -> Option<u64>
+        requires { (1 ≤ number) × (number ≤ 15) }
+        ensures taken { IfSome result (λ n. TakesItem field_at self.old self.new (record { number = number; value = varint n })) }
+        ensures none { IfNone result (self.new ≡ self.old) }
+    {
+        let (n, rest) = read_short_number(self.rest, number, self.end)?;
+        self.rest = rest;
+        Some(n)
+    }
+
+    /// The same, of eight bytes.
+    #[inline(always)]
+    pub fn next_fixed64(&mut self, number: u32) -> Option<u64>
+        requires { (1 ≤ number) × (number ≤ 15) }
+        ensures taken { IfSome result (λ n. TakesItem field_at self.old self.new (record { number = number; value = fixed64 n })) }
+        ensures none { IfNone result (self.new ≡ self.old) }
+    {
+        let (n, rest) = read_short_fixed64(self.rest, number, self.end)?;
+        self.rest = rest;
+        Some(n)
+    }
+
+    /// The same, of four bytes.
+    #[inline(always)]
+    pub fn next_fixed32(&mut self, number: u32) -> Option<u32>
+        requires { (1 ≤ number) × (number ≤ 15) }
+        ensures taken { IfSome result (λ n. TakesItem field_at self.old self.new (record { number = number; value = fixed32 n })) }
+        ensures none { IfNone result (self.new ≡ self.old) }
+    {
+        let (n, rest) = read_short_fixed32(self.rest, number, self.end)?;
+        self.rest = rest;
+        Some(n)
+    }
+
+    /// Whether no byte is left.
+    #[inline(always)]
+    pub fn is_empty(&self) -> bool
+        ensures { IsTrue result ↔ (self.now.rest ≡ []) }
+    {
+        self.rest.is_empty()
     }
 }
 

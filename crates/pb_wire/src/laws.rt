@@ -1,7 +1,7 @@
 //! Laws of the definitions that the contracts cite. Each is the contract of a function that does
 //! nothing.
 
-ghost use Rattle.std.specs.Prelude.{◌≡◌, ℕ, ◌<◌, ◌≤◌, ◌^◌, ℤ, List, ◌++◌, length};
+ghost use Rattle.std.specs.Prelude.{◌≡◌, ℕ, ◌<◌, ◌≤◌, ◌^◌, ℤ, List, ◌++◌, All, length};
 ghost use Rattle.pb_wire.specs.declared.error.WireErr.{WireErr};
 ghost use Rattle.pb_wire.specs.Message.{Value, Entry, IsFieldNumber};
 ghost use Rattle.pb_wire.specs.Grammar.{IsVarint, IsField, IsMessage, IsPacked};
@@ -12,13 +12,15 @@ ghost use Rattle.pb_wire.specs.Spelling.{number_text, field_text, FitsValue};
 ghost use Rattle.pb_wire.specs.Signed.{zigzag_of, unzigzag_of};
 
 /// What is read as a varint is one, each byte of it, and a varint is read in any of its spellings,
-/// whatever follows it.
+/// whatever follows it. What `put_varint` writes is one, and no spelling of the number is shorter.
 pub fn varints()
     ensures found { (end : ℕ) (text rest : List ℕ) (v : ℕ) → varint_at end text ≡ Ok (v, rest)
         → (s : List ℕ) × IsVarint s v × (text ≡ s ++ rest) }
     ensures only { (end : ℕ) (s rest : List ℕ) (v : ℕ) → IsVarint s v
         → varint_at end (s ++ rest) ≡ Ok (v, rest) }
     ensures written { (v : ℕ) → v < 2 ^ 64 → IsVarint (number_text v) v }
+    ensures shortest { (s : List ℕ) (v : ℕ) → All (λ b. b < 256) s → IsVarint s v
+        → length (number_text v) ≤ length s }
 {}
 
 /// What is read as a field is one, each byte of it, and a field is read, known or not and in any
@@ -40,8 +42,8 @@ pub fn faults()
         → field_at end text ≡ Err e }
 {}
 
-/// What `put_field` writes is a field, and a cursor that stands before it gives the field back,
-/// whatever follows it.
+/// What `put_field` writes is a field, a cursor that stands before it gives the field back, whatever
+/// follows it, and no spelling of the field is shorter.
 pub fn written_fields()
     ensures field { (n : ℕ) (v : Value) → IsFieldNumber n → FitsValue v
         → IsField (field_text n v) (record { number = n; value = v }) }
@@ -49,6 +51,8 @@ pub fn written_fields()
         → let here : Cursor = record { rest = field_text n v ++ rest; end = end } in
         let behind : Cursor = record { rest = rest; end = end } in
         next_of field_at here ≡ Ok (Some (record { number = n; value = v }, behind)) }
+    ensures shortest { (s : List ℕ) (f : Entry) → All (λ b. b < 256) s → IsField s f
+        → length (field_text f.number f.value) ≤ length s }
 {}
 
 /// The contents of a message are the field at the front and the contents behind it; so are packed

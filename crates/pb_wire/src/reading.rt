@@ -1,6 +1,6 @@
-ghost use Rattle.std.specs.Prelude.{◌≡◌, ◌<◌, ◌≤◌, ◌^◌, IfOk, length};
+ghost use Rattle.std.specs.Prelude.{◌≡◌, ◌<◌, ◌≤◌, ◌^◌, Ok, IfOk, IfSome, length};
 ghost use Rattle.std.specs.Int.{w32, w64, from_le_bytes};
-ghost use Rattle.pb_wire.specs.Message.{view, view_value};
+ghost use Rattle.pb_wire.specs.Message.{view, view_value, varint, fixed32, fixed64};
 ghost use Rattle.pb_wire.specs.Reading.{Gives, varint_at, tag_at, front_at, fixed64_at, fixed32_at, blob_at, value_at, field_at};
 
 use crate::{Field, Wire, WireErr};
@@ -83,6 +83,96 @@ pub(crate) fn read_varint(bytes: &[u8], end: usize) -> Result<(u64, &[u8]), Wire
     }
 }
 
+// The varint at the front, where it has at most five bytes and at least so many are left: without
+// a loop, and with one test of the length.
+#[inline(always)]
+fn read_short_varint(bytes: &[u8], end: usize) -> Option<(u64, &[u8])>
+    requires { length bytes.now ≤ end }
+    ensures read { IfSome result (λ x. varint_at end bytes.now ≡ Ok (x.0, x.1.now)) }
+    ensures shorter { IfSome result (λ x. length x.1.now ≤ length bytes.now) }
+{
+    if bytes.len() < 5 {
+        return None;
+    }
+    let (b0, rest) = bytes.split_first()?;
+    if *b0 < 128 {
+        return Some((u64::from(*b0), rest));
+    }
+    let low = u64::from(*b0 - 128);
+    let (b1, rest) = rest.split_first()?;
+    if *b1 < 128 {
+        return Some((low + u64::from(*b1) * 128, rest));
+    }
+    let low = low + u64::from(*b1 - 128) * 128;
+    let (b2, rest) = rest.split_first()?;
+    if *b2 < 128 {
+        return Some((low + u64::from(*b2) * 16_384, rest));
+    }
+    let low = low + u64::from(*b2 - 128) * 16_384;
+    let (b3, rest) = rest.split_first()?;
+    if *b3 < 128 {
+        return Some((low + u64::from(*b3) * 2_097_152, rest));
+    }
+    let low = low + u64::from(*b3 - 128) * 2_097_152;
+    let (b4, rest) = rest.split_first()?;
+    if *b4 < 128 {
+        return Some((low + u64::from(*b4) * 268_435_456, rest));
+    }
+    None
+}
+
+// A field of this number, where its tag has one byte and `read_short_varint` reads its value.
+#[inline(always)]
+pub(crate) fn read_short_number(bytes: &[u8], number: u32, end: usize) -> Option<(u64, &[u8])>
+    requires within { length bytes.now ≤ end }
+    requires number { (1 ≤ number) × (number ≤ 15) }
+    ensures read { IfSome result (λ x. field_at end bytes.now ≡ Ok (record { number = number; value = varint x.0 }, x.1.now)) }
+    ensures shorter { IfSome result (λ x. length x.1.now ≤ length bytes.now) }
+{
+    let (tag, rest) = bytes.split_first()?;
+    if u32::from(*tag) != number * 8 {
+        return None;
+    }
+    let (value, rest) = read_short_varint(rest, end)?;
+    Some((value, rest))
+}
+
+// A field of this number and eight bytes, where its tag has one byte.
+#[inline(always)]
+pub(crate) fn read_short_fixed64(bytes: &[u8], number: u32, end: usize) -> Option<(u64, &[u8])>
+    requires within { length bytes.now ≤ end }
+    requires number { (1 ≤ number) × (number ≤ 15) }
+    ensures read { IfSome result (λ x. field_at end bytes.now ≡ Ok (record { number = number; value = fixed64 x.0 }, x.1.now)) }
+    ensures shorter { IfSome result (λ x. length x.1.now ≤ length bytes.now) }
+{
+    let (tag, rest) = bytes.split_first()?;
+    if u32::from(*tag) != number * 8 + 1 {
+        return None;
+    }
+    match read_fixed64(rest, end) {
+        Ok((value, rest)) => Some((value, rest)),
+        Err(_) => None,
+    }
+}
+
+// A field of this number and four bytes, where its tag has one byte.
+#[inline(always)]
+pub(crate) fn read_short_fixed32(bytes: &[u8], number: u32, end: usize) -> Option<(u32, &[u8])>
+    requires within { length bytes.now ≤ end }
+    requires number { (1 ≤ number) × (number ≤ 15) }
+    ensures read { IfSome result (λ x. field_at end bytes.now ≡ Ok (record { number = number; value = fixed32 x.0 }, x.1.now)) }
+    ensures shorter { IfSome result (λ x. length x.1.now ≤ length bytes.now) }
+{
+    let (tag, rest) = bytes.split_first()?;
+    if u32::from(*tag) != number * 8 + 5 {
+        return None;
+    }
+    match read_fixed32(rest, end) {
+        Ok((value, rest)) => Some((value, rest)),
+        Err(_) => None,
+    }
+}
+
 #[inline(always)]
 fn read_long_varint(bytes: &[u8], end: usize) -> Result<(u64, &[u8]), WireErr>
     requires { length bytes.now ≤ end }
@@ -110,6 +200,7 @@ fn read_long_varint(bytes: &[u8], end: usize) -> Result<(u64, &[u8]), WireErr>
     Err(WireErr::BadVarint { at })
 }
 
+#[inline(always)]
 #[tactic(auto, unfolding(crate::specs::Reading::blob_at))]
 fn read_blob(bytes: &[u8], end: usize) -> Result<(&[u8], &[u8]), WireErr>
     requires { length bytes.now ≤ end }
@@ -120,6 +211,7 @@ fn read_blob(bytes: &[u8], end: usize) -> Result<(&[u8], &[u8]), WireErr>
     read_front(rest, count, end)
 }
 
+#[inline(always)]
 #[tactic(auto, unfolding(crate::specs::Reading::fixed64_at))]
 fn read_fixed64(bytes: &[u8], end: usize) -> Result<(u64, &[u8]), WireErr>
     requires { length bytes.now ≤ end }
@@ -130,6 +222,7 @@ fn read_fixed64(bytes: &[u8], end: usize) -> Result<(u64, &[u8]), WireErr>
     Ok((le64(text), rest))
 }
 
+#[inline(always)]
 #[tactic(auto, unfolding(crate::specs::Reading::fixed32_at))]
 fn read_fixed32(bytes: &[u8], end: usize) -> Result<(u32, &[u8]), WireErr>
     requires { length bytes.now ≤ end }
@@ -140,6 +233,7 @@ fn read_fixed32(bytes: &[u8], end: usize) -> Result<(u32, &[u8]), WireErr>
     Ok((le32(text), rest))
 }
 
+#[inline(always)]
 #[tactic(auto, unfolding(crate::specs::Reading::front_at))]
 fn read_front(bytes: &[u8], count: u64, end: usize) -> Result<(&[u8], &[u8]), WireErr>
     requires { length bytes.now ≤ end }

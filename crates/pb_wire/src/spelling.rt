@@ -1,7 +1,7 @@
-ghost use Rattle.std.specs.Prelude.{◌≡◌, ◌++◌, OnOk, OnErr};
+ghost use Rattle.std.specs.Prelude.{◌≡◌, ◌≤◌, ◌++◌, OnOk, OnErr, length};
 ghost use Rattle.std.specs.Io.{StartsWith};
 ghost use Rattle.pb_wire.specs.Message.{view_value, kind_of, IsFieldNumber};
-ghost use Rattle.pb_wire.specs.Spelling.{number_text, field_text};
+ghost use Rattle.pb_wire.specs.Spelling.{number_text, field_text, FitsValue};
 
 use crate::Wire;
 use std::alloc::AllocError;
@@ -29,6 +29,8 @@ pub fn put_field(out: &mut Vec<u8>, number: u32, value: Wire<'_>) -> Result<(), 
     requires { IsFieldNumber number }
     ensures ok { OnOk result (out.new.items ≡ out.old.items ++ field_text number (view_value value.entry)) }
     ensures err { OnErr result (out.new.items ≡ out.old.items) }
+    // So `laws::written_fields` says that it is read back.
+    ensures fits { OnOk result (FitsValue (view_value value.entry)) }
 {
     let before = out.len();
     let done = put_parts(out, number, value);
@@ -43,6 +45,7 @@ fn put_parts(out: &mut Vec<u8>, number: u32, value: Wire<'_>) -> Result<(), Allo
     requires { IsFieldNumber number }
     ensures ok { OnOk result (out.new.items ≡ out.old.items ++ field_text number (view_value value.entry)) }
     ensures grows { StartsWith out.new.items out.old.items }
+    ensures fits { OnOk result (FitsValue (view_value value.entry)) }
 {
     put_varint(out, u64::from(number) * 8 + wire_type(value))?;
     match value {
@@ -65,4 +68,18 @@ fn wire_type(value: Wire<'_>) -> u64
         Wire::Bytes(_) => 2,
         Wire::Fixed32(_) => 5,
     }
+}
+
+/// How many bytes the shortest spelling of a varint has.
+pub fn varint_len(v: u64) -> usize
+    ensures len { result ≡ length (number_text v) }
+    ensures few { result ≤ 10 }
+{
+    let mut len = 1;
+    let mut rest = v;
+    while rest >= 128 {
+        rest /= 128;
+        len += 1;
+    }
+    len
 }

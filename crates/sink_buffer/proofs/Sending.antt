@@ -6,6 +6,8 @@ use Rattle.std.proofs.KnownBytes.{Appends-trans, Appends-nil}
 use Rattle.std.proofs.lemmas.List.{append-nil, length-append, take-append-le}
 use Rattle.std.proofs.Math.Seq.{take-append-add, take-length}
 use Rattle.edge_io.specs.Stream.{AppendsFront}
+use Rattle.edge_io.proofs.Writes.{front_first, front_more}
+use Rattle.edge_io.proofs.Writes as edge
 use Rattle.sink_buffer.specs.Sent.{Sends}
 
 pub on_err : {A E : Type 0} (r : Result A E) (P : Type 0) → P → OnErr r P
@@ -13,14 +15,13 @@ on_err {A} {E} (Ok a) P p = tt
 on_err {A} {E} (Err e) P p = p
 
 pub front_then : (a b c : Option (List ℕ)) (out rest : List ℕ) → Appends a b out → AppendsFront b c rest → AppendsFront a c (out ++ rest)
-front_then a b c out rest sent f =
-    (length out + f.0, omega (arith, length-append out rest, f.1), rw (take-append-add out rest f.0) (Appends-trans a b c out (take f.0 rest) sent f.2))
+front_then a b c out rest sent f = front_more a b c out rest sent f
 
 pub front_longer : (a c : Option (List ℕ)) (xs ys : List ℕ) → AppendsFront a c xs → AppendsFront a c (xs ++ ys)
-front_longer a c xs ys f = (f.0, omega (arith, f.1, length-append xs ys), rw (take-append-le f.0 xs ys f.1) f.2)
+front_longer a c xs ys f = front_first a c xs ys f
 
 pub front_all : (a c : Option (List ℕ)) (xs : List ℕ) → Appends a c xs → AppendsFront a c xs
-front_all a c xs all = (length xs, omega arith, rw (take-length xs) all)
+front_all a c xs all = edge.front_all a c xs all
 
 -- WHAT IS GATHERED, CALL BY CALL
 
@@ -59,3 +60,8 @@ sends_piece a b c old mid piece sent empty all =
     let front : old ++ piece ≡ sent.0 ++ piece = ap (λ (u : List ℕ). u ++ piece) (all_sent old sent.0 mid sent.1 empty) in
     let behind : (sent.0 ++ piece) ++ mid ≡ sent.0 ++ piece = ap (λ (u : List ℕ). (sent.0 ++ piece) ++ u) empty ∙ append-nil (sent.0 ++ piece) in
     (sent.0 ++ piece, front ∙ sym behind, Appends-trans a b c sent.0 piece sent.2 all)
+
+-- what was gathered went out, and then the piece
+pub sends_all : (a b c : Option (List ℕ)) (old piece left : List ℕ) → Appends a b old → left ≡ [] → Appends b c piece → Sends a c (old ++ piece) left
+sends_all a b c old piece left first empty all =
+    (old ++ piece, sym (ap (λ (u : List ℕ). (old ++ piece) ++ u) empty ∙ append-nil (old ++ piece)), Appends-trans a b c old piece first all)

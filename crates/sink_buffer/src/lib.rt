@@ -5,9 +5,12 @@
 //!
 //! Model: the bytes that are gathered and not yet written.
 //!
-//! Caveats: bytes that are gathered when the buffer is let go are lost. Call `finish` on each path on which they are to go out.
+//! Caveats: bytes that are gathered when the buffer is let go are lost, and so are those that stood behind a failed write. Call
+//! `finish` on each path on which they are to go out, and before a call that waits for input.
+//!
+//! Tests: the program's run it.
 #![tactic(auto)]
 
 mod buffer;
 
-pub use buffer::{PutErr, SinkBuffer};
+pub use buffer::{MOST, PutErr, SinkBuffer};

@@ -1,6 +1,6 @@
+pub mod Calls
 pub mod Entries
-pub mod Flushes
-pub mod Lives
-pub mod Offers
-pub mod Registering
-pub mod Streaming
+pub mod Flush
+pub mod Headers
+pub mod Samples
+pub mod Stream

@@ -1,8 +1,5 @@
 -- What is accepted of a stream of chunks: which rows its headers make, and which of its samples are kept.
 use Rattle.std.specs.Prelude.{◌≡◌, ◌⊎◌, ℕ, List, [], ◌∷◌, ◌++◌, length, drop, Option, Some, None, Bool, true, false, nat_eq, nat_le, if◌then◌else◌, IsTrue, slice_get}
-use Rattle.disk_model.specs.Files.{Name, Files}
-use Rattle.disk_model.specs.Past.{Past}
-use Rattle.partition_names.specs.declared.granularity.Granularity.{Granularity}
 use Rattle.series_model.specs.declared.sample.Sample.{Sample}
 use Rattle.series_model.specs.declared.admission.Standing.{Standing}
 use Rattle.series_model.specs.declared.admission.Reason.{Reason}
@@ -18,14 +15,11 @@ use Rattle.event_types.specs.declared.about.State.TheVariants.{Running, Paused, 
 use Rattle.pv_name.specs.Name.{IsName}
 use Rattle.pv_catalog.specs.declared.row.Row.{Row}
 use Rattle.pv_catalog.specs.declared.error.RegisterErr.{RegisterErr}
-use Rattle.pv_catalog.specs.Rows.{HasName, KeepsRows}
-use Rattle.pv_catalog.specs.Catalogue.{CatalogueState, registered, Refuses}
-use Rattle.store_manifest.specs.Manifest.{ManifestState}
+use Rattle.pv_catalog.specs.Rows.{HasName}
+use Rattle.pv_catalog.specs.Catalogue.{registered, Refuses}
 use Rattle.pb_lines.specs.Stream.{Item, header, sample, chunk_end}
 use Rattle.pb_file.specs.File.{lines_of}
 use Rattle.tier_store.specs.Held.{Held, samples_of}
-use Rattle.tier_store.specs.Stored.{Holds}
-use Rattle.tier_store.specs.Change.{IsOpen}
 
 -- The rows, each row's accepted samples by its number, those of them that are flushed, and the header of the chunk that goes on.
 pub record Life : Type 0 where
@@ -44,11 +38,15 @@ first_life held = record { rows = held.rows; accepted = λ row. samples_of row h
 abbrev pub about_of : PayloadInfo → About
 about_of info = record { ty = info.ty; method = Monitor; count = info.count; headers = info.headers }
 
+-- it is a name, which nothing refuses, and so there is one row more
+pub record MakesRow (rows : List Row) (info : PayloadInfo) (new : List Row) : Type 0 where
+  pub is_name : IsName info.name
+  pub free : (e : RegisterErr) → Refuses rows info.name e → ⊥
+  pub is : new ≡ rows ++ registered rows info.name (about_of info) ∷ []
+
 -- a header whose name may be registered makes a row; any other makes none
 abbrev pub Registers : List Row → PayloadInfo → List Row → Type 0
-Registers rows info new =
-    (IsName info.name × ((e : RegisterErr) → Refuses rows info.name e → ⊥) × (new ≡ rows ++ registered rows info.name (about_of info) ∷ []))
-    ⊎ (((IsName info.name → ⊥) ⊎ ((e : RegisterErr) × Refuses rows info.name e)) × (new ≡ rows))
+Registers rows info new = MakesRow rows info new ⊎ (((IsName info.name → ⊥) ⊎ ((e : RegisterErr) × Refuses rows info.name e)) × (new ≡ rows))
 
 -- FLUSHES
 
@@ -99,21 +97,46 @@ after_offer None (Some i) x life = with_sample i x (with_room i x life)
 after_offer _ found x life = life
 
 -- a sample of the chunk is offered at a moment
-abbrev pub Offers : Life → PayloadInfo → Sample → ℕ → Life → Type 0
-Offers old info x now new = (found : Option ℕ) × IsFound old.rows info.name found × (new ≡ after_offer (admit (standing_of old found) (row_of info.ty).number x.t now) found x old)
+pub record Offers (old : Life) (info : PayloadInfo) (x : Sample) (now : ℕ) (new : Life) : Type 0 where
+  pub found : Option ℕ
+  pub finds : IsFound old.rows info.name found
+  pub is : new ≡ after_offer (admit (standing_of old found) (row_of info.ty).number x.t now) found x old
 
 -- STREAMS
 
+-- a header's chunk begins, under the rows that it makes
+pub record Begins (old : Life) (info : PayloadInfo) (new : Life) : Type 0 where
+  pub rows : List Row
+  pub registers : Registers old.rows info rows
+  pub is : new ≡ record old { rows = rows; chunk = Some info }
+
+-- a sample is offered to the chunk in which it stands, at the moment that was read for it
+pub record OffersAt (old : Life) (x : Sample) (moments : List ℕ) (new : Life) : Type 0 where
+  pub info : PayloadInfo
+  pub now : ℕ
+  pub inside : old.chunk ≡ Some info
+  pub read : moments ≡ now ∷ []
+  pub offers : Offers old info x now new
+
 -- One item was taken, with the moments that were read for it: one for each sample. The end of a chunk flushes what is accepted.
 abbrev pub Takes : Life → Item → List ℕ → Life → Type 0
-Takes old (header info line) moments new = (rows : List Row) × Registers old.rows info rows × (moments ≡ []) × (new ≡ record old { rows = rows; chunk = Some info })
-Takes old (sample x) moments new = (info : PayloadInfo) × (now : ℕ) × (old.chunk ≡ Some info) × (moments ≡ now ∷ []) × Offers old info x now new
+Takes old (header info line) moments new = (moments ≡ []) × Begins old info new
+Takes old (sample x) moments new = OffersAt old x moments new
 Takes old chunk_end moments new = (moments ≡ []) × (new ≡ record (flushed_life old) { chunk = None })
+
+-- the item was taken, and the others after it
+pub record TakesFirst (old : Life) (item : Item) (moments : List ℕ) (Others : Life → List ℕ → Type 0) : Type 0 where
+  pub mid : Life
+  pub own : List ℕ
+  pub later : List ℕ
+  pub split : moments ≡ own ++ later
+  pub taken : Takes old item own mid
+  pub others : Others mid later
 
 -- items were, one after another
 abbrev pub TakesAll : Life → List Item → List ℕ → Life → Type 0
 TakesAll old [] moments new = (moments ≡ []) × (new ≡ old)
-TakesAll old (item ∷ items) moments new = (first : List ℕ) × (later : List ℕ) × (mid : Life) × (moments ≡ first ++ later) × Takes old item first mid × TakesAll mid items later new
+TakesAll old (item ∷ items) moments new = TakesFirst old item moments (λ mid later. TakesAll mid items later new)
 
 -- WHAT IS HELD OF A LIFE
 
@@ -131,23 +154,23 @@ HoldsAll life held = HoldsJust life.rows life.accepted held
 abbrev pub HoldsFlushed : Life → Held → Type 0
 HoldsFlushed life held = HoldsJust life.rows life.flushed held
 
--- What is held has these rows and samples at least, and no sample that isn't accepted. A row that has no samples isn't looked at: one
--- that was to be made may be there, or not.
-pub record IsBetween (rows : List Row) (samples : Archive) (life : Life) (held : Held) : Type 0 where
-  pub kept : KeepsRows rows held.rows
-  pub extends : (row : ℕ) → IsPrefix (samples row) (samples_of row held.files)
-  pub extended : (row : ℕ) → IsPrefix (samples_of row held.files) (life.accepted row)
-  pub of_rows : (i : ℕ) (row : Row) → slice_get held.rows i ≡ Some row → (samples_of i held.files ≡ []) ⊎ (slice_get life.rows i ≡ Some row)
-  pub stands : IsTrue held.stands
+-- what was flushed when a first part of the items was taken, at the first of the moments
+pub record WasFlushed (first : Held) (items : List Item) (moments : List ℕ) (held : Held) : Type 0 where
+  pub front : List Item
+  pub offered : List ℕ
+  pub life : Life
+  pub of_items : IsPrefix front items
+  pub of_moments : IsPrefix offered moments
+  pub taken : TakesAll (first_life first) front offered life
+  pub flushed : HoldsFlushed life held
 
--- The store has, or is in doubt between, what lies between all that is flushed and all that is accepted.
-pub record IsLeft (life : Life) (catalogue : CatalogueState) (manifest : ManifestState) (files : Files) (opened : Name → ℕ) (past : Past) : Type 0 where
-  pub one : Held
-  pub other : Held
-  pub between : IsBetween life.rows life.flushed life one
-  pub between_too : IsBetween life.rows life.flushed life other
-  pub is_open : IsOpen catalogue manifest files opened past one other
+-- What comes of an item that was begun: it is taken at the moments that were read for it. Behind the last item what is accepted is flushed.
+abbrev pub ComesOf : Life → List Item → List ℕ → Life → Type 0
+ComesOf life [] moments next = next ≡ flushed_life life
+ComesOf life (item ∷ items) moments next = Takes life item moments next
 
--- an image that a crash leaves lies between what was held at first and what is accepted
-abbrev pub LeavesBetween : Granularity → Held → Life → Files → Files → Type 0
-LeavesBetween g first life old new = (held : Held) × Holds g new held × IsBetween first.rows (λ row. samples_of row first.files) life held
+-- what is flushed with it
+pub record IsFlushedWith (life : Life) (begun : List Item) (moments : List ℕ) (held : Held) : Type 0 where
+  pub next : Life
+  pub comes : ComesOf life begun moments next
+  pub flushed : HoldsFlushed next held

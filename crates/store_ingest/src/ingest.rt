@@ -1,12 +1,11 @@
 //! A stream of chunks is read into a store.
-ghost use Rattle.std.specs.Prelude.{◌≡◌, ◌≤◌, ◌⊎◌, ℕ, List, IfSome, IsTrue, None, Some, true, Result, is_ok, Ok, Err};
-ghost use Rattle.disk_model.specs.Files.{Rose};
-ghost use Rattle.disk_model.specs.declared.disk.DiskErr.TheVariants.{Fault, Memory};
-ghost use Rattle.edge_io.specs.Stream.{Rose as SourceRose};
-ghost use Rattle.pb_lines.specs.Stream.{Item, IsWholeStream};
+ghost use Rattle.std.specs.Prelude.{◌≡◌, ◌≤◌, List, IsTrue};
+ghost use Rattle.edge_io.specs.Stream.{Rose};
+ghost use Rattle.pb_lines.specs.Stream.{Item};
 ghost use Rattle.tier_store.specs.Held.{Held};
-ghost use Rattle.tier_store.specs.Change.{Has, IsOpen};
-ghost use Rattle.store_ingest.specs.Ingest.{Ingests, IsRead, TakesOf, outcome_of, stopped_by};
+ghost use Rattle.tier_store.specs.Seen.{seen};
+ghost use Rattle.tier_store.specs.Change.{Has, Costs};
+ghost use Rattle.store_ingest.specs.Ingest.{Ingests, ReadsOf, StaysUsable, end_of, outcome_of, stopped_by};
 
 mod chunk;
 mod rows;
@@ -47,22 +46,18 @@ pub fn ingest<D: Disk, S: Source, C: Clock>(
     source: &mut S,
     clock: &mut C,
 ) -> Ingested
-    requires opened { IsTrue D.tells → (held : Held) × Has store.old.catalogue store.old.manifest (D.files store.old.disk) (D.opened store.old.disk) (D.past store.old.disk) held }
-    requires sound { (store.old.catalogue.journal.sound ≡ true) × (store.old.manifest.journal.sound ≡ true) }
+    requires has { (held : Held) × Has D.tells (seen D.Disk store.old) held }
 
-    ensures ingests { IsTrue D.tells → (held : Held) → Has store.old.catalogue store.old.manifest (D.files store.old.disk) (D.opened store.old.disk) (D.past store.old.disk) held → IsTrue held.stands
-        → Ingests store.old.manifest.granularity held result (S.left source.old) (C.coming clock.old) (C.coming clock.new) store.new.catalogue store.new.manifest (D.files store.new.disk) (D.opened store.new.disk) (D.past store.old.disk) (D.past store.new.disk) }
+    ensures ingests { (first : Held) → Has D.tells (seen D.Disk store.old) first → IsTrue first.stands
+        → Ingests D.tells first result (S.left source.old) (C.coming clock.old) (C.coming clock.new) (seen D.Disk store.old) (seen D.Disk store.new) }
 
-    // On any disk the stream was read to its end, or up to its first bad line.
-    ensures stream { (items : List Item) × TakesOf result (S.left source.old) items }
+    // Whatever the store: the stream was read to its end, or up to its first bad line, and the store can be used.
+    ensures stream { (items : List Item) × ReadsOf result (S.left source.old) items }
+    ensures usable { StaysUsable D.tells result (seen D.Disk store.new) }
 
-    ensures still { IsTrue D.tells → (one : Held) × (other : Held) × IsOpen store.new.catalogue store.new.manifest (D.files store.new.disk) (D.opened store.new.disk) (D.past store.new.disk) one other }
-    ensures sound { IsRead result → (store.new.catalogue.journal.sound ≡ true) × (store.new.manifest.journal.sound ≡ true) }
-    ensures granularity { store.new.manifest.granularity ≡ store.old.manifest.granularity }
+    ensures costs { Costs (seen D.Disk store.old) (seen D.Disk store.new) (end_of result) }
     ensures source_faults { S.read_faults source.old ≤ S.read_faults source.new }
-    ensures source_fault { result ≡ Ingested.SourceFault → SourceRose (S.read_faults source.old) (S.read_faults source.new) }
-    ensures disk_faults { D.faults store.old.disk ≤ D.faults store.new.disk }
-    ensures disk_fault { result ≡ Ingested.DiskFault → Rose (D.faults store.old.disk) (D.faults store.new.disk) }
+    ensures source_fault { result ≡ Ingested.SourceFault → Rose (S.read_faults source.old) (S.read_faults source.new) }
 {
     let Ok(mut reader) = ChunkReader::new(alloc) else {
         return Ingested::OutOfMemory;

@@ -11,8 +11,13 @@ use Rattle.gate_journal.proofs.Keeping.{commit_says, either_says, load_says, one
 use Rattle.partition_names.specs.declared.granularity.Granularity.{Granularity}
 use Rattle.store_manifest.specs.declared.entry.Entry.{Entry}
 use Rattle.store_manifest.specs.declared.entry.Change.{Change}
-use Rattle.store_manifest.specs.Batches.{config, batch_of, Configured, Folds}
+use Rattle.store_manifest.specs.Batches.{config, batch_of, Configured, Folds, IsBadBatch}
 use Rattle.store_manifest.specs.Entries.{all_changed, AllCanFollow}
+use Rattle.store_manifest.specs.declared.folding.Folded.{Folded}
+use Rattle.store_manifest.specs.declared.folding.Folded.TheVariants.{Nothing, Good, Bad}
+use Rattle.store_manifest.specs.declared.lists.SeriesLists.{SeriesLists}
+use Rattle.store_manifest.specs.Folded.{IsFolded}
+use Rattle.store_manifest.specs.Listing.{entries_of, AreLists}
 use Rattle.store_manifest.specs.Numbers.{HasSizes}
 use Rattle.store_manifest.proofs.Meaning.{some_bytes, written_batch, configured_more, configured_folds, one_fold, one_granularity}
 
@@ -88,3 +93,14 @@ module _ (g : Granularity) (files : Files) (name own : Name) (is : own ≡ name)
       let R : Name → Type 0 = λ n. HasBatches (files n) bs in
       let S : List (List ℕ) → Type 0 = λ l. HasBatches (files name) l in
       configured_moment g (files name) name old mid new (subst S none (subst R is has)) (subst P is loads) (subst Q (same ∙ is) commits)
+
+-- WHAT WAS FOLDED
+
+pub nothing_folded : (bs : List (List ℕ)) (f : Folded) → f ≡ Nothing → IsFolded bs f → bs ≡ []
+nothing_folded bs f is folded = let P : Folded → Type 0 = λ x. IsFolded bs x in subst P is folded
+
+pub good_folded : (bs : List (List ℕ)) (f : Folded) (g : Granularity) (lists : SeriesLists) → f ≡ Good g lists → IsFolded bs f → AreLists lists.listed.entries × Configured g bs (entries_of lists.listed.entries)
+good_folded bs f g lists is folded = let P : Folded → Type 0 = λ x. IsFolded bs x in subst P is folded
+
+pub bad_folded : (bs : List (List ℕ)) (f : Folded) (n : ℕ) → f ≡ Bad n → IsFolded bs f → IsBadBatch bs n
+bad_folded bs f n is folded = let P : Folded → Type 0 = λ x. IsFolded bs x in subst P is folded

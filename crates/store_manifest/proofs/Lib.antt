@@ -1,8 +1,9 @@
+pub mod Around
 pub mod Bytes
 pub mod Changes
 pub mod Committing
 pub mod Meaning
 pub mod Order
-pub mod Lists
+pub mod InMemory
 pub mod Slots
 pub mod Written

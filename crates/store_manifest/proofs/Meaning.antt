@@ -197,18 +197,6 @@ one_bad bs m n one two = elim (cases_order m n) [
   | inr other ↦ elim other [ inl less ↦ absurd (not_before bs m n one two less) | inr more ↦ absurd (not_before bs n m two one more) ]
 ]
 
--- a first batch that is no config
-pub bad_first : (b : List ℕ) (bs : List (List ℕ)) → ((g : Granularity) → b ≡ config g → ⊥) → IsBadBatch (b ∷ bs) 0
-bad_first b bs bad = record {
-  front = [];
-  batch = b;
-  rest = bs;
-  split = refl;
-  counted = refl;
-  good = (FiveMinutes, [], refl);
-  bad = λ g es folds. bad g folds.0;
-}
-
 -- a batch that doesn't go on
 pub bad_later : (g : Granularity) (bs front rest : List (List ℕ)) (batch : List ℕ) (es : List Entry) (n : ℕ) → bs ≡ front ++ batch ∷ rest → n ≡ length front → Configured g front es → ((next : List Entry) → IsBatch g es batch next → ⊥) → IsBadBatch bs n
 bad_later g bs front rest batch es n split counted good bad = record {
@@ -230,26 +218,32 @@ bad_later g bs front rest batch es n split counted good bad = record {
         let Q : List Entry → Type 0 = λ l. IsBatch g l batch last in
         bad last (subst Q (same_made g [] front more.0 es more.1 good.1) more.2)
 
--- BY PLACES
+-- BATCH BY BATCH
 
-at_split : (bs : List (List ℕ)) (i : ℕ) (batch : List ℕ) → i < length bs → slice_get bs i ≡ Some batch → bs ≡ take i bs ++ batch ∷ drop (i + 1) bs
-at_split bs i batch below is =
-    sym (take-append-drop i bs) ∙ ap (λ (l : List (List ℕ)). take i bs ++ l) (drop_more bs i [] below ∙ ap (λ (b : List ℕ). b ∷ drop (i + 1) bs) (get_or_from_slice_get bs i batch [] is))
+pub begins_good : (g : Granularity) (bs : List (List ℕ)) (batch : List ℕ) → bs ≡ [] → batch ≡ config g → Configured g (bs ++ batch ∷ []) []
+begins_good g bs batch none is = let P : List (List ℕ) → Type 0 = λ l. Configured g (l ++ batch ∷ []) [] in subst P (sym none) (is, refl)
 
-pub bad_at_first : (bs : List (List ℕ)) (batch : List ℕ) → 1 ≤ length bs → slice_get bs 0 ≡ Some batch → ((g : Granularity) → batch ≡ config g → ⊥) → IsBadBatch bs 0
-bad_at_first bs batch some is bad = let P : List (List ℕ) → Type 0 = λ l. IsBadBatch l 0 in subst P (sym (at_split bs 0 batch (omega (arith, some)) is)) (bad_first batch (drop (0 + 1) bs) bad)
+pub begins_bad : (bs : List (List ℕ)) (batch : List ℕ) (n : ℕ) → bs ≡ [] → n ≡ length bs → ((g : Granularity) → batch ≡ config g → ⊥) → IsBadBatch (bs ++ batch ∷ []) n
+begins_bad bs batch n none counted bad = record {
+  front = bs;
+  batch = batch;
+  rest = [];
+  split = refl;
+  counted = counted;
+  good = (FiveMinutes, [], let P : List (List ℕ) → Type 0 = λ l. Folds FiveMinutes l [] in subst P (sym none) refl);
+  bad = λ g es folds. let P : List (List ℕ) → Type 0 = λ l. Folds g (l ++ batch ∷ []) es in let first = subst P none folds in bad g first.0;
+}
 
-pub bad_at : (g : Granularity) (bs : List (List ℕ)) (i : ℕ) (batch : List ℕ) (es : List Entry) → i < length bs → slice_get bs i ≡ Some batch → Configured g (take i bs) es → ((next : List Entry) → IsBatch g es batch next → ⊥) → IsBadBatch bs i
-bad_at g bs i batch es below is good bad = bad_later g bs (take i bs) (drop (i + 1) bs) batch es i (at_split bs i batch below is) (sym (length-take-le i bs (omega (arith, below)))) good bad
+pub goes_bad : (g : Granularity) (bs : List (List ℕ)) (batch : List ℕ) (es : List Entry) (n : ℕ) → n ≡ length bs → Configured g bs es → ((next : List Entry) → IsBatch g es batch next → ⊥) → IsBadBatch (bs ++ batch ∷ []) n
+goes_bad g bs batch es n counted good bad = bad_later g (bs ++ batch ∷ []) bs [] batch es n refl counted good bad
 
-pub good_at : (g : Granularity) (bs : List (List ℕ)) (i : ℕ) (batch : List ℕ) (es next : List Entry) → i < length bs → slice_get bs i ≡ Some batch → Configured g (take i bs) es → IsBatch g es batch next → Configured g (take (i + 1) bs) next
-good_at g bs i batch es next below is good made =
-    let P : List (List ℕ) → Type 0 = λ l. Configured g l next in
-    subst P (sym (take_more bs i [] below ∙ ap (λ (b : List ℕ). take i bs ++ b ∷ []) (get_or_from_slice_get bs i batch [] is))) (configured_more g (take i bs) es next batch good made)
-
-pub good_at_first : (g : Granularity) (bs : List (List ℕ)) (batch : List ℕ) → 1 ≤ length bs → slice_get bs 0 ≡ Some batch → batch ≡ config g → Configured g (take 1 bs) []
-good_at_first g bs batch some is config_is =
-    let P : List (List ℕ) → Type 0 = λ l. Configured g (take 1 l) [] in subst P (sym (at_split bs 0 batch (omega (arith, some)) is)) (config_is, refl)
-
-pub good_at_last : (g : Granularity) (bs : List (List ℕ)) (i : ℕ) (es : List Entry) → length bs ≤ i → Configured g (take i bs) es → Configured g bs es
-good_at_last g bs i es end good = let P : List (List ℕ) → Type 0 = λ l. Configured g l es in subst P (take_all i bs end) good
+pub stays_bad : (bs : List (List ℕ)) (batch : List ℕ) (n : ℕ) → IsBadBatch bs n → IsBadBatch (bs ++ batch ∷ []) n
+stays_bad bs batch n bad = record {
+  front = bad.front;
+  batch = bad.batch;
+  rest = bad.rest ++ batch ∷ [];
+  split = ap (λ (l : List (List ℕ)). l ++ batch ∷ []) bad.split ∙ append_assoc bad.front (bad.batch ∷ bad.rest) (batch ∷ []);
+  counted = bad.counted;
+  good = bad.good;
+  bad = bad.bad;
+}

@@ -10,14 +10,13 @@ use Rattle.std.proofs.lemmas.Map.Keys.{sorted_head, sorted_tail}
 use Rattle.std.specs.BTreeMap.{is_at, insert_entry}
 use Rattle.std.specs.List.{filter, flat_map, list_any, AllByRecursion}
 use Rattle.std.specs.List.Sorted.{IsStrictlySortedBy}
-use Rattle.std.specs.Map.{keys_of}
-use Rattle.std.specs.Option.{unwrap_or}
+use Rattle.std.specs.Map.{keys_of, set_value}
 use Rattle.std.specs.Ordering.{nat_cmp, is_eq, match_ordering}
 use Rattle.std.specs.declared.alloc.Global.{Global}
 use Rattle.std.specs.declared.cmp.Ordering.TheVariants.{Less, Equal, Greater}
 use Rattle.store_manifest.specs.declared.entry.Entry.{Entry}
-use Rattle.store_manifest.specs.Entries.{Place, place, comes_before, is_listed, spliced}
-use Rattle.store_manifest.specs.Listing.{Slot, find, own, coming, OfSeries}
+use Rattle.store_manifest.specs.Entries.{Place, place, comes_before, is_place, is_listed, spliced}
+use Rattle.store_manifest.specs.Listing.{Slot, list_of, own, OfSeries}
 use Rattle.store_manifest.proofs.Changes.{filter_all, filter_none, each, joined}
 
 -- ORDER
@@ -51,20 +50,14 @@ Owns p slots = AllByRecursion (λ slot. OfSeries slot.0 (p slot)) slots
 
 -- FINDING
 
-found_here : (s : ℕ) (e : Slot) (es : List Slot) → s ≡ e.0 → find s (e ∷ es) ≡ Some e.1
-found_here s e es is = ap (λ (o : Ordering). cond (is_eq o) (Some e.1) (find s es)) (equal_is s e.0 is)
+found_here : (s : ℕ) (e : Slot) (es : List Slot) → s ≡ e.0 → list_of s (e ∷ es) ≡ Some e.1
+found_here s e es is = ap (λ (o : Ordering). cond (is_eq o) (Some e.1) (list_of s es)) (equal_is s e.0 is)
 
-found_later : (s : ℕ) (e : Slot) (es : List Slot) → e.0 < s → find s (e ∷ es) ≡ find s es
-found_later s e es is = ap (λ (o : Ordering). cond (is_eq o) (Some e.1) (find s es)) (greater_is s e.0 is)
+found_later : (s : ℕ) (e : Slot) (es : List Slot) → e.0 < s → list_of s (e ∷ es) ≡ list_of s es
+found_later s e es is = ap (λ (o : Ordering). cond (is_eq o) (Some e.1) (list_of s es)) (greater_is s e.0 is)
 
-not_found : (s : ℕ) (e : Slot) (es : List Slot) → Ordered (e ∷ es) → s < e.0 → find s (e ∷ es) ≡ None
+not_found : (s : ℕ) (e : Slot) (es : List Slot) → Ordered (e ∷ es) → s < e.0 → list_of s (e ∷ es) ≡ None
 not_found s e es ordered is = lookup-none (is_at (nat_cmp s)) (e ∷ es) (none_below_head nat_cmp_total s e es ordered (less_is s e.0 is))
-
-none_there : IsSome {T = Vec Entry Global} None → ⊥
-none_there there = let no : false ≡ true = there in cc
-
-is_none : (o : Option (Vec Entry Global)) → o ≡ None → IsSome o → ⊥
-is_none o none some = let P : Option (Vec Entry Global) → Type 0 = λ x. IsSome x in none_there (subst P none some)
 
 -- each entry of slots above a series is above it
 above : (s : ℕ) (p : Slot → List Entry) (es : List Slot) → Owns p es → AllAbove s es → AllByRecursion (λ x. s < x.series) (flat_map p es)
@@ -109,12 +102,6 @@ spliced_high q mid xs ys high =
 
 -- SLOTS
 
--- what differs at one series alone is the same above it
-same_above : (s : ℕ) (p p' : Slot → List Entry) (es : List Slot) → ((e : Slot) → (e.0 ≡ s → ⊥) → p' e ≡ p e) → AllAbove s es → flat_map p' es ≡ flat_map p es
-same_above s p p' [] same high = refl
-same_above s p p' (e ∷ es) same high =
-    ap (λ (l : List Entry). l ++ flat_map p' es) (same e (λ is. omega (arith, is, less_means s e.0 high.0))) ∙ ap (λ (l : List Entry). p e ++ l) (same_above s p p' es same high.1)
-
 above_head : (e : Slot) (es : List Slot) (s : ℕ) → Ordered (e ∷ es) → e.0 ≡ s → AllAbove s es
 above_head e es s ordered is = let P : ℕ → Type 0 = λ k. AllAbove k es in subst P is (sorted_head nat_cmp e.0 (keys_of es) ordered)
 
@@ -122,26 +109,45 @@ lows : (q : Place) (xs : List Entry) (k : ℕ) → OfSeries k xs → k < q.0 →
 lows q xs k owns less = each (λ x. x.series ≡ k) (λ x. x.series < q.0) (λ x is. omega (arith, is, less)) xs owns.0
 
 -- a splice into the list of one series is a splice into all
-pub spliced_slots : (q : Place) (mid : List Entry) (p p' : Slot → List Entry) (w : Vec Entry Global) → ((e : Slot) → (e.0 ≡ q.0 → ⊥) → p' e ≡ p e) → p' (q.0, w) ≡ spliced place q mid (p (q.0, w))
-    → (es : List Slot) → Ordered es → Owns p es → find q.0 es ≡ Some w → flat_map p' es ≡ spliced place q mid (flat_map p es)
-spliced_slots q mid p p' w same changed [] ordered owns there = let no : None ≡ Some w = there in cc
-spliced_slots q mid p p' w same changed (e ∷ es) ordered owns there = elim (cases_order e.0 q.0) [
+pub spliced_value : (q : Place) (mid : List Entry) (v w : Vec Entry Global) → w.items ≡ spliced place q mid v.items
+    → (es : List Slot) → Ordered es → Owns own es → list_of q.0 es ≡ Some v → flat_map own (set_value (is_at (nat_cmp q.0)) es w) ≡ spliced place q mid (flat_map own es)
+spliced_value q mid v w changed [] ordered owns there = let no : None ≡ Some v = there in cc no
+spliced_value q mid v w changed (e ∷ es) ordered owns there = elim (cases_order e.0 q.0) [
   | inl is ↦
-      let found : Some e.1 ≡ Some w = sym (found_here q.0 e es (sym is)) ∙ there in
-      let list : w ≡ e.1 = cc in
-      let P : ℕ → Type 0 = λ k. p' (k, e.1) ≡ spliced place q mid (p (k, e.1)) in
-      let Q : Vec Entry Global → Type 0 = λ v. p' (q.0, v) ≡ spliced place q mid (p (q.0, v)) in
-      ap (λ (l : List Entry). l ++ flat_map p' es) (subst P (sym is) (subst Q list changed))
-      ∙ ap (λ (l : List Entry). spliced place q mid (p e) ++ l) (same_above q.0 p p' es same (above_head e es q.0 ordered is))
-      ∙ sym (spliced_high q mid (p e) (flat_map p es) (above q.0 p es owns.1 (above_head e es q.0 ordered is)))
+      let found : Some e.1 ≡ Some v = sym (found_here q.0 e es (sym is)) ∙ there in
+      let list : v ≡ e.1 = cc found in
+      ap (λ (o : Ordering). flat_map own (cond (is_eq o) ((e.0, w) ∷ es) (e ∷ set_value (is_at (nat_cmp q.0)) es w))) (equal_is q.0 e.0 (sym is))
+      ∙ ap (λ (l : List Entry). l ++ flat_map own es) (changed ∙ ap (λ (x : Vec Entry Global). spliced place q mid x.items) list)
+      ∙ sym (spliced_high q mid (own e) (flat_map own es) (above q.0 own es owns.1 (above_head e es q.0 ordered is)))
   | inr other ↦ elim other [
     | inl less ↦
-        ap (λ (l : List Entry). l ++ flat_map p' es) (same e (λ is. omega (arith, is, less)))
-        ∙ ap (λ (l : List Entry). p e ++ l) (spliced_slots q mid p p' w same changed es (sorted_tail nat_cmp e.0 (keys_of es) ordered) owns.1 (sym (found_later q.0 e es less) ∙ there))
-        ∙ sym (spliced_low q mid (p e) (flat_map p es) (lows q (p e) e.0 owns.0 less))
-    | inr more ↦ let no : None ≡ Some w = sym (not_found q.0 e es ordered more) ∙ there in absurd (cc no)
+        ap (λ (o : Ordering). flat_map own (cond (is_eq o) ((e.0, w) ∷ es) (e ∷ set_value (is_at (nat_cmp q.0)) es w))) (greater_is q.0 e.0 less)
+        ∙ ap (λ (l : List Entry). own e ++ l) (spliced_value q mid v w changed es (sorted_tail nat_cmp e.0 (keys_of es) ordered) owns.1 (sym (found_later q.0 e es less) ∙ there))
+        ∙ sym (spliced_low q mid (own e) (flat_map own es) (lows q (own e) e.0 owns.0 less))
+    | inr more ↦ let no : None ≡ Some v = sym (not_found q.0 e es ordered more) ∙ there in absurd (cc no)
   ]
 ]
+
+-- a list in place of another
+pub owns_value : (s : ℕ) (w : Vec Entry Global) → OfSeries s w.items → (es : List Slot) → Owns own es → Owns own (set_value (is_at (nat_cmp s)) es w)
+owns_value s w of [] owns = tt
+owns_value s w of (e ∷ es) owns = go (owns_value s w of es owns.1) (nat_cmp s e.0) refl
+  where
+    go : Owns own (set_value (is_at (nat_cmp s)) es w) → (o : Ordering) → nat_cmp s e.0 ≡ o → Owns own (cond (is_eq o) ((e.0, w) ∷ es) (e ∷ set_value (is_at (nat_cmp s)) es w))
+    go rest Less is = (owns.0, rest)
+    go rest Equal is = let P : ℕ → Type 0 = λ k. OfSeries k w.items in (subst P (equal_means s e.0 is) of, owns.1)
+    go rest Greater is = (owns.0, rest)
+
+-- a list in place of one with the same entries
+pub same_value : (s : ℕ) (v w : Vec Entry Global) → w.items ≡ v.items → (es : List Slot) → list_of s es ≡ Some v → flat_map own (set_value (is_at (nat_cmp s)) es w) ≡ flat_map own es
+same_value s v w same [] there = refl
+same_value s v w same (e ∷ es) there = go (same_value s v w same es) (nat_cmp s e.0) there
+  where
+    go : (list_of s es ≡ Some v → flat_map own (set_value (is_at (nat_cmp s)) es w) ≡ flat_map own es) → (o : Ordering) → cond (is_eq o) (Some e.1) (list_of s es) ≡ Some v
+        → flat_map own (cond (is_eq o) ((e.0, w) ∷ es) (e ∷ set_value (is_at (nat_cmp s)) es w)) ≡ flat_map own (e ∷ es)
+    go rest Less there = ap (λ (l : List Entry). own e ++ l) (rest there)
+    go rest Equal there = let is : e.1 ≡ v = cc there in ap (λ (l : List Entry). l ++ flat_map own es) (same ∙ ap (λ (x : Vec Entry Global). x.items) (sym is))
+    go rest Greater there = ap (λ (l : List Entry). own e ++ l) (rest there)
 
 -- the entries in the list that was found, or none
 abbrev pub shown : (Slot → List Entry) → ℕ → Option (Vec Entry Global) → List Entry
@@ -149,11 +155,11 @@ shown p s None = []
 shown p s (Some v) = p (s, v)
 
 -- and they are of the series
-pub shown_series : (s : ℕ) (p : Slot → List Entry) (es : List Slot) → Owns p es → OfSeries s (shown p s (find s es))
+pub shown_series : (s : ℕ) (p : Slot → List Entry) (es : List Slot) → Owns p es → OfSeries s (shown p s (list_of s es))
 shown_series s p [] owns = (tt, tt)
 shown_series s p (e ∷ es) owns = go (shown_series s p es owns.1) (nat_cmp s e.0) refl
   where
-    go : OfSeries s (shown p s (find s es)) → (o : Ordering) → nat_cmp s e.0 ≡ o → OfSeries s (shown p s (cond (is_eq o) (Some e.1) (find s es)))
+    go : OfSeries s (shown p s (list_of s es)) → (o : Ordering) → nat_cmp s e.0 ≡ o → OfSeries s (shown p s (cond (is_eq o) (Some e.1) (list_of s es)))
     go rest Less is = rest
     go rest Equal is = let P : ℕ → Type 0 = λ k. OfSeries k (p (k, e.1)) in subst P (sym (equal_means s e.0 is)) owns.0
     go rest Greater is = rest
@@ -168,7 +174,7 @@ none_above : (s : ℕ) (xs : List Entry) → AllByRecursion (λ x. s < x.series)
 none_above s xs high = filter_none (λ x. x.series == s) xs (each (λ x. s < x.series) (λ x. (x.series == s) ≡ false) (λ x h. of_other s x x.series refl (λ is. omega (arith, is, h))) xs high)
 
 -- the entries of one series are those of its slot
-pub series_slots : (s : ℕ) (p : Slot → List Entry) (es : List Slot) → Ordered es → Owns p es → filter (λ x. x.series == s) (flat_map p es) ≡ shown p s (find s es)
+pub series_slots : (s : ℕ) (p : Slot → List Entry) (es : List Slot) → Ordered es → Owns p es → filter (λ x. x.series == s) (flat_map p es) ≡ shown p s (list_of s es)
 series_slots s p [] ordered owns = refl
 series_slots s p (e ∷ es) ordered owns =
     let test : Entry → Bool = λ x. x.series == s in
@@ -202,21 +208,21 @@ series_slots s p (e ∷ es) ordered owns =
     high_tail : (s : ℕ) (e : Slot) (es : List Slot) → Ordered (e ∷ es) → s < e.0 → AllAbove s es
     high_tail s e es ordered less = raise s e.0 (keys_of es) less (sorted_head nat_cmp e.0 (keys_of es) ordered)
 
--- an entry of the series that begins at a moment is an entry at that place
-pub listed_in_series : (s t : ℕ) (xs : List Entry) → list_any (λ e. e.part.start == t) (filter (λ e. e.series == s) xs) ≡ is_listed xs (s, t)
-listed_in_series s t [] = refl
-listed_in_series s t (x ∷ xs) = go (listed_in_series s t xs) (x.series == s)
+-- an entry of the series at a place is an entry at that place
+pub listed_at : (s t : ℕ) (xs : List Entry) → is_listed (filter (λ e. e.series == s) xs) (s, t) ≡ is_listed xs (s, t)
+listed_at s t [] = refl
+listed_at s t (x ∷ xs) = go (listed_at s t xs) (x.series == s) refl
   where
-    go : (list_any (λ e. e.part.start == t) (filter (λ e. e.series == s) xs) ≡ is_listed xs (s, t)) → (b : Bool) → list_any (λ e. e.part.start == t) (cond b (x ∷ filter (λ e. e.series == s) xs) (filter (λ e. e.series == s) xs)) ≡ ((b && (x.part.start == t)) || is_listed xs (s, t))
-    go rest true = ap (λ (b : Bool). (x.part.start == t) || b) rest
-    go rest false = rest
+    go : (is_listed (filter (λ e. e.series == s) xs) (s, t) ≡ is_listed xs (s, t)) → (b : Bool) → (x.series == s) ≡ b → is_listed (cond b (x ∷ filter (λ e. e.series == s) xs) (filter (λ e. e.series == s) xs)) (s, t) ≡ is_listed (x ∷ xs) (s, t)
+    go rest true is = ap (λ (b : Bool). is_place (place x) (s, t) || b) rest
+    go rest false is = rest ∙ ap (λ (b : Bool). (b && (x.part.start == t)) || is_listed xs (s, t)) (sym is)
 
 -- a new list that shows nothing changes nothing
-pub empty_slot : (s : ℕ) (v : Vec Entry Global) (p : Slot → List Entry) (es : List Slot) → p (s, v) ≡ [] → find s es ≡ None → flat_map p (insert_entry nat_cmp es s v) ≡ flat_map p es
+pub empty_slot : (s : ℕ) (v : Vec Entry Global) (p : Slot → List Entry) (es : List Slot) → p (s, v) ≡ [] → list_of s es ≡ None → flat_map p (insert_entry nat_cmp es s v) ≡ flat_map p es
 empty_slot s v p [] empty none = ap (λ (l : List Entry). l ++ []) empty
 empty_slot s v p (e ∷ es) empty none = go (empty_slot s v p es empty) (nat_cmp s e.0) none
   where
-    go : (find s es ≡ None → flat_map p (insert_entry nat_cmp es s v) ≡ flat_map p es) → (o : Ordering) → cond (is_eq o) (Some e.1) (find s es) ≡ None → flat_map p (match_ordering o ((s, v) ∷ e ∷ es) ((e.0, v) ∷ es) (e ∷ insert_entry nat_cmp es s v)) ≡ flat_map p (e ∷ es)
+    go : (list_of s es ≡ None → flat_map p (insert_entry nat_cmp es s v) ≡ flat_map p es) → (o : Ordering) → cond (is_eq o) (Some e.1) (list_of s es) ≡ None → flat_map p (match_ordering o ((s, v) ∷ e ∷ es) ((e.0, v) ∷ es) (e ∷ insert_entry nat_cmp es s v)) ≡ flat_map p (e ∷ es)
     go rest Less none = ap (λ (l : List Entry). l ++ flat_map p (e ∷ es)) empty
     go rest Equal none = let some : Some e.1 ≡ None = none in cc
     go rest Greater none = ap (λ (l : List Entry). p e ++ l) (rest none)
@@ -230,29 +236,3 @@ slot_more P s v (e ∷ es) new all = go (slot_more P s v es new all.1) (nat_cmp 
     go rest Less is = (new s refl, all)
     go rest Equal is = (new e.0 (equal_means s e.0 is), all.1)
     go rest Greater is = (all.0, rest)
-
--- a list that was to come takes its place
-pub taken_slot : (s : ℕ) (v : Vec Entry Global) (p p' : Slot → List Entry) (es : List Slot) → Ordered es → IsSome (find s es) → ((e : Slot) → (e.0 ≡ s → ⊥) → p' e ≡ p e) → ((e : Slot) → e.0 ≡ s → p' (e.0, v) ≡ p e)
-    → flat_map p' (insert_entry nat_cmp es s v) ≡ flat_map p es
-taken_slot s v p p' [] ordered there same taken = absurd (none_there there)
-taken_slot s v p p' (e ∷ es) ordered there same taken = go (λ found. taken_slot s v p p' es (sorted_tail nat_cmp e.0 (keys_of es) ordered) found same taken) (nat_cmp s e.0) refl
-  where
-    go : (IsSome (find s es) → flat_map p' (insert_entry nat_cmp es s v) ≡ flat_map p es) → (o : Ordering) → nat_cmp s e.0 ≡ o → flat_map p' (match_ordering o ((s, v) ∷ e ∷ es) ((e.0, v) ∷ es) (e ∷ insert_entry nat_cmp es s v)) ≡ flat_map p (e ∷ es)
-    go rest Less is = absurd (is_none (find s (e ∷ es)) (not_found s e es ordered (less_means s e.0 is)) there)
-    go rest Equal is =
-        let here = sym (equal_means s e.0 is) in
-        ap (λ (l : List Entry). l ++ flat_map p' es) (taken e here) ∙ ap (λ (l : List Entry). p e ++ l) (same_above s p p' es same (above_head e es s ordered here))
-    go rest Greater is =
-        let less = greater_means s e.0 is in
-        let P : Option (Vec Entry Global) → Type 0 = λ x. IsSome x in
-        ap (λ (l : List Entry). l ++ flat_map p' (insert_entry nat_cmp es s v)) (same e (λ at. omega (arith, at, less)))
-        ∙ ap (λ (l : List Entry). p e ++ l) (rest (subst P (found_later s e es less) there))
-
--- the lists that show own entries
-pub owns_coming : (lists es : List Slot) → ((s : ℕ) → IfSome (find s lists) (λ v. OfSeries s v.items)) → Owns own es → Owns (coming lists) es
-owns_coming lists [] right owns = tt
-owns_coming lists (e ∷ es) right owns = (go (find e.0 lists) (right e.0), owns_coming lists es right owns.1)
-  where
-    go : (o : Option (Vec Entry Global)) → IfSome o (λ v. OfSeries e.0 v.items) → OfSeries e.0 (unwrap_or o e.1).items
-    go None right = owns.0
-    go (Some v) right = right

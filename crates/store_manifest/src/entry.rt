@@ -32,6 +32,7 @@ pub enum Change {
 impl Change {
     ghost use Rattle.std.specs.Prelude.{◌≡◌};
     ghost use Rattle.store_manifest.specs.Entries.{place_of};
+    ghost use Rattle.store_manifest.specs.Listing.{sets};
 
     // The series that it changes.
     pub(crate) fn series(&self) -> u32
@@ -40,6 +41,16 @@ impl Change {
         match self {
             Change::Set(entry) => entry.series,
             Change::Drop { series, .. } => *series,
+        }
+    }
+
+    // How many entries more it may make.
+    pub(crate) fn sets(&self) -> usize
+        ensures { result ≡ sets self.now }
+    {
+        match self {
+            Change::Set(_) => 1,
+            Change::Drop { .. } => 0,
         }
     }
 }

@@ -1,22 +1,71 @@
-// The batches of a file, folded to a granularity and entries.
-ghost use Rattle.std.specs.Prelude.{◌≡◌, ◌≢◌, ◌↔◌, ◌<◌, ◌≤◌, [], List, ℕ, IfOk, IfSome, IfNone, IsTrue, Some, false, length};
+// The batches of a file, folded to a granularity and entries, one after another.
+ghost use Rattle.std.specs.Prelude.{◌≡◌, ◌≢◌, ◌↔◌, ◌<◌, ◌++◌, ◌∷◌, [], List, ℕ, IfOk, IfSome, IfNone, IsTrue, Some, false, length};
 ghost use Rattle.partition_names.specs.declared.granularity.Granularity.{Granularity as GranularityValue};
 ghost use Rattle.store_manifest.specs.declared.entry.Entry.{Entry};
 ghost use Rattle.store_manifest.specs.Batches.{config, Makes, IsBatch};
 ghost use Rattle.store_manifest.specs.Folded.{IsFolded};
-ghost use Rattle.store_manifest.specs.Listing.{next_of, entries_of, IsListing};
+ghost use Rattle.store_manifest.specs.Listing.{entries_of, AreLists};
 
-use crate::listing::Listing;
+use crate::lists::SeriesLists;
 use crate::reading::read_change;
-use gate_journal::Batches;
+use gate_journal::BatchFold;
 use partition_names::Granularity;
 use std::alloc::{AllocError, Global};
+use std::mem;
 
-// What batches were read as.
+// What the batches so far were read as.
 #[derive(Drop)]
 pub(crate) enum Folded {
-    Good(Granularity, Listing),
+    Nothing,
+    Good(Granularity, SeriesLists),
     Bad(u64),
+}
+
+#[derive(Drop)]
+pub(crate) struct Folding {
+    alloc: Global,
+    pub(crate) folded: Folded,
+}
+
+impl Folding {
+    pub(crate) fn new(alloc: Global) -> Folding
+        ensures { IsFolded [] result.folded }
+    {
+        Folding {
+            alloc,
+            folded: Folded::Nothing,
+        }
+    }
+}
+
+impl BatchFold for Folding {
+    ghost took = { λ f batches. IsFolded batches f.folded };
+
+    fn take(&mut self, number: u64, batch: &[u8]) -> Result<(), AllocError> {
+        let folded = mem::replace(&mut self.folded, Folded::Nothing);
+        self.folded = followed(self.alloc, folded, number, batch)?;
+        Ok(())
+    }
+}
+
+// What batches come to with one more, which is of this number.
+fn followed(alloc: Global, folded: Folded, number: u64, batch: &[u8]) -> Result<Folded, AllocError>
+    requires { (batches : List (List ℕ)) × IsFolded batches folded × (number ≡ length batches) }
+    ensures { (batches : List (List ℕ)) → IsFolded batches folded → number ≡ length batches → IfOk result (IsFolded (batches ++ batch.now ∷ [])) }
+{
+    match folded {
+        Folded::Nothing => match config_of(batch) {
+            Some(g) => Ok(Folded::Good(g, SeriesLists::new(alloc))),
+            None => Ok(Folded::Bad(number)),
+        },
+        Folded::Good(g, mut lists) => {
+            if make_batch(&mut lists, g, batch)? {
+                return Ok(Folded::Good(g, lists));
+            }
+            Ok(Folded::Bad(number))
+        }
+        Folded::Bad(first) => Ok(Folded::Bad(first)),
+    }
 }
 
 // The granularity that a batch says, if it says one and nothing else.
@@ -31,62 +80,43 @@ fn config_of(batch: &[u8]) -> Option<Granularity>
 
 // Makes the change at the front of a batch's bytes, and gives the bytes behind it. None if no change stands there that may follow.
 fn make_change<'a>(
-    listing: &mut Listing,
+    lists: &mut SeriesLists,
     g: Granularity,
     bytes: &'a [u8],
 ) -> Result<Option<&'a [u8]>, AllocError>
-    requires good { IsListing listing.old }
+    requires good { AreLists lists.old.listed.entries }
     requires some { bytes.now ≢ [] }
-    ensures good { IsListing listing.new }
-    ensures entries { entries_of listing.new ≡ entries_of listing.old }
-    ensures made { IfOk result (λ r. IfSome r (λ rest. (last : List Entry) → Makes g (next_of listing.new) rest.now last ↔ Makes g (next_of listing.old) bytes.now last)) }
+    ensures good { AreLists lists.new.listed.entries }
+    ensures made { IfOk result (λ r. IfSome r (λ rest. (last : List Entry) → Makes g (entries_of lists.new.listed.entries) rest.now last ↔ Makes g (entries_of lists.old.listed.entries) bytes.now last)) }
     ensures shorter { IfOk result (λ r. IfSome r (λ rest. length rest.now < length bytes.now)) }
-    ensures none { IfOk result (λ r. IfNone r ((last : List Entry) → Makes g (next_of listing.old) bytes.now last → ⊥)) }
+    ensures none { IfOk result (λ r. IfNone r ((last : List Entry) → Makes g (entries_of lists.old.listed.entries) bytes.now last → ⊥)) }
 {
     let Some((change, rest)) = read_change(g, bytes) else {
         return Ok(None);
     };
-    if !listing.allows(&change) {
+    if !lists.allows(&change) {
         return Ok(None);
     }
-    listing.change(&change)?;
+    lists.change(&change)?;
     Ok(Some(rest))
 }
 
 // Makes the changes of a batch. False if it isn't a batch of changes that may follow.
-fn make_batch(listing: &mut Listing, g: Granularity, batch: &[u8]) -> Result<bool, AllocError>
-    requires good { IsListing listing.old }
-    ensures good { IsListing listing.new }
-    ensures made { IfOk result (λ made. IsTrue made → IsBatch g (next_of listing.old) batch.now (next_of listing.new)) }
-    ensures bad { IfOk result (λ made. made ≡ false → (last : List Entry) → IsBatch g (next_of listing.old) batch.now last → ⊥) }
+fn make_batch(lists: &mut SeriesLists, g: Granularity, batch: &[u8]) -> Result<bool, AllocError>
+    requires good { AreLists lists.old.listed.entries }
+    ensures good { AreLists lists.new.listed.entries }
+    ensures made { IfOk result (λ made. IsTrue made → IsBatch g (entries_of lists.old.listed.entries) batch.now (entries_of lists.new.listed.entries)) }
+    ensures bad { IfOk result (λ made. made ≡ false → (last : List Entry) → IsBatch g (entries_of lists.old.listed.entries) batch.now last → ⊥) }
 {
     if batch.is_empty() {
         return Ok(false);
     }
     let mut rest = batch;
     while !rest.is_empty() {
-        let Some(behind) = make_change(listing, g, rest)? else {
+        let Some(behind) = make_change(lists, g, rest)? else {
             return Ok(false);
         };
         rest = behind;
     }
     Ok(true)
-}
-
-// What these batches, of which there is one at least, make.
-pub(crate) fn fold(alloc: Global, batches: &Batches) -> Result<Folded, AllocError>
-    requires { 1 ≤ length batches.now }
-    ensures { IfOk result (λ f. IsFolded batches.now f) }
-{
-    let Some(g) = config_of(batches.batch(0)) else {
-        return Ok(Folded::Bad(0));
-    };
-    let mut listing = Listing::new(alloc);
-    for i in 1..batches.len() {
-        if !make_batch(&mut listing, g, batches.batch(i))? {
-            return Ok(Folded::Bad(i as u64));
-        }
-    }
-    listing.take();
-    Ok(Folded::Good(g, listing))
 }

@@ -9,8 +9,8 @@
 //! a batch, whole or not at all, also across a crash. After a commit that failed, `Manifest::review` takes its changes in where the
 //! file has them.
 //!
-//! Contracts see one list of entries in the order of series and time. In memory each series has a list of its own, so a commit
-//! costs the entries of the series that it changes. Whether the listed files are there, and as long as listed, isn't said here.
+//! Contracts see one list of entries in the order of series and time. In memory each series has a list of its own, in which a commit
+//! makes its changes in place once they are on the disk; the memory for them it takes before. Whether the listed files are there, and as long as listed, isn't said here.
 #![tactic(auto)]
 
 mod all;
@@ -19,8 +19,10 @@ mod error;
 mod folding;
 mod laws;
 mod listing;
+mod lists;
 mod manifest;
 mod reading;
+mod series;
 mod writing;
 
 pub use all::AllEntries;

@@ -12,14 +12,16 @@ ghost use Rattle.store_manifest.specs.declared.entry.Entry.{Entry as EntryValue}
 ghost use Rattle.store_manifest.specs.declared.error.ManifestErr.TheVariants.{Disk as OfDisk, BadJournal, BadBatch, GranularityDiffers};
 ghost use Rattle.store_manifest.specs.Batches.{config, batch_of, Configured, Folds, IsBadBatch};
 ghost use Rattle.store_manifest.specs.Entries.{all_changed, AllCanFollow, AreEntries};
+ghost use Rattle.store_manifest.specs.Listing.{entries_of, AreLists};
 ghost use Rattle.store_manifest.specs.Manifest.{manifest_name, IsKept, IsUnsure, Lists};
 
-use crate::folding::{Folded, fold};
+use crate::folding::{Folded, Folding};
 use crate::listing::Listing;
+use crate::lists::SeriesLists;
 use crate::writing::encode;
 use crate::{AllEntries, Change, Entry, ManifestErr};
 use disk_model::{Disk, DiskErr, FileName};
-use gate_journal::{Batches, GREATEST_BATCH, Journal};
+use gate_journal::{GREATEST_BATCH, Journal};
 use partition_names::Granularity;
 use std::alloc::{AllocError, Global};
 use std::marker::Model;
@@ -40,7 +42,7 @@ impl Model for Manifest {
 
     ghost Value = { ManifestState };
 
-    ghost view = { λ m. record { journal = m.journal; granularity = m.granularity; entries = entries_of m.listing; next = next_of m.listing } };
+    ghost view = { λ m. record { journal = m.journal; granularity = m.granularity; entries = entries_of m.listing.lists.listed.entries; next = next_of m.listing } };
 
     ghost invariant = { λ m. IsListing m.listing };
 }
@@ -78,12 +80,16 @@ impl Manifest {
         ensures cause { result ≡ Err (OfDisk Fault) → Rose (D.faults disk.old) (D.faults disk.new) }
     {
         let name = file_name(alloc, store)?;
-        let (journal, batches) = Journal::load(alloc, disk, &name)?;
-        if batches.is_empty() {
-            let manifest = configure(alloc, disk, journal, g)?;
-            return Ok(manifest);
+        let mut folding = Folding::new(alloc);
+        let journal = Journal::load_into(alloc, disk, &name, &mut folding)?;
+        match folding.folded {
+            Folded::Nothing => {
+                let manifest = configure(alloc, disk, journal, g)?;
+                Ok(manifest)
+            }
+            Folded::Good(kept, lists) => opened(alloc, journal, kept, lists, g),
+            Folded::Bad(number) => Err(ManifestErr::BadBatch { number }),
         }
-        opened(alloc, journal, &batches, g)
     }
 
     /// Whether it may commit: no commit has failed since it was loaded or reviewed.
@@ -114,8 +120,8 @@ impl Manifest {
         self.listing.all()
     }
 
-    /// Makes all the changes, one after another, or none of them. It costs the entries of the series that change, and not those of
-    /// others. With no change it leaves the disk alone.
+    /// Makes all the changes, one after another, or none of them. Each is made in place, and costs the entries behind it in its series.
+    /// With no change it leaves the disk alone.
     ///
     /// After `Fault` the manifest isn't sound: it is reviewed, or loaded again. `Memory` comes before anything is written.
     pub fn commit<D: Disk>(&mut self, disk: &mut D, changes: &[Change]) -> Result<(), DiskErr>
@@ -178,11 +184,11 @@ impl Manifest {
 }
 
 impl Manifest {
-    ghost use Rattle.store_manifest.specs.Listing.{entries_of, next_of, IsListing};
+    ghost use Rattle.store_manifest.specs.Listing.{next_of, IsListing};
 
     fn of(journal: Journal, granularity: Granularity, listing: Listing, alloc: Global) -> Manifest
         requires { IsListing listing }
-        ensures { result ≡ record { journal = journal; granularity = granularity; entries = entries_of listing; next = next_of listing } }
+        ensures { result ≡ record { journal = journal; granularity = granularity; entries = entries_of listing.lists.listed.entries; next = next_of listing } }
     {
         Manifest {
             journal,
@@ -212,32 +218,30 @@ fn configure<D: Disk>(
     ensures cause { IsErrOf result DiskErr.Fault → Rose (D.faults disk.old) (D.faults disk.new) }
 {
     journal.commit(disk, &[1, g.number()])?;
-    Ok(Manifest::of(journal, g, Listing::new(alloc), alloc))
+    Ok(Manifest::of(
+        journal,
+        g,
+        Listing::of(alloc, SeriesLists::new(alloc)),
+        alloc,
+    ))
 }
 
-// The manifest of a journal that has these batches, of which there is one at least.
+// The manifest of a journal whose batches say a granularity and make these lists.
 fn opened(
     alloc: Global,
     journal: Journal,
-    batches: &Batches,
-    g: Granularity,
+    kept: Granularity,
+    lists: SeriesLists,
+    asked: Granularity,
 ) -> Result<Manifest, ManifestErr>
-    requires { 1 ≤ length batches.now }
-    ensures good { IfOk result (λ m. (m.journal ≡ journal) × (m.granularity ≡ g) × Configured g batches.now m.entries) }
-    ensures bad { (number : ℕ) → result ≡ Err (BadBatch number) → IsBadBatch batches.now number }
-    ensures differs { (kept asked : GranularityValue) → result ≡ Err (GranularityDiffers kept asked)
-        → (asked ≡ g) × (kept ≢ g) × (entries : List EntryValue) × Configured kept batches.now entries }
-    ensures no_more { IfErr result (λ e. (e ≡ OfDisk Fault → ⊥) × ((at : ℕ) → e ≡ BadJournal at → ⊥)) }
+    requires { AreLists lists.listed.entries }
+    ensures good { IfOk result (λ m. (m.journal ≡ journal) × (m.granularity ≡ asked) × (kept ≡ asked) × (m.entries ≡ entries_of lists.listed.entries)) }
+    ensures differs { IfErr result (λ e. (e ≡ GranularityDiffers kept asked) × (kept ≢ asked)) }
 {
-    match fold(alloc, batches)? {
-        Folded::Bad(number) => Err(ManifestErr::BadBatch { number }),
-        Folded::Good(kept, listing) => {
-            if kept != g {
-                return Err(ManifestErr::GranularityDiffers { kept, asked: g });
-            }
-            Ok(Manifest::of(journal, g, listing, alloc))
-        }
+    if kept != asked {
+        return Err(ManifestErr::GranularityDiffers { kept, asked });
     }
+    Ok(Manifest::of(journal, kept, Listing::of(alloc, lists), alloc))
 }
 
 // The name of a store's manifest.

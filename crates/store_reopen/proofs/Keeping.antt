@@ -1,8 +1,9 @@
 -- What the journals say goes on through loads and reads.
-use Rattle.std.proofs.Common.{◌≡◌, ◌≢◌, ◌≤◌, ◌⊎◌, inl, inr, ℕ, List, [], get_or, Some, None, refl, sym, ◌∙◌, ap, subst, arith}
+use Rattle.std.proofs.Common.{◌≡◌, ◌≢◌, ◌+◌, ◌⊎◌, inl, inr, ℕ, List, [], get_or, Some, None, refl, sym, ◌∙◌, ap, subst, arith}
+use Rattle.std.proofs.lemmas.Bool.{cases_eq}
 use Rattle.disk_model.specs.Files.{Name, Content, Files, At}
-use Rattle.disk_model.specs.Past.{Past, MayLeave, Passes}
-use Rattle.disk_model.proofs.Passing.{passes_none, passes_then, passes_weaker}
+use Rattle.disk_model.specs.Past.{Past, Passes}
+use Rattle.disk_model.proofs.Passing.{passes_then, passes_weaker}
 use Rattle.gate_journal.specs.Batches.{HasBatches, IsShort}
 use Rattle.gate_journal.specs.Journal.{JournalState}
 use Rattle.gate_journal.specs.Kept.{Says, StillSays, IsKept}
@@ -11,32 +12,51 @@ use Rattle.gate_journal.proofs.Keeping.{one_value, load_says, kept_stays}
 use Rattle.partition_names.specs.declared.granularity.Granularity.{Granularity}
 use Rattle.store_manifest.specs.declared.entry.Entry.{Entry}
 use Rattle.store_manifest.specs.Batches.{Folds}
+use Rattle.store_manifest.specs.Manifest.{manifest_name}
 use Rattle.store_manifest.proofs.Committing.{one_listing}
 use Rattle.pv_catalog.specs.declared.row.Row.{Row}
 use Rattle.pv_catalog.specs.Catalogue.{catalogue_name}
 use Rattle.pv_catalog.specs.Rows.{IsCatalogue}
 use Rattle.pv_catalog.proofs.Meaning.{one_meaning}
-use Rattle.tier_store.specs.Names.{short_manifest}
 use Rattle.tier_store.proofs.Names.{name_cases}
-use Rattle.store_reopen.specs.Loading.{StillSay, KeepsSaid}
+use Rattle.store_reopen.specs.Loading.{Journal, Catalogue, Manifest, Value, Means, name_of, StillSay, KeepsSaid}
 
 pub one_list_of_rows : (content : Content) (a b : List Row) → Says IsCatalogue a content → Says IsCatalogue b content → a ≡ b
 one_list_of_rows content a b one two = one_value IsCatalogue (one_meaning []) content a b one two
 
--- the journals are two files
-pub journals_differ : catalogue_name ≢ short_manifest
-journals_differ is = let first : get_or catalogue_name.1 0 0 ≡ get_or short_manifest.1 0 0 = ap (λ (n : Name). get_or n.1 0 0) is in absurd (omega (arith, first))
+-- JOURNALS ARE DIFFERENT FILES
+
+pub journals_differ : (store : ℕ) → catalogue_name ≢ manifest_name store
+journals_differ store is = let first : get_or catalogue_name.1 0 0 ≡ get_or (manifest_name store).1 0 0 = ap (λ (n : Name). get_or n.1 0 0) is in absurd (omega (arith, first))
+
+one_store : (s t : ℕ) → manifest_name s ≡ manifest_name t → s ≡ t
+one_store s t is = let digit : 48 + s ≡ 48 + t = ap (λ (n : Name). get_or n.1 8 0) is in omega (arith, digit)
+
+journal_cases : (i j : Journal) → (i ≡ j) ⊎ (name_of i ≢ name_of j)
+journal_cases Catalogue Catalogue = inl refl
+journal_cases Catalogue (Manifest t) = inr (journals_differ t)
+journal_cases (Manifest s) Catalogue = inr (λ is. journals_differ s (sym is))
+journal_cases (Manifest s) (Manifest t) = elim (cases_eq s t) [
+  | inl same ↦ inl (ap (λ (n : ℕ). Manifest n) same)
+  | inr apart ↦ inr (λ is. apart (one_store s t is))
+]
+
+of_zero : (j : Journal) → (name_of j).0 ≡ 0
+of_zero Catalogue = refl
+of_zero (Manifest store) = refl
 
 -- a name of another store is no journal's
-pub no_journal : (n journal : Name) → n.0 ≢ 0 → journal.0 ≡ 0 → n ≢ journal
-no_journal n journal other zero_store is = other (ap (λ (m : Name). m.0) is ∙ zero_store)
+no_journal : (n : Name) (j : Journal) → n.0 ≢ 0 → n ≢ name_of j
+no_journal n j other is = other (ap (λ (m : Name). m.0) is ∙ of_zero j)
 
 -- nothing was opened but of names other than this one
-pub opened_alike : (name : Name) (opened after : Name → ℕ) → ((n : Name) → n ≢ name → after n ≡ opened n) → opened name ≡ 0 → after name ≡ 0 → (n : Name) → after n ≡ opened n
+opened_alike : (name : Name) (opened after : Name → ℕ) → ((n : Name) → n ≢ name → after n ≡ opened n) → opened name ≡ 0 → after name ≡ 0 → (n : Name) → after n ≡ opened n
 opened_alike name opened after others was is n = elim (name_cases n name) [
   | inl same ↦ ap after same ∙ is ∙ sym was ∙ ap opened (sym same)
   | inr apart ↦ others n apart
 ]
+
+-- ONE CALL AFTER ANOTHER
 
 says_then : {A : Type 0} (Means : List (List ℕ) → A → Type 0) (seen mid_seen a b c : Content) → ((value : A) → Says Means value seen → Says Means value mid_seen) → StillSays Means seen a b → StillSays Means mid_seen b c → StillSays Means seen a c
 says_then {A} Means seen mid_seen a b c still one two value says = elim (two value (still value says)) [
@@ -47,44 +67,25 @@ says_then {A} Means seen mid_seen a b c still one two value says = elim (two val
   | inr means ↦ inr means
 ]
 
-still_none : (g : Granularity) (seen a : Files) → StillSay g seen a a
-still_none g seen a = record { rows = λ value says. inl refl; entries = λ value says. inl refl; elsewhere = λ n other. refl }
-
-pub kept_none : (g : Granularity) (files : Files) (opened : Name → ℕ) (past : Past) → KeepsSaid g files opened past files opened past
-kept_none g files opened past = record {
-  passes = passes_none (StillSay g files) past (λ a left. still_none g files a);
-  elsewhere = λ n other. refl;
-  rows = λ rows says. says;
-  entries = λ entries says. says;
-  rows_before = λ rows says. says;
-  entries_before = λ h entries says. says;
-  same_opened = λ n. refl;
-}
-
 pub kept_then : (g : Granularity) (f₀ : Files) (o₀ : Name → ℕ) (p₀ : Past) (f₁ : Files) (o₁ : Name → ℕ) (p₁ : Past) (f₂ : Files) (o₂ : Name → ℕ) (p₂ : Past) → KeepsSaid g f₀ o₀ p₀ f₁ o₁ p₁ → KeepsSaid g f₁ o₁ p₁ f₂ o₂ p₂ → KeepsSaid g f₀ o₀ p₀ f₂ o₂ p₂
 kept_then g f₀ o₀ p₀ f₁ o₁ p₁ f₂ o₂ p₂ one two = record {
   passes = passes_then (StillSay g f₀) (StillSay g f₁) p₀ p₁ p₂ one.passes two.passes (λ a b c was before now step. record {
-    rows = says_then IsCatalogue (f₀ catalogue_name) (f₁ catalogue_name) (a catalogue_name) (b catalogue_name) (c catalogue_name) one.rows before.rows step.rows;
-    entries = says_then (Folds g) (f₀ short_manifest) (f₁ short_manifest) (a short_manifest) (b short_manifest) (c short_manifest) one.entries before.entries step.entries;
+    journals = λ j. says_then (Means g j) (f₀ (name_of j)) (f₁ (name_of j)) (a (name_of j)) (b (name_of j)) (c (name_of j)) (one.said j) (before.journals j) (step.journals j);
     elsewhere = λ n other. step.elsewhere n other ∙ before.elsewhere n other;
   });
   elsewhere = λ n other. two.elsewhere n other ∙ one.elsewhere n other;
-  rows = λ rows says. two.rows rows (one.rows rows says);
-  entries = λ entries says. two.entries entries (one.entries entries says);
-  rows_before = λ rows says. one.rows_before rows (two.rows_before rows says);
-  entries_before = λ h entries says. one.entries_before h entries (two.entries_before h entries says);
+  said = λ j value says. two.said j value (one.said j value says);
+  no_more = λ h j value says. one.no_more h j value (two.no_more h j value says);
   same_opened = λ n. two.same_opened n ∙ one.same_opened n;
 }
 
 -- calls that only read
 pub kept_reading : (g : Granularity) (files later : Files) (opened after : Name → ℕ) (old new : Past) → later ≡ files → Passes (λ a b. b ≡ a) old new → after ≡ opened → KeepsSaid g files opened old later after new
 kept_reading g files later opened after old new same passes opened_same = record {
-  passes = passes_weaker (λ a b. b ≡ a) (StillSay g files) old new passes (λ a c was is. subst (StillSay g files a) (sym is) (still_none g files a));
+  passes = passes_weaker (λ a b. b ≡ a) (StillSay g files) old new passes (λ a c was is. subst (StillSay g files a) (sym is) (record { journals = λ j value says. inl refl; elsewhere = λ n other. refl }));
   elsewhere = λ n other. ap (λ (f : Files). f n) same;
-  rows = λ rows says. subst (λ (f : Files). Says IsCatalogue rows (f catalogue_name)) (sym same) says;
-  entries = λ entries says. subst (λ (f : Files). Says (Folds g) entries (f short_manifest)) (sym same) says;
-  rows_before = λ rows says. subst (λ (f : Files). Says IsCatalogue rows (f catalogue_name)) same says;
-  entries_before = λ h entries says. subst (λ (f : Files). Says (Folds h) entries (f short_manifest)) same says;
+  said = λ j value says. subst (λ (f : Files). Says (Means g j) value (f (name_of j))) (sym same) says;
+  no_more = λ h j value says. subst (λ (f : Files). Says (Means h j) value (f (name_of j))) same says;
   same_opened = λ n. ap (λ (o : Name → ℕ). o n) opened_same;
 }
 
@@ -95,13 +96,53 @@ kept_reads {A} Means journal files opened old later after new value kept same pa
     let fewer : after journal.name ≡ opened journal.name = ap (λ (o : Name → ℕ). o journal.name) opened_same in
     kept_stays Means journal files later opened after old new value (λ a b. b ≡ a) kept passes (λ a c is. ap (λ (f : Files). f journal.name) is) (ap (λ (f : Files). f journal.name) same) (omega (arith, fewer))
 
--- the catalogue stays while the manifest is loaded
-pub catalogue_stays : (R : Content → Content → Type 0) (journal : JournalState) (files : Files) (opened : Name → ℕ) (old : Past) (later : Files) (after : Name → ℕ) (new : Past) (rows : List Row) → journal.name ≡ catalogue_name → IsKept IsCatalogue journal files opened old rows
-    → ((n : Name) → n ≢ short_manifest → later n ≡ files n) → Passes (At short_manifest R) old new → ((n : Name) → n ≢ short_manifest → after n ≡ opened n) → IsKept IsCatalogue journal later after new rows
-catalogue_stays R journal files opened old later after new rows named kept others passes others_opened =
-    let apart : journal.name ≢ short_manifest = λ is. journals_differ (sym named ∙ is) in
+-- the catalogue stays while a manifest is loaded
+pub catalogue_stays : (store : ℕ) (R : Content → Content → Type 0) (journal : JournalState) (files : Files) (opened : Name → ℕ) (old : Past) (later : Files) (after : Name → ℕ) (new : Past) (rows : List Row) → journal.name ≡ catalogue_name → IsKept IsCatalogue journal files opened old rows
+    → ((n : Name) → n ≢ manifest_name store → later n ≡ files n) → Passes (At (manifest_name store) R) old new → ((n : Name) → n ≢ manifest_name store → after n ≡ opened n) → IsKept IsCatalogue journal later after new rows
+catalogue_stays store R journal files opened old later after new rows named kept others passes others_opened =
+    let apart : journal.name ≢ manifest_name store = λ is. journals_differ store (sym named ∙ is) in
     let fewer : after journal.name ≡ opened journal.name = others_opened journal.name apart in
-    kept_stays IsCatalogue journal files later opened after old new rows (At short_manifest R) kept passes (λ a c step. step.elsewhere journal.name apart) (others journal.name apart) (omega (arith, fewer))
+    kept_stays IsCatalogue journal files later opened after old new rows (At (manifest_name store) R) kept passes (λ a c step. step.elsewhere journal.name apart) (others journal.name apart) (omega (arith, fewer))
+
+-- ONE JOURNAL IS LOADED
+
+-- the one says what it said, and every other name is as it was
+record LoadsOne (g : Granularity) (j : Journal) (files : Files) (opened : Name → ℕ) (old : Past) (later : Files) (after : Name → ℕ) (new : Past) : Type 0 where
+  passes : Passes (At (name_of j) (StillSays (Means g j) (files (name_of j)))) old new
+  others : (n : Name) → n ≢ name_of j → later n ≡ files n
+  said : (value : Value j) → Says (Means g j) value (files (name_of j)) → Says (Means g j) value (later (name_of j))
+  no_more : (h : Granularity) (value : Value j) → Says (Means h j) value (later (name_of j)) → Says (Means h j) value (files (name_of j))
+  others_opened : (n : Name) → n ≢ name_of j → after n ≡ opened n
+  was : opened (name_of j) ≡ 0
+  is : after (name_of j) ≡ 0
+
+-- what another journal says
+abbrev Goes : Granularity → Files → Files → Journal → Type 0
+Goes g files later j = (value : Value j) → Says (Means g j) value (files (name_of j)) → Says (Means g j) value (later (name_of j))
+
+kept_load : (g : Granularity) (j : Journal) (files later : Files) (opened after : Name → ℕ) (old new : Past) → LoadsOne g j files opened old later after new → KeepsSaid g files opened old later after new
+kept_load g j files later opened after old new load = record {
+  passes = passes_weaker (At (name_of j) (StillSays (Means g j) (files (name_of j)))) (StillSay g files) old new load.passes (λ a c left step. record {
+    journals = λ i. still i a c step (journal_cases i j);
+    elsewhere = λ n other. step.elsewhere n (no_journal n j other);
+  });
+  elsewhere = λ n other. load.others n (no_journal n j other);
+  said = λ i. goes i (journal_cases i j);
+  no_more = λ h i. back h i (journal_cases i j);
+  same_opened = opened_alike (name_of j) opened after load.others_opened load.was load.is;
+}
+  where
+    still : (i : Journal) (a c : Files) → At (name_of j) (StillSays (Means g j) (files (name_of j))) a c → (i ≡ j) ⊎ (name_of i ≢ name_of j) → StillSays (Means g i) (files (name_of i)) (a (name_of i)) (c (name_of i))
+    still i a c step (inl is) = subst (λ (k : Journal). StillSays (Means g k) (files (name_of k)) (a (name_of k)) (c (name_of k))) (sym is) step.here
+    still i a c step (inr apart) = λ value says. inl (step.elsewhere (name_of i) apart)
+
+    goes : (i : Journal) → (i ≡ j) ⊎ (name_of i ≢ name_of j) → Goes g files later i
+    goes i (inl is) = subst (Goes g files later) (sym is) load.said
+    goes i (inr apart) = λ value says. subst (Says (Means g i) value) (sym (load.others (name_of i) apart)) says
+
+    back : (h : Granularity) (i : Journal) → (i ≡ j) ⊎ (name_of i ≢ name_of j) → Goes h later files i
+    back h i (inl is) = subst (Goes h later files) (sym is) (load.no_more h)
+    back h i (inr apart) = λ value says. subst (Says (Means h i) value) (load.others (name_of i) apart) says
 
 -- THE CATALOGUE
 
@@ -122,24 +163,17 @@ turned old new (inr none) = inr (none.1, none.0)
 
 pub kept_catalogue : (g : Granularity) (files later : Files) (opened after : Name → ℕ) (old new : Past) → Passes (At catalogue_name (StillSays IsCatalogue (files catalogue_name))) old new → ((n : Name) → n ≢ catalogue_name → later n ≡ files n)
     → SameRows (files catalogue_name) (later catalogue_name) → ((n : Name) → n ≢ catalogue_name → after n ≡ opened n) → opened catalogue_name ≡ 0 → after catalogue_name ≡ 0 → KeepsSaid g files opened old later after new
-kept_catalogue g files later opened after old new passes others same others_opened was is = record {
-  passes = passes_weaker (At catalogue_name (StillSays IsCatalogue (files catalogue_name))) (StillSay g files) old new passes (λ a c left step. record {
-    rows = step.here;
-    entries = λ value says. inl (step.elsewhere short_manifest apart);
-    elsewhere = λ n other. step.elsewhere n (no_journal n catalogue_name other refl);
-  });
-  elsewhere = λ n other. others n (no_journal n catalogue_name other refl);
-  rows = λ rows says. same_rows (files catalogue_name) (later catalogue_name) rows same says;
-  entries = λ entries says. subst (Says (Folds g) entries) (sym (others short_manifest apart)) says;
-  rows_before = λ rows says. same_rows (later catalogue_name) (files catalogue_name) rows (turned (files catalogue_name) (later catalogue_name) same) says;
-  entries_before = λ h entries says. subst (Says (Folds h) entries) (others short_manifest apart) says;
-  same_opened = opened_alike catalogue_name opened after others_opened was is;
-}
-  where
-    apart : short_manifest ≢ catalogue_name
-    apart same = journals_differ (sym same)
+kept_catalogue g files later opened after old new passes others same others_opened was is = kept_load g Catalogue files later opened after old new (record {
+  passes = passes;
+  others = others;
+  said = λ rows says. same_rows (files catalogue_name) (later catalogue_name) rows same says;
+  no_more = λ h rows says. same_rows (later catalogue_name) (files catalogue_name) rows (turned (files catalogue_name) (later catalogue_name) same) says;
+  others_opened = others_opened;
+  was = was;
+  is = is;
+})
 
--- THE MANIFEST
+-- A MANIFEST
 
 -- the file is as it was, or it had no batch and lists nothing still
 abbrev pub SameEntries : Granularity → Content → Content → Type 0
@@ -158,26 +192,22 @@ same_before g h old new entries (inr none) says =
     let empty : entries ≡ [] = one_listing h g new entries [] says none.1 in
     record { batches = []; has = none.0; means = empty }
 
-pub kept_manifest : (g : Granularity) (files later : Files) (opened after : Name → ℕ) (old new : Past) → Passes (At short_manifest (StillSays (Folds g) (files short_manifest))) old new → ((n : Name) → n ≢ short_manifest → later n ≡ files n)
-    → SameEntries g (files short_manifest) (later short_manifest) → ((n : Name) → n ≢ short_manifest → after n ≡ opened n) → opened short_manifest ≡ 0 → after short_manifest ≡ 0 → KeepsSaid g files opened old later after new
-kept_manifest g files later opened after old new passes others same others_opened was is = record {
-  passes = passes_weaker (At short_manifest (StillSays (Folds g) (files short_manifest))) (StillSay g files) old new passes (λ a c left step. record {
-    rows = λ value says. inl (step.elsewhere catalogue_name journals_differ);
-    entries = step.here;
-    elsewhere = λ n other. step.elsewhere n (no_journal n short_manifest other refl);
-  });
-  elsewhere = λ n other. others n (no_journal n short_manifest other refl);
-  rows = λ rows says. subst (Says IsCatalogue rows) (sym (others catalogue_name journals_differ)) says;
-  entries = λ entries says. same_entries g (files short_manifest) (later short_manifest) entries same says;
-  rows_before = λ rows says. subst (Says IsCatalogue rows) (others catalogue_name journals_differ) says;
-  entries_before = λ h entries says. same_before g h (files short_manifest) (later short_manifest) entries same says;
-  same_opened = opened_alike short_manifest opened after others_opened was is;
-}
+pub kept_manifest : (store : ℕ) (g : Granularity) (files later : Files) (opened after : Name → ℕ) (old new : Past) → Passes (At (manifest_name store) (StillSays (Folds g) (files (manifest_name store)))) old new → ((n : Name) → n ≢ manifest_name store → later n ≡ files n)
+    → SameEntries g (files (manifest_name store)) (later (manifest_name store)) → ((n : Name) → n ≢ manifest_name store → after n ≡ opened n) → opened (manifest_name store) ≡ 0 → after (manifest_name store) ≡ 0 → KeepsSaid g files opened old later after new
+kept_manifest store g files later opened after old new passes others same others_opened was is = kept_load g (Manifest store) files later opened after old new (record {
+  passes = passes;
+  others = others;
+  said = λ entries says. same_entries g (files (manifest_name store)) (later (manifest_name store)) entries same says;
+  no_more = λ h entries says. same_before g h (files (manifest_name store)) (later (manifest_name store)) entries same says;
+  others_opened = others_opened;
+  was = was;
+  is = is;
+})
 
 -- A JOURNAL THAT IS LOADED ONCE MORE
 
 -- what its load keeps
-pub record LoadsOne (name : Name) (files : Files) (opened : Name → ℕ) (old : Past) (later : Files) (after : Name → ℕ) (new : Past) : Type 0 where
+pub record LoadsAgain (name : Name) (files : Files) (opened : Name → ℕ) (old : Past) (later : Files) (after : Name → ℕ) (new : Past) : Type 0 where
   pub kept : At name (Loads (files name)) files later
   pub passes : Passes (At name (Loads (files name))) old new
   pub others : (n : Name) → n ≢ name → after n ≡ opened n
@@ -198,12 +228,12 @@ loads_entries g old new (inl same) = inl same
 loads_entries g old new (inr (inl same)) = inl same
 loads_entries g old new (inr (inr both)) = inr (no_batch old both.0, record { batches = []; has = no_batch new both.1; means = refl })
 
-pub catalogue_again : (g : Granularity) (name : Name) (files later : Files) (opened after : Name → ℕ) (old new : Past) → name ≡ catalogue_name → LoadsOne name files opened old later after new → KeepsSaid g files opened old later after new
+pub catalogue_again : (g : Granularity) (name : Name) (files later : Files) (opened after : Name → ℕ) (old new : Past) → name ≡ catalogue_name → LoadsAgain name files opened old later after new → KeepsSaid g files opened old later after new
 catalogue_again g name files later opened after old new named loads =
-    let at = subst (λ (n : Name). LoadsOne n files opened old later after new) named loads in
+    let at = subst (λ (n : Name). LoadsAgain n files opened old later after new) named loads in
     kept_catalogue g files later opened after old new (load_says IsCatalogue (files catalogue_name) catalogue_name old new at.passes) at.kept.elsewhere (loads_rows (files catalogue_name) (later catalogue_name) at.kept.here) at.others at.was at.is
 
-pub manifest_again : (g : Granularity) (name : Name) (files later : Files) (opened after : Name → ℕ) (old new : Past) → name ≡ short_manifest → LoadsOne name files opened old later after new → KeepsSaid g files opened old later after new
-manifest_again g name files later opened after old new named loads =
-    let at = subst (λ (n : Name). LoadsOne n files opened old later after new) named loads in
-    kept_manifest g files later opened after old new (load_says (Folds g) (files short_manifest) short_manifest old new at.passes) at.kept.elsewhere (loads_entries g (files short_manifest) (later short_manifest) at.kept.here) at.others at.was at.is
+pub manifest_again : (store : ℕ) (g : Granularity) (name : Name) (files later : Files) (opened after : Name → ℕ) (old new : Past) → name ≡ manifest_name store → LoadsAgain name files opened old later after new → KeepsSaid g files opened old later after new
+manifest_again store g name files later opened after old new named loads =
+    let at = subst (λ (n : Name). LoadsAgain n files opened old later after new) named loads in
+    kept_manifest store g files later opened after old new (load_says (Folds g) (files (manifest_name store)) (manifest_name store) old new at.passes) at.kept.elsewhere (loads_entries g (files (manifest_name store)) (later (manifest_name store)) at.kept.here) at.others at.was at.is

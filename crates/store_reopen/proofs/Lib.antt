@@ -1,3 +1,4 @@
+pub mod HandedBack
 pub mod Having
 pub mod Keeping
 pub mod Looking

@@ -70,7 +70,7 @@ split_at [] n e within is = absurd (omega arith)
 split_at (x ∷ xs) zero e within is = ap (λ (y : Entry). y ∷ xs) (sym is)
 split_at (x ∷ xs) (suc n) e within is = ap (λ (l : List Entry). x ∷ l) (split_at xs n e (omega arith) is)
 
-pub there_more : (files now : Files) (rows : List Row) (entries : List Entry) (name : Name) (n m : ℕ) (e : Entry) → m ≡ n + 1 → n < length entries → e ≡ get_or entries n e → now ≡ files → All (IsThere files rows) (take n entries) → name ≡ file_of rows e
+pub there_more : (files now : Files) (rows : List Row) (entries : List Entry) (name : Name) (n m : ℕ) (e : Entry) → m ≡ n + 1 → n < length entries → e ≡ get_or entries n e → now ≡ files → All (IsThere files rows) (take n entries) → name ≡ file_of (1, rows) e
     → HasFile now name (λ b. e.len ≤ length b) → All (IsThere files rows) (take m entries)
 there_more files now rows entries name n m e more within is same there named long =
     let named_there : IsThere now rows e = subst (λ (x : Name). HasFile now x (λ b. e.len ≤ length b)) named long in
@@ -81,9 +81,9 @@ pub all_there : (files : Files) (rows : List Row) (entries : List Entry) (n : �
 all_there files rows entries n is there = subst (λ (es : List Entry). All (IsThere files rows) es) (take_all n entries (omega (arith, is))) there
 
 pub first_short : (g : Granularity) (seen files now : Files) (rows : List Row) (entries : List Entry) (name : Name) (at n : ℕ) (e : Entry) → AreSaid g seen rows entries → All (HasRow rows) entries → ((n : Name) → n.0 ≢ 0 → files n ≡ seen n) → now ≡ files → n < length entries → e ≡ get_or entries n e
-    → All (IsThere files rows) (take n entries) → name ≡ file_of rows e → EndsEarly e.len at (now name) → HasShortFile g seen name at
+    → All (IsThere files rows) (take n entries) → name ≡ file_of (1, rows) e → EndsEarly e.len at (now name) → HasShortFile g seen name at
 first_short g seen files now rows entries name at n e said of_rows same here within is there named short =
-    let outside : name.0 ≢ 0 = λ zero_store. listed_elsewhere rows e (sym (ap (λ (m : Name). m.0) named) ∙ zero_store) in
+    let outside : name.0 ≢ 0 = λ zero_store. listed_elsewhere (1, rows) e (omega arith) (sym (ap (λ (m : Name). m.0) named) ∙ zero_store) in
     record {
       rows = rows;
       entries = entries;

@@ -1,6 +1,6 @@
 -- An image has one verdict at most.
-use Rattle.std.proofs.Common.{◌≡◌, ◌≢◌, ◌⊎◌, inl, inr, ℕ, ◌<◌, ◌≤◌, List, [], ◌∷◌, ◌++◌, length, map, take, Some, None, true, refl, sym, ◌∙◌, ap, subst, arith}
-use Rattle.std.specs.Prelude.{All, Contains, IsTrue, slice_get}
+use Rattle.std.proofs.Common.{◌≡◌, inl, inr, ℕ, ◌≤◌, List, [], ◌∷◌, ◌++◌, length, map, take, Some, None, true, refl, sym, ◌∙◌, ap, subst, arith}
+use Rattle.std.specs.Prelude.{All, IsTrue}
 use Rattle.std.proofs.lemmas.List.{length-take}
 use Rattle.std.proofs.lemmas.List.Elements.{All-head, All-tail, All-map, All-weaker, All-contains, All-nil}
 use Rattle.std.proofs.lemmas.Option.{slice_get_within}
@@ -19,11 +19,12 @@ use Rattle.pv_catalog.specs.declared.row.Row.{Row}
 use Rattle.pv_catalog.specs.Catalogue.{catalogue_name}
 use Rattle.pv_catalog.specs.Rows as catalogue
 use Rattle.pv_catalog.proofs.Meaning as catalogue_meaning
-use Rattle.tier_store.specs.Names.{short_manifest}
+use Rattle.store_manifest.specs.Manifest.{manifest_name}
 use Rattle.tier_store.specs.Held.{Filed, Held, IsFiled, IsListed, IsIn, entry_of, file_of, bytes_of}
 use Rattle.tier_store.specs.Stored.{Holds}
-use Rattle.store_reopen.specs.Verdict.{HasBadBatch, IsBadFile, IsBadCatalogue, IsBadManifest, AreSaid, HasRow, IsThere, EndsEarly, IsFirstShort, IsWhole, Differs, CatalogueIsBad, ManifestIsBad, HasStranger, HasShortFile, IsDamaged, catalogue_bad, manifest_bad, stranger, file_short}
+use Rattle.store_reopen.specs.Verdict.{IsBadFile, IsBadCatalogue, IsBadManifest, AreSaid, HasRow, IsThere, EndsEarly, IsFirstShort, IsWhole, Differs, CatalogueIsBad, ManifestIsBad, HasStranger, HasShortFile, IsDamaged, catalogue_bad, manifest_bad, stranger, file_short}
 use Rattle.store_reopen.proofs.Keeping.{one_list_of_rows}
+use Rattle.store_reopen.proofs.Having.{said_of}
 
 pub same_batches : (content : Content) (bs cs : List (List ℕ)) → HasBatches content bs → HasBatches content cs → bs ≡ cs
 same_batches content bs cs one two =
@@ -44,7 +45,7 @@ said_folds g content xs says = record { batches = says.batches; has = says.has; 
 
 -- THE FIRST SHORT FILE
 
-short_not_there : (files : Files) (rows : List Row) (e : Entry) (name : Name) (at : ℕ) → name ≡ file_of rows e → EndsEarly e.len at (files name) → IsThere files rows e → ⊥
+short_not_there : (files : Files) (rows : List Row) (e : Entry) (name : Name) (at : ℕ) → name ≡ file_of (1, rows) e → EndsEarly e.len at (files name) → IsThere files rows e → ⊥
 short_not_there files rows e name at named short there =
     let file : files name ≡ Some there.bytes = ap files named ∙ there.file in
     let ends : EndsEarly e.len at (Some there.bytes) = subst (EndsEarly e.len at) file short in
@@ -65,7 +66,7 @@ one_first_short : (files : Files) (rows : List Row) (entries : List Entry) (a b 
 one_first_short files rows entries a b i j one two =
     let entry : one.entry ≡ two.entry = first_same (IsThere files rows) one.before two.before one.behind two.behind one.entry two.entry (sym one.split ∙ two.split) one.there two.there
     (short_not_there files rows one.entry a i one.named one.short) (short_not_there files rows two.entry b j two.named two.short) in
-    let name : a ≡ b = one.named ∙ ap (file_of rows) entry ∙ sym two.named in
+    let name : a ≡ b = one.named ∙ ap (file_of (1, rows)) entry ∙ sym two.named in
     let there : EndsEarly one.entry.len j (files a) = subst (λ (n : Name). EndsEarly one.entry.len j (files n)) (sym name) (subst (λ (e : Entry). EndsEarly e.len j (files b)) (sym entry) two.short) in
     (name, one_end one.entry.len i j (files a) one.short there)
 
@@ -81,7 +82,7 @@ short_not_all files rows entries name at first there =
 
 -- what two lists of one image are
 same_said : (g : Granularity) (files : Files) (rows r₂ : List Row) (entries e₂ : List Entry) → AreSaid g files rows entries → AreSaid g files r₂ e₂ → (rows ≡ r₂) × (entries ≡ e₂)
-same_said g files rows r₂ entries e₂ one two = (one_list_of_rows (files catalogue_name) rows r₂ one.rows_said two.rows_said, one_listing g g (files short_manifest) entries e₂ one.entries_said two.entries_said)
+same_said g files rows r₂ entries e₂ one two = (one_list_of_rows (files catalogue_name) rows r₂ one.rows_said two.rows_said, one_listing g g (files (manifest_name 1)) entries e₂ one.entries_said two.entries_said)
 
 of_rows_too : (g : Granularity) (files : Files) (rows r₂ : List Row) (entries e₂ : List Entry) → AreSaid g files rows entries → AreSaid g files r₂ e₂ → All (HasRow rows) entries → All (HasRow r₂) e₂
 of_rows_too g files rows r₂ entries e₂ one two all =
@@ -118,8 +119,8 @@ module _ (one_place : (content : Content) (at other : ℕ) → IsBadJournal cont
   good_catalogue : (files : Files) (rows : List Row) (at : ℕ) → Says catalogue.IsCatalogue rows (files catalogue_name) → IsBadCatalogue (files catalogue_name) at → ⊥
   good_catalogue files rows at says bad = good_or_bad catalogue.IsCatalogue catalogue.IsBadBatch catalogue_meaning.not_both (files catalogue_name) rows at says bad
 
-  good_manifest : (g : Granularity) (files : Files) (entries : List Entry) (at : ℕ) → Says (manifest.Folds g) entries (files short_manifest) → IsBadManifest (files short_manifest) at → ⊥
-  good_manifest g files entries at says bad = good_or_bad (manifest.Folds g) manifest.IsBadBatch (folds_good g) (files short_manifest) entries at says bad
+  good_manifest : (g : Granularity) (files : Files) (entries : List Entry) (at : ℕ) → Says (manifest.Folds g) entries (files (manifest_name 1)) → IsBadManifest (files (manifest_name 1)) at → ⊥
+  good_manifest g files entries at says bad = good_or_bad (manifest.Folds g) manifest.IsBadBatch (folds_good g) (files (manifest_name 1)) entries at says bad
 
   pub whole_undamaged : (g : Granularity) (files : Files) (name : Name) (at : ℕ) → IsWhole g files → IsDamaged g files name at → ⊥
   whole_undamaged g files name at whole (catalogue_bad one) = good_catalogue files whole.rows at whole.said.rows_said one.bad
@@ -129,9 +130,9 @@ module _ (one_place : (content : Content) (at other : ℕ) → IsBadJournal cont
 
   pub damaged_same : (g kept : Granularity) (files : Files) (name : Name) (at : ℕ) → IsDamaged g files name at → Differs g files kept → ⊥
   damaged_same g kept files name at (catalogue_bad one) other = good_catalogue files other.rows at other.rows_said one.bad
-  damaged_same g kept files name at (manifest_bad one) other = good_manifest kept files other.entries at (said_folds kept (files short_manifest) other.entries other.entries_said) one.bad
-  damaged_same g kept files name at (stranger one) other = other.other (sym (one_said g kept (files short_manifest) one.entries other.entries one.said.entries_said other.entries_said))
-  damaged_same g kept files name at (file_short one) other = other.other (sym (one_said g kept (files short_manifest) one.entries other.entries one.said.entries_said other.entries_said))
+  damaged_same g kept files name at (manifest_bad one) other = good_manifest kept files other.entries at (said_folds kept (files (manifest_name 1)) other.entries other.entries_said) one.bad
+  damaged_same g kept files name at (stranger one) other = other.other (sym (one_said g kept (files (manifest_name 1)) one.entries other.entries one.said.entries_said other.entries_said))
+  damaged_same g kept files name at (file_short one) other = other.other (sym (one_said g kept (files (manifest_name 1)) one.entries other.entries one.said.entries_said other.entries_said))
 
   -- the cases in the order in which they are looked for: of two the earlier rules the later out
   earlier_catalogue : (g : Granularity) (files : Files) (a b : Name) (i j : ℕ) → CatalogueIsBad files a i → IsDamaged g files b j → (a ≡ b) × (i ≡ j)
@@ -142,7 +143,7 @@ module _ (one_place : (content : Content) (at other : ℕ) → IsBadJournal cont
 
   earlier_manifest : (g : Granularity) (files : Files) (a b : Name) (i j : ℕ) → ManifestIsBad files a i → IsDamaged g files b j → (a ≡ b) × (i ≡ j)
   earlier_manifest g files a b i j one (catalogue_bad two) = absurd (good_catalogue files one.rows j one.rows_said two.bad)
-  earlier_manifest g files a b i j one (manifest_bad two) = (one.named ∙ sym two.named, one_bad_place manifest.IsBadBatch manifest_meaning.one_bad (files short_manifest) i j one.bad two.bad)
+  earlier_manifest g files a b i j one (manifest_bad two) = (one.named ∙ sym two.named, one_bad_place manifest.IsBadBatch manifest_meaning.one_bad (files (manifest_name 1)) i j one.bad two.bad)
   earlier_manifest g files a b i j one (stranger two) = absurd (good_manifest g files two.entries i two.said.entries_said one.bad)
   earlier_manifest g files a b i j one (file_short two) = absurd (good_manifest g files two.entries i two.said.entries_said one.bad)
 
@@ -165,10 +166,10 @@ module _ (one_place : (content : Content) (at other : ℕ) → IsBadJournal cont
   one_damage g files a b i j (file_short one) two = last_file g files a b i j one two
 
 pub whole_same : (g kept : Granularity) (files : Files) → IsWhole g files → Differs g files kept → ⊥
-whole_same g kept files whole other = other.other (sym (one_said g kept (files short_manifest) whole.entries other.entries whole.said.entries_said other.entries_said))
+whole_same g kept files whole other = other.other (sym (one_said g kept (files (manifest_name 1)) whole.entries other.entries whole.said.entries_said other.entries_said))
 
 pub one_other : (g one other : Granularity) (files : Files) → Differs g files one → Differs g files other → one ≡ other
-one_other g one other files a b = same_granularity one other (files short_manifest) a.entries b.entries a.entries_said b.entries_said
+one_other g one other files a b = same_granularity one other (files (manifest_name 1)) a.entries b.entries a.entries_said b.entries_said
 
 -- WHAT STANDS IS WHOLE
 
@@ -177,24 +178,26 @@ begins_long : (front : List ℕ) (files : Files) (name : Name) (content : Conten
 begins_long front files name None is begins = absurd begins
 begins_long front files name (Some bytes) is begins = record { bytes = bytes; file = is; holds = omega (arith, ap length begins, length-take (length front) bytes) }
 
-in_there : (g : Granularity) (rows : List Row) (image : Files) (f : Filed) → IsFiled g rows f → IsIn rows image f → IsThere image rows f.entry
+in_there : (g : Granularity) (rows : List Row) (image : Files) (f : Filed) → IsFiled g rows f → IsIn (1, rows) image f → IsThere image rows f.entry
 in_there g rows image f filed begins =
-    let there = begins_long (bytes_of f) image (file_of rows f.entry) (image (file_of rows f.entry)) refl begins in
+    let there = begins_long (bytes_of f) image (file_of (1, rows) f.entry) (image (file_of (1, rows) f.entry)) refl begins in
     record { bytes = there.bytes; file = there.file; holds = let long = there.holds in omega (arith, long, filed.len) }
 
-pub held_whole : (g : Granularity) (files : Files) (held : Held) → Holds g files held → IsTrue held.stands → IsWhole g files
-held_whole g files held holds stands = record {
-  rows = held.rows;
-  entries = map entry_of held.files;
-  said = record { rows_said = holds.rows; entries_said = holds.lists };
-  of_rows = All-map (HasRow held.rows) entry_of held.files (All-weaker (IsListed g held.rows) (λ (f : Filed). HasRow held.rows f.entry) (λ f listed. slice_get_within held.rows f.entry.series listed.row listed.stands) held.files holds.filed.listed);
-  there = All-map (IsThere files held.rows) entry_of held.files (λ k d lt. in_there g held.rows files _ (holds.filed.filed stands k d lt) (holds.files stands k d lt));
-}
+pub held_whole : (g : Granularity) (files : Files) (held : Held) → held.store ≡ 1 → Holds g files held → IsTrue held.stands → IsWhole g files
+held_whole g files held numbered holds stands =
+    let within = subst (λ (k : ℕ). All (IsIn (k, held.rows) files) held.files) numbered (holds.files stands) in
+    record {
+      rows = held.rows;
+      entries = map entry_of held.files;
+      said = said_of g files held numbered holds;
+      of_rows = All-map (HasRow held.rows) entry_of held.files (All-weaker (IsListed g held.rows) (λ (f : Filed). HasRow held.rows f.entry) (λ f listed. slice_get_within held.rows f.entry.series listed.row listed.stands) held.files holds.filed.listed);
+      there = All-map (IsThere files held.rows) entry_of held.files (λ k d lt. in_there g held.rows files _ (holds.filed.filed stands k d lt) (within k d lt));
+    }
 
-pub holds_nothing : (g : Granularity) (files : Files) → ((n : Name) → files n ≡ None) → Holds g files (record { rows = []; files = []; stands = true })
+pub holds_nothing : (g : Granularity) (files : Files) → ((n : Name) → files n ≡ None) → Holds g files (record { store = 1; rows = []; files = []; stands = true })
 holds_nothing g files none = record {
   rows = record { batches = []; has = subst (λ (c : Content). HasBatches c []) (sym (none catalogue_name)) refl; means = refl };
-  lists = record { batches = []; has = subst (λ (c : Content). HasBatches c []) (sym (none short_manifest)) refl; means = refl };
-  filed = record { listed = All-nil (IsListed g []); filed = λ stands. All-nil (IsFiled g []) };
-  files = λ stands. All-nil (IsIn [] files);
+  lists = record { batches = []; has = subst (λ (c : Content). HasBatches c []) (sym (none (manifest_name 1))) refl; means = refl };
+  filed = record { numbered = omega arith; listed = All-nil (IsListed g []); filed = λ stands. All-nil (IsFiled g []) };
+  files = λ stands. All-nil (IsIn (1, []) files);
 }

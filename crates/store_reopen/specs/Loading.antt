@@ -6,23 +6,39 @@ use Rattle.disk_model.specs.Past.{Past, Passes}
 use Rattle.gate_journal.specs.Kept.{Says, StillSays}
 use Rattle.store_manifest.specs.declared.entry.Entry.{Entry}
 use Rattle.store_manifest.specs.Batches.{Folds}
+use Rattle.store_manifest.specs.Manifest.{manifest_name}
 use Rattle.pv_catalog.specs.declared.row.Row.{Row}
 use Rattle.pv_catalog.specs.Catalogue.{catalogue_name}
 use Rattle.pv_catalog.specs.Rows.{IsCatalogue}
-use Rattle.tier_store.specs.Names.{short_manifest}
+
+-- the journals of store 0: the catalogue, and the manifest of each store
+pub data Journal : Type 0 where
+  Catalogue : Journal
+  Manifest : ℕ → Journal
+
+abbrev pub name_of : Journal → Name
+name_of Catalogue = catalogue_name
+name_of (Manifest store) = manifest_name store
+
+-- what a journal says: rows, or the entries of listed files
+abbrev pub Value : Journal → Type 0
+Value Catalogue = List Row
+Value (Manifest store) = List Entry
+
+-- what its batches mean, where manifests are of this granularity
+abbrev pub Means : Granularity → (j : Journal) → List (List ℕ) → Value j → Type 0
+Means g Catalogue = IsCatalogue
+Means g (Manifest store) = Folds g
 
 -- each journal of an image still says what reads gave at first, or is as it was, and every other store is as it was
-pub record StillSay (g : Granularity) (seen old new : Files) : Type 0 where
-  pub rows : StillSays IsCatalogue (seen catalogue_name) (old catalogue_name) (new catalogue_name)
-  pub entries : StillSays (Folds g) (seen short_manifest) (old short_manifest) (new short_manifest)
+pub record StillSay (g : Granularity) (files old new : Files) : Type 0 where
+  pub journals : (j : Journal) → StillSays (Means g j) (files (name_of j)) (old (name_of j)) (new (name_of j))
   pub elsewhere : (n : Name) → n.0 ≢ 0 → new n ≡ old n
 
 -- Whatever a crash leaves, the journals say what they said; reads give so too, and nothing more. The other stores are as they were.
 pub record KeepsSaid (g : Granularity) (files : Files) (opened : Name → ℕ) (old : Past) (later : Files) (after : Name → ℕ) (new : Past) : Type 0 where
   pub passes : Passes (StillSay g files) old new
   pub elsewhere : (n : Name) → n.0 ≢ 0 → later n ≡ files n
-  pub rows : (rows : List Row) → Says IsCatalogue rows (files catalogue_name) → Says IsCatalogue rows (later catalogue_name)
-  pub entries : (entries : List Entry) → Says (Folds g) entries (files short_manifest) → Says (Folds g) entries (later short_manifest)
-  pub rows_before : (rows : List Row) → Says IsCatalogue rows (later catalogue_name) → Says IsCatalogue rows (files catalogue_name)
-  pub entries_before : (h : Granularity) (entries : List Entry) → Says (Folds h) entries (later short_manifest) → Says (Folds h) entries (files short_manifest)
+  pub said : (j : Journal) (value : Value j) → Says (Means g j) value (files (name_of j)) → Says (Means g j) value (later (name_of j))
+  pub no_more : (h : Granularity) (j : Journal) (value : Value j) → Says (Means h j) value (later (name_of j)) → Says (Means h j) value (files (name_of j))
   pub same_opened : (n : Name) → after n ≡ opened n

@@ -10,7 +10,7 @@ use Rattle.pv_catalog.specs.declared.row.Row.{Row}
 use Rattle.pv_catalog.specs.Catalogue.{catalogue_name}
 use Rattle.pv_catalog.specs.Rows as catalogue
 use Rattle.tier_store.specs.Held.{file_of}
-use Rattle.tier_store.specs.Names.{short_manifest}
+use Rattle.store_manifest.specs.Manifest.{manifest_name}
 
 -- THE JOURNALS
 
@@ -37,7 +37,7 @@ IsBadManifest content at = IsBadFile manifest.IsBadBatch content at
 -- the catalogue has these rows, and the manifest of this granularity lists these entries
 pub record AreSaid (g : Granularity) (files : Files) (rows : List Row) (entries : List Entry) : Type 0 where
   pub rows_said : Says catalogue.IsCatalogue rows (files catalogue_name)
-  pub entries_said : Says (manifest.Folds g) entries (files short_manifest)
+  pub entries_said : Says (manifest.Folds g) entries (files (manifest_name 1))
 
 -- THE LISTED FILES
 
@@ -47,7 +47,7 @@ HasRow rows e = e.series < length rows
 
 -- the entry's file is there, and at least as long as it is listed
 abbrev pub IsThere : Files → List Row → Entry → Type 0
-IsThere files rows e = HasFile files (file_of rows e) (λ b. e.len ≤ length b)
+IsThere files rows e = HasFile files (file_of (1, rows) e) (λ b. e.len ≤ length b)
 
 -- no file, told at 0; or one that is shorter than this, told at its end
 abbrev pub EndsEarly : ℕ → ℕ → Content → Type 0
@@ -61,7 +61,7 @@ pub record IsFirstShort (files : Files) (rows : List Row) (entries : List Entry)
   pub behind : List Entry
   pub split : entries ≡ before ++ entry ∷ behind
   pub there : All (IsThere files rows) before
-  pub named : name ≡ file_of rows entry
+  pub named : name ≡ file_of (1, rows) entry
   pub short : EndsEarly entry.len at (files name)
 
 -- THE VERDICT
@@ -79,7 +79,7 @@ pub record Differs (g : Granularity) (files : Files) (kept : Granularity) : Type
   pub rows : List Row
   pub entries : List Entry
   pub rows_said : Says catalogue.IsCatalogue rows (files catalogue_name)
-  pub entries_said : Says (manifest.Configured kept) entries (files short_manifest)
+  pub entries_said : Says (manifest.Configured kept) entries (files (manifest_name 1))
   pub other : kept ≢ g
 
 -- the catalogue is bad
@@ -91,8 +91,8 @@ pub record CatalogueIsBad (files : Files) (name : Name) (at : ℕ) : Type 0 wher
 pub record ManifestIsBad (files : Files) (name : Name) (at : ℕ) : Type 0 where
   pub rows : List Row
   pub rows_said : Says catalogue.IsCatalogue rows (files catalogue_name)
-  pub named : name ≡ short_manifest
-  pub bad : IsBadManifest (files short_manifest) at
+  pub named : name ≡ manifest_name 1
+  pub bad : IsBadManifest (files (manifest_name 1)) at
 
 -- both journals are good, and an entry is of no row; that is told of the manifest at 0
 pub record HasStranger (g : Granularity) (files : Files) (name : Name) (at : ℕ) : Type 0 where
@@ -102,7 +102,7 @@ pub record HasStranger (g : Granularity) (files : Files) (name : Name) (at : ℕ
   pub stranger : Entry
   pub listed : Contains entries stranger
   pub of_none : length rows ≤ stranger.series
-  pub named : name ≡ short_manifest
+  pub named : name ≡ manifest_name 1
   pub from : at ≡ 0
 
 -- both journals are good, each entry is of a row, and this is the first listed file that is absent or short

@@ -65,7 +65,7 @@ fn have_rows(manifest: &Manifest, rows: &[Row]) -> bool
 // Makes the name that of an entry's file, in the memory that it has.
 fn set_name(name: &mut FileName, rows: &[Row], entry: &Entry) -> Result<(), AllocError>
     requires { HasRow rows.now entry.now }
-    ensures { OnOk result (name.new ≡ file_of rows.now entry.now) }
+    ensures { OnOk result (name.new ≡ file_of (1, rows.now) entry.now) }
 {
     name.store = STORE;
     name.path.clear();

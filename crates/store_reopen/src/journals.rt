@@ -11,8 +11,7 @@ ghost use Rattle.pv_catalog.specs.declared.row.Row.{Row};
 ghost use Rattle.pv_catalog.specs.Catalogue.{CatalogueState, catalogue_name, IsStored};
 ghost use Rattle.pv_catalog.specs.Rows.{IsCatalogue};
 ghost use Rattle.store_manifest.specs.Entries.{AreEntries};
-ghost use Rattle.store_manifest.specs.Manifest.{IsKept, Lists};
-ghost use Rattle.tier_store.specs.Names.{short_manifest};
+ghost use Rattle.store_manifest.specs.Manifest.{IsKept, Lists, manifest_name};
 ghost use Rattle.store_reopen.specs.Loading.{KeepsSaid};
 ghost use Rattle.store_reopen.specs.Refusal.{IsTold};
 ghost use Rattle.store_reopen.specs.declared.error.Refusal.TheVariants.{Disk as OfDisk};
@@ -35,7 +34,7 @@ pub(crate) fn load_catalogue<D: Disk>(alloc: Global, disk: &mut D) -> Result<Cat
     ensures rows { IsTrue D.tells → IfOk result (λ c. Says IsCatalogue c.rows (D.files disk.old catalogue_name)) }
     ensures journal { IfOk result (λ c. (c.journal.name ≡ catalogue_name) × (c.journal.sound ≡ true)) }
     ensures told { IsTrue D.tells → (g : GranularityValue) → IfErr result (IsTold g (D.files disk.old)) }
-    ensures manifest { IsTrue D.tells → D.files disk.new short_manifest ≡ D.files disk.old short_manifest }
+    ensures manifest { IsTrue D.tells → D.files disk.new (manifest_name 1) ≡ D.files disk.old (manifest_name 1) }
     ensures keeps { IsTrue D.tells → (g : GranularityValue) → KeepsSaid g (D.files disk.old) (D.opened disk.old) (D.past disk.old) (D.files disk.new) (D.opened disk.new) (D.past disk.new) }
     ensures faults { D.faults disk.old ≤ D.faults disk.new }
     ensures cause { result ≡ Err (OfDisk Fault) → Rose (D.faults disk.old) (D.faults disk.new) }
@@ -58,12 +57,12 @@ pub(crate) fn load_manifest<D: Disk>(
     disk: &mut D,
     g: Granularity,
 ) -> Result<Manifest, Refusal>
-    requires unopened { IsTrue D.tells → D.opened disk.old short_manifest ≡ 0 }
+    requires unopened { IsTrue D.tells → D.opened disk.old (manifest_name 1) ≡ 0 }
     ensures kept { IsTrue D.tells → IfOk result (λ m. IsKept m (D.files disk.new) (D.opened disk.new) (D.past disk.new)) }
-    ensures entries { IsTrue D.tells → IfOk result (λ m. Lists g m.entries (D.files disk.old short_manifest)) }
+    ensures entries { IsTrue D.tells → IfOk result (λ m. Lists g m.entries (D.files disk.old (manifest_name 1))) }
     ensures are { IfOk result (λ m. AreEntries g m.entries) }
-    ensures manifest { IfOk result (λ m. (m.journal.name ≡ short_manifest) × (m.granularity ≡ g) × (m.journal.sound ≡ true)) }
-    ensures told { IsTrue D.tells → (seen : Files) (rows : List Row) → Says IsCatalogue rows (seen catalogue_name) → D.files disk.old short_manifest ≡ seen short_manifest
+    ensures manifest { IfOk result (λ m. (m.journal.name ≡ manifest_name 1) × (m.granularity ≡ g) × (m.journal.sound ≡ true)) }
+    ensures told { IsTrue D.tells → (seen : Files) (rows : List Row) → Says IsCatalogue rows (seen catalogue_name) → D.files disk.old (manifest_name 1) ≡ seen (manifest_name 1)
         → IfErr result (IsTold g seen) }
     ensures catalogue { IsTrue D.tells → (c : CatalogueState) → c.journal.name ≡ catalogue_name → IsStored c (D.files disk.old) (D.opened disk.old) (D.past disk.old)
         → OnOk result (IsStored c (D.files disk.new) (D.opened disk.new) (D.past disk.new)) }
@@ -134,7 +133,7 @@ fn catalogue_file(alloc: Global) -> Result<FileName, AllocError>
 
 // The name of the file of store 1's manifest.
 pub(crate) fn manifest_file(alloc: Global) -> Result<FileName, AllocError>
-    ensures { IfOk result (λ name. name ≡ short_manifest) }
+    ensures { IfOk result (λ name. name ≡ manifest_name 1) }
 {
     let path = b"manifest1".to_vec(alloc)?;
     Ok(FileName { store: 0, path })

@@ -1,4 +1,5 @@
 pub mod Counting
+pub mod Leaving
 pub mod Rowwise
 pub mod Sending
 pub mod Telling

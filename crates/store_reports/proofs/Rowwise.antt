@@ -7,12 +7,9 @@ use Rattle.std.proofs.lemmas.Bool.Decides.{nat_tests}
 use Rattle.std.proofs.lemmas.List.Elements.{All-head, All-tail, All-filter, All-contains_itself, All-weaker, All-map}
 use Rattle.store_manifest.specs.declared.entry.Entry.{Entry}
 use Rattle.store_manifest.specs.Entries.{comes_before}
-use Rattle.disk_model.specs.Files.{Name, Files}
-use Rattle.disk_model.specs.Past.{Past}
 use Rattle.partition_names.specs.declared.granularity.Granularity.{Granularity}
-use Rattle.pv_catalog.specs.Catalogue.{CatalogueState}
 use Rattle.pv_catalog.specs.declared.row.Row.{Row}
-use Rattle.store_manifest.specs.Manifest.{ManifestState}
+use Rattle.tier_store.specs.Seen.{Seen}
 use Rattle.tier_store.specs.Change.{Has}
 use Rattle.tier_store.specs.Held.{Filed, Held, IsListed, entry_of, filed_at}
 use Rattle.tier_store.specs.Flush.{PlacesRise}
@@ -90,10 +87,6 @@ below_rest n (e ∷ es) rise = elim (cases_lt e.series n) [
 pub own_listed : (es : List Entry) (n : ℕ) → All (Contains es) (entries_of es n)
 own_listed es n = All-filter (λ (e : Entry). nat_eq e.series n) (Contains es) es (All-contains_itself es)
 
--- a list that was cleared and extended by them has just them
-pub series_taken : (es cleared own items taken : List Entry) (n : ℕ) → taken ≡ items → items ≡ cleared ++ own → cleared ≡ [] → own ≡ entries_of es n → taken ≡ entries_of es n
-series_taken es cleared own items taken n same more empty are = same ∙ (more ∙ (ap (λ (l : List Entry). l ++ own) empty ∙ are))
-
 -- listed files are in the order of series
 pub series_rise : (fs : List Filed) → PlacesRise fs → SeriesRise (map entry_of fs)
 series_rise [] rise = tt
@@ -117,7 +110,8 @@ pub record AreOrdered (rows : List Row) (entries : List Entry) : Type 0 where
   pub rise : SeriesRise entries
   pub within : All (λ (e : Entry). e.series < length rows) entries
 
-pub ordered : (c : CatalogueState) (m : ManifestState) (files : Files) (opened : Name → ℕ) (past : Past) (held : Held) → Has c m files opened past held → AreOrdered c.rows m.entries
-ordered c m files opened past held has =
-    let within : All (λ (e : Entry). e.series < length c.rows) (map entry_of held.files) = subst (λ (r : List Row). All (λ (e : Entry). e.series < length r) (map entry_of held.files)) has.of_rows (of_rows m.granularity held.rows held.files has.stored.valid.filed.listed) in
-    subst (AreOrdered c.rows) (sym has.entries) (record { rise = series_rise held.files has.stored.valid.apart; within = within })
+pub ordered : (tells : Bool) (s : Seen) (held : Held) → Has tells s held → AreOrdered s.catalogue.rows s.manifest.entries
+ordered tells s held has =
+    let of : All (λ (e : Entry). e.series < length held.rows) (map entry_of held.files) = of_rows s.manifest.granularity held.rows held.files has.known.valid.filed.listed in
+    let within : All (λ (e : Entry). e.series < length s.catalogue.rows) (map entry_of held.files) = subst (λ (r : List Row). All (λ (e : Entry). e.series < length r) (map entry_of held.files)) (sym has.known.rows) of in
+    subst (AreOrdered s.catalogue.rows) (sym has.known.entries) (record { rise = series_rise held.files has.known.valid.apart; within = within })

@@ -1,5 +1,5 @@
 -- The text of `status`: one line for each row.
-use Rattle.std.specs.Prelude.{ℕ, ◌+◌, List, [], ◌∷◌, ◌++◌, length, map, filter, sum, nat_eq, take, Option, Result, Ok, Err, codes, decimal}
+use Rattle.std.specs.Prelude.{ℕ, ◌+◌, List, [], ◌∷◌, ◌++◌, length, map, filter, sum, nat_eq, Option, Result, Ok, Err, codes, decimal}
 use Rattle.std.specs.Io.KnownBytes.{Appends}
 use Rattle.edge_io.specs.Stream.{AppendsFront}
 use Rattle.event_types.specs.declared.about.State.{State}
@@ -9,10 +9,6 @@ use Rattle.pv_catalog.specs.declared.row.Row.{Row}
 use Rattle.store_manifest.specs.declared.entry.Entry.{Entry}
 use Rattle.tier_store.specs.Held.{Held, Filed, samples_of}
 use Rattle.sink_buffer.specs.declared.buffer.PutErr.{PutErr}
-use Rattle.sink_buffer.specs.declared.buffer.PutErr.TheVariants as put
-use Rattle.sink_buffer.specs.Sent.{Sends}
-use Rattle.store_reports.specs.declared.summary.Reported.{Reported}
-use Rattle.store_reports.specs.declared.summary.Reported.TheVariants.{Done}
 
 abbrev pub state_name : State → List ℕ
 state_name Running = codes "running"
@@ -42,13 +38,6 @@ abbrev pub status_text : Held → List ℕ
 status_text held = lines_from 0 held.rows (λ id. length (samples_of id held.files)) (λ id. length (filter (λ (f : Filed). nat_eq f.entry.series id) held.files))
 
 -- all of the text was written, or a front of it
-abbrev pub Reports : Option (List ℕ) → Option (List ℕ) → List ℕ → Reported → Type 0
-Reports a b text Done = Appends a b text
-Reports a b text _ = AppendsFront a b text
-
--- What was put of a text behind what is gathered: all of it, or a front of it where memory ran out, or a front of both went out where
--- a write failed.
-abbrev pub Takes : Option (List ℕ) → Option (List ℕ) → List ℕ → List ℕ → List ℕ → Result Unit PutErr → Type 0
-Takes a b old new text (Ok done) = Sends a b (old ++ text) new
-Takes a b old new text (Err put.Memory) = (n : ℕ) × Sends a b (old ++ take n text) new
-Takes a b old new text (Err put.SinkFault) = AppendsFront a b (old ++ text)
+abbrev pub Reports : Option (List ℕ) → Option (List ℕ) → List ℕ → Result Unit PutErr → Type 0
+Reports a b text (Ok done) = Appends a b text
+Reports a b text (Err e) = AppendsFront a b text

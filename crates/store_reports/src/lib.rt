@@ -11,5 +11,6 @@ mod inspection;
 mod report;
 mod summary;
 
-pub use inspection::{Checked, check};
-pub use summary::{Reported, status};
+pub use inspection::{CheckErr, check};
+pub use report::Damage;
+pub use summary::status;

@@ -1,15 +1,19 @@
 // What a check tells: a line for each file, and the first damaged one.
 ghost use Rattle.std.specs.Prelude.{◌≡◌, ◌≤◌, [], ◌++◌, codes, decimal, None, OnOk, IsErrOf};
+ghost use Rattle.std.specs.Option.{option_or};
 ghost use Rattle.edge_io.specs.Stream.{Rose, AppendsFront};
 ghost use Rattle.sink_buffer.specs.Sent.{Sends};
-ghost use Rattle.store_reports.specs.Check.{finding_text, named_line};
-ghost use Rattle.store_reports.specs.Telling.{first_of};
+ghost use Rattle.tier_store.specs.Held.{file_of};
+ghost use Rattle.store_reports.specs.Check.{damage_of, file_line, finding_text};
 
 use disk_model::FileName;
 use edge_io::Sink;
 use itoa::Buffer;
+use pv_catalog::Row;
 use sink_buffer::{PutErr, SinkBuffer};
 use std::alloc::{AllocError, Global};
+use store_manifest::Entry;
+use tier_store::file_name;
 
 /// What a listed file is found to be.
 #[derive(Clone, Copy, Debug, PartialEq, Eq)]
@@ -48,20 +52,23 @@ impl Report {
         }
     }
 
-    // Tells a file.
+    // Tells the file of an entry.
     pub(crate) fn tell<K: Sink>(
         &mut self,
-        name: FileName,
+        alloc: Global,
+        rows: &[Row],
+        entry: &Entry,
         finding: Finding,
         sink: &mut K,
     ) -> Result<(), PutErr>
-        ensures line { OnOk result (Sends (K.written sink.old) (K.written sink.new) (self.old.buffer ++ named_line name finding) self.new.buffer) }
-        ensures first { OnOk result (self.new.first ≡ first_of self.old.first name finding) }
+        ensures line { OnOk result (Sends (K.written sink.old) (K.written sink.new) (self.old.buffer ++ file_line (file_of (1, rows.now) entry.now) finding) self.new.buffer) }
+        ensures first { OnOk result (self.new.first ≡ option_or self.old.first (damage_of (file_of (1, rows.now) entry.now) finding)) }
         ensures memory { IsErrOf result PutErr.Memory → Sends (K.written sink.old) (K.written sink.new) self.old.buffer self.new.buffer }
-        ensures fault { IsErrOf result PutErr.SinkFault → AppendsFront (K.written sink.old) (K.written sink.new) (self.old.buffer ++ named_line name finding) }
+        ensures fault { IsErrOf result PutErr.SinkFault → AppendsFront (K.written sink.old) (K.written sink.new) (self.old.buffer ++ file_line (file_of (1, rows.now) entry.now) finding) }
         ensures faults { K.write_faults sink.old ≤ K.write_faults sink.new }
         ensures cause { IsErrOf result PutErr.SinkFault → Rose (K.write_faults sink.old) (K.write_faults sink.new) }
     {
+        let name = file_name(alloc, 1, rows, entry)?;
         fill_line(&mut self.line, &name, finding)?;
         self.buffer.put(&self.line, sink)?;
         keep_first(&mut self.first, name, finding);
@@ -71,7 +78,7 @@ impl Report {
 
 // Takes the file for the first damaged one if it is.
 fn keep_first(first: &mut Option<Damage>, name: FileName, finding: Finding)
-    ensures { first.new ≡ first_of first.old name finding }
+    ensures { first.new ≡ option_or first.old (damage_of name finding) }
 {
     if first.is_some() {
         return;
@@ -83,7 +90,7 @@ fn keep_first(first: &mut Option<Damage>, name: FileName, finding: Finding)
 
 // Makes the line that of a file, in the memory that it has.
 fn fill_line(line: &mut Vec<u8>, name: &FileName, finding: Finding) -> Result<(), AllocError>
-    ensures { OnOk result (line.new.items ≡ named_line name.now finding) }
+    ensures { OnOk result (line.new.items ≡ file_line name.now finding) }
 {
     line.clear();
     line.extend_from_slice(b"1 ")?;

@@ -1,12 +1,11 @@
 // One line for each row.
-ghost use Rattle.std.specs.Prelude.{◌≡◌, ◌≤◌, ◌⊎◌, ℕ, List, [], Option, OnOk, IsErrOf, IsTrue, true, length, map, sum, slice_get, Err};
-ghost use Rattle.std.specs.Io.KnownBytes.{Appends};
-ghost use Rattle.edge_io.specs.Stream.{Rose, AppendsFront};
+ghost use Rattle.std.specs.Prelude.{◌≡◌, ◌≤◌, ◌⊎◌, ℕ, List, [], Option, OnOk, IsErrOf, IsTrue, map, sum, slice_get};
+ghost use Rattle.edge_io.specs.Stream.{Rose};
 ghost use Rattle.tier_store.specs.Held.{Held};
+ghost use Rattle.tier_store.specs.Seen.{seen};
 ghost use Rattle.tier_store.specs.Change.{Has};
 ghost use Rattle.pv_catalog.specs.declared.row.Row.{Row as RowValue};
-ghost use Rattle.sink_buffer.specs.declared.buffer.PutErr.TheVariants.{SinkFault as PutFault};
-ghost use Rattle.store_reports.specs.Status.{Reports, Takes, listed_text, status_text, row_line, state_name};
+ghost use Rattle.store_reports.specs.Status.{Reports, listed_text, status_text, row_line, state_name};
 
 use disk_model::Disk;
 use edge_io::Sink;
@@ -18,52 +17,42 @@ use std::alloc::{AllocError, Global};
 use store_manifest::{Entry, Manifest};
 use tier_store::TierStore;
 
-/// What a report came to.
-#[derive(Clone, Copy, Debug, PartialEq, Eq)]
-pub enum Reported {
-    /// All of it was written.
-    Done,
-    /// A write failed, which the sink has counted.
-    SinkFault,
-    /// Memory ran out.
-    OutOfMemory,
-}
-
 /// Writes one line for each row, in the order of registration: `NAME TYPE STATE samples COUNT files F1 F2 F3`. COUNT is how many
-/// samples are held of the row, F1 to F3 are the numbers of its listed files in the three stores. It reads what is in memory alone.
-pub fn status<D: Disk, K: Sink>(alloc: Global, store: &TierStore<D>, sink: &mut K) -> Reported
-    requires sound { (store.now.catalogue.journal.sound ≡ true) × (store.now.manifest.journal.sound ≡ true) }
-    ensures text { Reports (K.written sink.old) (K.written sink.new) (listed_text store.now.catalogue.rows store.now.manifest.entries) result }
-    ensures held { IsTrue D.tells → (held : Held) → Has store.now.catalogue store.now.manifest (D.files store.now.disk) (D.opened store.now.disk) (D.past store.now.disk) held → IsTrue held.stands
-        → Reports (K.written sink.old) (K.written sink.new) (status_text held) result }
-    ensures faults { K.write_faults sink.old ≤ K.write_faults sink.new }
-    ensures cause { result ≡ Reported.SinkFault → Rose (K.write_faults sink.old) (K.write_faults sink.new) }
-{
-    let mut buffer = SinkBuffer::new(alloc);
-    let rows = store.catalogue().rows();
-    let put = put_rows(alloc, rows, store.manifest(1), &mut buffer, sink);
-    ended(put, buffer, sink)
-}
-
-// Puts the lines of the rows.
-fn put_rows<K: Sink>(
+/// samples are held of the row, F1 to F3 are the numbers of its listed files in the three stores. It reads what is in memory alone;
+/// where a change stands in doubt, that is what was before it.
+pub fn status<D: Disk, K: Sink>(
     alloc: Global,
-    rows: &[Row],
-    manifest: &Manifest,
-    buffer: &mut SinkBuffer,
+    store: &TierStore<D>,
     sink: &mut K,
 ) -> Result<(), PutErr>
-    requires ids { (i : ℕ) (row : RowValue) → slice_get rows.now i ≡ Some row → row.id ≡ i }
-    ensures text { Takes (K.written sink.old) (K.written sink.new) buffer.old buffer.new (listed_text rows.now manifest.now.entries) result }
+    ensures text { Reports (K.written sink.old) (K.written sink.new) (listed_text store.now.catalogue.rows store.now.manifest.entries) result }
+    ensures held { (held : Held) → Has D.tells (seen D.Disk store.now) held → IsTrue held.stands → Reports (K.written sink.old) (K.written sink.new) (status_text held) result }
     ensures faults { K.write_faults sink.old ≤ K.write_faults sink.new }
     ensures cause { IsErrOf result PutErr.SinkFault → Rose (K.write_faults sink.old) (K.write_faults sink.new) }
 {
+    write_rows(alloc, store.catalogue().rows(), store.manifest(1), sink)
+}
+
+// Writes the lines of the rows.
+fn write_rows<K: Sink>(
+    alloc: Global,
+    rows: &[Row],
+    manifest: &Manifest,
+    sink: &mut K,
+) -> Result<(), PutErr>
+    requires { (i : ℕ) (row : RowValue) → slice_get rows.now i ≡ Some row → row.id ≡ i }
+    ensures text { Reports (K.written sink.old) (K.written sink.new) (listed_text rows.now manifest.now.entries) result }
+    ensures faults { K.write_faults sink.old ≤ K.write_faults sink.new }
+    ensures cause { IsErrOf result PutErr.SinkFault → Rose (K.write_faults sink.old) (K.write_faults sink.new) }
+{
+    let mut buffer = SinkBuffer::new(alloc);
     let mut line = Vec::new(alloc);
     for row in rows {
         let entries = manifest.entries(row.id);
         fill_line(&mut line, row, samples_in(entries), entries.len())?;
         buffer.put(&line, sink)?;
     }
+    buffer.finish(sink)?;
     Ok(())
 }
 
@@ -104,30 +93,5 @@ fn name_of(state: State) -> &'static str
         State::Running => "running",
         State::Paused => "paused",
         State::Retired => "retired",
-    }
-}
-
-// What a report came to of which this was put: what is gathered goes out, unless a write has failed.
-fn ended<K: Sink>(put: Result<(), PutErr>, mut buffer: SinkBuffer, sink: &mut K) -> Reported
-    ensures text { (a : Option (List ℕ)) (text : List ℕ) → Takes a (K.written sink.old) [] buffer text put → Reports a (K.written sink.new) text result }
-    ensures faults { K.write_faults sink.old ≤ K.write_faults sink.new }
-    ensures cause { result ≡ Reported.SinkFault → (put ≡ Err PutFault) ⊎ Rose (K.write_faults sink.old) (K.write_faults sink.new) }
-{
-    match put {
-        Ok(()) => finished(Reported::Done, &mut buffer, sink),
-        Err(PutErr::Memory) => finished(Reported::OutOfMemory, &mut buffer, sink),
-        Err(PutErr::SinkFault) => Reported::SinkFault,
-    }
-}
-
-// Writes what is gathered, and gives the outcome back if that could be done.
-fn finished<K: Sink>(reported: Reported, buffer: &mut SinkBuffer, sink: &mut K) -> Reported
-    ensures sent { ((result ≡ reported) × Appends (K.written sink.old) (K.written sink.new) buffer.old)
-        ⊎ ((result ≡ Reported.SinkFault) × AppendsFront (K.written sink.old) (K.written sink.new) buffer.old × Rose (K.write_faults sink.old) (K.write_faults sink.new)) }
-    ensures faults { K.write_faults sink.old ≤ K.write_faults sink.new }
-{
-    match buffer.finish(sink) {
-        Ok(()) => reported,
-        Err(_) => Reported::SinkFault,
     }
 }

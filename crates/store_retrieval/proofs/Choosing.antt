@@ -1,8 +1,8 @@
 -- Which files an answer looks at: those before the first and behind the last don't count.
-use Rattle.std.proofs.Common.{◌≡◌, ℕ, ◌+◌, ◌<◌, ◌≤◌, inl, inr, List, [], ◌∷◌, ◌++◌, map, length, take, drop, get_or, Option, Some, Err, refl, sym, ap, ◌∙◌, subst, arith, append_assoc, append-nil, zero, suc, take-append-drop}
+use Rattle.std.proofs.Common.{◌≡◌, ℕ, ◌+◌, ◌<◌, ◌≤◌, inl, inr, List, [], ◌∷◌, ◌++◌, map, length, take, drop, Option, Some, refl, sym, ap, ◌∙◌, subst, arith, append_assoc, append-nil, zero, suc, take-append-drop}
 use Rattle.std.specs.Prelude.{All, Contains, slice_get}
 use Rattle.std.proofs.lemmas.Bool.{lt-ltb}
-use Rattle.std.proofs.lemmas.List.{drop_more, drop_all}
+use Rattle.std.proofs.lemmas.List.{drop_all}
 use Rattle.std.proofs.lemmas.List.Concat.{flat_map-append}
 use Rattle.std.proofs.lemmas.List.Elements.{All-contains, All-drop, Contains-append_right}
 use Rattle.sink_buffer.specs.declared.buffer.PutErr.{PutErr}
@@ -18,13 +18,14 @@ use Rattle.pb_file.proofs.Lines.{all_front}
 use Rattle.store_manifest.specs.declared.entry.Entry.{Entry}
 use Rattle.pv_catalog.specs.declared.row.Row.{Row}
 use Rattle.tier_store.specs.Held.{Filed, IsFiled, entry_of}
-use Rattle.store_retrieval.specs.declared.retrieval.Got.{Got}
-use Rattle.store_retrieval.specs.declared.retrieval.Got.TheVariants.{Done, NoSuchVariable, SinkFault, DiskFault, ReadFault, Damaged, OutOfMemory}
+use Rattle.store_retrieval.specs.declared.answer.Flow.{Flow}
+use Rattle.store_retrieval.specs.declared.answer.Flow.TheVariants.{GoOn, Enough}
 use Rattle.store_retrieval.specs.Raw.{HasYear}
-use Rattle.store_retrieval.specs.Answer.{Answering, Covers, IsPast}
-use Rattle.store_retrieval.specs.File.{HasEnough, BreaksIn}
-use Rattle.store_retrieval.specs.Listed.{IsFirstFile, StandFor, HasAll, BreaksOff, ReadsListed, ReadsAll}
-use Rattle.store_retrieval.proofs.Series.{samples_in, AreOwn, samples_rise, samples_years}
+use Rattle.store_retrieval.specs.Answer.{Answering, IsPast}
+use Rattle.store_retrieval.specs.File.{HasRead, BreaksIn}
+use Rattle.store_retrieval.specs.Listed.{IsFirstFile, StandFor, HasAll, BreaksOff, GoesOn, ReadsOn, samples_in}
+use Rattle.store_retrieval.proofs.Knowing.{covers_breaks}
+use Rattle.store_retrieval.proofs.Series.{AreOwn, samples_rise, samples_years}
 
 -- RISING LISTS
 
@@ -56,9 +57,6 @@ behind_stands q xs rest all first others is st from to =
 
 -- THE ROW'S FILES BY THEIR PLACES
 
-pub drop_at_file : (fs : List Filed) (at : ℕ) (d : Filed) → at < length fs → samples_in (drop at fs) ≡ (get_or fs at d).samples ++ samples_in (drop (at + 1) fs)
-drop_at_file fs at d low = ap samples_in (drop_more fs at d low)
-
 -- the file of an entry's place
 pub file_of_place : (fs : List Filed) (at : ℕ) (e : Entry) → slice_get (map entry_of fs) at ≡ Some e → (f : Filed) × (rest : List Filed) × (drop at fs ≡ f ∷ rest) × (drop (at + 1) fs ≡ rest) × (f.entry ≡ e) × Contains fs f
 file_of_place [] at e is = absurd (cc)
@@ -81,10 +79,10 @@ pub first_stands : (q : Query) (g : Granularity) (rows : List Row) (id : ℕ) (f
 first_stands q g rows id fs place own (inl zero_place) =
     let P : ℕ → Type 0 = λ n. StandFor q (samples_in (drop n fs)) (samples_in fs) in
     subst P (sym zero_place) (record { rising = samples_rise g rows id fs own; years = samples_years g rows fs own.filed; same = refl })
-first_stands q g rows id fs place own (inr (e, here, low)) =
-    let f = file_of_place fs place e here in
+first_stands q g rows id fs place own (inr begins) =
+    let f = file_of_place fs place begins.entry begins.here in
     let is = All-contains (IsFiled g rows) fs f.0 own.filed f.5 in
-    let early : f.0.entry.first < q.from = (let E : Entry → Type 0 = λ x. x.first < q.from in subst E (sym f.4) low) in
+    let early : f.0.entry.first < q.from = (let E : Entry → Type 0 = λ x. x.first < q.from in subst E (sym f.4) begins.earlier) in
     let front = samples_in (take place fs) in
     let rest = samples_in (drop place fs) in
     let whole : front ++ rest ≡ samples_in fs = sym (flat_map-append (λ (h : Filed). h.samples) (take place fs) (drop place fs)) ∙ ap samples_in (take-append-drop place fs) in
@@ -114,77 +112,53 @@ all_read q fs xs all at le st =
 
 -- FILE BY FILE
 
--- the answer has samples, behind which those of the files from this place on stand for all
-pub record ReadsOn (row : Row) (q : Query) (a b : Option (List ℕ)) (s : Answering) (fs : List Filed) (at : ℕ) (all : List Sample) : Type 0 where
-  pub samples : List Sample
-  pub stand : StandFor q (samples ++ samples_in (drop at fs)) all
-  pub covers : Covers row a b s samples
-
 -- the place's file, and the samples behind it
-pub record IsAt (row : Row) (q : Query) (fs : List Filed) (at : ℕ) (e : Entry) (xs all : List Sample) : Type 0 where
+pub record IsAt (q : Query) (fs : List Filed) (at : ℕ) (e : Entry) (xs : List Sample) : Type 0 where
   pub file : Filed
   pub is : file.entry ≡ e
   pub has : Contains fs file
-  pub stand : StandFor q (xs ++ (file.samples ++ samples_in (drop (at + 1) fs))) all
+  pub stand : StandFor q (xs ++ (file.samples ++ samples_in (drop (at + 1) fs))) (samples_in fs)
   pub rising : IsRising (xs ++ file.samples)
 
-pub at_file : (row : Row) (q : Query) (fs : List Filed) (at : ℕ) (e : Entry) (xs all : List Sample) → slice_get (map entry_of fs) at ≡ Some e → StandFor q (xs ++ samples_in (drop at fs)) all → IsAt row q fs at e xs all
-at_file row q fs at e xs all here st =
+pub at_file : (q : Query) (fs : List Filed) (at : ℕ) (e : Entry) (xs : List Sample) → slice_get (map entry_of fs) at ≡ Some e → StandFor q (xs ++ samples_in (drop at fs)) (samples_in fs) → IsAt q fs at e xs
+at_file q fs at e xs here st =
     let f = file_of_place fs at e here in
     let split : samples_in (drop at fs) ≡ f.0.samples ++ samples_in (drop (at + 1) fs) = ap samples_in f.2 ∙ ap (λ (l : List Filed). f.0.samples ++ samples_in l) (sym f.3) in
-    let P : List Sample → Type 0 = λ l. StandFor q (xs ++ l) all in
-    let stand = subst P split st in
-    let R : List Sample → Type 0 = λ l. IsRising l in
+    let stand = subst (λ (l : List Sample). StandFor q (xs ++ l) (samples_in fs)) split st in
     record {
       file = f.0;
       is = f.4;
       has = f.5;
       stand = stand;
-      rising = RisesFrom-front 0 (xs ++ f.0.samples) (samples_in (drop (at + 1) fs)) (subst R (sym (append_assoc xs f.0.samples (samples_in (drop (at + 1) fs)))) stand.rising);
+      rising = RisesFrom-front 0 (xs ++ f.0.samples) (samples_in (drop (at + 1) fs)) (subst (λ (l : List Sample). IsRising l) (sym (append_assoc xs f.0.samples (samples_in (drop (at + 1) fs)))) stand.rising);
     }
 
-pub read_on : (row : Row) (q : Query) (a b : Option (List ℕ)) (s : Answering) (fs : List Filed) (at : ℕ) (e : Entry) (xs all : List Sample) (f : IsAt row q fs at e xs all) → Covers row a b s (xs ++ f.file.samples) → ReadsOn row q a b s fs (at + 1) all
-read_on row q a b s fs at e xs all f covers =
-    let P : List Sample → Type 0 = λ l. StandFor q l all in
-    record { samples = xs ++ f.file.samples; stand = subst P (sym (append_assoc xs f.file.samples (samples_in (drop (at + 1) fs)))) f.stand; covers = covers }
-
 -- what stands for all, where some of the file's samples were read
-pub split_stand : (q : Query) (xs file front rest behind all : List Sample) → file ≡ front ++ rest → StandFor q (xs ++ (file ++ behind)) all → StandFor q ((xs ++ front) ++ (rest ++ behind)) all
+split_stand : (q : Query) (xs file front rest behind all : List Sample) → file ≡ front ++ rest → StandFor q (xs ++ (file ++ behind)) all → StandFor q ((xs ++ front) ++ (rest ++ behind)) all
 split_stand q xs file front rest behind all is st =
     let P : List Sample → Type 0 = λ l. StandFor q l all in
     subst P (ap (λ (l : List Sample). xs ++ (l ++ behind)) is ∙ ap (λ (l : List Sample). xs ++ l) (append_assoc front rest behind) ∙ sym (append_assoc xs front (rest ++ behind))) st
 
-pub read_enough : (row : Row) (q : Query) (a b : Option (List ℕ)) (s : Answering) (fs : List Filed) (at : ℕ) (e : Entry) (xs all : List Sample) (f : IsAt row q fs at e xs all) → s.query ≡ q → HasEnough row a b s xs f.file.samples → HasAll row a b s all
-read_enough row q a b s fs at e xs all f same h =
-    let behind = samples_in (drop (at + 1) fs) in
-    let Q : Query → Type 0 = λ k. StandFor k ((xs ++ h.front) ++ (h.rest ++ behind)) all in
-    let st = subst Q (sym same) (split_stand q xs f.file.samples h.front h.rest behind all h.are f.stand) in
-    record { samples = xs ++ h.front; stand = past_stands s.query (xs ++ h.front) (h.rest ++ behind) all st h.past; covers = h.covers }
+module _ (row : Row) (a b : Option (List ℕ)) (s : Answering) (fs : List Filed) (at : ℕ) (e : Entry) where
+  pub read_ok : (xs : List Sample) (f : IsAt s.query fs at e xs) (flow : Flow) → HasRead row a b s xs f.file.samples flow → GoesOn row a b s fs at flow
+  read_ok xs f GoOn covers =
+      record { samples = xs ++ f.file.samples; stand = subst (λ (l : List Sample). StandFor s.query l (samples_in fs)) (sym (append_assoc xs f.file.samples (samples_in (drop (at + 1) fs)))) f.stand; covers = covers }
+  read_ok xs f Enough h =
+      let behind = samples_in (drop (at + 1) fs) in
+      record { samples = xs ++ h.front; stand = past_stands s.query (xs ++ h.front) (h.rest ++ behind) (samples_in fs) (split_stand s.query xs f.file.samples h.front h.rest behind (samples_in fs) h.are f.stand) h.past; covers = h.covers }
 
-pub read_broken : (row : Row) (e : PutErr) (q : Query) (a b : Option (List ℕ)) (s : Answering) (fs : List Filed) (at : ℕ) (entry : Entry) (xs all : List Sample) (f : IsAt row q fs at entry xs all) → s.query ≡ q → BreaksIn row e a b s xs f.file.samples → BreaksOff row e a b s all
-read_broken row e q a b s fs at entry xs all f same h =
-    let behind = samples_in (drop (at + 1) fs) in
-    let Q : Query → Type 0 = λ k. StandFor k ((xs ++ h.front) ++ (h.rest ++ behind)) all in
-    record { front = xs ++ h.front; rest = h.rest ++ behind; stand = subst Q (sym same) (split_stand q xs f.file.samples h.front h.rest behind all h.are f.stand); breaks = h.breaks }
+  pub read_broken : (xs : List Sample) (f : IsAt s.query fs at e xs) (p : PutErr) → BreaksIn row p a b s xs f.file.samples → BreaksOff row p a b s (samples_in fs)
+  read_broken xs f p h =
+      let behind = samples_in (drop (at + 1) fs) in
+      record { front = xs ++ h.front; rest = h.rest ++ behind; stand = split_stand s.query xs f.file.samples h.front h.rest behind (samples_in fs) h.are f.stand; breaks = h.breaks }
 
--- an error of one file is one of all
-pub broken_all : {R : Type 0} (row : Row) (q : Query) (a b : Option (List ℕ)) (s : Answering) (fs : List Filed) (at : ℕ) (entry : Entry) (xs all : List Sample) (got : Got R) (f : IsAt row q fs at entry xs all) → s.query ≡ q → ReadsListed {R = R} row a b s xs f.file.samples (Err got) → ReadsAll {R = R} row a b s all (Err got)
-broken_all row q a b s fs at entry xs all Done f same h = h
-broken_all row q a b s fs at entry xs all NoSuchVariable f same h = h
-broken_all row q a b s fs at entry xs all (Damaged name place) f same h = h
-broken_all row q a b s fs at entry xs all SinkFault f same h = read_broken row put.SinkFault q a b s fs at entry xs all f same h
-broken_all row q a b s fs at entry xs all DiskFault f same h = read_broken row put.Memory q a b s fs at entry xs all f same h
-broken_all row q a b s fs at entry xs all (ReadFault file) f same h = read_broken row put.Memory q a b s fs at entry xs all f same h
-broken_all row q a b s fs at entry xs all OutOfMemory f same h = read_broken row put.Memory q a b s fs at entry xs all f same h
+  -- THE ENDS
 
--- THE ENDS
+  pub ends_before : (g : Granularity) (rows : List Row) → All (IsFiled g rows) fs → slice_get (map entry_of fs) at ≡ Some e → ReadsOn row a b s fs at → (s.query.from ≤ e.first) × (s.query.to < e.first) → HasAll row a b s (samples_in fs)
+  ends_before g rows filed here r past = record { samples = r.samples; stand = past_file s.query g rows fs r.samples (samples_in fs) at e filed here r.stand past.0 past.1; covers = r.covers }
 
-pub ends_before : (row : Row) (q : Query) (g : Granularity) (rows : List Row) (a b : Option (List ℕ)) (s : Answering) (fs : List Filed) (at : ℕ) (e : Entry) (all : List Sample) → s.query ≡ q → All (IsFiled g rows) fs → slice_get (map entry_of fs) at ≡ Some e → ReadsOn row q a b s fs at all → q.from ≤ e.first → q.to < e.first → HasAll row a b s all
-ends_before row q g rows a b s fs at e all same filed here r from to =
-    let P : Query → Type 0 = λ k. StandFor k r.samples all in
-    record { samples = r.samples; stand = subst P (sym same) (past_file q g rows fs r.samples all at e filed here r.stand from to); covers = r.covers }
+pub ends_behind : (row : Row) (a b : Option (List ℕ)) (s : Answering) (fs : List Filed) (at : ℕ) → length fs ≤ at → ReadsOn row a b s fs at → HasAll row a b s (samples_in fs)
+ends_behind row a b s fs at le r = record { samples = r.samples; stand = all_read s.query fs r.samples (samples_in fs) at le r.stand; covers = r.covers }
 
-pub ends_behind : (row : Row) (q : Query) (a b : Option (List ℕ)) (s : Answering) (fs : List Filed) (at : ℕ) (all : List Sample) → s.query ≡ q → length fs ≤ at → ReadsOn row q a b s fs at all → HasAll row a b s all
-ends_behind row q a b s fs at all same le r =
-    let P : Query → Type 0 = λ k. StandFor k r.samples all in
-    record { samples = r.samples; stand = subst P (sym same) (all_read q fs r.samples all at le r.stand); covers = r.covers }
+pub ends_broken : (row : Row) (a b : Option (List ℕ)) (s : Answering) (fs : List Filed) (at : ℕ) → ReadsOn row a b s fs at → BreaksOff row put.Memory a b s (samples_in fs)
+ends_broken row a b s fs at r = record { front = r.samples; rest = samples_in (drop at fs); stand = r.stand; breaks = covers_breaks row a b s r.samples r.covers }

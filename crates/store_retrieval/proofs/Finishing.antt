@@ -1,5 +1,6 @@
 -- The whole text of an answer, and fronts of it.
-use Rattle.std.proofs.Common.{◌≡◌, ℕ, ℤ, List, [], ◌++◌, Option, None, Result, Ok, Err, refl, sym, ap, ◌∙◌, subst, append-nil}
+use Rattle.std.proofs.Common.{◌≡◌, ℕ, ℤ, List, [], ◌++◌, Option, None, Some, Result, Ok, Err, refl, sym, ◌∙◌, subst, append-nil}
+use Rattle.std.specs.Prelude.{IsSomeAnd}
 use Rattle.std.specs.Io.KnownBytes.{Appends}
 use Rattle.edge_io.specs.Stream.{AppendsFront}
 use Rattle.sink_buffer.specs.declared.buffer.PutErr.{PutErr}
@@ -9,23 +10,19 @@ use Rattle.series_model.specs.declared.sample.Query.{Query}
 use Rattle.series_model.specs.Retrieval.{answer}
 use Rattle.pv_catalog.specs.declared.row.Row.{Row}
 use Rattle.tier_store.specs.Held.{Held, samples_of}
-use Rattle.store_retrieval.specs.declared.retrieval.Got.{Got}
-use Rattle.store_retrieval.specs.declared.retrieval.Got.TheVariants.{Done, NoSuchVariable, SinkFault, DiskFault, ReadFault, Damaged, OutOfMemory}
+use Rattle.store_retrieval.specs.declared.retrieval.GetErr.{GetErr}
+use Rattle.store_retrieval.specs.declared.retrieval.GetErr.TheVariants.{NoSuchVariable, SinkFault, DiskFault, ReadFault, Damaged, OutOfMemory}
 use Rattle.store_retrieval.specs.Raw.{IsRaw, IsNearestYear}
 use Rattle.store_retrieval.specs.Text.{SentBy, IsWritten, IsOpening}
-use Rattle.store_retrieval.specs.Answer.{Answering, IsKnown, Finishes}
-use Rattle.store_retrieval.specs.Listed.{BreaksOff, ReadsAll, Comes, IsSentAs}
-use Rattle.store_retrieval.specs.Get.{IsAnswer, Writes}
+use Rattle.store_retrieval.specs.Answer.{Answering, Finishes}
+use Rattle.store_retrieval.specs.Listed.{BreaksOff, Comes, IsSentAs, TextBecomes, err_of_put, text_err}
+use Rattle.store_retrieval.specs.Get.{Answers, IsAnswer, Writes}
 use Rattle.sink_buffer.proofs.Sending.{all_out, front_out}
 use Rattle.store_retrieval.proofs.Sending.{sent_then, sent_more, some_out}
 use Rattle.store_retrieval.proofs.Texts.{raw_front, raw_begun, raw_alone}
 use Rattle.store_retrieval.proofs.Knowing.{known_front, years_more}
 
 -- THE END
-
--- once all was given, the answer is what was given
-pub all_given : (q : Query) (xs given back : List Sample) → IsKnown q xs given back → back ≡ [] → answer xs q ≡ given
-all_given q xs given back k none = k.split ∙ ap (λ (l : List Sample). given ++ l) none ∙ append-nil given
 
 finish_by : (row : Row) (q : Query) (a b : Option (List ℕ)) (left : List ℕ) (xs given : List Sample) (bytes : List ℕ) (r : Result Unit PutErr) → answer xs q ≡ given → IsRaw row q.from given bytes → SentBy r a b bytes left → Finishes row q a b left xs r
 finish_by row q a b left xs given bytes r is raw sent = record { bytes = bytes; raw = let P : List Sample → Type 0 = λ l. IsRaw row q.from l bytes in subst P (sym is) raw; sent = sent }
@@ -53,66 +50,70 @@ finish_broken row q nearest a b left xs given year e is near w =
 -- WHERE IT BROKE OFF
 
 -- what went out is a front of the raw text of the whole answer
-pub broken_text : (row : Row) (e : PutErr) (a b : Option (List ℕ)) (s : Answering) (all : List Sample) → IsNearestYear s.nearest s.query.from → BreaksOff row e a b s all → (text : List ℕ) × IsRaw row s.query.from (answer all s.query) text × SentBy {X = Unit} (Err e) a b text s.text.gathered
+broken_text : (row : Row) (e : PutErr) (a b : Option (List ℕ)) (s : Answering) (all : List Sample) → IsNearestYear s.nearest s.query.from → BreaksOff row e a b s all → Finishes row s.query a b s.text.gathered all (Err e)
 broken_text row e a b s all near off =
     let br = off.breaks in
     let k = known_front s.query off.front off.rest br.given br.back br.known off.stand.rising in
     let years = years_more (off.front ++ off.rest) br.given k.0 s.query off.stand.years k.1 in
     let whole = raw_front row s.query.from s.nearest br.given k.0 br.year br.written.bytes br.written.text years near in
     let P : List Sample → Type 0 = λ l. IsRaw row s.query.from l (br.written.bytes ++ whole.0) in
-    (br.written.bytes ++ whole.0, subst P (sym k.1 ∙ off.stand.same) whole.1, sent_more Unit e a b br.written.bytes whole.0 s.text.gathered br.written.sent)
+    record { bytes = br.written.bytes ++ whole.0; raw = subst P (sym k.1 ∙ off.stand.same) whole.1; sent = sent_more Unit e a b br.written.bytes whole.0 s.text.gathered br.written.sent }
 
-pub comes_broken : {R : Type 0} (row : Row) (a b : Option (List ℕ)) (s : Answering) (all : List Sample) (got : Got R) → IsNearestYear s.nearest s.query.from → ReadsAll {R = R} row a b s all (Err got) → Comes {R = R} row s.query a b s.text.gathered all got
-comes_broken row a b s all Done near h = absurd h
-comes_broken row a b s all NoSuchVariable near h = absurd h
-comes_broken row a b s all (Damaged name at) near h = absurd h
-comes_broken row a b s all SinkFault near h = broken_text row put.SinkFault a b s all near h
-comes_broken row a b s all DiskFault near h = broken_text row put.Memory a b s all near h
-comes_broken row a b s all (ReadFault file) near h = broken_text row put.Memory a b s all near h
-comes_broken row a b s all OutOfMemory near h = broken_text row put.Memory a b s all near h
+-- what follows from each error's part in the text
+pub some_and : (o : Option PutErr) (P Q : PutErr → Type 0) → ((p : PutErr) → P p → Q p) → IsSomeAnd o P → IsSomeAnd o Q
+some_and None P Q step h = h
+some_and (Some p) P Q step h = step p h
+
+pub comes_broken : {R : Type 0} (row : Row) (a b : Option (List ℕ)) (s : Answering) (all : List Sample) (e : GetErr R) → IsNearestYear s.nearest s.query.from → IsSomeAnd (text_err e) (λ p. BreaksOff row p a b s all) → Comes {R = R} row s.query a b s.text.gathered all (Err e)
+comes_broken row a b s all e near h = some_and (text_err e) _ _ (λ p off. broken_text row p a b s all near off) h
 
 -- the end of samples that stand for all is that of all
-pub comes_stand : {R : Type 0} (row : Row) (q : Query) (a b : Option (List ℕ)) (left : List ℕ) (xs all : List Sample) (got : Got R) → answer xs q ≡ answer all q → Comes {R = R} row q a b left xs got → Comes {R = R} row q a b left all got
-comes_stand row q a b left xs all NoSuchVariable same h = h
-comes_stand row q a b left xs all (Damaged name at) same h = h
-comes_stand row q a b left xs all Done same h = let P : List Sample → Type 0 = λ l. IsRaw row q.from l h.0 in (h.0, subst P same h.1, h.2)
-comes_stand row q a b left xs all SinkFault same h = let P : List Sample → Type 0 = λ l. IsRaw row q.from l h.0 in (h.0, subst P same h.1, h.2)
-comes_stand row q a b left xs all DiskFault same h = let P : List Sample → Type 0 = λ l. IsRaw row q.from l h.0 in (h.0, subst P same h.1, h.2)
-comes_stand row q a b left xs all (ReadFault file) same h = let P : List Sample → Type 0 = λ l. IsRaw row q.from l h.0 in (h.0, subst P same h.1, h.2)
-comes_stand row q a b left xs all OutOfMemory same h = let P : List Sample → Type 0 = λ l. IsRaw row q.from l h.0 in (h.0, subst P same h.1, h.2)
+pub finishes_all : (row : Row) (q : Query) (a b : Option (List ℕ)) (left : List ℕ) (xs all : List Sample) (r : Result Unit PutErr) → answer xs q ≡ answer all q → Finishes row q a b left xs r → Finishes row q a b left all r
+finishes_all row q a b left xs all r same h = record { bytes = h.bytes; raw = subst (λ (l : List Sample). IsRaw row q.from l h.bytes) same h.raw; sent = h.sent }
+
+-- the end of the text is that of the retrieval
+pub put_comes : (R : Type 0) (row : Row) (q : Query) (a b : Option (List ℕ)) (left : List ℕ) (all : List Sample) (p : PutErr) → Finishes row q a b left all (Err p) → Comes {R = R} row q a b left all (Err (err_of_put p))
+put_comes R row q a b left all put.Memory h = h
+put_comes R row q a b left all put.SinkFault h = h
 
 -- ONCE WHAT IS GATHERED WENT OUT
 
-pub sent_as : {R : Type 0} (row : Row) (q : Query) (a b c : Option (List ℕ)) (left : List ℕ) (all : List Sample) (got : Got R) → (got ≡ SinkFault → ⊥) → Comes {R = R} row q a b left all got → Appends b c left → AppendsFront b c left → IsSentAs {R = R} row q a c all got
-sent_as row q a b c left all Done other h out front = (h.0, h.1, all_out a b c h.0 left h.2 out)
-sent_as row q a b c left all NoSuchVariable other h out front = h
-sent_as row q a b c left all (Damaged name at) other h out front = h
-sent_as row q a b c left all SinkFault other h out front = absurd (other refl)
-sent_as row q a b c left all DiskFault other h out front = (h.0, h.1, some_out a b c h.0 left h.2 front)
-sent_as row q a b c left all (ReadFault file) other h out front = (h.0, h.1, some_out a b c h.0 left h.2 front)
-sent_as row q a b c left all OutOfMemory other h out front = (h.0, h.1, some_out a b c h.0 left h.2 front)
+pub all_sent : (row : Row) (q : Query) (a b c : Option (List ℕ)) (left : List ℕ) (all : List Sample) → Finishes row q a b left all (Ok tt) → Appends b c left → TextBecomes row q all (Appends a c)
+all_sent row q a b c left all h out = record { text = h.bytes; raw = h.raw; written = all_out a b c h.bytes left h.sent out }
 
--- the last write failed
-pub sent_part : {R : Type 0} (row : Row) (q : Query) (a b c : Option (List ℕ)) (left : List ℕ) (all : List Sample) (got : Got R) → (got ≡ SinkFault → ⊥) → Comes {R = R} row q a b left all got → AppendsFront b c left → IsSentAs {R = R} row q a c all SinkFault
-sent_part row q a b c left all Done other h front = (h.0, h.1, front_out a b c h.0 left h.2 front)
-sent_part row q a b c left all NoSuchVariable other h front = absurd h
-sent_part row q a b c left all (Damaged name at) other h front = absurd h
-sent_part row q a b c left all SinkFault other h front = absurd (other refl)
-sent_part row q a b c left all DiskFault other h front = (h.0, h.1, some_out a b c h.0 left h.2 front)
-sent_part row q a b c left all (ReadFault file) other h front = (h.0, h.1, some_out a b c h.0 left h.2 front)
-sent_part row q a b c left all OutOfMemory other h front = (h.0, h.1, some_out a b c h.0 left h.2 front)
+pub part_sent : (row : Row) (q : Query) (a b c : Option (List ℕ)) (left : List ℕ) (all : List Sample) → Finishes row q a b left all (Ok tt) → AppendsFront b c left → TextBecomes row q all (AppendsFront a c)
+part_sent row q a b c left all h front = record { text = h.bytes; raw = h.raw; written = front_out a b c h.bytes left h.sent front }
 
-pub sent_failed : {R : Type 0} (row : Row) (q : Query) (a b : Option (List ℕ)) (left : List ℕ) (all : List Sample) (got : Got R) → got ≡ SinkFault → Comes {R = R} row q a b left all got → IsSentAs {R = R} row q a b all got
-sent_failed {R} row q a b left all got is h =
-    let P : Got R → Type 0 = λ g. Comes {R = R} row q a b left all g in
-    let Q : Got R → Type 0 = λ g. IsSentAs {R = R} row q a b all g in
-    subst Q (sym is) (subst P is h)
+-- where a write failed before, nothing more was written
+pub failed_sent : (row : Row) (q : Query) (a b : Option (List ℕ)) (left : List ℕ) (all : List Sample) → Finishes row q a b left all (Err put.SinkFault) → TextBecomes row q all (AppendsFront a b)
+failed_sent row q a b left all h = record { text = h.bytes; raw = h.raw; written = h.sent }
 
-pub writes_of : {R : Type 0} (held : Held) (name : List ℕ) (q : Query) (a b : Option (List ℕ)) (got : Got R) (id : ℕ) (row : Row) → ((text : List ℕ) → IsRaw row q.from (answer (samples_of id held.files) q) text → IsAnswer held name q text) → IsSentAs {R = R} row q a b (samples_of id held.files) got → Writes {R = R} held name q a b got
-writes_of held name q a b Done id row is h = (h.0, is h.0 h.1, h.2)
-writes_of held name q a b NoSuchVariable id row is h = absurd h
-writes_of held name q a b (Damaged file at) id row is h = h
-writes_of held name q a b SinkFault id row is h = (h.0, is h.0 h.1, h.2)
-writes_of held name q a b DiskFault id row is h = (h.0, is h.0 h.1, h.2)
-writes_of held name q a b (ReadFault file) id row is h = (h.0, is h.0 h.1, h.2)
-writes_of held name q a b OutOfMemory id row is h = (h.0, is h.0 h.1, h.2)
+-- where it broke off for another reason, a front of what is gathered went out
+pub broken_sent : {R : Type 0} (row : Row) (q : Query) (a b c : Option (List ℕ)) (left : List ℕ) (all : List Sample) (e : GetErr R) → (e ≡ SinkFault → ⊥) → AppendsFront b c left → IsSomeAnd (text_err e) (λ p. Finishes row q a b left all (Err p)) → IsSomeAnd (text_err e) (λ p. TextBecomes row q all (AppendsFront a c))
+broken_sent {R} row q a b c left all e other front h = by_err e other h
+  where
+    some : Finishes row q a b left all (Err put.Memory) → TextBecomes row q all (AppendsFront a c)
+    some f = record { text = f.bytes; raw = f.raw; written = some_out a b c f.bytes left f.sent front }
+
+    by_err : (e : GetErr R) → (e ≡ SinkFault → ⊥) → IsSomeAnd (text_err e) (λ p. Finishes row q a b left all (Err p)) → IsSomeAnd (text_err e) (λ p. TextBecomes row q all (AppendsFront a c))
+    by_err NoSuchVariable other h = h
+    by_err (Damaged name at) other h = h
+    by_err SinkFault other h = absurd (other refl)
+    by_err DiskFault other h = some h
+    by_err (ReadFault file) other h = some h
+    by_err OutOfMemory other h = some h
+
+-- and in the write at the end
+pub last_sent : {R : Type 0} (row : Row) (q : Query) (a c : Option (List ℕ)) (all : List Sample) (e : GetErr R) → IsSomeAnd (text_err e) (λ p. TextBecomes row q all (AppendsFront a c)) → TextBecomes row q all (AppendsFront a c)
+last_sent row q a c all NoSuchVariable h = absurd h
+last_sent row q a c all (Damaged name at) h = absurd h
+last_sent row q a c all SinkFault h = h
+last_sent row q a c all DiskFault h = h
+last_sent row q a c all (ReadFault file) h = h
+last_sent row q a c all OutOfMemory h = h
+
+pub writes_of : {R : Type 0} (held : Held) (name : List ℕ) (q : Query) (a b : Option (List ℕ)) (r : Result Unit (GetErr R)) (id : ℕ) (row : Row) → ((text : List ℕ) → IsRaw row q.from (answer (samples_of id held.files) q) text → IsAnswer held name q text) → IsSentAs {R = R} row q a b (samples_of id held.files) r → Writes {R = R} held name q a b r
+writes_of held name q a b (Ok done) id row is h = record { text = h.text; is = is h.text h.raw; written = h.written }
+writes_of held name q a b (Err NoSuchVariable) id row is h = absurd h
+writes_of held name q a b (Err e) id row is h =
+    some_and (text_err e) (λ (p : PutErr). TextBecomes row q (samples_of id held.files) (AppendsFront a b)) (λ (p : PutErr). Answers held name q (AppendsFront a b)) (λ p sent. record { text = sent.text; is = is sent.text sent.raw; written = sent.written }) h

@@ -8,3 +8,4 @@ pub mod Reading
 pub mod Series
 pub mod Choosing
 pub mod Listing
+pub mod Leaving

@@ -102,7 +102,7 @@ is_next row year old new bytes line t a b s earlier samples st walks len =
     let Y : ℤ → Type 0 = λ y. IsOfYear y x in
     record {
       rising = subst P (sym (append_assoc earlier f.samples (x ∷ []))) (RisesFrom-front 0 (earlier ++ (f.samples ++ x ∷ [])) front.more all);
-      of_year = subst Y st.of_year (record { sample_year = one.meant.sample_year; moment = (one.meant.secs, one.meant.nano, one.meant.in_year, one.meant.at) });
+      of_year = subst Y st.of_year (record { sample_year = one.meant.sample_year; moment = record { secs = one.meant.secs; nano = one.meant.nano; in_year = one.meant.in_year; at = one.meant.at } });
       more = front.more;
       are = front.are;
     }
@@ -184,14 +184,6 @@ foreign_of row bytes line info w len at (Err st) h same is told =
 
     place_of : (m n : ℕ) → stop.Damaged m ≡ stop.Damaged n → m ≡ n
     place_of m n is = cc
-
--- a header leads to no other stop
-pub no_other_stop : (row : Row) (info : PayloadInfo) (r : Result ℤ Stop) (st : Stop) → IsYearOf row info r → r ≡ Err st → ((at : ℕ) → st ≡ stop.Damaged at → ⊥) → ⊥
-no_other_stop row info (Ok year) st is told other = cc
-no_other_stop row info (Err x) st is told other = other 0 (sym (err_of x st told) ∙ is.1)
-  where
-    err_of : (x y : Stop) → ◌≡◌ {A = Result ℤ Stop} (Err x) (Err y) → x ≡ y
-    err_of x y is = cc
 
 pub same_place : {X : Type 0} (m n : ℕ) → ◌≡◌ {A = Result X Stop} (Err (stop.Damaged m)) (Err (stop.Damaged n)) → m ≡ n
 same_place m n is = cc

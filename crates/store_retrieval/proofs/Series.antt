@@ -1,7 +1,7 @@
 -- The samples of a row, as its files have them: they rise, and each has its year.
 use Rattle.std.proofs.Common.{◌≡◌, ℕ, ℤ, ◌+◌, ◌<◌, ◌≤◌, inl, inr, List, [], ◌∷◌, map, Bool, true, false, cond, Some, refl, sym, ap, ◌∙◌, arith}
 use Rattle.std.specs.Prelude.{All, Contains, filter, nat_eq}
-use Rattle.std.specs.List.{flat_map, AllByRecursion}
+use Rattle.std.specs.List.{AllByRecursion}
 use Rattle.std.proofs.lemmas.Bool.{cases_lt}
 use Rattle.std.proofs.lemmas.Bool.Decides.{nat_tests, Decides-eqb}
 use Rattle.std.proofs.lemmas.Option.{same_Some}
@@ -22,14 +22,9 @@ use Rattle.pv_catalog.specs.declared.row.Row.{Row}
 use Rattle.tier_store.specs.Held.{Filed, IsFiled, filed_at, entry_of}
 use Rattle.tier_store.specs.Flush.{PlacesRise, file_at}
 use Rattle.tier_store.proofs.Listed.{found}
-use Rattle.tier_store.proofs.Places.{Comes}
+use Rattle.tier_store.proofs.PutFile.{Comes}
 use Rattle.store_retrieval.specs.Raw.{HasYear}
-
-abbrev pub of_row : ℕ → List Filed → List Filed
-of_row id files = filter (λ (f : Filed). nat_eq f.entry.series id) files
-
-abbrev pub samples_in : List Filed → List Sample
-samples_in fs = flat_map (λ (f : Filed). f.samples) fs
+use Rattle.store_retrieval.specs.Listed.{own_files, samples_in}
 
 -- THE ROW'S FILES
 
@@ -47,15 +42,15 @@ pub record AreOwn (g : Granularity) (rows : List Row) (id : ℕ) (fs : List File
   pub rise : PlacesRise fs
   pub own : AllByRecursion (λ (f : Filed). f.entry.series ≡ id) fs
 
-own_series : (id : ℕ) (xs : List Filed) → AllByRecursion (λ (f : Filed). f.entry.series ≡ id) (of_row id xs)
+own_series : (id : ℕ) (xs : List Filed) → AllByRecursion (λ (f : Filed). f.entry.series ≡ id) (own_files id xs)
 own_series id [] = tt
 own_series id (x ∷ xs) = by_test (nat_eq x.entry.series id) refl (own_series id xs)
   where
-    by_test : (b : Bool) → nat_eq x.entry.series id ≡ b → AllByRecursion (λ (f : Filed). f.entry.series ≡ id) (of_row id xs) → AllByRecursion (λ (f : Filed). f.entry.series ≡ id) (cond b (x ∷ of_row id xs) (of_row id xs))
+    by_test : (b : Bool) → nat_eq x.entry.series id ≡ b → AllByRecursion (λ (f : Filed). f.entry.series ≡ id) (own_files id xs) → AllByRecursion (λ (f : Filed). f.entry.series ≡ id) (cond b (x ∷ own_files id xs) (own_files id xs))
     by_test true is rest = ((Decides-eqb x.entry.series id).0 is, rest)
     by_test false is rest = rest
 
-pub are_own : (g : Granularity) (rows : List Row) (id : ℕ) (files : List Filed) → All (IsFiled g rows) files → PlacesRise files → AreOwn g rows id (of_row id files)
+pub are_own : (g : Granularity) (rows : List Row) (id : ℕ) (files : List Filed) → All (IsFiled g rows) files → PlacesRise files → AreOwn g rows id (own_files id files)
 are_own g rows id files filed rise = record {
   filed = All-filter (λ (f : Filed). nat_eq f.entry.series id) (IsFiled g rows) files filed;
   rise = rise_filter (λ (f : Filed). nat_eq f.entry.series id) files rise;
@@ -125,7 +120,7 @@ samples_rise g rows id fs own = rises_from g rows id 0 fs own.filed own.rise own
 
 years_of : (ty : PayloadType) (year : ℤ) (xs : List Sample) → AreSamples ty year xs → AllByRecursion HasYear xs
 years_of ty year [] are = tt
-years_of ty year (x ∷ xs) are = let m = are.0.meant in ((year, m.sample_year, (m.secs, m.nano, m.in_year, m.at)), years_of ty year xs are.1)
+years_of ty year (x ∷ xs) are = let m = are.0.meant in (record { year = year; sample_year = m.sample_year; moment = record { secs = m.secs; nano = m.nano; in_year = m.in_year; at = m.at } }, years_of ty year xs are.1)
 
 pub samples_years : (g : Granularity) (rows : List Row) (fs : List Filed) → All (IsFiled g rows) fs → AllByRecursion HasYear (samples_in fs)
 samples_years g rows [] filed = tt
@@ -135,14 +130,14 @@ samples_years g rows (f ∷ fs) filed =
 
 -- ENTRIES AND FILES
 
-pub map_filter : (id : ℕ) (fs : List Filed) → filter (λ (e : Entry). nat_eq e.series id) (map entry_of fs) ≡ map entry_of (of_row id fs)
+pub map_filter : (id : ℕ) (fs : List Filed) → filter (λ (e : Entry). nat_eq e.series id) (map entry_of fs) ≡ map entry_of (own_files id fs)
 map_filter id [] = refl
 map_filter id (f ∷ fs) = by_test (nat_eq f.entry.series id) (map_filter id fs)
   where
     left : List Entry
     left = filter (λ (e : Entry). nat_eq e.series id) (map entry_of fs)
 
-    by_test : (b : Bool) → left ≡ map entry_of (of_row id fs) → cond b (f.entry ∷ left) left ≡ map entry_of (cond b (f ∷ of_row id fs) (of_row id fs))
+    by_test : (b : Bool) → left ≡ map entry_of (own_files id fs) → cond b (f.entry ∷ left) left ≡ map entry_of (cond b (f ∷ own_files id fs) (own_files id fs))
     by_test true rest = ap (λ (l : List Entry). f.entry ∷ l) rest
     by_test false rest = rest
 

@@ -10,7 +10,7 @@ use Rattle.series_model.specs.Series.{IsRising}
 use Rattle.pv_catalog.specs.declared.row.Row.{Row}
 use Rattle.store_retrieval.specs.declared.answer.Flow.{Flow}
 use Rattle.store_retrieval.specs.Text.{Writing, IsOfYear, IsWritten}
-use Rattle.store_retrieval.specs.Answer.{Answering, IsHeld, Covers, Breaks, Takes, IsPast, Finishes}
+use Rattle.store_retrieval.specs.Answer.{Answering, HoldsBack, IsHeld, Covers, Breaks, Takes, IsPast, Finishes}
 use Rattle.store_retrieval.proofs.Sending.{sent_yet, sent_at}
 use Rattle.store_retrieval.proofs.Texts.{written_named}
 use Rattle.store_retrieval.proofs.Knowing.{known_hold, known_within, known_later, known_reached, past_of}
@@ -20,7 +20,7 @@ use Rattle.store_retrieval.proofs.Knowing.{known_hold, known_within, known_later
 pub covers_hold : (row : Row) (a b : Option (List ℕ)) (s new : Answering) (xs : List Sample) (x : Sample) (year : ℤ) → Covers row a b s xs → IsRising (xs ++ x ∷ []) → x.t < s.query.from → IsOfYear year x → new ≡ record s { held = Some year; line = x.line } → Covers row a b new (xs ++ x ∷ [])
 covers_hold row a b s new xs x year c rising low of_year is =
     let P : Answering → Type 0 = λ n. Covers row a b n (xs ++ x ∷ []) in
-    subst P (sym is) (record { given = c.given; back = x ∷ []; known = known_hold s.query xs c.given c.back x c.known rising low; held = (x.t, refl, of_year); written = c.written })
+    subst P (sym is) (record { given = c.given; back = x ∷ []; known = known_hold s.query xs c.given c.back x c.known rising low; held = record { t = x.t; is = refl; of_year = of_year }; written = c.written })
 
 pub broke_hold : (row : Row) (a b : Option (List ℕ)) (s new : Answering) (xs : List Sample) (x : Sample) → Covers row a b s xs → IsRising (xs ++ x ∷ []) → x.t < s.query.from → new.query ≡ s.query → new.text ≡ s.text → Breaks row Memory a b new (xs ++ x ∷ [])
 broke_hold row a b s new xs x c rising low query text =
@@ -110,11 +110,11 @@ given_held row a b c given back s i line year shown left r same is back_year nam
     let one : IsHeld i.held i.line back = subst H (sym same) held in
     let O : Option ℤ → Type 0 = λ o. IsHeld o i.line back in
     let two : IsHeld (Some year) i.line back = subst O is one in
-    let L : List ℕ → Type 0 = λ l. (t : ℕ) × (back ≡ record { t = t; line = l } ∷ []) × IsOfYear year (record { t = t; line = l }) in
+    let L : List ℕ → Type 0 = λ l. HoldsBack year l back in
     let k = subst L (sym named) two in
-    let Y : ℤ → Type 0 = λ y. IsOfYear y (record { t = k.0; line = line }) in
+    let Y : ℤ → Type 0 = λ y. IsOfYear y (record { t = k.t; line = line }) in
     let B : List Sample → Type 0 = λ l. IsWritten row (given ++ l) (Some shown) a c left r in
-    subst B (sym k.1) (give k.0 (subst Y (sym (back_year k.2.sample_year)) k.2) (subst W (sym same) w))
+    subst B (sym k.is) (give k.t (subst Y (sym (back_year k.of_year.sample_year)) k.of_year) (subst W (sym same) w))
 
 pub is_none : (o : Option ℤ) → is_some o ≡ false → o ≡ None
 is_none None h = refl

@@ -10,7 +10,7 @@ use Rattle.pv_catalog.specs.declared.row.Row.{Row}
 use Rattle.pb_file.specs.File.{lines_of}
 use Rattle.pb_file.proofs.Lines.{lines_of-append}
 use Rattle.tier_store.proofs.Lasts.{last_view}
-use Rattle.tier_store.proofs.Places.{All-front}
+use Rattle.tier_store.proofs.PutFile.{All-front}
 use Rattle.store_retrieval.specs.Raw.{Chunk, IsChunk, HasMoment, HasYear, YearsDiffer, AreCut, header_text, chunk_text, chunks_text, IsNearestYear, IsRaw}
 use Rattle.sink_buffer.specs.declared.buffer.PutErr.{PutErr}
 use Rattle.store_retrieval.specs.Text.{IsOfYear, IsText, IsOpening, IsWritten, SentBy, last_year, gap}
@@ -142,10 +142,10 @@ text_goes_on row given last bytes [] t years =
     let B : List ℕ → Type 0 = λ b. IsText row given last b in
     ([], last, subst L (sym (append-nil given)) (subst B (sym (append-nil bytes)) t))
 text_goes_on row given last bytes (s ∷ more) t years =
-    let year = years.0.0 in
+    let year = years.0.year in
     let opening = opening_of row last year in
     let piece = opening.0 ++ line_of s in
-    let step = text_more row given last bytes year s opening.0 t opening.1 (record { sample_year = years.0.1; moment = years.0.2 }) in
+    let step = text_more row given last bytes year s opening.0 t opening.1 (record { sample_year = years.0.sample_year; moment = years.0.moment }) in
     let rest = text_goes_on row (given ++ s ∷ []) (Some year) (bytes ++ piece) more step years.1 in
     let L : List Sample → Type 0 = λ l. IsText row l rest.1 (bytes ++ (piece ++ rest.0)) in
     let B : List ℕ → Type 0 = λ b. IsText row ((given ++ s ∷ []) ++ more) rest.1 b in
@@ -167,7 +167,7 @@ no_chunks (c ∷ cs) cut = absurd (first_is_some c cs (All-head IsChunk c cs cut
 raw_some : (row : Row) (from : ℕ) (samples : List Sample) (s : Sample) (rest : List Sample) (last : Option ℤ) (bytes : List ℕ) → samples ≡ s ∷ rest → IsText row samples last bytes → IsRaw row from samples bytes
 raw_some row from samples s rest last bytes is t =
     let P : List Sample → Type 0 = λ l. IsText row l last bytes → IsRaw row from l bytes in
-    subst P (sym is) (λ u. (u.chunks, u.cut, u.are)) t
+    subst P (sym is) (λ u. record { chunks = u.chunks; cut = u.cut; is = u.are }) t
 
 -- nothing was given, and so nothing put
 nothing_put : (row : Row) (last : Option ℤ) (bytes : List ℕ) → IsText row [] last bytes → (bytes ≡ []) × (last ≡ None)
@@ -175,7 +175,7 @@ nothing_put row last bytes t =
     let none = no_chunks t.chunks t.cut in (t.are ∙ ap (chunks_text row) none, t.last ∙ ap last_year none)
 
 header_alone : (row : Row) (from : ℕ) (nearest : ℤ) (bytes piece : List ℕ) → bytes ≡ [] → piece ≡ header_text row nearest → IsNearestYear nearest from → IsRaw row from [] (bytes ++ piece)
-header_alone row from nearest bytes piece none is near = (nearest, near, ap (λ (u : List ℕ). u ++ piece) none ∙ is)
+header_alone row from nearest bytes piece none is near = record { year = nearest; nearest = near; is = ap (λ (u : List ℕ). u ++ piece) none ∙ is }
 
 -- whatever samples follow, the text of those that were given is a front of the raw text of all
 pub raw_front : (row : Row) (from : ℕ) (nearest : ℤ) (given more : List Sample) (last : Option ℤ) (bytes : List ℕ) → IsText row given last bytes → AllByRecursion HasYear more → IsNearestYear nearest from → (tail : List ℕ) × IsRaw row from (given ++ more) (bytes ++ tail)

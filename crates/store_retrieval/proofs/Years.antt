@@ -27,5 +27,5 @@ early_moment y s n h at early = omega (arith, later_year (unsigned_abs y) 1991 e
 pub nearest_of : (y : ℤ) (s n t : ℕ) → IsMomentYear y → IsInYear y s n → moment y s n ≡ t → start ≤ t → IsNearestYear y t
 nearest_of y s n t h at is from = elim (cases_lt (unsigned_abs y) 1991) [
   | inl early ↦ absurd (omega (arith, early_moment y s n h at early))
-  | inr late ↦ record { sample_year = late_year y h late; nearest = inl (s, n, at, sym is) }
+  | inr late ↦ record { sample_year = late_year y h late; nearest = inl (record { secs = s; nano = n; in_year = at; at = sym is }) }
 ]

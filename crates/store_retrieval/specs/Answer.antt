@@ -19,10 +19,16 @@ pub record Answering : Type 0 where
   pub line : List ℕ
   pub text : Writing
 
--- what is held back: nothing, or a sample of this year with this line
+-- a sample of this year with this line is held back
+pub record HoldsBack (year : ℤ) (line : List ℕ) (back : List Sample) : Type 0 where
+  pub t : ℕ
+  pub is : back ≡ record { t = t; line = line } ∷ []
+  pub of_year : IsOfYear year (record { t = t; line = line })
+
+-- what is held back: nothing, or one sample
 abbrev pub IsHeld : Option ℤ → List ℕ → List Sample → Type 0
 IsHeld None line back = back ≡ []
-IsHeld (Some year) line back = (t : ℕ) × (back ≡ record { t = t; line = line } ∷ []) × IsOfYear year (record { t = t; line = line })
+IsHeld (Some year) line back = HoldsBack year line back
 
 -- The answer over these samples is what was given and what is held back. Nothing was given while all are earlier than the interval.
 pub record IsKnown (q : Query) (xs given back : List Sample) : Type 0 where

@@ -10,12 +10,17 @@ use Rattle.pb_file.specs.File.{lines_of}
 use Rattle.tier_store.specs.Flush.{header_of}
 
 -- the moment lies in the year
-abbrev pub HasMoment : ℤ → ℕ → Type 0
-HasMoment year t = (secs : ℕ) × (nano : ℕ) × IsInYear year secs nano × (t ≡ moment year secs nano)
+pub record HasMoment (year : ℤ) (t : ℕ) : Type 0 where
+  pub secs : ℕ
+  pub nano : ℕ
+  pub in_year : IsInYear year secs nano
+  pub at : t ≡ moment year secs nano
 
 -- the sample stands in some year
-abbrev pub HasYear : Sample → Type 0
-HasYear s = (year : ℤ) × IsSampleYear year × HasMoment year s.t
+pub record HasYear (s : Sample) : Type 0 where
+  pub year : ℤ
+  pub sample_year : IsSampleYear year
+  pub moment : HasMoment year s.t
 
 -- samples of one year
 pub record Chunk : Type 0 where
@@ -59,7 +64,19 @@ pub record IsNearestYear (year : ℤ) (t : ℕ) : Type 0 where
   pub sample_year : IsSampleYear year
   pub nearest : (HasMoment year t) ⊎ ((t < start) × (year ≡ pos 1991)) ⊎ ((end ≤ t) × (year ≡ pos 2499))
 
--- The raw text of an answer that was asked for from this moment on. One without samples is one header, of the nearest year.
+-- one header, of the year that is nearest to the moment
+pub record IsHeaderAlone (row : Row) (from : ℕ) (text : List ℕ) : Type 0 where
+  pub year : ℤ
+  pub nearest : IsNearestYear year from
+  pub is : text ≡ header_text row year
+
+-- the samples' chunks
+pub record AreChunks (row : Row) (samples : List Sample) (text : List ℕ) : Type 0 where
+  pub chunks : List Chunk
+  pub cut : AreCut samples chunks
+  pub is : text ≡ chunks_text row chunks
+
+-- The raw text of an answer that was asked for from this moment on.
 abbrev pub IsRaw : Row → ℕ → List Sample → List ℕ → Type 0
-IsRaw row from [] text = (year : ℤ) × IsNearestYear year from × (text ≡ header_text row year)
-IsRaw row from (s ∷ samples) text = (chunks : List Chunk) × AreCut (s ∷ samples) chunks × (text ≡ chunks_text row chunks)
+IsRaw row from [] text = IsHeaderAlone row from text
+IsRaw row from (s ∷ samples) text = AreChunks row (s ∷ samples) text

@@ -42,8 +42,11 @@ abbrev pub IsOpening : Row → Option ℤ → ℤ → List ℕ → Type 0
 IsOpening row last year piece = ((last ≡ Some year) × (piece ≡ [])) ⊎ ((last ≢ Some year) × (piece ≡ gap last ++ header_text row year))
 
 -- a front of the bytes went out, or is gathered still
-abbrev pub SendsFront : Option (List ℕ) → Option (List ℕ) → List ℕ → List ℕ → Type 0
-SendsFront a b bytes left = (known rest : List ℕ) × (bytes ≡ known ++ rest) × Sends a b known left
+pub record SendsFront (a b : Option (List ℕ)) (bytes left : List ℕ) : Type 0 where
+  pub known : List ℕ
+  pub rest : List ℕ
+  pub are : bytes ≡ known ++ rest
+  pub sent : Sends a b known left
 
 -- The bytes went out, or are gathered still. Where memory ran out, this is true of a front of them; where a write failed, a front went out.
 abbrev pub SentBy : {X : Type 0} → Result X PutErr → Option (List ℕ) → Option (List ℕ) → List ℕ → List ℕ → Type 0

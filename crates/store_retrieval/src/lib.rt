@@ -13,4 +13,4 @@ mod listed;
 mod retrieval;
 mod text;
 
-pub use retrieval::{Got, get};
+pub use retrieval::{GetErr, get};

@@ -1,10 +1,10 @@
 // Worked disks, and the durable write where calls fail or the machine stops.
-ghost use Rattle.std.specs.Prelude.{◌≡◌, ◌≤◌, ℕ, length, pos, IfOk, IfSome, OnOk, IsTrue};
-ghost use Rattle.disk_model.specs.Record.{files_of, opened_of, past_of};
+ghost use Rattle.std.specs.Prelude.{◌≡◌, ◌≤◌, ℕ, length, pos, true, IfOk, IfSome, OnOk, IsTrue};
 ghost use Rattle.line_escape.specs.Unescaping.{HasNoNewline};
 ghost use Rattle.pb_file.specs.File.{IsSample, lines_of};
 ghost use Rattle.tier_store.specs.Held.{Held};
 ghost use Rattle.tier_store.specs.Flush.{IsOfRow, CanFlush};
+ghost use Rattle.tier_store.specs.Seen.{seen};
 ghost use Rattle.tier_store.specs.Change.{Has};
 
 use disk_model::{Disk, DiskErr, FileName, MemDisk};
@@ -53,8 +53,8 @@ fn put_row(
     row: u32,
     text: &mut String,
 ) -> Result<(), Fail>
-    requires { (held : Held) × Has store.old.catalogue store.old.manifest (files_of store.old.disk.calls) (opened_of store.old.disk.calls) (past_of store.old.disk.calls) held }
-    ensures { OnOk result ((held : Held) × Has store.new.catalogue store.new.manifest (files_of store.new.disk.calls) (opened_of store.new.disk.calls) (past_of store.new.disk.calls) held) }
+    requires { (held : Held) × Has true (seen ⟦<MemDisk as Disk>⟧ store.old) held }
+    ensures { OnOk result ((held : Held) × Has true (seen ⟦<MemDisk as Disk>⟧ store.new) held) }
 {
     let count = store.manifest(1).entries(row).len();
     for i in 0..count {
@@ -71,7 +71,7 @@ fn put_row(
 
 // The rows, and what their listed files have.
 fn text_of(alloc: Global, mut store: TierStore<MemDisk>) -> Result<String, Fail>
-    requires { (held : Held) × Has store.catalogue store.manifest (files_of store.disk.calls) (opened_of store.disk.calls) (past_of store.disk.calls) held }
+    requires { (held : Held) × Has true (seen ⟦<MemDisk as Disk>⟧ store) held }
 {
     let mut text = String::new(alloc);
     let count = store.catalogue().rows().len();
@@ -291,7 +291,7 @@ fn begun(
     failing: &[u64],
     stop: Option<u64>,
 ) -> Result<Option<TierStore<MemDisk>>, Fail>
-    ensures { IfOk result (λ r. IfSome r (λ s. (held : Held) × Has s.catalogue s.manifest (files_of s.disk.calls) (opened_of s.disk.calls) (past_of s.disk.calls) held)) }
+    ensures { IfOk result (λ r. IfSome r (λ s. (held : Held) × Has true (seen ⟦<MemDisk as Disk>⟧ s) held)) }
 {
     let first = PvName::new(alloc, b"A:B")?;
     let second = PvName::new(alloc, b"C")?;
@@ -316,7 +316,7 @@ fn flushed(
     mut store: TierStore<MemDisk>,
     again: bool,
 ) -> Result<(bool, MemDisk), Fail>
-    requires { (held : Held) × Has store.catalogue store.manifest (files_of store.disk.calls) (opened_of store.disk.calls) (past_of store.disk.calls) held }
+    requires { (held : Held) × Has true (seen ⟦<MemDisk as Disk>⟧ store) held }
 {
     let batch = both_rows(alloc, store.catalogue().rows())?;
     match store.flush(&batch) {

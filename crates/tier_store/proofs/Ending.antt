@@ -9,7 +9,7 @@ use Rattle.disk_model.specs.Past.{Past, Passes}
 use Rattle.disk_model.proofs.Passing.{passes_then}
 use Rattle.gate_journal.specs.Journal.{JournalState}
 use Rattle.gate_journal.specs.Kept.{Says, SaysEither, IsKept, IsUnsure}
-use Rattle.gate_journal.proofs.Keeping.{kept_stays}
+use Rattle.tier_store.proofs.Frame.{catalogue_stays}
 use Rattle.partition_names.specs.declared.granularity.Granularity.{Granularity}
 use Rattle.partition_names.specs.Part.{IsPart}
 use Rattle.store_manifest.specs.declared.entry.Entry.{Entry}
@@ -19,19 +19,19 @@ use Rattle.store_manifest.specs.Entries.{place, put, comes_before, all_changed, 
 use Rattle.pv_catalog.specs.Rows.{IsCatalogue}
 use Rattle.pv_catalog.specs.Catalogue.{catalogue_name}
 use Rattle.store_manifest.specs.Batches.{Configured, Folds}
-use Rattle.tier_store.specs.Names.{short_manifest}
-use Rattle.tier_store.specs.Held.{Filed, Held, IsFiled, IsListed, AreIn, entry_of, filed_at}
+use Rattle.store_manifest.specs.Manifest.{manifest_name}
+use Rattle.tier_store.specs.Held.{Filed, Held, IsFiled, IsListed, AreIn, entry_of, filed_at, shelf_of, Shelf}
 use Rattle.tier_store.specs.Flush.{Grows, MakesFiles, put_all, with_files}
-use Rattle.tier_store.specs.Stored.{HoldsEither, AreHeld, AreSafe, IsStored, IsInDoubt}
+use Rattle.tier_store.specs.Stored.{HoldsEither, AreHeld, AreSafe, CatalogueStored, IsStored, IsInDoubt}
 use Rattle.tier_store.specs.Writing.{set_of}
 use Rattle.tier_store.proofs.Listed.{all_put_all, rise_put_all}
 use Rattle.tier_store.proofs.Stays.{AreApart, all_apart, apart_stay, apart_long, safe_stays}
-use Rattle.tier_store.proofs.Going.{all_listed, all_filed}
-use Rattle.tier_store.proofs.Holding.{not_in_one, stored_left}
+use Rattle.tier_store.proofs.WrittenPiece.{all_listed, all_filed}
+use Rattle.tier_store.proofs.Holding.{not_in, stored_left}
 
 -- WHAT THE CHANGES LIST
 
-filter-map : (test : Entry → Bool) (xs : List Filed) → filter test (map entry_of xs) ≡ map entry_of (filter (λ f. test (entry_of f)) xs)
+pub filter-map : (test : Entry → Bool) (xs : List Filed) → filter test (map entry_of xs) ≡ map entry_of (filter (λ f. test (entry_of f)) xs)
 filter-map test [] = refl
 filter-map test (x ∷ xs) = go (filter-map test xs) (test (entry_of x))
   where
@@ -64,6 +64,7 @@ pub valid_with : (g : Granularity) (held : Held) (ps : List Piece) (fs : List Fi
 valid_with g held ps fs valid makes = record {
   keys = valid.keys;
   filed = record {
+    numbered = valid.filed.numbered;
     listed = all_put_all (IsListed g held.rows) held.files fs valid.filed.listed (all_listed g held ps fs makes.each);
     filed = λ stands. all_put_all (IsFiled g held.rows) held.files fs (valid.filed.filed stands) (all_filed g held ps fs makes.each stands);
   };
@@ -75,86 +76,80 @@ valid_with g held ps fs valid makes = record {
 -- a commit of the manifest that is to list other files of the same rows, all of them safe
 pub record Lists (g : Granularity) (catalogue manifest : JournalState) (files later : Files) (opened after : Name → ℕ) (old new : Past) (held next : Held) : Type 0 where
   pub stored : IsStored g catalogue manifest files opened old held
-  pub same_rows : next.rows ≡ held.rows
+  pub same_shelf : shelf_of next ≡ shelf_of held
   pub same_stands : next.stands ≡ held.stands
   pub valid : AreHeld g next
   pub safe : AreSafe next files opened old
-  pub passes : Passes (At short_manifest (SaysEither (Folds g) (map entry_of held.files) (map entry_of next.files))) old new
-  pub elsewhere : (n : Name) → n ≢ short_manifest → later n ≡ files n
+  pub passes : Passes (At (manifest_name held.store) (SaysEither (Folds g) (map entry_of held.files) (map entry_of next.files))) old new
+  pub elsewhere : (n : Name) → n ≢ manifest_name held.store → later n ≡ files n
   pub fewer : (n : Name) → after n ≤ opened n
 
 abbrev Step : Granularity → Held → Held → Files → Files → Type 0
-Step g held next = At short_manifest (SaysEither (Folds g) (map entry_of held.files) (map entry_of next.files))
+Step g held next = At (manifest_name held.store) (SaysEither (Folds g) (map entry_of held.files) (map entry_of next.files))
 
-other_journal : catalogue_name ≢ short_manifest
-other_journal is = let first : get_or catalogue_name.1 0 0 ≡ get_or short_manifest.1 0 0 = ap (λ (n : Name). get_or n.1 0 0) is in absurd (omega (arith, first))
+pub other_journal : (store : ℕ) → catalogue_name ≢ manifest_name store
+other_journal store is = let first : get_or catalogue_name.1 0 0 ≡ get_or (manifest_name store).1 0 0 = ap (λ (n : Name). get_or n.1 0 0) is in absurd (omega (arith, first))
 
 -- no listed file is the manifest
-files_apart : (held : Held) → AreApart held.rows short_manifest held.files
-files_apart held = all_apart held.rows short_manifest held.files (not_in_one short_manifest short_manifest refl refl)
+pub files_apart : (held : Held) (store : ℕ) → 1 ≤ held.store → AreApart (shelf_of held) (manifest_name store) held.files
+files_apart held store numbered = all_apart (shelf_of held) (manifest_name store) held.files (not_in held.store (manifest_name store) (manifest_name store) numbered refl refl)
 
-in_elsewhere : (g : Granularity) (held next kept : Held) (b c : Files) → Step g held next b c → AreIn kept b → AreIn kept c
-in_elsewhere g held next kept b c step = apart_stay kept short_manifest (SaysEither (Folds g) (map entry_of held.files) (map entry_of next.files)) b c (files_apart kept) step
+in_elsewhere : (g : Granularity) (held next kept : Held) (b c : Files) → 1 ≤ kept.store → Step g held next b c → AreIn kept b → AreIn kept c
+in_elsewhere g held next kept b c numbered step = apart_stay kept (manifest_name held.store) (SaysEither (Folds g) (map entry_of held.files) (map entry_of next.files)) b c (files_apart kept held.store numbered) step
 
 -- within the commit and behind it
 pub lists_either : (g : Granularity) (catalogue manifest : JournalState) (files later : Files) (opened after : Name → ℕ) (first old new : Past) (held next : Held) → Lists g catalogue manifest files later opened after old new held next
     → Passes (HoldsEither g held next) first old → Passes (HoldsEither g held next) first new
 lists_either g catalogue manifest files later opened after first old new held next commit before = passes_then (HoldsEither g held next) (Step g held next) first old new before commit.passes (λ a b c was one now two.
     let holds = stored_left g catalogue manifest files opened old held commit.stored b now in
-    let rows : Says IsCatalogue held.rows (c catalogue_name) = subst (Says IsCatalogue held.rows) (sym (two.elsewhere catalogue_name other_journal)) holds.rows in
+    let rows : Says IsCatalogue held.rows (c catalogue_name) = subst (Says IsCatalogue held.rows) (sym (two.elsewhere catalogue_name (other_journal held.store))) holds.rows in
     elim two.here [
       | inl lists ↦ inl (record {
         rows = rows;
         lists = lists;
         filed = holds.filed;
-        files = in_elsewhere g held next held b c two holds.files;
+        files = in_elsewhere g held next held b c commit.stored.tier.valid.filed.numbered two holds.files;
       })
       | inr lists ↦ inr (record {
-        rows = subst (λ (r : List Row). Says IsCatalogue r (c catalogue_name)) (sym commit.same_rows) rows;
-        lists = lists;
+        rows = subst (λ (s : Shelf). Says IsCatalogue s.1 (c catalogue_name)) (sym commit.same_shelf) rows;
+        lists = subst (λ (s : Shelf). Says (Folds g) (map entry_of next.files) (c (manifest_name s.0))) (sym commit.same_shelf) lists;
         filed = commit.valid.filed;
-        files = in_elsewhere g held next next b c two (commit.safe.left b now);
+        files = in_elsewhere g held next next b c commit.valid.filed.numbered two (commit.safe.left b now);
       })
     ])
 
-still_there : (g : Granularity) (held next kept : Held) (files later : Files) (opened after : Name → ℕ) (old new : Past) → Passes (Step g held next) old new → ((n : Name) → n ≢ short_manifest → later n ≡ files n) → ((n : Name) → after n ≤ opened n)
+still_there : (g : Granularity) (held next kept : Held) (numbered : 1 ≤ kept.store) (files later : Files) (opened after : Name → ℕ) (old new : Past) → Passes (Step g held next) old new → ((n : Name) → n ≢ manifest_name held.store → later n ≡ files n) → ((n : Name) → after n ≤ opened n)
     → AreSafe kept files opened old → AreSafe kept later after new
-still_there g held next kept files later opened after old new passes elsewhere fewer safe =
-    safe_stays kept (Step g held next) files later opened after old new safe passes (λ a c step. in_elsewhere g held next kept a c step) (apart_long kept short_manifest files later (files_apart kept) elsewhere safe.long) fewer
+still_there g held next kept numbered files later opened after old new passes elsewhere fewer safe =
+    safe_stays kept (Step g held next) files later opened after old new safe passes (λ a c step. in_elsewhere g held next kept a c numbered step) (apart_long kept (manifest_name held.store) files later (files_apart kept held.store numbered) elsewhere safe.long) fewer
 
-catalogue_kept : (g : Granularity) (catalogue manifest : JournalState) (files later : Files) (opened after : Name → ℕ) (old new : Past) (held next : Held) → Lists g catalogue manifest files later opened after old new held next → IsKept IsCatalogue catalogue later after new held.rows
-catalogue_kept g catalogue manifest files later opened after old new held next commit =
-    let other : catalogue.name ≢ short_manifest = λ is. other_journal (sym commit.stored.is_catalogue ∙ is) in
-    kept_stays IsCatalogue catalogue files later opened after old new held.rows (Step g held next) commit.stored.rows commit.passes (λ a c step. step.elsewhere catalogue.name other) (commit.elsewhere catalogue.name other) (commit.fewer catalogue.name)
+catalogue_still : (g : Granularity) (catalogue manifest : JournalState) (files later : Files) (opened after : Name → ℕ) (old new : Past) (held next : Held) → Lists g catalogue manifest files later opened after old new held next → CatalogueStored catalogue later after new held.rows
+catalogue_still g catalogue manifest files later opened after old new held next commit =
+    let other : catalogue.name ≢ manifest_name held.store = λ is. other_journal held.store (sym commit.stored.rows.named ∙ is) in
+    catalogue_stays (Step g held next) catalogue files later opened after old new commit.passes (record { step = λ a c step. step.elsewhere catalogue.name other; same = commit.elsewhere catalogue.name other; fewer = commit.fewer catalogue.name }) held.rows commit.stored.rows
 
 pub lists_stored : (g : Granularity) (catalogue manifest listing : JournalState) (files later : Files) (opened after : Name → ℕ) (old new : Past) (held next : Held) → Lists g catalogue manifest files later opened after old new held next
-    → listing.name ≡ short_manifest → listing.sound ≡ true → IsKept (Configured g) listing later after new (map entry_of next.files) → IsStored g catalogue listing later after new next
+    → listing.name ≡ manifest_name held.store → listing.sound ≡ true → IsKept (Configured g) listing later after new (map entry_of next.files) → IsStored g catalogue listing later after new next
 lists_stored g catalogue manifest listing files later opened after old new held next commit is sound kept = record {
-  is_catalogue = commit.stored.is_catalogue;
-  is_manifest = is;
-  sound = commit.stored.sound;
-  sound_too = sound;
-  rows = subst (IsKept IsCatalogue catalogue later after new) (sym commit.same_rows) (catalogue_kept g catalogue manifest files later opened after old new held next commit);
-  lists = kept;
-  valid = commit.valid;
-  safe = still_there g held next next files later opened after old new commit.passes commit.elsewhere commit.fewer commit.safe;
+  rows = subst (λ (s : Shelf). CatalogueStored catalogue later after new s.1) (sym commit.same_shelf) (catalogue_still g catalogue manifest files later opened after old new held next commit);
+  tier = record { named = is ∙ ap (λ (s : Shelf). manifest_name s.0) (sym commit.same_shelf); sound = sound; kept = kept; valid = commit.valid; safe = still_there g held next next commit.valid.filed.numbered files later opened after old new commit.passes commit.elsewhere commit.fewer commit.safe };
 }
 
 pub lists_in_doubt : (g : Granularity) (catalogue manifest listing : JournalState) (files later : Files) (opened after : Name → ℕ) (old new : Past) (held next : Held) → Lists g catalogue manifest files later opened after old new held next
-    → listing.name ≡ short_manifest → listing.sound ≡ false → IsUnsure (Configured g) listing later after new (map entry_of held.files) (map entry_of next.files) → IsInDoubt g catalogue listing later after new held next
+    → listing.name ≡ manifest_name held.store → listing.sound ≡ false → IsUnsure (Configured g) listing later after new (map entry_of held.files) (map entry_of next.files) → IsInDoubt g catalogue listing later after new held next
 lists_in_doubt g catalogue manifest listing files later opened after old new held next commit is unsound unsure = record {
-  is_catalogue = commit.stored.is_catalogue;
-  is_manifest = is;
   doubt = inr (record {
-    sound = commit.stored.sound;
-    unsound = unsound;
-    rows = catalogue_kept g catalogue manifest files later opened after old new held next commit;
-    lists = unsure;
-    same = commit.same_rows;
+    rows = catalogue_still g catalogue manifest files later opened after old new held next commit;
+    tier = record {
+      named = is;
+      unsound = unsound;
+      unsure = unsure;
+      valid = commit.stored.tier.valid;
+      valid_after = commit.valid;
+      safe = still_there g held next held commit.stored.tier.valid.filed.numbered files later opened after old new commit.passes commit.elsewhere commit.fewer commit.stored.tier.safe;
+      safe_after = still_there g held next next commit.valid.filed.numbered files later opened after old new commit.passes commit.elsewhere commit.fewer commit.safe;
+    };
+    same = commit.same_shelf;
   });
   stand = commit.same_stands;
-  valid = commit.stored.valid;
-  valid_too = commit.valid;
-  safe = still_there g held next held files later opened after old new commit.passes commit.elsewhere commit.fewer commit.stored.safe;
-  safe_too = still_there g held next next files later opened after old new commit.passes commit.elsewhere commit.fewer commit.safe;
 }

@@ -1,14 +1,13 @@
 // The chunk that an ingest is in: its samples are offered to its row, and those that are kept are held until they are flushed.
-ghost use Rattle.std.specs.Prelude.{◌≡◌, ◌≤◌, ◌<◌, ◌+◌, ◌^◌, ℕ, ℤ, List, [], ◌++◌, ◌∷◌, length, IfOk, IfSome, OnOk, OnErr, IsErrOf, IsTrue, Some, None, true, option_map, slice_get};
-ghost use Rattle.disk_model.specs.Files.{Rose};
-ghost use Rattle.disk_model.specs.Past.{Passes};
-ghost use Rattle.payload_info.specs.declared.info.PayloadInfo.{PayloadInfo as InfoValue};
+ghost use Rattle.std.specs.Prelude.{◌≡◌, ◌≤◌, ◌<◌, ◌+◌, ◌^◌, ℕ, ℤ, [], ◌++◌, ◌∷◌, length, IfNone, IfOk, IfSome, OnOk, OnErr, IsTrue, Some, None, false};
 ghost use Rattle.pb_file.specs.File.{IsSample, lines_of};
-ghost use Rattle.pv_catalog.specs.declared.row.Row.{Row as RowValue};
-ghost use Rattle.tier_store.specs.Held.{Held};
-ghost use Rattle.tier_store.specs.Change.{Has, IsOpen};
-ghost use Rattle.store_ingest.specs.Life.{Life, Registers, Offers, IsLeft, LeavesBetween, flushed_life};
-ghost use Rattle.store_ingest.specs.Chunk.{IsReady, MayFlush, Stands};
+ghost use Rattle.pv_catalog.specs.Rows.{HasName};
+ghost use Rattle.series_model.specs.Series.{end_of};
+ghost use Rattle.tier_store.specs.Ends.{end_of_disk};
+ghost use Rattle.tier_store.specs.Held.{Held, samples_of};
+ghost use Rattle.tier_store.specs.Seen.{seen};
+ghost use Rattle.tier_store.specs.Change.{Has, Changes};
+ghost use Rattle.store_ingest.specs.Chunk.{IsReady, IsRowOf, MayHold, RegistersIn, Flushes, MakesRoom, OffersTo, answered, doing, kept_for, offered_to, sample_of, with_held, with_more};
 
 use super::rows::{register, target_of};
 use disk_model::{Disk, DiskErr};
@@ -32,6 +31,22 @@ pub(crate) struct Target {
     pub ty: PayloadType,
     /// What admission looks at of the row.
     pub standing: Standing,
+}
+
+impl Target {
+    // The target behind a sample at `t`.
+    fn behind(self, t: u64) -> Target
+        requires { t + 1 < 2 ^ 64 }
+        ensures { result ≡ record self { standing = record self.standing { next = t + 1 } } }
+    {
+        Target {
+            standing: Standing {
+                next: t + 1,
+                ..self.standing
+            },
+            ..self
+        }
+    }
 }
 
 /// The chunk that the stream is in. Contracts see its target and the samples that are held.
@@ -79,24 +94,14 @@ impl Chunk {
         info: &PayloadInfo,
     ) -> Result<(), DiskErr>
         requires empty { self.old.held ≡ [] }
-        requires sound { (store.old.catalogue.journal.sound ≡ true) × (store.old.manifest.journal.sound ≡ true) }
-        requires opened { IsTrue D.tells → (held : Held) × Has store.old.catalogue store.old.manifest (D.files store.old.disk) (D.opened store.old.disk) (D.past store.old.disk) held }
-
+        requires has { (held : Held) × Has D.tells (seen D.Disk store.old) held }
+        ensures changes { Changes D.tells (doing (RegistersIn info.now)) (seen D.Disk store.old) (seen D.Disk store.new) (end_of_disk result) }
         ensures ready { OnOk result (IsReady store.new.catalogue.rows self.new) }
-        ensures of_type { OnOk result (IfSome self.new.target (λ target. target.ty ≡ info.now.ty)) }
-        ensures taken { IsTrue D.tells → (first : Held) (life : Life) → Stands first life self.old store.old.catalogue store.old.manifest (D.files store.old.disk) (D.opened store.old.disk) (D.past store.old.disk) → life.chunk ≡ None
-            → OnOk result ((rows : List RowValue) × Registers life.rows info.now rows × Stands first (record life { rows = rows; chunk = Some info.now }) self.new store.new.catalogue store.new.manifest (D.files store.new.disk) (D.opened store.new.disk) (D.past store.new.disk)) }
-        ensures left { IsTrue D.tells → (first : Held) (life : Life) → Stands first life self.old store.old.catalogue store.old.manifest (D.files store.old.disk) (D.opened store.old.disk) (D.past store.old.disk)
-            → OnErr result (IsLeft life store.new.catalogue store.new.manifest (D.files store.new.disk) (D.opened store.new.disk) (D.past store.new.disk)) }
-        ensures any_moment { IsTrue D.tells → (first : Held) (life : Life) → Stands first life self.old store.old.catalogue store.old.manifest (D.files store.old.disk) (D.opened store.old.disk) (D.past store.old.disk)
-            → Passes (LeavesBetween store.old.manifest.granularity first life) (D.past store.old.disk) (D.past store.new.disk) }
-
-        ensures has { IsTrue D.tells → OnOk result ((held : Held) × Has store.new.catalogue store.new.manifest (D.files store.new.disk) (D.opened store.new.disk) (D.past store.new.disk) held) }
-        ensures still { IsTrue D.tells → (one : Held) × (other : Held) × IsOpen store.new.catalogue store.new.manifest (D.files store.new.disk) (D.opened store.new.disk) (D.past store.new.disk) one other }
-        ensures sound { OnOk result ((store.new.catalogue.journal.sound ≡ true) × (store.new.manifest.journal.sound ≡ true)) }
-        ensures granularity { store.new.manifest.granularity ≡ store.old.manifest.granularity }
-        ensures faults { D.faults store.old.disk ≤ D.faults store.new.disk }
-        ensures cause { IsErrOf result DiskErr.Fault → Rose (D.faults store.old.disk) (D.faults store.new.disk) }
+        ensures empty { self.new.held ≡ [] }
+        ensures none { OnOk result (IfNone self.new.target ((i : ℕ) → HasName store.new.catalogue.rows i info.now.name → ⊥)) }
+        ensures found { OnOk result (IfSome self.new.target (λ target. IsRowOf store.new.catalogue.rows info.now target)) }
+        ensures next { (held : Held) → Has D.tells (seen D.Disk store.new) held → IsTrue held.stands
+            → OnOk result (IfSome self.new.target (λ target. target.standing.next ≡ end_of (samples_of target.row held.files))) }
     {
         register(self.alloc, store, info)?;
         self.target = target_of(store, info);
@@ -113,26 +118,13 @@ impl Chunk {
         now: u64,
     ) -> Result<(), DiskErr>
         requires ready { IsReady store.old.catalogue.rows self.old }
-        requires sample { IfSome self.old.target (λ target. (year : ℤ) × IsSample target.ty year (record { t = t; line = line.now })) }
+        requires sample { IfSome self.old.target (λ target. (year : ℤ) × IsSample target.ty year (sample_of t line.now)) }
         requires short { length line.now ≤ 16_777_216 }
-        requires sound { (store.old.catalogue.journal.sound ≡ true) × (store.old.manifest.journal.sound ≡ true) }
-        requires opened { IsTrue D.tells → (held : Held) × Has store.old.catalogue store.old.manifest (D.files store.old.disk) (D.opened store.old.disk) (D.past store.old.disk) held }
-
+        requires has { (held : Held) × Has D.tells (seen D.Disk store.old) held }
+        ensures changes { Changes D.tells (doing (OffersTo (kept_for self.old (sample_of t line.now) now) self.old (sample_of t line.now)))
+            (seen D.Disk store.old) (seen D.Disk store.new) (end_of_disk result) }
         ensures ready { OnOk result (IsReady store.new.catalogue.rows self.new) }
-        ensures of_type { OnOk result (option_map (λ target. target.ty) self.new.target ≡ option_map (λ target. target.ty) self.old.target) }
-        ensures taken { IsTrue D.tells → (first : Held) (life : Life) (info : InfoValue) → Stands first life self.old store.old.catalogue store.old.manifest (D.files store.old.disk) (D.opened store.old.disk) (D.past store.old.disk) → life.chunk ≡ Some info
-            → OnOk result ((next : Life) × Offers life info (record { t = t; line = line.now }) now next × Stands first next self.new store.new.catalogue store.new.manifest (D.files store.new.disk) (D.opened store.new.disk) (D.past store.new.disk)) }
-        ensures left { IsTrue D.tells → (first : Held) (life : Life) → Stands first life self.old store.old.catalogue store.old.manifest (D.files store.old.disk) (D.opened store.old.disk) (D.past store.old.disk)
-            → OnErr result (IsLeft life store.new.catalogue store.new.manifest (D.files store.new.disk) (D.opened store.new.disk) (D.past store.new.disk)) }
-        ensures any_moment { IsTrue D.tells → (first : Held) (life : Life) → Stands first life self.old store.old.catalogue store.old.manifest (D.files store.old.disk) (D.opened store.old.disk) (D.past store.old.disk)
-            → Passes (LeavesBetween store.old.manifest.granularity first life) (D.past store.old.disk) (D.past store.new.disk) }
-
-        ensures has { IsTrue D.tells → OnOk result ((held : Held) × Has store.new.catalogue store.new.manifest (D.files store.new.disk) (D.opened store.new.disk) (D.past store.new.disk) held) }
-        ensures still { IsTrue D.tells → (one : Held) × (other : Held) × IsOpen store.new.catalogue store.new.manifest (D.files store.new.disk) (D.opened store.new.disk) (D.past store.new.disk) one other }
-        ensures sound { OnOk result ((store.new.catalogue.journal.sound ≡ true) × (store.new.manifest.journal.sound ≡ true)) }
-        ensures granularity { store.new.manifest.granularity ≡ store.old.manifest.granularity }
-        ensures faults { D.faults store.old.disk ≤ D.faults store.new.disk }
-        ensures cause { IsErrOf result DiskErr.Fault → Rose (D.faults store.old.disk) (D.faults store.new.disk) }
+        ensures chunk { OnOk result (self.new ≡ offered_to (kept_for self.old (sample_of t line.now) now) self.old (sample_of t line.now)) }
     {
         let Some(target) = self.target else {
             return Ok(());
@@ -140,57 +132,70 @@ impl Chunk {
         if admit(Some(target.standing), target.ty.number(), t, now).is_some() {
             return Ok(());
         }
+        self.hold(store, target, t, line)
+    }
+
+    // Holds a sample that was kept for the target. Where memory runs out nothing was flushed for it.
+    fn hold<D: Disk>(
+        &mut self,
+        store: &mut TierStore<D>,
+        target: Target,
+        t: u64,
+        line: &[u8],
+    ) -> Result<(), DiskErr>
+        requires may { MayHold store.old.catalogue.rows self.old target (sample_of t line.now) }
+        requires has { (held : Held) × Has D.tells (seen D.Disk store.old) held }
+        ensures changes { Changes D.tells (doing (MakesRoom self.old (sample_of t line.now))) (seen D.Disk store.old) (seen D.Disk store.new) (end_of_disk result) }
+        ensures ready { OnOk result (IsReady store.new.catalogue.rows self.new) }
+        ensures chunk { OnOk result (self.new ≡ with_more self.old target (sample_of t line.now)) }
+    {
+        let sample = Sample {
+            t,
+            line: Blob::from(Vec::from_slice(self.alloc, line)?),
+        };
         if self.bytes + line.len() + 1 > MOST_HELD {
-            self.flush(store)?;
+            return self.hold_alone(store, target, sample);
         }
-        self.hold(target, t, line)?;
+        self.held.push(sample)?;
+        self.bytes += line.len() + 1;
+        self.target = Some(target.behind(t));
         Ok(())
     }
 
-    // Holds a sample that was kept. Where memory runs out it isn't held.
-    fn hold(&mut self, target: Target, t: u64, line: &[u8]) -> Result<(), AllocError>
-        requires next { t + 1 < 2 ^ 64 }
-        requires room { length (lines_of self.old.held) + length line.now + 1 ≤ MOST_HELD }
-        ensures ok { OnOk result (self.new ≡ record { target = Some (record target { standing = record target.standing { next = t + 1 } }); held = self.old.held ++ record { t = t; line = line.now } ∷ [] }) }
-        ensures err { OnErr result (self.new ≡ self.old) }
+    // Flushes what is held, and then holds the sample alone.
+    fn hold_alone<D: Disk>(
+        &mut self,
+        store: &mut TierStore<D>,
+        target: Target,
+        sample: Sample,
+    ) -> Result<(), DiskErr>
+        requires may { MayHold store.old.catalogue.rows self.old target sample }
+        requires has { (held : Held) × Has D.tells (seen D.Disk store.old) held }
+        ensures changes { Changes D.tells (doing (Flushes self.old)) (seen D.Disk store.old) (seen D.Disk store.new) (end_of_disk result) }
+        ensures ready { OnOk result (IsReady store.new.catalogue.rows self.new) }
+        ensures chunk { OnOk result (self.new ≡ with_held [] target sample) }
     {
-        let bytes = Vec::from_slice(self.alloc, line)?;
-        self.held.push(Sample {
-            t,
-            line: Blob::from(bytes),
-        })?;
-        self.bytes += line.len() + 1;
-        self.target = Some(Target {
-            standing: Standing {
-                next: t + 1,
-                ..target.standing
-            },
-            ..target
-        });
+        let bytes = sample.line.bytes().len() + 1;
+        let target = Some(target.behind(sample.t));
+        let mut held = Vec::new(self.alloc);
+        held.push(sample)?;
+        self.flush(store)?;
+        *self = Chunk {
+            alloc: self.alloc,
+            target,
+            held,
+            bytes,
+        };
         Ok(())
     }
 
     /// Flushes what is held, if anything is.
     pub(crate) fn flush<D: Disk>(&mut self, store: &mut TierStore<D>) -> Result<(), DiskErr>
         requires ready { IsReady store.old.catalogue.rows self.old }
-        requires sound { (store.old.catalogue.journal.sound ≡ true) × (store.old.manifest.journal.sound ≡ true) }
-        requires opened { IsTrue D.tells → (held : Held) × Has store.old.catalogue store.old.manifest (D.files store.old.disk) (D.opened store.old.disk) (D.past store.old.disk) held }
-
+        requires has { (held : Held) × Has D.tells (seen D.Disk store.old) held }
+        ensures changes { Changes D.tells (doing (Flushes self.old)) (seen D.Disk store.old) (seen D.Disk store.new) (end_of_disk result) }
         ensures empty { OnOk result (self.new ≡ record self.old { held = [] }) }
         ensures catalogue { store.new.catalogue ≡ store.old.catalogue }
-        ensures taken { IsTrue D.tells → (first : Held) (life : Life) → Stands first life self.old store.old.catalogue store.old.manifest (D.files store.old.disk) (D.opened store.old.disk) (D.past store.old.disk)
-            → OnOk result (Stands first (flushed_life life) self.new store.new.catalogue store.new.manifest (D.files store.new.disk) (D.opened store.new.disk) (D.past store.new.disk)) }
-        ensures left { IsTrue D.tells → (first : Held) (life : Life) → Stands first life self.old store.old.catalogue store.old.manifest (D.files store.old.disk) (D.opened store.old.disk) (D.past store.old.disk)
-            → OnErr result (IsLeft life store.new.catalogue store.new.manifest (D.files store.new.disk) (D.opened store.new.disk) (D.past store.new.disk)) }
-        ensures any_moment { IsTrue D.tells → (first : Held) (life : Life) → Stands first life self.old store.old.catalogue store.old.manifest (D.files store.old.disk) (D.opened store.old.disk) (D.past store.old.disk)
-            → Passes (LeavesBetween store.old.manifest.granularity first life) (D.past store.old.disk) (D.past store.new.disk) }
-
-        ensures has { IsTrue D.tells → OnOk result ((held : Held) × Has store.new.catalogue store.new.manifest (D.files store.new.disk) (D.opened store.new.disk) (D.past store.new.disk) held) }
-        ensures still { IsTrue D.tells → (one : Held) × (other : Held) × IsOpen store.new.catalogue store.new.manifest (D.files store.new.disk) (D.opened store.new.disk) (D.past store.new.disk) one other }
-        ensures sound { OnOk result ((store.new.catalogue.journal.sound ≡ true) × (store.new.manifest.journal.sound ≡ true)) }
-        ensures granularity { store.new.manifest.granularity ≡ store.old.manifest.granularity }
-        ensures faults { D.faults store.old.disk ≤ D.faults store.new.disk }
-        ensures cause { IsErrOf result DiskErr.Fault → Rose (D.faults store.old.disk) (D.faults store.new.disk) }
     {
         let Some(target) = self.target else {
             return Ok(());
@@ -199,8 +204,7 @@ impl Chunk {
             return Ok(());
         }
         let batch = self.take_batch(target.row)?;
-        store.flush(&batch)?;
-        Ok(())
+        answerless(store.flush(&batch))
     }
 
     // What is held, as a batch. Where memory runs out it is lost.
@@ -213,5 +217,15 @@ impl Chunk {
         let mut parts = Vec::with_capacity(self.alloc, 1)?;
         parts.push(RowSamples { row, samples })?;
         Ok(Batch::from(parts))
+    }
+}
+
+// A flush's answer without the count.
+fn answerless(flushed: Result<u64, DiskErr>) -> Result<(), DiskErr>
+    ensures { end_of_disk result ≡ answered (end_of_disk flushed) }
+{
+    match flushed {
+        Ok(_) => Ok(()),
+        Err(err) => Err(err),
     }
 }

@@ -1,18 +1,13 @@
 // The rows of chunks: which a header makes, and what admission looks at of one.
-ghost use Rattle.std.specs.Prelude.{◌≡◌, ◌≤◌, ◌<◌, ◌+◌, ◌^◌, ℕ, List, [], ◌++◌, ◌∷◌, IfSome, IfNone, IfErr, OnOk, OnErr, IsErrOf, IsTrue, Some, true, slice_get};
-ghost use Rattle.disk_model.specs.Files.{Rose};
-ghost use Rattle.disk_model.specs.Past.{Passes};
-ghost use Rattle.pb_wire.specs.Payload.{row_of};
-ghost use Rattle.pv_catalog.specs.declared.row.Row.{Row as RowValue};
-ghost use Rattle.pv_catalog.specs.declared.error.RegisterErr.TheVariants.{Disk as RegisterDisk};
-ghost use Rattle.pv_catalog.specs.Catalogue.{IsOfRows};
+ghost use Rattle.std.specs.Prelude.{◌≡◌, ◌<◌, ◌+◌, ◌^◌, ℕ, List, [], ◌++◌, ◌∷◌, IfSome, IfNone, IsTrue};
 ghost use Rattle.pv_catalog.specs.Rows.{HasName};
 ghost use Rattle.series_model.specs.Series.{end_of};
 ghost use Rattle.store_manifest.specs.declared.entry.Entry.{Entry as EntryValue};
+ghost use Rattle.tier_store.specs.Ends.{end_of_disk, end_of_register};
 ghost use Rattle.tier_store.specs.Held.{Held, samples_of};
-ghost use Rattle.tier_store.specs.Change.{Has, EndsOpen, HoldsChange, with_rows, Registers as RegistersRow};
-ghost use Rattle.store_ingest.specs.Life.{Registers, about_of};
-ghost use Rattle.store_ingest.specs.Chunk.{IsRowOf};
+ghost use Rattle.tier_store.specs.Seen.{seen};
+ghost use Rattle.tier_store.specs.Change.{Has, Changes};
+ghost use Rattle.store_ingest.specs.Chunk.{IsRowOf, RegistersIn, answered, doing};
 
 use super::chunk::Target;
 use disk_model::{Disk, DiskErr};
@@ -32,21 +27,8 @@ pub(crate) fn register<D: Disk>(
     store: &mut TierStore<D>,
     info: &PayloadInfo,
 ) -> Result<(), DiskErr>
-    requires sound { (store.old.catalogue.journal.sound ≡ true) × (store.old.manifest.journal.sound ≡ true) }
-    requires opened { IsTrue D.tells → (held : Held) × Has store.old.catalogue store.old.manifest (D.files store.old.disk) (D.opened store.old.disk) (D.past store.old.disk) held }
-
-    ensures rows { OnOk result (Registers store.old.catalogue.rows info.now store.new.catalogue.rows) }
-    ensures made { IsTrue D.tells → (held : Held) → Has store.old.catalogue store.old.manifest (D.files store.old.disk) (D.opened store.old.disk) (D.past store.old.disk) held
-        → OnOk result (Has store.new.catalogue store.new.manifest (D.files store.new.disk) (D.opened store.new.disk) (D.past store.new.disk) (with_rows held store.new.catalogue.rows)) }
-    ensures failed { IsTrue D.tells → (held : Held) → Has store.old.catalogue store.old.manifest (D.files store.old.disk) (D.opened store.old.disk) (D.past store.old.disk) held
-        → OnErr result (EndsOpen (RegistersRow info.now.name (about_of info.now)) store.new.catalogue store.new.manifest (D.files store.new.disk) (D.opened store.new.disk) (D.past store.new.disk) held held) }
-    ensures any_moment { IsTrue D.tells → (held : Held) → Has store.old.catalogue store.old.manifest (D.files store.old.disk) (D.opened store.old.disk) (D.past store.old.disk) held
-        → Passes (HoldsChange store.old.manifest.granularity (RegistersRow info.now.name (about_of info.now)) held held) (D.past store.old.disk) (D.past store.new.disk) }
-
-    ensures sound { OnOk result ((store.new.catalogue.journal.sound ≡ true) × (store.new.manifest.journal.sound ≡ true)) }
-    ensures granularity { store.new.manifest.granularity ≡ store.old.manifest.granularity }
-    ensures faults { D.faults store.old.disk ≤ D.faults store.new.disk }
-    ensures cause { IsErrOf result DiskErr.Fault → Rose (D.faults store.old.disk) (D.faults store.new.disk) }
+    requires has { (held : Held) × Has D.tells (seen D.Disk store.old) held }
+    ensures changes { Changes D.tells (doing (RegistersIn info.now)) (seen D.Disk store.old) (seen D.Disk store.new) (end_of_disk result) }
 {
     let name = match PvName::new(alloc, info.name.bytes()) {
         Ok(name) => name,
@@ -59,31 +41,27 @@ pub(crate) fn register<D: Disk>(
         count: info.count,
         headers: info.headers.clone()?,
     };
-    match store.register(&name, &about) {
-        Ok(_) => Ok(()),
-        Err(err) => disk_failure(err),
-    }
+    disk_failure(store.register(&name, &about))
 }
 
-// The failure of the disk that an error tells of. Where the rows refused the name, nothing has failed.
-fn disk_failure(err: RegisterErr) -> Result<(), DiskErr>
-    ensures ok { OnOk result (IsOfRows err) }
-    ensures err { IfErr result (λ e. err ≡ RegisterDisk e) }
+// The failure of the disk of which an answer tells. Where the rows refused the name, nothing has failed.
+fn disk_failure(answer: Result<u32, RegisterErr>) -> Result<(), DiskErr>
+    ensures { end_of_disk result ≡ answered (end_of_register answer) }
 {
-    match err {
-        RegisterErr::NameTaken { .. } => Ok(()),
-        RegisterErr::KeyTaken { .. } => Ok(()),
-        RegisterErr::Full => Ok(()),
-        RegisterErr::Disk(err) => Err(err),
+    match answer {
+        Ok(_) => Ok(()),
+        Err(RegisterErr::NameTaken { .. }) => Ok(()),
+        Err(RegisterErr::KeyTaken { .. }) => Ok(()),
+        Err(RegisterErr::Full) => Ok(()),
+        Err(RegisterErr::Disk(err)) => Err(err),
     }
 }
 
 /// Where the samples of a header's chunk go: to the row that has its name. `None` comes exactly where no row has it.
 pub(crate) fn target_of<D: Disk>(store: &TierStore<D>, info: &PayloadInfo) -> Option<Target>
-    requires sound { (store.now.catalogue.journal.sound ≡ true) × (store.now.manifest.journal.sound ≡ true) }
     ensures none { IfNone result ((i : ℕ) → HasName store.now.catalogue.rows i info.now.name → ⊥) }
     ensures found { IfSome result (λ target. IsRowOf store.now.catalogue.rows info.now target) }
-    ensures next { IsTrue D.tells → (held : Held) → Has store.now.catalogue store.now.manifest (D.files store.now.disk) (D.opened store.now.disk) (D.past store.now.disk) held → IsTrue held.stands
+    ensures next { (held : Held) → Has D.tells (seen D.Disk store.now) held → IsTrue held.stands
         → IfSome result (λ target. target.standing.next ≡ end_of (samples_of target.row held.files)) }
 {
     let catalogue = store.catalogue();

@@ -13,7 +13,7 @@ use Rattle.series_model.specs.Retrieval.{answer}
 use Rattle.archiver_appliance.specs.Extract.{lines_text, known}
 use Rattle.archiver_appliance.specs.Answer.{Covers, Adds, Takes}
 use Rattle.archiver_appliance.specs.Text.{IsFlushed, WritesFront}
-use Rattle.archiver_appliance.proofs.Extracting.{Progress, nothing_written, on_ok, on_err, starts, flushed_or_kept, skipped, headed, sampled, finished, writes_front, writes_all, ended_extracts}
+use Rattle.archiver_appliance.proofs.Extracting.{nothing_written, on_ok, on_err, starts, read_from, skipped, headed, sampled, finished, writes_front, ended_early, ended_whole}
 use Rattle.archiver_appliance.proofs.extract.extract.Goals.{in-None, in-Some-Header, in-Some-Sample, in-Some-ChunkEnd}
 use Rattle.archiver_appliance.proofs.extract.extract.Goals as goal
 
@@ -48,112 +48,41 @@ returns-then-is_err-clause-text g c =
 
 pub returns-in-Some-End-clause-text : goal.returns-in-Some-End-clause-text
 returns-in-Some-End-clause-text g c =
-    let left = g.S.Source.left in
-    let written = g.K.Sink.written in
-    let q = c.args.query in
-    let a = written c.args.sink.now in
-    let b = written c.before_read.new.sink in
-    let first = c.in-Ok.reader in
+    let p = read_from (g.K.Sink.written c.before_read.new.sink) c.before_read.new.out.items c.before_read.result c.lines.invariant.progress c.if-is_err.ensures.value c.before_read.ensures.ok in
     let mid = c.lines.reader in
-    let all = left c.args.source.now in
-    let middle = to_come mid (left c.lines.source) in
-    let gathered = c.before_read.new.out.items in
-    let flushed = on_ok c.before_read.result (IsFlushed (written c.lines.sink) b c.lines.out.items gathered) c.if-is_err.ensures.value c.before_read.ensures.ok in
-    let p = flushed_or_kept q a (written c.lines.sink) b first mid all middle c.lines.out.items gathered c.lines.later c.lines.answer c.lines.invariant.progress flushed in
     let new = c.read_line.new.self in
-    let after = to_come new (left c.read_line.new.source) in
-    let b' = written c.ended.new.sink in
-    let F : List ℕ → Type 0 = λ out. AppendsFront b b' out in
-    let front = writes_front q a b b' first mid all middle gathered c.lines.later c.lines.answer c.in-Ok.ensures p (subst F c.deref.ensures.value c.ended.ensures.front) in
-    let read = when_none mid.refused (ReadsItem mid new middle after it.End) c.lines.invariant.going (rw c.in-Some-End.field-0-is at c.in-Some-End.ensures.item) in
-    let stops = read.2 in
-    let A : List ℕ → Type 0 = λ out. Appends b b' out in
-    ended_extracts q all a b' Done c.ended.result c.ended.ensures.status
-    (λ is. writes_all q None a b b' first mid all middle gathered c.lines.later c.lines.answer c.in-Ok.ensures p stops (subst A c.deref.ensures.value (c.ended.ensures.all is)))
-    front
+    let left = g.S.Source.left in
+    let read = when_none mid.refused (ReadsItem mid new (to_come mid (left c.lines.source)) (to_come new (left c.read_line.new.source)) it.End) c.lines.invariant.going (rw c.in-Some-End.field-0-is at c.in-Some-End.ensures.item) in
+    ended_whole c.in-Ok.ensures p (g.K.Sink.written c.ended.new.sink) _ c.deref.ensures.value c.ended.ensures.front Done c.ended.result c.ended.ensures.status None read.2 c.ended.ensures.all (λ whole. whole)
 
 pub returns-in-Some-Refused-clause-text : goal.returns-in-Some-Refused-clause-text
 returns-in-Some-Refused-clause-text g c =
-    let left = g.S.Source.left in
-    let written = g.K.Sink.written in
-    let q = c.args.query in
-    let a = written c.args.sink.now in
-    let b = written c.before_read.new.sink in
-    let first = c.in-Ok.reader in
+    let p = read_from (g.K.Sink.written c.before_read.new.sink) c.before_read.new.out.items c.before_read.result c.lines.invariant.progress c.if-is_err.ensures.value c.before_read.ensures.ok in
     let mid = c.lines.reader in
-    let all = left c.args.source.now in
-    let middle = to_come mid (left c.lines.source) in
-    let gathered = c.before_read.new.out.items in
-    let flushed = on_ok c.before_read.result (IsFlushed (written c.lines.sink) b c.lines.out.items gathered) c.if-is_err.ensures.value c.before_read.ensures.ok in
-    let p = flushed_or_kept q a (written c.lines.sink) b first mid all middle c.lines.out.items gathered c.lines.later c.lines.answer c.lines.invariant.progress flushed in
     let new = c.read_line.new.self in
-    let after = to_come new (left c.read_line.new.source) in
-    let b' = written c.ended-in-Some-Refused.new.sink in
-    let F : List ℕ → Type 0 = λ out. AppendsFront b b' out in
-    let front = writes_front q a b b' first mid all middle gathered c.lines.later c.lines.answer c.in-Ok.ensures p (subst F c.deref-in-Some-Refused.ensures.value c.ended-in-Some-Refused.ensures.front) in
+    let left = g.S.Source.left in
+    let middle = to_come mid (left c.lines.source) in
     let fault = c.in-Some-Refused.fault in
     let line = c.number-line.result in
-    let read = when_none mid.refused (ReadsItem mid new middle after (it.Refused fault)) c.lines.invariant.going (rw c.in-Some-Refused.field-0-is at c.in-Some-Refused.ensures.item) in
-    let T : ℕ → Type 0 = λ n. Stops mid middle (Some (n, fault)) in
-    let stops = subst T (sym c.number-line.ensures) read.1 in
-    let A : List ℕ → Type 0 = λ out. Appends b b' out in
-    ended_extracts q all a b' (Refused line fault) c.ended-in-Some-Refused.result c.ended-in-Some-Refused.ensures.status
-    (λ is. writes_all q (Some (line, fault)) a b b' first mid all middle gathered c.lines.later c.lines.answer c.in-Ok.ensures p stops (subst A c.deref-in-Some-Refused.ensures.value (c.ended-in-Some-Refused.ensures.all is)))
-    front
+    let read = when_none mid.refused (ReadsItem mid new middle (to_come new (left c.read_line.new.source)) (it.Refused fault)) c.lines.invariant.going (rw c.in-Some-Refused.field-0-is at c.in-Some-Refused.ensures.item) in
+    let stops = subst (λ (n : ℕ). Stops mid middle (Some (n, fault))) (sym c.number-line.ensures) read.1 in
+    ended_whole c.in-Ok.ensures p (g.K.Sink.written c.ended-in-Some-Refused.new.sink) _ c.deref-in-Some-Refused.ensures.value c.ended-in-Some-Refused.ensures.front (Refused line fault) c.ended-in-Some-Refused.result c.ended-in-Some-Refused.ensures.status
+    (Some (line, fault)) stops c.ended-in-Some-Refused.ensures.all (λ whole. whole)
 
 pub returns-in-Some-SourceFault-clause-text : goal.returns-in-Some-SourceFault-clause-text
 returns-in-Some-SourceFault-clause-text g c =
-    let left = g.S.Source.left in
-    let written = g.K.Sink.written in
-    let q = c.args.query in
-    let a = written c.args.sink.now in
-    let b = written c.before_read.new.sink in
-    let first = c.in-Ok.reader in
-    let mid = c.lines.reader in
-    let all = left c.args.source.now in
-    let middle = to_come mid (left c.lines.source) in
-    let gathered = c.before_read.new.out.items in
-    let flushed = on_ok c.before_read.result (IsFlushed (written c.lines.sink) b c.lines.out.items gathered) c.if-is_err.ensures.value c.before_read.ensures.ok in
-    let p = flushed_or_kept q a (written c.lines.sink) b first mid all middle c.lines.out.items gathered c.lines.later c.lines.answer c.lines.invariant.progress flushed in
-    let b' = written c.ended-in-Some-SourceFault.new.sink in
-    let F : List ℕ → Type 0 = λ out. AppendsFront b b' out in
-    let front = writes_front q a b b' first mid all middle gathered c.lines.later c.lines.answer c.in-Ok.ensures p (subst F c.deref-in-Some-SourceFault.ensures.value c.ended-in-Some-SourceFault.ensures.front) in
-    ended_extracts q all a b' SourceFault c.ended-in-Some-SourceFault.result c.ended-in-Some-SourceFault.ensures.status (λ is. front) front
+    let p = read_from (g.K.Sink.written c.before_read.new.sink) c.before_read.new.out.items c.before_read.result c.lines.invariant.progress c.if-is_err.ensures.value c.before_read.ensures.ok in
+    ended_early c.in-Ok.ensures p (g.K.Sink.written c.ended-in-Some-SourceFault.new.sink) _ c.deref-in-Some-SourceFault.ensures.value c.ended-in-Some-SourceFault.ensures.front SourceFault c.ended-in-Some-SourceFault.result c.ended-in-Some-SourceFault.ensures.status (λ front. front)
 
 pub returns-in-Some-Memory-clause-text : goal.returns-in-Some-Memory-clause-text
 returns-in-Some-Memory-clause-text g c =
-    let left = g.S.Source.left in
-    let written = g.K.Sink.written in
-    let q = c.args.query in
-    let a = written c.args.sink.now in
-    let b = written c.before_read.new.sink in
-    let first = c.in-Ok.reader in
-    let mid = c.lines.reader in
-    let all = left c.args.source.now in
-    let middle = to_come mid (left c.lines.source) in
-    let gathered = c.before_read.new.out.items in
-    let flushed = on_ok c.before_read.result (IsFlushed (written c.lines.sink) b c.lines.out.items gathered) c.if-is_err.ensures.value c.before_read.ensures.ok in
-    let p = flushed_or_kept q a (written c.lines.sink) b first mid all middle c.lines.out.items gathered c.lines.later c.lines.answer c.lines.invariant.progress flushed in
-    let b' = written c.ended-in-Some-Memory.new.sink in
-    let F : List ℕ → Type 0 = λ out. AppendsFront b b' out in
-    let front = writes_front q a b b' first mid all middle gathered c.lines.later c.lines.answer c.in-Ok.ensures p (subst F c.deref-in-Some-Memory.ensures.value c.ended-in-Some-Memory.ensures.front) in
-    ended_extracts q all a b' OutOfMemory c.ended-in-Some-Memory.result c.ended-in-Some-Memory.ensures.status (λ is. front) front
+    let p = read_from (g.K.Sink.written c.before_read.new.sink) c.before_read.new.out.items c.before_read.result c.lines.invariant.progress c.if-is_err.ensures.value c.before_read.ensures.ok in
+    ended_early c.in-Ok.ensures p (g.K.Sink.written c.ended-in-Some-Memory.new.sink) _ c.deref-in-Some-Memory.ensures.value c.ended-in-Some-Memory.ensures.front OutOfMemory c.ended-in-Some-Memory.result c.ended-in-Some-Memory.ensures.status (λ front. front)
 
 pub returns-then-is_err-2-clause-text : goal.returns-then-is_err-2-clause-text
 returns-then-is_err-2-clause-text g c =
-    let left = g.S.Source.left in
-    let written = g.K.Sink.written in
-    let q = c.args.query in
-    let a = written c.args.sink.now in
-    let b = written c.before_read.new.sink in
-    let first = c.in-Ok.reader in
-    let mid = c.lines.reader in
-    let all = left c.args.source.now in
-    let middle = to_come mid (left c.lines.source) in
+    let p = read_from (g.K.Sink.written c.before_read.new.sink) c.before_read.new.out.items c.before_read.result c.lines.invariant.progress c.if-is_err.ensures.value c.before_read.ensures.ok in
     let gathered = c.before_read.new.out.items in
-    let flushed = on_ok c.before_read.result (IsFlushed (written c.lines.sink) b c.lines.out.items gathered) c.if-is_err.ensures.value c.before_read.ensures.ok in
-    let p = flushed_or_kept q a (written c.lines.sink) b first mid all middle c.lines.out.items gathered c.lines.later c.lines.answer c.lines.invariant.progress flushed in
-    let b' = written c.ended-then-is_err-2.new.sink in
     let kept : (r : Result (Unit {0}) AllocError) (out : Vec ℕ Global) → c.match-read_line.out ≡ out → c.match-read_line.done ≡ r → OnErr r (out.items ≡ gathered) → c.match-read_line.out.items ≡ gathered = λ r out is done err.
     ap (λ (out : Vec ℕ Global). out.items) is ∙ on_err r (out.items ≡ gathered) (rw done at c.if-is_err-2.ensures.value) err in
     let same : c.match-read_line.out.items ≡ gathered = elim c.match-read_line.branch [
@@ -162,9 +91,7 @@ returns-then-is_err-2-clause-text g c =
       | in-Some-Sample w ↦ kept w.take-done.result w.take-done.new.out w.out-is w.done-is w.take-done.ensures.err
       | in-Some-ChunkEnd w ↦ kept w.finish-done.result w.finish-done.new.out w.out-is w.done-is w.finish-done.ensures.err
     ] in
-    let F : List ℕ → Type 0 = λ out. AppendsFront b b' out in
-    let front = writes_front q a b b' first mid all middle gathered c.lines.later c.lines.answer c.in-Ok.ensures p (subst F (c.deref-then-is_err-2.ensures.value ∙ same) c.ended-then-is_err-2.ensures.front) in
-    ended_extracts q all a b' OutOfMemory c.ended-then-is_err-2.result c.ended-then-is_err-2.ensures.status (λ is. front) front
+    ended_early c.in-Ok.ensures p (g.K.Sink.written c.ended-then-is_err-2.new.sink) _ (c.deref-then-is_err-2.ensures.value ∙ same) c.ended-then-is_err-2.ensures.front OutOfMemory c.ended-then-is_err-2.result c.ended-then-is_err-2.ensures.status (λ front. front)
 
 pub lines-preserved : goal.lines-preserved
 lines-preserved g c =
@@ -178,8 +105,7 @@ lines-preserved g c =
     let all = left c.args.source.now in
     let middle = to_come mid (left c.lines.source) in
     let gathered = c.before_read.new.out.items in
-    let flushed = on_ok c.before_read.result (IsFlushed (written c.lines.sink) b c.lines.out.items gathered) c.if-is_err.ensures.value c.before_read.ensures.ok in
-    let p = flushed_or_kept q a (written c.lines.sink) b first mid all middle c.lines.out.items gathered c.lines.later c.lines.answer c.lines.invariant.progress flushed in
+    let p = read_from b gathered c.before_read.result c.lines.invariant.progress c.if-is_err.ensures.value c.before_read.ensures.ok in
     let new = c.read_line.new.self in
     let after = to_come new (left c.read_line.new.source) in
     let going = c.lines.invariant.going in

@@ -1,23 +1,35 @@
-use Rattle.std.proofs.Common.{inl, map, subst}
+use Rattle.std.proofs.Common.{◌≡◌, inl, map, subst, sym}
 use Rattle.archiver_appliance.specs.declared.command.Command.{Command}
-use Rattle.archiver_appliance.specs.declared.command.Command.TheVariants as command
+use Rattle.archiver_appliance.specs.declared.command.Command.TheVariants.{Extract, OverStore}
 use Rattle.archiver_appliance.specs.Command.{IsCommand}
+use Rattle.archiver_appliance.proofs.Words.{ingest_same, not_both, report_same}
 use Rattle.archiver_appliance.proofs.run.obey.Goals as goal
 
-pub returns-in-Some-Get-clause-obeys : goal.returns-in-Some-Get-clause-obeys
-returns-in-Some-Get-clause-obeys g c =
-    let done = c.get_from.ensures in
-    let is = subst (λ (a : Command). IsCommand (map (λ w. w.now) c.args.words.now) a) c.in-Some-Get.field-0-is c.in-Some-Get.ensures.found in
-    inl (command.Get c.in-Some-Get.name c.in-Some-Get.query, is, λ tells. (done.judges tells, (record { any_moment = done.any_moment tells; elsewhere = done.elsewhere tells }, λ first holds. done.gets tells first holds.0 holds.1)))
+pub returns-in-Some-Extract-clause-report_alone : goal.returns-in-Some-Extract-clause-report_alone
+returns-in-Some-Extract-clause-report_alone g c command asks report =
+    let words = map (λ w. w.now) c.args.words.now in
+    absurd (not_both words c.in-Some-Extract.query command (subst (λ (a : Command). IsCommand words a) c.in-Some-Extract.field-0-is c.in-Some-Extract.ensures.found) asks)
 
-pub returns-in-Some-Status-clause-obeys : goal.returns-in-Some-Status-clause-obeys
-returns-in-Some-Status-clause-obeys g c =
-    let done = c.status_of.ensures in
-    let is = subst (λ (a : Command). IsCommand (map (λ w. w.now) c.args.words.now) a) c.in-Some-Status.field-0-is c.in-Some-Status.ensures.found in
-    inl (command.Status, is, λ tells. (done.judges tells, (record { any_moment = done.any_moment tells; elsewhere = done.elsewhere tells }, λ first holds. done.tells tells first holds.0 holds.1)))
+pub returns-in-Some-Extract-clause-refused : goal.returns-in-Some-Extract-clause-refused
+returns-in-Some-Extract-clause-refused g c command asks is =
+    let words = map (λ w. w.now) c.args.words.now in
+    absurd (not_both words c.in-Some-Extract.query command (subst (λ (a : Command). IsCommand words a) c.in-Some-Extract.field-0-is c.in-Some-Extract.ensures.found) asks)
 
-pub returns-in-Some-Check-clause-obeys : goal.returns-in-Some-Check-clause-obeys
-returns-in-Some-Check-clause-obeys g c =
-    let done = c.check_of.ensures in
-    let is = subst (λ (a : Command). IsCommand (map (λ w. w.now) c.args.words.now) a) c.in-Some-Check.field-0-is c.in-Some-Check.ensures.found in
-    inl (command.Check, is, λ tells. (done.judges tells, (record { any_moment = done.any_moment tells; elsewhere = done.elsewhere tells }, done.checks tells, λ first holds. done.stands tells first holds.0 holds.1)))
+pub returns-in-Some-OverStore-clause-obeys : goal.returns-in-Some-OverStore-clause-obeys
+returns-in-Some-OverStore-clause-obeys g c =
+    inl (OverStore c.in-Some-OverStore.command, subst (λ (a : Command). IsCommand (map (λ w. w.now) c.args.words.now) a) c.in-Some-OverStore.field-0-is c.in-Some-OverStore.ensures.found, c.serve.ensures.does)
+
+pub returns-in-Some-OverStore-clause-extract_alone : goal.returns-in-Some-OverStore-clause-extract_alone
+returns-in-Some-OverStore-clause-extract_alone g c query asks =
+    let words = map (λ w. w.now) c.args.words.now in
+    absurd (not_both words query c.in-Some-OverStore.command asks (subst (λ (a : Command). IsCommand words a) c.in-Some-OverStore.field-0-is c.in-Some-OverStore.ensures.found))
+
+pub returns-in-Some-OverStore-clause-ingest_alone : goal.returns-in-Some-OverStore-clause-ingest_alone
+returns-in-Some-OverStore-clause-ingest_alone g c asks =
+    let words = map (λ w. w.now) c.args.words.now in
+    c.serve.ensures.ingest_alone (ingest_same words c.in-Some-OverStore.command (subst (λ (a : Command). IsCommand words a) c.in-Some-OverStore.field-0-is c.in-Some-OverStore.ensures.found) asks)
+
+pub returns-in-Some-OverStore-clause-report_alone : goal.returns-in-Some-OverStore-clause-report_alone
+returns-in-Some-OverStore-clause-report_alone g c command asks report =
+    let words = map (λ w. w.now) c.args.words.now in
+    c.serve.ensures.report_alone (report_same words c.in-Some-OverStore.command command (subst (λ (a : Command). IsCommand words a) c.in-Some-OverStore.field-0-is c.in-Some-OverStore.ensures.found) asks report)

@@ -1,8 +1,8 @@
 use Rattle.std.proofs.Common.{◌≡◌, length}
 use Rattle.pb_wire.specs.Reading.{field_at}
 use Rattle.pb_wire.specs.Cursor.{contents_of}
-use Rattle.event_types.specs.Fields.{first_fault}
-use Rattle.event_types.specs.FieldValue.{fields_of}
+use Rattle.pb_wire.specs.Fields.{first_fault}
+use Rattle.pb_wire.specs.FieldValue.{fields_of}
 use Rattle.event_types.specs.Event.{fault_in}
 use Rattle.event_types.specs.Reading.{no_members, with_fields}
 use Rattle.event_types.proofs.reading.decode.Given as goal

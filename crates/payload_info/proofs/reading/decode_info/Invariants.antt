@@ -3,8 +3,9 @@ use Rattle.std.specs.List.{filter_map, last_or}
 use Rattle.std.specs.Option.{option_map}
 use Rattle.pb_wire.specs.Reading.{field_at}
 use Rattle.pb_wire.specs.Cursor.{contents_of}
-use Rattle.payload_info.specs.Fields.{number_in, text_in, last_of, first_fault}
-use Rattle.payload_info.specs.FieldValue.{fields_of, joined}
+use Rattle.pb_wire.specs.Fields.{number_in, text_in, last_of, first_fault}
+use Rattle.pb_wire.specs.FieldValue.{fields_of}
+use Rattle.series_model.specs.PairLists.{joined}
 use Rattle.payload_info.specs.Info.{fault_in, pairs_of}
 use Rattle.payload_info.proofs.reading.decode_info.Given as goal
 

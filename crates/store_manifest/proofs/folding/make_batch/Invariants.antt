@@ -1,7 +1,7 @@
 use Rattle.std.proofs.Common.{length, List, ◌↔◌}
 use Rattle.store_manifest.specs.declared.entry.Entry.{Entry}
 use Rattle.store_manifest.specs.Batches.{Makes}
-use Rattle.store_manifest.specs.Listing.{next_of, IsListing}
+use Rattle.store_manifest.specs.Listing.{entries_of, AreLists}
 use Rattle.store_manifest.proofs.folding.make_batch.Given as goal
 
 abbrev pub decreases-loop-rest : goal.decreases-loop-rest
@@ -9,6 +9,6 @@ decreases-loop-rest l = length l.rest
 
 abbrev pub invariant-loop-rest : goal.invariant-loop-rest
 invariant-loop-rest l = record {
-  good : IsListing l.listing;
-  says : (last : List Entry) → Makes l.g (next_of l.listing) l.rest last ↔ Makes l.g (next_of l.fn.listing) l.batch last;
+  good : AreLists l.lists.listed.entries;
+  says : (last : List Entry) → Makes l.g (entries_of l.lists.listed.entries) l.rest last ↔ Makes l.g (entries_of l.fn.lists.listed.entries) l.batch last;
 }

@@ -1,9 +1,8 @@
-use Rattle.std.proofs.Common.{◌≡◌, ℕ, List, length, Option, Some, IfSome, Bor, sym, ◌∙◌, ap, subst, arith}
+use Rattle.std.proofs.Common.{◌≡◌, ℕ, List, length, Option, IfSome, Bor, ◌∙◌, subst, arith}
 use Rattle.std.specs.Iterator.{YieldsFirstBy}
 use Rattle.std.proofs.lemmas.Iterator.{YieldsList}
 use Rattle.std.proofs.lemmas.Iterator.Consumers.{YieldsList-from_first, YieldsList-turn, YieldsList-end}
 use Rattle.std.proofs.lemmas.List.{length_push}
-use Rattle.disk_model.specs.Files.{Files}
 use Rattle.disk_model.proofs.Passing.{passes_then}
 use Rattle.store_manifest.specs.declared.entry.Entry.{Entry}
 use Rattle.store_reopen.specs.Verdict.{EndsEarly, file_short}

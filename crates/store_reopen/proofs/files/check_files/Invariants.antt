@@ -1,4 +1,4 @@
-use Rattle.std.proofs.Common.{◌≡◌, ◌≤◌, ℕ, IsTrue, All, length, take}
+use Rattle.std.proofs.Common.{◌≡◌, ◌≤◌, IsTrue, All, length, take}
 use Rattle.disk_model.specs.Past.{Passes}
 use Rattle.store_reopen.specs.Verdict.{IsThere}
 use Rattle.store_reopen.proofs.files.check_files.Given as goal

@@ -1,4 +1,4 @@
-use Rattle.std.proofs.Common.{◌≡◌, ℕ, List, length, take, inl, inr, ◌∙◌, ap, Err}
+use Rattle.std.proofs.Common.{ℕ, List, length, take, inl, inr, ◌∙◌, ap, Err}
 use Rattle.gate_journal.specs.Batches.{open_gates}
 use Rattle.store_reopen.proofs.Verdicts.{same_batches}
 use Rattle.store_reopen.proofs.journals.gate_of.Goals as goal

@@ -1,9 +1,9 @@
-use Rattle.std.proofs.Common.{◌≡◌, ◌≢◌, ℕ, Err, inl, refl, sym, ◌∙◌, ap, subst}
+use Rattle.std.proofs.Common.{◌≡◌, Err, inl, sym, ap, subst}
 use Rattle.disk_model.specs.Files.{Name, Content}
 use Rattle.gate_journal.specs.Batches.{IsBadJournal}
 use Rattle.gate_journal.specs.Kept.{Says, StillSays}
 use Rattle.store_manifest.specs.Batches.{Configured, Folds, IsBadBatch}
-use Rattle.tier_store.specs.Names.{short_manifest}
+use Rattle.store_manifest.specs.Manifest.{manifest_name}
 use Rattle.store_reopen.specs.Verdict.{IsBadManifest, manifest_bad}
 use Rattle.store_reopen.proofs.Keeping.{kept_manifest, kept_then, manifest_again, catalogue_stays}
 use Rattle.store_reopen.proofs.Looking.{IsGate, bad_again, no_bad_entries}
@@ -11,31 +11,31 @@ use Rattle.store_reopen.proofs.journals.load_manifest.Goals as goal
 
 pub returns-in-Ok-clause-keeps : goal.returns-in-Ok-clause-keeps
 returns-in-Ok-clause-keeps g c tells =
-    kept_manifest c.args.g (g.D.Disk.files c.args.disk.now) (g.D.Disk.files c.load.new.disk) (g.D.Disk.opened c.args.disk.now) (g.D.Disk.opened c.load.new.disk) (g.D.Disk.past c.args.disk.now) (g.D.Disk.past c.load.new.disk) (c.load.ensures.any_moment tells) (c.load.ensures.elsewhere tells)
+    kept_manifest 1 c.args.g (g.D.Disk.files c.args.disk.now) (g.D.Disk.files c.load.new.disk) (g.D.Disk.opened c.args.disk.now) (g.D.Disk.opened c.load.new.disk) (g.D.Disk.past c.args.disk.now) (g.D.Disk.past c.load.new.disk) (c.load.ensures.any_moment tells) (c.load.ensures.elsewhere tells)
     (c.load.ensures.reads tells) (c.load.ensures.opened tells) (c.requires.unopened tells) (c.load.ensures.unopened tells)
 
 pub returns-in-Err-Disk-clause-keeps : goal.returns-in-Err-Disk-clause-keeps
 returns-in-Err-Disk-clause-keeps g c tells =
-    kept_manifest c.args.g (g.D.Disk.files c.args.disk.now) (g.D.Disk.files c.load.new.disk) (g.D.Disk.opened c.args.disk.now) (g.D.Disk.opened c.load.new.disk) (g.D.Disk.past c.args.disk.now) (g.D.Disk.past c.load.new.disk) (c.load.ensures.any_moment tells) (c.load.ensures.elsewhere tells)
+    kept_manifest 1 c.args.g (g.D.Disk.files c.args.disk.now) (g.D.Disk.files c.load.new.disk) (g.D.Disk.opened c.args.disk.now) (g.D.Disk.opened c.load.new.disk) (g.D.Disk.past c.args.disk.now) (g.D.Disk.past c.load.new.disk) (c.load.ensures.any_moment tells) (c.load.ensures.elsewhere tells)
     (c.load.ensures.reads tells) (c.load.ensures.opened tells) (c.requires.unopened tells) (c.load.ensures.unopened tells)
 
 pub returns-in-Err-BadJournal-clause-keeps : goal.returns-in-Err-BadJournal-clause-keeps
 returns-in-Err-BadJournal-clause-keeps g c tells =
-    kept_manifest c.args.g (g.D.Disk.files c.args.disk.now) (g.D.Disk.files c.load.new.disk) (g.D.Disk.opened c.args.disk.now) (g.D.Disk.opened c.load.new.disk) (g.D.Disk.past c.args.disk.now) (g.D.Disk.past c.load.new.disk) (c.load.ensures.any_moment tells) (c.load.ensures.elsewhere tells)
+    kept_manifest 1 c.args.g (g.D.Disk.files c.args.disk.now) (g.D.Disk.files c.load.new.disk) (g.D.Disk.opened c.args.disk.now) (g.D.Disk.opened c.load.new.disk) (g.D.Disk.past c.args.disk.now) (g.D.Disk.past c.load.new.disk) (c.load.ensures.any_moment tells) (c.load.ensures.elsewhere tells)
     (c.load.ensures.reads tells) (c.load.ensures.opened tells) (c.requires.unopened tells) (c.load.ensures.unopened tells)
 
 pub returns-in-Err-GranularityDiffers-clause-keeps : goal.returns-in-Err-GranularityDiffers-clause-keeps
 returns-in-Err-GranularityDiffers-clause-keeps g c tells =
-    kept_manifest c.args.g (g.D.Disk.files c.args.disk.now) (g.D.Disk.files c.load.new.disk) (g.D.Disk.opened c.args.disk.now) (g.D.Disk.opened c.load.new.disk) (g.D.Disk.past c.args.disk.now) (g.D.Disk.past c.load.new.disk) (c.load.ensures.any_moment tells) (c.load.ensures.elsewhere tells)
+    kept_manifest 1 c.args.g (g.D.Disk.files c.args.disk.now) (g.D.Disk.files c.load.new.disk) (g.D.Disk.opened c.args.disk.now) (g.D.Disk.opened c.load.new.disk) (g.D.Disk.past c.args.disk.now) (g.D.Disk.past c.load.new.disk) (c.load.ensures.any_moment tells) (c.load.ensures.elsewhere tells)
     (c.load.ensures.reads tells) (c.load.ensures.opened tells) (c.requires.unopened tells) (c.load.ensures.unopened tells)
 
 pub returns-in_err-at-in-Err-BadBatch-clause-keeps : goal.returns-in_err-at-in-Err-BadBatch-clause-keeps
 returns-in_err-at-in-Err-BadBatch-clause-keeps g c tells =
     kept_then c.args.g _ _ _ _ _ _ _ _ _
-    (kept_manifest c.args.g (g.D.Disk.files c.args.disk.now) (g.D.Disk.files c.load.new.disk) (g.D.Disk.opened c.args.disk.now) (g.D.Disk.opened c.load.new.disk) (g.D.Disk.past c.args.disk.now) (g.D.Disk.past c.load.new.disk) (c.load.ensures.any_moment tells) (c.load.ensures.elsewhere tells)
+    (kept_manifest 1 c.args.g (g.D.Disk.files c.args.disk.now) (g.D.Disk.files c.load.new.disk) (g.D.Disk.opened c.args.disk.now) (g.D.Disk.opened c.load.new.disk) (g.D.Disk.past c.args.disk.now) (g.D.Disk.past c.load.new.disk) (c.load.ensures.any_moment tells) (c.load.ensures.elsewhere tells)
     (c.load.ensures.reads tells) (c.load.ensures.opened tells) (c.requires.unopened tells) (c.load.ensures.unopened tells))
     (
-    manifest_again c.args.g c.in_ok-name.name (g.D.Disk.files c.load.new.disk) (g.D.Disk.files c.gate_of.new.disk) (g.D.Disk.opened c.load.new.disk) (g.D.Disk.opened c.gate_of.new.disk) (g.D.Disk.past c.load.new.disk) (g.D.Disk.past c.gate_of.new.disk) c.in_ok-name.ensures
+    manifest_again 1 c.args.g c.in_ok-name.name (g.D.Disk.files c.load.new.disk) (g.D.Disk.files c.gate_of.new.disk) (g.D.Disk.opened c.load.new.disk) (g.D.Disk.opened c.gate_of.new.disk) (g.D.Disk.past c.load.new.disk) (g.D.Disk.past c.gate_of.new.disk) c.in_ok-name.ensures
     (record {
       kept = c.gate_of.ensures.kept tells;
       passes = c.gate_of.ensures.any_moment tells;
@@ -48,10 +48,10 @@ returns-in_err-at-in-Err-BadBatch-clause-keeps g c tells =
 pub returns-in_ok-at-in-Err-BadBatch-clause-keeps : goal.returns-in_ok-at-in-Err-BadBatch-clause-keeps
 returns-in_ok-at-in-Err-BadBatch-clause-keeps g c tells =
     kept_then c.args.g _ _ _ _ _ _ _ _ _
-    (kept_manifest c.args.g (g.D.Disk.files c.args.disk.now) (g.D.Disk.files c.load.new.disk) (g.D.Disk.opened c.args.disk.now) (g.D.Disk.opened c.load.new.disk) (g.D.Disk.past c.args.disk.now) (g.D.Disk.past c.load.new.disk) (c.load.ensures.any_moment tells) (c.load.ensures.elsewhere tells)
+    (kept_manifest 1 c.args.g (g.D.Disk.files c.args.disk.now) (g.D.Disk.files c.load.new.disk) (g.D.Disk.opened c.args.disk.now) (g.D.Disk.opened c.load.new.disk) (g.D.Disk.past c.args.disk.now) (g.D.Disk.past c.load.new.disk) (c.load.ensures.any_moment tells) (c.load.ensures.elsewhere tells)
     (c.load.ensures.reads tells) (c.load.ensures.opened tells) (c.requires.unopened tells) (c.load.ensures.unopened tells))
     (
-    manifest_again c.args.g c.in_ok-name.name (g.D.Disk.files c.load.new.disk) (g.D.Disk.files c.gate_of.new.disk) (g.D.Disk.opened c.load.new.disk) (g.D.Disk.opened c.gate_of.new.disk) (g.D.Disk.past c.load.new.disk) (g.D.Disk.past c.gate_of.new.disk) c.in_ok-name.ensures
+    manifest_again 1 c.args.g c.in_ok-name.name (g.D.Disk.files c.load.new.disk) (g.D.Disk.files c.gate_of.new.disk) (g.D.Disk.opened c.load.new.disk) (g.D.Disk.opened c.gate_of.new.disk) (g.D.Disk.past c.load.new.disk) (g.D.Disk.past c.gate_of.new.disk) c.in_ok-name.ensures
     (record {
       kept = c.gate_of.ensures.kept tells;
       passes = c.gate_of.ensures.any_moment tells;
@@ -70,7 +70,7 @@ pub returns-in_ok-at-in-Err-BadBatch-clause-told : goal.returns-in_ok-at-in-Err-
 returns-in_ok-at-in-Err-BadBatch-clause-told g c tells seen rows says same =
     let bad = c.in-Err-BadBatch.ensures.bad_batch tells c.in-Err-BadBatch.number (ap Err c.in-Err-BadBatch.field-0-is) in
     let gate = subst (λ (n : Name). IsGate (g.D.Disk.files c.load.new.disk n) c.in-Err-BadBatch.number c.in_ok-at-in-Err-BadBatch.at) c.in_ok-name.ensures (c.in_ok-at-in-Err-BadBatch.ensures.gate tells) in
-    let found = bad_again IsBadBatch no_bad_entries (g.D.Disk.files c.args.disk.now short_manifest) (g.D.Disk.files c.load.new.disk short_manifest) _ bad.0 c.in-Err-BadBatch.number c.in_ok-at-in-Err-BadBatch.at bad.1 bad.2 (c.load.ensures.reads tells) gate in
+    let found = bad_again IsBadBatch no_bad_entries (g.D.Disk.files c.args.disk.now (manifest_name 1)) (g.D.Disk.files c.load.new.disk (manifest_name 1)) _ bad.0 c.in-Err-BadBatch.number c.in_ok-at-in-Err-BadBatch.at bad.1 bad.2 (c.load.ensures.reads tells) gate in
     manifest_bad (record { rows = rows; rows_said = says; named = c.in_ok-name.ensures; bad = subst (λ (x : Content). IsBadManifest x c.in_ok-at-in-Err-BadBatch.at) same found })
 
 pub returns-in-Err-GranularityDiffers-clause-told : goal.returns-in-Err-GranularityDiffers-clause-told
@@ -80,5 +80,5 @@ returns-in-Err-GranularityDiffers-clause-told g c tells seen rows says same =
 
 pub returns-in-Ok-clause-catalogue : goal.returns-in-Ok-clause-catalogue
 returns-in-Ok-clause-catalogue g c tells catalogue named stored =
-    catalogue_stays (StillSays (Folds c.args.g) (g.D.Disk.files c.args.disk.now short_manifest)) catalogue.journal (g.D.Disk.files c.args.disk.now) (g.D.Disk.opened c.args.disk.now) (g.D.Disk.past c.args.disk.now) (g.D.Disk.files c.load.new.disk) (g.D.Disk.opened c.load.new.disk) (g.D.Disk.past c.load.new.disk)
+    catalogue_stays 1 (StillSays (Folds c.args.g) (g.D.Disk.files c.args.disk.now (manifest_name 1))) catalogue.journal (g.D.Disk.files c.args.disk.now) (g.D.Disk.opened c.args.disk.now) (g.D.Disk.past c.args.disk.now) (g.D.Disk.files c.load.new.disk) (g.D.Disk.opened c.load.new.disk) (g.D.Disk.past c.load.new.disk)
     catalogue.rows named stored (c.load.ensures.elsewhere tells) (c.load.ensures.any_moment tells) (c.load.ensures.opened tells)

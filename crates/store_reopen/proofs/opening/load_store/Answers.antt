@@ -1,15 +1,11 @@
-use Rattle.std.proofs.Common.{◌≡◌, ◌≢◌, ℕ, List, refl, sym, ◌∙◌, ap, subst}
+use Rattle.std.proofs.Common.{List, sym, ◌∙◌, subst}
 use Rattle.std.specs.Prelude.{All}
 use Rattle.std.proofs.lemmas.Result.{err_from_is_err_and}
-use Rattle.disk_model.specs.Files.{Name, Files}
 use Rattle.gate_journal.specs.Kept.{Says}
-use Rattle.partition_names.specs.declared.granularity.Granularity.{Granularity}
-use Rattle.store_manifest.specs.declared.entry.Entry.{Entry}
 use Rattle.store_manifest.specs.Batches.{Folds}
 use Rattle.pv_catalog.specs.declared.row.Row.{Row}
-use Rattle.pv_catalog.specs.Catalogue.{catalogue_name}
 use Rattle.pv_catalog.specs.Rows.{IsCatalogue}
-use Rattle.tier_store.specs.Names.{short_manifest}
+use Rattle.store_manifest.specs.Manifest.{manifest_name}
 use Rattle.store_reopen.specs.Verdict.{AreSaid, IsThere}
 use Rattle.store_reopen.proofs.Keeping.{kept_then, kept_reading, kept_reads}
 use Rattle.store_reopen.proofs.Having.{all_there_in}
@@ -19,7 +15,7 @@ pub load_catalogue-requires : goal.load_catalogue-requires
 load_catalogue-requires g c = record { unopened = λ tells. (c.requires.unopened tells).0 }
 
 pub load_manifest-requires : goal.load_manifest-requires
-load_manifest-requires g c = record { unopened = λ tells. (c.load_catalogue.ensures.keeps tells c.args.g).same_opened short_manifest ∙ (c.requires.unopened tells).1 }
+load_manifest-requires g c = record { unopened = λ tells. (c.load_catalogue.ensures.keeps tells c.args.g).same_opened (manifest_name 1) ∙ (c.requires.unopened tells).1 }
 
 pub returns-in_err-catalogue-clause-told : goal.returns-in_err-catalogue-clause-told
 returns-in_err-catalogue-clause-told g c tells =

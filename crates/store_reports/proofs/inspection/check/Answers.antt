@@ -1,25 +1,18 @@
-use Rattle.std.proofs.Common.{subst}
-use Rattle.store_reports.specs.Check.{Checks}
-use Rattle.store_reports.proofs.Telling.{told_none, none_damaged}
+use Rattle.std.proofs.Common.{refl}
+use Rattle.store_reports.proofs.Leaving.{leaves_ended}
+use Rattle.store_reports.proofs.Telling.{all_stand, told_none}
 use Rattle.store_reports.proofs.inspection.check.Goals as goal
 
-pub returns-in-Ok-clause-checks : goal.returns-in-Ok-clause-checks
-returns-in-Ok-clause-checks g c = λ tells.
+pub returns-clause-checks : goal.returns-clause-checks
+returns-clause-checks g c =
     let old = c.args.store.now in
+    let tells = g.D.Disk.tells in
     let a = g.K.Sink.written c.args.sink.now in
-    let none = told_none old.catalogue.rows (g.D.Disk.files old.disk) a c.new-report.result.buffer c.new-report.result.first c.new-report.ensures.buffer c.new-report.ensures.first in
-    c.ended.ensures.checks old.catalogue.rows (g.D.Disk.files old.disk) old.manifest.entries a (c.in-Ok.ensures.told tells a none)
+    let none = told_none tells old.catalogue.rows (g.D.Disk.files old.disk) a c.new-report.result.buffer c.new-report.result.first c.new-report.ensures.buffer c.new-report.ensures.first in
+    c.ended.ensures.checks tells old.catalogue.rows (g.D.Disk.files old.disk) old.manifest.entries a (c.check_rows-told.ensures.told old.catalogue.rows (g.D.Disk.files old.disk) (record { rows = refl; files = λ told. refl }) a none)
 
-pub returns-in-Ok-clause-stands : goal.returns-in-Ok-clause-stands
-returns-in-Ok-clause-stands g c = λ tells held has stands name at is.
-    let old = c.args.store.now in
-    let a = g.K.Sink.written c.args.sink.now in
-    let checks = subst (λ r. Checks old.catalogue.rows (g.D.Disk.files old.disk) old.manifest.entries a (g.K.Sink.written c.ended.new.sink) r) is (returns-in-Ok-clause-checks g c tells) in
-    none_damaged old.catalogue old.manifest (g.D.Disk.files old.disk) (g.D.Disk.opened old.disk) (g.D.Disk.past old.disk) held name at has stands (g.met.D.Disk.seen old.disk tells) checks.1
+pub returns-clause-stands : goal.returns-clause-stands
+returns-clause-stands g c held has stands told = all_stand g.D.Disk.tells _ held _ _ c.ended.result has stands told (g.met.D.Disk.seen c.args.store.now.disk told) (returns-clause-checks g c)
 
-pub returns-in-Err-clause-checks : goal.returns-in-Err-clause-checks
-returns-in-Err-clause-checks g c = λ tells.
-    let old = c.args.store.now in
-    let a = g.K.Sink.written c.args.sink.now in
-    let none = told_none old.catalogue.rows (g.D.Disk.files old.disk) a c.new-report.result.buffer c.new-report.result.first c.new-report.ensures.buffer c.new-report.ensures.first in
-    c.stopped.ensures.checks old.catalogue.rows (g.D.Disk.files old.disk) old.manifest.entries a (c.in-Err.ensures.stopped tells a none)
+pub returns-clause-leaves : goal.returns-clause-leaves
+returns-clause-leaves g c = leaves_ended g.D.Disk.tells _ _ _ _ _ _ c.check_rows-told.result c.ended.result c.check_rows-told.ensures.leaves c.ended.ensures.faults c.ended.ensures.cause

@@ -1,6 +1,8 @@
-use Rattle.std.proofs.Common.{length, ap, arith}
+use Rattle.std.proofs.Common.{length, refl, ap, arith}
 use Rattle.std.proofs.lemmas.List.{length-take-le}
+use Rattle.std.proofs.lemmas.Result.{err_from_is_err_and}
 use Rattle.store_reports.specs.declared.report.Finding.TheVariants as found
+use Rattle.store_reports.proofs.Leaving.{counted_first, leaves_opened, leaves_unopened}
 use Rattle.store_reports.proofs.Telling.{front_found}
 use Rattle.store_reports.proofs.inspection.find.Goals as goal
 
@@ -15,11 +17,31 @@ check_file-requires g c = record {
 }
 
 pub returns-in-Good-clause-found : goal.returns-in-Good-clause-found
-returns-in-Good-clause-found g c = λ tells.
-    let front = c.in_ok-reader.ensures.front tells in
-    front_found c.args.store.now.catalogue.rows (g.D.Disk.files c.args.store.now.disk) c.args.entry.now (g.D.Reader.ReadAt.bytes c.in_ok-reader.reader) (found.Good c.in-Good.count) front.1 (_, _, c.in-Good.ensures.verdict front.0)
+returns-in-Good-clause-found g c =
+    front_found g.D.Disk.tells c.args.store.now.catalogue.rows (g.D.Disk.files c.args.store.now.disk) (record { entry = c.args.entry.now; finding = found.Good c.in-Good.count }) (g.D.Reader.ReadAt.bytes c.in_ok-reader.reader)
+    (λ told. let front = c.in_ok-reader.ensures.front told in (front.1, record { first = _; last = _; good = c.in-Good.ensures.verdict front.0 }))
 
 pub returns-in-Damaged-clause-found : goal.returns-in-Damaged-clause-found
-returns-in-Damaged-clause-found g c = λ tells.
-    let front = c.in_ok-reader.ensures.front tells in
-    front_found c.args.store.now.catalogue.rows (g.D.Disk.files c.args.store.now.disk) c.args.entry.now (g.D.Reader.ReadAt.bytes c.in_ok-reader.reader) (found.Damaged c.in-Damaged.at) front.1 (c.in-Damaged.ensures.verdict front.0)
+returns-in-Damaged-clause-found g c =
+    front_found g.D.Disk.tells c.args.store.now.catalogue.rows (g.D.Disk.files c.args.store.now.disk) (record { entry = c.args.entry.now; finding = found.Damaged c.in-Damaged.at }) (g.D.Reader.ReadAt.bytes c.in_ok-reader.reader)
+    (λ told. let front = c.in_ok-reader.ensures.front told in (front.1, c.in-Damaged.ensures.verdict front.0))
+
+pub returns-in_err-reader-clause-leaves : goal.returns-in_err-reader-clause-leaves
+returns-in_err-reader-clause-leaves g c writes =
+    let p = err_from_is_err_and c.from_residual.result c.from_residual.ensures.1 in
+    let kept = c.open_listed.ensures in
+    rw (p.1, p.2) (leaves_unopened g.D.Disk.tells _ _ g.D.Reader.ReadAt.faults writes c.open_listed.result c.in_err-reader.field-0.0 c.in_err-reader.was kept.kept kept.same.0 kept.same.1 kept.reads)
+
+pub returns-in-Good-clause-leaves : goal.returns-in-Good-clause-leaves
+returns-in-Good-clause-leaves g c writes = let kept = c.open_listed.ensures in leaves_opened g.D.Disk.tells _ _ g.D.Reader.ReadAt.faults writes c.open_listed.result _ kept.kept kept.same.0 kept.same.1 kept.reads (λ quiet. absurd quiet) tt
+
+pub returns-in-Damaged-clause-leaves : goal.returns-in-Damaged-clause-leaves
+returns-in-Damaged-clause-leaves g c writes = let kept = c.open_listed.ensures in leaves_opened g.D.Disk.tells _ _ g.D.Reader.ReadAt.faults writes c.open_listed.result _ kept.kept kept.same.0 kept.same.1 kept.reads (λ quiet. absurd quiet) tt
+
+pub returns-in-ReadFault-clause-leaves : goal.returns-in-ReadFault-clause-leaves
+returns-in-ReadFault-clause-leaves g c writes =
+    let kept = c.open_listed.ensures in
+    leaves_opened g.D.Disk.tells _ _ g.D.Reader.ReadAt.faults writes c.open_listed.result _ kept.kept kept.same.0 kept.same.1 kept.reads (λ quiet. absurd quiet) (counted_first _ _ c.in_ok-reader.ensures.fresh (c.in-ReadFault.ensures.cause refl))
+
+pub returns-in-Memory-clause-leaves : goal.returns-in-Memory-clause-leaves
+returns-in-Memory-clause-leaves g c writes = let kept = c.open_listed.ensures in leaves_opened g.D.Disk.tells _ _ g.D.Reader.ReadAt.faults writes c.open_listed.result _ kept.kept kept.same.0 kept.same.1 kept.reads (λ quiet. absurd quiet) tt

@@ -1,10 +1,16 @@
-use Rattle.store_retrieval.proofs.Finishing.{sent_as, sent_part}
+use Rattle.std.proofs.Common.{subst}
+use Rattle.store_retrieval.specs.Listed.{Comes}
+use Rattle.store_retrieval.proofs.Finishing.{all_sent, part_sent}
 use Rattle.store_retrieval.proofs.retrieval.ended.Goals as goal
 
-pub returns-in-Ok-clause-sent : goal.returns-in-Ok-clause-sent
-returns-in-Ok-clause-sent g c row q a samples comes =
-    sent_as row q a (g.K.Sink.written c.args.sink.now) (g.K.Sink.written c.send.new.sink) c.args.answer.now.text.gathered samples c.args.got c.in_default.not-SinkFault comes c.in-Ok.ensures.ok c.in-Ok.ensures.front
+pub returns-in-Ok-send-clause-sent : goal.returns-in-Ok-send-clause-sent
+returns-in-Ok-send-clause-sent g c row q a all comes =
+    let b = g.K.Sink.written c.args.sink.now in
+    let left = c.args.answer.now.text.gathered in
+    all_sent row q a b (g.K.Sink.written c.send.new.sink) left all (subst (λ r. Comes row q a b left all r) c.in-Ok.is comes) c.in-Ok-send.ensures.ok
 
-pub returns-in-Err-clause-sent : goal.returns-in-Err-clause-sent
-returns-in-Err-clause-sent g c row q a samples comes =
-    sent_part row q a (g.K.Sink.written c.args.sink.now) (g.K.Sink.written c.send.new.sink) c.args.answer.now.text.gathered samples c.args.got c.in_default.not-SinkFault comes c.in-Err.ensures.front
+pub returns-in-Err-send-clause-sent : goal.returns-in-Err-send-clause-sent
+returns-in-Err-send-clause-sent g c row q a all comes =
+    let b = g.K.Sink.written c.args.sink.now in
+    let left = c.args.answer.now.text.gathered in
+    part_sent row q a b (g.K.Sink.written c.send.new.sink) left all (subst (λ r. Comes row q a b left all r) c.in-Ok.is comes) c.in-Err-send.ensures.front

@@ -4,7 +4,7 @@ use Rattle.sink_buffer.proofs.buffer.SinkBuffer.put.Goals as goal
 
 pub returns-in_err-write_whole-clause-front : goal.returns-in_err-write_whole-clause-front
 returns-in_err-write_whole-clause-front g c =
-    let empty : c.make_room.new.self ≡ [] = c.in_ok-make_room.ensures.empty c.if-piece-gt-MOST.true in
+    let empty : c.make_room.new.self ≡ [] = c.make_room.ensures.long c.if-piece-gt-MOST.true in
     on_err c.from_residual-in_err-write_whole.result _ (front_of_piece (g.K.Sink.written c.args.sink.now) (g.K.Sink.written c.make_room.new.sink) (g.K.Sink.written c.write_whole.new.sink) c.args.self.now c.make_room.new.self c.args.piece.now c.in_ok-make_room.ensures.ok empty c.write_whole.ensures.front)
 
 pub returns-in_err-extend_from_slice-clause-front : goal.returns-in_err-extend_from_slice-clause-front
@@ -13,5 +13,5 @@ returns-in_err-extend_from_slice-clause-front g c =
 
 pub returns-in_ok-write_whole-clause-ok : goal.returns-in_ok-write_whole-clause-ok
 returns-in_ok-write_whole-clause-ok g c =
-    let empty : c.make_room.new.self ≡ [] = c.in_ok-make_room.ensures.empty c.if-piece-gt-MOST.true in
+    let empty : c.make_room.new.self ≡ [] = c.make_room.ensures.long c.if-piece-gt-MOST.true in
     sends_piece (g.K.Sink.written c.args.sink.now) (g.K.Sink.written c.make_room.new.sink) (g.K.Sink.written c.write_whole.new.sink) c.args.self.now c.make_room.new.self c.args.piece.now c.in_ok-make_room.ensures.ok empty c.in_ok-write_whole.ensures.all

@@ -1,56 +1,29 @@
-use Rattle.disk_model.specs.Past.{Passes}
+use Rattle.std.proofs.Common.{◌∙◌, Err, ap, refl}
+use Rattle.std.proofs.lemmas.Result.{err_from_is_err_and}
 use Rattle.event_types.specs.declared.about.About.{About}
 use Rattle.event_types.specs.declared.about.Method.TheVariants.{Monitor}
-use Rattle.tier_store.specs.Change.{HoldsChange}
-use Rattle.store_ingest.proofs.Lives.{has_open}
-use Rattle.store_ingest.proofs.Registering.{IsOfHeader, header, on_ok_by, not_refused, row_made, no_row_made, still_holds, registered_has, of_header}
+use Rattle.tier_store.specs.Ends.{end_of_register}
+use Rattle.tier_store.specs.Held.{Held}
+use Rattle.tier_store.specs.Change.{registering}
+use Rattle.store_ingest.specs.Chunk.{RegistersIn}
+use Rattle.store_ingest.proofs.Calls.{changes_of, done_nothing, spent}
+use Rattle.store_ingest.proofs.Headers.{header, refused_name, no_name_in, refused_in, registers_in}
 use Rattle.store_ingest.proofs.ingest.rows.register.Goals as goal
 
-pub returns-in-Err-BadName-clause-any_moment : goal.returns-in-Err-BadName-clause-any_moment
-returns-in-Err-BadName-clause-any_moment g c = λ tells held has. still_holds _ has
+pub returns-in-Err-BadName : goal.returns-in-Err-BadName
+returns-in-Err-BadName g c = record { changes = done_nothing g.D.Disk.tells (RegistersIn c.args.info.now) _ (λ held has. no_name_in c.args.info.now held (λ good. refused_name c.args.info.now.name c.in-Err-BadName.field-0-0 (rw c.bytes.ensures at (rw c.in-Err-BadName.field-0-is at c.in-Err-BadName.ensures.err)) good)) }
 
-pub returns-in-Err-Memory-clause-any_moment : goal.returns-in-Err-Memory-clause-any_moment
-returns-in-Err-Memory-clause-any_moment g c = λ tells held has. still_holds _ has
+pub returns-in-Err-Memory : goal.returns-in-Err-Memory
+returns-in-Err-Memory g c = record { changes = spent g.D.Disk.tells (RegistersIn c.args.info.now) _ _ refl }
 
-pub returns-in_err-clone-clause-any_moment : goal.returns-in_err-clone-clause-any_moment
-returns-in_err-clone-clause-any_moment g c = λ tells held has. still_holds _ has
+pub returns-in_err-clone : goal.returns-in_err-clone
+returns-in_err-clone g c =
+    let p = err_from_is_err_and c.from_residual.result c.from_residual.ensures.1 in
+    record { changes = spent g.D.Disk.tells (RegistersIn c.args.info.now) _ _ (p.1 ∙ ap (λ e. Err e) p.2) }
 
-pub returns-in-Ok-register-clause-rows : goal.returns-in-Ok-register-clause-rows
-returns-in-Ok-register-clause-rows g c =
+pub returns : goal.returns
+returns g c =
     let info = c.args.info.now in
     let about : About = record { ty = info.ty; method = Monitor; count = info.count; headers = c.in_ok-clone.field-0 } in
-    let of : IsOfHeader info c.in-Ok.name about = header info c.in-Ok.name c.bytes.result.now c.in_ok-clone.field-0 c.bytes.ensures c.in-Ok.ensures.ok c.in_ok-clone.ensures.cases in
-    let old = c.args.store.now.catalogue.rows in
-    row_made old c.register.new.self.catalogue.rows info c.in-Ok.name about of (not_refused old c.in-Ok.name c.in-Ok-register.field-0 (c.in-Ok-register.ensures.exactly c.requires.sound.0 c.requires.sound.1)) (c.in-Ok-register.ensures.settled c.requires.sound.0).0
-
-pub returns-in-Ok-register-clause-made : goal.returns-in-Ok-register-clause-made
-returns-in-Ok-register-clause-made g c = λ tells held has.
-    let info = c.args.info.now in
-    let about : About = record { ty = info.ty; method = Monitor; count = info.count; headers = c.in_ok-clone.field-0 } in
-    registered_has c.in-Ok.name about (c.in-Ok-register.ensures.made tells held held (has_open has))
-
-pub returns-in-Ok-register-clause-any_moment : goal.returns-in-Ok-register-clause-any_moment
-returns-in-Ok-register-clause-any_moment g c = λ tells held has.
-    let info = c.args.info.now in
-    let about : About = record { ty = info.ty; method = Monitor; count = info.count; headers = c.in_ok-clone.field-0 } in
-    let of : IsOfHeader info c.in-Ok.name about = header info c.in-Ok.name c.bytes.result.now c.in_ok-clone.field-0 c.bytes.ensures c.in-Ok.ensures.ok c.in_ok-clone.ensures.cases in
-    of_header (λ By. Passes (HoldsChange c.args.store.now.manifest.granularity By held held) (g.D.Disk.past c.args.store.now.disk) (g.D.Disk.past c.register.new.self.disk)) info c.in-Ok.name about of
-    (c.in-Ok-register.ensures.any_moment tells held held (has_open has))
-
-pub returns-clause-rows : goal.returns-clause-rows
-returns-clause-rows g c =
-    let info = c.args.info.now in
-    let about : About = record { ty = info.ty; method = Monitor; count = info.count; headers = c.in_ok-clone.field-0 } in
-    let of : IsOfHeader info c.in-Ok.name about = header info c.in-Ok.name c.bytes.result.now c.in_ok-clone.field-0 c.bytes.ensures c.in-Ok.ensures.ok c.in_ok-clone.ensures.cases in
-    let old = c.args.store.now.catalogue.rows in
-    let new = c.register.new.self.catalogue.rows in
-    on_ok_by c.disk_failure.result c.disk_failure.ensures.ok (λ of_rows.
-    no_row_made old new info c.in-Ok.name about c.in-Err.err of of_rows c.in-Err.ensures.refusal (c.in-Err.ensures.unchanged c.requires.sound.0 of_rows))
-
-pub returns-clause-any_moment : goal.returns-clause-any_moment
-returns-clause-any_moment g c = λ tells held has.
-    let info = c.args.info.now in
-    let about : About = record { ty = info.ty; method = Monitor; count = info.count; headers = c.in_ok-clone.field-0 } in
-    let of : IsOfHeader info c.in-Ok.name about = header info c.in-Ok.name c.bytes.result.now c.in_ok-clone.field-0 c.bytes.ensures c.in-Ok.ensures.ok c.in_ok-clone.ensures.cases in
-    of_header (λ By. Passes (HoldsChange c.args.store.now.manifest.granularity By held held) (g.D.Disk.past c.args.store.now.disk) (g.D.Disk.past c.register.new.self.disk)) info c.in-Ok.name about of
-    (c.in-Err.ensures.any_moment tells held held (has_open has))
+    let of = header info c.in-Ok.name c.bytes.result.now c.in_ok-clone.field-0 c.bytes.ensures c.in-Ok.ensures.ok c.in_ok-clone.ensures.cases in
+    record { changes = changes_of g.D.Disk.tells (registering c.in-Ok.name about) (RegistersIn info) (λ a b by. ap (λ (h : Held). h.store) by.1) (registers_in info c.in-Ok.name about of) (refused_in info c.in-Ok.name about of) _ _ (end_of_register c.register.result) c.disk_failure.result c.disk_failure.ensures c.register.ensures.acts }

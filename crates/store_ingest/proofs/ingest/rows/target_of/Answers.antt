@@ -11,7 +11,7 @@ returns-in_err-id-clause-none g c =
     rw c.from_residual.ensures (λ i has. cc (only i has, c.in_err-id.was))
 
 pub returns-clause-next : goal.returns-clause-next
-returns-clause-next g c = λ tells held has stands.
+returns-clause-next g c = λ held has stands.
     let id = c.in_ok-id.id in
     let entries : c.entries.result.now ≡ filter (λ (e : Entry). nat_eq e.series id) c.args.store.now.manifest.entries = c.entries.ensures ∙ ap (λ (m : ManifestState). filter (λ (e : Entry). nat_eq e.series id) m.entries) c.manifest.ensures in
-    behind_entries c.args.store.now.manifest.granularity held.rows id held.files c.entries.result.now c.next_of.result (has.stored.valid.filed.filed stands) (entries ∙ ap (λ (es : List Entry). filter (λ (e : Entry). nat_eq e.series id) es) has.entries) c.next_of.ensures.none c.next_of.ensures.last
+    behind_entries c.args.store.now.manifest.granularity held.rows id held.files c.entries.result.now c.next_of.result (has.known.valid.filed.filed stands) (entries ∙ ap (λ (es : List Entry). filter (λ (e : Entry). nat_eq e.series id) es) has.known.entries) c.next_of.ensures.none c.next_of.ensures.last

@@ -1,111 +1,67 @@
-use Rattle.std.proofs.Common.{◌≡◌, ◌∙◌, sym, ap, arith, Some, None, ℕ, length, refl}
-use Rattle.std.proofs.lemmas.Result.{err_from_is_err_and}
-use Rattle.pb_file.specs.File.{lines_of}
-use Rattle.pb_wire.specs.Payload.{row_of}
+use Rattle.std.proofs.Common.{◌≡◌, ◌∙◌, sym, ap, subst, refl, Some, None, Option, ℕ}
 use Rattle.pv_catalog.proofs.Listing.{none_then}
-use Rattle.series_model.specs.declared.sample.Sample.{Sample}
 use Rattle.series_model.specs.Admission.{admit}
-use Rattle.store_ingest.specs.Life.{flushed_life}
-use Rattle.store_ingest.specs.Chunk.{ChunkState}
-use Rattle.store_ingest.proofs.Entries.{moment_fits}
-use Rattle.store_ingest.proofs.Lives.{nothing_leaves, stands_left}
-use Rattle.store_ingest.proofs.Registering.{on_err_all}
-use Rattle.store_ingest.proofs.Offers.{HasRoom, MakesRoom, offers, some_of, room_left, room_emptied, sample_of, ready_more, emptied_left, no_room, room, kept_more}
-use Rattle.store_ingest.proofs.ingest.chunk.Chunk.offer.Goals.{then-self-line-gt-MOST_HELD+in_ok-flush, else-self-line-gt-MOST_HELD}
+use Rattle.tier_store.specs.Ends.{end_of_disk}
+use Rattle.tier_store.specs.Seen.{seen}
+use Rattle.tier_store.specs.Change.{Changes}
+use Rattle.store_ingest.specs.declared.ingest.chunk.Target.{Target}
+use Rattle.store_ingest.specs.Chunk.{ChunkState, OffersTo, doing, kept_for, offered_to, sample_of}
+use Rattle.store_ingest.proofs.Calls.{done_nothing}
+use Rattle.store_ingest.proofs.Samples.{kept_none, kept_unless, may_hold, refused}
 use Rattle.store_ingest.proofs.ingest.chunk.Chunk.offer.Goals as goal
 
-pub returns-in_default-clause-any_moment : goal.returns-in_default-clause-any_moment
-returns-in_default-clause-any_moment g c = λ tells first life s. nothing_leaves s
+pub returns-in_default-clause-changes : goal.returns-in_default-clause-changes
+returns-in_default-clause-changes g c =
+    let x = sample_of c.args.t c.args.line.now in
+    let self = c.args.self.now in
+    let none = kept_none self x c.args.now (ap (λ (v : ChunkState). v.target) (sym c.self.view_is) ∙ c.in_default.is) in
+    done_nothing g.D.Disk.tells (OffersTo (kept_for self x c.args.now) self x) _ (λ held has. subst (λ (o : Option Target). OffersTo o self x held held) (sym none) refl)
 
-pub returns-then-is_some-clause-taken : goal.returns-then-is_some-clause-taken
-returns-then-is_some-clause-taken g c = λ tells first life info s inside.
-    let target = c.in-Some.target in
-    let is : c.args.self.now.target ≡ Some target = ap (λ (v : ChunkState). v.target) (sym c.self.view_is) ∙ c.in-Some.is in
-    let x : Sample = record { t = c.args.t; line = c.args.line.now } in
-    let why = some_of c.admit.result (sym c.if-is_some.ensures) in
-    let told : admit (Some target.standing) (row_of target.ty).number x.t c.args.now ≡ Some why.0 = sym (c.admit.ensures ∙ ap (λ (n : ℕ). admit (Some target.standing) n c.args.t c.args.now) c.number.ensures) ∙ why.1 in
-    (life, offers info target x c.args.now (Some why.0) s inside is told, s)
+pub returns-in_default-clause-chunk : goal.returns-in_default-clause-chunk
+returns-in_default-clause-chunk g c =
+    let x = sample_of c.args.t c.args.line.now in
+    let self = c.args.self.now in
+    subst (λ (o : Option Target). self ≡ offered_to o self x) (sym (kept_none self x c.args.now (ap (λ (v : ChunkState). v.target) (sym c.self.view_is) ∙ c.in_default.is))) refl
 
-pub returns-then-is_some-clause-any_moment : goal.returns-then-is_some-clause-any_moment
-returns-then-is_some-clause-any_moment g c = λ tells first life s. nothing_leaves s
+pub returns-then-is_some-clause-changes : goal.returns-then-is_some-clause-changes
+returns-then-is_some-clause-changes g c =
+    let x = sample_of c.args.t c.args.line.now in
+    let self = c.args.self.now in
+    let is : self.target ≡ Some c.in-Some.target = ap (λ (v : ChunkState). v.target) (sym c.self.view_is) ∙ c.in-Some.is in
+    let told = sym (c.admit.ensures ∙ ap (λ (n : ℕ). admit (Some c.in-Some.target.standing) n c.args.t c.args.now) c.number.ensures) in
+    let none = refused self x c.args.now c.in-Some.target c.admit.result is told (sym c.if-is_some.ensures) in
+    done_nothing g.D.Disk.tells (OffersTo (kept_for self x c.args.now) self x) _ (λ held has. subst (λ (o : Option Target). OffersTo o self x held held) (sym none) refl)
 
-pub returns-in_err-flush-clause-left : goal.returns-in_err-flush-clause-left
-returns-in_err-flush-clause-left g c = λ tells first life s.
-    let p = err_from_is_err_and c.from_residual.result c.from_residual.ensures.1 in rw p.1 (c.in_err-flush.ensures.left tells first life s)
+pub returns-then-is_some-clause-chunk : goal.returns-then-is_some-clause-chunk
+returns-then-is_some-clause-chunk g c =
+    let x = sample_of c.args.t c.args.line.now in
+    let self = c.args.self.now in
+    let is : self.target ≡ Some c.in-Some.target = ap (λ (v : ChunkState). v.target) (sym c.self.view_is) ∙ c.in-Some.is in
+    let told = sym (c.admit.ensures ∙ ap (λ (n : ℕ). admit (Some c.in-Some.target.standing) n c.args.t c.args.now) c.number.ensures) in
+    subst (λ (o : Option Target). self ≡ offered_to o self x) (sym (refused self x c.args.now c.in-Some.target c.admit.result is told (sym c.if-is_some.ensures))) refl
 
-pub hold-requires-clause-next : goal.hold-requires-clause-next
-hold-requires-clause-next g c =
-    let target = c.in-Some.target in
-    let is : c.args.self.now.target ≡ Some target = ap (λ (v : ChunkState). v.target) (sym c.self.view_is) ∙ c.in-Some.is in
-    let x : Sample = record { t = c.args.t; line = c.args.line.now } in
-    let sample = sample_of c.args.self.now target x is c.requires.sample in
-    moment_fits target.ty sample.0 x.line x.t sample.1.meant
+pub hold-requires-clause-may : goal.hold-requires-clause-may
+hold-requires-clause-may g c =
+    let x = sample_of c.args.t c.args.line.now in
+    let self = c.args.self.now in
+    let is : self.target ≡ Some c.in-Some.target = ap (λ (v : ChunkState). v.target) (sym c.self.view_is) ∙ c.in-Some.is in
+    let told = sym (c.admit.ensures ∙ ap (λ (n : ℕ). admit (Some c.in-Some.target.standing) n c.args.t c.args.now) c.number.ensures) in
+    may_hold c.args.store.now.catalogue.rows self c.in-Some.target x c.args.now is c.requires.ready c.requires.sample c.requires.short (told ∙ none_then c.admit.result (sym c.if-is_some.ensures))
 
-pub returns-in_err-hold-clause-left : goal.returns-in_err-hold-clause-left
-returns-in_err-hold-clause-left g c = λ tells first life s.
-    on_err_all c.from_residual-in_err-hold.result (elim c.if-self-line-gt-MOST_HELD.branch [
-      | then-self-line-gt-MOST_HELD+in_ok-flush w ↦ rw w.store-is (emptied_left s (w.in_ok-flush.ensures.taken tells first life s))
-      | else-self-line-gt-MOST_HELD w ↦ rw w.store-is (stands_left s)
-    ])
+pub returns-clause-changes : goal.returns-clause-changes
+returns-clause-changes g c =
+    let x = sample_of c.args.t c.args.line.now in
+    let self = c.args.self.now in
+    let is : self.target ≡ Some c.in-Some.target = ap (λ (v : ChunkState). v.target) (sym c.self.view_is) ∙ c.in-Some.is in
+    let told = sym (c.admit.ensures ∙ ap (λ (n : ℕ). admit (Some c.in-Some.target.standing) n c.args.t c.args.now) c.number.ensures) in
+    let kept = kept_unless self x c.args.now c.in-Some.target None is (told ∙ none_then c.admit.result (sym c.if-is_some.ensures)) in
+    subst (λ (o : Option Target). Changes g.D.Disk.tells (doing (OffersTo o self x)) (seen g.D.Disk c.args.store.now) (seen g.D.Disk c.hold.new.store) (end_of_disk c.hold.result)) (sym kept) c.hold.ensures.changes
 
-pub returns-in_err-hold-clause-any_moment : goal.returns-in_err-hold-clause-any_moment
-returns-in_err-hold-clause-any_moment g c = λ tells first life s.
-    elim c.if-self-line-gt-MOST_HELD.branch [
-      | then-self-line-gt-MOST_HELD+in_ok-flush w ↦ rw w.store-is (w.in_ok-flush.ensures.any_moment tells first life s)
-      | else-self-line-gt-MOST_HELD w ↦ rw w.store-is (nothing_leaves s)
-    ]
-
-pub returns-clause-any_moment : goal.returns-clause-any_moment
-returns-clause-any_moment g c = λ tells first life s.
-    elim c.if-self-line-gt-MOST_HELD.branch [
-      | then-self-line-gt-MOST_HELD+in_ok-flush w ↦ rw w.store-is (w.in_ok-flush.ensures.any_moment tells first life s)
-      | else-self-line-gt-MOST_HELD w ↦ rw w.store-is (nothing_leaves s)
-    ]
-
-pub returns-clause-has : goal.returns-clause-has
-returns-clause-has g c = λ tells.
-    elim c.if-self-line-gt-MOST_HELD.branch [
-      | then-self-line-gt-MOST_HELD+in_ok-flush w ↦ rw w.store-is (w.in_ok-flush.ensures.has tells)
-      | else-self-line-gt-MOST_HELD w ↦ rw w.store-is (c.requires.opened tells)
-    ]
-
-pub returns-clause-ready : goal.returns-clause-ready
-returns-clause-ready g c =
-    let target = c.in-Some.target in
-    let is : c.args.self.now.target ≡ Some target = ap (λ (v : ChunkState). v.target) (sym c.self.view_is) ∙ c.in-Some.is in
-    let x : Sample = record { t = c.args.t; line = c.args.line.now } in
-    let told : admit (Some target.standing) (row_of target.ty).number x.t c.args.now ≡ None = sym (c.admit.ensures ∙ ap (λ (n : ℕ). admit (Some target.standing) n c.args.t c.args.now) c.number.ensures) ∙ none_then c.admit.result (sym c.if-is_some.ensures) in
-    let counted : c.self.inside.bytes ≡ length (lines_of c.args.self.now.held) = c.self.invariant ∙ ap (λ (v : ChunkState). length (lines_of v.held)) c.self.view_is in
-    let old = c.args.self.now in
-    let rows = c.if-self-line-gt-MOST_HELD.store.catalogue.rows in
-    let has : HasRoom rows target x c.if-self-line-gt-MOST_HELD.self = elim c.if-self-line-gt-MOST_HELD.branch [
-      | then-self-line-gt-MOST_HELD+in_ok-flush w ↦ rw (w.self-is, w.store-is, w.flush.ensures.catalogue, w.in_ok-flush.ensures.empty) (room_emptied c.args.store.now.catalogue.rows target x old is c.requires.ready c.requires.short)
-      | else-self-line-gt-MOST_HELD w ↦ rw (w.self-is, w.store-is) (room_left c.args.store.now.catalogue.rows target x old c.self.inside.bytes is c.requires.ready counted w.if-self-line-gt-MOST_HELD.false)
-    ] in
-    ready_more rows target x c.args.now c.if-self-line-gt-MOST_HELD.self c.hold.new.self has (sample_of old target x is c.requires.sample) told c.in_ok-hold.ensures.ok
-
-pub returns-clause-taken : goal.returns-clause-taken
-returns-clause-taken g c = λ tells first life info s inside.
-    let target = c.in-Some.target in
-    let is : c.args.self.now.target ≡ Some target = ap (λ (v : ChunkState). v.target) (sym c.self.view_is) ∙ c.in-Some.is in
-    let x : Sample = record { t = c.args.t; line = c.args.line.now } in
-    let told : admit (Some target.standing) (row_of target.ty).number x.t c.args.now ≡ None = sym (c.admit.ensures ∙ ap (λ (n : ℕ). admit (Some target.standing) n c.args.t c.args.now) c.number.ensures) ∙ none_then c.admit.result (sym c.if-is_some.ensures) in
-    let counted : c.self.inside.bytes ≡ length (lines_of c.args.self.now.held) = c.self.invariant ∙ ap (λ (v : ChunkState). length (lines_of v.held)) c.self.view_is in
-    let old = c.args.self.now in
-    let now = c.if-self-line-gt-MOST_HELD in
-    let made : MakesRoom first life target.row x now.self now.store.catalogue now.store.manifest (g.D.Disk.files now.store.disk) (g.D.Disk.opened now.store.disk) (g.D.Disk.past now.store.disk) = elim c.if-self-line-gt-MOST_HELD.branch [
-      | then-self-line-gt-MOST_HELD+in_ok-flush w ↦
-          rw (w.self-is, w.store-is) (record {
-            mid = flushed_life life;
-            is = sym (no_room target x s is (omega (arith, counted, w.if-self-line-gt-MOST_HELD.true)));
-            stands = w.in_ok-flush.ensures.taken tells first life s;
-            inside = refl;
-          })
-      | else-self-line-gt-MOST_HELD w ↦
-          rw (w.self-is, w.store-is) (record { mid = life; is = sym (room target x s is (omega (arith, counted, w.if-self-line-gt-MOST_HELD.false))); stands = s; inside = refl })
-    ] in
-    let still : now.self.target ≡ Some target = elim c.if-self-line-gt-MOST_HELD.branch [
-      | then-self-line-gt-MOST_HELD+in_ok-flush w ↦ ap (λ (v : ChunkState). v.target) (w.self-is ∙ w.in_ok-flush.ensures.empty) ∙ is
-      | else-self-line-gt-MOST_HELD w ↦ ap (λ (v : ChunkState). v.target) w.self-is ∙ is
-    ] in
-    kept_more info target x c.args.now c.hold.new.self s made inside is still told c.in_ok-hold.ensures.ok
+pub returns-clause-chunk : goal.returns-clause-chunk
+returns-clause-chunk g c =
+    let x = sample_of c.args.t c.args.line.now in
+    let self = c.args.self.now in
+    let is : self.target ≡ Some c.in-Some.target = ap (λ (v : ChunkState). v.target) (sym c.self.view_is) ∙ c.in-Some.is in
+    let told = sym (c.admit.ensures ∙ ap (λ (n : ℕ). admit (Some c.in-Some.target.standing) n c.args.t c.args.now) c.number.ensures) in
+    let kept = kept_unless self x c.args.now c.in-Some.target None is (told ∙ none_then c.admit.result (sym c.if-is_some.ensures)) in
+    rw kept c.hold.ensures.chunk

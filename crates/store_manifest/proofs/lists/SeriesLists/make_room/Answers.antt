@@ -1,0 +1,18 @@
+use Rattle.std.proofs.Common.{◌≡◌, ◌+◌, ◌≤◌, ℕ, Vec, Option, Some, None, sym, ◌∙◌, refl}
+use Rattle.std.specs.Vec.{vec_len, vec_capacity}
+use Rattle.std.specs.declared.alloc.Global.{Global}
+use Rattle.store_manifest.specs.declared.entry.Entry.{Entry}
+use Rattle.store_manifest.specs.Listing.{list_of}
+use Rattle.store_manifest.proofs.InMemory.{roomy_lists, roomy_entries, differ_other, differ_same, is_there, never_there}
+use Rattle.store_manifest.proofs.lists.SeriesLists.make_room.Goals as goal
+
+pub returns-in-Some-clause-good : goal.returns-in-Some-clause-good
+returns-in-Some-clause-good c =
+    let written = c.get_mut.follows.holds c.reserve.new.self in
+    roomy_lists c.args.series c.in-Some.list.now c.reserve.new.self c.open.new.self.listed.entries (c.get_mut.follows.lender c.reserve.new.self).entries c.in_ok-open.ensures.good (sym c.in-Some.ensures.value) written.0 written.4 c.reserve.ensures.items
+
+pub returns-in-Some-clause-entries : goal.returns-in-Some-clause-entries
+returns-in-Some-clause-entries c =
+    let written = c.get_mut.follows.holds c.reserve.new.self in
+    roomy_entries c.args.series c.in-Some.list.now c.reserve.new.self c.open.new.self.listed.entries (c.get_mut.follows.lender c.reserve.new.self).entries c.in_ok-open.ensures.good (sym c.in-Some.ensures.value) written.0 written.4 c.reserve.ensures.items
+    ∙ c.in_ok-open.ensures.entries

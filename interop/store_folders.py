@@ -1,0 +1,250 @@
+"""Folders that other programs use, that may not be written, or in which something stands in the way.
+
+Each case takes a place of its own and a source of randomness. One that this account can't try raises
+`Untried`.
+"""
+
+import contextlib
+import fcntl
+import os
+import subprocess
+import time
+
+import store_streams
+from comparing import agree, compare_runs
+from pb_model import Run
+from store_model import Store, complaint
+from store_place import FOLDERS, WHOLE_WORDS, compare_files, compare_listed, compare_whole
+
+READING = (["status"], ["check"], ["get", "A", *WHOLE_WORDS])
+NOBODY = 65534
+SMALL = 256 * 1024
+
+
+class Untried(Exception):
+    """This account can't bring about what the case needs."""
+
+
+def fault(path, error):
+    """What a command comes to at a fault of the disk."""
+    return Run(7, b"", complaint("disk failed") + complaint(f"{path}: {error}"))
+
+
+def refused(place, wanted, *commands):
+    """Each command comes to a fault of the disk."""
+    for words in commands:
+        place.expect(wanted, *words, data=b"\n")
+
+
+def filled(rng, place):
+    """A model of what is ingested into a place."""
+    model = Store()
+    take(rng, place, model, store_streams.long_variables(rng))
+    return model
+
+
+def take(rng, place, model, group):
+    """Ingests a stream of a group of variables."""
+    stream = store_streams.long_stream(rng, group)
+    place.ingest(Run(0, b"", b""), stream.text)
+    for chunk in stream.chunks:
+        model.take(chunk, time.time_ns())
+
+
+def lock_of(place):
+    """The path of the lock, as the program is told of it."""
+    return place.told(place.site / "lock")
+
+
+# Two programs
+
+
+@contextlib.contextmanager
+def ingest_that_waits(place, front):
+    """An `ingest` that has read the front of a stream and waits for more. What it gives is called with the
+    rest, and gives the run."""
+    process = subprocess.Popen([place.program, "ingest"], stdin=subprocess.PIPE, stdout=subprocess.PIPE,
+                               stderr=subprocess.PIPE, cwd=place.folder, env=place.environment)
+    try:
+        process.stdin.write(front)
+        process.stdin.flush()
+        yield lambda rest: ended(process, rest)
+    finally:
+        process.kill()
+        process.communicate()
+
+
+def ended(process, rest):
+    """The run of a program that gets the rest of its input."""
+    output, told = process.communicate(rest, timeout=60)
+    return Run(process.returncode, output, told)
+
+
+def wait_for_lock(place):
+    """Returns when a program has the lock."""
+    for _ in range(600):
+        if place.run("status").status == 7:
+            return
+        time.sleep(0.05)
+    raise Untried("no ingest takes the lock")
+
+
+def two_ingests(rng, place):
+    """A second ingest and readers beside one that runs. They are refused, and nothing is lost."""
+    model = filled(rng, place)
+    group = store_streams.long_variables(rng)
+    first, second = store_streams.long_stream(rng, group), store_streams.long_stream(rng, group)
+    middle = len(first.text) // 2
+    with ingest_that_waits(place, first.text[:middle]) as finish:
+        wait_for_lock(place)
+        held = fault(lock_of(place), "lock held by another program")
+        refused(place, held, ["ingest"], *READING)
+        place.expect(held, "ingest", data=second.text)
+        compare_runs(finish(first.text[middle:]), Run(0, b"", b""))
+    place.ingest(Run(0, b"", b""), second.text)
+    for chunk in [*first.chunks, *second.chunks]:
+        model.take(chunk, time.time_ns())
+    compare_whole(place, model)
+    compare_files(place, model)
+
+
+def readers(rng, place):
+    """Several programs may read, and none may write beside them."""
+    model = filled(rng, place)
+    held = fault(lock_of(place), "lock held by another program")
+    with (place.site / "lock").open() as lock:
+        fcntl.flock(lock, fcntl.LOCK_SH)
+        compare_whole(place, model)
+        refused(place, held, ["ingest"])
+        fcntl.flock(lock, fcntl.LOCK_EX)
+        refused(place, held, ["ingest"], *READING)
+    compare_whole(place, model)
+
+
+# Folders that may not be written
+
+
+def paths_below(folder):
+    """All that is in a folder, with its moment of change."""
+    return {path: path.stat().st_mtime_ns for path in folder.rglob("*")}
+
+
+def open_folders(place, rights=0o755):
+    """Gives all these rights, and files no right to be run."""
+    for path in [place.folder, *place.folder.rglob("*")]:
+        os.chmod(path, rights if path.is_dir() else rights & 0o666)
+
+
+def close_folders(place):
+    """Takes the right to write from all. Of root, who may do all, nobody is made."""
+    open_folders(place, 0o555)
+    if os.geteuid() == 0:
+        place.before = ["setpriv", f"--reuid={NOBODY}", f"--regid={NOBODY}", "--clear-groups"]
+    if place.run().status != 2:
+        raise Untried("another account can't run the program")
+
+
+def only_read(rng, place):
+    """The commands that read, where nothing may be written, with a lock and without."""
+    model = filled(rng, place)
+    for locked in (True, False):
+        if not locked:
+            (place.site / "lock").unlink()
+        close_folders(place)
+        before = paths_below(place.folder)
+        compare_whole(place, model)
+        denied = place.told(place.site / ("catalogue" if locked else "lock"))
+        refused(place, fault(denied, "Permission denied (os error 13)"), ["ingest"])
+        agree("what is there", paths_below(place.folder), before)
+        place.before = []
+        open_folders(place)
+
+
+def no_folders(rng, place):
+    """The commands that read, where no folder is there: they make none."""
+    compare_whole(place, Store())
+    place.expect(Run(4, b"", complaint("no such variable")), "get", "A", *WHOLE_WORDS)
+    agree("what is there", list(place.folder.iterdir()), [])
+
+
+# A full disk
+
+
+@contextlib.contextmanager
+def small_disk(folder):
+    """A file system of some kilobytes in a folder."""
+    folder.mkdir()
+    if subprocess.run(["mount", "-t", "tmpfs", "-o", f"size={SMALL}", "tmpfs", folder], capture_output=True).returncode:
+        raise Untried("no file system can be mounted")
+    try:
+        yield
+    finally:
+        subprocess.run(["umount", folder], check=True)
+
+
+def full_disk(rng, place, after_kill):
+    """An ingest of more than fits. What is left is a front of the stream, and can be read."""
+    small = place.folder / "small"
+    for title in FOLDERS:
+        place.environment[f"ARCHAPPL_{title}_FOLDER"] = f"small/{title}"
+    place.short, place.site = small / "SHORT_TERM", small / "SITE"
+    with small_disk(small):
+        group = store_streams.long_variables(rng)
+        stream = store_streams.long_stream(rng, group)
+        ended_at = place.run("ingest", data=stream.text)
+        agree("status", ended_at.status, 7)
+        lines = ended_at.complaint.split(b"\n")
+        agree("complaint", lines[0] + b"\n", complaint("disk failed"))
+        agree("its cause", lines[1].split(b": ")[-1], b"No space left on device (os error 28)")
+        model = after_kill(Store(), stream.chunks, place.run("status").output)
+        compare_whole(place, model)
+        compare_listed(place, model)
+
+
+# What stands in the way
+
+
+def named_folders(rng, place):
+    """Variables that are empty, and names with a slash at their end."""
+    for title, name in zip(FOLDERS, ("", "", "lts/", "site//")):
+        place.environment[f"ARCHAPPL_{title}_FOLDER"] = name
+    place.short, place.site = place.folder / "sts", place.folder / "site"
+    model = filled(rng, place)
+    compare_whole(place, model)
+    compare_files(place, model)
+
+
+def one_folder(rng, place):
+    """Two stores in one folder, by one name and by two."""
+    for site, short in (("both", "both"), ("both", "./both/"), ("both", "link")):
+        place.environment.update(ARCHAPPL_SITE_FOLDER=site, ARCHAPPL_SHORT_TERM_FOLDER=short)
+        if short == "link":
+            (place.folder / "link").symlink_to("both")
+        place.site = place.folder / site
+        refused(place, fault(short.rstrip("/"), "folder of two stores"), ["ingest"])
+        place.site.mkdir(exist_ok=True)
+        refused(place, fault(short.rstrip("/"), "folder of two stores"), ["ingest"], *READING)
+
+
+def no_file(rng, place):
+    """A link, a pipe and a folder in the place of a file."""
+    filled(rng, place)
+    path = place.site / "catalogue"
+    os.rename(path, path.with_name("kept"))
+    wanted = fault(place.told(path), "not a regular file")
+    for make, unmake in ((lambda: path.symlink_to("kept"), path.unlink), (lambda: os.mkfifo(path), path.unlink),
+                         (path.mkdir, path.rmdir)):
+        make()
+        refused(place, wanted, ["ingest"], *READING)
+        unmake()
+
+
+CASES = {
+    "two ingests": two_ingests,
+    "readers": readers,
+    "only read": only_read,
+    "no folders": no_folders,
+    "named folders": named_folders,
+    "one folder": one_folder,
+    "no file": no_file,
+}
