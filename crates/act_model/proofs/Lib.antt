@@ -1,0 +1,29 @@
+pub mod Puts
+pub mod RowLaws
+pub mod ChangeLaws
+pub mod Rows
+pub mod MadeLaws
+pub mod Partitions
+pub mod Copies
+pub mod Revivals
+pub mod Pinned
+pub mod MadeSound
+pub mod TailLaws
+pub mod StepLaws
+pub mod RowActs
+pub mod MoveActs
+pub mod PinActs
+pub mod StepSound
+pub mod Onward
+pub mod StepOnward
+pub mod FlushLeft
+pub mod MoveLaws
+pub mod Histories
+pub mod PinLaws
+pub mod CrashRuns
+pub mod NextLife
+pub mod ActsAlone
+mod LivesLaws
+mod AnswerLaws
+mod ExampleLaws
+mod Places

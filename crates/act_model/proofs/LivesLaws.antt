@@ -1,0 +1,84 @@
+-- Lives one after another: each begins sound on what was left, and rows last.
+use Rattle.std.proofs.Common.{◌≡◌, ℕ, List, [], Some, true, refl, ◌∙◌}
+use Rattle.std.specs.Prelude.{slice_get}
+use Rattle.act_model.specs.declared.acts.Act.{Act}
+use Rattle.act_model.specs.Rows.{RowState, durable}
+use Rattle.act_model.specs.Machine.{Machine}
+use Rattle.act_model.specs.Changes.{made}
+use Rattle.act_model.specs.Step.{change_by, refuse_by}
+use Rattle.act_model.specs.Sound.{IsSound}
+use Rattle.act_model.specs.Growth.{RowsOn, Onward, RowsLast}
+use Rattle.act_model.specs.Crash.{kept, LeftBetween, as_it_is, with_doubt, LeftWithin, before_it, settled_there, with_change, Between}
+use Rattle.act_model.specs.NextLife.{opened}
+use Rattle.act_model.specs.Lives.{Stops, between_acts, within_an_act, Lives, one_life, one_more}
+use Rattle.act_model.proofs.Onward.{prefix_refl, prefix_trans, onward_refl, onward_trans, onward_made, onward_settled, left_between}
+use Rattle.act_model.proofs.StepLaws.{settled_sound}
+use Rattle.act_model.proofs.StepOnward.{may_by, crash_within}
+use Rattle.act_model.proofs.Histories.{runs_sound, runs_onward}
+use Rattle.act_model.proofs.NextLife.{next_life_sound, next_life_between, lives, forth}
+
+-- WHAT A STOP LEAVES
+
+-- rows go on to what is left, as to any later state
+left_on_between : (old left : Machine) → IsSound old → LeftBetween old left → Onward old left
+left_on_between old left s as_it_is = onward_refl old
+left_on_between old left s (with_doubt change is) = onward_made old [] change s (s.doubted change is).0
+
+left_on : (act : Act) (old left : Machine) → IsSound old → LeftWithin (refuse_by act) (change_by act) old left → Onward old left
+left_on act old left s (before_it is) = left_on_between old left s is
+left_on act old left s (settled_there settles) = onward_settled s settles
+left_on act old left s (with_change {mid} one settles free is) =
+    let sound : IsSound mid = settled_sound settles s in
+    onward_trans old mid (made [] one mid) (onward_settled s settles) (onward_made mid [] one sound (may_by act mid one sound free is))
+
+stop_on : (last left : Machine) → IsSound last → Stops last left → Onward last left
+stop_on last left s (between_acts is) = left_on_between last left s is
+stop_on last left s (within_an_act act is) = left_on act last left s is
+
+stop_opens : (last left : Machine) (doors faults : ℕ) → IsSound last → Stops last left → IsSound (opened last.rule last.told doors faults (kept left))
+stop_opens last left doors faults s (between_acts is) = next_life_between last left s is last.rule last.told doors faults
+stop_opens last left doors faults s (within_an_act act is) = next_life_sound act last left s is last.rule last.told doors faults
+
+stop_between : (last left : Machine) → last.told ≡ true → IsSound last → Stops last left → (i : ℕ) (row : RowState) → slice_get left.rows i ≡ Some row → Between last.rows i row
+stop_between last left t s (between_acts is) i row here = left_between last left t s is i row here
+stop_between last left t s (within_an_act act is) i row here = crash_within act last left t s is i row here
+
+-- ROWS THAT LAST
+
+rows_last : (rows news : List RowState) → RowsOn rows news → RowsLast rows news
+rows_last rows news on = λ i row here. let x = on i row here in (x.0, x.1, record { name = x.2.name; about = x.2.about; durable_on = x.2.durable_on })
+
+last_trans : (a b c : List RowState) → RowsLast a b → RowsLast b c → RowsLast a c
+last_trans a b c p q = λ i row here. let x = p i row here in let y = q i x.0 x.1 in
+    (y.0, y.1, record { name = y.2.name ∙ x.2.name; about = y.2.about ∙ x.2.about; durable_on = prefix_trans (durable row) (durable x.0) (durable y.0) x.2.durable_on y.2.durable_on })
+
+-- what is opened has the rows that were left
+opened_last : (last left : Machine) (doors faults : ℕ) → RowsLast left.rows (opened last.rule last.told doors faults (kept left)).rows
+opened_last last left doors faults = λ i row here. (lives row, forth left.rows i row here, record { name = refl; about = refl; durable_on = prefix_refl (durable row) })
+
+-- LIVES
+
+pub lives_sound : (start now : Machine) → IsSound start → Lives start now → IsSound now
+lives_sound start now s (one_life entries p) = runs_sound entries start now s p
+lives_sound start now s (one_more {last} {left} earlier stops doors faults entries p) =
+    runs_sound entries (opened last.rule last.told doors faults (kept left)) now (stop_opens last left doors faults (lives_sound start last s earlier) stops) p
+
+lives_told : (start now : Machine) → IsSound start → Lives start now → now.told ≡ start.told
+lives_told start now s (one_life entries p) = (runs_onward entries start now s p).told
+lives_told start now s (one_more {last} {left} earlier stops doors faults entries p) =
+    (runs_onward entries (opened last.rule last.told doors faults (kept left)) now (stop_opens last left doors faults (lives_sound start last s earlier) stops) p).told ∙ lives_told start last s earlier
+
+pub lives_last : (start now : Machine) → start.told ≡ true → IsSound start → Lives start now → RowsLast start.rows now.rows
+lives_last start now t s (one_life entries p) = rows_last start.rows now.rows ((runs_onward entries start now s p).rows t)
+lives_last start now t s (one_more {last} {left} earlier stops doors faults entries p) =
+    let sound : IsSound last = lives_sound start last s earlier in
+    let told : last.told ≡ true = lives_told start last s earlier ∙ t in
+    let first = opened last.rule last.told doors faults (kept left) in
+    let before = lives_last start last t s earlier in
+    let stop = rows_last last.rows left.rows ((stop_on last left sound stops).rows told) in
+    let after = rows_last first.rows now.rows ((runs_onward entries first now (stop_opens last left doors faults sound stops) p).rows told) in
+    last_trans start.rows last.rows now.rows before (last_trans last.rows left.rows now.rows stop (last_trans left.rows first.rows now.rows (opened_last last left doors faults) after))
+
+-- what a life leaves was accepted in it, and holds what was durable in it
+pub lives_leave : (start last left : Machine) → start.told ≡ true → IsSound start → Lives start last → Stops last left → (i : ℕ) (row : RowState) → slice_get left.rows i ≡ Some row → Between last.rows i row
+lives_leave start last left t s earlier stops i row here = stop_between last left (lives_told start last s earlier ∙ t) (lives_sound start last s earlier) stops i row here

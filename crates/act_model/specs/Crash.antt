@@ -1,0 +1,51 @@
+-- What a crash leaves of an archive: its rows with what their stores list, as they are or with one change made. What was accepted and not
+-- yet durable is gone. `LeftBetween` is of a crash between acts, `LeftWithin` of one at any moment within an act, and `Between` and
+-- `LiesBetween` compare what is left with what was there.
+use Rattle.std.specs.Prelude.{◌≡◌, ℕ, List, [], map, Option, Some, None, slice_get}
+use Rattle.series_model.specs.declared.sample.Sample.{Sample}
+use Rattle.series_model.specs.Archive.{IsPrefix}
+use Rattle.event_types.specs.declared.about.About.{About}
+use Rattle.event_types.specs.declared.about.State.{State}
+use Rattle.act_model.specs.Reply.{Reply}
+use Rattle.act_model.specs.Rows.{RowState, durable, accepted}
+use Rattle.act_model.specs.Machine.{Machine, Change}
+use Rattle.act_model.specs.Changes.{made, Settles}
+
+-- a row as a disk keeps it
+pub record DurableRow : Type 0 where
+  pub name : List ℕ
+  pub about : About
+  pub state : State
+  pub short : List Sample
+  pub medium : List Sample
+  pub long : List Sample
+
+abbrev pub kept_of : RowState → DurableRow
+kept_of row = record { name = row.name; about = row.about; state = row.state; short = row.short; medium = row.medium; long = row.long }
+
+-- the durable part of a state
+abbrev pub kept : Machine → List DurableRow
+kept m = map kept_of m.rows
+
+-- What a crash may leave: the state as it is, or with its doubt made. What goes to limbo is no part of it.
+pub data LeftBetween (m : Machine) : Machine → Type 0 where
+  as_it_is : LeftBetween m m
+  with_doubt : (change : Change) → m.doubt ≡ Some change → LeftBetween m (made [] change m)
+
+-- what a crash within an act may leave: that, the settled one, or the settled one with the act's one change made
+pub data LeftWithin (refuse : Machine → Option Reply) (change : Machine → Option Change) (old : Machine) : Machine → Type 0 where
+  before_it : {left : Machine} → LeftBetween old left → LeftWithin refuse change old left
+  settled_there : {mid : Machine} → Settles old mid → LeftWithin refuse change old mid
+  with_change : {mid : Machine} (one : Change) → Settles old mid → refuse mid ≡ None → change mid ≡ Some one
+      → LeftWithin refuse change old (made [] one mid)
+
+-- what is left has each row with no less than was durable, and no more than was accepted; a row that wasn't there has nothing
+pub data Between (rows : List RowState) (i : ℕ) (left : RowState) : Type 0 where
+  of_row_there : (row : RowState) → slice_get rows i ≡ Some row → IsPrefix (durable row) (durable left)
+      → IsPrefix (durable left) (accepted row) → Between rows i left
+  of_no_row : durable left ≡ [] → Between rows i left
+
+-- the row of what is left, beside that row at the start and at the end of a run
+pub record LiesBetween (start end : Machine) (i : ℕ) (left : RowState) : Type 0 where
+  pub extends : (row : RowState) → slice_get start.rows i ≡ Some row → IsPrefix (durable row) (durable left)
+  pub extended : (row : RowState) → slice_get end.rows i ≡ Some row → IsPrefix (durable left) (accepted row)

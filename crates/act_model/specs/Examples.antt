@@ -1,0 +1,130 @@
+-- Small histories worked out, each over an archive of one variable, A:B of type SCALAR_INT. They show what the definitions say in plain
+-- cases; `src/examples.rt` has each of them as a clause.
+use Rattle.std.specs.Prelude.{◌≡◌, ◌⊎◌, ℕ, ◌+◌, ◌*◌, List, [], ◌∷◌, length, codes, true, None}
+use Rattle.std.specs.FinMap.{empty}
+use Rattle.series_model.specs.declared.sample.Sample.{Sample}
+use Rattle.series_model.specs.declared.sample.Query.{Query}
+use Rattle.series_model.specs.declared.admission.Reason.TheVariants.{NotLater, Future}
+use Rattle.event_types.specs.declared.about.About.{About}
+use Rattle.event_types.specs.declared.about.Method.{Method}
+use Rattle.event_types.specs.declared.about.Method.TheVariants.{Monitor, Scan}
+use Rattle.pb_wire.specs.declared.payload.PayloadType.TheVariants.{ScalarInt}
+use Rattle.act_model.specs.declared.acts.Act.{Act}
+use Rattle.act_model.specs.declared.acts.Act.TheVariants.{Register, Offer, Tick, Flush, Pin, Unpin}
+use Rattle.act_model.specs.declared.acts.Answer.TheVariants.{NameTaken, KeyTaken, Dropped, IntakeFull, Kept, Held, TickNone, NotDue, TickKept, Flushed, Pinned, NoPin, NotYours, Unpinned, Memory}
+use Rattle.act_model.specs.Reply.{Reply}
+use Rattle.act_model.specs.Rows.{RowState, fresh_row}
+use Rattle.act_model.specs.Machine.{Machine}
+use Rattle.act_model.specs.Step.{Step}
+use Rattle.act_model.specs.History.{Entry}
+
+-- the acts may be answered so, one after another
+abbrev pub Follows : Machine → List Entry → Type 0
+Follows m [] = Unit {0}
+Follows m (e ∷ rest) = (next : Machine) × Step e.who e.act m e.answer next × Follows next rest
+
+-- the act has this answer, and no other but for want of memory
+abbrev pub OnlyAnswered : ℕ → Act → Machine → Reply → Type 0
+OnlyAnswered who act m answer = (other : Reply) (new : Machine) → Step who act m other new → (other ≡ answer) ⊎ (other ≡ Memory)
+
+abbrev pub by : ℕ → Act → Reply → Entry
+by who act answer = record { who = who; act = act; answer = answer }
+
+-- 2024-01-01T00:00:00Z
+abbrev pub t0 : ℕ
+t0 = 1_704_067_200 * 1_000_000_000
+
+abbrev pub second : ℕ
+second = 1_000_000_000
+
+-- the line of a SCALAR_INT of 1
+abbrev pub line : List ℕ
+line = 8 ∷ 1 ∷ 16 ∷ 0 ∷ 29 ∷ 1 ∷ 0 ∷ 0 ∷ 0 ∷ []
+
+abbrev pub name : List ℕ
+name = codes "A:B"
+
+abbrev pub about : Method → About
+about method = record { ty = ScalarInt; method = method; count = None; headers = [] }
+
+-- an archive of one row, over a disk that tells its files
+abbrev pub with_row : RowState → Machine
+with_row row = record { rule = record { granularity = []; hold = []; gather = [] }; rows = row ∷ []; limbo = []; pins = empty; moves = empty; doubt = None; doors = 0; faults = 0; told = true }
+
+-- the variable with these samples in the intake, the last of them just before a moment
+abbrev pub with_tail : List Sample → ℕ → RowState
+with_tail xs next = record (fresh_row name (about Monitor)) { tail = xs; next = next }
+
+abbrev pub offer : ℕ → ℕ → Act
+offer t now = Offer name ScalarInt t line now
+
+-- ADMISSION
+
+-- A row's last sample is at t0, and it is one hour later. A sample at t0 is dropped as not later, one at t0 + 1 ns is kept, one half an
+-- hour ahead is kept, and one a second further ahead is dropped.
+abbrev pub LateAndEarlyOffers : Type 0
+LateAndEarlyOffers =
+    let now = t0 + 3600 * second in
+    Follows (with_row (with_tail (record { t = t0; line = line } ∷ []) (t0 + 1)))
+    (by 1 (offer t0 now) (Dropped (NotLater t0))
+    ∷ by 1 (offer (t0 + 1) now) Kept
+    ∷ by 1 (offer (t0 + 5400 * second) now) Kept
+    ∷ by 1 (offer (t0 + 5401 * second) now) (Dropped (Future now)) ∷ [])
+
+-- nothing else may be answered to the first of these
+abbrev pub LateOffersAreDropped : Type 0
+LateOffersAreDropped =
+    let now = t0 + 3600 * second in
+    OnlyAnswered 1 (offer t0 now) (with_row (with_tail (record { t = t0; line = line } ∷ []) (t0 + 1))) (Dropped (NotLater t0))
+
+-- REGISTRATION
+
+-- the same name is taken, and so is one that differs in a separator alone
+abbrev pub NamesAndKeysAreTaken : Type 0
+NamesAndKeysAreTaken =
+    Follows (with_row (fresh_row name (about Monitor)))
+    (by 1 (Register (codes "A:B") (about Monitor)) (NameTaken 0)
+    ∷ by 1 (Register (codes "A-B") (about Monitor)) (KeyTaken 0) ∷ [])
+
+-- SAMPLING
+
+-- A row is sampled every ten seconds. Of two offers the last is kept at the first tick; the next tick comes too early, the one after that
+-- keeps what was offered since, and the last finds nothing.
+abbrev pub TheLastOfAPeriodIsKept : Type 0
+TheLastOfAPeriodIsKept =
+    Follows (with_row (fresh_row name (about (Scan (10 * second)))))
+    (by 1 (offer (t0 + 1 * second) (t0 + 1 * second)) Held
+    ∷ by 1 (offer (t0 + 2 * second) (t0 + 2 * second)) Held
+    ∷ by 2 (Tick 0 (t0 + 3 * second)) (TickKept (t0 + 2 * second))
+    ∷ by 1 (offer (t0 + 4 * second) (t0 + 4 * second)) Held
+    ∷ by 2 (Tick 0 (t0 + 12 * second)) (NotDue (t0 + 13 * second))
+    ∷ by 2 (Tick 0 (t0 + 13 * second)) (TickKept (t0 + 4 * second))
+    ∷ by 2 (Tick 0 (t0 + 23 * second)) TickNone ∷ [])
+
+-- A FULL INTAKE
+
+abbrev pub four_lines : List ℕ → List ℕ → List ℕ → List ℕ → RowState
+four_lines a b c d = with_tail (record { t = t0 + 1; line = a } ∷ record { t = t0 + 2; line = b } ∷ record { t = t0 + 3; line = c } ∷ record { t = t0 + 4; line = d } ∷ []) (t0 + 5)
+
+-- Four kept lines of 16,777,215 bytes fill the intake, so the next offer finds no room; after a flush it is kept.
+abbrev pub AFullIntakeIsFlushed : Type 0
+AFullIntakeIsFlushed =
+    (a b c d : List ℕ) → length a ≡ 16_777_215 → length b ≡ 16_777_215 → length c ≡ 16_777_215 → length d ≡ 16_777_215
+    → Follows (with_row (four_lines a b c d))
+    (by 1 (offer (t0 + 5) t0) (IntakeFull 67_108_864)
+    ∷ by 2 (Flush 67_108_864) (Flushed 4 0 0)
+    ∷ by 1 (offer (t0 + 5) t0) Kept ∷ [])
+
+-- PINS
+
+abbrev pub all_moments : Query
+all_moments = record { from = 0; to = t0 + 3600 * second }
+
+-- A pin of one is not another's to give up. Once its owner has, there is none.
+abbrev pub PinsAreTheirOwners : Type 0
+PinsAreTheirOwners =
+    Follows (with_row (with_tail (record { t = t0; line = line } ∷ []) (t0 + 1)))
+    (by 0 (Pin name all_moments) (Pinned 0 name (about Monitor) 0 (record { t = t0; line = line } ∷ []))
+    ∷ by 1 (Unpin 0) (NotYours 0)
+    ∷ by 0 (Unpin 0) Unpinned
+    ∷ by 0 (Unpin 0) NoPin ∷ [])

@@ -1,0 +1,53 @@
+-- Pin: a reader gets hold of a variable's samples as they are now. It names some of the row's listed files, in the order in which they
+-- are read, and tells the row's tail; these together answer its query as all that is accepted does.
+use Rattle.std.specs.FinMap.{get, insert}
+use Rattle.std.specs.List.{AllByRecursion}
+use Rattle.std.specs.Prelude.{◌≡◌, ◌≢◌, ◌⊎◌, ℕ, ◌<◌, ◌≤◌, List, [], ◌∷◌, length, true, false, Some, None, slice_get}
+use Rattle.series_model.specs.Retrieval.{answer}
+use Rattle.series_model.specs.Series.{over}
+use Rattle.series_model.specs.declared.sample.Query.{Query}
+use Rattle.series_model.specs.declared.sample.Sample.{Sample}
+use Rattle.act_model.specs.Details.{details_refused}
+use Rattle.act_model.specs.Files.{IsFileOf}
+use Rattle.act_model.specs.Limbo.{FileState}
+use Rattle.act_model.specs.Machine.{Machine, find_row}
+use Rattle.act_model.specs.Outcome.{Acts, all_go, Same}
+use Rattle.act_model.specs.Reply.{Reply}
+use Rattle.act_model.specs.Rows.{RowState, tier, window, accepted, is_empty}
+use Rattle.act_model.specs.Rule.{Rule, IsPartition, index_of}
+use Rattle.act_model.specs.declared.acts.Answer.TheVariants.{Pinned}
+
+-- a piece is a listed file of the row as it is
+pub record IsListedPiece (rule : Rule) (i : ℕ) (row : RowState) (f : FileState) : Type 0 where
+  pub own : f.row ≡ i
+  pub partition : IsPartition rule f.store f.part
+  pub samples : f.samples ≡ window f.part (tier row f.store)
+  pub some : is_empty f.samples ≡ false
+  pub file : IsFileOf row f
+
+-- the deeper store comes first, and in one store the earlier partition
+abbrev pub ComesBefore : FileState → FileState → Type 0
+ComesBefore f g = (index_of g.store < index_of f.store) ⊎ ((f.store ≡ g.store) × (f.part.end ≤ g.part.start))
+
+abbrev pub InOrder : List FileState → Type 0
+InOrder [] = Unit {0}
+InOrder (f ∷ rest) = AllByRecursion (ComesBefore f) rest × InOrder rest
+
+-- the samples of pieces, in order, each over those before
+abbrev pub over_pieces : List Sample → List FileState → List Sample
+over_pieces xs [] = xs
+over_pieces xs (f ∷ rest) = over_pieces (over xs f.samples) rest
+
+-- how a pin is made, once a doubt is settled: the least free number, and pieces that give the answer
+pub data Pins (who : ℕ) (name : List ℕ) (query : Query) : Machine → Reply → Machine → Type 0 where
+  pins : {mid new : Machine} (i : ℕ) (row : RowState) (pin : ℕ) (pieces : List FileState) → find_row mid name ≡ Some i
+      → slice_get mid.rows i ≡ Some row
+      → get mid.pins pin ≡ None → ((k : ℕ) → k < pin → get mid.pins k ≢ None)
+      → (mid.told ≡ true → AllByRecursion (IsListedPiece mid.rule i row) pieces)
+      → (mid.told ≡ true → InOrder pieces)
+      → (mid.told ≡ true → answer (over (over_pieces [] pieces) row.tail) query ≡ answer (accepted row) query)
+      → Same (record mid { pins = insert mid.pins pin (record { owner = who; pieces = pieces }) }) new
+      → Pins who name query mid (Pinned pin row.name row.about (length pieces) row.tail) new
+
+abbrev pub PinStep : ℕ → List ℕ → Query → Machine → Reply → Machine → Type 0
+PinStep who name query old reply new = Acts (details_refused name) (Pins who name query) (λ m. None) all_go old reply new

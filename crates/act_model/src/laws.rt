@@ -1,0 +1,73 @@
+//! What holds of an archive whatever is asked of it. Each law is a clause of a function that does nothing.
+ghost use Rattle.act_model.specs.Laws.{StepKeepsSound, RunKeepsSound, AnswersAreOfActs, DurableIsAccepted, StepGoesOnward, RunGoesOnward, FlushLeavesNone, MoveKeepsLists, LeftBetweenActs, LeftWithinAct, LeftInRun, OpensBetweenActs, OpensWithinAct, OpensWithRows, LivesKeepSound, LivesLoseNothing, LivesLeaveAccepted, PinAnswers, PinStandsUntilUnpinned, PinStandsBesideOthers, PieceOpensAsPinned, PieceIsRead, RunsJoin, EntriesAreSteps, OwnActsAreSteps, OwnActsJoin};
+
+/// Whatever is asked and answered, by whomever, the state stays sound, and each act has an answer of its own.
+pub fn soundness_stays()
+    ensures step { StepKeepsSound }
+    ensures run { RunKeepsSound }
+    ensures answers { AnswersAreOfActs }
+{}
+
+/// What is durable of a variable is a front of what is accepted, and both only grow.
+pub fn lists_grow()
+    ensures front { DurableIsAccepted }
+    ensures step { StepGoesOnward }
+    ensures run { RunGoesOnward }
+{}
+
+/// One flush of at least 64 MiB leaves nothing in the intake.
+pub fn one_flush_is_enough()
+    ensures { FlushLeavesNone }
+{}
+
+/// However a move goes on, what is durable and what is accepted of each variable stays.
+pub fn moves_keep_lists()
+    ensures { MoveKeepsLists }
+{}
+
+/// What a crash leaves of a variable extends what was durable and is extended by what is accepted: of a crash between acts, within an
+/// act, and within any act of a run.
+pub fn crashes_lose_no_more()
+    ensures between { LeftBetweenActs }
+    ensures within { LeftWithinAct }
+    ensures run { LeftInRun }
+{}
+
+/// What a crash leaves opens as a sound state, in which just what is durable is accepted.
+pub fn next_lives_are_sound()
+    ensures between { OpensBetweenActs }
+    ensures within { OpensWithinAct }
+    ensures rows { OpensWithRows }
+{}
+
+/// Over any number of crashes and openings nothing that was durable is lost, and nothing comes that was not accepted.
+pub fn lives_lose_nothing()
+    ensures sound { LivesKeepSound }
+    ensures durable { LivesLoseNothing }
+    ensures accepted { LivesLeaveAccepted }
+{}
+
+/// A pin's pieces and the tail that it tells answer the query as all that is accepted.
+pub fn pins_answer()
+    ensures { PinAnswers }
+{}
+
+/// A pin stands as it was made until its owner unpins it, each piece in its store or in limbo: so through any acts of others.
+pub fn pins_stand()
+    ensures until_unpinned { PinStandsUntilUnpinned }
+    ensures beside_others { PinStandsBesideOthers }
+{}
+
+/// A piece that is opened has the bytes that were pinned, whatever became of its file.
+pub fn pieces_open_as_pinned()
+    ensures opened { PieceOpensAsPinned }
+    ensures history { PieceIsRead }
+{}
+
+/// A history of many is one list of steps, and what each of them did is a part of it in its order.
+pub fn histories_are_steps()
+    ensures join { RunsJoin }
+    ensures steps { EntriesAreSteps }
+    ensures own { OwnActsAreSteps }
+    ensures own_join { OwnActsJoin }
+{}
