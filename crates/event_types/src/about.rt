@@ -1,3 +1,4 @@
+// What an archive knows of a variable: its type, how its samples are taken, and whether they are.
 use pb_wire::PayloadType;
 use series_model::Pairs;
 

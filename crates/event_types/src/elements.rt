@@ -1,3 +1,4 @@
+// The elements of an event's value as they stand in its fields, packed or one by one.
 ghost use Rattle.std.specs.Prelude.{◌≡◌, ◌≤◌, ◌<◌, OnOk, length};
 ghost use Rattle.pb_wire.specs.Message.{view_value, blob_len};
 ghost use Rattle.pb_wire.specs.Fields.{Tells};

@@ -1,3 +1,4 @@
+// Why bytes are no event.
 ghost use Rattle.std.specs.Prelude.{◌≡◌};
 ghost use Rattle.pb_wire.specs.declared.fault.FieldFault.TheVariants as faults;
 ghost use Rattle.event_types.specs.declared.error.EventErr.TheVariants as errors;

@@ -1,3 +1,4 @@
+// An event: the value of a variable at a moment of a year, with its alarm and its fields.
 use crate::Value;
 use series_model::Pairs;
 

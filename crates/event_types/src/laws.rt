@@ -1,3 +1,4 @@
+// What follows from the spelling and the reading of events, for all of them.
 ghost use Rattle.std.specs.Prelude.{◌≡◌, Ok};
 ghost use Rattle.pb_wire.specs.declared.payload.PayloadType.{PayloadType};
 ghost use Rattle.event_types.specs.declared.event.Event.{Event};

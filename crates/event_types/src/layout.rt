@@ -1,3 +1,4 @@
+// How the value of each payload type is written.
 ghost use Rattle.std.specs.Prelude.{◌≡◌};
 ghost use Rattle.event_types.specs.Layout.{layout_of};
 

@@ -1,3 +1,4 @@
+// Lists of numbers, which contracts see as lists.
 ghost use Rattle.std.specs.Prelude.{◌≡◌, ◌++◌, [], ◌∷◌, OnOk};
 
 use std::alloc::{AllocError, Global};

@@ -1,3 +1,4 @@
+// Numbers that stand packed in one field (Protocol Buffers encoding), both ways, for each type of number.
 ghost use Rattle.std.specs.Prelude.{◌≡◌, ◌≤◌, ◌++◌, List, ℕ, OnOk, IfOk, length};
 ghost use Rattle.std.specs.List.{flat_map, AllByRecursion};
 ghost use Rattle.std.specs.Io.{StartsWith};

@@ -1,3 +1,4 @@
+// An event read from the fields of its message, member by member.
 ghost use Rattle.std.specs.Prelude.{◌≡◌, ◌≤◌, Ok, IfOk, IfSome};
 ghost use Rattle.pb_wire.specs.Message.{view, view_value, blob_len};
 ghost use Rattle.event_types.specs.Event.{event_of, event_with, stamp_of, stamp_with, Gives, IsOfType};

@@ -1,3 +1,4 @@
+// The members of an event that are one number each.
 ghost use Rattle.std.specs.Prelude.{◌≡◌};
 ghost use Rattle.pb_wire.specs.Message.{view};
 ghost use Rattle.event_types.specs.Singular.{no_numbers, TakesNumber};

@@ -1,3 +1,4 @@
+// The one spelling of an event: its fields in the order of their numbers, defaults left out.
 ghost use Rattle.std.specs.Prelude.{◌≡◌, ◌<◌, ◌^◌, ◌++◌, Ok, OnOk, OnErr, IfSome, FitsSigned, length, map};
 ghost use Rattle.std.specs.List.{AllByRecursion};
 ghost use Rattle.std.specs.Int.{w32};

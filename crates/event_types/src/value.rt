@@ -1,3 +1,4 @@
+// The value of an event: one variant for each payload type.
 ghost use Rattle.std.specs.Prelude.{◌≡◌, [], ◌∷◌, ◌++◌, OnOk, IfOk};
 ghost use Rattle.pb_wire.specs.Message.{view_value};
 ghost use Rattle.event_types.specs.Element.{int_of, bits32_of, bits64_of, bytes_of};

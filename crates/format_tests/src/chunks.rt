@@ -1,3 +1,4 @@
+// Tests of `pb_lines`: streams of chunks, header lines and sample lines.
 use edge_io::MemSource;
 use event_types::{EventFault, PayloadType};
 use payload_info::{InfoFault, decode_info};

@@ -1,3 +1,4 @@
+// Tests of `etl_rules`: which settings of the three stores are taken.
 use etl_rules::Config;
 use partition_names::Granularity;
 

@@ -1,3 +1,4 @@
+// Tests of `arch_time`: seconds of years, moments and ISO texts.
 use arch_time::{BadIso, BadTime, END, YearTime, instant, parse_iso, print_iso, split};
 use std::test::Fail;
 

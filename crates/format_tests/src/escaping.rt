@@ -1,3 +1,4 @@
+// Tests of `line_escape`: lines, what they mean, and bad escapes.
 use line_escape::{EscapeErr, escape, escaped_len, unescape, unescaped};
 use std::test::Fail;
 

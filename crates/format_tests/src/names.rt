@@ -1,3 +1,4 @@
+// Tests of `pv_name`: names of variables, their faults and their keys.
 use pv_name::{NameErr, PvName, key_path, same_key};
 use std::test::Fail;
 

@@ -1,3 +1,4 @@
+// Tests of `partition_names`: partitions of moments, their names and paths.
 use arch_time::{END, START};
 use partition_names::{Granularity, file_path, holds, parse, part_of};
 use pv_name::PvName;

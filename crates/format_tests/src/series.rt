@@ -1,3 +1,4 @@
+// Tests of `series_model`: lists over lists, answers, reasons to drop a sample, and sampling at a period.
 use series_model::{
     Batch, Blob, Blobs, Pairs, Query, Reason, RowSamples, Sample, Samples, ScanEvent, Standing,
     admit, answer, over, scan, taken,

@@ -1,3 +1,4 @@
+// Tests of `edge_io`: lines, sources and sinks.
 use edge_io::{
     Clock, Failed, LineRead, Lines, ListClock, MemSink, MemSource, Sink, Source, StdSink,
     StdSource, SystemClock, write_whole,

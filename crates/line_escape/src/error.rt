@@ -1,3 +1,4 @@
+// Why a line means no bytes.
 ghost use Rattle.std.specs.Prelude.{◌≡◌};
 
 use std::alloc::{AllocError, AllocFailed};

@@ -1,3 +1,4 @@
+// Bytes written as a line without a newline (PB file format).
 ghost use Rattle.std.specs.Prelude.{◌≡◌, ◌≢◌, ◌≤◌, ◌++◌, All, OnOk, OnErr, count_by, length, take};
 ghost use Rattle.line_escape.specs.Escaping.{escaped, code_of, needs_pair};
 

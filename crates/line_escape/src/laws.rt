@@ -1,3 +1,4 @@
+// What follows from the form of escaped lines, for all of them.
 ghost use Rattle.std.specs.Prelude.{◌≡◌, ◌⊎◌, ℕ, List, ◌∷◌, ◌++◌};
 ghost use Rattle.line_escape.specs.Escaping.{escaped};
 ghost use Rattle.line_escape.specs.Unescaping.{AppendsMeaning, HasNoNewline, IsBadPlace, Means};

@@ -1,3 +1,4 @@
+// The bytes that an escaped line means (PB file format), or its first bad escape.
 ghost use Rattle.std.specs.Prelude.{◌≡◌, ◌≢◌, ◌<◌, ◌≤◌, All, IfSome, IfNone, IfOk, IfErr, IsTrue, OnOk, OnErr, length, take, slice_index};
 ghost use Rattle.line_escape.specs.Unescaping.{AppendsMeaning, BeginsBadEscape, BeginsPair, HasNoNewline, IsRefusal, Means};
 

@@ -1,3 +1,4 @@
+// Why bytes are no header.
 ghost use Rattle.std.specs.Prelude.{◌≡◌};
 ghost use Rattle.payload_info.specs.declared.error.InfoFault.TheVariants as faults;
 ghost use Rattle.payload_info.specs.Info.{info_fault};

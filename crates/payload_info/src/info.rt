@@ -1,3 +1,4 @@
+// The header of a PB file or of a chunk.
 use pb_wire::PayloadType;
 use series_model::{Blob, Pairs};
 

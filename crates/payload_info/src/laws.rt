@@ -1,3 +1,4 @@
+// What follows from the spelling and the reading of headers, for all of them.
 ghost use Rattle.std.specs.Prelude.{◌≡◌, Ok};
 ghost use Rattle.payload_info.specs.declared.info.PayloadInfo.{PayloadInfo};
 ghost use Rattle.payload_info.specs.Info.{info_of};

@@ -1,3 +1,4 @@
+// A header read from the fields of its message.
 ghost use Rattle.std.specs.Prelude.{◌≡◌, IfOk};
 ghost use Rattle.std.specs.Option.{option_map, ok_or};
 ghost use Rattle.arch_time.specs.YearTime.{IsSampleYear};

@@ -1,3 +1,4 @@
+// The one spelling of a header: its fields in the order of their numbers.
 ghost use Rattle.std.specs.Prelude.{◌≡◌, ◌<◌, ◌^◌, ◌++◌, Ok, OnOk, OnErr, length, map};
 ghost use Rattle.std.specs.Io.{StartsWith};
 ghost use Rattle.pb_wire.specs.Message.{IsFieldNumber};

@@ -1,3 +1,4 @@
+// A partition's file read whole, and judged line by line.
 ghost use Rattle.std.specs.Prelude.{◌≡◌, ◌≤◌, ◌<◌, ◌+◌, ◌-◌, ◌^◌, ◌↔◌, IsTrue, length, take};
 ghost use Rattle.partition_names.specs.Part.{HoldsMoment};
 ghost use Rattle.disk_model.specs.Files.{Rose};

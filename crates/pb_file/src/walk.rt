@@ -1,3 +1,4 @@
+// A walk through a PB file, one line a call.
 ghost use Rattle.std.specs.Prelude.{◌≡◌, ◌≤◌, ◌+◌, ◌↔◌, ℕ, List, Option, Some, None, IfSome, IfNone, IsSome, IsTrue, length};
 ghost use Rattle.std.specs.Option.{option_copied};
 ghost use Rattle.line_escape.specs.Unescaping.{HasNoNewline};

@@ -1,3 +1,4 @@
+// Why a line of a stream is bad.
 ghost use Rattle.std.specs.Prelude.{◌≡◌};
 ghost use Rattle.pb_lines.specs.Fault.{wire_number, event_number, info_number, line_number, head_number, fault_number};
 

@@ -1,3 +1,4 @@
+// A header and its escaped line, both ways.
 ghost use Rattle.std.specs.Prelude.{◌≡◌, ◌++◌, ◌∷◌, [], Ok, IfOk, IfErr, OnOk, OnErr};
 ghost use Rattle.std.specs.Io.{StartsWith};
 ghost use Rattle.line_escape.specs.Escaping.{escaped};

@@ -1,3 +1,4 @@
+// A raw PB stream read item by item: headers, samples and the ends of chunks.
 ghost use Rattle.std.specs.Prelude.{◌≡◌, ◌≢◌, ◌↔◌, ◌≤◌, [], IfOk, IfSome, IfNone, IsTrue, IsSome};
 ghost use Rattle.std.specs.Option.{option_copied};
 ghost use Rattle.edge_io.specs.Stream.{Rose};

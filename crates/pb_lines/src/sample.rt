@@ -1,3 +1,4 @@
+// The moment of a sample's escaped line.
 ghost use Rattle.std.specs.Prelude.{◌≡◌, IfOk, IfErr};
 ghost use Rattle.line_escape.specs.Unescaping.{HasNoNewline};
 ghost use Rattle.pb_lines.specs.Sample.{IsSampleLine, IsStamp, IsLineErr, IsStampErr};

@@ -1,3 +1,4 @@
+// A cursor over the fields of a message.
 ghost use Rattle.std.specs.Prelude.{◌≡◌, ◌≤◌, ◌↔◌, [], IsTrue, IfOk, IfSome, IfNone, length};
 ghost use Rattle.pb_wire.specs.Message.{view, view_value, blob_len, varint, fixed64, fixed32};
 ghost use Rattle.pb_wire.specs.Reading.{varint_at, field_at};

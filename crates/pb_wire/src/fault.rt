@@ -1,3 +1,4 @@
+// Why bytes are no message of the fields that are known.
 ghost use Rattle.std.specs.Prelude.{◌≡◌};
 ghost use Rattle.pb_wire.specs.declared.fault.FieldFault.TheVariants as faults;
 

@@ -1,3 +1,4 @@
+// What is kept of a varint in a field of 32 bits, and how a negative number is written.
 ghost use Rattle.std.specs.Prelude.{◌≡◌};
 ghost use Rattle.pb_wire.specs.Numbers.{uint32_of, int32_of, sign_extended};
 

@@ -1,3 +1,4 @@
+// The fourteen payload types, their numbers and names (EPICSEvent.proto).
 ghost use Rattle.std.specs.Prelude.{◌≡◌, IfSome};
 ghost use Rattle.pb_wire.specs.declared.payload.PayloadType.{PayloadType};
 ghost use Rattle.pb_wire.specs.Payload.{row_of};

@@ -1,3 +1,4 @@
+// Tags, varints and values at the front of bytes (Protocol Buffers encoding).
 ghost use Rattle.std.specs.Prelude.{◌≡◌, ◌<◌, ◌≤◌, ◌^◌, Ok, IfOk, IfSome, length};
 ghost use Rattle.std.specs.Int.{w32, w64, from_le_bytes};
 ghost use Rattle.pb_wire.specs.Message.{view, view_value, varint, fixed32, fixed64};

@@ -1,3 +1,4 @@
+// The zigzag numbers of `sint32` (Protocol Buffers encoding).
 ghost use Rattle.std.specs.Prelude.{◌≡◌};
 ghost use Rattle.pb_wire.specs.Signed.{zigzag_of, unzigzag_of};
 

@@ -1,3 +1,4 @@
+// Varints and fields, spelled as short as can be (Protocol Buffers encoding).
 ghost use Rattle.std.specs.Prelude.{◌≡◌, ◌≤◌, ◌++◌, OnOk, OnErr, length};
 ghost use Rattle.std.specs.Io.{StartsWith};
 ghost use Rattle.pb_wire.specs.Message.{view_value, kind_of, IsFieldNumber};

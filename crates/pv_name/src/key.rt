@@ -1,3 +1,4 @@
+// The key of a name: the path of its files, without the partition.
 ghost use Rattle.std.specs.Prelude.{◌≡◌, ◌==◌, ◌++◌, ◌↔◌, IsTrue, OnOk, OnErr};
 ghost use Rattle.std.specs.List.{list_all, zip};
 ghost use Rattle.pv_name.specs.Key.{key_of, key_byte};

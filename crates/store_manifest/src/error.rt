@@ -1,3 +1,4 @@
+// Why a manifest isn't loaded.
 ghost use Rattle.std.specs.Prelude.{◌≡◌};
 ghost use Rattle.disk_model.specs.declared.disk.DiskErr.TheVariants.{Memory};
 ghost use Rattle.store_manifest.specs.declared.error.ManifestErr.TheVariants.{Disk as OfDisk};
