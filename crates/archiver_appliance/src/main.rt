@@ -21,9 +21,9 @@ mod opened;
 mod run;
 mod status;
 
-use disk_model::{Access, FolderDisk, Trouble};
 use edge_io::{StdSink, StdSource, SystemClock, write_whole};
 use etl_rules::Config;
+use folder_disk::{Access, FolderDisk, Trouble};
 use std::alloc::{AllocError, Global};
 use std::env::{self, VarError};
 use std::io::ErrorKind;

@@ -1,9 +1,9 @@
 // The calls of the operating system on the files of four folders.
 ghost use Rattle.std.specs.Prelude.{◌≤◌, ◌<◌, ◌+◌, ◌^◌, IfOk, OnOk, length};
 
-use crate::FileName;
 use crate::drafts::{Drafts, copy_from, written};
 use crate::paths::{ancestors, parent, stays_inside, trimmed};
+use disk_model::FileName;
 use std::alloc::{AllocError, Global};
 use std::collections::BTreeSet;
 use std::fs::{self, File, OpenOptions, TryLockError};

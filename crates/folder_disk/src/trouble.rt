@@ -1,3 +1,4 @@
+// What a disk of folders tells of its first fault.
 use std::fmt::{self, Display, Formatter};
 use std::io;
 

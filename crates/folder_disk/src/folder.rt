@@ -5,7 +5,7 @@ ghost use Rattle.disk_model.specs.Files.{Rose};
 
 use crate::folders::{Access, Folders, read_from};
 use crate::trouble::Trouble;
-use crate::{Disk, DiskErr, FileName, ReadAt, ReadFailed};
+use disk_model::{Disk, DiskErr, FileName, ReadAt, ReadFailed};
 use std::alloc::{AllocError, Global};
 use std::fs::File;
 use std::io;

@@ -1,5 +1,6 @@
 // Each call over folders of the operating system.
 use super::*;
+use disk_model::{Disk, DiskErr, FileName, ReadAt};
 use std::alloc::{AllocError, Global};
 use std::fs::File;
 use std::rt::Files;
@@ -67,7 +68,7 @@ fn each_call<R: Files<File = File> + Drop>(
 #[test]
 fn each_call_works_over_a_folder(rt: HostRuntime) -> Result<(), Fail> {
     let alloc = rt.alloc();
-    let root = empty_folder(&rt, "disk_model_each_call")?;
+    let root = empty_folder(&rt, "folder_disk_each_call")?;
     let mut disk = disk_below(&rt, root.as_str(), Access::Write)?;
     let (size, bytes, names, kept) = each_call(alloc, &mut disk)?;
     assert_eq!(rt; size, Some(5));
@@ -92,7 +93,7 @@ fn first_call<R: Files<File = File> + Drop>(
 #[test]
 fn one_program_writes_or_some_read(rt: HostRuntime) -> Result<(), Fail> {
     let alloc = rt.alloc();
-    let root = empty_folder(&rt, "disk_model_lock")?;
+    let root = empty_folder(&rt, "folder_disk_lock")?;
     let mut early = disk_below(&rt, root.as_str(), Access::Read)?;
     let mut writer = disk_below(&rt, root.as_str(), Access::Write)?;
     let mut reader = disk_below(&rt, root.as_str(), Access::Read)?;
@@ -132,7 +133,7 @@ fn begun<R: Files<File = File> + Drop>(
 #[test]
 fn a_reader_changes_nothing(rt: HostRuntime) -> Result<(), Fail> {
     let alloc = rt.alloc();
-    let root = empty_folder(&rt, "disk_model_reader")?;
+    let root = empty_folder(&rt, "folder_disk_reader")?;
     fs::create_dir_all(&rt, root.as_str())?;
     let mut disk = disk_below(&rt, root.as_str(), Access::Read)?;
     let (count, bytes, refused) = begun(alloc, &mut disk)?;
@@ -147,7 +148,7 @@ fn a_reader_changes_nothing(rt: HostRuntime) -> Result<(), Fail> {
 
 #[test]
 fn no_name_leaves_its_folder(rt: HostRuntime) -> Result<(), Fail> {
-    let root = empty_folder(&rt, "disk_model_names")?;
+    let root = empty_folder(&rt, "folder_disk_names")?;
     let mut disk = disk_below(&rt, root.as_str(), Access::Read)?;
     for path in [b"../x".as_slice(), b"/x", b"x//y", b"", b"x/.", b"\xFF"] {
         let name = named(rt.alloc(), 1, path)?;
