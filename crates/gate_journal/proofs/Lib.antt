@@ -1,6 +1,7 @@
 mod Begin
 mod Bytes
 pub mod Elsewhere
+pub mod FirstBad
 pub mod Keeping
 mod Loading
 mod Meaning

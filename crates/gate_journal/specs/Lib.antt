@@ -1,4 +1,5 @@
 pub mod Batches
+pub mod FirstBad
 pub mod Journal
 pub mod Kept
 pub mod Load

@@ -5,13 +5,14 @@ use Rattle.std.proofs.lemmas.List.{take_at, take-append-le, take_more, take_all,
 use Rattle.std.proofs.lemmas.List.Elements.{All-head, All-tail}
 use Rattle.std.proofs.lemmas.Option.{get_or_from_slice_get}
 use Rattle.std.specs.List.{slice_get}
+use Rattle.gate_journal.proofs.FirstBad.{HaveFronts, last_is_bad, none_is_bad, one_is_bad, stays_bad}
 use Rattle.partition_names.specs.declared.granularity.Granularity.{Granularity}
 use Rattle.partition_names.specs.declared.granularity.Granularity.TheVariants.{FiveMinutes, FifteenMinutes, ThirtyMinutes, Hour, Day, Month, Year}
 use Rattle.partition_names.specs.Granularity.{number_of}
 use Rattle.store_manifest.specs.declared.entry.Entry.{Entry}
 use Rattle.store_manifest.specs.declared.entry.Change.{Change}
 use Rattle.store_manifest.specs.declared.entry.Change.TheVariants.{Set, Drop}
-use Rattle.store_manifest.specs.Batches.{members_of, encoded, batch_of, config, Makes, IsBatch, AreBatches, Configured, Folds, IsBadBatch}
+use Rattle.store_manifest.specs.Batches.{members_of, encoded, batch_of, config, Makes, IsBatch, AreBatches, Configured, Folds, FoldsTo, IsBadBatch}
 use Rattle.store_manifest.specs.Entries.{changed, all_changed, CanFollow, InTurn, AllCanFollow}
 use Rattle.store_manifest.specs.Numbers.{HasSizes}
 use Rattle.store_manifest.specs.Reading.{HasPart, IsFront, IsAllowed}
@@ -175,48 +176,14 @@ batches_last g es (b ∷ bs) batch last are = let more = batches_last g are.0 bs
 
 -- BAD BATCHES
 
-pub folds_good : (g : Granularity) (bs : List (List ℕ)) (es : List Entry) (n : ℕ) → Folds g bs es → IsBadBatch bs n → ⊥
-folds_good g bs es n folds bad =
-    let P : List (List ℕ) → Type 0 = λ l. Folds g l es in
-    let front = folds_front g (bad.front ++ bad.batch ∷ []) bad.rest es (subst P (bad.split ∙ sym (append_assoc bad.front (bad.batch ∷ []) bad.rest)) folds) in
-    bad.bad g front.0 front.1
+fronts : HaveFronts FoldsTo
+fronts xs ys said folds = let front = folds_front said.0 xs ys said.1 folds in ((said.0, front.0), front.1)
 
--- a front up to a bad batch is no front that folds
-not_before : (bs : List (List ℕ)) (m n : ℕ) → IsBadBatch bs m → IsBadBatch bs n → m < n → ⊥
-not_before bs m n one two less =
-    let to = m + 1 in
-    let bad : take to bs ≡ one.front ++ one.batch ∷ [] = ap (λ (l : List (List ℕ)). take to l) (one.split ∙ sym (append_assoc one.front (one.batch ∷ []) one.rest)) ∙ take_at (one.front ++ one.batch ∷ []) one.rest to (length_push one.front one.batch ∙ omega (arith, one.counted)) in
-    let good : take to bs ≡ take to two.front = ap (λ (l : List (List ℕ)). take to l) two.split ∙ take-append-le to two.front (two.batch ∷ two.rest) (omega (arith, two.counted, less)) in
-    let P : List (List ℕ) → Type 0 = λ l. Folds two.good.0 l two.good.1 in
-    let Q : List (List ℕ) → Type 0 = λ l. Folds two.good.0 l (folds_front two.good.0 (take to two.front) (drop to two.front) two.good.1 (subst P (sym (take-append-drop to two.front)) two.good.2)).0 in
-    one.bad two.good.0 _ (subst Q (sym good ∙ bad) (folds_front two.good.0 (take to two.front) (drop to two.front) two.good.1 (subst P (sym (take-append-drop to two.front)) two.good.2)).1)
+pub folds_good : (g : Granularity) (bs : List (List ℕ)) (es : List Entry) (n : ℕ) → Folds g bs es → IsBadBatch bs n → ⊥
+folds_good g bs es n folds bad = none_is_bad FoldsTo fronts bs (g, es) n folds bad
 
 pub one_bad : (bs : List (List ℕ)) (m n : ℕ) → IsBadBatch bs m → IsBadBatch bs n → m ≡ n
-one_bad bs m n one two = elim (cases_order m n) [
-  | inl same ↦ same
-  | inr other ↦ elim other [ inl less ↦ absurd (not_before bs m n one two less) | inr more ↦ absurd (not_before bs n m two one more) ]
-]
-
--- a batch that doesn't go on
-pub bad_later : (g : Granularity) (bs front rest : List (List ℕ)) (batch : List ℕ) (es : List Entry) (n : ℕ) → bs ≡ front ++ batch ∷ rest → n ≡ length front → Configured g front es → ((next : List Entry) → IsBatch g es batch next → ⊥) → IsBadBatch bs n
-bad_later g bs front rest batch es n split counted good bad = record {
-  front = front;
-  batch = batch;
-  rest = rest;
-  split = split;
-  counted = counted;
-  good = (g, es, configured_folds g front es good);
-  bad = goes_on front good;
-}
-  where
-    goes_on : (front : List (List ℕ)) → Configured g front es → (h : Granularity) (last : List Entry) → Folds h (front ++ batch ∷ []) last → ⊥
-    goes_on [] good h last folds = good
-    goes_on (b ∷ front) good h last folds =
-        let same = one_config h g (sym folds.0 ∙ good.0) in
-        let P : Granularity → Type 0 = λ z. AreBatches z [] (front ++ batch ∷ []) last in
-        let more = batches_last g [] front batch last (subst P same folds.1) in
-        let Q : List Entry → Type 0 = λ l. IsBatch g l batch last in
-        bad last (subst Q (same_made g [] front more.0 es more.1 good.1) more.2)
+one_bad bs m n one two = one_is_bad FoldsTo fronts bs m n one two
 
 -- BATCH BY BATCH
 
@@ -224,26 +191,23 @@ pub begins_good : (g : Granularity) (bs : List (List ℕ)) (batch : List ℕ) �
 begins_good g bs batch none is = let P : List (List ℕ) → Type 0 = λ l. Configured g (l ++ batch ∷ []) [] in subst P (sym none) (is, refl)
 
 pub begins_bad : (bs : List (List ℕ)) (batch : List ℕ) (n : ℕ) → bs ≡ [] → n ≡ length bs → ((g : Granularity) → batch ≡ config g → ⊥) → IsBadBatch (bs ++ batch ∷ []) n
-begins_bad bs batch n none counted bad = record {
-  front = bs;
-  batch = batch;
-  rest = [];
-  split = refl;
-  counted = counted;
-  good = (FiveMinutes, [], let P : List (List ℕ) → Type 0 = λ l. Folds FiveMinutes l [] in subst P (sym none) refl);
-  bad = λ g es folds. let P : List (List ℕ) → Type 0 = λ l. Folds g (l ++ batch ∷ []) es in let first = subst P none folds in bad g first.0;
-}
+begins_bad bs batch n none counted bad =
+    let P : List (List ℕ) → Type 0 = λ l. Folds FiveMinutes l [] in
+    last_is_bad FoldsTo bs batch (FiveMinutes, []) n counted (subst P (sym none) refl)
+    (λ said folds. let Q : List (List ℕ) → Type 0 = λ l. Folds said.0 (l ++ batch ∷ []) said.1 in let first = subst Q none folds in bad said.0 first.0)
+
+-- a batch that doesn't go on
+goes_on : (g : Granularity) (bs : List (List ℕ)) (batch : List ℕ) (es : List Entry) → Configured g bs es → (h : Granularity) (last : List Entry) → Folds h (bs ++ batch ∷ []) last → IsBatch g es batch last
+goes_on g [] batch es good h last folds = absurd good
+goes_on g (b ∷ bs) batch es good h last folds =
+    let same = one_config h g (sym folds.0 ∙ good.0) in
+    let P : Granularity → Type 0 = λ z. AreBatches z [] (bs ++ batch ∷ []) last in
+    let more = batches_last g [] bs batch last (subst P same folds.1) in
+    let Q : List Entry → Type 0 = λ l. IsBatch g l batch last in
+    subst Q (same_made g [] bs more.0 es more.1 good.1) more.2
 
 pub goes_bad : (g : Granularity) (bs : List (List ℕ)) (batch : List ℕ) (es : List Entry) (n : ℕ) → n ≡ length bs → Configured g bs es → ((next : List Entry) → IsBatch g es batch next → ⊥) → IsBadBatch (bs ++ batch ∷ []) n
-goes_bad g bs batch es n counted good bad = bad_later g (bs ++ batch ∷ []) bs [] batch es n refl counted good bad
+goes_bad g bs batch es n counted good bad = last_is_bad FoldsTo bs batch (g, es) n counted (configured_folds g bs es good) (λ said folds. bad said.1 (goes_on g bs batch es good said.0 said.1 folds))
 
-pub stays_bad : (bs : List (List ℕ)) (batch : List ℕ) (n : ℕ) → IsBadBatch bs n → IsBadBatch (bs ++ batch ∷ []) n
-stays_bad bs batch n bad = record {
-  front = bad.front;
-  batch = bad.batch;
-  rest = bad.rest ++ batch ∷ [];
-  split = ap (λ (l : List (List ℕ)). l ++ batch ∷ []) bad.split ∙ append_assoc bad.front (bad.batch ∷ bad.rest) (batch ∷ []);
-  counted = bad.counted;
-  good = bad.good;
-  bad = bad.bad;
-}
+pub goes_on_bad : (bs : List (List ℕ)) (batch : List ℕ) (n : ℕ) → IsBadBatch bs n → IsBadBatch (bs ++ batch ∷ []) n
+goes_on_bad bs batch n bad = stays_bad FoldsTo bs batch n bad

@@ -1,6 +1,7 @@
 -- What the batches of a manifest stand for.
 use Rattle.std.specs.Prelude.{◌≡◌, ◌≢◌, ℕ, List, [], ◌∷◌, ◌++◌, length}
 use Rattle.std.specs.Int.{to_le_bytes, w32, w64}
+use Rattle.gate_journal.specs.FirstBad.{IsFirstBad}
 use Rattle.partition_names.specs.declared.granularity.Granularity.{Granularity}
 use Rattle.partition_names.specs.Granularity.{number_of}
 use Rattle.store_manifest.specs.declared.entry.Entry.{Entry}
@@ -63,12 +64,10 @@ abbrev pub Folds : Granularity → List (List ℕ) → List Entry → Type 0
 Folds g [] entries = entries ≡ []
 Folds g (b ∷ bs) entries = Configured g (b ∷ bs) entries
 
+-- the batches of a manifest that says this granularity and lists these entries
+abbrev pub FoldsTo : List (List ℕ) → Granularity × List Entry → Type 0
+FoldsTo batches said = Folds said.0 batches said.1
+
 -- the batches before this one are a manifest's, and with it they are none
-pub record IsBadBatch (batches : List (List ℕ)) (number : ℕ) : Type 0 where
-  pub front : List (List ℕ)
-  pub batch : List ℕ
-  pub rest : List (List ℕ)
-  pub split : batches ≡ front ++ batch ∷ rest
-  pub counted : number ≡ length front
-  pub good : (g : Granularity) × (entries : List Entry) × Folds g front entries
-  pub bad : (g : Granularity) (entries : List Entry) → Folds g (front ++ batch ∷ []) entries → ⊥
+abbrev pub IsBadBatch : List (List ℕ) → ℕ → Type 0
+IsBadBatch batches number = IsFirstBad FoldsTo batches number

@@ -54,7 +54,7 @@ bad_again IsBad none old new X bs n at has bad (inl same) gate = elim (gate bs (
 bad_again IsBad none old new X bs n at has bad (inr empty) gate = absurd (none n (subst (λ (l : List (List ℕ)). IsBad l n) (same_batches old bs [] has empty.0) bad))
 
 pub no_bad_rows : (n : ℕ) → catalogue.IsBadBatch [] n → ⊥
-no_bad_rows n bad = none-some bad.batch bad.here
+no_bad_rows n bad = let long = ap length bad.split in omega (arith, long, length-append bad.front (bad.batch ∷ bad.rest))
 
 pub no_bad_entries : (n : ℕ) → manifest.IsBadBatch [] n → ⊥
 no_bad_entries n bad = let long = ap length bad.split in omega (arith, long, length-append bad.front (bad.batch ∷ bad.rest))
