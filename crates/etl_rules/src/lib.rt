@@ -5,9 +5,11 @@
 //! least `hold` partitions of a series are ripe, and takes the oldest `gather` of them, or all where fewer are ripe; with `hold` 0
 //! all ripe ones move.
 //!
-//! [`Config`] holds these settings. The shipped ones are HOUR, hold 5, gather 3; DAY, hold 2, gather 1; YEAR.
+//! [`Config`] holds these settings. The shipped ones are HOUR, hold 5, gather 3; DAY, hold 2, gather 1; YEAR. [`choose`] is the rule.
 #![tactic(auto)]
 
+mod choosing;
 mod config;
 
+pub use choosing::choose;
 pub use config::Config;

@@ -1,5 +1,5 @@
 // Tests of `etl_rules`: which settings of the three stores are taken.
-use etl_rules::Config;
+use etl_rules::{Config, choose};
 use partition_names::Granularity;
 
 #[test]
@@ -30,5 +30,23 @@ fn partitions_lie_in_those_of_the_next_store_and_moves_take_some(rt: HostRuntime
     ];
     for (granularity, hold, gather, made) in table {
         assert_eq!(rt; Config::new(granularity, hold, gather).is_some(), made);
+    }
+}
+
+#[test]
+fn ripe_partitions_are_gathered_once_enough_are_held(rt: HostRuntime) {
+    let ends: [u64; 8] = [10, 20, 30, 40, 50, 60, 70, 80];
+    let table = [
+        (5, 3, 40, 0),
+        (5, 3, 50, 3),
+        (5, 3, 79, 3),
+        (0, 3, 70, 7),
+        (2, 3, 20, 2),
+        (1, 1, 9, 0),
+        (0, 1, 9, 0),
+        (8, 9, 80, 8),
+    ];
+    for (hold, gather, now, chosen) in table {
+        assert_eq!(rt; choose(&ends, hold, gather, now), chosen);
     }
 }
