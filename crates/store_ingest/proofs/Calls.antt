@@ -8,7 +8,7 @@ use Rattle.partition_names.specs.declared.granularity.Granularity.{Granularity}
 use Rattle.tier_store.specs.Ends.{End, Done, Refused, Failed, Spent, IsFailed, end_of_disk}
 use Rattle.tier_store.specs.Held.{Held}
 use Rattle.tier_store.specs.Seen.{Seen}
-use Rattle.tier_store.specs.Change.{Has, IsEither, Call, EndsFrom, Ends, HoldsBy, HoldsChange, Changes, Acts}
+use Rattle.tier_store.specs.Change.{Has, IsEither, Call, EndsFrom, HoldsBy, HoldsChange, Changes, Acts}
 use Rattle.tier_store.proofs.Acting.{nothing_changes}
 use Rattle.store_ingest.specs.Chunk.{answered, doing}
 
@@ -23,27 +23,8 @@ spent tells By s result is = subst (λ (r : Result (Unit {0}) DiskErr). Changes 
 
 -- A CALL OF THE STORE
 
--- Store 1 is the only one, so it doesn't stand in doubt against another.
-module _ {A E : Type 0} (tells : Bool) (call : Call A E) (new : Seen) (stays : (a b : Held) → call.by a b → b.store ≡ a.store) where
-  numbered : (mid : Held) (end : End A E) → EndsFrom tells call new mid end → mid.store ≡ 1
-  numbered mid (Done a) ends = sym (stays mid ends.0 ends.1) ∙ ends.3.known.numbered
-  numbered mid (Refused e) ends = ends.0.known.numbered
-  numbered mid Failed (inl has) = has.known.numbered
-  numbered mid Failed (inr made) = made.2.known.numbered
-  numbered mid Spent has = has.known.numbered
-
-  ends_from : (held other : Held) (end : End A E) → other.store ≡ 2 → Ends tells call new held other end → EndsFrom tells call new held end
-  ends_from held other (Done a) two (inl cut) = absurd cut.0
-  ends_from held other (Refused e) two (inl cut) = absurd cut.0
-  ends_from held other Failed two (inl (cut, inl has)) = inl has
-  ends_from held other Failed two (inl (cut, inr doubts)) = absurd (omega (arith, two, doubts.numbered_after))
-  ends_from held other Spent two (inl (cut, inl has)) = has
-  ends_from held other Spent two (inl (cut, inr doubts)) = absurd (omega (arith, two, doubts.numbered_after))
-  ends_from held other end two (inr (mid, inl is, ends)) = subst (λ (h : Held). EndsFrom tells call new h end) is ends
-  ends_from held other end two (inr (mid, inr is, ends)) = absurd (omega (arith, two, ap (λ (h : Held). h.store) is, numbered mid end ends))
-
 -- What the call makes is ours, and where the rows refuse it nothing is to be done.
-module _ {A E : Type 0} (tells : Bool) (call : Call A E) (By : Held → Held → Type 0) (stays : (a b : Held) → call.by a b → b.store ≡ a.store) (by : (a b : Held) → call.by a b → By a b) (refuses : (e : E) (held : Held) → call.refuses e held.rows → By held held) where
+module _ {A E : Type 0} (tells : Bool) (call : Call A E) (By : Held → Held → Type 0) (by : (a b : Held) → call.by a b → By a b) (refuses : (e : E) (held : Held) → call.refuses e held.rows → By held held) where
   answers : (new : Seen) (held : Held) (end : End A E) → EndsFrom tells call new held end → EndsFrom tells (doing By) new held (answered end)
   answers new held (Done a) ends = (ends.0, by held ends.0 ends.1, tt, ends.3)
   answers new held (Refused e) ends = (held, refuses e held ends.1, tt, ends.0)
@@ -68,9 +49,7 @@ module _ {A E : Type 0} (tells : Bool) (call : Call A E) (By : Held → Held →
 
   pub changes_of : (old new : Seen) (end : End A E) (result : Result (Unit {0}) DiskErr) → end_of_disk result ≡ answered end → Acts tells call old new end → Changes tells (doing By) old new (end_of_disk result)
   changes_of old new end result is acts = subst (λ (e : End (Unit {0}) ⊥). Changes tells (doing By) old new e) (sym is) (record {
-    ends = λ held has.
-        let other : Held = record { store = 2; rows = held.rows; files = held.files; stands = held.stands } in
-        answers new held end (ends_from tells call new stays held other end refl (acts.ends held other (inl has)));
+    ends = λ held has. answers new held end (acts.settled held has);
     any_moment = λ told held has. passes_weaker (HoldsChange old.manifest.granularity call.by held held) (HoldsBy old.manifest.granularity By held) old.past new.past (acts.any_moment told held held (inl has)) (λ a b left. image old.manifest.granularity held a b);
     costs = record { granularity = acts.costs.granularity; faults = acts.costs.faults; cause = λ is. acts.costs.cause (failed end is) };
   })

@@ -8,7 +8,7 @@ use Rattle.disk_model.specs.declared.disk.DiskErr.TheVariants.{Fault, Memory}
 use Rattle.disk_model.proofs.Passing.{passes_then, passes_weaker, passes_none}
 use Rattle.partition_names.specs.declared.granularity.Granularity.{Granularity}
 use Rattle.tier_store.specs.Held.{Held}
-use Rattle.tier_store.specs.Seen.{Seen}
+use Rattle.tier_store.specs.Seen.{Seen, IsSettled}
 use Rattle.tier_store.specs.Ends.{End, Done, Refused, Failed, Spent, end_of_error, end_of_disk, IsFailed, IsCut}
 use Rattle.tier_store.specs.Stored.{Holds, HoldsEither}
 use Rattle.tier_store.specs.Change.{Has, HasEither, IsOpen, IsEither, Comes, HoldsBy, HoldsChange, Call, EndsFrom, Costs, OnlyReads, Changes, Acts}
@@ -69,28 +69,34 @@ nothing_read {A} {E} tells s end not_failed = record {
   cause = λ failed. absurd (not_failed failed);
 }
 
--- the settling failed
-pub cut_acts : {A B E : Type 0} (tells : Bool) (call : Call A E) (old new : Seen) (r : Result B DiskErr) (e : DiskErr) (end : End A E) → r ≡ Err e → end ≡ end_of_error e → ((before after : Held) → IsOpen tells old before after → IsOpen tells new before after)
+-- the settling failed, so something stood in doubt
+pub cut_acts : {A B E : Type 0} (tells : Bool) (call : Call A E) (old new : Seen) (r : Result B DiskErr) (e : DiskErr) (end : End A E) → r ≡ Err e → end ≡ end_of_error e → (IsSettled old → (a : B) × (r ≡ Ok a)) → ((before after : Held) → IsOpen tells old before after → IsOpen tells new before after)
     → new.manifest.granularity ≡ old.manifest.granularity → OnlyReads tells old new (end_of_disk r) → Acts tells call old new end
-cut_acts {A} {B} {E} tells call old new r e end failed is still same_g reads = subst (λ (x : End A E). Acts tells call old new x) (sym is) (go e (subst (λ (x : Result B DiskErr). OnlyReads tells old new (end_of_disk x)) failed reads))
+cut_acts {A} {B} {E} tells call old new r e end failed is fine still same_g reads = subst (λ (x : End A E). Acts tells call old new x) (sym is) (go e (subst (λ (x : Result B DiskErr). OnlyReads tells old new (end_of_disk x)) failed reads))
   where
+    doubted : IsSettled old → ⊥
+    doubted settled = let ok = fine settled in let both : ◌≡◌ {A = Result B DiskErr} (Ok ok.0) (Err e) = sym ok.1 ∙ failed in cc (both)
+
     go : (e : DiskErr) → OnlyReads tells old new (end_of_disk {A = B} (Err e)) → Acts tells call old new (end_of_error {A = A} {E = E} e)
     go Fault reads = record {
       ends = λ before after was. inl (tt, still before after was);
+      settled = λ held has. absurd (doubted has.settled);
       any_moment = λ told before after was. settling_holds tells call.by old new.past before after was told (reads.any_moment told);
       costs = record { granularity = same_g; faults = reads.faults; cause = reads.cause };
     }
     go Memory reads = record {
       ends = λ before after was. inl (tt, still before after was);
+      settled = λ held has. absurd (doubted has.settled);
       any_moment = λ told before after was. settling_holds tells call.by old new.past before after was told (reads.any_moment told);
       costs = record { granularity = same_g; faults = reads.faults; cause = λ failed. absurd failed };
     }
 
 -- the doubt was settled, and then the call did its own
 pub then_acts : {A B E F : Type 0} (tells : Bool) (call : Call A E) (old mid new : Seen) (settling : End B F) (end : End A E) → ((before after : Held) → IsOpen tells old before after → HasEither tells mid before after)
-    → mid.manifest.granularity ≡ old.manifest.granularity → OnlyReads tells old mid settling → Changes tells call mid new end → Acts tells call old new end
-then_acts {A} {B} {E} {F} tells call old mid new settling end settled same_g reads change = record {
+    → ((held : Held) → Has tells old held → Has tells mid held) → mid.manifest.granularity ≡ old.manifest.granularity → OnlyReads tells old mid settling → Changes tells call mid new end → Acts tells call old new end
+then_acts {A} {B} {E} {F} tells call old mid new settling end settled nothing same_g reads change = record {
   ends = λ before after was. let held = settled_one tells mid before after (settled before after was) in inr (held.0, held.1, change.ends held.0 held.2);
+  settled = λ held has. change.ends held (nothing held has);
   any_moment = λ told before after was.
       let held = settled_one tells mid before after (settled before after was) in
       then_holds old.manifest.granularity call.by old.past mid.past new.past before after held.0 held.1 (settling_holds tells call.by old mid.past before after was told (reads.any_moment told))

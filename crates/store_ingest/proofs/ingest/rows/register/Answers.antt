@@ -3,7 +3,6 @@ use Rattle.std.proofs.lemmas.Result.{err_from_is_err_and}
 use Rattle.event_types.specs.declared.about.About.{About}
 use Rattle.event_types.specs.declared.about.Method.TheVariants.{Monitor}
 use Rattle.tier_store.specs.Ends.{end_of_register}
-use Rattle.tier_store.specs.Held.{Held}
 use Rattle.tier_store.specs.Change.{registering}
 use Rattle.store_ingest.specs.Chunk.{RegistersIn}
 use Rattle.store_ingest.proofs.Calls.{changes_of, done_nothing, spent}
@@ -26,4 +25,4 @@ returns g c =
     let info = c.args.info.now in
     let about : About = record { ty = info.ty; method = Monitor; count = info.count; headers = c.in_ok-clone.field-0 } in
     let of = header info c.in-Ok.name c.bytes.result.now c.in_ok-clone.field-0 c.bytes.ensures c.in-Ok.ensures.ok c.in_ok-clone.ensures.cases in
-    record { changes = changes_of g.D.Disk.tells (registering c.in-Ok.name about) (RegistersIn info) (λ a b by. ap (λ (h : Held). h.store) by.1) (registers_in info c.in-Ok.name about of) (refused_in info c.in-Ok.name about of) _ _ (end_of_register c.register.result) c.disk_failure.result c.disk_failure.ensures c.register.ensures.acts }
+    record { changes = changes_of g.D.Disk.tells (registering c.in-Ok.name about) (RegistersIn info) (registers_in info c.in-Ok.name about of) (refused_in info c.in-Ok.name about of) _ _ (end_of_register c.register.result) c.disk_failure.result c.disk_failure.ensures c.register.ensures.acts }

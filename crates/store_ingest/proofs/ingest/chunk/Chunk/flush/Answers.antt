@@ -26,4 +26,4 @@ flush-requires-clause-can g c =
 pub returns-clause-changes : goal.returns-clause-changes
 returns-clause-changes g c =
     let is = ap (λ (v : ChunkState). v.target) (sym c.self.view_is) ∙ c.in-Some.is in
-    changes_of g.D.Disk.tells (flushing c.in_ok-batch.batch) (Flushes c.args.self.now) (λ a b by. by.store) (flushes c.in-Some.target c.args.self.now c.in_ok-batch.batch is (λ none. some_where c.self.inside.held.items c.self.inside.held.len c.self.inside.held.ok.0 c.if-is_empty.ensures (ap (λ (v : ChunkState). v.held) c.self.view_is ∙ none)) c.in_ok-batch.ensures.batch) (λ e held none. absurd none) _ _ (end_of_disk c.flush.result) c.answerless.result c.answerless.ensures c.flush.ensures.acts
+    changes_of g.D.Disk.tells (flushing c.in_ok-batch.batch) (Flushes c.args.self.now) (flushes c.in-Some.target c.args.self.now c.in_ok-batch.batch is (λ none. some_where c.self.inside.held.items c.self.inside.held.len c.self.inside.held.ok.0 c.if-is_empty.ensures (ap (λ (v : ChunkState). v.held) c.self.view_is ∙ none)) c.in_ok-batch.ensures.batch) (λ e held none. absurd none) _ _ (end_of_disk c.flush.result) c.answerless.result c.answerless.ensures c.flush.ensures.acts
