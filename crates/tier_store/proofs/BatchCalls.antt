@@ -12,13 +12,16 @@ use Rattle.pb_file.specs.File.{IsSample}
 use Rattle.pv_catalog.specs.Catalogue.{CatalogueState}
 use Rattle.pv_catalog.specs.declared.row.Row.{Row}
 use Rattle.pv_catalog.specs.Rows.{KeepsRows}
+use Rattle.std.proofs.lemmas.List.Elements.{All-map}
 use Rattle.std.proofs.lemmas.Option.{slice_get-get_or, slice_get_within}
+use Rattle.partition_names.specs.Part.{IsPart}
+use Rattle.store_manifest.specs.declared.entry.Entry.{Entry}
 use Rattle.series_model.specs.declared.batch.RowSamples.{RowSamples}
 use Rattle.series_model.specs.declared.sample.Sample.{Sample}
 use Rattle.store_manifest.specs.Entries.{all_changed}
 use Rattle.store_manifest.specs.Manifest.{ManifestState}
 use Rattle.tier_store.specs.declared.piece.Piece.{Piece}
-use Rattle.tier_store.specs.Held.{Filed, Held, entry_of, count_of}
+use Rattle.tier_store.specs.Held.{Filed, Held, IsListed, entry_of, count_of}
 use Rattle.tier_store.specs.Flush.{IsSampleOf, IsFlushed, CanFlush, HoldsEntries, Flushes, MakesFiles, with_files, put_all}
 use Rattle.tier_store.specs.Seen.{Seen, seen_on}
 use Rattle.tier_store.specs.Ends.{End, Done, Failed, Spent, end_of_disk, end_of_error}
@@ -48,6 +51,13 @@ can_still rows later batch keeps can = record {
 pub still_within : (rows later : List Row) (i : ℕ) → KeepsRows rows later → i < length rows → i < length later
 still_within [] later i keeps lt = absurd (omega (arith, lt))
 still_within (r ∷ rows) later i keeps lt = let new = keeps i (get_or (r ∷ rows) i r) (slice_get-get_or (r ∷ rows) i r lt) in slice_get_within later i new.0 new.1
+
+-- the entries of listed files are of partitions
+pub parts_listed : (g : Granularity) (entries : List Entry) (held : Held) → entries ≡ map entry_of held.files → All (IsListed g held.rows) held.files → All (λ (e : Entry). IsPart g e.part) entries
+parts_listed g entries held are listed =
+    let Part : Entry → Type 0 = λ e. IsPart g e.part in
+    let P : List Entry → Type 0 = λ l. All Part l in
+    subst P (sym are) (All-map Part entry_of held.files (λ k d lt. (listed k d lt).part))
 
 -- the pieces of a plan make files of what the memory knows
 pub record ToFlush (m : ManifestState) (held : Held) (batch : List RowSamples) (pieces : List Piece) (count : ℕ) : Type 0 where

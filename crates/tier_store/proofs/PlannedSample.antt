@@ -1,5 +1,5 @@
 -- A sample in its place: what the plan gains, and what stays true of the pieces.
-use Rattle.std.proofs.Common.{◌≡◌, ◌<◌, ◌≤◌, List, [], ◌∷◌, ◌++◌, length, sym, ap, ◌∙◌, subst, arith, Option, Some}
+use Rattle.std.proofs.Common.{◌≡◌, ◌<◌, ◌≤◌, ℕ, List, [], ◌∷◌, ◌++◌, length, sym, ap, ◌∙◌, subst, arith, Option, Some}
 use Rattle.std.specs.Prelude.{All, IfSome}
 use Rattle.std.proofs.lemmas.List.{length-append}
 use Rattle.std.proofs.lemmas.List.Elements.{All-contains, Contains-push}
@@ -21,6 +21,9 @@ use Rattle.tier_store.proofs.Begins.{adds_listed, adds_anew}
 abbrev HasPart : Granularity → Piece → Type 0
 HasPart g p = IsPart g p.entry.part
 
+abbrev IsUpTo : ℕ → Piece → Type 0
+IsUpTo row p = p.entry.series ≤ row
+
 -- IN THE LAST PIECE
 
 pub extended_draft : (target : Target) (s : Sample) (pieces new : List Piece) → IsDraft target.granularity target.series pieces → IsInLast target pieces s.t → IsExtended s pieces new → IsDraft target.granularity target.series new
@@ -28,12 +31,14 @@ extended_draft target s pieces new draft is ext =
     let g = target.granularity in
     let P : List Piece → Type 0 = λ l. All (HasPart g) l in
     let D : List Piece → Type 0 = λ l. IsDraft g target.series l in
+    let R : List Piece → Type 0 = λ l. All (IsUpTo target.series) l in
     let parts = subst P ext.are draft.parts in
+    let rows = subst R ext.are draft.rows in
     let same : is.piece ≡ ext.start = (same_last is.rest ext.rest is.piece ext.start (sym is.are ∙ ext.are)).1 in
     let series : ext.piece.entry.series ≡ target.series = ap (λ (e : Entry). e.series) ext.appended.entry ∙ (ap (λ (p : Piece). p.entry.series) (sym same) ∙ is.own) in
     let Q : Entry → Type 0 = λ e. IsPart g e.part in
     let part : HasPart g ext.piece = subst Q (sym ext.appended.entry) (All-contains (HasPart g) (ext.rest ++ ext.start ∷ []) ext.start parts (Contains-push ext.rest ext.start)) in
-    subst D (sym ext.becomes) (draft_more g target.series ext.rest ext.piece (All-front (HasPart g) ext.rest (ext.start ∷ []) parts) (let few = draft.few in omega (arith, ap length ext.are, length-append ext.rest (ext.start ∷ []))) part (omega arith))
+    subst D (sym ext.becomes) (draft_more g target.series ext.rest ext.piece (All-front (HasPart g) ext.rest (ext.start ∷ []) parts) (All-front (IsUpTo target.series) ext.rest (ext.start ∷ []) rows) (let few = draft.few in omega (arith, ap length ext.are, length-append ext.rest (ext.start ∷ []))) part (omega arith))
 
 pub extended_adds : (target : Target) (row : Row) (s : Sample) (pieces new : List Piece) → IsSampleOf row s → IsInLast target pieces s.t → IsExtended s pieces new → Adds target row (s ∷ []) 1 pieces new
 extended_adds target row s pieces new of_row is ext =
@@ -51,7 +56,7 @@ pushed_draft target s start pieces new draft part own push =
     let D : List Piece → Type 0 = λ l. IsDraft target.granularity target.series l in
     let P : Entry → Type 0 = λ e. IsPart target.granularity e.part × (e.series ≤ target.series) in
     let known = subst P (sym push.appended.entry) (part, own) in
-    subst D (sym push.are) (draft_more target.granularity target.series pieces push.piece draft.parts push.room known.0 known.1)
+    subst D (sym push.are) (draft_more target.granularity target.series pieces push.piece draft.parts draft.rows push.room known.0 known.1)
 
 -- of a listed file
 pub listed_draft : (target : Target) (s : Sample) (e : Entry) (start : Piece) (pieces new : List Piece) → IsDraft target.granularity target.series pieces → IsTarget target → IsInListed target pieces s.t e → start.entry ≡ e → IsPushed s start pieces new → IsDraft target.granularity target.series new

@@ -1,4 +1,4 @@
-use Rattle.std.proofs.Common.{◌≡◌, List, take, ◌∙◌, subst, arith, All}
+use Rattle.std.proofs.Common.{◌≡◌, ◌<◌, List, length, take, sym, ◌∙◌, subst, arith, All}
 use Rattle.std.proofs.lemmas.List.{take_all}
 use Rattle.disk_model.specs.Files.{Name}
 use Rattle.disk_model.specs.Past.{Only}
@@ -7,6 +7,9 @@ use Rattle.tier_store.specs.Writing.{IsSynced}
 use Rattle.tier_store.proofs.Stays.{same_then}
 use Rattle.tier_store.proofs.WrittenPiece.{more_synced}
 use Rattle.tier_store.proofs.writing.sync_files.Goals as goal
+
+pub set_name-requires : goal.set_name-requires
+set_name-requires g c = subst (λ (p : Piece). p.entry.series < length c.args.rows.now) (sym c.piece-item.is) (c.requires c.loop-piece.piece-index c.piece-item.result c.loop-piece-test.true)
 
 pub returns-in_err-sync-clause-any_moment : goal.returns-in_err-sync-clause-any_moment
 returns-in_err-sync-clause-any_moment g c tells = same_then (g.D.Disk.past c.args.disk.now) (g.D.Disk.past c.loop-piece.disk) (g.D.Disk.past c.sync.new.self) (c.loop-piece.invariant.crash tells) (c.sync.ensures.crash tells)

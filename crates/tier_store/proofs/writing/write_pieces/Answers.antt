@@ -1,6 +1,7 @@
-use Rattle.std.proofs.Common.{◌≡◌, List, length, take, sym, ◌∙◌, subst, arith, All}
+use Rattle.std.proofs.Common.{◌≡◌, ◌<◌, List, length, take, sym, ◌∙◌, subst, arith, All}
 use Rattle.std.proofs.lemmas.List.{take_all}
 use Rattle.std.proofs.lemmas.Slice.Zip.{AllZip-long}
+use Rattle.tier_store.specs.declared.piece.Piece.{Piece}
 use Rattle.tier_store.specs.Held.{Filed, file_of, shelf_of}
 use Rattle.tier_store.specs.Flush.{Grows}
 use Rattle.tier_store.specs.Writing.{IsWritten}
@@ -9,15 +10,16 @@ use Rattle.tier_store.proofs.Stays.{still_safe}
 use Rattle.tier_store.proofs.WrittenPiece.{piece_name, nth_grows, all_listed, more_behind, more_written}
 use Rattle.tier_store.proofs.writing.write_pieces.Goals as goal
 
-pub write_piece-requires : goal.write_piece-requires
-write_piece-requires g c = record {
-  can = λ tells.
-      let can = c.requires.can tells in
-      let safe = still_safe can.0 (c.args.store, c.args.rows.now) (g.D.Disk.files c.args.disk.now) (g.D.Disk.files c.loop-piece.disk) (g.D.Disk.opened c.args.disk.now) (g.D.Disk.opened c.loop-piece.disk) (g.D.Disk.past c.args.disk.now) (g.D.Disk.past c.loop-piece.disk) can.1 can.3
-      (c.loop-piece.invariant.crash tells can.0 can.1 can.2 can.3 can.4) (c.loop-piece.invariant.still tells can.0 can.1 can.2 can.3 can.4) (c.loop-piece.invariant.no_more tells) in
-      let nth = nth_grows can.0 can.1 c.args.pieces.now can.2 c.loop-piece.piece-index c.piece-item.result can.4.each c.loop-piece-test.true c.piece-item.is in
-      (can.0, can.1, nth.0, safe, nth.3);
-}
+pub write_piece-requires-clause-row : goal.write_piece-requires-clause-row
+write_piece-requires-clause-row g c = subst (λ (p : Piece). p.entry.series < length c.args.rows.now) (sym c.piece-item.is) (c.requires.rows c.loop-piece.piece-index c.piece-item.result c.loop-piece-test.true)
+
+pub write_piece-requires-clause-can : goal.write_piece-requires-clause-can
+write_piece-requires-clause-can g c tells =
+    let can = c.requires.can tells in
+    let safe = still_safe can.0 (c.args.store, c.args.rows.now) (g.D.Disk.files c.args.disk.now) (g.D.Disk.files c.loop-piece.disk) (g.D.Disk.opened c.args.disk.now) (g.D.Disk.opened c.loop-piece.disk) (g.D.Disk.past c.args.disk.now) (g.D.Disk.past c.loop-piece.disk) can.1 can.3
+    (c.loop-piece.invariant.crash tells can.0 can.1 can.2 can.3 can.4) (c.loop-piece.invariant.still tells can.0 can.1 can.2 can.3 can.4) (c.loop-piece.invariant.no_more tells) in
+    let nth = nth_grows can.0 can.1 c.args.pieces.now can.2 c.loop-piece.piece-index c.piece-item.result can.4.each c.loop-piece-test.true c.piece-item.is in
+    (can.0, can.1, nth.0, safe, nth.3)
 
 pub returns-in_err-write_piece-clause-any_moment : goal.returns-in_err-write_piece-clause-any_moment
 returns-in_err-write_piece-clause-any_moment g c tells gr held fs safe makes =
