@@ -1,5 +1,5 @@
 -- A call that changes the store, behind the settling of a doubt.
-use Rattle.std.proofs.Common.{◌≡◌, ◌⊎◌, inl, inr, true, false, Bool, ℕ, ◌≤◌, refl, sym, ◌∙◌, ap, subst, arith}
+use Rattle.std.proofs.Common.{◌≡◌, ◌⊎◌, inl, inr, Bool, ℕ, ◌≤◌, refl, sym, ◌∙◌, subst, arith}
 use Rattle.std.specs.Prelude.{IsTrue, Result, Ok, Err}
 use Rattle.disk_model.specs.Files.{Files, Rose}
 use Rattle.disk_model.specs.Past.{Past, MayLeave, Passes}
@@ -11,7 +11,7 @@ use Rattle.tier_store.specs.Held.{Held}
 use Rattle.tier_store.specs.Seen.{Seen, IsSettled}
 use Rattle.tier_store.specs.Ends.{End, Done, Refused, Failed, Spent, end_of_error, end_of_disk, IsFailed, IsCut}
 use Rattle.tier_store.specs.Stored.{Holds, HoldsEither}
-use Rattle.tier_store.specs.Change.{Has, HasEither, IsOpen, IsEither, Comes, HoldsBy, HoldsChange, Call, EndsFrom, Costs, OnlyReads, Changes, Acts}
+use Rattle.tier_store.specs.Change.{Has, HasEither, IsOpen, IsEither, Comes, HoldsBy, HoldsChange, Call, EndsFrom, OnlyReads, Changes, Acts}
 use Rattle.tier_store.proofs.Holding.{stored_left, doubt_left}
 
 rose_after : (before mid now : ℕ) → before ≤ mid → Rose mid now → Rose before now

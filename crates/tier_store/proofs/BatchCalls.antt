@@ -1,6 +1,6 @@
 -- A flush, behind the settling of a doubt.
-use Rattle.std.proofs.Common.{◌≡◌, ◌⊎◌, inl, inr, true, false, Bool, ℕ, ◌≤◌, ◌+◌, List, map, get_or, refl, sym, ◌∙◌, ap, subst, length, ◌<◌, [], ◌∷◌, arith, Ok, Err}
-use Rattle.std.specs.Prelude.{All, IsTrue, OnErr, Result}
+use Rattle.std.proofs.Common.{◌≡◌, ◌⊎◌, inl, inr, true, false, Bool, ℕ, ◌≤◌, ◌+◌, List, map, get_or, refl, sym, ◌∙◌, ap, subst, length, ◌<◌, [], ◌∷◌, arith}
+use Rattle.std.specs.Prelude.{All, IsTrue}
 use Rattle.disk_model.specs.Files.{Name, Files, Rose}
 use Rattle.disk_model.specs.Past.{Past, Passes}
 use Rattle.disk_model.specs.declared.disk.DiskErr.{DiskErr}
@@ -24,8 +24,8 @@ use Rattle.tier_store.specs.declared.piece.Piece.{Piece}
 use Rattle.tier_store.specs.Held.{Filed, Held, IsListed, entry_of, count_of}
 use Rattle.tier_store.specs.Flush.{IsSampleOf, IsFlushed, CanFlush, HoldsEntries, Flushes, MakesFiles, with_files, put_all}
 use Rattle.tier_store.specs.Seen.{Seen, seen_on}
-use Rattle.tier_store.specs.Ends.{End, Done, Failed, Spent, end_of_disk, end_of_error}
-use Rattle.tier_store.specs.Stored.{AreHeld, HoldsEither, IsStored}
+use Rattle.tier_store.specs.Ends.{End, Done, end_of_error}
+use Rattle.tier_store.specs.Stored.{AreHeld, HoldsEither}
 use Rattle.tier_store.specs.Writing.{IsStoredAs, IsDoubtedAs, set_of}
 use Rattle.tier_store.specs.Change.{IsKnown, Has, Doubts, HoldsBy, Changes, flushing}
 use Rattle.tier_store.proofs.Ending.{valid_with}

@@ -13,7 +13,6 @@ use Rattle.tier_store.proofs.Frame.{catalogue_stays}
 use Rattle.partition_names.specs.declared.granularity.Granularity.{Granularity}
 use Rattle.partition_names.specs.Part.{IsPart}
 use Rattle.store_manifest.specs.declared.entry.Entry.{Entry}
-use Rattle.pv_catalog.specs.declared.row.Row.{Row}
 use Rattle.tier_store.specs.declared.piece.Piece.{Piece}
 use Rattle.store_manifest.specs.Entries.{place, put, comes_before, all_changed, AllCanFollow, changed}
 use Rattle.pv_catalog.specs.Rows.{IsCatalogue}

@@ -1,7 +1,7 @@
 -- A change of the rows where nothing stands in doubt, by what the catalogue's call says.
-use Rattle.std.proofs.Common.{◌≡◌, ◌≢◌, ◌⊎◌, inl, inr, true, false, Bool, ℕ, zero, suc, ◌≤◌, ◌<◌, ◌++◌, ◌∷◌, [], List, length, map, Some, Ok, Err, refl, sym, ◌∙◌, ap, subst, arith}
-use Rattle.std.specs.Prelude.{IsTrue, Result, OnOk, OnErr, IfOk, IfErr, ◌↔◌, slice_get}
-use Rattle.std.proofs.lemmas.Option.{none-some, same_Some}
+use Rattle.std.proofs.Common.{◌≡◌, ◌≢◌, ◌⊎◌, inl, inr, true, false, Bool, ℕ, zero, suc, ◌≤◌, ◌<◌, ◌++◌, ◌∷◌, [], List, length, Ok, Err, refl, sym, ◌∙◌, ap, subst, arith}
+use Rattle.std.specs.Prelude.{IsTrue, Result, OnOk, OnErr, IfOk, IfErr, ◌↔◌}
+use Rattle.std.proofs.lemmas.Option.{same_Some}
 use Rattle.disk_model.specs.Files.{Name, Files, Rose, At}
 use Rattle.disk_model.specs.Past.{Past, Passes}
 use Rattle.disk_model.specs.declared.disk.DiskErr.{DiskErr}
@@ -15,7 +15,7 @@ use Rattle.gate_journal.specs.Kept.{SaysEither}
 use Rattle.pv_name.specs.Key.{key_of}
 use Rattle.pv_catalog.specs.Catalogue as catalogue
 use Rattle.pv_catalog.specs.Catalogue.{CatalogueState, HasState, Refuses, IsRefusal, IsOfRows, registered}
-use Rattle.pv_catalog.specs.Rows.{IsCatalogue, KeepsRows, HasKey, HasName, switched}
+use Rattle.pv_catalog.specs.Rows.{IsCatalogue, KeepsRows, HasKey, switched}
 use Rattle.pv_catalog.specs.declared.error.RegisterErr.{RegisterErr}
 use Rattle.pv_catalog.specs.declared.error.RegisterErr.TheVariants as of_register
 use Rattle.pv_catalog.specs.declared.error.StateErr.{StateErr}
@@ -27,7 +27,7 @@ use Rattle.tier_store.specs.Held.{Held}
 use Rattle.tier_store.specs.Seen.{Seen, seen_on}
 use Rattle.tier_store.specs.Ends.{End, Done, Refused, Failed, Spent, IsFailed, end_of_register, end_of_switch}
 use Rattle.tier_store.specs.Stored.{KeysDiffer, AreHeld, IsStored}
-use Rattle.tier_store.specs.Change.{IsKnown, Has, Doubts, HoldsBy, Call, EndsFrom, Changes, registering, pausing, resuming, Registers, Switches, with_rows}
+use Rattle.tier_store.specs.Change.{IsKnown, Has, HoldsBy, Call, EndsFrom, Changes, registering, pausing, resuming, Registers, Switches, with_rows}
 use Rattle.tier_store.proofs.Growing.{held_grows}
 use Rattle.tier_store.proofs.OnDisk.{on_disk}
 use Rattle.tier_store.proofs.RowChange.{rows_hold, rows_made, rows_doubt}

@@ -1,5 +1,5 @@
 -- One place changes, and the others stay.
-use Rattle.std.proofs.Common.{◌≡◌, ◌≢◌, ◌⊎◌, inl, inr, ℕ, zero, suc, ◌≤◌, ◌<◌, ◌+◌, List, [], ◌∷◌, length, map, get_or, Option, Some, refl, sym, ◌∙◌, ap, subst, arith}
+use Rattle.std.proofs.Common.{◌≡◌, ◌≢◌, ◌⊎◌, inl, inr, ℕ, zero, suc, ◌<◌, ◌+◌, List, [], ◌∷◌, length, map, get_or, Option, Some, refl, sym, ◌∙◌, ap, subst, arith}
 use Rattle.std.specs.Prelude.{slice_get, slice_set}
 use Rattle.std.proofs.lemmas.Bool.{cases_lt}
 use Rattle.disk_model.specs.Files.{Name, Content, Files, At}
@@ -8,13 +8,12 @@ use Rattle.gate_journal.specs.Journal.{JournalState}
 use Rattle.gate_journal.specs.Kept.{Says}
 use Rattle.store_manifest.specs.Batches.{Configured, Folds}
 use Rattle.pv_catalog.specs.Rows.{IsCatalogue}
-use Rattle.partition_names.specs.declared.granularity.Granularity.{Granularity}
 use Rattle.pv_catalog.specs.Catalogue.{catalogue_name}
 use Rattle.pv_catalog.specs.declared.row.Row.{Row}
 use Rattle.store_manifest.specs.Manifest.{ManifestState, manifest_name}
 use Rattle.store_manifest.specs.declared.entry.Change.{Change}
 use Rattle.tier_store.specs.Held.{Held, Shelf, entry_of, shelf_of}
-use Rattle.tier_store.specs.Stored.{Holds, HoldsEither, CatalogueStored, TierStored, IsStored}
+use Rattle.tier_store.specs.Stored.{Holds, HoldsEither, CatalogueStored}
 use Rattle.tier_store.specs.Writing.{IsStoredAs, IsDoubtedAs}
 use Rattle.tier_store.specs.Three.{Anything, AreThree, PlaceStored, AllStored, PlaceInDoubt, HoldsAll, HoldsAllEither, CanRelistIn}
 use Rattle.tier_store.proofs.Ending.{other_journal, files_apart}

@@ -1,5 +1,5 @@
 -- The stores together: each at its place, which is its number less one, under the same rows.
-use Rattle.std.specs.Prelude.{◌≡◌, ◌≢◌, ◌⊎◌, ◌+◌, ℕ, List, map, length, slice_get, slice_set, Some}
+use Rattle.std.specs.Prelude.{◌≡◌, ◌≢◌, ◌⊎◌, ◌+◌, ℕ, List, map, length, slice_get, Some}
 use Rattle.disk_model.specs.Files.{Name, Content, Files}
 use Rattle.disk_model.specs.Past.{Past}
 use Rattle.gate_journal.specs.Journal.{JournalState}
