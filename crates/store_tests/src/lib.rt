@@ -16,3 +16,5 @@ mod manifest;
 mod partition_file;
 #[cfg(test)]
 mod reopening;
+#[cfg(test)]
+mod row_states;

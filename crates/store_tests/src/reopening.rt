@@ -286,7 +286,7 @@ fn about(alloc: Global) -> About {
 }
 
 // A store with two rows on a disk whose calls with these numbers fail, and all from `stop` on; or none where a call before fails.
-fn begun(
+pub(crate) fn begun(
     alloc: Global,
     failing: &[u64],
     stop: Option<u64>,
