@@ -1,24 +1,74 @@
 -- The worked histories.
-use Rattle.std.proofs.Common.{◌≡◌, ℕ, ◌+◌, List, [], ◌∷◌, length, Some, None, true, refl, ap, sym, arith, inl, inr}
-use Rattle.std.specs.Prelude.{◌⊎◌, ◌*◌, nat_lt}
+use Rattle.std.proofs.Common.{◌≡◌, ◌≢◌, ℕ, zero, suc, ◌+◌, ◌<◌, List, [], ◌∷◌, length, Option, Some, None, true, false, refl, ap, sym, ◌∙◌, subst, arith, inl, inr}
+use Rattle.std.specs.Prelude.{◌⊎◌, ◌*◌, nat_lt, slice_get}
+use Rattle.std.specs.List.{AllByRecursion}
 use Rattle.std.proofs.lemmas.Bool.Decides.{nat_tests}
 use Rattle.std.specs.Ordering.{nat_cmp}
-use Rattle.std.specs.FinMap.{FinMap, get, insert, remove, get-empty, gets}
+use Rattle.std.specs.FinMap.{FinMap, get, insert, remove, empty, get-empty, gets}
 use Rattle.event_types.specs.declared.about.Method.TheVariants.{Monitor, Scan}
 use Rattle.pb_wire.specs.declared.payload.PayloadType.TheVariants.{ScalarInt}
-use Rattle.act_model.specs.declared.acts.Answer.TheVariants.{NameTaken, KeyTaken, IntakeFull, NotYours, NoPin}
-use Rattle.act_model.specs.Rows.{fresh_row}
-use Rattle.act_model.specs.Machine.{Machine, PinState, held_bytes}
-use Rattle.act_model.specs.Changes.{made}
-use Rattle.act_model.specs.Machine.{Appends}
-use Rattle.act_model.specs.Outcome.{refused_at_once, runs}
-use Rattle.act_model.specs.Changes.{no_doubt}
+use Rattle.act_model.specs.declared.acts.Answer.TheVariants.{NameTaken, KeyTaken, IntakeFull, Flushed, Pinned, NotYours, NoPin, Unpinned}
+use Rattle.act_model.specs.Reply.{Reply}
+use Rattle.act_model.specs.Limbo.{FileState}
+use Rattle.act_model.specs.Rows.{RowState, Store, Short, Medium, Long, fresh_row, tier, window, is_empty}
+use Rattle.act_model.specs.Rule.{Rule}
+use Rattle.act_model.specs.Machine.{Machine, MoveState, PinState, Change, Appends, held_bytes}
+use Rattle.act_model.specs.Changes.{made, Settles, no_doubt, as_not_made, as_made}
+use Rattle.act_model.specs.Outcome.{Outcome, Ends, Acts, refused_at_once, refused, runs, faults_first, faults_between, faults_within, wants_memory, wants_memory_settled}
 use Rattle.act_model.specs.Offer.{offered, room}
 use Rattle.act_model.specs.Tick.{ticked}
-use Rattle.act_model.specs.Flush.{batch_of}
-use Rattle.act_model.specs.Pin.{pins}
-use Rattle.act_model.specs.Unpin.{refused_unpin, unpins}
-use Rattle.act_model.specs.Examples.{LateAndEarlyOffers, LateOffersAreDropped, NamesAndKeysAreTaken, TheLastOfAPeriodIsKept, four_lines, AFullIntakeIsFlushed, PinsAreTheirOwners, t0, second, line, name, about, with_row, with_tail}
+use Rattle.act_model.specs.Flush.{Flushes, batch_of}
+use Rattle.act_model.specs.Pin.{Pins, pins, IsListedPiece}
+use Rattle.act_model.specs.Unpin.{Unpins, refused_unpin, unpins, pin_refused}
+use Rattle.act_model.specs.Examples.{IsFailure, LateAndEarlyOffers, NamesAndKeysAreTaken, TheLastOfAPeriodIsKept, four_lines, AFullIntakeIsFlushed, PinsAreTheirOwners, all_moments, t0, second, line, name, about, with_row, with_tail}
+
+-- NO OTHER ANSWER
+
+-- of an act that touches no file
+ends_only : {end : Outcome} {said : Reply} {old : Machine} → end.answer ≡ said → (other : Reply) (new : Machine) → Ends end old other new → (other ≡ said) ⊎ IsFailure other
+ends_only is other new (inl p) = inl (p.0 ∙ is)
+ends_only is other new (inr p) = inr (inl p.0)
+
+module _ (refuse : Machine → Option Reply) (run : Machine → Reply → Machine → Type 0) (change : Machine → Option Change) (stopped : FinMap nat_cmp MoveState → FinMap nat_cmp MoveState) where
+  -- of an act that is refused at once
+  refused_only : {old new : Machine} {other : Reply} (said : Reply) → refuse old ≡ Some said → Acts refuse run change stopped old other new → (other ≡ said) ⊎ IsFailure other
+  refused_only said is (refused_at_once answer p) = inl (cc)
+  refused_only said is (refused answer p settles q same r) = absurd cc
+  refused_only said is (runs answer p settles q ran r) = absurd cc
+  refused_only said is (faults_first p same q) = inr (inr refl)
+  refused_only said is (faults_between p settles same q) = inr (inr refl)
+  refused_only said is (faults_within doubted p settles q r same t) = inr (inr refl)
+  refused_only said is (wants_memory same q) = inr (inl refl)
+  refused_only said is (wants_memory_settled p settles same q) = inr (inl refl)
+
+  -- without a doubt nothing is settled
+  settled_same : {old mid : Machine} → old.doubt ≡ None → Settles old mid → mid ≡ old
+  settled_same none (no_doubt p) = refl
+  settled_same none (as_not_made one p) = absurd cc
+  settled_same none (as_made one into p q) = absurd cc
+
+  -- of an act that is not refused, where no change is in doubt
+  runs_only : {old new : Machine} {other : Reply} (said : Reply) → refuse old ≡ None → old.doubt ≡ None → ((after : Machine) (answer : Reply) → run old answer after → answer ≡ said)
+      → Acts refuse run change stopped old other new → (other ≡ said) ⊎ IsFailure other
+  runs_only said free none says (refused_at_once answer p) = absurd cc
+  runs_only {old} said free none says (refused {mid = mid} answer p settles q same r) = let as_it_was : mid ≡ old = settled_same none settles in absurd (let again : refuse mid ≡ None = ap refuse as_it_was ∙ free in cc)
+  runs_only {old} {new} said free none says (runs {mid = mid} answer p settles q ran r) = inl (says new answer (subst (λ m. run m answer new) (settled_same none settles) ran))
+  runs_only said free none says (faults_first p same q) = inr (inr refl)
+  runs_only said free none says (faults_between p settles same q) = inr (inr refl)
+  runs_only said free none says (faults_within doubted p settles q r same t) = inr (inr refl)
+  runs_only said free none says (wants_memory same q) = inr (inl refl)
+  runs_only said free none says (wants_memory_settled p settles same q) = inr (inl refl)
+
+-- of an Unpin
+refused_unpin_only : {who pin : ℕ} {old new : Machine} {other : Reply} (said : Reply) → pin_refused who (get old.pins pin) ≡ Some said → Unpins who pin old other new → other ≡ said
+refused_unpin_only said is (refused_unpin reply p) = cc
+refused_unpin_only said is (unpins p) = absurd cc
+
+unpinned_only : {who pin : ℕ} {old new : Machine} {other : Reply} → pin_refused who (get old.pins pin) ≡ None → Unpins who pin old other new → other ≡ Unpinned
+unpinned_only is (refused_unpin reply p) = absurd cc
+unpinned_only is (unpins p) = refl
+
+-- ADMISSION AND SAMPLING
 
 -- the state after an offer, and after a tick
 abbrev after_offer : Machine → ℕ → ℕ → Machine
@@ -33,19 +83,12 @@ late_and_early =
     let m0 = with_row (with_tail (record { t = t0; line = line } ∷ []) (t0 + 1)) in
     let m1 = after_offer m0 (t0 + 1) now in
     let m2 = after_offer m1 (t0 + 5400 * second) now in
-    (m0, inl (refl, refl), (m1, inl (refl, refl), (m2, inl (refl, refl), (m2, inl (refl, refl), tt))))
-
-pub late_are_dropped : LateOffersAreDropped
-late_are_dropped = λ other new step. by_end step
-  where
-    by_end : {A B C D : Type 0} → (A × B) ⊎ (C × D) → A ⊎ C
-    by_end (inl p) = inl p.0
-    by_end (inr p) = inr p.0
+    (m0, inl (refl, refl), ends_only refl, (m1, inl (refl, refl), ends_only refl, (m2, inl (refl, refl), ends_only refl, (m2, inl (refl, refl), ends_only refl, tt))))
 
 pub taken : NamesAndKeysAreTaken
 taken =
     let m = with_row (fresh_row name (about Monitor)) in
-    (m, refused_at_once (NameTaken 0) refl, (m, refused_at_once (KeyTaken 0) refl, tt))
+    (m, refused_at_once (NameTaken 0) refl, (λ other new step. refused_only _ _ _ _ (NameTaken 0) refl step), (m, refused_at_once (KeyTaken 0) refl, (λ other new step. refused_only _ _ _ _ (KeyTaken 0) refl step), tt))
 
 pub last_of_period : TheLastOfAPeriodIsKept
 last_of_period =
@@ -55,8 +98,14 @@ last_of_period =
     let m3 = after_tick m2 (t0 + 3 * second) in
     let m4 = after_offer m3 (t0 + 4 * second) (t0 + 4 * second) in
     let m5 = after_tick m4 (t0 + 13 * second) in
-    let m6 = after_tick m5 (t0 + 23 * second) in
-    (m1, inl (refl, refl), (m2, inl (refl, refl), (m3, inl (refl, refl), (m4, inl (refl, refl), (m4, inl (refl, refl), (m5, inl (refl, refl), (m6, inl (refl, refl), tt)))))))
+    let m6 = after_tick m5 (t0 + 23 * second) in (
+      m1,
+      inl (refl, refl),
+      ends_only refl,
+      (m2, inl (refl, refl), ends_only refl, (m3, inl (refl, refl), ends_only refl, (m4, inl (refl, refl), ends_only refl, (m4, inl (refl, refl), ends_only refl, (m5, inl (refl, refl), ends_only refl, (m6, inl (refl, refl), ends_only refl, tt)))))),
+    )
+
+-- A FULL INTAKE
 
 -- no room is left beside four such lines
 full_bytes : (a b c d : List ℕ) → length a ≡ 16777215 → length b ≡ 16777215 → length c ≡ 16777215 → length d ≡ 16777215 → held_bytes (four_lines a b c d ∷ []) ≡ 67108864
@@ -65,14 +114,33 @@ full_bytes a b c d p q r s = omega arith
 no_room : (n : ℕ) → n ≡ 67108864 → nat_lt room (n + (length line + 1)) ≡ true
 no_room n is = rw is refl
 
+-- the flush takes the four, and nothing is left
+four_flushed : (a b c d : List ℕ) (after : Machine) (answer : Reply) → Flushes 67108864 (with_row (four_lines a b c d)) answer after → answer ≡ Flushed 4 0 0
+four_flushed a b c d after answer ran =
+    let count : ran.0.0 ≡ 4 = ran.0.1 refl in
+    let left : held_bytes after.rows ≡ 0 = ap (λ (m : Machine). held_bytes m.rows) ran.1 in
+    let doors : after.doors ≡ 0 = ap (λ (m : Machine). m.doors) ran.1 in
+    ran.0.2 ∙ rw (count, left, doors) refl
+
 pub full_intake : AFullIntakeIsFlushed
 full_intake a b c d p q r s =
     let m0 = with_row (four_lines a b c d) in
     let m1 = made [] (Appends (batch_of 67108864 m0)) m0 in
     let m2 = after_offer m1 (t0 + 5) t0 in
     let bytes : held_bytes m0.rows ≡ 67108864 = full_bytes a b c d p q r s in
-    let full : nat_lt room (held_bytes m0.rows + (length line + 1)) ≡ true = no_room (held_bytes m0.rows) bytes in
-    (m0, inl (rw full (ap (λ n. IntakeFull n) (sym bytes)), rw full refl), (m1, runs _ refl (no_doubt refl) refl ((4, (λ t. refl), refl), refl) (omega arith), (m2, inl (refl, refl), tt)))
+    let full : nat_lt room (held_bytes m0.rows + (length line + 1)) ≡ true = no_room (held_bytes m0.rows) bytes in (
+      m0,
+      inl (rw full (ap (λ n. IntakeFull n) (sym bytes)), rw full refl),
+      ends_only (rw full (ap (λ n. IntakeFull n) bytes)),
+      (
+        m1,
+        runs _ refl (no_doubt refl) refl ((4, (λ t. refl), refl), refl) (omega arith),
+        (λ other new step. runs_only _ _ _ _ (Flushed 4 0 0) refl refl (four_flushed a b c d) step),
+        (m2, inl (refl, refl), ends_only refl, tt),
+      ),
+    )
+
+-- PINS
 
 -- one pin in the map
 one_there : (all : FinMap nat_cmp PinState) (n : ℕ) (p : PinState) → get (insert all n p) n ≡ Some p
@@ -81,22 +149,56 @@ one_there all n p = grind (arith, gets, nat_tests)
 one_gone : (all : FinMap nat_cmp PinState) (n : ℕ) → get (remove all n) n ≡ None
 one_gone all n = grind (arith, gets, nat_tests)
 
+-- the variable of the example, with one sample in the intake
+abbrev one_row : RowState
+one_row = with_tail (record { t = t0; line = line } ∷ []) (t0 + 1)
+
+-- its stores list nothing
+nothing_listed : (store : Store) → tier one_row store ≡ []
+nothing_listed Short = refl
+nothing_listed Medium = refl
+nothing_listed Long = refl
+
+no_pieces : (rule : Rule) (i : ℕ) (pieces : List FileState) → AllByRecursion (IsListedPiece rule i one_row) pieces → pieces ≡ []
+no_pieces rule i [] listed = refl
+no_pieces rule i (f ∷ rest) listed =
+    let none : f.samples ≡ [] = listed.0.samples ∙ ap (λ xs. window f.part xs) (nothing_listed f.store) in
+    let empty_one : is_empty f.samples ≡ true = ap (λ xs. is_empty xs) none in
+    absurd (let some : is_empty f.samples ≡ false = listed.0.some in cc)
+
+-- the least free number, where there is no pin
+least_free : (n : ℕ) → ((k : ℕ) → k < n → get (empty {X = PinState} {R = nat_cmp}) k ≢ None) → n ≡ 0
+least_free zero least = refl
+least_free (suc n) least = absurd (least 0 (omega arith) (get-empty nat_cmp 0))
+
+pinned_only : (after : Machine) (answer : Reply) → Pins 0 name all_moments (with_row one_row) answer after → answer ≡ Pinned 0 name (about Monitor) 0 one_row.tail
+pinned_only after answer (pins i row pin pieces found here free least listed order gives same) =
+    let at : i ≡ 0 = cc in
+    let row_is : row ≡ one_row = (let there : slice_get (one_row ∷ []) 0 ≡ Some row = subst (λ k. slice_get (one_row ∷ []) k ≡ Some row) at here in cc) in
+    let none : pieces ≡ [] = no_pieces (with_row one_row).rule i pieces (subst (λ r. AllByRecursion (IsListedPiece (with_row one_row).rule i r) pieces) row_is (listed refl)) in
+    let first : pin ≡ 0 = least_free pin least in
+    rw (first, row_is, none) refl
+
 pub owners : PinsAreTheirOwners
 owners =
-    let m0 = with_row (with_tail (record { t = t0; line = line } ∷ []) (t0 + 1)) in
+    let m0 = with_row one_row in
     let pin : PinState = record { owner = 0; pieces = [] } in
     let m1 : Machine = record m0 { pins = insert m0.pins 0 pin } in
     let m2 : Machine = record m1 { pins = remove m1.pins 0 } in
-    let there : get m1.pins 0 ≡ Some pin = one_there m0.pins 0 pin in (
+    let there : get m1.pins 0 ≡ Some pin = one_there m0.pins 0 pin in
+    let gone : get m2.pins 0 ≡ None = one_gone m1.pins 0 in (
       m1,
-      runs _ refl (no_doubt refl) refl (pins 0 (with_tail (record { t = t0; line = line } ∷ []) (t0 + 1)) 0 [] refl refl (get-empty nat_cmp 0) (λ k low. absurd (omega arith)) (λ t. tt) (λ t. tt) (λ t. refl) refl) (omega arith),
+      runs _ refl (no_doubt refl) refl (pins 0 one_row 0 [] refl refl (get-empty nat_cmp 0) (λ k low. absurd (omega arith)) (λ t. tt) (λ t. tt) (λ t. refl) refl) (omega arith),
+      (λ other new step. runs_only _ _ _ _ _ refl refl pinned_only step),
       (
         m1,
         refused_unpin (NotYours 0) (rw there refl),
+        (λ other new step. inl (refused_unpin_only (NotYours 0) (rw there refl) step)),
         (
           m2,
           unpins (rw there refl),
-          (m2, refused_unpin NoPin (rw (one_gone m1.pins 0) refl), tt),
+          (λ other new step. inl (unpinned_only (rw there refl) step)),
+          (m2, refused_unpin NoPin (rw gone refl), (λ other new step. inl (refused_unpin_only NoPin (rw gone refl) step)), tt),
         ),
       ),
     )

@@ -6,7 +6,7 @@ pub mod MadeLaws
 pub mod Partitions
 pub mod Copies
 pub mod Revivals
-pub mod Pinned
+pub mod PinnedPieces
 pub mod MadeSound
 pub mod TailLaws
 pub mod StepLaws

@@ -22,7 +22,7 @@ use Rattle.act_model.proofs.RowLaws.{before_none, higher_cover, fit_all, end_fro
 use Rattle.act_model.proofs.ChangeLaws.{RowGoes, Ground, RowMay, at_row}
 use Rattle.act_model.proofs.Places.{places_made}
 use Rattle.act_model.proofs.Rows.{more_rows, Came, from_row, is_new, came, of_place, of_filter, of_append, of_all, fewer_of_place, all_filter, there_is_row}
-use Rattle.act_model.proofs.Pinned.{pins_made}
+use Rattle.act_model.proofs.PinnedPieces.{pins_made}
 use Rattle.act_model.proofs.MadeLaws.{ground, row_may, goes, added_fresh, fresh_sound, fresh_lines, goes_lines, goes_size, each_size, append_size, added_size}
 
 -- LISTS

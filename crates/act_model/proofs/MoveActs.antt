@@ -22,7 +22,7 @@ use Rattle.act_model.specs.Sweep.{SweepStep, Sweeps, IsSwept, IsPinned, IsCopied
 use Rattle.act_model.specs.Sound.{RowSound, IsCopied, CopiesOf, MoveSound, is_copying, IsStill, MayMake, EndedMove, LimboSound, IsUnlisted, Backed, PieceSound, IsSoundOf, IsSound}
 use Rattle.act_model.proofs.Places.{places_filter}
 use Rattle.act_model.proofs.Rows.{of_filter, of_all, of_both, fewer_of_place, there_is_row}
-use Rattle.act_model.proofs.Pinned.{there_filter}
+use Rattle.act_model.proofs.PinnedPieces.{there_filter}
 use Rattle.act_model.proofs.MadeLaws.{ground}
 use Rattle.act_model.proofs.MadeSound.{made_sound}
 use Rattle.act_model.proofs.StepLaws.{Acts-sound, same_sound, fewer_moves}

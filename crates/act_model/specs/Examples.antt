@@ -1,5 +1,6 @@
 -- Small histories worked out, each over an archive of one variable, A:B of type SCALAR_INT. They show what the definitions say in plain
--- cases; `src/examples.rt` has each of them as a clause.
+-- cases: each act has this answer and no other, want of memory and faults of the disk apart. `src/examples.rt` has each of them as a
+-- clause.
 use Rattle.std.specs.Prelude.{◌≡◌, ◌⊎◌, ℕ, ◌+◌, ◌*◌, List, [], ◌∷◌, length, codes, true, None}
 use Rattle.std.specs.FinMap.{empty}
 use Rattle.series_model.specs.declared.sample.Sample.{Sample}
@@ -11,21 +12,25 @@ use Rattle.event_types.specs.declared.about.Method.TheVariants.{Monitor, Scan}
 use Rattle.pb_wire.specs.declared.payload.PayloadType.TheVariants.{ScalarInt}
 use Rattle.act_model.specs.declared.acts.Act.{Act}
 use Rattle.act_model.specs.declared.acts.Act.TheVariants.{Register, Offer, Tick, Flush, Pin, Unpin}
-use Rattle.act_model.specs.declared.acts.Answer.TheVariants.{NameTaken, KeyTaken, Dropped, IntakeFull, Kept, Held, TickNone, NotDue, TickKept, Flushed, Pinned, NoPin, NotYours, Unpinned, Memory}
+use Rattle.act_model.specs.declared.acts.Answer.TheVariants.{NameTaken, KeyTaken, Dropped, IntakeFull, Kept, Held, TickNone, NotDue, TickKept, Flushed, Pinned, NoPin, NotYours, Unpinned, DiskFault, Memory}
 use Rattle.act_model.specs.Reply.{Reply}
 use Rattle.act_model.specs.Rows.{RowState, fresh_row}
 use Rattle.act_model.specs.Machine.{Machine}
 use Rattle.act_model.specs.Step.{Step}
 use Rattle.act_model.specs.History.{Entry}
 
--- the acts may be answered so, one after another
+-- want of memory, or a fault of the disk
+abbrev pub IsFailure : Reply → Type 0
+IsFailure answer = (answer ≡ Memory) ⊎ (answer ≡ DiskFault)
+
+-- the act has no other answer than this, failures apart
+abbrev pub OnlyAnswered : ℕ → Act → Machine → Reply → Type 0
+OnlyAnswered who act m answer = (other : Reply) (new : Machine) → Step who act m other new → (other ≡ answer) ⊎ IsFailure other
+
+-- the acts are answered so, one after another
 abbrev pub Follows : Machine → List Entry → Type 0
 Follows m [] = Unit {0}
-Follows m (e ∷ rest) = (next : Machine) × Step e.who e.act m e.answer next × Follows next rest
-
--- the act has this answer, and no other but for want of memory
-abbrev pub OnlyAnswered : ℕ → Act → Machine → Reply → Type 0
-OnlyAnswered who act m answer = (other : Reply) (new : Machine) → Step who act m other new → (other ≡ answer) ⊎ (other ≡ Memory)
+Follows m (e ∷ rest) = (next : Machine) × Step e.who e.act m e.answer next × OnlyAnswered e.who e.act m e.answer × Follows next rest
 
 abbrev pub by : ℕ → Act → Reply → Entry
 by who act answer = record { who = who; act = act; answer = answer }
@@ -70,12 +75,6 @@ LateAndEarlyOffers =
     ∷ by 1 (offer (t0 + 1) now) Kept
     ∷ by 1 (offer (t0 + 5400 * second) now) Kept
     ∷ by 1 (offer (t0 + 5401 * second) now) (Dropped (Future now)) ∷ [])
-
--- nothing else may be answered to the first of these
-abbrev pub LateOffersAreDropped : Type 0
-LateOffersAreDropped =
-    let now = t0 + 3600 * second in
-    OnlyAnswered 1 (offer t0 now) (with_row (with_tail (record { t = t0; line = line } ∷ []) (t0 + 1))) (Dropped (NotLater t0))
 
 -- REGISTRATION
 

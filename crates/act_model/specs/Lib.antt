@@ -37,6 +37,7 @@ pub mod Crash
 pub mod NextLife
 -- Those who act, and what they are promised
 pub mod History
+pub mod Asks
 pub mod Lives
 pub mod Roles
 pub mod Alone

@@ -1,7 +1,6 @@
--- Who asks what. The session of a link registers, offers, reads and tells; the flusher ticks and flushes; the mover moves and sweeps.
--- All three beside that ask for the doors, and a worker that has ended counts its door off.
-use Rattle.std.specs.Prelude.{◌≡◌, List, Bool, true, false}
-use Rattle.std.specs.Prelude.{All}
+-- Who asks what. The session of a link registers, offers and flushes, reads and tells; the flusher ticks and flushes; the mover moves and
+-- sweeps. Flusher and mover also ask for the doors, and a worker whose door has ended counts it off.
+use Rattle.std.specs.Prelude.{◌≡◌, List, Bool, true, false, All}
 use Rattle.act_model.specs.declared.acts.Act.{Act}
 use Rattle.act_model.specs.declared.acts.Act.TheVariants.{Register, Pause, Resume, Offer, Tick, Flush, MoveBegin, MoveStep, Sweep, Pin, OpenPiece, Unpin, Names, Details, Doors, DoorDone}
 use Rattle.act_model.specs.History.{Done}

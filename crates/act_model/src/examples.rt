@@ -1,10 +1,9 @@
 //! Small histories, worked out. Each is a clause of a function that does nothing.
-ghost use Rattle.act_model.specs.Examples.{LateAndEarlyOffers, LateOffersAreDropped, NamesAndKeysAreTaken, TheLastOfAPeriodIsKept, AFullIntakeIsFlushed, PinsAreTheirOwners};
+ghost use Rattle.act_model.specs.Examples.{LateAndEarlyOffers, NamesAndKeysAreTaken, TheLastOfAPeriodIsKept, AFullIntakeIsFlushed, PinsAreTheirOwners};
 
 /// Samples that aren't later than a row's last, or are too far ahead, are dropped with the reason.
 pub fn late_and_early_offers()
-    ensures answers { LateAndEarlyOffers }
-    ensures only { LateOffersAreDropped }
+    ensures { LateAndEarlyOffers }
 {}
 
 /// A name that is taken, and one whose key is taken, get no row.

@@ -5,8 +5,9 @@
 //! each row a list of samples is accepted, a front of it is durable, both only grow, and whatever happens the next opening has a list
 //! between the two.
 //!
-//! [`Actor`] is the trait by which all above acts on an archive, [`Out`] the one by which answers are written. [`laws`] and [`examples`]
-//! are functions that do nothing: their clauses say what is proved of the definitions.
+//! [`Actor`] is the trait by which all above acts on an archive, and each act is a function over it that answers just what this act may
+//! be answered, as [`ask_offer`] does. [`Out`] is the trait by which answers are written. [`laws`] and [`examples`] are functions that do
+//! nothing: their clauses say what is proved of the definitions.
 //!
 //! Caveats: an act that touches a disk may fail, and then its change may have been made or not; the next act that touches the disk finds
 //! out which. Of samples in files the laws speak only where the disk tells its files and they stand as they are listed.
@@ -14,12 +15,24 @@
 
 mod actor;
 mod acts;
+mod answers;
+mod asks;
 mod details;
 pub mod examples;
 pub mod laws;
+mod narrow;
 mod out;
 
 pub use actor::{Actor, Spent, acts_are_steps, ask};
 pub use acts::{Act, Answer};
+pub use answers::{
+    DetailsTold, DoorsLeft, Flushed, MoveBegun, MoveStepped, NamesTold, Offered, Paused,
+    PieceOpened, Pinned, Registered, Resumed, Swept, Ticked, Unpinned,
+};
+pub use asks::{
+    ask_details, ask_door_done, ask_doors, ask_flush, ask_move_begin, ask_move_step, ask_names,
+    ask_offer, ask_open_piece, ask_pause, ask_pin, ask_register, ask_resume, ask_sweep, ask_tick,
+    ask_unpin,
+};
 pub use details::Details;
 pub use out::{Out, OutErr};
