@@ -1,0 +1,2 @@
+pub mod TailLemmas
+mod BatchLemmas
