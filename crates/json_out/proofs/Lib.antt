@@ -1,0 +1,5 @@
+pub mod Strings
+pub mod Texts
+pub mod Objects
+pub mod Lines
+pub mod Sending
