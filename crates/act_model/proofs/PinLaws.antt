@@ -4,6 +4,7 @@ use Rattle.std.specs.Prelude.{◌==◌, slice_get}
 use Rattle.std.proofs.lemmas.Bool.Decides.{nat_tests}
 use Rattle.std.specs.Ordering.{nat_cmp}
 use Rattle.std.specs.FinMap.{FinMap, get, insert, remove, gets}
+use Rattle.std.specs.List.{AllByRecursion}
 use Rattle.series_model.specs.declared.sample.Query.{Query}
 use Rattle.series_model.specs.declared.sample.Sample.{Sample}
 use Rattle.series_model.specs.Series.{over}
@@ -25,6 +26,7 @@ use Rattle.act_model.specs.Details.{Describes, details_refused}
 use Rattle.act_model.specs.MoveBegin.{Begins, begins, all_run, none_to_make}
 use Rattle.act_model.specs.MoveStep.{GoesOn, copies, has_copied, publishes, retires, again, damaged, ends_move}
 use Rattle.act_model.specs.Sweep.{Sweeps}
+use Rattle.act_model.specs.Rule.{Rule}
 use Rattle.act_model.specs.Files.{IsFileOf}
 use Rattle.act_model.specs.Pin.{IsListedPiece, Pins, pins, over_pieces}
 use Rattle.act_model.specs.OpenPiece.{Opens, refused_open, no_piece, opens, faults_opening, wants_memory_opening, Shows, IsNamed}
@@ -251,7 +253,7 @@ made_here {who} {name} {query} {mid} {new} n count nm about tail (pins i row pin
       name_is = sym own.3;
       about_is = sym own.4;
       tail_is = sym own.2;
-      files = λ t. of_all (IsListedPiece mid.rule i row) (IsFileOf row) pieces (λ f l. l.file) (listed (sym (ap (λ (m : Machine). m.told) same) ∙ t));
+      files = λ t. subst (λ (r : Rule). AllByRecursion (IsFileOf r row) pieces) (sym (ap (λ (m : Machine). m.rule) same)) (of_all (IsListedPiece mid.rule i row) (IsFileOf mid.rule row) pieces (λ f l. l.file) (listed (sym (ap (λ (m : Machine). m.told) same) ∙ t)));
       gives = λ t. subst (λ w. answer (over (over_pieces [] pieces) w) query ≡ answer (accepted row) query) own.2 (gives (sym (ap (λ (m : Machine). m.told) same) ∙ t));
     }
 
@@ -277,7 +279,7 @@ keep_owner a b n entries same keep = subst (λ w. AllKeep w n entries) same keep
 -- A pin is made, anything is done but its Unpin, and a piece of it is opened: the piece is one of those that answer the query, as it was.
 pub pieces_read : (who n count i head_len len : ℕ) (name nm : List ℕ) (query : Query) (about : About) (tail : List Sample) (reader : Opened) (file : Name) (xs ys zs : List Entry) (start end : Machine) → start.told ≡ true → IsSound start
     → Runs start (xs ++ (record { who = who; act = Pin name query; answer = Pinned n nm about count tail } ∷ (ys ++ (record { who = who; act = OpenPiece n i; answer = Piece reader file head_len len } ∷ zs)))) end → AllKeep who n ys
-    → IsRead who name query n nm about count tail i reader file head_len len
+    → IsRead start.rule who name query n nm about count tail i reader file head_len len
 pieces_read who n count i head_len len name nm query about tail reader file xs ys zs start end t s p keep =
     let e : Entry = record { who = who; act = Pin name query; answer = Pinned n nm about count tail } in
     let later : List Entry = record { who = who; act = OpenPiece n i; answer = Piece reader file head_len len } ∷ zs in
@@ -285,15 +287,18 @@ pieces_read who n count i head_len len name nm query about tail reader file xs y
     let old = front.0 in
     let pinned = front.2.1 in
     let sound : IsSound old = runs_sound xs start old s front.1 in
-    let told : old.told ≡ true = (runs_onward xs start old s front.1).told ∙ t in
+    let before = runs_onward xs start old s front.1 in
+    let told : old.told ≡ true = before.told ∙ t in
     let sound' : IsSound pinned = step_sound who (Pin name query) old pinned (Pinned n nm about count tail) sound front.2.0 front.2.2 in
-    let told' : pinned.told ≡ true = (step_onward who (Pin name query) old pinned (Pinned n nm about count tail) sound front.2.0 front.2.2).told ∙ told in
+    let onward = step_onward who (Pin name query) old pinned (Pinned n nm about count tail) sound front.2.0 front.2.2 in
+    let told' : pinned.told ≡ true = onward.told ∙ told in
     let made = pin_answers who n count name nm query about tail old pinned front.2.2 in
     let back = runs_apart ys later pinned end front.2.3 in
     record {
       pinned = pinned;
       opening = back.0;
       told = told';
+      ruled = onward.rule ∙ before.rule;
       made = made;
       opened = opens_pinned n i made.pin ys pinned back.0 back.2.1 told' sound' back.1 (keep_owner who made.pin.owner n ys (sym made.owner) keep) made.there who reader file head_len len back.2.2;
     }

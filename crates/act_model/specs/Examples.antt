@@ -54,7 +54,7 @@ about method = record { ty = ScalarInt; method = method; count = None; headers =
 
 -- an archive of one row, over a disk that tells its files
 abbrev pub with_row : RowState → Machine
-with_row row = record { rule = record { granularity = []; hold = []; gather = [] }; rows = row ∷ []; limbo = []; pins = empty; moves = empty; doubt = None; doors = 0; faults = 0; told = true }
+with_row row = record { rule = record { granularity = []; hold = []; gather = []; header = λ message. None }; rows = row ∷ []; limbo = []; pins = empty; moves = empty; doubt = None; doors = 0; faults = 0; told = true }
 
 -- the variable with these samples in the intake, the last of them just before a moment
 abbrev pub with_tail : List Sample → ℕ → RowState

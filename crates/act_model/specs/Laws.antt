@@ -167,7 +167,7 @@ PieceIsRead =
     (xs ys zs : List Entry) (start end : Machine) → start.told ≡ true → IsSound start
     → Runs start (xs ++ (record { who = who; act = Pin name query; answer = Pinned n told_name about count tail }
     ∷ (ys ++ (record { who = who; act = OpenPiece n i; answer = Piece reader file head_len len } ∷ zs)))) end
-    → AllKeep who n ys → IsRead who name query n told_name about count tail i reader file head_len len
+    → AllKeep who n ys → IsRead start.rule who name query n told_name about count tail i reader file head_len len
 
 -- HISTORIES
 

@@ -23,7 +23,7 @@ pub record IsListedPiece (rule : Rule) (i : ℕ) (row : RowState) (f : FileState
   pub partition : IsPartition rule f.store f.part
   pub samples : f.samples ≡ window f.part (tier row f.store)
   pub some : is_empty f.samples ≡ false
-  pub file : IsFileOf row f
+  pub file : IsFileOf rule row f
 
 -- the deeper store comes first, and in one store the earlier partition
 abbrev pub ComesBefore : FileState → FileState → Type 0

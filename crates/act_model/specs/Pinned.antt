@@ -15,6 +15,7 @@ use Rattle.act_model.specs.Reply.{Opened}
 use Rattle.act_model.specs.Files.{IsFileOf}
 use Rattle.act_model.specs.Limbo.{FileState}
 use Rattle.act_model.specs.Machine.{Machine, PinState, find_row}
+use Rattle.act_model.specs.Rule.{Rule}
 use Rattle.act_model.specs.OpenPiece.{Shows, IsNamed}
 use Rattle.act_model.specs.Pin.{over_pieces}
 use Rattle.act_model.specs.Sound.{PieceSound}
@@ -54,13 +55,14 @@ pub record IsPinMade (who : ℕ) (name : List ℕ) (query : Query) (n : ℕ) (to
   pub name_is : told_name ≡ row.name
   pub about_is : about ≡ row.about
   pub tail_is : tail ≡ row.tail
-  pub files : m.told ≡ true → AllByRecursion (IsFileOf row) pin.pieces
+  pub files : m.told ≡ true → AllByRecursion (IsFileOf m.rule row) pin.pieces
   pub gives : m.told ≡ true → answer (over (over_pieces [] pin.pieces) tail) query ≡ answer (accepted row) query
 
--- The pin that was made and the piece that was opened later: each by the state in which its act ended or began.
-pub record IsRead (who : ℕ) (name : List ℕ) (query : Query) (n : ℕ) (told_name : List ℕ) (about : About) (count : ℕ) (tail : List Sample) (i : ℕ) (reader : Opened) (file : Name) (head_len len : ℕ) : Type 0 where
+-- The pin that was made and the piece that was opened later: each by the state in which its act ended or began, under this rule.
+pub record IsRead (rule : Rule) (who : ℕ) (name : List ℕ) (query : Query) (n : ℕ) (told_name : List ℕ) (about : About) (count : ℕ) (tail : List Sample) (i : ℕ) (reader : Opened) (file : Name) (head_len len : ℕ) : Type 0 where
   pub pinned : Machine
   pub opening : Machine
   pub told : pinned.told ≡ true
+  pub ruled : pinned.rule ≡ rule
   pub made : IsPinMade who name query n told_name about count tail pinned
   pub opened : IsOpenedAs opening made.pin i reader file head_len len
