@@ -1,0 +1,5 @@
+mod Answering
+mod Reading
+mod Pulling
+mod Coming
+mod Giving

@@ -1,0 +1,197 @@
+use Rattle.std.proofs.Common.{◌<◌, ◌⊎◌, ◌++◌, ◌∷◌, [], Some, inl, inr, refl, sym, ap, ◌∙◌, subst, arith}
+use Rattle.std.proofs.lemmas.Bool.{cases_lt}
+use Rattle.series_model.specs.declared.sample.Sample.{Sample}
+use Rattle.series_model.specs.declared.sample.Query.{Query}
+use Rattle.pb_wire.specs.declared.payload.PayloadType.{PayloadType}
+use Rattle.pb_file.specs.Walk.{behind}
+use Rattle.stream_merge.specs.declared.source.Source.{Source}
+use Rattle.stream_merge.specs.Reading.{IsSampleOf}
+use Rattle.stream_merge.specs.Source.{open_pieces, Grew, unread}
+use Rattle.stream_merge.specs.Merging.{IsKept, kept_of, kept_count}
+use Rattle.stream_merge.proofs.Coming.{opens_any}
+use Rattle.stream_merge.proofs.Giving.{due_answers, last_answers, gives_answers, gives_event, going_at, kept_now, none_is_kept, passes_join, passes_at, damaged_back, failed_since, since_through, since_more, answers_none, opens_none, still_at, step_skip, step_keep, early_at, rose_lower, count_le, due_count, kept_length, gives_count}
+use Rattle.stream_merge.proofs.merge.Merge.next.Goals as goal
+
+pub returns-then-is_due-clause-lines : goal.returns-then-is_due-clause-lines
+returns-then-is_due-clause-lines g c tells ps xs is rest =
+    let m = c.args.self.now in
+    let e = c.give_due.ensures in
+    due_answers g.R.ReadAt.bytes (g.P.Pieces.left c.args.pieces.now) m c.give_due.new.self m.source.ty ps xs c.give_due.new.line.items c.give_due.result is rest e.rest.1 e.rest.0 e.rest.2 e.none (c.is_due.ensures.due c.if-is_due.true) c.requires.going.kept e.line e.end e.whole
+
+pub returns-in-End-clause-going : goal.returns-in-End-clause-going
+returns-in-End-clause-going g c t is =
+    let R = g.R.ReadAt in
+    let m = c.samples.self in
+    let m₂ = c.give_kept.new.self in
+    let e = c.give_kept.ensures in
+    let s = c.pull.new.self in
+    going_at R.tells R.bytes m m₂ s e.rest.1 c.in-End.ensures.same.0 c.in-End.ensures.same.1 (c.in-End.ensures.ready tt) c.samples.invariant.going (none_is_kept s.ty m₂.last m₂.kept m₂.kept_line.items e.none)
+
+pub returns-in-End-clause-lines : goal.returns-in-End-clause-lines
+returns-in-End-clause-lines g c tells ps xs is rest =
+    let R = g.R.ReadAt in
+    let m = c.samples.self in
+    let e = c.give_kept.ensures in
+    let still = c.samples.invariant.lines tells ps xs is rest in
+    let pulled = c.in-End.ensures.lines tells still.pieces still.rest.coming still.left_is still.rest.comes in
+    last_answers R.bytes (g.P.Pieces.left c.pull.new.pieces) m c.give_kept.new.self c.pull.new.self still.rest.coming xs c.give_kept.new.line.items c.give_kept.result e.rest.1 e.rest.0 e.rest.2 e.none pulled.0 pulled.1 c.samples.invariant.early still.rest.are e.line e.end e.whole
+
+pub returns-in-End-clause-opens : goal.returns-in-End-clause-opens
+returns-in-End-clause-opens g c tells ps is =
+    let R = g.R.ReadAt in
+    let P = g.P.Pieces in
+    let first = c.args.self.now.source.piece in
+    let all = open_pieces R.bytes first ++ ps in
+    let left = P.left c.pull.new.pieces in
+    let p = c.samples.invariant.opens tells ps is in
+    let q = c.in-End.ensures.opens tells p.rest p.left_is in
+    opens_any R.bytes left first c.give_kept.new.self.source.piece ps c.give_kept.result (passes_at R.bytes left all c.pull.new.self c.give_kept.new.self c.give_kept.ensures.rest.1 (passes_join R.bytes (P.left c.samples.pieces) left all c.samples.self.source.piece c.pull.new.self.piece p q))
+
+pub returns-in_default : goal.returns-in_default
+returns-in_default g c =
+    let R = g.R.ReadAt in
+    let P = g.P.Pieces in
+    let inv = c.samples.invariant in
+    let e = c.pull.ensures in
+    let r = c.pull.result in
+    let first = c.args.self.now.source.piece in
+    let none = c.in_default.not-Line in
+    let more = c.in_default.not-End in
+    let since : (P.count c.pull.new.pieces < P.count c.args.pieces.now) ⊎ Grew R.faults first c.samples.self.source.piece = since_more (λ (h : P.count c.samples.pieces < P.count c.args.pieces.now). omega (arith, h, e.count)) inv.since in
+    record {
+      going = λ t is. absurd (none t is);
+      ty = e.same.0 ∙ inv.same.1;
+      lines = λ tells ps xs is rest. answers_none R.bytes (P.left c.pull.new.pieces) _ xs c.pull.new.line.items r none more;
+      event = λ t is. absurd (none t is);
+      opens = λ tells ps is. opens_none R.bytes (P.left c.pull.new.pieces) first c.pull.new.self.piece ps r none more;
+      damaged = λ tells ps is name at bad.
+          let p = inv.opens tells ps is in
+          damaged_back c.samples.self.source.ty c.args.self.now.source.ty (open_pieces R.bytes first ++ ps) p.passed (open_pieces R.bytes c.samples.self.source.piece ++ p.rest) name at inv.same.1 p.are (e.damaged tells p.rest p.left_is name at bad);
+      failed = λ failed is. failed_since R.faults first c.samples.self.source.piece _ _ _ _ failed (λ (h : P.count c.pull.new.pieces < P.count c.samples.pieces). omega (arith, h, inv.count)) (rose_lower (P.faults c.args.pieces.now) (P.faults c.samples.pieces) (P.faults c.pull.new.pieces) inv.faults) since (e.failed failed is);
+      spent = e.spent;
+      faults = omega (arith, e.faults, inv.faults);
+      count = omega (arith, e.count, inv.count);
+      smaller = λ t is. absurd (none t is);
+    }
+
+pub samples-preserved-then-not-is_later : goal.samples-preserved-then-not-is_later
+samples-preserved-then-not-is_later g c =
+    let R = g.R.ReadAt in
+    let P = g.P.Pieces in
+    let inv = c.samples.invariant in
+    let m = c.samples.self in
+    let s = c.pull.new.self in
+    let e = c.in-Line.ensures in
+    let t = c.in-Line.t in
+    let first = c.args.self.now.source.piece in
+    let left = P.left c.pull.new.pieces in
+    let since : (P.count c.pull.new.pieces < P.count c.args.pieces.now) ⊎ Grew R.faults first m.source.piece = since_more (λ (h : P.count c.samples.pieces < P.count c.args.pieces.now). omega (arith, h, e.count)) inv.since in
+    let K : PayloadType → Type 0 = λ ty. IsKept ty m.last m.kept m.kept_line.items in
+    record {
+      going = going_at R.tells R.bytes m (record m { source = s }) s refl e.same.0 e.same.1 (e.ready tt) inv.going (subst K (sym e.same.0) inv.going.kept);
+      early = inv.early;
+      same = (inv.same.0, e.same.0 ∙ inv.same.1);
+      lines = λ tells ps xs is rest.
+          let still = inv.lines tells ps xs is rest in
+          let pulled = e.lines tells still.pieces still.rest.coming still.left_is still.rest.comes in
+          let x : Sample = record { t = t; line = c.pull.new.line.items } in
+          let ks = kept_of m.kept m.kept_line.items in
+          let low : t < behind m.last = elim (cases_lt t (behind m.last)) [
+            | inl lt ↦ lt
+            | inr ge ↦ absurd (let later = c.is_later.ensures.1 ge in let not = c.if-not-is_later.true in cc)
+          ] in
+          still_at R.bytes left (record m { source = s }) s m.query m.last ks pulled.0 xs refl refl refl refl pulled.2 (step_skip m.query (behind m.last) x pulled.0 still.rest.coming xs ks pulled.1 low still.rest.are);
+      opens = λ tells ps is.
+          let p = inv.opens tells ps is in
+          passes_join R.bytes (P.left c.samples.pieces) left (open_pieces R.bytes first ++ ps) m.source.piece s.piece p (e.opens tells p.rest p.left_is);
+      since = since_through R.faults first m.source.piece s.piece _ _ (λ (h : P.count c.pull.new.pieces < P.count c.samples.pieces). omega (arith, h, inv.count)) (e.grew t refl) since;
+      faults = omega (arith, e.faults, inv.faults);
+      count = omega (arith, e.count, inv.count);
+      smaller = omega (arith, e.smaller t refl, inv.smaller);
+    }
+
+pub returns-then-t-self-clause-lines : goal.returns-then-t-self-clause-lines
+returns-then-t-self-clause-lines g c tells ps xs is rest =
+    let R = g.R.ReadAt in
+    let m = c.samples.self in
+    let inv = c.samples.invariant in
+    let e = c.give.ensures in
+    let t = c.in-Line.t in
+    let still = inv.lines tells ps xs is rest in
+    let pulled = c.in-Line.ensures.lines tells still.pieces still.rest.coming still.left_is still.rest.comes in
+    let line = c.pull.new.line in
+    gives_answers R.bytes (g.P.Pieces.left c.pull.new.pieces) c.give.new.self m.kept m.kept_line.items c.pull.new.self m.query (behind m.last) t line.items c.give.new.line.items pulled.0 still.rest.coming xs c.give.result e.rest.1 e.rest.0 e.rest.2 pulled.1 pulled.2 (c.is_later.ensures.0 c.if-not-is_later.false) c.if-t-self.true inv.early still.rest.are e.gives e.swapped e.stays
+
+pub returns-then-t-self-clause-event : goal.returns-then-t-self-clause-event
+returns-then-t-self-clause-event g c at is =
+    let m = c.samples.self in
+    let inv = c.samples.invariant in
+    let e = c.give.ensures in
+    let t = c.in-Line.t in
+    let line = c.pull.new.line in
+    let T : PayloadType → Type 0 = λ ty. IsSampleOf ty (record { t = at; line = c.give.new.line.items }) in
+    subst T inv.same.1 (gives_event m.source.ty m.query.to m.last m.kept m.kept_line.items t c.give.new.self.kept line.items c.give.new.line.items c.give.result at e.gives inv.going.kept (c.in-Line.ensures.event t refl) (λ some. (e.swapped some).0) e.stays is)
+
+pub returns-then-t-self-clause-opens : goal.returns-then-t-self-clause-opens
+returns-then-t-self-clause-opens g c tells ps is =
+    let R = g.R.ReadAt in
+    let P = g.P.Pieces in
+    let first = c.args.self.now.source.piece in
+    let all = open_pieces R.bytes first ++ ps in
+    let left = P.left c.pull.new.pieces in
+    let p = c.samples.invariant.opens tells ps is in
+    let q = c.in-Line.ensures.opens tells p.rest p.left_is in
+    opens_any R.bytes left first c.give.new.self.source.piece ps c.give.result (passes_at R.bytes left all c.pull.new.self c.give.new.self c.give.ensures.rest.1 (passes_join R.bytes (P.left c.samples.pieces) left all c.samples.self.source.piece c.pull.new.self.piece p q))
+
+pub samples-preserved : goal.samples-preserved
+samples-preserved g c =
+    let R = g.R.ReadAt in
+    let P = g.P.Pieces in
+    let inv = c.samples.invariant in
+    let m = c.samples.self in
+    let m₂ = c.keep.new.self in
+    let s = c.pull.new.self in
+    let e = c.in-Line.ensures in
+    let k = c.keep.ensures in
+    let t = c.in-Line.t in
+    let x : Sample = record { t = t; line = c.pull.new.line.items } in
+    let first = c.args.self.now.source.piece in
+    let left = P.left c.pull.new.pieces in
+    let T : PayloadType → Type 0 = λ ty. IsSampleOf ty x in
+    let since : (P.count c.pull.new.pieces < P.count c.args.pieces.now) ⊎ Grew R.faults first m.source.piece = since_more (λ (h : P.count c.samples.pieces < P.count c.args.pieces.now). omega (arith, h, e.count)) inv.since in
+    let S : Source g.row.R.Denot → Type 0 = λ v. (P.count c.pull.new.pieces < P.count c.args.pieces.now) ⊎ Grew R.faults first v.piece in
+    record {
+      going = going_at R.tells R.bytes m m₂ s k.rest.1 e.same.0 e.same.1 (e.ready tt) inv.going (kept_now s.ty m₂.last m₂.kept m₂.kept_line.items t c.pull.new.line.items k.some k.rest.2 k.kept (subst T (sym e.same.0) (e.event t refl)));
+      early = early_at m₂.kept t m.query.from m₂.query.from k.some (ap (λ (v : Query). v.from) k.rest.0) c.if-t-self.false;
+      same = (k.rest.0 ∙ inv.same.0, ap (λ (v : Source g.row.R.Denot). v.ty) k.rest.1 ∙ e.same.0 ∙ inv.same.1);
+      lines = λ tells ps xs is rest.
+          let still = inv.lines tells ps xs is rest in
+          let pulled = e.lines tells still.pieces still.rest.coming still.left_is still.rest.comes in
+          still_at R.bytes left m₂ s m.query (Some t) (x ∷ []) pulled.0 xs k.rest.1 k.rest.0 k.rest.2 k.kept pulled.2
+          (step_keep m.query (behind m.last) m.kept m.kept_line.items x pulled.0 still.rest.coming xs pulled.1 (c.is_later.ensures.0 c.if-not-is_later.false) c.if-t-self.false inv.early still.rest.are);
+      opens = λ tells ps is.
+          let p = inv.opens tells ps is in
+          passes_at R.bytes left (open_pieces R.bytes first ++ ps) s m₂ k.rest.1 (passes_join R.bytes (P.left c.samples.pieces) left (open_pieces R.bytes first ++ ps) m.source.piece s.piece p (e.opens tells p.rest p.left_is));
+      since = subst S (sym k.rest.1) (since_through R.faults first m.source.piece s.piece _ _ (λ (h : P.count c.pull.new.pieces < P.count c.samples.pieces). omega (arith, h, inv.count)) (e.grew t refl) since);
+      faults = omega (arith, e.faults, inv.faults);
+      count = omega (arith, e.count, inv.count);
+      smaller = omega (arith, e.smaller t refl, inv.smaller, ap (λ (v : Source g.row.R.Denot). unread (P.count c.pull.new.pieces) v) k.rest.1, count_le m₂.kept);
+    }
+
+pub returns-then-is_due-clause-smaller : goal.returns-then-is_due-clause-smaller
+returns-then-is_due-clause-smaller g c t is =
+    let m = c.args.self.now in
+    let e = c.give_due.ensures in
+    omega (arith, due_count m.kept m.query.from (c.is_due.ensures.due c.if-is_due.true), ap kept_count e.none, ap (λ (v : Source g.row.R.Denot). unread (g.P.Pieces.count c.args.pieces.now) v) e.rest.1)
+
+pub returns-in-End-clause-smaller : goal.returns-in-End-clause-smaller
+returns-in-End-clause-smaller g c t is =
+    let m = c.samples.self in
+    let e = c.give_kept.ensures in
+    omega (arith, kept_length m.kept m.kept_line.items _ (e.line t is), ap kept_count e.none, ap (λ (v : Source g.row.R.Denot). unread (g.P.Pieces.count c.pull.new.pieces) v) e.rest.1, c.in-End.ensures.no_more refl, c.samples.invariant.smaller)
+
+pub returns-then-t-self-clause-smaller : goal.returns-then-t-self-clause-smaller
+returns-then-t-self-clause-smaller g c at is =
+    let m = c.samples.self in
+    let e = c.give.ensures in
+    omega (arith, gives_count m.query.to m.kept c.in-Line.t c.give.new.self.kept c.give.result e.gives, ap (λ (v : Source g.row.R.Denot). unread (g.P.Pieces.count c.pull.new.pieces) v) e.rest.1, c.in-Line.ensures.smaller c.in-Line.t refl, c.samples.invariant.smaller)

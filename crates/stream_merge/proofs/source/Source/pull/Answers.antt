@@ -1,0 +1,142 @@
+use Rattle.std.proofs.Common.{◌≡◌, ◌++◌, ◌∷◌, [], List, Some, None, inl, refl, sym, ap, ◌∙◌, subst, take, arith}
+use Rattle.series_model.specs.declared.sample.Sample.{Sample}
+use Rattle.pb_wire.specs.declared.payload.PayloadType.{PayloadType}
+use Rattle.stream_merge.specs.declared.source.Source.{Source}
+use Rattle.stream_merge.specs.Pieces.{NamedBytes}
+use Rattle.stream_merge.specs.Reading.{IsSampleOf, AreSamplesOf, IsDamaged}
+use Rattle.stream_merge.specs.Source.{open_pieces, IsReady, Coming, Pulls}
+use Rattle.stream_merge.proofs.Coming.{ended, opened, pulls_tail, pulls_open, passes_end, passes_opened, passes_none, passed_all, damaged_in, damaged_one, failed_open, failed_first, grew_since, opens_open, opens_any, given_ready, less_open, less_opened, tail_event, none_left, err_is}
+use Rattle.stream_merge.proofs.source.Source.pull.Goals as goal
+
+pub returns-in_default : goal.returns-in_default
+returns-in_default g c =
+    let R = g.R.ReadAt in
+    let P = g.P.Pieces in
+    let inv = c.pieces.invariant in
+    let e = c.read_open.ensures in
+    let s = c.pieces.self in
+    let new = c.read_open.new.self in
+    let r = c.read_open.result in
+    let first = c.args.self.now.piece in
+    let left = P.left c.pieces.pieces in
+    record {
+      ready = given_ready r (IsReady R.tells R.bytes new.ty new.piece) e.ready (λ is. absurd (c.in_default.not-End is));
+      same = (ap (λ (x : Source g.row.R.Denot). x.ty) e.same ∙ inv.same.0, ap (λ (x : Source g.row.R.Denot). x.tail) e.same ∙ inv.same.1);
+      lines = λ tells ps xs is coming.
+          let N : Source g.row.R.Denot → Type 0 = λ x. Pulls R.bytes left x xs c.read_open.new.line.items r in
+          subst N (sym e.same) (pulls_open R.bytes left s new.piece xs c.read_open.new.line.items r (inv.lines tells ps xs is coming) (e.lines tells) c.in_default.not-End);
+      event = λ t is. let Q : PayloadType → Type 0 = λ ty. IsSampleOf ty (record { t = t; line = c.read_open.new.line.items }) in subst Q inv.same.0 (e.event t is);
+      opens = λ tells ps is. opens_open R.bytes left first s.piece new.piece ps r (e.stays tells) c.in_default.not-End (inv.opens tells ps is);
+      damaged = λ tells ps is name at bad.
+          let p = inv.opens tells ps is in
+          let all = open_pieces R.bytes first ++ ps in
+          let Q : PayloadType → Type 0 = λ ty. IsDamaged ty all name at in
+          subst Q inv.same.0 (damaged_in s.ty all p.passed (open_pieces R.bytes s.piece) p.rest name at p.are (e.damaged tells name at bad));
+      failed = λ failed is. failed_open R.faults first s.piece _ _ failed inv.since (e.failed failed is);
+      spent = λ is. absurd (e.never is);
+      faults = inv.faults;
+      count = inv.count;
+      grew = λ t is. grew_since R.faults first s.piece new.piece _ (e.grew t is) inv.since;
+      smaller = λ t is. less_open (P.count c.pieces.pieces) _ s new e.same (e.smaller t is) inv.smaller;
+      no_more = λ is. absurd (c.in_default.not-End is);
+    }
+
+pub pieces-preserved : goal.pieces-preserved
+pieces-preserved g c =
+    let R = g.R.ReadAt in
+    let P = g.P.Pieces in
+    let inv = c.pieces.invariant in
+    let e = c.in-End.ensures in
+    let o = c.in-Piece.ensures in
+    let s = c.pieces.self in
+    let new = c.read_open.new.self in
+    let p = c.in-Ok.piece in
+    let n : NamedBytes = record { name = c.in-Piece.name; bytes = take c.in-Piece.len (R.bytes c.in-Piece.reader) } in
+    let none : new.piece ≡ None = e.closed refl in
+    record {
+      ready = c.in-Ok.ensures.ready;
+      same = (ap (λ (x : Source g.row.R.Denot). x.ty) e.same ∙ inv.same.0, ap (λ (x : Source g.row.R.Denot). x.tail) e.same ∙ inv.same.1, ap (λ (x : Source g.row.R.Denot). x.at) e.same ∙ inv.same.2);
+      lines = λ tells ps xs is coming.
+          let still = inv.lines tells ps xs is coming in
+          let over = o.opens tells still.pieces still.left_is in
+          let C : Source g.row.R.Denot → Type 0 = λ x. Coming R.bytes x still.pieces xs in
+          let at_end = subst C (sym e.same) (ended R.bytes s new.piece still.pieces xs none (e.lines tells) still.coming) in
+          record { pieces = over.rest; left_is = over.others; coming = opened R.bytes new p still.pieces over.rest n xs none over.first (c.in-Ok.ensures.lines tells) at_end };
+      opens = λ tells ps is.
+          let all = open_pieces R.bytes c.args.self.now.piece ++ ps in
+          let passed = passes_end R.bytes (P.left c.pieces.pieces) all s.piece new.piece none (inv.opens tells ps is) in
+          let over = o.opens tells passed.rest passed.left_is in
+          passes_opened R.bytes (P.left c.open_next.new.self) all (Some p) passed.passed passed.rest over.rest n (passed_all R.bytes (P.left c.pieces.pieces) all new.piece none passed) over.first (c.in-Ok.ensures.pieces tells) over.others;
+      since = inl (omega (arith, o.count, inv.count));
+      faults = omega (arith, o.faults, inv.faults);
+      count = omega (arith, o.count, inv.count);
+      smaller = less_opened (P.count c.pieces.pieces) (P.count c.open_next.new.self) _ s new p e.same o.count c.in-Ok.ensures.small inv.smaller;
+    }
+
+pub returns-in-Err-clause-damaged : goal.returns-in-Err-clause-damaged
+returns-in-Err-clause-damaged g c tells ps is name at bad =
+    let R = g.R.ReadAt in
+    let P = g.P.Pieces in
+    let inv = c.pieces.invariant in
+    let e = c.in-End.ensures in
+    let s = c.pieces.self in
+    let new = c.read_open.new.self in
+    let none : new.piece ≡ None = e.closed refl in
+    let all = open_pieces R.bytes c.args.self.now.piece ++ ps in
+    let n : NamedBytes = record { name = c.in-Piece.name; bytes = take c.in-Piece.len (R.bytes c.in-Piece.reader) } in
+    let passed = passes_end R.bytes (P.left c.pieces.pieces) all s.piece new.piece none (inv.opens tells ps is) in
+    let over = c.in-Piece.ensures.opens tells passed.rest passed.left_is in
+    let found = c.begin.ensures.damaged tells name at (err_is c.begin.result c.in-Err.merged _ c.in-Err.is bad) in
+    let Q : PayloadType → Type 0 = λ ty. IsDamaged ty all name at in
+    subst Q (ap (λ (x : Source g.row.R.Denot). x.ty) e.same ∙ inv.same.0) (damaged_in new.ty all passed.passed (n ∷ []) over.rest name at (passed_all R.bytes (P.left c.pieces.pieces) all new.piece none passed ∙ ap (λ (l : List NamedBytes). passed.passed ++ l) over.first) (damaged_one new.ty n name at found.0 found.1))
+
+pub returns-in-Err-clause-failed : goal.returns-in-Err-clause-failed
+returns-in-Err-clause-failed g c failed is =
+    let R = g.R.ReadAt in
+    failed_first R.faults c.args.self.now.piece _ _ failed (omega (arith, c.in-Piece.ensures.count, c.pieces.invariant.count)) (c.begin.ensures.failed failed (err_is c.begin.result c.in-Err.merged _ c.in-Err.is is))
+
+pub returns-in-NoMore-clause-lines : goal.returns-in-NoMore-clause-lines
+returns-in-NoMore-clause-lines g c tells ps xs is coming =
+    let R = g.R.ReadAt in
+    let P = g.P.Pieces in
+    let e = c.in-End.ensures in
+    let s = c.pieces.self in
+    let new = c.read_open.new.self in
+    let last = c.read_tail.new.self in
+    let none : new.piece ≡ None = e.closed refl in
+    let still = c.pieces.invariant.lines tells ps xs is coming in
+    let over = c.in-NoMore.ensures.opens tells still.pieces still.left_is in
+    let C : Source g.row.R.Denot → Type 0 = λ x. Coming R.bytes x still.pieces xs in
+    let at_end = subst C (sym e.same) (ended R.bytes s new.piece still.pieces xs none (e.lines tells) still.coming) in
+    pulls_tail R.bytes (P.left c.open_next.new.self) new last still.pieces xs c.read_tail.new.line.items c.read_tail.result none (ap (λ (x : Source g.row.R.Denot). x.piece) c.read_tail.ensures.same ∙ none) over.0 over.1 at_end c.read_tail.ensures.line c.read_tail.ensures.end
+
+pub returns-in-NoMore-clause-event : goal.returns-in-NoMore-clause-event
+returns-in-NoMore-clause-event g c t is =
+    let new = c.read_open.new.self in
+    let inv = c.pieces.invariant in
+    let same = c.in-End.ensures.same in
+    let tail : new.tail ≡ c.args.self.now.tail = ap (λ (x : Source g.row.R.Denot). x.tail) same ∙ inv.same.1 in
+    let s : Sample = record { t = t; line = c.read_tail.new.line.items } in
+    let P : _ → Type 0 = λ x. AreSamplesOf c.args.self.now.ty x.items in
+    tail_event c.args.self.now.ty new.at new.tail.items _ s (subst P (sym tail) c.requires.tail) (c.read_tail.ensures.line t is)
+
+pub returns-in-NoMore-clause-opens : goal.returns-in-NoMore-clause-opens
+returns-in-NoMore-clause-opens g c tells ps is =
+    let R = g.R.ReadAt in
+    let P = g.P.Pieces in
+    let inv = c.pieces.invariant in
+    let new = c.read_open.new.self in
+    let last = c.read_tail.new.self in
+    let first = c.args.self.now.piece in
+    let all = open_pieces R.bytes first ++ ps in
+    let left = P.left c.open_next.new.self in
+    let none : new.piece ≡ None = c.in-End.ensures.closed refl in
+    let passed = passes_end R.bytes (P.left c.pieces.pieces) all c.pieces.self.piece new.piece none (inv.opens tells ps is) in
+    let over = c.in-NoMore.ensures.opens tells passed.rest passed.left_is in
+    opens_any R.bytes left first last.piece ps c.read_tail.result
+    (passes_none R.bytes left all passed.passed passed.rest last.piece (ap (λ (x : Source g.row.R.Denot). x.piece) c.read_tail.ensures.same ∙ none) (passed_all R.bytes (P.left c.pieces.pieces) all new.piece none passed) over.0 over.1)
+
+pub returns-in-NoMore-clause-no_more : goal.returns-in-NoMore-clause-no_more
+returns-in-NoMore-clause-no_more g c is =
+    let P = g.P.Pieces in
+    none_left (P.count c.pieces.pieces) (P.count c.open_next.new.self) _ c.pieces.self c.read_open.new.self c.read_tail.new.self c.in-End.ensures.same (c.in-End.ensures.closed refl) (c.read_tail.ensures.end is).1 c.in-NoMore.ensures.count c.pieces.invariant.smaller

@@ -1,0 +1,23 @@
+use Rattle.std.proofs.Common.{◌≡◌, ◌≤◌, ◌<◌, ◌⊎◌, ◌++◌, List, IsTrue}
+use Rattle.series_model.specs.declared.sample.Sample.{Sample}
+use Rattle.stream_merge.specs.Pieces.{NamedBytes}
+use Rattle.stream_merge.specs.Source.{IsReady, Coming, StillComing, Passes, open_pieces, unread}
+use Rattle.stream_merge.proofs.source.Source.pull.Given as goal
+
+abbrev pub invariant-pieces : goal.invariant-pieces
+invariant-pieces g l =
+    let R = g.R.ReadAt in
+    let P = g.P.Pieces in
+    record {
+      ready : IsReady R.tells R.bytes l.self.ty l.self.piece;
+      same : (l.self.ty ≡ l.initial.self.ty) × (l.self.tail ≡ l.initial.self.tail) × (l.self.at ≡ l.initial.self.at);
+      lines : IsTrue R.tells → (ps : List NamedBytes) (xs : List Sample) → P.left l.initial.pieces ps → Coming R.bytes l.initial.self ps xs → StillComing R.bytes (P.left l.pieces) l.self xs;
+      opens : IsTrue R.tells → (ps : List NamedBytes) → P.left l.initial.pieces ps → Passes R.bytes (P.left l.pieces) (open_pieces R.bytes l.initial.self.piece ++ ps) l.self.piece;
+      since : (P.count l.pieces < P.count l.initial.pieces) ⊎ (l.self.piece ≡ l.initial.self.piece);
+      faults : P.faults l.initial.pieces ≤ P.faults l.pieces;
+      count : P.count l.pieces ≤ P.count l.initial.pieces;
+      smaller : unread (P.count l.pieces) l.self ≤ unread (P.count l.initial.pieces) l.initial.self;
+    }
+
+abbrev pub decreases-pieces : goal.decreases-pieces
+decreases-pieces g l = g.P.Pieces.count l.pieces

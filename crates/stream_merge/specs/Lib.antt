@@ -1,0 +1,5 @@
+pub mod Pieces
+pub mod Reading
+pub mod Over
+pub mod Source
+pub mod Merging

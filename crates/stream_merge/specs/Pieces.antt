@@ -1,0 +1,47 @@
+-- Pieces: files, or fronts of files, that are read one after another, and what the opening of the next one shows of them.
+use Rattle.std.specs.Prelude.{◌≡◌, ℕ, ◌+◌, ◌≤◌, List, [], ◌∷◌, length, take}
+use Rattle.disk_model.specs.Files.{Name}
+use Rattle.series_model.specs.declared.sample.Sample.{Sample}
+use Rattle.payload_info.specs.declared.info.PayloadInfo.{PayloadInfo}
+use Rattle.pb_file.specs.File.{IsFile}
+use Rattle.stream_merge.specs.declared.pieces.Opened.{Opened}
+use Rattle.stream_merge.specs.declared.pieces.Opened.TheVariants.{Piece, NoMore, ReadFault, Spent, Memory}
+
+-- the name of a file, and the bytes of it that are the piece
+pub record NamedBytes : Type 0 where
+  pub name : Name
+  pub bytes : List ℕ
+
+-- where the bytes are a file, its header's line with its newline has this length
+abbrev pub IsHeadLen : ℕ → List ℕ → Type 0
+IsHeadLen n bytes = (head : List ℕ) (info : PayloadInfo) (samples : List Sample) → IsFile bytes head info samples → n ≡ length head + 1
+
+-- the first piece was opened, and the others are left
+pub record OpensPiece {R : Type 0} (bytes : R → List ℕ) (left : List NamedBytes → Type 0) (pieces : List NamedBytes) (reader : R) (name : Name) (head_len len : ℕ) : Type 0 where
+  pub rest : List NamedBytes
+  pub first : pieces ≡ record { name = name; bytes = take len (bytes reader) } ∷ rest
+  pub head : IsHeadLen head_len (take len (bytes reader))
+  pub others : left rest
+
+-- of these pieces the first was opened, or there was none; otherwise they are left
+abbrev pub Opens : {R : Type 0} → (R → List ℕ) → (List NamedBytes → Type 0) → List NamedBytes → Opened R → Type 0
+Opens {R} bytes left pieces (Piece reader name head_len len) = OpensPiece bytes left pieces reader name head_len len
+Opens {R} bytes left pieces NoMore = (pieces ≡ []) × left []
+Opens {R} bytes left pieces ReadFault = left pieces
+Opens {R} bytes left pieces Spent = left pieces
+Opens {R} bytes left pieces Memory = left pieces
+
+-- the reader of a piece has the bytes of it
+abbrev pub HasBytes : {R : Type 0} → (R → List ℕ) → Opened R → Type 0
+HasBytes {R} bytes (Piece reader name head_len len) = len ≤ length (bytes reader)
+HasBytes {R} bytes _ = Unit {0}
+
+-- the reader of a piece hasn't failed yet
+abbrev pub HasNoFault : {R : Type 0} → (R → ℕ) → Opened R → Type 0
+HasNoFault {R} faults (Piece reader name head_len len) = faults reader ≡ 0
+HasNoFault {R} faults _ = Unit {0}
+
+-- how many pieces are left: one fewer where one was opened
+abbrev pub Counts : {R : Type 0} → ℕ → ℕ → Opened R → Type 0
+Counts {R} before now (Piece reader name head_len len) = before ≡ now + 1
+Counts {R} before now _ = now ≡ before

@@ -1,0 +1,161 @@
+-- The samples that are yet to be read: of the open piece, of the pieces behind it, and of the tail. And what a call that reads the next
+-- one comes to.
+use Rattle.std.specs.Prelude.{◌≡◌, ◌⊎◌, ℕ, ◌+◌, ◌-◌, ◌*◌, ◌^◌, ◌≤◌, Bool, List, [], ◌∷◌, ◌++◌, Option, None, Some, IsTrue, length, take, drop}
+use Rattle.std.specs.List.{flat_map}
+use Rattle.pb_wire.specs.declared.payload.PayloadType.{PayloadType}
+use Rattle.disk_model.specs.Files.{Rose}
+use Rattle.series_model.specs.declared.sample.Sample.{Sample}
+use Rattle.payload_info.specs.declared.info.PayloadInfo.{PayloadInfo}
+use Rattle.pb_file.specs.declared.walk.Walked.{Walked}
+use Rattle.pb_file.specs.declared.walk.Walked.TheVariants as walked
+use Rattle.pb_file.specs.Walk.{Front, HasWalked}
+use Rattle.stream_merge.specs.declared.pieces.Merged.{Merged}
+use Rattle.stream_merge.specs.declared.pieces.Merged.TheVariants.{Line, End, ReadFault, Damaged, Memory}
+use Rattle.stream_merge.specs.declared.source.OpenPiece.{OpenPiece}
+use Rattle.stream_merge.specs.declared.source.Source.{Source}
+use Rattle.stream_merge.specs.Pieces.{NamedBytes}
+use Rattle.stream_merge.specs.Reading.{IsReadAs, AreReadAs}
+
+-- THE OPEN PIECE
+
+-- The header was read, which is of the type, and the walk goes on. The reader has the bytes of the piece.
+pub record IsBegun {R : Type 0} (tells : Bool) (bytes : R → List ℕ) (ty : PayloadType) (p : OpenPiece R) : Type 0 where
+  pub going : p.walk.stop ≡ None
+  pub info : PayloadInfo
+  pub header : p.walk.info ≡ Some info
+  pub type : info.ty ≡ ty
+  pub within : p.walk.place ≤ p.walk.len
+  pub bytes_are : IsTrue tells → p.walk.len ≤ length (bytes p.reader)
+  pub walked : IsTrue tells → (front : Front) × HasWalked p.walk (bytes p.reader) (Some front)
+
+-- the next line may be read: a piece that is open has begun
+abbrev pub IsReady : {R : Type 0} → Bool → (R → List ℕ) → PayloadType → Option (OpenPiece R) → Type 0
+IsReady {R} tells bytes ty None = Unit {0}
+IsReady {R} tells bytes ty (Some p) = IsBegun tells bytes ty p
+
+-- the open piece, if one is
+abbrev pub open_pieces : {R : Type 0} → (R → List ℕ) → Option (OpenPiece R) → List NamedBytes
+open_pieces {R} bytes None = []
+open_pieces {R} bytes (Some p) = record { name = p.name; bytes = take p.walk.len (bytes p.reader) } ∷ []
+
+-- behind the samples that were read, these may come
+pub record GoesOnAs {R : Type 0} (bytes : R → List ℕ) (ty : PayloadType) (p : OpenPiece R) (xs : List Sample) : Type 0 where
+  pub front : Front
+  pub walked : HasWalked p.walk (bytes p.reader) (Some front)
+  pub type : front.info.ty ≡ ty
+  pub read : IsReadAs ty (take p.walk.len (bytes p.reader)) (front.samples ++ xs)
+
+-- what the open piece may have yet to give
+abbrev pub IsOpenAs : {R : Type 0} → (R → List ℕ) → PayloadType → Option (OpenPiece R) → List Sample → Type 0
+IsOpenAs {R} bytes ty None xs = xs ≡ []
+IsOpenAs {R} bytes ty (Some p) xs = GoesOnAs bytes ty p xs
+
+-- what a read of the open piece's next line came to, where these were to come
+abbrev pub ReadsOpen : {R : Type 0} → (R → List ℕ) → PayloadType → Option (OpenPiece R) → List Sample → List ℕ → Merged R → Type 0
+ReadsOpen {R} bytes ty piece xs line (Line t) = (rest : List Sample) × (xs ≡ record { t = t; line = line } ∷ rest) × IsOpenAs bytes ty piece rest
+ReadsOpen {R} bytes ty piece xs line End = xs ≡ []
+ReadsOpen {R} bytes ty piece xs line _ = Unit {0}
+
+-- ALL THAT IS TO COME
+
+-- what may be yet to be read: these pieces are left behind the open one
+pub record Coming {R : Type 0} (bytes : R → List ℕ) (s : Source R) (left : List NamedBytes) (xs : List Sample) : Type 0 where
+  pub here : List Sample
+  pub lists : List (List Sample)
+  pub begins : IsOpenAs bytes s.ty s.piece here
+  pub are_left : AreReadAs s.ty left lists
+  pub all : xs ≡ here ++ (flat_map (λ (l : List Sample). l) lists ++ drop s.at s.tail.items)
+
+-- some of the pieces are left, and behind what was read these samples may come
+pub record StillComing {R : Type 0} (bytes : R → List ℕ) (left : List NamedBytes → Type 0) (s : Source R) (xs : List Sample) : Type 0 where
+  pub pieces : List NamedBytes
+  pub left_is : left pieces
+  pub coming : Coming bytes s pieces xs
+
+-- what a read of the next line came to, where these were to come
+abbrev pub Pulls : {R : Type 0} → (R → List ℕ) → (List NamedBytes → Type 0) → Source R → List Sample → List ℕ → Merged R → Type 0
+Pulls {R} bytes left s xs line (Line t) = (rest : List Sample) × (xs ≡ record { t = t; line = line } ∷ rest) × StillComing bytes left s rest
+Pulls {R} bytes left s xs line End = (xs ≡ []) × StillComing bytes left s []
+Pulls {R} bytes left s xs line _ = Unit {0}
+
+-- of the pieces, the open one and those that were left, the first ones are done with
+pub record Passes {R : Type 0} (bytes : R → List ℕ) (left : List NamedBytes → Type 0) (pieces : List NamedBytes) (piece : Option (OpenPiece R)) : Type 0 where
+  pub passed : List NamedBytes
+  pub rest : List NamedBytes
+  pub left_is : left rest
+  pub are : pieces ≡ passed ++ (open_pieces bytes piece ++ rest)
+
+-- what became of the pieces, where no call failed
+abbrev pub OpensOn : {R : Type 0} → (R → List ℕ) → (List NamedBytes → Type 0) → Option (OpenPiece R) → Option (OpenPiece R) → List NamedBytes → Merged R → Type 0
+OpensOn {R} bytes left old new pieces (Line t) = Passes bytes left (open_pieces bytes old ++ pieces) new
+OpensOn {R} bytes left old new pieces End = Passes bytes left (open_pieces bytes old ++ pieces) new
+OpensOn {R} bytes left old new pieces _ = Unit {0}
+
+-- FAILURES
+
+-- a read or memory failed, or a bad line was found
+abbrev pub IsFailure : {R : Type 0} → Merged R → Type 0
+IsFailure {R} (ReadFault failed) = Unit {0}
+IsFailure {R} (Damaged name at) = Unit {0}
+IsFailure {R} Memory = Unit {0}
+IsFailure {R} _ = ⊥
+
+-- a line or the end
+abbrev pub IsGiven : {R : Type 0} → Merged R → Type 0
+IsGiven {R} (Line t) = Unit {0}
+IsGiven {R} End = Unit {0}
+IsGiven {R} _ = ⊥
+
+-- a line, the end, or want of memory
+abbrev pub IsOfTail : {R : Type 0} → Merged R → Type 0
+IsOfTail {R} (Line t) = Unit {0}
+IsOfTail {R} End = Unit {0}
+IsOfTail {R} Memory = Unit {0}
+IsOfTail {R} _ = ⊥
+
+-- no line was read
+abbrev pub IsStop : Walked → Type 0
+IsStop walked.Header = ⊥
+IsStop (walked.Sample t) = ⊥
+IsStop _ = Unit {0}
+
+-- what a piece's end or failure is told as: a fault with its reader, a bad line with its name
+abbrev pub ClosesAs : {R : Type 0} → OpenPiece R → Walked → Merged R → Type 0
+ClosesAs {R} p walked.End r = r ≡ End
+ClosesAs {R} p walked.ReadFault r = r ≡ ReadFault (Some p.reader)
+ClosesAs {R} p (walked.Damaged at) r = r ≡ Damaged p.name at
+ClosesAs {R} p walked.Memory r = r ≡ Memory
+ClosesAs {R} p _ r = ⊥
+
+-- a reader that was opened in this call has failed in it
+abbrev pub HasFailedNow : {R : Type 0} → (R → ℕ) → Option R → Type 0
+HasFailedNow {R} faults None = ⊥
+HasFailedNow {R} faults (Some r) = Rose 0 (faults r)
+
+-- the reader is that of the piece that was open, and has failed since
+abbrev pub HasRisen : {R : Type 0} → (R → ℕ) → Option (OpenPiece R) → Option R → Type 0
+HasRisen {R} faults (Some p) (Some r) = Rose (faults p.reader) (faults r)
+HasRisen {R} faults _ _ = ⊥
+
+-- What failed has failed in this call: a reader whose count rose, from 0 where a piece was opened; or none, where the count of the
+-- pieces rose.
+abbrev pub HasFailed : {R : Type 0} → (R → ℕ) → Option (OpenPiece R) → Type 0 → Type 0 → Option R → Type 0
+HasFailed {R} faults piece opened risen None = risen
+HasFailed {R} faults piece opened risen (Some r) = (opened × HasFailedNow faults (Some r)) ⊎ HasRisen faults piece (Some r)
+
+-- the piece that is open was open before, and its reader's count is no less
+abbrev pub Grew : {R : Type 0} → (R → ℕ) → Option (OpenPiece R) → Option (OpenPiece R) → Type 0
+Grew {R} faults (Some p) (Some q) = faults p.reader ≤ faults q.reader
+Grew {R} faults None (Some q) = ⊥
+Grew {R} faults _ None = Unit {0}
+
+-- HOW MUCH IS LEFT
+
+-- how many bytes of the open piece aren't read
+abbrev pub unread_in : {R : Type 0} → Option (OpenPiece R) → ℕ
+unread_in {R} None = 0
+unread_in {R} (Some p) = p.walk.len - p.walk.place
+
+-- so many pieces are left: a piece counts more than its bytes
+abbrev pub unread : {R : Type 0} → ℕ → Source R → ℕ
+unread {R} count s = count * 2 ^ 64 + unread_in s.piece + length (drop s.at s.tail.items)

@@ -1,0 +1,177 @@
+//! The merge of pieces and a tail.
+ghost use Rattle.std.specs.Prelude.{◌≡◌, ◌≤◌, ◌<◌, ◌↔◌, ◌∷◌, ◌++◌, [], ℕ, List, Option, Some, None, IsSome, IsTrue};
+ghost use Rattle.disk_model.specs.Files.{Name, Rose};
+ghost use Rattle.series_model.specs.declared.sample.Sample.{Sample as SampleValue};
+ghost use Rattle.series_model.specs.Series.{IsRising};
+ghost use Rattle.series_model.specs.Retrieval.{answer};
+ghost use Rattle.stream_merge.specs.Pieces.{NamedBytes};
+ghost use Rattle.stream_merge.specs.Reading.{IsSampleOf, AreSamplesOf, AreReadAs, IsDamaged};
+ghost use Rattle.pb_file.specs.Walk.{behind};
+ghost use Rattle.stream_merge.specs.Over.{over_all};
+ghost use Rattle.stream_merge.specs.Source.{open_pieces, HasFailed, OpensOn, IsGiven};
+ghost use Rattle.stream_merge.specs.Merging.{IsGoing, IsDue, IsEarly, Rest, Answers, Gives, kept_of, remaining};
+
+use crate::pieces::{Merged, Pieces};
+use crate::source::Source;
+use disk_model::ReadAt;
+use pb_wire::PayloadType;
+use series_model::{Query, Samples};
+use std::alloc::Global;
+use std::mem;
+
+/// The answer over pieces and a tail, line by line: `new`, then `next` up to any answer but `Line`.
+#[derive(Drop)]
+pub struct Merge<R: ReadAt> {
+    query: Query,
+    source: Source<R>,
+    // The moment of the last sample that was taken: of the others those count that are later.
+    last: Option<u64>,
+    // A sample that was taken and not given yet: the last one earlier than the interval, until one that isn't comes; then that one.
+    kept: Option<u64>,
+    kept_line: Vec<u8>,
+}
+
+impl<R: ReadAt> Merge<R> {
+    /// A merge that has read nothing, over pieces of the type `ty` and a tail whose lines are events of it.
+    pub fn new(alloc: Global, query: Query, ty: PayloadType, tail: Samples) -> Merge<R>
+        requires events { AreSamplesOf ty tail }
+        ensures going { IsGoing R.tells R.bytes result }
+        ensures ty { result.source.ty ≡ ty }
+        ensures whole { (ps : List NamedBytes) (lists : List (List SampleValue)) → AreReadAs ty ps lists → IsRising tail → Rest R.bytes result ps (answer (over_all lists tail) query) }
+        ensures none_open { open_pieces R.bytes result.source.piece ≡ [] }
+    {
+        Merge {
+            query,
+            source: Source::new(alloc, ty, tail.into_vec()),
+            last: None,
+            kept: None,
+            kept_line: Vec::new(alloc),
+        }
+    }
+
+    /// Gives the next line of the answer, in place of what `line` had, or tells that there is none. After any answer but `Line` it isn't
+    /// called again.
+    ///
+    /// Each call is given the pieces that are left of the same ones.
+    pub fn next<P: Pieces<Reader = R>>(&mut self, pieces: &mut P, line: &mut Vec<u8>) -> Merged<R>
+        requires going { IsGoing R.tells R.bytes self.old }
+        ensures going { (t : ℕ) → result ≡ Merged.Line t → IsGoing R.tells R.bytes self.new }
+        ensures ty { self.new.source.ty ≡ self.old.source.ty }
+        ensures lines { IsTrue R.tells → (ps : List NamedBytes) (xs : List SampleValue) → P.left pieces.old ps → Rest R.bytes self.old ps xs → Answers R.bytes (P.left pieces.new) self.new xs line.new.items result }
+        ensures event { (t : ℕ) → result ≡ Merged.Line t → IsSampleOf self.old.source.ty (record { t = t; line = line.new.items }) }
+        ensures opens { IsTrue R.tells → (ps : List NamedBytes) → P.left pieces.old ps → OpensOn R.bytes (P.left pieces.new) self.old.source.piece self.new.source.piece ps result }
+        ensures damaged { IsTrue R.tells → (ps : List NamedBytes) → P.left pieces.old ps → (name : Name) (at : ℕ) → result ≡ Merged.Damaged name at → IsDamaged self.old.source.ty (open_pieces R.bytes self.old.source.piece ++ ps) name at }
+        ensures failed { (failed : Option R) → result ≡ Merged.ReadFault failed → HasFailed R.faults self.old.source.piece (P.count pieces.new < P.count pieces.old) (Rose (P.faults pieces.old) (P.faults pieces.new)) failed }
+        ensures spent { result ≡ Merged.Spent → P.is_spent pieces.new }
+        ensures faults { P.faults pieces.old ≤ P.faults pieces.new }
+        ensures count { P.count pieces.new ≤ P.count pieces.old }
+        ensures smaller { (t : ℕ) → result ≡ Merged.Line t → remaining (P.count pieces.new) self.new < remaining (P.count pieces.old) self.old }
+    {
+        if self.is_due() {
+            return self.give_due(line);
+        }
+        'samples: loop {
+            let t = match self.source.pull(pieces, line) {
+                Merged::Line { t } => t,
+                Merged::End => return self.give_kept(line),
+                merged => return merged,
+            };
+            if !is_later(self.last, t) {
+                continue;
+            }
+            self.last = Some(t);
+            if t >= self.query.from {
+                return self.give(t, line);
+            }
+            self.keep(t, line);
+        }
+    }
+
+    // Whether something is kept that isn't earlier than the interval.
+    fn is_due(&self) -> bool
+        ensures due { IsTrue result → IsDue self.now.kept self.now.query.from }
+        ensures early { (IsTrue result → ⊥) → IsEarly self.now.kept self.now.query.from }
+    {
+        match self.kept {
+            Some(t) => t >= self.query.from,
+            None => false,
+        }
+    }
+
+    // Gives what is kept, unless it is later than the interval.
+    fn give_due(&mut self, line: &mut Vec<u8>) -> Merged<R>
+        ensures line { (t : ℕ) → result ≡ Merged.Line t → (kept_of self.old.kept self.old.kept_line.items ≡ record { t = t; line = line.new.items } ∷ []) × (t ≤ self.old.query.to) }
+        ensures end { (t : ℕ) → result ≡ Merged.End → self.old.kept ≡ Some t → self.old.query.to < t }
+        ensures whole { IsGiven result }
+        ensures none { self.new.kept ≡ None }
+        ensures rest { (self.new.query ≡ self.old.query) × (self.new.source ≡ self.old.source) × (self.new.last ≡ self.old.last) }
+    {
+        match self.give_kept(line) {
+            Merged::Line { t } => self.within(t),
+            merged => merged,
+        }
+    }
+
+    // Gives what is kept at the end, if anything is.
+    fn give_kept(&mut self, line: &mut Vec<u8>) -> Merged<R>
+        ensures line { (t : ℕ) → result ≡ Merged.Line t → kept_of self.old.kept self.old.kept_line.items ≡ record { t = t; line = line.new.items } ∷ [] }
+        ensures end { result ≡ Merged.End → kept_of self.old.kept self.old.kept_line.items ≡ [] }
+        ensures whole { IsGiven result }
+        ensures none { self.new.kept ≡ None }
+        ensures rest { (self.new.query ≡ self.old.query) × (self.new.source ≡ self.old.source) × (self.new.last ≡ self.old.last) }
+    {
+        let Some(t) = self.kept else {
+            return Merged::End;
+        };
+        self.kept = None;
+        mem::swap(line, &mut self.kept_line);
+        Merged::Line { t }
+    }
+
+    // Gives the sample that is kept, in whose place this one is then, or this one where none is.
+    fn give(&mut self, t: u64, line: &mut Vec<u8>) -> Merged<R>
+        ensures gives { Gives self.old.query.to self.old.kept t self.new.kept result }
+        ensures swapped { IsSome self.old.kept → (line.new.items ≡ self.old.kept_line.items) × (self.new.kept_line.items ≡ line.old.items) }
+        ensures stays { self.old.kept ≡ None → line.new.items ≡ line.old.items }
+        ensures rest { (self.new.query ≡ self.old.query) × (self.new.source ≡ self.old.source) × (self.new.last ≡ self.old.last) }
+    {
+        match self.kept {
+            Some(before) => {
+                self.keep(t, line);
+                Merged::Line { t: before }
+            }
+            None => self.within(t),
+        }
+    }
+
+    // Keeps a sample; the buffers of the two lines change places.
+    fn keep(&mut self, t: u64, line: &mut Vec<u8>)
+        ensures kept { kept_of self.new.kept self.new.kept_line.items ≡ record { t = t; line = line.old.items } ∷ [] }
+        ensures some { self.new.kept ≡ Some t }
+        ensures swapped { (line.new ≡ self.old.kept_line) × (self.new.kept_line ≡ line.old) }
+        ensures rest { (self.new.query ≡ self.old.query) × (self.new.source ≡ self.old.source) × (self.new.last ≡ self.old.last) }
+    {
+        self.kept = Some(t);
+        mem::swap(line, &mut self.kept_line);
+    }
+
+    // A sample that isn't earlier than the interval ends the answer where it is later.
+    fn within(&self, t: u64) -> Merged<R>
+        ensures line { t ≤ self.now.query.to → result ≡ Merged.Line t }
+        ensures end { self.now.query.to < t → result ≡ Merged.End }
+    {
+        if t > self.query.to {
+            return Merged::End;
+        }
+        Merged::Line { t }
+    }
+}
+
+fn is_later(last: Option<u64>, t: u64) -> bool
+    ensures { IsTrue result ↔ (behind last ≤ t) }
+{
+    match last {
+        Some(last) => last < t,
+        None => true,
+    }
+}

@@ -1,0 +1,72 @@
+//! Where the samples of a merge come from, and what its calls come to.
+ghost use Rattle.std.specs.Prelude.{◌≡◌, ◌≤◌, ◌↔◌, ℕ, List, IsTrue};
+ghost use Rattle.disk_model.specs.Files.{Rose};
+ghost use Rattle.stream_merge.specs.Pieces.{NamedBytes, Opens, HasBytes, HasNoFault, Counts};
+
+use disk_model::{FileName, ReadAt};
+
+/// What the opening of the next piece came to.
+#[derive(Drop)]
+pub enum Opened<R: ReadAt> {
+    /// The piece is the first `len` bytes of the file of this name. The first `head_len` of them are its header's line and newline.
+    Piece {
+        reader: R,
+        name: FileName,
+        head_len: u64,
+        len: u64,
+    },
+    /// No piece is left.
+    NoMore,
+    /// The opening failed, which the pieces have counted.
+    ReadFault,
+    /// The acts by which pieces are opened are spent.
+    Spent,
+    /// Memory ran out.
+    Memory,
+}
+
+/// What a call of `Merge::next` came to.
+#[derive(Drop)]
+pub enum Merged<R: ReadAt> {
+    /// The next line of the answer, an event at this moment, in nanoseconds since 1970.
+    Line { t: u64 },
+    /// The answer is whole.
+    End,
+    /// A read of this file failed, which it has counted. Where there is none, the opening of a piece failed, which the pieces have
+    /// counted.
+    ReadFault { failed: Option<R> },
+    /// The bytes of this piece are no file of the type; the first bad line begins at this place. A header of another type is bad at 0.
+    Damaged { name: FileName, at: u64 },
+    /// The acts by which pieces are opened are spent.
+    Spent,
+    /// Memory ran out.
+    Memory,
+}
+
+/// The pieces of a series, opened one by one in their order.
+pub trait Pieces {
+    type Reader: ReadAt;
+
+    /// How many pieces are left.
+    ghost count: { Self → ℕ };
+
+    /// These are the pieces left.
+    ghost left: { Self → List NamedBytes → Type 0 };
+
+    /// How often an opening failed. The count stays at the last number of a `u64`.
+    ghost faults: { Self → ℕ };
+
+    /// The acts by which pieces are opened are spent.
+    ghost is_spent: { Self → Type 0 };
+
+    /// Opens the next piece. Its reader has no fault yet.
+    fn open_next(&mut self) -> Opened<Self::Reader>
+        ensures opens { IsTrue Self.Reader.tells → (ps : List NamedBytes) → left self.old ps → Opens Self.Reader.bytes (left self.new) ps result }
+        ensures bytes { IsTrue Self.Reader.tells → HasBytes Self.Reader.bytes result }
+        ensures fresh { HasNoFault Self.Reader.faults result }
+        ensures count { Counts (count self.old) (count self.new) result }
+        ensures none { (result ≡ Opened.NoMore) ↔ (count self.old ≡ 0) }
+        ensures faults { faults self.old ≤ faults self.new }
+        ensures cause { result ≡ Opened.ReadFault → Rose (faults self.old) (faults self.new) }
+        ensures spent { result ≡ Opened.Spent → is_spent self.new };
+}

@@ -1,0 +1,213 @@
+//! The samples of pieces and of a tail, one after another.
+ghost use Rattle.std.specs.Prelude.{◌≡◌, ◌≢◌, ◌≤◌, ◌<◌, ◌^◌, ◌↔◌, ◌⊎◌, ◌∷◌, ◌++◌, [], ℕ, List, Option, Some, None, IsSome, IsTrue, IfOk, IfErr, Err, length, take, drop};
+ghost use Rattle.disk_model.specs.Files.{Name, Rose};
+ghost use Rattle.series_model.specs.declared.sample.Sample.{Sample as SampleValue};
+ghost use Rattle.payload_info.specs.declared.info.PayloadInfo.{PayloadInfo as Info};
+ghost use Rattle.stream_merge.specs.declared.pieces.Merged.TheVariants as merged;
+ghost use Rattle.stream_merge.specs.Pieces.{NamedBytes};
+ghost use Rattle.stream_merge.specs.Reading.{IsSampleOf, AreSamplesOf, IsBadFor, IsReadAs, IsDamaged};
+ghost use Rattle.stream_merge.specs.Source.{IsReady, IsOpenAs, open_pieces, HasFailed, HasFailedNow, HasRisen, Grew, Coming, ReadsOpen, Pulls, OpensOn, unread, unread_in, IsStop, ClosesAs, IsFailure, IsGiven, IsOfTail};
+
+use crate::pieces::{Merged, Opened, Pieces};
+use disk_model::{FileName, ReadAt};
+use pb_file::{FileWalk, Walked};
+use pb_wire::PayloadType;
+use series_model::Sample;
+use std::alloc::Global;
+
+// A piece that is open, and whose header was read.
+#[derive(Drop)]
+pub(crate) struct OpenPiece<R: ReadAt> {
+    reader: R,
+    name: FileName,
+    walk: FileWalk,
+}
+
+// The samples that are yet to be read: of the open piece, of the pieces behind it, and of the tail.
+#[derive(Drop)]
+pub(crate) struct Source<R: ReadAt> {
+    alloc: Global,
+    ty: PayloadType,
+    piece: Option<OpenPiece<R>>,
+    tail: Vec<Sample>,
+    at: usize,
+}
+
+impl<R: ReadAt> Source<R> {
+    // Nothing is read yet.
+    pub(crate) fn new(alloc: Global, ty: PayloadType, tail: Vec<Sample>) -> Source<R>
+        ensures { result ≡ record { alloc = alloc; ty = ty; piece = None; tail = tail; at = 0 } }
+    {
+        Source {
+            alloc,
+            ty,
+            piece: None,
+            tail,
+            at: 0,
+        }
+    }
+
+    // Reads the next sample's line. `End` says that there is none.
+    pub(crate) fn pull<P: Pieces<Reader = R>>(
+        &mut self,
+        pieces: &mut P,
+        line: &mut Vec<u8>,
+    ) -> Merged<R>
+        requires ready { IsReady R.tells R.bytes self.old.ty self.old.piece }
+        requires tail { AreSamplesOf self.old.ty self.old.tail.items }
+        ensures ready { IsGiven result → IsReady R.tells R.bytes self.new.ty self.new.piece }
+        ensures same { (self.new.ty ≡ self.old.ty) × (self.new.tail ≡ self.old.tail) }
+        ensures lines { IsTrue R.tells → (ps : List NamedBytes) (xs : List SampleValue) → P.left pieces.old ps → Coming R.bytes self.old ps xs → Pulls R.bytes (P.left pieces.new) self.new xs line.new.items result }
+        ensures event { (t : ℕ) → result ≡ Merged.Line t → IsSampleOf self.old.ty (record { t = t; line = line.new.items }) }
+        ensures opens { IsTrue R.tells → (ps : List NamedBytes) → P.left pieces.old ps → OpensOn R.bytes (P.left pieces.new) self.old.piece self.new.piece ps result }
+        ensures damaged { IsTrue R.tells → (ps : List NamedBytes) → P.left pieces.old ps → (name : Name) (at : ℕ) → result ≡ Merged.Damaged name at → IsDamaged self.old.ty (open_pieces R.bytes self.old.piece ++ ps) name at }
+        ensures failed { (failed : Option R) → result ≡ Merged.ReadFault failed → HasFailed R.faults self.old.piece (P.count pieces.new < P.count pieces.old) (Rose (P.faults pieces.old) (P.faults pieces.new)) failed }
+        ensures spent { result ≡ Merged.Spent → P.is_spent pieces.new }
+        ensures faults { P.faults pieces.old ≤ P.faults pieces.new }
+        ensures count { P.count pieces.new ≤ P.count pieces.old }
+        ensures grew { (t : ℕ) → result ≡ Merged.Line t → (P.count pieces.new < P.count pieces.old) ⊎ Grew R.faults self.old.piece self.new.piece }
+        ensures smaller { (t : ℕ) → result ≡ Merged.Line t → unread (P.count pieces.new) self.new < unread (P.count pieces.old) self.old }
+        ensures no_more { result ≡ Merged.End → unread (P.count pieces.new) self.new ≤ unread (P.count pieces.old) self.old }
+    {
+        'pieces: loop {
+            match self.read_open(line) {
+                Merged::End => {}
+                merged => return merged,
+            }
+            match pieces.open_next() {
+                Opened::Piece {
+                    reader,
+                    name,
+                    len,
+                    ..
+                } => match begin(self.alloc, self.ty, reader, name, len, line) {
+                    Ok(piece) => self.piece = Some(piece),
+                    Err(merged) => return merged,
+                },
+                Opened::NoMore => return self.read_tail(line),
+                Opened::ReadFault => return Merged::ReadFault { failed: None },
+                Opened::Spent => return Merged::Spent,
+                Opened::Memory => return Merged::Memory,
+            }
+        }
+    }
+
+    // Reads the next line of the open piece. At its end none is open.
+    fn read_open(&mut self, line: &mut Vec<u8>) -> Merged<R>
+        requires ready { IsReady R.tells R.bytes self.old.ty self.old.piece }
+        ensures ready { (t : ℕ) → result ≡ Merged.Line t → IsReady R.tells R.bytes self.new.ty self.new.piece }
+        ensures closed { result ≡ Merged.End → self.new.piece ≡ None }
+        ensures same { self.new ≡ record self.old { piece = self.new.piece } }
+        ensures lines { IsTrue R.tells → (xs : List SampleValue) → IsOpenAs R.bytes self.old.ty self.old.piece xs → ReadsOpen R.bytes self.old.ty self.new.piece xs line.new.items result }
+        ensures event { (t : ℕ) → result ≡ Merged.Line t → IsSampleOf self.old.ty (record { t = t; line = line.new.items }) }
+        ensures stays { IsTrue R.tells → (t : ℕ) → result ≡ Merged.Line t → open_pieces R.bytes self.new.piece ≡ open_pieces R.bytes self.old.piece }
+        ensures damaged { IsTrue R.tells → (name : Name) (at : ℕ) → result ≡ Merged.Damaged name at → IsDamaged self.old.ty (open_pieces R.bytes self.old.piece) name at }
+        ensures failed { (failed : Option R) → result ≡ Merged.ReadFault failed → HasRisen R.faults self.old.piece failed }
+        ensures never { result ≢ Merged.Spent }
+        ensures grew { (t : ℕ) → result ≡ Merged.Line t → Grew R.faults self.old.piece self.new.piece }
+        ensures smaller { (t : ℕ) → result ≡ Merged.Line t → unread_in self.new.piece < unread_in self.old.piece }
+    {
+        let Some(piece) = &mut self.piece else {
+            return Merged::End;
+        };
+        let walked = piece.walk.next(&mut piece.reader, line);
+        if let Walked::Sample { t } = walked {
+            return Merged::Line { t };
+        }
+        let Some(piece) = self.piece.take() else {
+            unreachable!();
+        };
+        close(piece, walked)
+    }
+
+    // Reads the next line of the tail.
+    fn read_tail(&mut self, line: &mut Vec<u8>) -> Merged<R>
+        ensures line { (t : ℕ) → result ≡ Merged.Line t → drop self.old.at self.old.tail.items ≡ record { t = t; line = line.new.items } ∷ drop self.new.at self.new.tail.items }
+        ensures end { result ≡ Merged.End → (drop self.old.at self.old.tail.items ≡ []) × (self.new ≡ self.old) }
+        ensures same { self.new ≡ record self.old { at = self.new.at } }
+        ensures whole { IsOfTail result }
+        ensures smaller { (t : ℕ) → result ≡ Merged.Line t → length (drop self.new.at self.new.tail.items) < length (drop self.old.at self.old.tail.items) }
+    {
+        let Some(sample) = self.tail.get(self.at) else {
+            return Merged::End;
+        };
+        line.clear();
+        if line.extend_from_slice(sample.line.bytes()).is_err() {
+            return Merged::Memory;
+        }
+        let t = sample.t;
+        self.at += 1;
+        Merged::Line { t }
+    }
+}
+
+// Opens a piece: its first line is to be a header of the type.
+fn begin<R: ReadAt>(
+    alloc: Global,
+    ty: PayloadType,
+    reader: R,
+    name: FileName,
+    len: u64,
+    line: &mut Vec<u8>,
+) -> Result<OpenPiece<R>, Merged<R>>
+    requires bytes { IsTrue R.tells → len ≤ length (R.bytes reader) }
+    ensures ready { IfOk result (λ p. IsReady R.tells R.bytes ty (Some p)) }
+    ensures pieces { IsTrue R.tells → IfOk result (λ p. open_pieces R.bytes (Some p) ≡ record { name = name; bytes = take len (R.bytes reader) } ∷ []) }
+    ensures lines { IsTrue R.tells → (xs : List SampleValue) → IsReadAs ty (take len (R.bytes reader)) xs → IfOk result (λ p. IsOpenAs R.bytes ty (Some p) xs) }
+    ensures small { IfOk result (λ p. unread_in (Some p) < 2 ^ 64) }
+    ensures damaged { IsTrue R.tells → (found : Name) (at : ℕ) → result ≡ Err (merged.Damaged found at) → (found ≡ name) × IsBadFor ty (take len (R.bytes reader)) at }
+    ensures failed { (failed : Option R) → result ≡ Err (merged.ReadFault failed) → HasFailedNow R.faults failed }
+    ensures failure { IfErr result IsFailure }
+{
+    let mut piece = OpenPiece {
+        reader,
+        name,
+        walk: FileWalk::new(alloc, len),
+    };
+    match piece.walk.next(&mut piece.reader, line) {
+        Walked::Header => {
+            if is_of_type(&piece.walk, ty) {
+                Ok(piece)
+            } else {
+                Err(Merged::Damaged {
+                    name: piece.name,
+                    at: 0,
+                })
+            }
+        }
+        Walked::Sample { .. } => unreachable!(),
+        Walked::End => unreachable!(),
+        walked => Err(close(piece, walked)),
+    }
+}
+
+// Whether the header that was read is of the type.
+fn is_of_type(walk: &FileWalk, ty: PayloadType) -> bool
+    requires { IsSome walk.now.info }
+    ensures { (info : Info) → walk.now.info ≡ Some info → (IsTrue result ↔ (info.ty ≡ ty)) }
+{
+    let Some(info) = walk.info() else {
+        unreachable!();
+    };
+    info.ty == ty
+}
+
+// What a walk's end, or its failure, is told as.
+fn close<R: ReadAt>(piece: OpenPiece<R>, walked: Walked) -> Merged<R>
+    requires { IsStop walked }
+    ensures { ClosesAs piece walked result }
+{
+    match walked {
+        Walked::End => Merged::End,
+        Walked::ReadFault => Merged::ReadFault {
+            failed: Some(piece.reader),
+        },
+        Walked::Damaged { at } => Merged::Damaged {
+            name: piece.name,
+            at,
+        },
+        Walked::Memory => Merged::Memory,
+        Walked::Header => unreachable!(),
+        Walked::Sample { .. } => unreachable!(),
+    }
+}
