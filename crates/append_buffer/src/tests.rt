@@ -1,3 +1,4 @@
+// Tests of the tails of rows: what is held, given up and taken out.
 use crate::{Intake, OfferErr, ROOM};
 use series_model::{Blob, Sample};
 use std::alloc::{AllocError, Global};
