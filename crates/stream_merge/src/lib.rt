@@ -22,3 +22,6 @@ mod source;
 
 pub use merge::Merge;
 pub use pieces::{Merged, Opened, Pieces};
+
+#[cfg(test)]
+mod tests;

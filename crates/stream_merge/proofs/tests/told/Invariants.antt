@@ -1,0 +1,6 @@
+use Rattle.stream_merge.specs.Merging.{IsGoing}
+use Rattle.stream_merge.proofs.tests.told.Given as goal
+
+-- it answered with lines so far
+abbrev pub invariant-lines : goal.invariant-lines
+invariant-lines g l = IsGoing g.R.ReadAt.tells g.R.ReadAt.bytes l.merge
