@@ -1,0 +1,42 @@
+-- The first pair of a name.
+use Rattle.std.proofs.Common.{◌≡◌, ℕ, ◌⊎◌, true, false, List, [], ◌∷◌, Option, Some, None, Ok, Err, refl, sym, ap, ◌∙◌, subst, inl, inr}
+use Rattle.std.specs.Prelude.{bytes_eq, option_map}
+use Rattle.std.proofs.lemmas.Bool.{cond-true, cond-false}
+use Rattle.arch_time.specs.Iso.{IsIso}
+use Rattle.http_front.specs.declared.request.Param.{Param}
+use Rattle.http_front.specs.declared.request.Param.TheVariants.{From, To}
+use Rattle.http_front.specs.Param.{name_of}
+use Rattle.http_front.specs.Query.{text_of, first_of, value_of, IsMoment, IsGood}
+
+abbrev Pair : Type 0
+Pair = List ℕ × List ℕ
+
+pub first_none : (name : List ℕ) → first_of name [] ≡ None
+unfolding first_of
+first_none name = refl
+
+pub first_here : (name key value : List ℕ) (rest : List Pair) → bytes_eq (text_of key) name ≡ true → first_of name ((key, value) ∷ rest) ≡ Some (text_of value)
+unfolding first_of
+first_here name key value rest e = ap (λ (found : Option Pair). option_map (λ (pair : Pair). text_of pair.1) found) (cond-true _ _ _ e)
+
+pub first_later : (name key value : List ℕ) (rest : List Pair) → bytes_eq (text_of key) name ≡ false → first_of name ((key, value) ∷ rest) ≡ first_of name rest
+unfolding first_of
+first_later name key value rest e = ap (λ (found : Option Pair). option_map (λ (pair : Pair). text_of pair.1) found) (cond-false _ _ _ e)
+
+pub no_ok : {A E : Type 0} (a : A) (e : E) → Ok a ≡ Err e → ⊥
+no_ok a e p = cc
+
+one_some : (a b : List ℕ) → Some a ≡ Some b → a ≡ b
+one_some a b e = cc
+
+-- a text that tells no moment
+not_a_moment : (query : List ℕ) (which : Param) (text : List ℕ) → value_of (name_of which) query ≡ Some text → ((t : ℕ) → IsIso text t → ⊥) → (t : ℕ) → IsMoment which query t → ⊥
+not_a_moment query which text found none t m = none t (subst (λ (v : List ℕ). IsIso v t) (one_some m.0 text (sym m.1 ∙ found)) m.2)
+
+pub no_moment : (query : List ℕ) (which : Param) (text : List ℕ) → (which ≡ From) ⊎ (which ≡ To) → value_of (name_of which) query ≡ Some text → ((t : ℕ) → IsIso text t → ⊥) → IsGood query which → ⊥
+no_moment query which text (inl from) found none good =
+    let m = subst (λ (w : Param). IsGood query w) from good in
+    not_a_moment query From text (subst (λ (w : Param). value_of (name_of w) query ≡ Some text) from found) none m.0 m.1
+no_moment query which text (inr to) found none good =
+    let m = subst (λ (w : Param). IsGood query w) to good in
+    not_a_moment query To text (subst (λ (w : Param). value_of (name_of w) query ≡ Some text) to found) none m.0 m.1

@@ -1,0 +1,9 @@
+pub mod Param
+pub mod Paths
+pub mod Period
+pub mod Query
+pub mod Calls
+pub mod Heads
+pub mod Reading
+pub mod Reply
+pub mod Laws

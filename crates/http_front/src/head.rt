@@ -1,0 +1,38 @@
+//! The head of a request among bytes.
+ghost use Rattle.std.specs.Prelude.{◌≤◌, length};
+ghost use Rattle.http_front.specs.Heads.{Looked};
+
+use httparse::Status;
+use httparse::spans::{HeaderSpan, Span, parse_request};
+
+/// What bytes come to.
+#[derive(Clone, Copy, Drop)]
+pub enum Seen {
+    /// They begin with a head of this method, target and minor version.
+    Head {
+        method: Span,
+        target: Span,
+        minor: u8,
+    },
+    /// They begin with no head, and bytes may follow that make one.
+    More,
+    /// No bytes can follow that make a head.
+    Bad,
+}
+
+/// Looks for a head in front of the bytes. A head of 16,384 bytes has fewer than 8,192 fields.
+pub fn look(bytes: &[u8], fields: &mut [HeaderSpan]) -> Seen
+    requires room { 8192 ≤ length fields.old }
+    requires short { length bytes.now ≤ 16384 }
+    ensures looked { Looked bytes.now result }
+{
+    match parse_request(bytes, fields) {
+        Ok(Status::Complete(head)) => Seen::Head {
+            method: head.method,
+            target: head.path,
+            minor: head.version,
+        },
+        Ok(Status::Partial) => Seen::More,
+        Err(_) => Seen::Bad,
+    }
+}

@@ -1,0 +1,143 @@
+//! Reading a request from a source.
+ghost use Rattle.std.specs.Prelude.{◌≡◌, ◌≢◌, ℕ, ◌+◌, ◌<◌, ◌≤◌, ◌++◌, List, length, take, IfOk, IfSome, IfNone, OnErr, IsErrOf};
+ghost use Rattle.std.specs.Io.KnownBytes.{Consumes, Keeps, IsAtEnd};
+ghost use Rattle.edge_io.specs.Stream.{Rose};
+ghost use Rattle.http_front.specs.Reading.{Judges, HasRead, ReadsBehind, GoesOn, NoHeadYet};
+ghost use Rattle.http_front.specs.declared.reading.Due.TheVariants.{End, Limit};
+
+use crate::call::answer_of;
+use crate::head::{Seen, look};
+use crate::request::{HttpErr, Request};
+use edge_io::{Failed, Source};
+use httparse::spans::{EMPTY_HEADER_SPAN, HeaderSpan};
+use std::alloc::Global;
+
+/// The most bytes that are taken of a source.
+pub const MOST_BYTES: usize = 16_384;
+
+// The most header fields that a head of so many bytes has, and more.
+const MOST_FIELDS: usize = 8_192;
+
+// What makes a parse due, if anything does.
+#[derive(Clone, Copy)]
+enum Due {
+    Nothing,
+    Newline,
+    End,
+    Limit,
+}
+
+/// Reads one request, and takes at most 16,384 bytes.
+///
+/// The bytes are parsed where a read brought a newline, where the source ended and where no more
+/// are taken. `SourceFault` comes only where the source's count of failed reads rose.
+pub fn read_request<S: Source>(alloc: Global, source: &mut S) -> Result<Request, HttpErr>
+    ensures read { HasRead (S.left source.old) (S.left source.new) result }
+    ensures faults { S.read_faults source.old ≤ S.read_faults source.new }
+    ensures failed { IsErrOf result HttpErr.SourceFault → Rose (S.read_faults source.old) (S.read_faults source.new) }
+{
+    let Ok(mut fields) = vec![in alloc; EMPTY_HEADER_SPAN; MOST_FIELDS] else {
+        return Err(HttpErr::Memory);
+    };
+    let Ok(mut bytes) = vec![in alloc; 0; MOST_BYTES] else {
+        return Err(HttpErr::Memory);
+    };
+    read_into(alloc, source, bytes.as_mut_slice(), fields.as_mut_slice())
+}
+
+// Reads one request by way of these bytes and places for fields.
+fn read_into<S: Source>(
+    alloc: Global,
+    source: &mut S,
+    bytes: &mut [u8],
+    fields: &mut [HeaderSpan],
+) -> Result<Request, HttpErr>
+    requires bytes { length bytes.old ≡ 16384 }
+    requires room { 8192 ≤ length fields.old }
+    ensures read { HasRead (S.left source.old) (S.left source.new) result }
+    ensures faults { S.read_faults source.old ≤ S.read_faults source.new }
+    ensures failed { IsErrOf result HttpErr.SourceFault → Rose (S.read_faults source.old) (S.read_faults source.new) }
+{
+    let mut len = 0;
+    'reads: loop {
+        let Ok(more) = read_behind(bytes, len, source) else {
+            return Err(HttpErr::SourceFault);
+        };
+        let is_line = bytes[len..len + more].contains(&b'\n');
+        len += more;
+        let due = due_after(more, len, is_line);
+        match judge(alloc, &bytes[..len], fields, due) {
+            Some(answer) => return answer,
+            None => {}
+        }
+    }
+}
+
+// What a read makes due that gave so many bytes, of so many in all, with a newline among them or not.
+fn due_after(more: usize, len: usize, is_line: bool) -> Due
+    ensures end { result ≡ End → more ≡ 0 }
+    ensures limit { result ≡ Limit → len ≡ 16384 }
+    ensures goes_on { GoesOn result → (0 < more) × (len ≢ 16384) }
+{
+    if more == 0 {
+        return Due::End;
+    }
+    if len == MOST_BYTES {
+        return Due::Limit;
+    }
+    if is_line {
+        return Due::Newline;
+    }
+    Due::Nothing
+}
+
+// What the bytes that were taken are answered, if it is known.
+fn judge(
+    alloc: Global,
+    taken: &[u8],
+    fields: &mut [HeaderSpan],
+    due: Due,
+) -> Option<Result<Request, HttpErr>>
+    requires room { 8192 ≤ length fields.old }
+    requires short { length taken.now ≤ 16384 }
+    requires limit { due ≡ Limit → length taken.now ≡ 16384 }
+    ensures some { IfSome result (Judges taken.now (due ≡ End)) }
+    ensures unfailed { IfSome result (λ answer. IsErrOf answer HttpErr.SourceFault → ⊥) }
+    ensures none { IfNone result (GoesOn due) }
+{
+    if let Due::Nothing = due {
+        return None;
+    }
+    match look(taken, fields) {
+        Seen::Head {
+            method,
+            target,
+            minor,
+        } => Some(answer_of(alloc, method.of(taken), target.of(taken), minor)),
+        Seen::Bad => Some(Err(HttpErr::BadHead)),
+        Seen::More => more_or_none(due),
+    }
+}
+
+// What bytes without a head are answered, if no more come.
+fn more_or_none(due: Due) -> Option<Result<Request, HttpErr>>
+    ensures some { IfSome result (NoHeadYet due) }
+    ensures none { IfNone result (GoesOn due) }
+{
+    match due {
+        Due::Nothing | Due::Newline => None,
+        Due::End => Some(Err(HttpErr::BadHead)),
+        Due::Limit => Some(Err(HttpErr::HeadTooLong)),
+    }
+}
+
+// Reads behind the first bytes, and answers how many more there are.
+fn read_behind<S: Source>(bytes: &mut [u8], len: usize, source: &mut S) -> Result<usize, Failed>
+    requires { len < length bytes.old }
+    ensures bound { IfOk result (λ more. len + more ≤ length bytes.old) }
+    ensures read { ReadsBehind bytes.old bytes.new len (S.left source.old) (S.left source.new) result }
+    ensures faults { S.read_faults source.old ≤ S.read_faults source.new }
+    ensures failed { OnErr result (Rose (S.read_faults source.old) (S.read_faults source.new)) }
+{
+    source.read(&mut bytes[len..])
+}
