@@ -1,5 +1,6 @@
 -- The text of a reply's head. Each of its lines ends with CR LF, and an empty line follows the last.
-use Rattle.std.specs.Prelude.{◌≡◌, ℕ, ◌≤◌, ◌==◌, Bool, List, [], ◌∷◌, ◌++◌, Contains, Option, Some, None, IsSome, IsTrue, codes, decimal, if◌then◌else◌}
+use Rattle.std.specs.Prelude.{ℕ, ◌==◌, ◌&&◌, ◌||◌, Bool, List, [], ◌∷◌, ◌++◌, Option, Some, None, is_some, is_none, IsTrue, codes, decimal, nat_le, if◌then◌else◌}
+use Rattle.std.specs.List.{list_any}
 use Rattle.http_front.specs.declared.reply.Head.{Head}
 
 -- a status and its phrase
@@ -34,9 +35,12 @@ head_text head =
 abbrev pub statuses : List ℕ
 statuses = 200 ∷ 400 ∷ 404 ∷ 405 ∷ 409 ∷ 431 ∷ 500 ∷ 503 ∷ []
 
--- A head that is written: a body without a length is data, and all others are JSON.
-pub record IsHead (head : Head) : Type 0 where
-  pub status : Contains statuses head.status
-  pub data_found : head.length ≡ None → head.status ≡ 200
-  pub json : IsSome head.length → IsTrue head.json
-  pub version : head.version ≤ 1
+-- A head that is written: its status is one of these, a body without a length is data, and has the status 200, all others are JSON,
+-- and the version is 0 or 1. It is a test, so that it computes.
+abbrev pub is_head : Head → Bool
+is_head head =
+    list_any (λ status. status == head.status) statuses && (is_some head.length || head.status == 200) && (is_none head.length || head.json)
+    && nat_le head.version 1
+
+abbrev pub IsHead : Head → Type 0
+IsHead head = IsTrue (is_head head)
