@@ -1,9 +1,8 @@
-//! Requests of HTTP/1.1 and HTTP/1.0, read from their bytes, and the heads and chunks of replies.
+//! Requests of HTTP/1.1 and HTTP/1.0, read from their bytes, and the heads of replies.
 //!
 //! `read_request` reads one head (RFC 9112, sections 2 to 5) and says which call it asks for: the
 //! paths and parameters are those of the EPICS Archiver Appliance, whose clients send queries as
-//! `application/x-www-form-urlencoded`. `write_head` writes the head of a reply, and `ChunkedSink`
-//! the body of a reply whose length isn't known before (RFC 9112, section 7.1).
+//! `application/x-www-form-urlencoded`. `write_head` writes the head of a reply.
 //!
 //! Model: a request is a function of the bytes that were read, `specs/Reading.antt`; a reply's head
 //! is a text, `specs/Reply.antt`.
