@@ -19,7 +19,7 @@ use Rattle.archiver_appliance.proofs.Judgements.{whole_with, whole_alone}
 use Rattle.archiver_appliance.proofs.Opening.{same_said}
 
 -- no file of a store differs
-abbrev Same : Files → Files → Type 0
+abbrev pub Same : Files → Files → Type 0
 Same a b = (n : Name) → n.0 ≢ 0 → a n ≡ b n
 
 found_in : (rows : List Row) (a b : Files) → Same a b → (i : Inspected) → IsFound true rows a i → IsFound true rows b i

@@ -8,4 +8,5 @@ pub mod Judgements
 pub mod Opening
 pub mod Outcomes
 pub mod Refusals
+pub mod Retrieving
 pub mod Words

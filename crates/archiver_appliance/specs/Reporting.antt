@@ -11,6 +11,7 @@ use Rattle.tier_store.specs.Held.{Held}
 use Rattle.sink_buffer.specs.declared.buffer.PutErr.{PutErr}
 use Rattle.sink_buffer.specs.declared.buffer.PutErr.TheVariants as put
 use Rattle.store_retrieval.specs.Get.{Answers}
+use Rattle.store_retrieval.specs.Read.{WritesRead}
 use Rattle.store_retrieval.specs.declared.retrieval.GetErr.{GetErr}
 use Rattle.store_retrieval.specs.declared.retrieval.GetErr.TheVariants as got
 use Rattle.store_reports.specs.declared.report.Damage.{Damage}
@@ -68,6 +69,12 @@ Gets held name query a b SinkFault = Answers held name query (AppendsFront a b)
 Gets held name query a b DiskFault = (b ≡ a) ⊎ Answers held name query (AppendsFront a b)
 Gets held name query a b OutOfMemory = (b ≡ a) ⊎ Answers held name query (AppendsFront a b)
 Gets held name query a b _ = ⊥
+
+-- Of an image whose journals say these rows and entries, `get` ends with 0 only where each file that it read is one of the row's type,
+-- whole or up to a sample behind which none counts. The text is that of the answer over what was read, where that rises from file to file.
+abbrev pub GetsRead : List Row → List Entry → Files → List ℕ → Query → Option (List ℕ) → Option (List ℕ) → Status → Type 0
+GetsRead rows entries files name query a b Done = WritesRead rows entries files name query a b
+GetsRead rows entries files name query a b _ = Unit {0}
 
 -- `status` wrote the whole text, or a front of it after a fault
 abbrev pub Tells : List ℕ → Option (List ℕ) → Option (List ℕ) → Status → Type 0

@@ -24,7 +24,7 @@ use Rattle.archiver_appliance.specs.Complaint.{Complains, complaint_of}
 use Rattle.archiver_appliance.specs.Ingesting.{IngestsInto}
 use Rattle.archiver_appliance.specs.Judging.{Judges, IsExact}
 use Rattle.archiver_appliance.specs.Outside.{Outside, IsCaused}
-use Rattle.archiver_appliance.specs.Reporting.{Gets, Tells, ChecksAll}
+use Rattle.archiver_appliance.specs.Reporting.{Gets, GetsRead, Tells, ChecksAll}
 use Rattle.archiver_appliance.specs.Status.{number_of}
 use Rattle.archiver_appliance.specs.Text.{Extracts}
 
@@ -92,11 +92,12 @@ pub record MakesOfRead (g : Granularity) (asked : StoreCommand) (one other : Hel
   pub read : Holds g old.files first
   pub makes : Makes g asked one other first old new status
 
--- what a report writes of what the journals of a whole image say
+-- what is written by what the journals of a whole image say, whatever its listed files are
 abbrev pub TellsSaid : StoreCommand → Files → List Row → List Entry → Outside → Outside → Status → Type 0
 TellsSaid command.Status files rows entries old new status = Tells (listed_text rows entries) old.sink new.sink status
 TellsSaid command.Check files rows entries old new status = ChecksAll rows files entries old.sink new.sink status
-TellsSaid _ files rows entries old new status = Unit {0}
+TellsSaid (command.Get name query) files rows entries old new status = GetsRead rows entries files name.now query old.sink new.sink status
+TellsSaid command.Ingest files rows entries old new status = Unit {0}
 
 -- a command that only reads: each but `ingest`, and that too where the image isn't whole
 abbrev pub IsReading : Granularity → StoreCommand → Files → Type 0

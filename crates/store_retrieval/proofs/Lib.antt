@@ -9,3 +9,5 @@ pub mod Series
 pub mod Choosing
 pub mod Listing
 pub mod Leaving
+pub mod Along
+pub mod Whole

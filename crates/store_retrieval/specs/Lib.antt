@@ -5,3 +5,4 @@ pub mod Text
 pub mod Answer
 pub mod File
 pub mod Listed
+pub mod Read

@@ -6,6 +6,7 @@ ghost use Rattle.series_model.specs.declared.sample.Sample.{Sample};
 ghost use Rattle.series_model.specs.Series.{IsRising};
 ghost use Rattle.series_model.specs.Retrieval.{answer};
 ghost use Rattle.pv_catalog.specs.declared.row.Row.{Row as RowValue};
+ghost use Rattle.store_retrieval.specs.declared.answer.Flow.TheVariants.{Enough};
 ghost use Rattle.store_retrieval.specs.Raw.{IsNearestYear};
 ghost use Rattle.store_retrieval.specs.Text.{IsOfYear, IsWritten};
 ghost use Rattle.store_retrieval.specs.Answer.{Covers, Takes, Finishes, IsHeld};
@@ -90,6 +91,7 @@ impl Answer {
         ensures takes { (a : Option (List ℕ)) (xs : List Sample) → Covers row.now a (K.written sink.old) self.old xs
             → IsRising (xs ++ record { t = t; line = line.now } ∷ []) → IsOfYear year (record { t = t; line = line.now })
             → Takes row.now a (K.written sink.new) self.new (xs ++ record { t = t; line = line.now } ∷ []) result }
+        ensures enough { result ≡ Ok Enough → (self.old.query.from ≤ t) × (self.old.query.to < t) }
         ensures asked { (self.new.query ≡ self.old.query) × (self.new.nearest ≡ self.old.nearest) }
         ensures faults { K.write_faults sink.old ≤ K.write_faults sink.new }
         ensures failed { IsErrOf result PutErr.SinkFault → Rose (K.write_faults sink.old) (K.write_faults sink.new) }

@@ -12,6 +12,7 @@ ghost use Rattle.store_retrieval.specs.declared.file.Stop.TheVariants.{Damaged, 
 ghost use Rattle.store_retrieval.specs.Damage.{IsBadFor};
 ghost use Rattle.store_retrieval.specs.Answer.{Covers};
 ghost use Rattle.store_retrieval.specs.File.{HasBegun, StandsIn, Reads, IsYearOf};
+ghost use Rattle.store_retrieval.specs.Read.{ReadsFile};
 
 use crate::answer::{Answer, Flow};
 use disk_model::ReadAt;
@@ -61,6 +62,7 @@ pub(crate) fn read_file<H: ReadAt, K: Sink>(
     ensures reads { IsTrue H.tells → (a : Option (List ℕ)) (head : List ℕ) (info : Info) (earlier samples : List Sample)
         → IsFile (take len (H.bytes file.old)) head info samples → info.ty ≡ row.now.about.ty → IsRising (earlier ++ samples) → Covers row.now a (K.written sink.old) answer.old earlier
         → Reads row.now a (K.written sink.new) answer.new earlier samples result }
+    ensures read { IsTrue H.tells → IfOk result (ReadsFile row.now (H.bytes file.old) len (K.written sink.old) (K.written sink.new) answer.old answer.new) }
     ensures damaged { IsTrue H.tells → (at : ℕ) → result ≡ Err (Damaged at) → IsBadFor row.now (take len (H.bytes file.old)) at }
     ensures asked { (answer.new.query ≡ answer.old.query) × (answer.new.nearest ≡ answer.old.nearest) }
     ensures faults { H.faults file.old ≤ H.faults file.new }
@@ -131,6 +133,7 @@ fn read_samples<H: ReadAt, K: Sink>(
     requires going { (walk.old.stop ≡ None) × IsSome walk.old.info }
     ensures reads { IsTrue H.tells → (a : Option (List ℕ)) (earlier samples : List Sample) → StandsIn row.now year walk.old (H.bytes file.old) a (K.written sink.old) answer.old earlier samples
         → Reads row.now a (K.written sink.new) answer.new earlier samples result }
+    ensures read { IsTrue H.tells → HasBegun row.now year walk.old (H.bytes file.old) → IfOk result (ReadsFile row.now (H.bytes file.old) walk.old.len (K.written sink.old) (K.written sink.new) answer.old answer.new) }
     ensures damaged { IsTrue H.tells → HasBegun row.now year walk.old (H.bytes file.old) → (at : ℕ) → result ≡ Err (Damaged at) → IsBadAt (take walk.old.len (H.bytes file.old)) at }
     ensures asked { (answer.new.query ≡ answer.old.query) × (answer.new.nearest ≡ answer.old.nearest) }
     ensures faults { H.faults file.old ≤ H.faults file.new }

@@ -1,5 +1,5 @@
 // The reading of listed files for an answer.
-ghost use Rattle.std.specs.Prelude.{◌≡◌, ◌≤◌, ◌<◌, ℕ, List, [], Option, Some, IfErr, IsTrue, Result, length, slice_get};
+ghost use Rattle.std.specs.Prelude.{◌≡◌, ◌≤◌, ◌<◌, ℕ, List, [], Option, Some, IfErr, IfOk, IsTrue, Result, length, slice_get};
 ghost use Rattle.pv_catalog.specs.declared.row.Row.{Row as RowValue};
 ghost use Rattle.pv_catalog.specs.Rows.{HasName};
 ghost use Rattle.tier_store.specs.Held.{Held, file_of};
@@ -8,6 +8,7 @@ ghost use Rattle.tier_store.specs.Change.{Has};
 ghost use Rattle.store_retrieval.specs.Damage.{HasCause, Leaves, end_of};
 ghost use Rattle.store_retrieval.specs.Answer.{Covers};
 ghost use Rattle.store_retrieval.specs.Listed.{IsFirstFile, IsToldAs, ReadsAll, ReadsOn, ReadsOne, own_entries, own_files};
+ghost use Rattle.store_retrieval.specs.Read.{ReadsPlace, ReadsTheRow};
 
 use crate::answer::{Answer, Flow};
 use crate::file::{Stop, read_file};
@@ -33,6 +34,8 @@ pub(crate) fn read_files<D: Disk, K: Sink>(
     ensures reads { (held : Held) → Has D.tells (seen D.Disk store.old) held → IsTrue held.stands → IsTrue D.tells
         → (row : RowValue) → slice_get store.old.catalogue.rows id ≡ Some row → (a : Option (List ℕ)) → Covers row a (K.written sink.old) answer.old []
         → ReadsAll row a (K.written sink.new) answer.new (own_files id held.files) result }
+    ensures read { IsTrue D.tells → (row : RowValue) → slice_get store.old.catalogue.rows id ≡ Some row
+        → IfOk result (λ done. ReadsTheRow row store.old.catalogue.rows (D.files store.old.disk) (own_entries id store.old.manifest.entries) (K.written sink.old) (K.written sink.new) answer.old answer.new) }
     ensures cause { (asked : List ℕ) → HasName store.old.catalogue.rows id asked → IfErr result (HasCause D.tells (seen D.Disk store.old) D.Reader.faults (K.write_faults sink.old) (K.write_faults sink.new) asked) }
     ensures leaves { Leaves D.tells (seen D.Disk store.old) (seen D.Disk store.new) (end_of result) }
     ensures asked { (answer.new.query ≡ answer.old.query) × (answer.new.nearest ≡ answer.old.nearest) }
@@ -83,6 +86,8 @@ fn read_one<D: Disk, K: Sink>(
     ensures reads { (held : Held) → Has D.tells (seen D.Disk store.old) held → IsTrue held.stands → IsTrue D.tells
         → (row : RowValue) → slice_get store.old.catalogue.rows id ≡ Some row → (a : Option (List ℕ)) → ReadsOn row a (K.written sink.old) answer.old (own_files id held.files) at
         → ReadsOne row a (K.written sink.new) answer.new (own_files id held.files) at result }
+    ensures read { IsTrue D.tells → (row : RowValue) → slice_get store.old.catalogue.rows id ≡ Some row
+        → IfOk result (ReadsPlace row store.old.catalogue.rows (D.files store.old.disk) (own_entries id store.old.manifest.entries) at (K.written sink.old) (K.written sink.new) answer.old answer.new) }
     ensures cause { (asked : List ℕ) → HasName store.old.catalogue.rows id asked → IfErr result (HasCause D.tells (seen D.Disk store.old) D.Reader.faults (K.write_faults sink.old) (K.write_faults sink.new) asked) }
     ensures leaves { Leaves D.tells (seen D.Disk store.old) (seen D.Disk store.new) (end_of result) }
     ensures asked { (answer.new.query ≡ answer.old.query) × (answer.new.nearest ≡ answer.old.nearest) }

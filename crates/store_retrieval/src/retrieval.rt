@@ -1,5 +1,5 @@
 // The retrieval of one variable's interval.
-ghost use Rattle.std.specs.Prelude.{◌≡◌, ◌⊎◌, ◌≤◌, ◌<◌, ◌↔◌, ℕ, List, [], Option, Some, Err, IfErr, IsSomeAnd, IsTrue, length, slice_get};
+ghost use Rattle.std.specs.Prelude.{◌≡◌, ◌⊎◌, ◌≤◌, ◌<◌, ◌↔◌, ℕ, List, [], Option, Some, Err, IfErr, IfOk, IsSomeAnd, IsTrue, length, slice_get};
 ghost use Rattle.edge_io.specs.Stream.{Rose, AppendsFront};
 ghost use Rattle.series_model.specs.declared.sample.Sample.{Sample};
 ghost use Rattle.series_model.specs.declared.sample.Query.{Query as QueryValue};
@@ -12,8 +12,9 @@ ghost use Rattle.store_retrieval.specs.declared.retrieval.GetErr.TheVariants.{No
 ghost use Rattle.store_retrieval.specs.Raw.{IsNearestYear};
 ghost use Rattle.store_retrieval.specs.Damage.{HasCause, Leaves, end_of};
 ghost use Rattle.store_retrieval.specs.Answer.{Covers, Finishes};
-ghost use Rattle.store_retrieval.specs.Listed.{Comes, IsSentAs, TextBecomes, err_of_disk, err_of_put, text_err};
+ghost use Rattle.store_retrieval.specs.Listed.{Comes, IsSentAs, TextBecomes, err_of_disk, err_of_put, own_entries, text_err};
 ghost use Rattle.store_retrieval.specs.Get.{Writes};
+ghost use Rattle.store_retrieval.specs.Read.{ComesOfRead, WritesRead};
 
 use crate::answer::Answer;
 use crate::listed::read_files;
@@ -66,7 +67,9 @@ impl<R: ReadAt> From<PutErr> for GetErr<R> {
 /// Writes the raw text of the answer over what the store holds of the variable of this name. A front of it went out where it ended
 /// earlier.
 ///
-/// Of a store whose listed files somebody else damaged nothing is said of the text. `Damaged` never comes of a store that stands.
+/// Of a store whose listed files somebody else damaged, `Ok` comes only where each file that was read is one of the row's type, whole
+/// or up to a sample behind which none counts; the text is that of the answer over what was read, where that rises from file to file.
+/// `Damaged` never comes of a store that stands.
 pub fn get<D: Disk, K: Sink>(
     alloc: Global,
     store: &mut TierStore<D>,
@@ -76,6 +79,7 @@ pub fn get<D: Disk, K: Sink>(
 ) -> Result<(), GetErr<D::Reader>>
     requires { (held : Held) × Has D.tells (seen D.Disk store.old) held }
     ensures writes { (held : Held) → Has D.tells (seen D.Disk store.old) held → IsTrue held.stands → IsTrue D.tells → Writes held name.now query (K.written sink.old) (K.written sink.new) result }
+    ensures read { IsTrue D.tells → IfOk result (λ done. WritesRead store.old.catalogue.rows store.old.manifest.entries (D.files store.old.disk) name.now query (K.written sink.old) (K.written sink.new)) }
     ensures none { (result ≡ Err NoSuchVariable) ↔ ((i : ℕ) → HasName store.old.catalogue.rows i name.now → ⊥) }
     ensures nothing { result ≡ Err NoSuchVariable → sink.new ≡ sink.old }
     ensures cause { IfErr result (HasCause D.tells (seen D.Disk store.old) D.Reader.faults (K.write_faults sink.old) (K.write_faults sink.new) name.now) }
@@ -104,6 +108,8 @@ fn retrieve<D: Disk, K: Sink>(
     ensures comes { (held : Held) → Has D.tells (seen D.Disk store.old) held → IsTrue held.stands → IsTrue D.tells
         → (row : RowValue) → slice_get store.old.catalogue.rows id ≡ Some row → (a : Option (List ℕ)) → Covers row a (K.written sink.old) answer.old []
         → Comes row answer.old.query a (K.written sink.new) answer.new.text.gathered (samples_of id held.files) result }
+    ensures read { IsTrue D.tells → (row : RowValue) → slice_get store.old.catalogue.rows id ≡ Some row
+        → IfOk result (λ done. ComesOfRead row store.old.catalogue.rows (D.files store.old.disk) (own_entries id store.old.manifest.entries) (K.written sink.old) (K.written sink.new) answer.old answer.new) }
     ensures cause { (asked : List ℕ) → HasName store.old.catalogue.rows id asked → IfErr result (HasCause D.tells (seen D.Disk store.old) D.Reader.faults (K.write_faults sink.old) (K.write_faults sink.new) asked) }
     ensures leaves { Leaves D.tells (seen D.Disk store.old) (seen D.Disk store.new) (end_of result) }
     ensures sink_faults { K.write_faults sink.old ≤ K.write_faults sink.new }

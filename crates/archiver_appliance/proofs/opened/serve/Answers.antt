@@ -23,6 +23,7 @@ use Rattle.archiver_appliance.proofs.Judgements.{OneVerdict, exactly, get_judges
 use Rattle.archiver_appliance.proofs.Opening.{first_stands, opening_reads, same_said, then_reads}
 use Rattle.archiver_appliance.proofs.Outcomes.{check_ends, check_stands, get_ends, get_refused, gets_of, ingest_ends, report_ends, tells_of}
 use Rattle.archiver_appliance.proofs.Refusals.{refused_does}
+use Rattle.archiver_appliance.proofs.Retrieving.{gets_whole}
 use Rattle.archiver_appliance.proofs.opened.serve.Goals as goal
 
 pub returns-in-Err-clause-does : goal.returns-in-Err-clause-does
@@ -106,7 +107,7 @@ returns-in-Get-clause-does g c =
                 let standing = first_stands short (g.D.Disk.past c.args.disk) one other read.held opens stands read.either in
                 let none = subst (λ (rows : List Row). (came ≡ Err got.NoSuchVariable) → HasNone rows name.now) read.has.known.rows ends.none.0 in
                 record { first = read.held; either = read.either; read = read.read; makes = gets_of read.held name.now query a b came none (ends.writes read.held read.has standing told) };
-            tells = λ whole. tt;
+            tells = λ whole. gets_whole short store.catalogue.rows (g.D.Disk.files store.disk) files store.manifest.entries name.now query a b came reopens.elsewhere (c.in-Ok.ensures.said told) (ends.read told) whole;
             reads = λ reading. then_reads short files (g.D.Disk.files store.disk) (g.D.Disk.files after.disk) (g.D.Disk.past c.args.disk) (g.D.Disk.past store.disk) (g.D.Disk.past after.disk) (opening_reads g.D.Disk short c.args.disk store.disk reopens)
                 (c.get-got.ensures.leaves.reads.files told) (c.get-got.ensures.leaves.reads.any_moment told);
           } in

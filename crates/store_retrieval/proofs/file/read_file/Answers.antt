@@ -1,4 +1,5 @@
 use Rattle.std.proofs.Common.{◌≡◌, ℕ, ℤ, List, Err, sym, ap, ◌∙◌, subst, take, inl, w32, to_z, of_z}
+use Rattle.std.specs.Prelude.{IfOk}
 use Rattle.std.proofs.lemmas.Result.{err_from_is_err_and}
 use Rattle.pb_file.specs.File.{IsFile, IsBadAt}
 use Rattle.pb_file.specs.Walk.{Walk}
@@ -6,6 +7,7 @@ use Rattle.store_retrieval.specs.declared.file.Stop.{Stop}
 use Rattle.store_retrieval.specs.declared.file.Stop.TheVariants as stop
 use Rattle.store_retrieval.specs.Damage.{IsBadFor}
 use Rattle.store_retrieval.specs.File.{HasBegun, StandsIn}
+use Rattle.store_retrieval.specs.Read.{ReadsFile}
 use Rattle.store_retrieval.proofs.Years.{year_back}
 use Rattle.store_retrieval.proofs.Reading.{none_bad, header_stop, stands_first, same_stop}
 use Rattle.store_retrieval.proofs.file.read_file.Goals as goal
@@ -65,3 +67,25 @@ returns-clause-damaged g c tells at is =
     let P : List ℕ → Type 0 = λ l. IsBadAt (take walk.len l) at in
     let N : ℕ → Type 0 = λ n. IsBadAt (take n bytes) at in
     inl (subst N len (subst P same bad))
+
+pub returns-in_err-year-clause-read : goal.returns-in_err-year-clause-read
+returns-in_err-year-clause-read g c tells =
+    let p = err_from_is_err_and c.from_residual.result c.from_residual.ensures.1 in
+    rw p.1 tt
+
+pub returns-clause-read : goal.returns-clause-read
+returns-clause-read g c tells =
+    let row = c.args.row.now in
+    let year = c.in_ok-year.year in
+    let bytes = g.H.ReadAt.bytes c.args.file.now in
+    let walk = c.read_header.new.walk in
+    let b = g.K.Sink.written c.args.sink.now in
+    let d = g.K.Sink.written c.read_samples.new.sink in
+    let new = c.read_samples.new.answer in
+    let same = c.read_header.ensures.same tells in
+    let len : walk.len ≡ c.args.len = c.in_ok-year.ensures.goes_on.2 ∙ ap (λ (w : Walk). w.len) c.new-walk.ensures.start in
+    let begun = c.in_ok-year.ensures.begun tells (c.new-walk.ensures.walked bytes) in
+    let Y : ℤ → Type 0 = λ y. HasBegun row y walk bytes in
+    let B : List ℕ → Type 0 = λ l. HasBegun row (to_z w32 (of_z w32 year)) walk l in
+    let read = c.read_samples.ensures.read tells (subst B (sym same) (subst Y (sym (year_back year c.in_ok-year.ensures.fits)) begun)) in
+    subst (λ (n : ℕ). IfOk c.read_samples.result (ReadsFile row bytes n b d c.args.answer.now new)) len (subst (λ (l : List ℕ). IfOk c.read_samples.result (ReadsFile row l walk.len b d c.args.answer.now new)) same read)

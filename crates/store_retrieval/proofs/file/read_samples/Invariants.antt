@@ -1,8 +1,8 @@
-use Rattle.std.proofs.Common.{◌≡◌, ◌≤◌, ◌-◌, ℕ, List, Option, IsTrue, None, Some}
+use Rattle.std.proofs.Common.{◌≡◌, ◌≤◌, ◌-◌, ℕ, List, Option, IsTrue, None}
 use Rattle.std.specs.Prelude.{IsSome}
 use Rattle.series_model.specs.declared.sample.Sample.{Sample}
-use Rattle.pb_file.specs.Walk.{Front, HasWalked}
 use Rattle.store_retrieval.specs.File.{HasBegun, StandsIn}
+use Rattle.store_retrieval.specs.Read.{GoesAlong}
 use Rattle.store_retrieval.proofs.file.read_samples.Given as goal
 
 abbrev pub invariant-lines : goal.invariant-lines
@@ -12,7 +12,7 @@ invariant-lines g l =
     record {
       stands : IsTrue g.H.ReadAt.tells → (a : Option (List ℕ)) (earlier samples : List Sample) → StandsIn l.row l.fn.year l.initial.walk (bytes l.initial.file) a (written l.initial.sink) l.initial.answer earlier samples
           → StandsIn l.row l.fn.year l.walk (bytes l.initial.file) a (written l.sink) l.answer earlier samples;
-      walked : IsTrue g.H.ReadAt.tells → HasBegun l.row l.fn.year l.initial.walk (bytes l.initial.file) → (front : Front) × HasWalked l.walk (bytes l.initial.file) (Some front);
+      along : IsTrue g.H.ReadAt.tells → HasBegun l.row l.fn.year l.initial.walk (bytes l.initial.file) → GoesAlong l.row l.fn.year l.walk (bytes l.initial.file) (written l.initial.sink) (written l.sink) l.initial.answer l.answer;
       same : IsTrue g.H.ReadAt.tells → bytes l.file ≡ bytes l.initial.file;
       going : l.walk.stop ≡ None;
       info : IsSome l.walk.info;

@@ -1,4 +1,4 @@
-use Rattle.std.proofs.Common.{◌≡◌, ◌++◌, ◌<◌, List, Some, length, drop, sym, ap, ◌∙◌, subst, arith, rules}
+use Rattle.std.proofs.Common.{◌≡◌, ◌++◌, ◌<◌, ℕ, List, Some, length, drop, inl, inr, refl, sym, ap, ◌∙◌, subst, arith, rules}
 use Rattle.std.specs.Prelude.{slice_get}
 use Rattle.std.proofs.lemmas.Result.{err_from_is_err_and}
 use Rattle.std.proofs.lemmas.List.{length-take-le}
@@ -10,9 +10,12 @@ use Rattle.pv_catalog.specs.declared.row.Row.{Row}
 use Rattle.pv_catalog.specs.Catalogue.{CatalogueState}
 use Rattle.tier_store.specs.Held.{file_of}
 use Rattle.tier_store.specs.Seen.{seen}
+use Rattle.store_retrieval.specs.declared.answer.Flow.{Flow}
 use Rattle.store_retrieval.specs.Answer.{Covers}
 use Rattle.store_retrieval.specs.File.{Reads}
 use Rattle.store_retrieval.specs.Listed.{BreaksOff, StandFor, own_entries, own_files, samples_in}
+use Rattle.store_retrieval.specs.Read.{ReadsFile, ReadsPlace}
+use Rattle.store_retrieval.proofs.Along.{file_within, ok_map, told_ok}
 use Rattle.store_retrieval.proofs.Series.{are_own}
 use Rattle.store_retrieval.proofs.Choosing.{ends_before, ends_broken}
 use Rattle.store_retrieval.proofs.Listing.{row_at, row_here, entry_at, entries_are, opened_at, open_broken, open_cause, told_cause, told_one, told_quiet, damaged_file}
@@ -112,3 +115,41 @@ pub returns-clause-leaves : goal.returns-clause-leaves
 returns-clause-leaves g c =
     leaves_opened g.D.Disk.tells _ _ c.open_listed.result _ c.open_listed.ensures.kept c.open_listed.ensures.same c.open_listed.ensures.reads
     (λ failed. absurd (told_quiet (file_of (1, c.rows-rows.result.now) c.index-listed-at.result) c.read_file-read.new.file c.read_file-read.result c.told.result c.told.ensures failed))
+
+pub returns-then-is_past-clause-read : goal.returns-then-is_past-clause-read
+returns-then-is_past-clause-read g c told row here =
+    let old = c.args.store.now in
+    let e = c.index-listed-at.result in
+    let entry = entry_at old.manifest.entries c.args.id c.args.at c.entries-listed.result.now e (c.entries-listed.ensures ∙ ap (λ (m : ManifestState). own_entries c.args.id m.entries) c.manifest.ensures) c.index-listed-at.is c.requires.here in
+    record { entry = e; here = entry.here; reads = inl (record { behind = c.is_past.ensures.0 c.if-is_past.true; enough = refl; same = refl; written = refl }) }
+
+pub returns-in_err-file-clause-read : goal.returns-in_err-file-clause-read
+returns-in_err-file-clause-read g c told row here =
+    let p = err_from_is_err_and c.from_residual.result c.from_residual.ensures.1 in
+    rw p.1 tt
+
+pub returns-clause-read : goal.returns-clause-read
+returns-clause-read g c told row here =
+    let old = c.args.store.now in
+    let id = c.args.id in
+    let at = c.args.at in
+    let b = g.K.Sink.written c.args.sink.now in
+    let d = g.K.Sink.written c.read_file-read.new.sink in
+    let m = c.read_file-read.new.answer in
+    let files = g.D.Disk.files old.disk in
+    let e = c.index-listed-at.result in
+    let entry = entry_at old.manifest.entries id at c.entries-listed.result.now e (c.entries-listed.ensures ∙ ap (λ (m : ManifestState). own_entries id m.entries) c.manifest.ensures) c.index-listed-at.is c.requires.here in
+    let rows : c.rows-rows.result.now ≡ old.catalogue.rows = c.rows-rows.ensures.value ∙ ap (λ (k : CatalogueState). k.rows) (c.catalogue.ensures ∙ c.open_listed.ensures.same.0) in
+    let shown = c.index-rows-id.result in
+    let low = c.requires.row in
+    let long = ap length rows in
+    let same : shown ≡ row = row_at c.rows-rows.result.now id shown row c.index-rows-id.is (omega (arith, low, long)) (subst (λ (l : List Row). slice_get l id ≡ Some row) (sym rows) here) in
+    let front = c.in_ok-file.ensures.front told in
+    let there = front.1 in
+    let P : Flow → Type 0 = ReadsPlace row old.catalogue.rows files (own_entries id old.manifest.entries) at b d c.args.answer.now m in
+    let step : (flow : Flow) → ReadsFile shown (g.D.Reader.ReadAt.bytes c.in_ok-file.file) e.len b d c.args.answer.now m flow → P flow = λ flow r.
+    let own = subst (λ (x : Row). ReadsFile x (g.D.Reader.ReadAt.bytes c.in_ok-file.file) e.len b d c.args.answer.now m flow) same r in
+    let listed = subst (λ (l : List ℕ). ReadsFile row l e.len b d c.args.answer.now m flow) there.holds.1 own in
+    record { entry = e; here = entry.here; reads = inr (record { bytes = there.bytes; file = there.file; holds = file_within row there.bytes e.len b d c.args.answer.now m flow listed }) } in
+    told_ok P (file_of (1, c.rows-rows.result.now) e) c.read_file-read.new.file c.read_file-read.result c.told.result c.told.ensures
+    (ok_map (ReadsFile shown (g.D.Reader.ReadAt.bytes c.in_ok-file.file) e.len b d c.args.answer.now m) P c.read_file-read.result step (c.read_file-read.ensures.read front.0))

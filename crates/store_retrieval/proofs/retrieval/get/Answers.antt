@@ -1,5 +1,6 @@
-use Rattle.std.proofs.Common.{◌≡◌, List, Some, refl, subst}
-use Rattle.std.specs.Prelude.{IfErr, slice_get}
+use Rattle.std.proofs.Common.{◌≡◌, List, Some, refl, sym, subst}
+use Rattle.std.specs.Prelude.{IfErr, IfOk, slice_get}
+use Rattle.std.specs.Io.KnownBytes.{Appends}
 use Rattle.series_model.specs.declared.sample.Query.{Query}
 use Rattle.pv_catalog.specs.declared.row.Row.{Row}
 use Rattle.pv_catalog.specs.Catalogue.{CatalogueState}
@@ -7,7 +8,9 @@ use Rattle.pv_catalog.specs.Rows.{HasName}
 use Rattle.tier_store.specs.Held.{samples_of}
 use Rattle.tier_store.specs.Seen.{seen}
 use Rattle.store_retrieval.specs.Damage.{HasCause}
-use Rattle.store_retrieval.specs.Listed.{IsSentAs}
+use Rattle.store_retrieval.specs.Listed.{Comes, IsSentAs, TextBecomes, own_entries}
+use Rattle.store_retrieval.specs.Read.{AreRead, ComesOfRead}
+use Rattle.store_retrieval.proofs.Along.{ok_ended}
 use Rattle.store_retrieval.proofs.Finishing.{writes_of}
 use Rattle.store_retrieval.proofs.Leaving.{cause_ended, leaves_ended, leaves_none}
 use Rattle.store_retrieval.proofs.Listing.{low_of}
@@ -60,3 +63,33 @@ returns-clause-nothing g c is =
 
 pub returns-clause-leaves : goal.returns-clause-leaves
 returns-clause-leaves g c = leaves_ended g.D.Disk.tells _ _ c.retrieve-read.result c.ended.result _ c.retrieve-read.ensures.leaves c.ended.ensures.cause
+
+pub returns-clause-read : goal.returns-clause-read
+returns-clause-read g c told =
+    let id = c.in-Some.id in
+    let a = g.K.Sink.written c.args.sink.now in
+    let d = g.K.Sink.written c.ended.new.sink in
+    let old = c.args.store.now in
+    let files = g.D.Disk.files old.disk in
+    let es = own_entries id old.manifest.entries in
+    let found : HasName old.catalogue.rows id c.args.name.now = subst (λ (k : CatalogueState). HasName k.rows id c.args.name.now) c.catalogue.ensures c.in-Some.ensures.found in
+    let q = c.new-answer.result.query in
+    let asked = c.new-answer.ensures.query in
+    let b = g.K.Sink.written c.retrieve-read.new.sink in
+    let new = c.retrieve-read.new.answer in
+    ok_ended _ c.retrieve-read.result c.ended.result c.ended.ensures.cause
+    (λ done was is.
+    let comes = subst (λ r. IfOk r (λ x. ComesOfRead found.row old.catalogue.rows files es a b c.new-answer.result new)) was (c.retrieve-read.ensures.read told found.row found.here) in
+    record {
+      id = id;
+      row = found.row;
+      here = found.here;
+      named = found.is;
+      samples = comes.samples;
+      read = subst (λ (k : Query). AreRead found.row old.catalogue.rows files k es comes.samples) asked comes.read;
+      written = λ rising.
+          let ends = comes.finishes a rising (c.new-answer.ensures.covers found.row a) in
+          let sent = c.ended.ensures.sent found.row q a comes.samples (subst (λ r. Comes found.row q a b new.text.gathered comes.samples r) (sym was) ends) in
+          let text = subst (λ r. IsSentAs found.row q a d comes.samples r) is sent in
+          subst (λ (k : Query). TextBecomes found.row k comes.samples (Appends a d)) asked text;
+    })

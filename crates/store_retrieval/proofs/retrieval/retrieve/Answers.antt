@@ -1,4 +1,4 @@
-use Rattle.std.proofs.Common.{◌≡◌, List, Ok, Err, Some, length, sym, ap, ◌∙◌, subst, arith}
+use Rattle.std.proofs.Common.{◌≡◌, List, [], Ok, Err, Some, length, sym, ap, ◌∙◌, subst, arith}
 use Rattle.std.specs.Prelude.{slice_get}
 use Rattle.std.proofs.lemmas.Result.{err_from_is_err_and}
 use Rattle.series_model.specs.declared.sample.Query.{Query}
@@ -86,3 +86,36 @@ returns-clause-comes g c held has stands told row here a covers =
 
 pub returns-clause-leaves : goal.returns-clause-leaves
 returns-clause-leaves g c = leaves_as g.D.Disk.tells _ _ _ _ (λ quiet. absurd quiet) c.in_ok-read_files.ensures.leaves
+
+pub returns-in_err-read_files-clause-read : goal.returns-in_err-read_files-clause-read
+returns-in_err-read_files-clause-read g c told row here =
+    let p = err_from_is_err_and c.from_residual.result c.from_residual.ensures.1 in
+    rw p.1 tt
+
+pub returns-in_err-finish-clause-read : goal.returns-in_err-finish-clause-read
+returns-in_err-finish-clause-read g c told row here =
+    let p = err_from_is_err_and c.from_residual-in_err-finish.result c.from_residual-in_err-finish.ensures.1 in
+    rw p.1 tt
+
+pub returns-clause-read : goal.returns-clause-read
+returns-clause-read g c told row here =
+    let id = c.args.id in
+    let m = c.read_files.new.answer in
+    let asked = c.read_files.ensures.asked in
+    let b = g.K.Sink.written c.read_files.new.sink in
+    let d = g.K.Sink.written c.finish.new.sink in
+    let left = c.finish.new.self.text.gathered in
+    let read = c.in_ok-read_files.ensures.read told row here in
+    let rows : c.rows.result.now ≡ c.args.store.now.catalogue.rows = c.rows.ensures.value ∙ ap (λ (k : CatalogueState). k.rows) (c.catalogue.ensures ∙ c.read_files.ensures.leaves.catalogue) in
+    let low = c.requires.row in
+    let long = ap length rows in
+    let same : c.index-rows-id.result ≡ row = row_at c.rows.result.now id c.index-rows-id.result row c.index-rows-id.is (omega (arith, low, long)) (subst (λ (l : List Row). slice_get l id ≡ Some row) (sym rows) here) in
+    let near = near_for c.args.answer.now m asked.0 asked.1 c.requires.nearest in
+    record {
+      samples = read.samples;
+      read = read.read;
+      finishes = λ a rising covers.
+          let ends = c.in_ok-finish.ensures.finishes a read.samples (subst (λ (x : Row). Covers x a b m read.samples) (sym same) (read.adds a [] rising covers)) near in
+          let own = subst (λ (x : Row). Finishes x m.query a d left read.samples (Ok tt)) same ends in
+          subst (λ (q : Query). Finishes row q a d left read.samples (Ok tt)) asked.0 own;
+    }

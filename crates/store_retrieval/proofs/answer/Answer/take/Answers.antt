@@ -109,3 +109,12 @@ returns-clause-takes g c a xs covers rising of_year =
     let Y : ℤ → Type 0 = λ y. IsOfYear y x in
     let given = c.in_ok-give.ensures.written a all x.t (subst Y (sym year) of_year) rel.written in
     covers_given row a b d f self i xs x c.give.new.self _ covers rel from to given c.in_ok-give.ensures.year
+
+pub returns-then-t-self-2-clause-enough : goal.returns-then-t-self-2-clause-enough
+returns-then-t-self-2-clause-enough g c is =
+    let self = c.args.self.now in
+    let query : c.self.inside.query ≡ self.query = ap (λ (s : Answering). s.query) c.self.view_is in
+    let from : self.query.from ≤ c.args.t = (let P : Query → Type 0 = λ q. q.from ≤ c.args.t in subst P query c.if-t-self.false) in
+    let later : c.self-2.inside.query ≡ self.query = ap (λ (s : Answering). s.query) c.self-2.view_is ∙ c.in_ok-release.ensures.asked.0 in
+    let to : self.query.to < c.args.t = (let P : Query → Type 0 = λ q. q.to < c.args.t in subst P later c.if-t-self-2.true) in
+    (from, to)
