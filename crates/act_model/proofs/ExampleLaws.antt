@@ -1,26 +1,30 @@
 -- The worked histories.
 use Rattle.std.proofs.Common.{◌≡◌, ◌≢◌, ℕ, zero, suc, ◌+◌, ◌<◌, List, [], ◌∷◌, length, Option, Some, None, true, false, refl, ap, sym, ◌∙◌, subst, arith, inl, inr}
-use Rattle.std.specs.Prelude.{◌⊎◌, ◌*◌, nat_lt, slice_get}
+use Rattle.std.specs.Prelude.{◌⊎◌, ◌==◌, ◌*◌, nat_lt, slice_get}
 use Rattle.std.specs.List.{AllByRecursion}
 use Rattle.std.proofs.lemmas.Bool.Decides.{nat_tests}
 use Rattle.std.specs.Ordering.{nat_cmp}
 use Rattle.std.specs.FinMap.{FinMap, get, insert, remove, empty, get-empty, gets}
 use Rattle.event_types.specs.declared.about.Method.TheVariants.{Monitor, Scan}
 use Rattle.pb_wire.specs.declared.payload.PayloadType.TheVariants.{ScalarInt}
-use Rattle.act_model.specs.declared.acts.Answer.TheVariants.{NameTaken, KeyTaken, IntakeFull, Flushed, Pinned, NotYours, NoPin, Unpinned}
+use Rattle.act_model.specs.declared.acts.Answer.TheVariants.{NameTaken, KeyTaken, NotRunning, NotPaused, Done, IntakeFull, Flushed, Pinned, NotYours, NoPin, NoPiece, Unpinned}
 use Rattle.act_model.specs.Reply.{Reply}
 use Rattle.act_model.specs.Limbo.{FileState}
 use Rattle.act_model.specs.Rows.{RowState, Store, Short, Medium, Long, fresh_row, tier, window, is_empty}
 use Rattle.act_model.specs.Rule.{Rule}
-use Rattle.act_model.specs.Machine.{Machine, MoveState, PinState, Change, Appends, held_bytes}
+use Rattle.event_types.specs.declared.about.State.{State}
+use Rattle.event_types.specs.declared.about.State.TheVariants.{Running, Paused}
+use Rattle.act_model.specs.Machine.{Machine, MoveState, PinState, Change, Appends, SetsState, held_bytes}
 use Rattle.act_model.specs.Changes.{made, Settles, no_doubt, as_not_made, as_made}
 use Rattle.act_model.specs.Outcome.{Outcome, Ends, Acts, refused_at_once, refused, runs, faults_first, faults_between, faults_within, wants_memory, wants_memory_settled}
 use Rattle.act_model.specs.Offer.{offered, room}
 use Rattle.act_model.specs.Tick.{ticked}
-use Rattle.act_model.specs.Flush.{Flushes, batch_of}
+use Rattle.act_model.specs.Pause.{Sets}
+use Rattle.act_model.specs.Flush.{Flushes, batch_of, count_in}
 use Rattle.act_model.specs.Pin.{Pins, pins, IsListedPiece}
+use Rattle.act_model.specs.OpenPiece.{Opens, refused_open, no_piece, opens, faults_opening, wants_memory_opening}
 use Rattle.act_model.specs.Unpin.{Unpins, refused_unpin, unpins, pin_refused}
-use Rattle.act_model.specs.Examples.{IsFailure, LateAndEarlyOffers, NamesAndKeysAreTaken, TheLastOfAPeriodIsKept, four_lines, AFullIntakeIsFlushed, PinsAreTheirOwners, all_moments, t0, second, line, name, about, with_row, with_tail}
+use Rattle.act_model.specs.Examples.{IsFailure, LateAndEarlyOffers, NamesAndKeysAreTaken, TheLastOfAPeriodIsKept, APauseGivesUpWhatIsHeld, three_lines, four_lines, AFullIntakeIsFlushed, WhatFindsNoRoomStays, two_rows, WholeTailsAreFlushed, NamesAreTold, DoorsAreCountedOff, PinsAreTheirOwners, all_moments, t0, second, line, name, about, with_row, with_tail}
 
 -- NO OTHER ANSWER
 
@@ -48,7 +52,7 @@ module _ (refuse : Machine → Option Reply) (run : Machine → Reply → Machin
   settled_same none (as_made one into p q) = absurd cc
 
   -- of an act that is not refused, where no change is in doubt
-  runs_only : {old new : Machine} {other : Reply} (said : Reply) → refuse old ≡ None → old.doubt ≡ None → ((after : Machine) (answer : Reply) → run old answer after → answer ≡ said)
+  pub runs_only : {old new : Machine} {other : Reply} (said : Reply) → refuse old ≡ None → old.doubt ≡ None → ((after : Machine) (answer : Reply) → run old answer after → answer ≡ said)
       → Acts refuse run change stopped old other new → (other ≡ said) ⊎ IsFailure other
   runs_only said free none says (refused_at_once answer p) = absurd cc
   runs_only {old} said free none says (refused {mid = mid} answer p settles q same r) = let as_it_was : mid ≡ old = settled_same none settles in absurd (let again : refuse mid ≡ None = ap refuse as_it_was ∙ free in cc)
@@ -64,9 +68,40 @@ refused_unpin_only : {who pin : ℕ} {old new : Machine} {other : Reply} (said :
 refused_unpin_only said is (refused_unpin reply p) = cc
 refused_unpin_only said is (unpins p) = absurd cc
 
-unpinned_only : {who pin : ℕ} {old new : Machine} {other : Reply} → pin_refused who (get old.pins pin) ≡ None → Unpins who pin old other new → other ≡ Unpinned
+pub unpinned_only : {who pin : ℕ} {old new : Machine} {other : Reply} → pin_refused who (get old.pins pin) ≡ None → Unpins who pin old other new → other ≡ Unpinned
 unpinned_only is (refused_unpin reply p) = absurd cc
 unpinned_only is (unpins p) = refl
+
+-- of an OpenPiece
+owner_may : (who : ℕ) (o : Option PinState) (p : PinState) → o ≡ Some p → p.owner ≡ who → pin_refused who o ≡ None
+owner_may who o p here mine = let same : (p.owner == who) ≡ true = grind (arith, nat_tests) in rw (here, same) refl
+
+refused_open_only : {who pin i : ℕ} {old new : Machine} {other : Reply} (said : Reply) → pin_refused who (get old.pins pin) ≡ Some said → Opens who pin i old other new → (other ≡ said) ⊎ IsFailure other
+refused_open_only said is (refused_open reply p) = inl cc
+refused_open_only {who} {pin} {old = old} said is (no_piece p here mine none) = absurd (let free = owner_may who (get old.pins pin) p here mine in cc)
+refused_open_only {who} {pin} {old = old} said is (opens p piece reader file head_len len here mine at faults shows named same more) = absurd (let free = owner_may who (get old.pins pin) p here mine in cc)
+refused_open_only said is (faults_opening p piece here mine at same rose) = inr (inr refl)
+refused_open_only said is (wants_memory_opening same more) = inr (inl refl)
+
+no_piece_only : {who pin i : ℕ} {old new : Machine} {other : Reply} (said : PinState) → get old.pins pin ≡ Some said → said.owner ≡ who → slice_get said.pieces i ≡ None → Opens who pin i old other new → (other ≡ NoPiece (length said.pieces)) ⊎ IsFailure other
+no_piece_only {who} {pin} {old = old} said there own gone (refused_open reply p) = absurd (let free = owner_may who (get old.pins pin) said there own in cc)
+no_piece_only said there own gone (no_piece p here mine none) = inl (let same : p ≡ said = cc in ap (λ (x : PinState). NoPiece (length x.pieces)) same)
+no_piece_only {i = i} said there own gone (opens p piece reader file head_len len here mine at faults shows named same more) = absurd (let same : p ≡ said = cc in let none : slice_get p.pieces i ≡ None = ap (λ (x : PinState). slice_get x.pieces i) same ∙ gone in cc)
+no_piece_only said there own gone (faults_opening p piece here mine at same rose) = inr (inr refl)
+no_piece_only said there own gone (wants_memory_opening same more) = inr (inl refl)
+
+-- of a Pause or a Resume that sets the state
+set_only : (to : State) (m after : Machine) (answer : Reply) → Sets to name m answer after → answer ≡ Done
+set_only to m after answer ran = ran.0
+
+-- of a Flush
+flushed_only : (limit samples left : ℕ) (m : Machine) → m.told ≡ true → count_in (batch_of limit m) ≡ samples → held_bytes (made [] (Appends (batch_of limit m)) m).rows ≡ left
+    → (after : Machine) (answer : Reply) → Flushes limit m answer after → answer ≡ Flushed samples left m.doors
+flushed_only limit samples left m told some rest after answer ran =
+    let count : ran.0.0 ≡ samples = ran.0.1 told ∙ some in
+    let bytes : held_bytes after.rows ≡ left = ap (λ (m : Machine). held_bytes m.rows) ran.1 ∙ rest in
+    let doors : after.doors ≡ m.doors = ap (λ (m : Machine). m.doors) ran.1 in
+    ran.0.2 ∙ rw (count, bytes, doors) refl
 
 -- ADMISSION AND SAMPLING
 
@@ -105,6 +140,70 @@ last_of_period =
       (m2, inl (refl, refl), ends_only refl, (m3, inl (refl, refl), ends_only refl, (m4, inl (refl, refl), ends_only refl, (m4, inl (refl, refl), ends_only refl, (m5, inl (refl, refl), ends_only refl, (m6, inl (refl, refl), ends_only refl, tt)))))),
     )
 
+-- the state after a pause or a resume of the row
+abbrev after_set : Machine → State → Machine
+after_set m to = made [] (SetsState 0 to) m
+
+pub pause_gives_up : APauseGivesUpWhatIsHeld
+pause_gives_up =
+    let m0 = with_row (fresh_row name (about (Scan (10 * second)))) in
+    let m1 = after_offer m0 t0 t0 in
+    let m2 = after_tick m1 t0 in
+    let m3 = after_offer m2 (t0 + 1 * second) (t0 + 1 * second) in
+    let m4 = after_set m3 Paused in
+    let m5 = after_set m4 Running in
+    let m6 = after_tick m5 (t0 + 3 * second) in (
+      m1,
+      inl (refl, refl),
+      ends_only refl,
+      (
+        m2,
+        inl (refl, refl),
+        ends_only refl,
+        (
+          m3,
+          inl (refl, refl),
+          ends_only refl,
+          (
+            m3,
+            refused_at_once NotPaused refl,
+            (λ other new step. refused_only _ _ _ _ NotPaused refl step),
+            (
+              m4,
+              runs _ refl (no_doubt refl) refl (refl, (0, refl, refl)) (omega arith),
+              (λ other new step. runs_only _ _ _ _ Done refl refl (set_only Paused m3) step),
+              (
+                m4,
+                refused_at_once NotRunning refl,
+                (λ other new step. refused_only _ _ _ _ NotRunning refl step),
+                (
+                  m4,
+                  inl (refl, refl),
+                  ends_only refl,
+                  (
+                    m4,
+                    inl (refl, refl),
+                    ends_only refl,
+                    (
+                      m5,
+                      runs _ refl (no_doubt refl) refl (refl, (0, refl, refl)) (omega arith),
+                      (λ other new step. runs_only _ _ _ _ Done refl refl (set_only Running m4) step),
+                      (
+                        m6,
+                        inl (refl, refl),
+                        ends_only refl,
+                        (m6, inl (refl, refl), ends_only refl, tt),
+                      ),
+                    ),
+                  ),
+                ),
+              ),
+            ),
+          ),
+        ),
+      ),
+    )
+
 -- A FULL INTAKE
 
 -- no room is left beside four such lines
@@ -114,29 +213,110 @@ full_bytes a b c d p q r s = omega arith
 no_room : (n : ℕ) → n ≡ 67108864 → nat_lt room (n + (length line + 1)) ≡ true
 no_room n is = rw is refl
 
--- the flush takes the four, and nothing is left
-four_flushed : (a b c d : List ℕ) (after : Machine) (answer : Reply) → Flushes 67108864 (with_row (four_lines a b c d)) answer after → answer ≡ Flushed 4 0 0
-four_flushed a b c d after answer ran =
-    let count : ran.0.0 ≡ 4 = ran.0.1 refl in
-    let left : held_bytes after.rows ≡ 0 = ap (λ (m : Machine). held_bytes m.rows) ran.1 in
-    let doors : after.doors ≡ 0 = ap (λ (m : Machine). m.doors) ran.1 in
-    ran.0.2 ∙ rw (count, left, doors) refl
+-- one more such line just fits beside three
+just_fits : (a b c d : List ℕ) → length a ≡ 16777215 → length b ≡ 16777215 → length c ≡ 16777215 → length d ≡ 16777215 → nat_lt room (held_bytes (three_lines a b c ∷ []) + (length d + 1)) ≡ false
+just_fits a b c d p q r s = let all : held_bytes (three_lines a b c ∷ []) + (length d + 1) ≡ 67108864 = omega arith in rw all refl
 
 pub full_intake : AFullIntakeIsFlushed
 full_intake a b c d p q r s =
+    let fits : nat_lt room (held_bytes (three_lines a b c ∷ []) + (length d + 1)) ≡ false = just_fits a b c d p q r s in
     let m0 = with_row (four_lines a b c d) in
     let m1 = made [] (Appends (batch_of 67108864 m0)) m0 in
     let m2 = after_offer m1 (t0 + 5) t0 in
     let bytes : held_bytes m0.rows ≡ 67108864 = full_bytes a b c d p q r s in
     let full : nat_lt room (held_bytes m0.rows + (length line + 1)) ≡ true = no_room (held_bytes m0.rows) bytes in (
       m0,
-      inl (rw full (ap (λ n. IntakeFull n) (sym bytes)), rw full refl),
-      ends_only (rw full (ap (λ n. IntakeFull n) bytes)),
+      inl (rw fits refl, rw fits refl),
+      ends_only (rw fits refl),
+      (
+        m0,
+        inl (refl, refl),
+        ends_only refl,
+        (
+          m0,
+          inl (rw full (ap (λ n. IntakeFull n) (sym bytes)), rw full refl),
+          ends_only (rw full (ap (λ n. IntakeFull n) bytes)),
+          (
+            m1,
+            runs _ refl (no_doubt refl) refl ((4, (λ t. refl), refl), refl) (omega arith),
+            (λ other new step. runs_only _ _ _ _ (Flushed 4 0 0) refl refl (flushed_only 67108864 4 0 m0 refl refl refl) step),
+            (m2, inl (refl, refl), ends_only refl, tt),
+          ),
+        ),
+      ),
+    )
+
+pub no_room_stays : WhatFindsNoRoomStays
+no_room_stays a b c d p q r s =
+    let m0 = with_row (record (four_lines a b c d) { about = about (Scan (10 * second)) }) in
+    let m1 = after_offer m0 (t0 + 5) t0 in
+    let m2 = made [] (Appends (batch_of 67108864 m1)) m1 in
+    let m3 = after_tick m2 t0 in
+    let bytes : held_bytes m1.rows ≡ 67108864 = full_bytes a b c d p q r s in
+    let full : nat_lt room (held_bytes m1.rows + (length line + 1)) ≡ true = no_room (held_bytes m1.rows) bytes in (
+      m1,
+      inl (refl, refl),
+      ends_only refl,
       (
         m1,
-        runs _ refl (no_doubt refl) refl ((4, (λ t. refl), refl), refl) (omega arith),
-        (λ other new step. runs_only _ _ _ _ (Flushed 4 0 0) refl refl (four_flushed a b c d) step),
-        (m2, inl (refl, refl), ends_only refl, tt),
+        inl (rw full (ap (λ n. IntakeFull n) (sym bytes)), rw full refl),
+        ends_only (rw full (ap (λ n. IntakeFull n) bytes)),
+        (
+          m2,
+          runs _ refl (no_doubt refl) refl ((4, (λ t. refl), refl), refl) (omega arith),
+          (λ other new step. runs_only _ _ _ _ (Flushed 4 0 0) refl refl (flushed_only 67108864 4 0 m1 refl refl refl) step),
+          (m3, inl (refl, refl), ends_only refl, tt),
+        ),
+      ),
+    )
+
+-- TWO ROWS
+
+pub whole_tails : WholeTailsAreFlushed
+whole_tails =
+    let m0 = two_rows in
+    let m1 = made [] (Appends (batch_of 1 m0)) m0 in
+    let m2 = made [] (Appends (batch_of 1 m1)) m1 in
+    let m3 = made [] (Appends (batch_of 1 m2)) m2 in (
+      m1,
+      runs _ refl (no_doubt refl) refl ((2, (λ t. refl), refl), refl) (omega arith),
+      (λ other new step. runs_only _ _ _ _ (Flushed 2 10 2) refl refl (flushed_only 1 2 10 m0 refl refl refl) step),
+      (
+        m2,
+        runs _ refl (no_doubt refl) refl ((1, (λ t. refl), refl), refl) (omega arith),
+        (λ other new step. runs_only _ _ _ _ (Flushed 1 0 2) refl refl (flushed_only 1 1 0 m1 refl refl refl) step),
+        (m3, runs _ refl (no_doubt refl) refl ((0, (λ t. refl), refl), refl) (omega arith), (λ other new step. runs_only _ _ _ _ (Flushed 0 0 2) refl refl (flushed_only 1 0 0 m2 refl refl refl) step), tt),
+      ),
+    )
+
+pub names_told : NamesAreTold
+names_told =
+    let m = two_rows in
+    (m, inl (refl, refl), ends_only refl, (m, inl (refl, refl), ends_only refl, (m, inl (refl, refl), ends_only refl, (m, inl (refl, refl), ends_only refl, tt))))
+
+pub doors_off : DoorsAreCountedOff
+doors_off =
+    let m0 = two_rows in
+    let m1 : Machine = record m0 { doors = 1 } in
+    let m2 : Machine = record m0 { doors = 0 } in (
+      m0,
+      (refl, refl),
+      (λ other new step. inl step.0),
+      (
+        m1,
+        (refl, refl),
+        (λ other new step. inl step.0),
+        (
+          m2,
+          (refl, refl),
+          (λ other new step. inl step.0),
+          (
+            m2,
+            (refl, refl),
+            (λ other new step. inl step.0),
+            (m2, (refl, refl), (λ other new step. inl step.0), tt),
+          ),
+        ),
       ),
     )
 
@@ -192,13 +372,28 @@ owners =
       (λ other new step. runs_only _ _ _ _ _ refl refl pinned_only step),
       (
         m1,
-        refused_unpin (NotYours 0) (rw there refl),
-        (λ other new step. inl (refused_unpin_only (NotYours 0) (rw there refl) step)),
+        refused_open (NotYours 0) (rw there refl),
+        (λ other new step. refused_open_only (NotYours 0) (rw there refl) step),
         (
-          m2,
-          unpins (rw there refl),
-          (λ other new step. inl (unpinned_only (rw there refl) step)),
-          (m2, refused_unpin NoPin (rw gone refl), (λ other new step. inl (refused_unpin_only NoPin (rw gone refl) step)), tt),
+          m1,
+          no_piece pin there refl refl,
+          (λ other new step. no_piece_only pin there refl refl step),
+          (
+            m1,
+            refused_unpin (NotYours 0) (rw there refl),
+            (λ other new step. inl (refused_unpin_only (NotYours 0) (rw there refl) step)),
+            (
+              m2,
+              unpins (rw there refl),
+              (λ other new step. inl (unpinned_only (rw there refl) step)),
+              (
+                m2,
+                refused_open NoPin (rw gone refl),
+                (λ other new step. refused_open_only NoPin (rw gone refl) step),
+                (m2, refused_unpin NoPin (rw gone refl), (λ other new step. inl (refused_unpin_only NoPin (rw gone refl) step)), tt),
+              ),
+            ),
+          ),
         ),
       ),
     )

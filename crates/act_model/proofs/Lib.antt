@@ -16,6 +16,7 @@ pub mod PinActs
 pub mod StepSound
 pub mod Onward
 pub mod StepOnward
+pub mod StepLeft
 pub mod FlushLeft
 pub mod MoveLaws
 pub mod Histories
@@ -25,5 +26,7 @@ pub mod NextLife
 pub mod ActsAlone
 mod LivesLaws
 mod AnswerLaws
+mod ToldLaws
 mod ExampleLaws
+mod SweepExample
 mod Places

@@ -130,5 +130,5 @@ next_life_between old left s is rule told doors faults = open_sound rule old.tol
 
 -- each row of what was left is there, and all that is durable of it is accepted
 pub next_life_rows : (rule : Rule) (told : Bool) (doors faults : ℕ) (left : Machine) (i : ℕ) (row : RowState) → slice_get left.rows i ≡ Some row
-    → (new : RowState) × (slice_get (opened rule told doors faults (kept left)).rows i ≡ Some new) × (durable new ≡ durable row) × (accepted new ≡ durable row)
-next_life_rows rule told doors faults left i row here = let both = opened_accepts row in (lives row, forth left.rows i row here, both.0, both.1)
+    → (new : RowState) × (slice_get (opened rule told doors faults (kept left)).rows i ≡ Some new) × (kept_of new ≡ kept_of row) × (accepted new ≡ durable row)
+next_life_rows rule told doors faults left i row here = let both = opened_accepts row in (lives row, forth left.rows i row here, refl, both.1)

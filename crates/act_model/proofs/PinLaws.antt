@@ -254,6 +254,7 @@ made_here {who} {name} {query} {mid} {new} n count nm about tail (pins i row pin
       about_is = sym own.4;
       tail_is = sym own.2;
       files = λ t. subst (λ (r : Rule). AllByRecursion (IsFileOf r row) pieces) (sym (ap (λ (m : Machine). m.rule) same)) (of_all (IsListedPiece mid.rule i row) (IsFileOf mid.rule row) pieces (λ f l. l.file) (listed (sym (ap (λ (m : Machine). m.told) same) ∙ t)));
+      order = λ t. order (sym (ap (λ (m : Machine). m.told) same) ∙ t);
       gives = λ t. subst (λ w. answer (over (over_pieces [] pieces) w) query ≡ answer (accepted row) query) own.2 (gives (sym (ap (λ (m : Machine). m.told) same) ∙ t));
     }
 

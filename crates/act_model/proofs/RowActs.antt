@@ -174,6 +174,7 @@ gains_tail told row s sound lines event late =
       long = refl;
       name = refl;
       about = refl;
+      state = refl;
       more = (s ∷ [], refl);
       sound = record { short = sound.short; medium = sound.medium; long = sound.long; later = RisesFrom-append p row.tail (s ∷ []) sound.later (omega arith, tt); next = omega arith; exact = λ t. sym ends };
       lines = record { tail = more_lines row.tail lines.tail; held = lines.held };
@@ -191,6 +192,7 @@ held_tail told row s sound lines event =
       long = refl;
       name = refl;
       about = refl;
+      state = refl;
       more = ([], sym (append-nil row.tail));
       sound = record { short = sound.short; medium = sound.medium; long = sound.long; later = sound.later; next = sound.next; exact = sound.exact };
       lines = record { tail = lines.tail; held = event };
@@ -205,6 +207,7 @@ moved_tail told row new period now t =
       long = t.long;
       name = t.name;
       about = t.about;
+      state = t.state;
       more = t.more;
       sound = record { short = t.sound.short; medium = t.sound.medium; long = t.sound.long; later = t.sound.later; next = t.sound.next; exact = t.sound.exact };
       lines = record { tail = t.lines.tail; held = by_due (nat_le new.cell.due now) };

@@ -19,12 +19,13 @@ pub record RowTail (told : Bool) (row new : RowState) : Type 0 where
   pub long : new.long ≡ row.long
   pub name : new.name ≡ row.name
   pub about : new.about ≡ row.about
+  pub state : new.state ≡ row.state
   pub more : (xs : List Sample) × (new.tail ≡ row.tail ++ xs)
   pub sound : RowSound told new
   pub lines : LinesSound new
 
 pub same_tail : (told : Bool) (row : RowState) → RowSound told row → LinesSound row → RowTail told row row
-same_tail told row s l = record { short = refl; medium = refl; long = refl; name = refl; about = refl; more = ([], sym (append-nil row.tail)); sound = s; lines = l }
+same_tail told row s l = record { short = refl; medium = refl; long = refl; name = refl; about = refl; state = refl; more = ([], sym (append-nil row.tail)); sound = s; lines = l }
 
 copies_same : (told : Bool) (limbo : List FileState) (row new : RowState) (i : ℕ) (store : Store) (copied : List Sample) → RowTail told row new → CopiesOf limbo row i store copied → CopiesOf limbo new i store copied
 copies_same told limbo row new i Short copied t c = rw (t.short, t.medium, t.long) c

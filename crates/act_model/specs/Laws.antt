@@ -1,6 +1,6 @@
 -- What holds of an archive, whatever is asked of it and by whomever, and wherever it stops. Each law is proved over all states, acts and
 -- histories; the functions in `src/laws.rt` have them as their clauses.
-use Rattle.std.specs.Prelude.{◌≡◌, ℕ, ◌≤◌, List, [], ◌∷◌, ◌++◌, true, Some, slice_get, Bool}
+use Rattle.std.specs.Prelude.{◌≡◌, ◌≢◌, ◌⊎◌, ℕ, ◌≤◌, List, [], ◌∷◌, ◌++◌, length, true, Some, slice_get, Bool, None}
 use Rattle.std.specs.FinMap.{get}
 use Rattle.series_model.specs.declared.sample.Query.{Query}
 use Rattle.series_model.specs.declared.sample.Sample.{Sample}
@@ -8,18 +8,19 @@ use Rattle.series_model.specs.Archive.{IsPrefix}
 use Rattle.event_types.specs.declared.about.About.{About}
 use Rattle.disk_model.specs.Files.{Name}
 use Rattle.act_model.specs.declared.acts.Act.{Act}
-use Rattle.act_model.specs.declared.acts.Act.TheVariants.{Flush, Pin, OpenPiece}
-use Rattle.act_model.specs.declared.acts.Answer.TheVariants.{Flushed, Pinned, Piece}
+use Rattle.act_model.specs.declared.acts.Act.TheVariants.{Flush, MoveBegin, MoveStep, Details, Pin, OpenPiece}
+use Rattle.act_model.specs.declared.acts.Answer.TheVariants.{Flushed, Begun, Damaged, Retired, Described, Pinned, NotYours, Piece, Memory}
+use Rattle.act_model.specs.declared.details.Details.{Details as Told}
 use Rattle.act_model.specs.Reply.{Reply, Opened}
 use Rattle.act_model.specs.Rows.{RowState, durable, accepted}
 use Rattle.act_model.specs.Rule.{Rule}
-use Rattle.act_model.specs.Machine.{Machine, PinState}
+use Rattle.act_model.specs.Machine.{Machine, PinState, MoveState, find_row}
 use Rattle.act_model.specs.MoveStep.{GoesOn}
 use Rattle.act_model.specs.Step.{Step, MayAsk, refuse_by, change_by}
 use Rattle.act_model.specs.Answers.{is_answer_to}
 use Rattle.act_model.specs.Sound.{IsSound}
 use Rattle.act_model.specs.Growth.{Onward, RowsLike, RowsLast}
-use Rattle.act_model.specs.Crash.{kept, LeftBetween, LeftWithin, Between, LiesBetween}
+use Rattle.act_model.specs.Crash.{kept_of, kept, LeftBetween, LeftWithin, Between, LiesBetween}
 use Rattle.act_model.specs.NextLife.{opened}
 use Rattle.act_model.specs.History.{Entry, Done, Runs, own, mine, StepsAt, CutAt}
 use Rattle.act_model.specs.Lives.{Stops, Lives}
@@ -71,7 +72,39 @@ MoveKeepsLists =
     (n : ℕ) (mid new : Machine) (answer : Reply) → mid.told ≡ true → IsSound mid → GoesOn n mid answer new
     → RowsLike mid.rows new.rows
 
+-- a move begins under a number that no move had, and its row and its number of parts are those that are told
+abbrev pub BegunIsNew : Type 0
+BegunIsNew =
+    (who store now n row parts : ℕ) (old new : Machine) (answer : Reply) → Step who (MoveBegin store now) old answer new
+    → answer ≡ Begun n row parts
+    → (get old.moves n ≡ None) × ((move : MoveState) × (get new.moves n ≡ Some move) × (move.row ≡ row) × (move.parts ≡ parts))
+
+-- a move whose parts have left is over, and all its parts are told
+abbrev pub RetiredIsWhole : Type 0
+RetiredIsWhole =
+    (who n parts : ℕ) (old new : Machine) (answer : Reply) → Step who (MoveStep n) old answer new → answer ≡ Retired parts
+    → ((move : MoveState) × (get old.moves n ≡ Some move) × (move.parts ≡ parts)) × (get new.moves n ≡ None)
+
+-- no file is found damaged where the disk tells its files and they stand as they are listed
+abbrev pub NoneIsDamaged : Type 0
+NoneIsDamaged =
+    (who n at : ℕ) (name : Name) (old new : Machine) (answer : Reply) → old.told ≡ true → Step who (MoveStep n) old answer new
+    → answer ≡ Damaged name at → ⊥
+
+-- the numbers of accepted and of durable samples that are told of a variable are those of its row, as the act leaves it
+abbrev pub DetailsAreOfRow : Type 0
+DetailsAreOfRow =
+    (who : ℕ) (name : List ℕ) (details : Told) (old new : Machine) (answer : Reply) → new.told ≡ true
+    → Step who (Details name) old answer new → answer ≡ Described details
+    → (i : ℕ) × ((row : RowState) × (find_row new name ≡ Some i) × (slice_get new.rows i ≡ Some row) × (details.accepted ≡ length (accepted row)) × (details.durable ≡ length (durable row)))
+
 -- CRASHES
+
+-- what an act that ends leaves durable is among what a crash within it may leave
+abbrev pub EndsAsACrashMayLeave : Type 0
+EndsAsACrashMayLeave =
+    (who : ℕ) (act : Act) (old new : Machine) (answer : Reply) → IsSound old → MayAsk act → Step who act old answer new
+    → (left : Machine) × LeftWithin (refuse_by act) (change_by act) old left × (kept left ≡ kept new)
 
 -- what a crash between acts leaves of a row extends what was durable, and is extended by what was accepted
 abbrev pub LeftBetweenActs : Type 0
@@ -108,12 +141,12 @@ OpensWithinAct =
     (act : Act) (old left : Machine) → IsSound old → LeftWithin (refuse_by act) (change_by act) old left
     → (rule : Rule) (told : Bool) (doors faults : ℕ) → IsSound (opened rule told doors faults (kept left))
 
--- each row that was left is there, and just what is durable of it is accepted
+-- each row that was left is there, in its state and with what each store lists, and just what is durable of it is accepted
 abbrev pub OpensWithRows : Type 0
 OpensWithRows =
     (rule : Rule) (told : Bool) (doors faults : ℕ) (left : Machine) (i : ℕ) (row : RowState)
     → slice_get left.rows i ≡ Some row
-    → (new : RowState) × (slice_get (opened rule told doors faults (kept left)).rows i ≡ Some new) × (durable new ≡ durable row) × (accepted new ≡ durable row)
+    → (new : RowState) × (slice_get (opened rule told doors faults (kept left)).rows i ≡ Some new) × (kept_of new ≡ kept_of row) × (accepted new ≡ durable row)
 
 -- lives one after another end in a sound state
 abbrev pub LivesKeepSound : Type 0
@@ -168,6 +201,12 @@ PieceIsRead =
     → Runs start (xs ++ (record { who = who; act = Pin name query; answer = Pinned n told_name about count tail }
     ∷ (ys ++ (record { who = who; act = OpenPiece n i; answer = Piece reader file head_len len } ∷ zs)))) end
     → AllKeep who n ys → IsRead start.rule who name query n told_name about count tail i reader file head_len len
+
+-- a pin of one opens for nobody else
+abbrev pub OthersOpenNone : Type 0
+OthersOpenNone =
+    (who n i : ℕ) (pin : PinState) (old new : Machine) (answer : Reply) → Step who (OpenPiece n i) old answer new
+    → get old.pins n ≡ Some pin → pin.owner ≢ who → (answer ≡ NotYours pin.owner) ⊎ (answer ≡ Memory)
 
 -- HISTORIES
 

@@ -17,7 +17,7 @@ use Rattle.act_model.specs.Limbo.{FileState}
 use Rattle.act_model.specs.Machine.{Machine, PinState, find_row}
 use Rattle.act_model.specs.Rule.{Rule}
 use Rattle.act_model.specs.OpenPiece.{Shows, IsNamed}
-use Rattle.act_model.specs.Pin.{over_pieces}
+use Rattle.act_model.specs.Pin.{InOrder, over_pieces}
 use Rattle.act_model.specs.Sound.{PieceSound}
 use Rattle.act_model.specs.History.{Entry}
 
@@ -41,8 +41,8 @@ pub record IsOpenedAs (m : Machine) (pin : PinState) (i : ℕ) (reader : Opened)
   pub named : IsNamed m piece name
   pub faults : reader.faults ≡ 0
 
--- The pin is there with so many pieces, each a file of the row. They and the tail that was told answer the query as all that is accepted
--- of the row.
+-- The pin is there with so many pieces, each a file of the row, in the order in which they are read. They and the tail that was told
+-- answer the query as all that is accepted of the row.
 pub record IsPinMade (who : ℕ) (name : List ℕ) (query : Query) (n : ℕ) (told_name : List ℕ) (about : About) (count : ℕ) (tail : List Sample) (m : Machine) : Type 0 where
   pub pin : PinState
   pub there : get m.pins n ≡ Some pin
@@ -56,6 +56,7 @@ pub record IsPinMade (who : ℕ) (name : List ℕ) (query : Query) (n : ℕ) (to
   pub about_is : about ≡ row.about
   pub tail_is : tail ≡ row.tail
   pub files : m.told ≡ true → AllByRecursion (IsFileOf m.rule row) pin.pieces
+  pub order : m.told ≡ true → InOrder pin.pieces
   pub gives : m.told ≡ true → answer (over (over_pieces [] pin.pieces) tail) query ≡ answer (accepted row) query
 
 -- The pin that was made and the piece that was opened later: each by the state in which its act ended or began, under this rule.

@@ -1,5 +1,5 @@
 //! What holds of an archive whatever is asked of it. Each law is a clause of a function that does nothing.
-ghost use Rattle.act_model.specs.Laws.{StepKeepsSound, RunKeepsSound, AnswersAreOfActs, DurableIsAccepted, StepGoesOnward, RunGoesOnward, FlushLeavesNone, MoveKeepsLists, LeftBetweenActs, LeftWithinAct, LeftInRun, OpensBetweenActs, OpensWithinAct, OpensWithRows, LivesKeepSound, LivesLoseNothing, LivesLeaveAccepted, PinAnswers, PinStandsUntilUnpinned, PinStandsBesideOthers, PieceOpensAsPinned, PieceIsRead, RunsJoin, EntriesAreSteps, OwnActsAreSteps, OwnActsJoin};
+ghost use Rattle.act_model.specs.Laws.{StepKeepsSound, RunKeepsSound, AnswersAreOfActs, DurableIsAccepted, StepGoesOnward, RunGoesOnward, FlushLeavesNone, MoveKeepsLists, BegunIsNew, RetiredIsWhole, NoneIsDamaged, OthersOpenNone, DetailsAreOfRow, EndsAsACrashMayLeave, LeftBetweenActs, LeftWithinAct, LeftInRun, OpensBetweenActs, OpensWithinAct, OpensWithRows, LivesKeepSound, LivesLoseNothing, LivesLeaveAccepted, PinAnswers, PinStandsUntilUnpinned, PinStandsBesideOthers, PieceOpensAsPinned, PieceIsRead, RunsJoin, EntriesAreSteps, OwnActsAreSteps, OwnActsJoin};
 
 /// Whatever is asked and answered, by whomever, the state stays sound, and each act has an answer of its own.
 pub fn soundness_stays()
@@ -25,9 +25,22 @@ pub fn moves_keep_lists()
     ensures { MoveKeepsLists }
 {}
 
+/// What is told of a move is so: it begins under a new number, and ends with all its parts.
+pub fn moves_are_as_told()
+    ensures begun { BegunIsNew }
+    ensures retired { RetiredIsWhole }
+    ensures damaged { NoneIsDamaged }
+{}
+
+/// What is told of a variable is so of its row.
+pub fn details_are_of_rows()
+    ensures { DetailsAreOfRow }
+{}
+
 /// What a crash leaves of a variable extends what was durable and is extended by what is accepted: of a crash between acts, within an
-/// act, and within any act of a run.
+/// act, and within any act of a run. What an act leaves that comes to its end is among what a crash within it may leave.
 pub fn crashes_lose_no_more()
+    ensures whole { EndsAsACrashMayLeave }
     ensures between { LeftBetweenActs }
     ensures within { LeftWithinAct }
     ensures run { LeftInRun }
@@ -58,8 +71,9 @@ pub fn pins_stand()
     ensures beside_others { PinStandsBesideOthers }
 {}
 
-/// A piece that is opened has the bytes that were pinned, whatever became of its file.
+/// A piece that is opened has the bytes that were pinned, whatever became of its file, and opens for the pin's owner alone.
 pub fn pieces_open_as_pinned()
+    ensures others { OthersOpenNone }
     ensures opened { PieceOpensAsPinned }
     ensures history { PieceIsRead }
 {}
