@@ -132,6 +132,7 @@ impl Lines {
         ensures unread { HoldsAnswer self.old → source.new ≡ source.old }
         ensures faults { S.read_faults source.old ≤ S.read_faults source.new }
         ensures failed { result ≡ LineRead.SourceFault → Rose (S.read_faults source.old) (S.read_faults source.new) }
+        ensures beside { S.beside source.new ≡ S.beside source.old }
     {
         if let Some(stop) = self.stop {
             return stop;
@@ -250,6 +251,7 @@ impl Lines {
         ensures end { result ≡ Filled.End → IsAtEnd (S.left source.new) }
         ensures faults { S.read_faults source.old ≤ S.read_faults source.new }
         ensures failed { result ≡ Filled.Fault → Rose (S.read_faults source.old) (S.read_faults source.new) }
+        ensures beside { S.beside source.new ≡ S.beside source.old }
     {
         let count = self.room();
         let searched = self.buf.len() - self.start;
@@ -299,6 +301,7 @@ fn read_on<S: Source>(buf: &mut Vec<u8>, count: usize, source: &mut S) -> Filled
     ensures bound { vec_len buf.new ≤ vec_len buf.old + count }
     ensures faults { S.read_faults source.old ≤ S.read_faults source.new }
     ensures failed { result ≡ Filled.Fault → Rose (S.read_faults source.old) (S.read_faults source.new) }
+    ensures beside { S.beside source.new ≡ S.beside source.old }
 {
     let len = buf.len();
     let Ok(()) = buf.resize(len + count, 0) else {

@@ -1,11 +1,18 @@
 // Connections, and doors that give them.
 ghost use Rattle.std.specs.Prelude.{◌≡◌, ℕ, ◌<◌, ◌≤◌, Bool, Option, List, length, IfSome};
 ghost use Rattle.edge_io.specs.Doors.{Ledger, Gives, TakesBack};
+ghost use Rattle.edge_io.specs.Stream.{Direction};
 
 use crate::{Sink, Source};
 
-/// One connection: what the peer sends is read, and what it gets is written.
-pub trait Link: Source + Sink + Drop {}
+/// One connection: what the peer sends is read, and what it gets is written. Neither direction changes
+/// the other.
+pub trait Link: Source + Sink + Drop {
+    // Beside what is read stands what was written, and beside what is written what is left to read.
+    ghost written_stays: { (l : Self) → Self.Source.beside l ≡ record { bytes = Self.Sink.written l; faults = Self.Sink.write_faults l } };
+
+    ghost left_stays: { (l : Self) → Self.Sink.beside l ≡ record { bytes = Self.Source.left l; faults = Self.Source.read_faults l } };
+}
 
 /// What a door answers.
 #[derive(Drop)]

@@ -1,5 +1,6 @@
 // Links in memory, and a door that gives the links of a list.
 ghost use Rattle.std.specs.Prelude.{◌≡◌, ◌↔◌, ◌⊎◌, ℕ, ◌+◌, ◌<◌, ◌≤◌, ◌∷◌, [], ◌++◌, All, Some, IfSome, IfOk, OnErr, IsErr, is_err, length, min, false, vec_len};
+ghost use Rattle.std.proofs.Common.{refl};
 ghost use Rattle.std.proofs.Math.Nat.{le-add_right};
 ghost use Rattle.std.specs.Io.KnownBytes.{ReadConsumes, WriteAppends};
 ghost use Rattle.edge_io.specs.Stream.{Rose};
@@ -59,6 +60,8 @@ impl Source for MemLink {
 
     ghost read_faults = { λ l. l.input.calls.faults };
 
+    ghost beside = { λ l. record { bytes = Some l.output.written; faults = l.output.calls.faults } };
+
     /// Gives as many bytes as fit. It fails exactly where the call's number is listed.
     fn read(&mut self, buf: &mut [u8]) -> Result<usize, Failed>
         requires { 0 < length buf.old }
@@ -81,6 +84,8 @@ impl Sink for MemLink {
 
     ghost write_faults = { λ l. l.output.calls.faults };
 
+    ghost beside = { λ l. record { bytes = Some l.input.left; faults = l.input.calls.faults } };
+
     /// Takes all the bytes. It fails exactly where the call's number is listed, or the bytes don't
     /// fit whole into what is left of the room.
     fn write(&mut self, bytes: &[u8]) -> Result<usize, Failed>
@@ -101,7 +106,11 @@ impl Sink for MemLink {
     }
 }
 
-impl Link for MemLink {}
+impl Link for MemLink {
+    ghost written_stays = { λ _. refl };
+
+    ghost left_stays = { λ _. refl };
+}
 
 /// A door that gives the links of a list in their order, and then is closed.
 #[derive(Drop)]

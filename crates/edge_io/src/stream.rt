@@ -1,7 +1,7 @@
 // What bytes are read from and written to, and writes of whole texts.
 ghost use Rattle.std.specs.Prelude.{◌≡◌, ℕ, ◌+◌, ◌<◌, ◌≤◌, List, Option, ◌++◌, length, IfOk, OnOk, OnErr, None};
 ghost use Rattle.std.specs.Io.KnownBytes.{Appends, ReadConsumes, WriteAppends};
-ghost use Rattle.edge_io.specs.Stream.{Rose, AppendsFront};
+ghost use Rattle.edge_io.specs.Stream.{Rose, AppendsFront, Direction, no_direction};
 
 /// A read or a write failed.
 #[derive(Clone, Copy, Debug, PartialEq, Eq)]
@@ -15,6 +15,9 @@ pub trait Source {
     // How many reads have failed.
     ghost read_faults: { Self → ℕ };
 
+    // The other direction, where there is one: a read leaves it as it is.
+    ghost beside: { Self → Direction } = { λ _. no_direction };
+
     /// Puts bytes at the front of `buf` and answers how many. 0 is the end.
     ///
     /// `Failed` comes only where the count of failed reads rose, and takes no byte.
@@ -23,7 +26,8 @@ pub trait Source {
         ensures bound { IfOk result (λ n. n ≤ length buf.new) }
         ensures bytes { ReadConsumes (left self.old) (left self.new) result buf.new }
         ensures faults { read_faults self.old ≤ read_faults self.new }
-        ensures failed { OnErr result (Rose (read_faults self.old) (read_faults self.new)) };
+        ensures failed { OnErr result (Rose (read_faults self.old) (read_faults self.new)) }
+        ensures beside { beside self.new ≡ beside self.old };
 }
 
 /// What bytes are written to.
@@ -34,6 +38,9 @@ pub trait Sink {
     // How many writes have failed.
     ghost write_faults: { Self → ℕ };
 
+    // The other direction, where there is one: a write leaves it as it is.
+    ghost beside: { Self → Direction } = { λ _. no_direction };
+
     /// Takes the first bytes of `bytes` and answers how many, at least one.
     ///
     /// `Failed` comes only where the count of failed writes rose, and writes no byte.
@@ -43,7 +50,8 @@ pub trait Sink {
         ensures bound { IfOk result (λ n. n ≤ length bytes.now) }
         ensures bytes { WriteAppends (written self.old) (written self.new) result bytes.now }
         ensures faults { write_faults self.old ≤ write_faults self.new }
-        ensures failed { OnErr result (Rose (write_faults self.old) (write_faults self.new)) };
+        ensures failed { OnErr result (Rose (write_faults self.old) (write_faults self.new)) }
+        ensures beside { beside self.new ≡ beside self.old };
 }
 
 /// Writes all the bytes, in as many writes as it takes. Takes no memory.
@@ -55,6 +63,7 @@ pub fn write_whole<K: Sink>(sink: &mut K, bytes: &[u8]) -> Result<(), Failed>
     ensures all { OnOk result (Appends (K.written sink.old) (K.written sink.new) bytes.now) }
     ensures faults { K.write_faults sink.old ≤ K.write_faults sink.new }
     ensures failed { OnErr result (Rose (K.write_faults sink.old) (K.write_faults sink.new)) }
+    ensures beside { K.beside sink.new ≡ K.beside sink.old }
 {
     let mut at = 0;
     while at < bytes.len() {
@@ -74,6 +83,7 @@ pub fn write_two<K: Sink>(sink: &mut K, first: &[u8], second: &[u8]) -> Result<(
     ensures all { OnOk result (Appends (K.written sink.old) (K.written sink.new) (first.now ++ second.now)) }
     ensures faults { K.write_faults sink.old ≤ K.write_faults sink.new }
     ensures failed { OnErr result (Rose (K.write_faults sink.old) (K.write_faults sink.new)) }
+    ensures beside { K.beside sink.new ≡ K.beside sink.old }
 {
     write_whole(sink, first)?;
     write_whole(sink, second)

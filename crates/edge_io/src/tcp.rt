@@ -1,5 +1,6 @@
 // Links and doors over TCP. They are the trusted edge: no contract can say what a peer sends or gets.
 ghost use Rattle.std.specs.Prelude.{◌≡◌, ◌<◌, ◌≤◌, None, IfSome, length, false};
+ghost use Rattle.std.proofs.Common.{refl};
 ghost use Rattle.std.specs.Io.{ReadsAtMost, WritesAtMost};
 ghost use Rattle.edge_io.specs.Doors.{Listening, Counts, Gives};
 
@@ -181,6 +182,8 @@ impl<C: time::Clock + Copy + Drop> Source for TcpLink<C> {
 
     ghost read_faults = { λ l. l.read_faults };
 
+    ghost beside = { λ l. record { bytes = None; faults = l.write_faults } };
+
     fn read(&mut self, buf: &mut [u8]) -> Result<usize, Failed> {
         match self.timed.read(buf) {
             Some(count) => Ok(count),
@@ -197,6 +200,8 @@ impl<C: time::Clock + Copy + Drop> Sink for TcpLink<C> {
 
     ghost write_faults = { λ l. l.write_faults };
 
+    ghost beside = { λ l. record { bytes = None; faults = l.read_faults } };
+
     fn write(&mut self, bytes: &[u8]) -> Result<usize, Failed> {
         match self.timed.write(bytes) {
             Some(count) => Ok(count),
@@ -208,7 +213,11 @@ impl<C: time::Clock + Copy + Drop> Sink for TcpLink<C> {
     }
 }
 
-impl<C: time::Clock + Copy + Drop> Link for TcpLink<C> {}
+impl<C: time::Clock + Copy + Drop> Link for TcpLink<C> {
+    ghost written_stays = { λ _. refl };
+
+    ghost left_stays = { λ _. refl };
+}
 
 /// What gives the connections of a listener. Several doors share a port where each has a
 /// `TcpListener::try_clone` of one listener.

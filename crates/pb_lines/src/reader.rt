@@ -132,6 +132,7 @@ impl ChunkReader {
         ensures refused { IfSome self.old.refused (λ f. (result ≡ ChunkItem.Refused f) × (self.new ≡ self.old) × (source.new ≡ source.old)) }
         ensures faults { S.read_faults source.old ≤ S.read_faults source.new }
         ensures failed { result ≡ ChunkItem.SourceFault → Rose (S.read_faults source.old) (S.read_faults source.new) }
+        ensures beside { S.beside source.new ≡ S.beside source.old }
     {
         'lines: loop {
             if let Some(item) = self.read_line(source) {
@@ -151,6 +152,7 @@ impl ChunkReader {
         ensures unread { HoldsLine self.old → source.new ≡ source.old }
         ensures faults { S.read_faults source.old ≤ S.read_faults source.new }
         ensures failed { result ≡ Some ChunkItem.SourceFault → Rose (S.read_faults source.old) (S.read_faults source.new) }
+        ensures beside { S.beside source.new ≡ S.beside source.old }
     {
         if let Some(fault) = self.refused {
             return Some(ChunkItem::Refused(fault));
@@ -171,6 +173,7 @@ impl ChunkReader {
         ensures unread { HoldsLine self.old → source.new ≡ source.old }
         ensures faults { S.read_faults source.old ≤ S.read_faults source.new }
         ensures failed { result ≡ Some ChunkItem.SourceFault → Rose (S.read_faults source.old) (S.read_faults source.new) }
+        ensures beside { S.beside source.new ≡ S.beside source.old }
     {
         if self.pending {
             return None;

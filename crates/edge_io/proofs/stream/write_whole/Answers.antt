@@ -10,4 +10,5 @@ loop-at-preserved g c =
       within = search rules;
       front = rw (front_more c.args.bytes.now c.loop-at.at c.in_ok-at.field-0) (Appends-trans (written c.args.sink.now) (written c.loop-at.sink) (written c.write.new.self) _ _ c.loop-at.invariant.front c.in_ok-at.ensures.bytes);
       faults = search rules;
+      beside = search rules;
     }

@@ -26,6 +26,7 @@ reads-preserved g c =
       goes_on = stop ∙ c.reads.invariant.goes_on;
       unread = λ h. absurd (never_wants c.args.self.now c.reads.self (c.reads.source ≡ c.args.source.now) c.reads.invariant.unread c.reads.invariant.goes_on wants h);
       faults = omega (arith, c.reads.invariant.faults, c.in-More.ensures.faults);
+      beside = c.in-More.ensures.beside ∙ c.reads.invariant.beside;
     }
 
 pub returns-in-End-clause-read : goal.returns-in-End-clause-read

@@ -10,6 +10,7 @@ invariant-reads g l = record {
   goes_on : l.self.stop ≡ None;
   unread : HoldsAnswer l.initial.self → (l.self ≡ l.initial.self) × (l.source ≡ l.initial.source);
   faults : g.S.Source.read_faults l.initial.source ≤ g.S.Source.read_faults l.source;
+  beside : g.S.Source.beside l.source ≡ g.S.Source.beside l.initial.source;
 }
 
 abbrev pub decreases-reads : goal.decreases-reads

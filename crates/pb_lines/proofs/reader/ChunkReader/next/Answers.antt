@@ -1,4 +1,4 @@
-use Rattle.std.proofs.Common.{arith, None, Some}
+use Rattle.std.proofs.Common.{arith, None, Some, ◌∙◌}
 use Rattle.pb_lines.specs.Reader.{to_come, lines_taken, bytes_taken, ReadsItem, ReadsLine, Counts, CountsOn}
 use Rattle.pb_lines.proofs.Reading.{later_item, later_line, later_counts, when_none, if_none_by, refused_again, refused_so_far}
 use Rattle.pb_lines.proofs.reader.ChunkReader.next.Goals as goal
@@ -44,4 +44,5 @@ lines-preserved g c =
           later_line old mid new before middle after later (when_none mid.refused (ReadsLine mid new middle after None) later.going c.in_default.ensures.item) (when_none mid.refused (Counts (lines_taken mid) (bytes_taken mid) new None) later.going c.in_default.ensures.lines);
       refused = refused_so_far old mid new c.args.source.now c.lines.source c.read_line.new.source None c.lines.invariant.refused c.in_default.ensures.refused;
       faults = omega (arith, c.lines.invariant.faults, c.in_default.ensures.faults);
+      beside = c.in_default.ensures.beside ∙ c.lines.invariant.beside;
     }
