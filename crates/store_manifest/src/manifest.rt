@@ -99,6 +99,16 @@ impl Manifest {
         self.journal.is_sound()
     }
 
+    /// The number of the store whose files it lists, which its own file's name ends with.
+    pub fn store(&self) -> u8
+        ensures { (store : ℕ) → store ≤ 9 → self.now.journal.name ≡ manifest_name store → result ≡ store }
+    {
+        match self.journal.name().path.last() {
+            Some(digit) => digit.saturating_sub(b'0'),
+            None => 0,
+        }
+    }
+
     /// How long its partitions are.
     pub fn granularity(&self) -> Granularity
         ensures { result ≡ self.now.granularity }
