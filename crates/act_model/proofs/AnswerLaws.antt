@@ -203,12 +203,12 @@ goes_says (again move len copied here at grown less part same) = refl
 goes_says (damaged name at untold same) = refl
 
 pins_says : {who : ℕ} {name : List ℕ} {query : Query} {mid new : Machine} {answer : Reply} → Pins who name query mid answer new → is_answer_to (Pin name query) answer ≡ true
-pins_says (pins i row pin pieces a b c d e order f same) = refl
+pins_says (pins i row pin pieces a b c d e order f few same) = refl
 
 opens_says : {who pin i : ℕ} {old new : Machine} {answer : Reply} → Opens who pin i old answer new → is_answer_to (OpenPiece pin i) answer ≡ true
 opens_says {who} {pin} {i} {old} (refused_open reply p) = pin_refuses (OpenPiece pin i) who refl (λ owner. refl) (get old.pins pin) reply p
 opens_says (no_piece p a b c) = refl
-opens_says (opens p piece reader name head_len len a b c d e named same f) = refl
+opens_says (opens p piece reader name head_len len a b c d e named enough same f) = refl
 opens_says (faults_opening p piece a b c same q) = refl
 opens_says (wants_memory_opening same q) = refl
 

@@ -79,14 +79,14 @@ owner_may who o p here mine = let same : (p.owner == who) ≡ true = grind (arit
 refused_open_only : {who pin i : ℕ} {old new : Machine} {other : Reply} (said : Reply) → pin_refused who (get old.pins pin) ≡ Some said → Opens who pin i old other new → (other ≡ said) ⊎ IsFailure other
 refused_open_only said is (refused_open reply p) = inl cc
 refused_open_only {who} {pin} {old = old} said is (no_piece p here mine none) = absurd (let free = owner_may who (get old.pins pin) p here mine in cc)
-refused_open_only {who} {pin} {old = old} said is (opens p piece reader file head_len len here mine at faults shows named same more) = absurd (let free = owner_may who (get old.pins pin) p here mine in cc)
+refused_open_only {who} {pin} {old = old} said is (opens p piece reader file head_len len here mine at faults shows named enough same more) = absurd (let free = owner_may who (get old.pins pin) p here mine in cc)
 refused_open_only said is (faults_opening p piece here mine at same rose) = inr (inr refl)
 refused_open_only said is (wants_memory_opening same more) = inr (inl refl)
 
 no_piece_only : {who pin i : ℕ} {old new : Machine} {other : Reply} (said : PinState) → get old.pins pin ≡ Some said → said.owner ≡ who → slice_get said.pieces i ≡ None → Opens who pin i old other new → (other ≡ NoPiece (length said.pieces)) ⊎ IsFailure other
 no_piece_only {who} {pin} {old = old} said there own gone (refused_open reply p) = absurd (let free = owner_may who (get old.pins pin) said there own in cc)
 no_piece_only said there own gone (no_piece p here mine none) = inl (let same : p ≡ said = cc in ap (λ (x : PinState). NoPiece (length x.pieces)) same)
-no_piece_only {i = i} said there own gone (opens p piece reader file head_len len here mine at faults shows named same more) = absurd (let same : p ≡ said = cc in let none : slice_get p.pieces i ≡ None = ap (λ (x : PinState). slice_get x.pieces i) same ∙ gone in cc)
+no_piece_only {i = i} said there own gone (opens p piece reader file head_len len here mine at faults shows named enough same more) = absurd (let same : p ≡ said = cc in let none : slice_get p.pieces i ≡ None = ap (λ (x : PinState). slice_get x.pieces i) same ∙ gone in cc)
 no_piece_only said there own gone (faults_opening p piece here mine at same rose) = inr (inr refl)
 no_piece_only said there own gone (wants_memory_opening same more) = inr (inl refl)
 
@@ -352,7 +352,7 @@ least_free zero least = refl
 least_free (suc n) least = absurd (least 0 (omega arith) (get-empty nat_cmp 0))
 
 pinned_only : (after : Machine) (answer : Reply) → Pins 0 name all_moments (with_row one_row) answer after → answer ≡ Pinned 0 name (about Monitor) 0 one_row.tail
-pinned_only after answer (pins i row pin pieces found here free least listed order gives same) =
+pinned_only after answer (pins i row pin pieces found here free least listed order gives few same) =
     let at : i ≡ 0 = cc in
     let row_is : row ≡ one_row = (let there : slice_get (one_row ∷ []) 0 ≡ Some row = subst (λ k. slice_get (one_row ∷ []) k ≡ Some row) at here in cc) in
     let none : pieces ≡ [] = no_pieces (with_row one_row).rule i pieces (subst (λ r. AllByRecursion (IsListedPiece (with_row one_row).rule i r) pieces) row_is (listed refl)) in
@@ -368,7 +368,7 @@ owners =
     let there : get m1.pins 0 ≡ Some pin = one_there m0.pins 0 pin in
     let gone : get m2.pins 0 ≡ None = one_gone m1.pins 0 in (
       m1,
-      runs _ refl (no_doubt refl) refl (pins 0 one_row 0 [] refl refl (get-empty nat_cmp 0) (λ k low. absurd (omega arith)) (λ t. tt) (λ t. tt) (λ t. refl) refl) (omega arith),
+      runs _ refl (no_doubt refl) refl (pins 0 one_row 0 [] refl refl (get-empty nat_cmp 0) (λ k low. absurd (omega arith)) (λ t. tt) (λ t. tt) (λ t. refl) (omega arith) refl) (omega arith),
       (λ other new step. runs_only _ _ _ _ _ refl refl pinned_only step),
       (
         m1,

@@ -63,7 +63,7 @@ pub other_pins : (m : Machine) (others : FinMap nat_cmp PinState) → IsSound m 
 other_pins m others s sound = record { few = s.few; keys = s.keys; each_row = s.each_row; lines = s.lines; intake = s.intake; doubted = s.doubted; each_move = s.each_move; one_move = s.one_move; each_file = s.each_file; each_unlisted = s.each_unlisted; places = s.places; pinned = sound }
 
 pub pins_sound : {who : ℕ} {name : List ℕ} {query : Query} {mid new : Machine} {reply : Reply} → IsSound mid → Pins who name query mid reply new → IsSound new
-pins_sound {who} {mid = mid} {new = new} s (pins i row pin pieces found here free least listed order gives same) =
+pins_sound {who} {mid = mid} {new = new} s (pins i row pin pieces found here free least listed order gives few same) =
     same_sound (record mid { pins = insert mid.pins pin (record { owner = who; pieces = pieces }) }) new same (other_pins mid (insert mid.pins pin (record { owner = who; pieces = pieces })) s
     (λ t n other there. by_case t n other (pin_inserted mid.pins pin n (record { owner = who; pieces = pieces }) other there)))
   where
@@ -76,7 +76,7 @@ pins_sound {who} {mid = mid} {new = new} s (pins i row pin pieces found here fre
 pub opens_sound : {who pin i : ℕ} {old new : Machine} {reply : Reply} → IsSound old → Opens who pin i old reply new → IsSound new
 opens_sound s (refused_open reply p) = s
 opens_sound s (no_piece p a b c) = s
-opens_sound {old = old} {new = new} s (opens p piece reader name head_len len a b c d e named same f) = same_sound old new same s
+opens_sound {old = old} {new = new} s (opens p piece reader name head_len len a b c d e named enough same f) = same_sound old new same s
 opens_sound {old = old} {new = new} s (faults_opening p piece a b c same q) = same_sound old new same s
 opens_sound {old = old} {new = new} s (wants_memory_opening same q) = same_sound old new same s
 

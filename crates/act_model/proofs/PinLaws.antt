@@ -88,7 +88,7 @@ goes_pins (damaged name at untold same) = ap (λ (m : Machine). m.pins) same
 opens_pins : {who pin i : ℕ} {old new : Machine} {reply : Reply} → Opens who pin i old reply new → Alike old new
 opens_pins (refused_open reply p) = refl
 opens_pins (no_piece p a b c) = refl
-opens_pins {old = old} {new = new} (opens p piece reader name head_len len a b c d e named same f) = alike_same old new same
+opens_pins {old = old} {new = new} (opens p piece reader name head_len len a b c d e named enough same f) = alike_same old new same
 opens_pins {old = old} {new = new} (faults_opening p piece a b c same q) = alike_same old new same
 opens_pins {old = old} {new = new} (wants_memory_opening same q) = alike_same old new same
 
@@ -114,7 +114,7 @@ later_stays n pin old mid new is more here = more (alike_stays n pin old mid is 
 
 -- a new pin has a free number
 pins_stay : (n : ℕ) (pin : PinState) {who : ℕ} {name : List ℕ} {query : Query} {mid new : Machine} {reply : Reply} → Pins who name query mid reply new → Stays n pin mid new
-pins_stay n pin {who} {mid = mid} {new = new} (pins i row k pieces found there free least listed order gives same) here = ap (λ (m : Machine). get m.pins n) same ∙ by_test (n == k) refl
+pins_stay n pin {who} {mid = mid} {new = new} (pins i row k pieces found there free least listed order gives few same) here = ap (λ (m : Machine). get m.pins n) same ∙ by_test (n == k) refl
   where
     by_test : (b : Bool) → (n == k) ≡ b → get (insert mid.pins k (record { owner = who; pieces = pieces })) n ≡ Some pin
     by_test true is = absurd (let eq : n ≡ k = grind (arith, nat_tests) in let none : get mid.pins n ≡ None = ap (λ w. get mid.pins w) eq ∙ free in let bad = sym none ∙ here in cc)
@@ -206,7 +206,7 @@ opened_here n i pin {who} {old} here t (refused_open reply p) reader name head_l
     by_pin None is = cc
     by_pin (Some p) is = by_owner (p.owner == who) p.owner is
 opened_here n i pin here t (no_piece p a b c) reader name head_len len is = absurd cc
-opened_here n i pin {who} {old} here t (opens p piece r nm hl l a b c d shows named same f) reader name head_len len is =
+opened_here n i pin {who} {old} here t (opens p piece r nm hl l a b c d shows named enough same f) reader name head_len len is =
     let own : p ≡ pin = one_pin (sym a ∙ here) in
     let parts = one_reply r nm hl l reader name head_len len is in
     let shown : Shows piece r hl l = shows t in
@@ -238,7 +238,7 @@ one_answer : (n count : ℕ) (nm : List ℕ) (about : About) (tail : List Sample
 one_answer n count nm about tail n' count' nm' about' tail' is = (cc, cc, cc, cc, cc)
 
 made_here : {who : ℕ} {name : List ℕ} {query : Query} {mid new : Machine} {reply : Reply} (n count : ℕ) (nm : List ℕ) (about : About) (tail : List Sample) → Pins who name query mid reply new → reply ≡ Pinned n nm about count tail → IsPinMade who name query n nm about count tail new
-made_here {who} {name} {query} {mid} {new} n count nm about tail (pins i row pin pieces found here free least listed order gives same) is =
+made_here {who} {name} {query} {mid} {new} n count nm about tail (pins i row pin pieces found here free least listed order gives few same) is =
     let own = one_answer pin (length pieces) row.name row.about row.tail n count nm about tail is in
     let rows : new.rows ≡ mid.rows = ap (λ (m : Machine). m.rows) same in
     record {
@@ -246,6 +246,7 @@ made_here {who} {name} {query} {mid} {new} n count nm about tail (pins i row pin
       there = ap (λ (m : Machine). get m.pins n) same ∙ subst (λ k. get (insert mid.pins pin (record { owner = who; pieces = pieces })) k ≡ Some (record { owner = who; pieces = pieces })) own.0 (grind (arith, gets, nat_tests));
       owner = refl;
       number = sym own.1;
+      few = few;
       row = row;
       i = i;
       found = ap (λ w. place (λ r. same_bytes r.name name) 0 w) rows ∙ found;

@@ -111,12 +111,12 @@ goes_leave free (again move len copied here at grown less part same) = leaves (s
 goes_leave free (damaged name at untold same) = leaves (sym (ap (λ (m : Machine). kept m) same))
 
 pins_leave : {who : _} {name : _} {query : _} {act : Act} {mid new : Machine} {reply : Reply} → Pins who name query mid reply new → Leaves act mid new
-pins_leave (pins i row pin pieces a b c d e order f same) = leaves (sym (ap (λ (m : Machine). kept m) same))
+pins_leave (pins i row pin pieces a b c d e order f few same) = leaves (sym (ap (λ (m : Machine). kept m) same))
 
 opens_left : {who pin i : ℕ} {old new : Machine} {reply : Reply} (act : Act) → Opens who pin i old reply new → IsLeft act old new
 opens_left {old = old} act (refused_open reply p) = as_before act old old refl
 opens_left {old = old} act (no_piece p a b c) = as_before act old old refl
-opens_left {old = old} {new = new} act (opens p piece reader name head_len len a b c d e named same f) = as_before act old new (same_kept old new same)
+opens_left {old = old} {new = new} act (opens p piece reader name head_len len a b c d e named enough same f) = as_before act old new (same_kept old new same)
 opens_left {old = old} {new = new} act (faults_opening p piece a b c same q) = as_before act old new (same_kept old new same)
 opens_left {old = old} {new = new} act (wants_memory_opening same q) = as_before act old new (same_kept old new same)
 

@@ -79,12 +79,12 @@ goes_onward {mid = mid} {new = new} s (again move len copied here at grown less 
 goes_onward {mid = mid} {new = new} s (damaged name at untold same) = onward_same mid new (ap (λ (m : Machine). m.told) same) (ap (λ (m : Machine). m.rule) same) (ap (λ (m : Machine). m.rows) same)
 
 pins_onward : {who : ℕ} {name : List ℕ} {query : Query} {mid new : Machine} {reply : Reply} → Pins who name query mid reply new → Onward mid new
-pins_onward {mid = mid} {new = new} (pins i row pin pieces a b c d e order f same) = onward_same mid new (ap (λ (m : Machine). m.told) same) (ap (λ (m : Machine). m.rule) same) (ap (λ (m : Machine). m.rows) same)
+pins_onward {mid = mid} {new = new} (pins i row pin pieces a b c d e order f few same) = onward_same mid new (ap (λ (m : Machine). m.told) same) (ap (λ (m : Machine). m.rule) same) (ap (λ (m : Machine). m.rows) same)
 
 opens_onward : {who pin i : ℕ} {old new : Machine} {reply : Reply} → Opens who pin i old reply new → Onward old new
 opens_onward {old = old} (refused_open reply p) = onward_refl old
 opens_onward {old = old} (no_piece p a b c) = onward_refl old
-opens_onward {old = old} {new = new} (opens p piece reader name head_len len a b c d e named same f) = onward_counts old new same
+opens_onward {old = old} {new = new} (opens p piece reader name head_len len a b c d e named enough same f) = onward_counts old new same
 opens_onward {old = old} {new = new} (faults_opening p piece a b c same q) = onward_counts old new same
 opens_onward {old = old} {new = new} (wants_memory_opening same q) = onward_counts old new same
 

@@ -125,6 +125,6 @@ refused_other who pin other = let apart : (pin.owner == who) ≡ false = grind (
 pub others_open_none : (who n i : ℕ) (pin : PinState) (old new : Machine) (answer : Reply) → Opens who n i old answer new → get old.pins n ≡ Some pin → pin.owner ≢ who → (answer ≡ NotYours pin.owner) ⊎ (answer ≡ Memory)
 others_open_none who n i pin old new answer (refused_open reply p) here other = let said : pin_refused who (get old.pins n) ≡ Some (NotYours pin.owner) = rw here (refused_other who pin other) in inl cc
 others_open_none who n i pin old new answer (no_piece p there mine none) here other = absurd (other (let same : p ≡ pin = cc in ap (λ (x : PinState). x.owner) (sym same) ∙ mine))
-others_open_none who n i pin old new answer (opens p piece reader file head_len len there mine at faults shows named same more) here other = absurd (other (let same : p ≡ pin = cc in ap (λ (x : PinState). x.owner) (sym same) ∙ mine))
+others_open_none who n i pin old new answer (opens p piece reader file head_len len there mine at faults shows named enough same more) here other = absurd (other (let same : p ≡ pin = cc in ap (λ (x : PinState). x.owner) (sym same) ∙ mine))
 others_open_none who n i pin old new answer (faults_opening p piece there mine at same rose) here other = absurd (other (let same : p ≡ pin = cc in ap (λ (x : PinState). x.owner) (sym same) ∙ mine))
 others_open_none who n i pin old new answer (wants_memory_opening same more) here other = inr refl

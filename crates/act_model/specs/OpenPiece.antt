@@ -43,10 +43,11 @@ pub data Opens (who pin i : ℕ) : Machine → Reply → Machine → Type 0 wher
   -- the pin has no such piece
   no_piece : {old : Machine} (p : PinState) → get old.pins pin ≡ Some p → p.owner ≡ who → slice_get p.pieces i ≡ None
       → Opens who pin i old (NoPiece (length p.pieces)) old
-  -- the reader shows the piece, and has no fault yet
+  -- the reader shows the piece, has that many bytes at least, and no fault yet
   opens : {old new : Machine} (p : PinState) (piece : FileState) (reader : Opened) (name : Name) (head_len len : ℕ)
       → get old.pins pin ≡ Some p → p.owner ≡ who → slice_get p.pieces i ≡ Some piece
-      → reader.faults ≡ 0 → (old.told ≡ true → Shows piece reader head_len len) → (old.told ≡ true → IsNamed old piece name) → Same old new
+      → reader.faults ≡ 0 → (old.told ≡ true → Shows piece reader head_len len) → (old.told ≡ true → IsNamed old piece name)
+      → (reader.tells ≡ true → len ≤ length reader.bytes) → Same old new
       → old.faults ≤ new.faults
       → Opens who pin i old (Piece reader name head_len len) new
   faults_opening : {old new : Machine} (p : PinState) (piece : FileState) → get old.pins pin ≡ Some p → p.owner ≡ who

@@ -2,7 +2,7 @@
 -- are read, and tells the row's tail; these together answer its query as all that is accepted does.
 use Rattle.std.specs.FinMap.{get, insert}
 use Rattle.std.specs.List.{AllByRecursion}
-use Rattle.std.specs.Prelude.{◌≡◌, ◌≢◌, ◌⊎◌, ℕ, ◌<◌, ◌≤◌, List, [], ◌∷◌, length, true, false, Some, None, slice_get}
+use Rattle.std.specs.Prelude.{◌≡◌, ◌≢◌, ◌⊎◌, ℕ, ◌^◌, ◌<◌, ◌≤◌, List, [], ◌∷◌, length, true, false, Some, None, slice_get}
 use Rattle.series_model.specs.Retrieval.{answer}
 use Rattle.series_model.specs.Series.{over}
 use Rattle.series_model.specs.declared.sample.Query.{Query}
@@ -38,7 +38,8 @@ abbrev pub over_pieces : List Sample → List FileState → List Sample
 over_pieces xs [] = xs
 over_pieces xs (f ∷ rest) = over_pieces (over xs f.samples) rest
 
--- how a pin is made, once a doubt is settled: the least free number, and pieces that give the answer
+-- How a pin is made, once a doubt is settled: the least free number, and pieces that give the answer. They are so few that each has a
+-- number of 32 bits.
 pub data Pins (who : ℕ) (name : List ℕ) (query : Query) : Machine → Reply → Machine → Type 0 where
   pins : {mid new : Machine} (i : ℕ) (row : RowState) (pin : ℕ) (pieces : List FileState) → find_row mid name ≡ Some i
       → slice_get mid.rows i ≡ Some row
@@ -46,6 +47,7 @@ pub data Pins (who : ℕ) (name : List ℕ) (query : Query) : Machine → Reply 
       → (mid.told ≡ true → AllByRecursion (IsListedPiece mid.rule i row) pieces)
       → (mid.told ≡ true → InOrder pieces)
       → (mid.told ≡ true → answer (over (over_pieces [] pieces) row.tail) query ≡ answer (accepted row) query)
+      → length pieces < 2 ^ 32
       → Same (record mid { pins = insert mid.pins pin (record { owner = who; pieces = pieces }) }) new
       → Pins who name query mid (Pinned pin row.name row.about (length pieces) row.tail) new
 

@@ -1,6 +1,6 @@
 -- What a reader is promised who has pinned a variable: the pin stays as it was made until its owner unpins it, and each of its pieces
 -- opens with the bytes that were pinned. `IsRead` puts both together for one history.
-use Rattle.std.specs.Prelude.{◌≡◌, ℕ, List, [], true, Some, slice_get, length}
+use Rattle.std.specs.Prelude.{◌≡◌, ℕ, ◌^◌, ◌<◌, List, [], true, Some, slice_get, length}
 use Rattle.std.specs.List.{AllByRecursion}
 use Rattle.std.specs.FinMap.{get}
 use Rattle.series_model.specs.declared.sample.Query.{Query}
@@ -48,6 +48,7 @@ pub record IsPinMade (who : ℕ) (name : List ℕ) (query : Query) (n : ℕ) (to
   pub there : get m.pins n ≡ Some pin
   pub owner : pin.owner ≡ who
   pub number : count ≡ length pin.pieces
+  pub few : length pin.pieces < 2 ^ 32
   pub i : ℕ
   pub row : RowState
   pub found : find_row m name ≡ Some i
