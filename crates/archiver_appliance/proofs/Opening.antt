@@ -1,21 +1,24 @@
 -- What a disk holds from its opening on, through calls that only read.
-use Rattle.std.proofs.Common.{◌≡◌, ◌≢◌, ◌⊎◌, inl, inr, ℕ, List, refl, sym, ◌∙◌, ap, subst, arith}
+use Rattle.std.proofs.Common.{◌≡◌, ◌≢◌, ◌⊎◌, inl, inr, ℕ, Bool, List, refl, sym, ◌∙◌, ap, subst, arith}
 use Rattle.std.specs.Prelude.{IsTrue}
 use Rattle.disk_model.specs.Files.{Name, Files}
 use Rattle.disk_model.specs.Past.{Past, MayLeave, Passes}
 use Rattle.disk_model.specs.declared.disk.Disk.{Ghosts}
-use Rattle.disk_model.proofs.Passing.{passes_then}
+use Rattle.disk_model.proofs.Passing.{passes_then, passes_weaker}
 use Rattle.partition_names.specs.declared.granularity.Granularity.{Granularity}
 use Rattle.pv_catalog.specs.declared.row.Row.{Row}
 use Rattle.pv_catalog.specs.Catalogue.{catalogue_name}
 use Rattle.store_manifest.specs.declared.entry.Entry.{Entry}
 use Rattle.store_manifest.specs.Manifest.{manifest_name}
 use Rattle.store_manifest.proofs.Committing.{one_listing}
-use Rattle.tier_store.specs.Held.{Held, AreIn}
+use Rattle.tier_store.specs.Held.{Held, Listing, AreIn, KeepsListed}
 use Rattle.tier_store.specs.Stored.{Holds, HoldsEither}
-use Rattle.tier_store.specs.Change.{IsEither}
-use Rattle.store_reopen.specs.Reopen.{OpensEither, Reopens, StillHolds}
-use Rattle.store_reopen.specs.Verdict.{AreSaid}
+use Rattle.tier_store.specs.Writing.{LeavesListed}
+use Rattle.tier_store.specs.Seen.{Seen}
+use Rattle.tier_store.specs.Change.{IsEither, KeepsLists}
+use Rattle.tier_store.proofs.KeptBytes.{keeps_outside, leaves_on}
+use Rattle.store_reopen.specs.Reopen.{OpensEither, Reopens, SameStores, StillHolds}
+use Rattle.store_reopen.specs.Verdict.{AreSaid, IsWhole}
 use Rattle.store_reopen.proofs.Keeping.{one_list_of_rows}
 use Rattle.archiver_appliance.specs.Run.{OnlyReads}
 
@@ -42,7 +45,7 @@ first_stands g past one other first opens stands (inr is) = subst (λ (h : Held)
 
 -- opening only reads
 pub opening_reads : {D R : Type 0} (disk : Ghosts D R) (g : Granularity) (old new : D) → Reopens disk g old new → OnlyReads g (disk.files old) (disk.files new) (disk.past old) (disk.past new)
-opening_reads {D} {R} disk g old new reopens = record { any_moment = reopens.any_moment; either = reopens.either; opens = reopens.opens; elsewhere = reopens.elsewhere }
+opening_reads {D} {R} disk g old new reopens = record { any_moment = reopens.any_moment; either = reopens.either; opens = reopens.opens; elsewhere = reopens.elsewhere; stores = reopens.stores }
 
 same_image : (P : Files → Type 0) (a b : Files) → b ≡ a → P a → P b
 same_image P a b is holds = subst P (sym is) holds
@@ -67,4 +70,19 @@ then_reads g files between later old mid new opening same passes = record {
   either = λ one other opens. passes_then (HoldsEither g one other) (λ a b. b ≡ a) old mid new (opening.either one other opens) passes (λ a b c was step now is. same_image (λ (f : Files). HoldsEither g one other a f) b c is step);
   opens = λ one other opens. opens_then g mid new one other (opening.opens one other opens) passes;
   elsewhere = λ n other. ap (λ (f : Files). f n) same ∙ opening.elsewhere n other;
+  stores = passes_then SameStores (λ a b. b ≡ a) old mid new opening.stores passes (λ a b c was step now is. same_image (λ (f : Files). SameStores a f) b c is step);
 }
+
+-- what is listed of store 1 stays where no store changes
+pub reads_listed : (g : Granularity) (files later : Files) (old new : Past) (rows : List Row) (entries : List Entry) → OnlyReads g files later old new → LeavesListed ((1, rows), entries) files later old new
+reads_listed g files later old new rows entries reads =
+    let one : ◌≢◌ {A = ℕ} 1 0 = λ is. absurd (omega (arith, is)) in
+    record { now = keeps_outside ((1, rows), entries) 0 files later one reads.elsewhere; any_moment = passes_weaker SameStores (KeepsListed ((1, rows), entries)) old new reads.stores (λ a c left same. keeps_outside ((1, rows), entries) 0 a c one same) }
+
+-- and where the store that was opened keeps what it lists
+pub opened_listed : (g : Granularity) (files : Files) (old : Past) (tells : Bool) (s later : Seen) → IsTrue tells → OnlyReads g files s.files old s.past → AreSaid g files s.catalogue.rows s.manifest.entries → KeepsLists tells s later → (whole : IsWhole g files)
+    → LeavesListed ((1, whole.rows), whole.entries) files later.files old later.past
+opened_listed g files old tells s later told opening said lists whole =
+    let same = same_said g files s.catalogue.rows whole.rows s.manifest.entries whole.entries said whole.said in
+    leaves_on ((1, whole.rows), whole.entries) files s.files later.files old s.past later.past (reads_listed g files s.files old s.past whole.rows whole.entries opening)
+    (subst (λ (l : Listing). LeavesListed l s.files later.files s.past later.past) (λ i. ((1, same.0 i), same.1 i)) (lists.leaves told))

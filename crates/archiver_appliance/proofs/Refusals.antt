@@ -25,7 +25,7 @@ use Rattle.archiver_appliance.specs.Outside.{Outside}
 use Rattle.archiver_appliance.specs.declared.command.Command.TheVariants.{OverStore}
 use Rattle.archiver_appliance.specs.Run.{Does, Makes, MakesOfRead, OnlyReads, Serves, TellsSaid}
 use Rattle.archiver_appliance.proofs.Judgements.{OneVerdict, exactly, refusal_judges}
-use Rattle.archiver_appliance.proofs.Opening.{read_of, first_stands}
+use Rattle.archiver_appliance.proofs.Opening.{read_of, first_stands, reads_listed}
 use Rattle.archiver_appliance.proofs.Outcomes.{refused_ends}
 
 -- what reads give is of store 1, as both are
@@ -74,6 +74,7 @@ module _ (g : Granularity) (old new : Outside) (source : new.source ≡ old.sour
       makes = refused_makes asked seen;
       tells = λ whole. let both = tells_nothing asked whole.rows whole.entries in refusal_cases (λ e. TellsSaid asked old.files whole.rows whole.entries old new (refusal_of e)) whole (λ d. both.0) (λ d. both.1) err refl;
       reads = λ reading. reads;
+      listed = λ whole. reads_listed g old.files new.files old.past new.past whole.rows whole.entries reads;
     }
 
 -- What a disk that isn't opened comes to.

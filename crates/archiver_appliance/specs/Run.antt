@@ -9,8 +9,9 @@ use Rattle.pv_catalog.specs.Rows.{HasName}
 use Rattle.store_manifest.specs.declared.entry.Entry.{Entry}
 use Rattle.tier_store.specs.Held.{Held}
 use Rattle.tier_store.specs.Stored.{Holds, HoldsEither}
+use Rattle.tier_store.specs.Writing.{LeavesListed}
 use Rattle.tier_store.specs.Change.{IsEither}
-use Rattle.store_reopen.specs.Reopen.{OpensEither, StillHolds}
+use Rattle.store_reopen.specs.Reopen.{OpensEither, SameStores, StillHolds}
 use Rattle.store_reopen.specs.Verdict.{IsWhole}
 use Rattle.store_reports.specs.Status.{status_text, listed_text}
 use Rattle.archiver_appliance.specs.declared.command.Command.{Command}
@@ -65,12 +66,13 @@ abbrev pub NoDamage : Status → Type 0
 NoDamage (Damaged name at) = ⊥
 NoDamage _ = Unit {0}
 
--- It only reads: a crash leaves what the disk held, in doubt or not, and no file of a store is changed.
+-- It only reads: a crash leaves what the disk held, in doubt or not, and no file of a store is changed, at any moment and whatever is in it.
 pub record OnlyReads (g : Granularity) (files later : Files) (old new : Past) : Type 0 where
   pub any_moment : Passes (StillHolds g files) old new
   pub either : (one other : Held) → OpensEither g old one other → Passes (HoldsEither g one other) old new
   pub opens : (one other : Held) → OpensEither g old one other → OpensEither g new one other
-  pub elsewhere : (n : Name) → n.0 ≢ 0 → later n ≡ files n
+  pub elsewhere : SameStores files later
+  pub stores : Passes SameStores old new
 
 -- the disk failed, or memory was wanting, before anything was read or written
 pub record IsUnread (old new : Outside) (status : Status) : Type 0 where
@@ -105,11 +107,13 @@ IsReading g command.Ingest files = IsWhole g files → ⊥
 IsReading g _ files = Unit {0}
 
 -- What a command over a store did: what its status says of the image, what it made of what the disk held, and what it told of the image.
+-- The listed files of a whole image, damaged inside or not, have what is listed of them as they had it, at each moment.
 pub record Serves (g : Granularity) (asked : StoreCommand) (old new : Outside) (status : Status) : Type 0 where
   pub judges : Judges g asked old.files status
   pub makes : (one other : Held) → OpensEither g old.past one other → IsTrue one.stands → MakesOfRead g asked one other old new status
   pub tells : (whole : IsWhole g old.files) → TellsSaid asked old.files whole.rows whole.entries old new status
   pub reads : IsReading g asked old.files → OnlyReads g old.files new.files old.past new.past
+  pub listed : (whole : IsWhole g old.files) → LeavesListed ((1, whole.rows), whole.entries) old.files new.files old.past new.past
 
 -- WHAT A RUN DOES
 

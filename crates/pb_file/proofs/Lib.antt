@@ -2,5 +2,10 @@ pub mod Lines
 pub mod Meaning
 pub mod Blocks
 pub mod Walking
+pub mod Skipping
+pub mod Placing
+pub mod Narrowing
+pub mod Starts
+pub mod Reading
 pub mod Verdicts
-pub mod Steps
+pub mod OneStep

@@ -35,7 +35,7 @@ no_sample_refused w line info is bad = let P : Option PayloadInfo → Type 0 = �
 header_refused : (w : Walk) (line : List ℕ) → w.info ≡ None → IsRefused w line → (info : PayloadInfo) → IsHeaderLine line info → ⊥
 header_refused w line none bad = let P : Option PayloadInfo → Type 0 = λ o. IsRefused (record w { info = o }) line in subst P none bad
 
-sample_refused : (w : Walk) (line : List ℕ) (info : PayloadInfo) → w.info ≡ Some info → IsRefused w line → (t : ℕ) → IsSampleLine info.ty info.year line t → w.earliest ≤ t → ⊥
+pub sample_refused : (w : Walk) (line : List ℕ) (info : PayloadInfo) → w.info ≡ Some info → IsRefused w line → (t : ℕ) → IsSampleLine info.ty info.year line t → w.earliest ≤ t → ⊥
 sample_refused w line info is bad = let P : Option PayloadInfo → Type 0 = λ o. IsRefused (record w { info = o }) line in subst P is bad
 
 -- THE FILE SO FAR
@@ -53,7 +53,7 @@ next_line file line at len within long is =
     ap (λ (u : List ℕ). drop at u) all ∙ drop_at (take at file) (line ++ 10 ∷ rest) at (length-take-le at file (omega (arith, within, long)))
 
 -- the bytes that are left where no newline is
-last_line : (file line : List ℕ) (at len : ℕ) → at ≤ len → len ≤ length file → take len file ≡ take at file ++ line → drop at (take len file) ≡ line
+pub last_line : (file line : List ℕ) (at len : ℕ) → at ≤ len → len ≤ length file → take len file ≡ take at file ++ line → drop at (take len file) ≡ line
 last_line file line at len within long is = ap (λ (u : List ℕ). drop at u) is ∙ drop_at (take at file) line at (length-take-le at file (omega (arith, within, long)))
 
 from_start : (file : List ℕ) (at : ℕ) (len : ℕ) (rest : List ℕ) → at ≡ 0 → drop at (take len file) ≡ rest → take len file ≡ rest

@@ -2,4 +2,7 @@ pub mod File
 pub mod Line
 pub mod Block
 pub mod Walk
+pub mod Skip
+pub mod Search
+pub mod Parting
 pub mod Verdict

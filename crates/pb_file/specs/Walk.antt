@@ -87,7 +87,7 @@ Walks front bytes line walked.Memory new = HasWalked new bytes front
 Walks front bytes line _ new = ⊥
 
 -- what a call came to over such bytes, and what it gave
-pub record Steps (front : Option Front) (bytes : List ℕ) (old : Walk) (line : List ℕ) (result : Walked) (new : Walk) : Type 0 where
+pub record Reads (front : Option Front) (bytes : List ℕ) (old : Walk) (line : List ℕ) (result : Walked) (new : Walk) : Type 0 where
   pub gives : Gives old line result new
   pub walks : Walks front bytes line result new
 

@@ -3,10 +3,15 @@ ghost use Rattle.std.specs.Prelude.{◌≡◌, ◌≤◌, ◌<◌, ◌+◌, IsTr
 ghost use Rattle.disk_model.specs.Files.{Rose};
 
 use crate::line::{Taken, take_line};
+use crate::steps::Steps;
 use disk_model::ReadAt;
+use std::sync::ledger::Ledger;
+
+// The bytes of a read behind which no other went on.
+const FIRST: u64 = 512;
 
 // The most bytes of one read.
-const ROOM: u64 = 65_536;
+const MOST: u64 = 16_384;
 
 // What a read of a line came to.
 #[derive(Clone, Copy)]
@@ -43,8 +48,14 @@ impl Block {
     ghost use Rattle.disk_model.specs.Files.{Rose};
     ghost use Rattle.pb_file.specs.Block.{piece_of, IsPieceOf, GivesLine};
 
-    // Reads the line at a place, without its newline, into `line`, whose bytes before are lost.
-    pub fn read_line<H: ReadAt>(&mut self, file: &mut H, at: u64, line: &mut Vec<u8>) -> LineRead
+    // Reads the line at a place, without its newline, into `line`, whose bytes before are lost. It is the one step that is counted.
+    pub fn read_line<H: ReadAt, L: Ledger>(
+        &mut self,
+        file: &mut H,
+        at: u64,
+        line: &mut Vec<u8>,
+        steps: &mut Steps<L>,
+    ) -> LineRead
         requires within { at ≤ self.old.len }
         requires file { IsTrue H.tells → self.old.len ≤ length (H.bytes file.old) }
         ensures line { IsTrue H.tells → IsPieceOf (piece_of self.old) (H.bytes file.old) → GivesLine (H.bytes file.old) self.old.len at line.new.items result }
@@ -55,7 +66,9 @@ impl Block {
         ensures same { IsTrue H.tells → H.bytes file.new ≡ H.bytes file.old }
         ensures faults { H.faults file.old ≤ H.faults file.new }
         ensures cause { result ≡ LineRead.ReadFault → Rose (H.faults file.old) (H.faults file.new) }
+        ensures step { steps.new ≡ steps.old + 1 }
     {
+        steps.tick();
         line.clear();
         let mut place = at;
         'pieces: while place < self.len {
@@ -106,12 +119,25 @@ impl Block {
         ensures faults { H.faults file.old ≤ H.faults file.new }
         ensures cause { result ≡ Filled.Fault → Rose (H.faults file.old) (H.faults file.new) }
     {
-        let want = (self.len - place).min(ROOM) as usize;
+        let want = (self.len - place).min(self.room(place)) as usize;
         let filled = read_from(file, place, want, &mut self.bytes);
         if !matches!(filled, Filled::Memory) {
             self.start = place;
         }
         filled
+    }
+
+    // How many bytes a read from a place on asks for: few, since one line may be all that is wanted there. A read that goes on behind the
+    // bytes in memory asks for twice as many as these are.
+    fn room(&self, place: u64) -> u64
+        ensures some { 0 < result }
+    {
+        let held = self.bytes.len() as u64;
+        if place == self.start + held {
+            (held.min(MOST / 2) * 2).max(FIRST)
+        } else {
+            FIRST
+        }
     }
 
     // The bytes in memory from a place on.

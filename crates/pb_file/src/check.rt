@@ -4,10 +4,13 @@ ghost use Rattle.partition_names.specs.Part.{HoldsMoment};
 ghost use Rattle.disk_model.specs.Files.{Rose};
 ghost use Rattle.pb_file.specs.Verdict.{Says};
 
+use crate::steps::Steps;
 use crate::walk::{FileWalk, Walked};
 use disk_model::ReadAt;
 use partition_names::Part;
 use std::alloc::Global;
+use std::marker::Brand;
+use std::sync::ledger::{Blank, Ledger};
 
 /// What a check of a partition's file came to.
 #[derive(Clone, Copy, Debug, PartialEq, Eq)]
@@ -38,6 +41,27 @@ pub fn check_file<H: ReadAt>(alloc: Global, file: &mut H, part: &Part, len: u64)
     ensures faults { H.faults file.old ≤ H.faults file.new }
     ensures cause { result ≡ Verdict.ReadFault → Rose (H.faults file.old) (H.faults file.new) }
 {
+    check_lines::<H, Brand>(alloc, file, part, len, Blank::new(1))
+}
+
+// Checks a file line by line. The count of lines is dropped.
+fn check_lines<H: ReadAt, L: Ledger>(
+    alloc: Global,
+    file: &mut H,
+    part: &Part,
+    len: u64,
+    blank: Blank,
+) -> Verdict
+    requires name { blank.name ≡ L.name }
+    requires parts { blank.parts ≡ L.parts }
+    requires some { 0 < blank.parts }
+    requires file { IsTrue H.tells → len ≤ length (H.bytes file.old) }
+    ensures verdict { IsTrue H.tells → Says part.now (take len (H.bytes file.old)) result }
+    ensures same { IsTrue H.tells → H.bytes file.new ≡ H.bytes file.old }
+    ensures faults { H.faults file.old ≤ H.faults file.new }
+    ensures cause { result ≡ Verdict.ReadFault → Rose (H.faults file.old) (H.faults file.new) }
+{
+    let mut steps = Steps::<L>::new(blank);
     let mut walk = FileWalk::new(alloc, len);
     let mut line = Vec::new(alloc);
     let mut tally = Tally {
@@ -47,7 +71,7 @@ pub fn check_file<H: ReadAt>(alloc: Global, file: &mut H, part: &Part, len: u64)
     };
     'lines: loop {
         let at = walk.place();
-        match walk.next(file, &mut line) {
+        match walk.next(file, &mut line, &mut steps) {
             Walked::Header => {}
             Walked::Sample { t } => {
                 if is_inside(part, t) {

@@ -11,7 +11,7 @@ ghost use Rattle.partition_names.specs.declared.part.Part.{Part};
 ghost use Rattle.pb_file.specs.declared.check.Verdict.{Verdict};
 ghost use Rattle.pb_file.specs.declared.walk.Walked.{Walked};
 ghost use Rattle.pb_file.specs.File.{IsFile, IsBadAt, AreSamples, lines_of};
-ghost use Rattle.pb_file.specs.Walk.{Front, Walk, HasWalked, Steps, IsAnswer};
+ghost use Rattle.pb_file.specs.Walk.{Front, Walk, HasWalked, Reads, IsAnswer};
 ghost use Rattle.pb_file.specs.Verdict.{Says, IsDecided};
 
 /// Bytes are one file at most: their header and their samples are determined.
@@ -58,5 +58,5 @@ pub fn one_verdict()
 /// A walk has one answer at most to a call, but for failed reads and want of memory.
 pub fn one_step()
     ensures { (front : Option Front) (bytes line other : List ℕ) (a b : Walked) (old v w : Walk)
-        → HasWalked old bytes front → old.len ≤ length bytes → IsAnswer a → IsAnswer b → Steps front bytes old line a v → Steps front bytes old other b w → a ≡ b }
+        → HasWalked old bytes front → old.len ≤ length bytes → IsAnswer a → IsAnswer b → Reads front bytes old line a v → Reads front bytes old other b w → a ≡ b }
 {}

@@ -24,7 +24,11 @@ mod block;
 mod check;
 pub mod laws;
 mod line;
+mod search;
+mod steps;
 mod walk;
 
 pub use check::{Verdict, check_file};
+pub use search::{SearchErr, first_after, last_before};
+pub use steps::Steps;
 pub use walk::{FileWalk, Walked};

@@ -1,18 +1,24 @@
 // A walk through a PB file, one line a call.
-ghost use Rattle.std.specs.Prelude.{◌≡◌, ◌≤◌, ◌+◌, ◌↔◌, ℕ, List, Option, Some, None, IfSome, IfNone, IsSome, IsTrue, length};
+ghost use Rattle.std.specs.Prelude.{◌≡◌, ◌≤◌, ◌<◌, ◌+◌, ◌↔◌, [], ℕ, List, Option, Some, None, Err, IfOk, IfSome, IfNone, IsSome, IsTrue, length, take};
 ghost use Rattle.std.specs.Option.{option_copied};
 ghost use Rattle.line_escape.specs.Unescaping.{HasNoNewline};
 ghost use Rattle.disk_model.specs.Files.{Rose};
+ghost use Rattle.payload_info.specs.declared.info.PayloadInfo.{PayloadInfo as InfoValue};
 ghost use Rattle.pb_file.specs.Block.{IsPieceOf};
 ghost use Rattle.pb_file.specs.Walk.{Front, HasWalked, Gives, Walks, Takes, fresh, behind};
+ghost use Rattle.pb_file.specs.Skip.{HasHeader, HasSkipped, GoesOnFrom, BeginsBehind};
+ghost use Rattle.pb_file.specs.declared.search.SearchErr.TheVariants.{ReadFault, Damaged};
 
 use crate::block::{Block, LineRead};
+use crate::search::SearchErr;
+use crate::steps::Steps;
 use arch_time::YearStart;
 use disk_model::ReadAt;
 use payload_info::PayloadInfo;
 use pb_lines::{HeadErr, LineErr, header_of_line, moment_of_line};
 use std::alloc::Global;
 use std::marker::Model;
+use std::sync::ledger::Ledger;
 
 /// What a call of `FileWalk::next` came to.
 #[derive(Clone, Copy, Debug, PartialEq, Eq)]
@@ -96,6 +102,13 @@ impl FileWalk {
         }
     }
 
+    // How many bytes count.
+    pub(crate) fn len(&self) -> u64
+        ensures { result ≡ self.now.len }
+    {
+        self.block.len
+    }
+
     /// Where the next line begins.
     pub fn place(&self) -> u64
         ensures place { result ≡ self.now.place }
@@ -107,16 +120,25 @@ impl FileWalk {
     /// Reads the next line into `line`, without its newline, or tells the end of the file or its first bad line. After `End`
     /// and `Damaged` the same comes again. After `ReadFault` and `Memory` the walk goes on at the same line.
     ///
-    /// Each call is given the same file. What `line` had may be lost.
-    pub fn next<H: ReadAt>(&mut self, file: &mut H, line: &mut Vec<u8>) -> Walked
+    /// Each call is given the same file. What `line` had may be lost. It reads one line at most.
+    pub fn next<H: ReadAt, L: Ledger>(
+        &mut self,
+        file: &mut H,
+        line: &mut Vec<u8>,
+        steps: &mut Steps<L>,
+    ) -> Walked
         requires file { IsTrue H.tells → self.old.len ≤ length (H.bytes file.old) }
         ensures walked { IsTrue H.tells → (front : Option Front) → HasWalked self.old (H.bytes file.old) front → Walks front (H.bytes file.old) line.new.items result self.new }
+        ensures skipped { IsTrue H.tells → (at : ℕ) (front : Front) → HasSkipped self.old (H.bytes file.old) at front → GoesOnFrom at front (H.bytes file.old) line.new.items result self.new }
         ensures gives { IfNone self.old.stop (Gives self.old line.new.items result self.new) }
         ensures stopped { IfSome self.old.stop (λ stop. (result ≡ stop) × (self.new ≡ self.old) × (line.new ≡ line.old) × (file.new ≡ file.old)) }
         ensures within { self.new.place ≤ self.new.len }
         ensures same { IsTrue H.tells → H.bytes file.new ≡ H.bytes file.old }
         ensures faults { H.faults file.old ≤ H.faults file.new }
         ensures cause { result ≡ Walked.ReadFault → Rose (H.faults file.old) (H.faults file.new) }
+        ensures first_step { steps.old ≤ steps.new }
+        ensures one_step { steps.new ≤ steps.old + 1 }
+        ensures no_step { result ≡ Walked.End → steps.new ≡ steps.old }
     {
         if let Some(stop) = self.stop {
             return stop;
@@ -125,11 +147,64 @@ impl FileWalk {
             self.stop = Some(Walked::End);
             return Walked::End;
         }
-        match self.block.read_line(file, self.place, line) {
+        match self.block.read_line(file, self.place, line, steps) {
             LineRead::Line => self.take(line),
             LineRead::Torn => self.refuse(),
             LineRead::ReadFault => Walked::ReadFault,
             LineRead::Memory => Walked::Memory,
+        }
+    }
+
+    /// Goes on at a later place, without reading what stands before it: `next` answers from then on as over the header's line and the
+    /// bytes from there on. The first line there is compared with none before it. At a place that isn't later, or is past the bytes
+    /// that count, nothing changes.
+    pub fn skip_to(&mut self, at: u64)
+        requires { IsSome self.old.info }
+        ensures skips { self.old.place < at → at ≤ self.old.len → self.new ≡ record self.old { place = at; earliest = 0; stop = None } }
+        ensures stays { (self.old.place < at → at ≤ self.old.len → ⊥) → self.new ≡ self.old }
+        ensures skipped { self.old.place < at → at ≤ self.old.len → (bytes head : List ℕ) (info : InfoValue) → HasHeader self.old bytes head info → HasSkipped self.new bytes at (record { head = head; info = info; samples = [] }) }
+    {
+        if self.place < at && at <= self.block.len {
+            self.seek(at);
+        }
+    }
+
+    // Goes on at any place.
+    pub(crate) fn seek(&mut self, at: u64)
+        requires within { at ≤ self.old.len }
+        ensures moved { self.new ≡ record self.old { place = at; earliest = 0; stop = None } }
+        ensures skipped { (bytes head : List ℕ) (info : InfoValue) → HasHeader self.old bytes head info → HasSkipped self.new bytes at (record { head = head; info = info; samples = [] }) }
+    {
+        self.place = at;
+        self.last = None;
+        self.stop = None;
+    }
+
+    // Where the first line begins behind a place: behind the first newline from there on. It is the end where none is.
+    pub(crate) fn line_behind<H: ReadAt, L: Ledger>(
+        &mut self,
+        file: &mut H,
+        place: u64,
+        line: &mut Vec<u8>,
+        steps: &mut Steps<L>,
+    ) -> Result<u64, SearchErr>
+        requires within { place < self.old.len }
+        requires file { IsTrue H.tells → self.old.len ≤ length (H.bytes file.old) }
+        ensures behind { IfOk result (λ at. (place < at) × (at ≤ self.old.len)) }
+        ensures line { IsTrue H.tells → IsPieceOf self.old.piece (H.bytes file.old) → IfOk result (BeginsBehind (take self.old.len (H.bytes file.old)) place) }
+        ensures piece { IsTrue H.tells → IsPieceOf self.old.piece (H.bytes file.old) → IsPieceOf self.new.piece (H.bytes file.old) }
+        ensures walk { self.new ≡ record self.old { piece = self.new.piece } }
+        ensures never { (at : ℕ) → result ≡ Err (Damaged at) → ⊥ }
+        ensures same { IsTrue H.tells → H.bytes file.new ≡ H.bytes file.old }
+        ensures faults { H.faults file.old ≤ H.faults file.new }
+        ensures cause { result ≡ Err ReadFault → Rose (H.faults file.old) (H.faults file.new) }
+        ensures step { steps.new ≡ steps.old + 1 }
+    {
+        match self.block.read_line(file, place, line, steps) {
+            LineRead::Line => return Ok(place + line.len() as u64 + 1),
+            LineRead::Torn => return Ok(self.block.len),
+            LineRead::ReadFault => return Err(SearchErr::ReadFault),
+            LineRead::Memory => return Err(SearchErr::Memory),
         }
     }
 

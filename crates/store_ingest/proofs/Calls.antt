@@ -51,5 +51,6 @@ module _ {A E : Type 0} (tells : Bool) (call : Call A E) (By : Held → Held →
   changes_of old new end result is acts = subst (λ (e : End (Unit {0}) ⊥). Changes tells (doing By) old new e) (sym is) (record {
     ends = λ held has. answers new held end (acts.settled held has);
     any_moment = λ told held has. passes_weaker (HoldsChange old.manifest.granularity call.by held held) (HoldsBy old.manifest.granularity By held) old.past new.past (acts.any_moment told held held (inl has)) (λ a b left. image old.manifest.granularity held a b);
+    lists = acts.lists;
     costs = record { granularity = acts.costs.granularity; faults = acts.costs.faults; cause = λ is. acts.costs.cause (failed end is) };
   })

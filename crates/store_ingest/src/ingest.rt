@@ -4,7 +4,7 @@ ghost use Rattle.edge_io.specs.Stream.{Rose};
 ghost use Rattle.pb_lines.specs.Stream.{Item};
 ghost use Rattle.tier_store.specs.Held.{Held};
 ghost use Rattle.tier_store.specs.Seen.{seen};
-ghost use Rattle.tier_store.specs.Change.{Has, Costs};
+ghost use Rattle.tier_store.specs.Change.{Has, Costs, KeepsLists};
 ghost use Rattle.store_ingest.specs.Ingest.{Ingests, ReadsOf, StaysUsable, end_of, outcome_of, stopped_by};
 
 mod chunk;
@@ -39,7 +39,7 @@ pub enum Ingested {
 ///
 /// After `Done` and `Refused` all that was kept is durable. It stops at its first fault, and flushes nothing after a fault of the
 /// source. The faults come only where the source's or the disk's count of them rose in the call. The store can be used after each
-/// answer.
+/// answer, and at each moment the files that were listed have the bytes that were listed of them, also where they are damaged.
 pub fn ingest<D: Disk, S: Source, C: Clock>(
     alloc: Global,
     store: &mut TierStore<D>,
@@ -54,6 +54,9 @@ pub fn ingest<D: Disk, S: Source, C: Clock>(
     // Whatever the store: the stream was read to its end, or up to its first bad line, and the store can be used.
     ensures stream { (items : List Item) × ReadsOf result (S.left source.old) items }
     ensures usable { StaysUsable D.tells result (seen D.Disk store.new) }
+
+    // Also of a damaged store: no file is unlisted, and no listed byte changes, whatever comes in between.
+    ensures lists { KeepsLists D.tells (seen D.Disk store.old) (seen D.Disk store.new) }
 
     ensures costs { Costs (seen D.Disk store.old) (seen D.Disk store.new) (end_of result) }
     ensures source_faults { S.read_faults source.old ≤ S.read_faults source.new }

@@ -32,7 +32,7 @@ use Rattle.tier_store.specs.Stored.{Holds, HoldsEither, KeysDiffer, AreHeld}
 use Rattle.tier_store.specs.Seen.{Seen}
 use Rattle.tier_store.specs.Change.{IsKnown, Has, IsEither}
 use Rattle.store_reopen.specs.Verdict.{AreSaid, HasRow, IsThere}
-use Rattle.store_reopen.specs.Reopen.{IsReady, IsUnopened, OpensEither, StillHolds, Reopens, short_granularity}
+use Rattle.store_reopen.specs.Reopen.{IsReady, IsUnopened, OpensEither, SameStores, StillHolds, Reopens, short_granularity}
 use Rattle.store_reopen.specs.Loading.{Catalogue, Manifest, StillSay, KeepsSaid}
 use Rattle.store_reopen.proofs.Keeping.{one_list_of_rows}
 
@@ -314,5 +314,6 @@ reopened {D} {R} disk config g old new here read unopened keeps = subst (λ (h :
   either = λ before after opens. still_either g (disk.files old) (disk.past old) (disk.past new) before after read opens keeps.passes;
   opens = λ before after opens. opens_again g (disk.files old) (disk.past old) (disk.past new) before after read keeps.passes opens;
   elsewhere = keeps.elsewhere;
+  stores = passes_weaker (StillSay g (disk.files old)) SameStores (disk.past old) (disk.past new) keeps.passes (λ a c left step. step.elsewhere);
   unopened = still_unopened g (disk.files old) (disk.files new) (disk.opened old) (disk.opened new) (disk.past old) (disk.past new) keeps unopened;
 })

@@ -60,13 +60,18 @@ Opens g past held = OpensEither g past held held
 abbrev pub StillHolds : Granularity → Files → Files → Files → Type 0
 StillHolds g files old new = (held : Held) → Holds g files held → Holds g old held → Holds g new held
 
+-- every store of partition files is as it was, whatever is in its files
+abbrev pub SameStores : Files → Files → Type 0
+SameStores old new = (n : Name) → n.0 ≢ 0 → new n ≡ old n
+
 -- What opening makes of a disk that tells its files, whatever it answers: each image goes on to hold what it held, at each moment, and
--- the disk may be opened again.
+-- the disk may be opened again. No store of partition files changes at any moment, also where it is damaged.
 pub record Reopens {D R : Type 0} (disk : Ghosts D R) (g : Granularity) (old new : D) : Type 0 where
   pub any_moment : Passes (StillHolds g (disk.files old)) (disk.past old) (disk.past new)
   pub either : (before after : Held) → OpensEither g (disk.past old) before after → Passes (HoldsEither g before after) (disk.past old) (disk.past new)
   pub opens : (before after : Held) → OpensEither g (disk.past old) before after → OpensEither g (disk.past new) before after
-  pub elsewhere : (n : Name) → n.0 ≢ 0 → disk.files new n ≡ disk.files old n
+  pub elsewhere : SameStores (disk.files old) (disk.files new)
+  pub stores : Passes SameStores (disk.past old) (disk.past new)
   pub unopened : IsUnopened (disk.files new) (disk.opened new)
 
 -- the store has what reads give of the disk, which is the one or the other

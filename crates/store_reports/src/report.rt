@@ -1,5 +1,5 @@
 // What a check tells: a line for each file, and the first damaged one.
-ghost use Rattle.std.specs.Prelude.{◌≡◌, ◌≤◌, [], ◌++◌, codes, decimal, None, OnOk, IsErrOf};
+ghost use Rattle.std.specs.Prelude.{◌≡◌, ◌≤◌, ◌<◌, [], ◌++◌, length, codes, decimal, None, OnOk, IsErrOf};
 ghost use Rattle.std.specs.Option.{option_or};
 ghost use Rattle.edge_io.specs.Stream.{Rose, AppendsFront};
 ghost use Rattle.sink_buffer.specs.Sent.{Sends};
@@ -61,6 +61,7 @@ impl Report {
         finding: Finding,
         sink: &mut K,
     ) -> Result<(), PutErr>
+        requires { entry.now.series < length rows.now }
         ensures line { OnOk result (Sends (K.written sink.old) (K.written sink.new) (self.old.buffer ++ file_line (file_of (1, rows.now) entry.now) finding) self.new.buffer) }
         ensures first { OnOk result (self.new.first ≡ option_or self.old.first (damage_of (file_of (1, rows.now) entry.now) finding)) }
         ensures memory { IsErrOf result PutErr.Memory → Sends (K.written sink.old) (K.written sink.new) self.old.buffer self.new.buffer }

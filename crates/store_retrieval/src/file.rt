@@ -1,5 +1,5 @@
 // The reading of one file for an answer.
-ghost use Rattle.std.specs.Prelude.{◌≡◌, ◌≤◌, ◌++◌, ℕ, List, Option, Some, None, IfOk, OnOk, IsSome, IsTrue, FitsSigned, Result, Ok, Err, length, take};
+ghost use Rattle.std.specs.Prelude.{◌≡◌, ◌≤◌, ◌<◌, ◌++◌, ℕ, List, Option, Some, None, IfOk, OnOk, IsSome, IsTrue, FitsSigned, Result, Ok, Err, length, take};
 ghost use Rattle.std.specs.Int.{w32};
 ghost use Rattle.edge_io.specs.Stream.{Rose as SinkRose};
 ghost use Rattle.disk_model.specs.Files.{Rose};
@@ -17,10 +17,12 @@ ghost use Rattle.store_retrieval.specs.Read.{ReadsFile};
 use crate::answer::{Answer, Flow};
 use disk_model::ReadAt;
 use edge_io::Sink;
-use pb_file::{FileWalk, Walked};
+use pb_file::{FileWalk, Steps, Walked};
 use pv_catalog::Row;
 use sink_buffer::PutErr;
 use std::alloc::Global;
+use std::marker::Brand;
+use std::sync::ledger::{Blank, Ledger};
 
 /// Why the reading of a file stopped.
 #[derive(Clone, Copy, Debug, PartialEq, Eq)]
@@ -70,17 +72,48 @@ pub(crate) fn read_file<H: ReadAt, K: Sink>(
     ensures sink_faults { K.write_faults sink.old ≤ K.write_faults sink.new }
     ensures failed { result ≡ Err SinkFault → SinkRose (K.write_faults sink.old) (K.write_faults sink.new) }
 {
+    read_lines::<H, K, Brand>(alloc, row, len, file, answer, line, sink, Blank::new(1))
+}
+
+// Reads a file line by line. The count of lines is dropped.
+fn read_lines<H: ReadAt, K: Sink, L: Ledger>(
+    alloc: Global,
+    row: &Row,
+    len: u64,
+    file: &mut H,
+    answer: &mut Answer,
+    line: &mut Vec<u8>,
+    sink: &mut K,
+    blank: Blank,
+) -> Result<Flow, Stop>
+    requires name { blank.name ≡ L.name }
+    requires parts { blank.parts ≡ L.parts }
+    requires some { 0 < blank.parts }
+    requires file { IsTrue H.tells → len ≤ length (H.bytes file.old) }
+    ensures reads { IsTrue H.tells → (a : Option (List ℕ)) (head : List ℕ) (info : Info) (earlier samples : List Sample)
+        → IsFile (take len (H.bytes file.old)) head info samples → info.ty ≡ row.now.about.ty → IsRising (earlier ++ samples) → Covers row.now a (K.written sink.old) answer.old earlier
+        → Reads row.now a (K.written sink.new) answer.new earlier samples result }
+    ensures read { IsTrue H.tells → IfOk result (ReadsFile row.now (H.bytes file.old) len (K.written sink.old) (K.written sink.new) answer.old answer.new) }
+    ensures damaged { IsTrue H.tells → (at : ℕ) → result ≡ Err (Damaged at) → IsBadFor row.now (take len (H.bytes file.old)) at }
+    ensures asked { (answer.new.query ≡ answer.old.query) × (answer.new.nearest ≡ answer.old.nearest) }
+    ensures faults { H.faults file.old ≤ H.faults file.new }
+    ensures cause { result ≡ Err ReadFault → Rose (H.faults file.old) (H.faults file.new) }
+    ensures sink_faults { K.write_faults sink.old ≤ K.write_faults sink.new }
+    ensures failed { result ≡ Err SinkFault → SinkRose (K.write_faults sink.old) (K.write_faults sink.new) }
+{
+    let mut steps = Steps::<L>::new(blank);
     let mut walk = FileWalk::new(alloc, len);
-    let year = read_header(row, file, &mut walk, line)?;
-    read_samples(row, year, file, &mut walk, answer, line, sink)
+    let year = read_header(row, file, &mut walk, line, &mut steps)?;
+    read_samples(row, year, file, &mut walk, answer, line, sink, &mut steps)
 }
 
 // Reads the header's line, whose type is to be the row's, and tells its year.
-fn read_header<H: ReadAt>(
+fn read_header<H: ReadAt, L: Ledger>(
     row: &Row,
     file: &mut H,
     walk: &mut FileWalk,
     line: &mut Vec<u8>,
+    steps: &mut Steps<L>,
 ) -> Result<i32, Stop>
     requires file { IsTrue H.tells → walk.old.len ≤ length (H.bytes file.old) }
     requires going { (walk.old.stop ≡ None) × (walk.old.info ≡ None) }
@@ -93,7 +126,7 @@ fn read_header<H: ReadAt>(
     ensures cause { result ≡ Err ReadFault → Rose (H.faults file.old) (H.faults file.new) }
     ensures never { result ≡ Err SinkFault → ⊥ }
 {
-    match walk.next(file, line) {
+    match walk.next(file, line, steps) {
         Walked::Header => year_of(row, walk),
         Walked::ReadFault => Err(Stop::ReadFault),
         Walked::Damaged { at } => Err(Stop::Damaged { at }),
@@ -120,7 +153,7 @@ fn year_of(row: &Row, walk: &FileWalk) -> Result<i32, Stop>
 }
 
 // Reads the lines of samples behind the header, up to one from which on none counts.
-fn read_samples<H: ReadAt, K: Sink>(
+fn read_samples<H: ReadAt, K: Sink, L: Ledger>(
     row: &Row,
     year: i32,
     file: &mut H,
@@ -128,6 +161,7 @@ fn read_samples<H: ReadAt, K: Sink>(
     answer: &mut Answer,
     line: &mut Vec<u8>,
     sink: &mut K,
+    steps: &mut Steps<L>,
 ) -> Result<Flow, Stop>
     requires file { IsTrue H.tells → walk.old.len ≤ length (H.bytes file.old) }
     requires going { (walk.old.stop ≡ None) × IsSome walk.old.info }
@@ -142,7 +176,7 @@ fn read_samples<H: ReadAt, K: Sink>(
     ensures failed { result ≡ Err SinkFault → SinkRose (K.write_faults sink.old) (K.write_faults sink.new) }
 {
     'lines: loop {
-        match walk.next(file, line) {
+        match walk.next(file, line, steps) {
             Walked::Sample { t } => {
                 let flow = answer.take(row, year, t, line, sink)?;
                 match flow {

@@ -120,6 +120,7 @@ fn told<R: ReadAt>(
     file: R,
     read: Result<Flow, Stop>,
 ) -> Result<Flow, GetErr<R>>
+    requires { entry.now.series < length rows.now }
     ensures { IsToldAs (file_of (1, rows.now) entry.now) file read result }
 {
     match read {

@@ -1,11 +1,13 @@
 // Files by hand in hexadecimal, line by line, and what a check says of them.
-ghost use Rattle.std.specs.Prelude.{◌<◌};
+ghost use Rattle.std.specs.Prelude.{◌≡◌, ◌<◌};
 
 use disk_model::{ReadAt, ReadFailed};
 use partition_names::{Granularity, part_of};
-use pb_file::{FileWalk, Verdict, Walked, check_file};
+use pb_file::{FileWalk, Steps, Verdict, Walked, check_file};
 use std::alloc::{AllocError, Global};
+use std::marker::Brand;
 use std::process::Abort;
+use std::sync::ledger::{Blank, Ledger};
 use std::test::Fail;
 
 const SECOND: u64 = 1_000_000_000;
@@ -92,12 +94,28 @@ fn expect_walk(
     len: u64,
     items: &[Walked],
 ) -> Result<(), Fail> {
+    expect_lines::<_, Brand>(rt, alloc, file, len, items, Blank::new(1))
+}
+
+fn expect_lines<A: Abort, L: Ledger>(
+    rt: &A,
+    alloc: Global,
+    file: &mut Counted,
+    len: u64,
+    items: &[Walked],
+    blank: Blank,
+) -> Result<(), Fail>
+    requires name { blank.name ≡ L.name }
+    requires parts { blank.parts ≡ L.parts }
+    requires some { 0 < blank.parts }
+{
+    let mut steps = Steps::<L>::new(blank);
     let mut walk = FileWalk::new(alloc, len);
     let mut line = Vec::new(alloc);
     let mut lines = Vec::new(alloc);
     let mut last = Walked::Memory;
     for item in items {
-        last = walk.next(file, &mut line);
+        last = walk.next(file, &mut line, &mut steps);
         assert_eq!(rt; last, *item);
         if matches!(&last, Walked::Header | Walked::Sample { .. }) {
             lines.extend_from_slice(&line)?;
@@ -105,7 +123,7 @@ fn expect_walk(
         }
         assert_eq!(rt; walk.place(), lines.len() as u64);
     }
-    assert_eq!(rt; walk.next(file, &mut line), last);
+    assert_eq!(rt; walk.next(file, &mut line, &mut steps), last);
     assert!(rt; file.bytes.starts_with(&lines));
     Ok(())
 }
@@ -243,7 +261,7 @@ fn a_sample_before_the_partition_is_outside(rt: HostRuntime) -> Result<(), Fail>
     Ok(())
 }
 
-// A header whose name has 131,047 bytes: it spans two blocks, S1 stands behind it, and S5 across the end of the second block.
+// A header whose name has 131,047 bytes: it spans thirteen blocks, in the last of which the samples stand.
 fn long_file(alloc: Global, failing: u64) -> Result<Counted, AllocError> {
     let name = vec![in alloc; 0x41u8; 131_047]?;
     file_of(
@@ -261,12 +279,12 @@ fn long_file(alloc: Global, failing: u64) -> Result<Counted, AllocError> {
 }
 
 #[test]
-fn each_byte_is_read_once_in_blocks_of_65536(rt: HostRuntime) -> Result<(), Fail> {
+fn each_byte_is_read_once_in_blocks_that_grow_to_16384(rt: HostRuntime) -> Result<(), Fail> {
     let alloc = rt.alloc();
     let mut file = long_file(alloc, 0)?;
     let items = [Walked::Header, second(1), second(5), second(9), Walked::End];
     expect_walk(&rt, alloc, &mut file, 131_087, &items)?;
-    assert_eq!(rt; file.reads, 3);
+    assert_eq!(rt; file.reads, 13);
     assert_eq!(rt; file.given, 131_087);
     Ok(())
 }
@@ -279,7 +297,7 @@ fn a_walk_goes_on_after_a_failed_read(rt: HostRuntime) -> Result<(), Fail> {
         return Err("no hour".into());
     };
     let items = [Walked::Header, second(1), second(5), second(9), Walked::End];
-    for (failing, before) in [(1u64, 0usize), (2, 0), (3, 2)] {
+    for (failing, before) in [(1u64, 0usize), (2, 0), (13, 0)] {
         let mut told = Vec::new(alloc);
         for (i, item) in items.iter().enumerate() {
             if i == before {
@@ -304,13 +322,27 @@ fn the_header_is_told_once_it_was_read(rt: HostRuntime) -> Result<(), Fail> {
     let alloc = rt.alloc();
     let mut file = file_of(alloc, &[H, S1], 0)?;
     let mut walk = FileWalk::new(alloc, 21);
-    let mut line = Vec::new(alloc);
     assert!(rt; walk.info().is_none());
-    walk.next(&mut file, &mut line);
+    next_of::<Brand>(alloc, &mut walk, &mut file, Blank::new(1));
     let Some(info) = walk.info() else {
         return Err("no header".into());
     };
     assert_eq!(rt; info.year, 2024);
     assert_eq!(rt; info.name.bytes(), b"A:B".as_slice());
     Ok(())
+}
+
+// One call of a walk.
+fn next_of<L: Ledger>(
+    alloc: Global,
+    walk: &mut FileWalk,
+    file: &mut Counted,
+    blank: Blank,
+) -> Walked
+    requires name { blank.name ≡ L.name }
+    requires parts { blank.parts ≡ L.parts }
+    requires some { 0 < blank.parts }
+{
+    let mut line = Vec::new(alloc);
+    walk.next(file, &mut line, &mut Steps::<L>::new(blank))
 }

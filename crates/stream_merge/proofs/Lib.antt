@@ -1,5 +1,7 @@
 mod Answering
-mod Reading
+pub mod Reading
 mod Pulling
 mod Coming
 mod Giving
+pub mod Went
+mod Later

@@ -26,6 +26,14 @@ kept_count (Some t) = 1
 abbrev pub remaining : {R : Type 0} → ℕ → Merge R → ℕ
 remaining {R} count m = unread count m.source + kept_count m.kept
 
+-- the first moment at which the next line may stand: what is kept comes next, and otherwise what is later than the last sample
+abbrev pub next_from : Option ℕ → Option ℕ → ℕ
+next_from None last = behind last
+next_from (Some t) last = t
+
+abbrev pub line_from : {R : Type 0} → Merge R → ℕ
+line_from {R} m = next_from m.kept m.last
+
 -- what is kept is earlier than the interval
 abbrev pub IsEarly : Option ℕ → ℕ → Type 0
 IsEarly None from = Unit {0}

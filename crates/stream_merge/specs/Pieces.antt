@@ -45,3 +45,17 @@ HasNoFault {R} faults _ = Unit {0}
 abbrev pub Counts : {R : Type 0} → ℕ → ℕ → Opened R → Type 0
 Counts {R} before now (Piece reader name head_len len) = before ≡ now + 1
 Counts {R} before now _ = now ≡ before
+
+-- why an opening failed: its read did, no act was left for it, or memory ran out
+pub data Failure : Type 0 where
+  Faulted : Failure
+  OutOfActs : Failure
+  OutOfMemory : Failure
+
+-- What an opening did. `opened` has the pieces that were opened with no failure between; `failed` says that an opening failed.
+abbrev pub Leads : {P R : Type 0} → (R → List ℕ) → (P → List NamedBytes → P → Type 0) → (P → Failure → P → Type 0) → P → Opened R → P → Type 0
+Leads {P} {R} bytes opened failed old (Piece reader name head_len len) new = opened old (record { name = name; bytes = take len (bytes reader) } ∷ []) new
+Leads {P} {R} bytes opened failed old NoMore new = opened old [] new
+Leads {P} {R} bytes opened failed old ReadFault new = failed old Faulted new
+Leads {P} {R} bytes opened failed old Spent new = failed old OutOfActs new
+Leads {P} {R} bytes opened failed old Memory new = failed old OutOfMemory new

@@ -3,18 +3,18 @@
 use Rattle.std.specs.Prelude.{◌≡◌, ◌⊎◌, ℕ, ◌+◌, ◌-◌, ◌*◌, ◌^◌, ◌≤◌, Bool, List, [], ◌∷◌, ◌++◌, Option, None, Some, IsTrue, length, take, drop}
 use Rattle.std.specs.List.{flat_map}
 use Rattle.pb_wire.specs.declared.payload.PayloadType.{PayloadType}
-use Rattle.disk_model.specs.Files.{Rose}
+use Rattle.disk_model.specs.Files.{Name, Rose}
 use Rattle.series_model.specs.declared.sample.Sample.{Sample}
 use Rattle.payload_info.specs.declared.info.PayloadInfo.{PayloadInfo}
 use Rattle.pb_file.specs.declared.walk.Walked.{Walked}
 use Rattle.pb_file.specs.declared.walk.Walked.TheVariants as walked
 use Rattle.pb_file.specs.Walk.{Front, HasWalked}
 use Rattle.stream_merge.specs.declared.pieces.Merged.{Merged}
-use Rattle.stream_merge.specs.declared.pieces.Merged.TheVariants.{Line, End, ReadFault, Damaged, Memory}
+use Rattle.stream_merge.specs.declared.pieces.Merged.TheVariants.{Line, End, ReadFault, Damaged, Spent, Memory}
 use Rattle.stream_merge.specs.declared.source.OpenPiece.{OpenPiece}
 use Rattle.stream_merge.specs.declared.source.Source.{Source}
-use Rattle.stream_merge.specs.Pieces.{NamedBytes}
-use Rattle.stream_merge.specs.Reading.{IsReadAs, AreReadAs}
+use Rattle.stream_merge.specs.Pieces.{NamedBytes, Failure, Faulted, OutOfActs, OutOfMemory}
+use Rattle.stream_merge.specs.Reading.{IsReadAs, AreReadAs, IsDamaged}
 
 -- THE OPEN PIECE
 
@@ -90,6 +90,34 @@ abbrev pub OpensOn : {R : Type 0} → (R → List ℕ) → (List NamedBytes → 
 OpensOn {R} bytes left old new pieces (Line t) = Passes bytes left (open_pieces bytes old ++ pieces) new
 OpensOn {R} bytes left old new pieces End = Passes bytes left (open_pieces bytes old ++ pieces) new
 OpensOn {R} bytes left old new pieces _ = Unit {0}
+
+-- WHAT WAS OPENED
+
+-- some pieces were opened, with no failure
+abbrev pub HasOpened : {P : Type 0} → (P → List NamedBytes → P → Type 0) → P → P → Type 0
+HasOpened {P} opened old new = (pieces : List NamedBytes) × opened old pieces new
+
+-- so it is, and of these pieces and the one that was open the last is open now, or none is
+pub record GoesOn {P R : Type 0} (tells : Bool) (bytes : R → List ℕ) (opened : P → List NamedBytes → P → Type 0) (old : P) (piece : Option (OpenPiece R)) (new : P) (now : Option (OpenPiece R)) : Type 0 where
+  pub pieces : List NamedBytes
+  pub were : opened old pieces new
+  pub are : IsTrue tells → (passed : List NamedBytes) × (open_pieces bytes piece ++ pieces ≡ passed ++ open_pieces bytes now)
+
+-- some pieces were opened, and of these and the one that was open one is damaged
+pub record FindsDamage {P R : Type 0} (tells : Bool) (bytes : R → List ℕ) (opened : P → List NamedBytes → P → Type 0) (ty : PayloadType) (old : P) (piece : Option (OpenPiece R)) (new : P) (name : Name) (at : ℕ) : Type 0 where
+  pub pieces : List NamedBytes
+  pub were : opened old pieces new
+  pub damaged : IsTrue tells → IsDamaged ty (open_pieces bytes piece ++ pieces) name at
+
+-- what a call did to the pieces
+abbrev pub Went : {P R : Type 0} → Bool → (R → List ℕ) → (P → List NamedBytes → P → Type 0) → (P → Failure → P → Type 0) → PayloadType → P → Option (OpenPiece R) → Merged R → P → Option (OpenPiece R) → Type 0
+Went {P} {R} tells bytes opened failed ty old piece (Line t) new now = GoesOn tells bytes opened old piece new now
+Went {P} {R} tells bytes opened failed ty old piece End new now = GoesOn tells bytes opened old piece new now
+Went {P} {R} tells bytes opened failed ty old piece (ReadFault (Some r)) new now = HasOpened opened old new
+Went {P} {R} tells bytes opened failed ty old piece (ReadFault None) new now = failed old Faulted new
+Went {P} {R} tells bytes opened failed ty old piece (Damaged name at) new now = FindsDamage tells bytes opened ty old piece new name at
+Went {P} {R} tells bytes opened failed ty old piece Spent new now = failed old OutOfActs new
+Went {P} {R} tells bytes opened failed ty old piece Memory new now = HasOpened opened old new ⊎ failed old OutOfMemory new
 
 -- FAILURES
 

@@ -8,16 +8,18 @@ ghost use Rattle.stream_merge.specs.Pieces.{NamedBytes};
 ghost use Rattle.stream_merge.specs.Reading.{IsSampleOf, AreSamplesOf, AreReadAs, IsDamaged};
 ghost use Rattle.pb_file.specs.Walk.{behind};
 ghost use Rattle.stream_merge.specs.Over.{over_all};
-ghost use Rattle.stream_merge.specs.Source.{open_pieces, HasFailed, OpensOn, IsGiven};
-ghost use Rattle.stream_merge.specs.Merging.{IsGoing, IsDue, IsEarly, Rest, Answers, Gives, kept_of, remaining};
+ghost use Rattle.stream_merge.specs.Source.{open_pieces, HasFailed, OpensOn, IsGiven, Went};
+ghost use Rattle.stream_merge.specs.Merging.{IsGoing, IsDue, IsEarly, Rest, Answers, Gives, kept_of, line_from, remaining};
 
 use crate::pieces::{Merged, Pieces};
 use crate::source::Source;
 use disk_model::ReadAt;
+use pb_file::Steps;
 use pb_wire::PayloadType;
 use series_model::{Query, Samples};
 use std::alloc::Global;
 use std::mem;
+use std::sync::ledger::Ledger;
 
 /// The answer over pieces and a tail, line by line: `new`, then `next` up to any answer but `Line`.
 #[derive(Drop)]
@@ -38,7 +40,8 @@ impl<R: ReadAt> Merge<R> {
         ensures going { IsGoing R.tells R.bytes result }
         ensures ty { result.source.ty ≡ ty }
         ensures whole { (ps : List NamedBytes) (lists : List (List SampleValue)) → AreReadAs ty ps lists → IsRising tail → Rest R.bytes result ps (answer (over_all lists tail) query) }
-        ensures none_open { open_pieces R.bytes result.source.piece ≡ [] }
+        ensures none_open { result.source.piece ≡ None }
+        ensures first { line_from result ≡ 0 }
     {
         Merge {
             query,
@@ -52,17 +55,25 @@ impl<R: ReadAt> Merge<R> {
     /// Gives the next line of the answer, in place of what `line` had, or tells that there is none. After any answer but `Line` it isn't
     /// called again.
     ///
-    /// Each call is given the pieces that are left of the same ones.
-    pub fn next<P: Pieces<Reader = R>>(&mut self, pieces: &mut P, line: &mut Vec<u8>) -> Merged<R>
+    /// Each call is given the pieces that are left of the same ones. `steps` counts the lines that are read.
+    pub fn next<P: Pieces<Reader = R>, L: Ledger>(
+        &mut self,
+        pieces: &mut P,
+        line: &mut Vec<u8>,
+        steps: &mut Steps<L>,
+    ) -> Merged<R>
         requires going { IsGoing R.tells R.bytes self.old }
+        requires may { P.may_open pieces.old }
         ensures going { (t : ℕ) → result ≡ Merged.Line t → IsGoing R.tells R.bytes self.new }
         ensures ty { self.new.source.ty ≡ self.old.source.ty }
         ensures lines { IsTrue R.tells → (ps : List NamedBytes) (xs : List SampleValue) → P.left pieces.old ps → Rest R.bytes self.old ps xs → Answers R.bytes (P.left pieces.new) self.new xs line.new.items result }
         ensures event { (t : ℕ) → result ≡ Merged.Line t → IsSampleOf self.old.source.ty (record { t = t; line = line.new.items }) }
+        ensures later { (t : ℕ) → result ≡ Merged.Line t → (line_from self.old ≤ t) × (t < line_from self.new) }
         ensures opens { IsTrue R.tells → (ps : List NamedBytes) → P.left pieces.old ps → OpensOn R.bytes (P.left pieces.new) self.old.source.piece self.new.source.piece ps result }
         ensures damaged { IsTrue R.tells → (ps : List NamedBytes) → P.left pieces.old ps → (name : Name) (at : ℕ) → result ≡ Merged.Damaged name at → IsDamaged self.old.source.ty (open_pieces R.bytes self.old.source.piece ++ ps) name at }
         ensures failed { (failed : Option R) → result ≡ Merged.ReadFault failed → HasFailed R.faults self.old.source.piece (P.count pieces.new < P.count pieces.old) (Rose (P.faults pieces.old) (P.faults pieces.new)) failed }
         ensures spent { result ≡ Merged.Spent → P.is_spent pieces.new }
+        ensures went { Went R.tells R.bytes P.opened P.failed self.old.source.ty pieces.old self.old.source.piece result pieces.new self.new.source.piece }
         ensures faults { P.faults pieces.old ≤ P.faults pieces.new }
         ensures count { P.count pieces.new ≤ P.count pieces.old }
         ensures smaller { (t : ℕ) → result ≡ Merged.Line t → remaining (P.count pieces.new) self.new < remaining (P.count pieces.old) self.old }
@@ -71,7 +82,7 @@ impl<R: ReadAt> Merge<R> {
             return self.give_due(line);
         }
         'samples: loop {
-            let t = match self.source.pull(pieces, line) {
+            let t = match self.source.pull(pieces, line, steps) {
                 Merged::Line { t } => t,
                 Merged::End => return self.give_kept(line),
                 merged => return merged,

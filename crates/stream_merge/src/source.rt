@@ -6,14 +6,15 @@ ghost use Rattle.payload_info.specs.declared.info.PayloadInfo.{PayloadInfo as In
 ghost use Rattle.stream_merge.specs.declared.pieces.Merged.TheVariants as merged;
 ghost use Rattle.stream_merge.specs.Pieces.{NamedBytes};
 ghost use Rattle.stream_merge.specs.Reading.{IsSampleOf, AreSamplesOf, IsBadFor, IsReadAs, IsDamaged};
-ghost use Rattle.stream_merge.specs.Source.{IsReady, IsOpenAs, open_pieces, HasFailed, HasFailedNow, HasRisen, Grew, Coming, ReadsOpen, Pulls, OpensOn, unread, unread_in, IsStop, ClosesAs, IsFailure, IsGiven, IsOfTail};
+ghost use Rattle.stream_merge.specs.Source.{IsReady, IsOpenAs, open_pieces, HasFailed, HasFailedNow, HasRisen, Grew, Coming, ReadsOpen, Pulls, OpensOn, Went, unread, unread_in, IsStop, ClosesAs, IsFailure, IsGiven, IsOfTail};
 
 use crate::pieces::{Merged, Opened, Pieces};
 use disk_model::{FileName, ReadAt};
-use pb_file::{FileWalk, Walked};
+use pb_file::{FileWalk, Steps, Walked};
 use pb_wire::PayloadType;
 use series_model::Sample;
 use std::alloc::Global;
+use std::sync::ledger::Ledger;
 
 // A piece that is open, and whose header was read.
 #[derive(Drop)]
@@ -48,13 +49,15 @@ impl<R: ReadAt> Source<R> {
     }
 
     // Reads the next sample's line. `End` says that there is none.
-    pub(crate) fn pull<P: Pieces<Reader = R>>(
+    pub(crate) fn pull<P: Pieces<Reader = R>, L: Ledger>(
         &mut self,
         pieces: &mut P,
         line: &mut Vec<u8>,
+        steps: &mut Steps<L>,
     ) -> Merged<R>
         requires ready { IsReady R.tells R.bytes self.old.ty self.old.piece }
         requires tail { AreSamplesOf self.old.ty self.old.tail.items }
+        requires may { P.may_open pieces.old }
         ensures ready { IsGiven result → IsReady R.tells R.bytes self.new.ty self.new.piece }
         ensures same { (self.new.ty ≡ self.old.ty) × (self.new.tail ≡ self.old.tail) }
         ensures lines { IsTrue R.tells → (ps : List NamedBytes) (xs : List SampleValue) → P.left pieces.old ps → Coming R.bytes self.old ps xs → Pulls R.bytes (P.left pieces.new) self.new xs line.new.items result }
@@ -63,6 +66,7 @@ impl<R: ReadAt> Source<R> {
         ensures damaged { IsTrue R.tells → (ps : List NamedBytes) → P.left pieces.old ps → (name : Name) (at : ℕ) → result ≡ Merged.Damaged name at → IsDamaged self.old.ty (open_pieces R.bytes self.old.piece ++ ps) name at }
         ensures failed { (failed : Option R) → result ≡ Merged.ReadFault failed → HasFailed R.faults self.old.piece (P.count pieces.new < P.count pieces.old) (Rose (P.faults pieces.old) (P.faults pieces.new)) failed }
         ensures spent { result ≡ Merged.Spent → P.is_spent pieces.new }
+        ensures went { Went R.tells R.bytes P.opened P.failed self.old.ty pieces.old self.old.piece result pieces.new self.new.piece }
         ensures faults { P.faults pieces.old ≤ P.faults pieces.new }
         ensures count { P.count pieces.new ≤ P.count pieces.old }
         ensures grew { (t : ℕ) → result ≡ Merged.Line t → (P.count pieces.new < P.count pieces.old) ⊎ Grew R.faults self.old.piece self.new.piece }
@@ -70,7 +74,7 @@ impl<R: ReadAt> Source<R> {
         ensures no_more { result ≡ Merged.End → unread (P.count pieces.new) self.new ≤ unread (P.count pieces.old) self.old }
     {
         'pieces: loop {
-            match self.read_open(line) {
+            match self.read_open(line, steps) {
                 Merged::End => {}
                 merged => return merged,
             }
@@ -80,7 +84,7 @@ impl<R: ReadAt> Source<R> {
                     name,
                     len,
                     ..
-                } => match begin(self.alloc, self.ty, reader, name, len, line) {
+                } => match begin(self.alloc, self.ty, reader, name, len, line, steps) {
                     Ok(piece) => self.piece = Some(piece),
                     Err(merged) => return merged,
                 },
@@ -93,7 +97,7 @@ impl<R: ReadAt> Source<R> {
     }
 
     // Reads the next line of the open piece. At its end none is open.
-    fn read_open(&mut self, line: &mut Vec<u8>) -> Merged<R>
+    fn read_open<L: Ledger>(&mut self, line: &mut Vec<u8>, steps: &mut Steps<L>) -> Merged<R>
         requires ready { IsReady R.tells R.bytes self.old.ty self.old.piece }
         ensures ready { (t : ℕ) → result ≡ Merged.Line t → IsReady R.tells R.bytes self.new.ty self.new.piece }
         ensures closed { result ≡ Merged.End → self.new.piece ≡ None }
@@ -110,7 +114,7 @@ impl<R: ReadAt> Source<R> {
         let Some(piece) = &mut self.piece else {
             return Merged::End;
         };
-        let walked = piece.walk.next(&mut piece.reader, line);
+        let walked = piece.walk.next(&mut piece.reader, line, steps);
         if let Walked::Sample { t } = walked {
             return Merged::Line { t };
         }
@@ -142,13 +146,14 @@ impl<R: ReadAt> Source<R> {
 }
 
 // Opens a piece: its first line is to be a header of the type.
-fn begin<R: ReadAt>(
+fn begin<R: ReadAt, L: Ledger>(
     alloc: Global,
     ty: PayloadType,
     reader: R,
     name: FileName,
     len: u64,
     line: &mut Vec<u8>,
+    steps: &mut Steps<L>,
 ) -> Result<OpenPiece<R>, Merged<R>>
     requires bytes { IsTrue R.tells → len ≤ length (R.bytes reader) }
     ensures ready { IfOk result (λ p. IsReady R.tells R.bytes ty (Some p)) }
@@ -164,7 +169,7 @@ fn begin<R: ReadAt>(
         name,
         walk: FileWalk::new(alloc, len),
     };
-    match piece.walk.next(&mut piece.reader, line) {
+    match piece.walk.next(&mut piece.reader, line, steps) {
         Walked::Header => {
             if is_of_type(&piece.walk, ty) {
                 Ok(piece)

@@ -1,13 +1,17 @@
 //! Worked merges over pieces in memory: which lines come, how a merge ends, and which pieces stay closed.
+ghost use Rattle.std.specs.Prelude.{◌≡◌, ◌<◌};
 ghost use Rattle.stream_merge.specs.Merging.{IsGoing};
 
 use crate::{Merge, Merged, Opened, Pieces};
 use disk_model::{FileName, ReadAt, ReadFailed};
+use pb_file::Steps;
 use pb_wire::PayloadType;
 use series_model::{Query, Samples};
 use std::alloc::{AllocError, Global};
 use std::fmt::Write as _;
+use std::marker::Brand;
 use std::process::Abort;
+use std::sync::ledger::{Blank, Ledger};
 use std::test::Fail;
 
 const SECOND: u64 = 1_000_000_000;
@@ -79,6 +83,12 @@ impl Pieces for ListPieces {
 
     ghost is_spent = { λ p. ⊥ };
 
+    ghost may_open = { λ p. Unit {0} };
+
+    ghost opened = { λ old ps new. Unit {0} };
+
+    ghost failed = { λ old why new. Unit {0} };
+
     fn open_next(&mut self) -> Opened<ListReader> {
         if self.left.len() == 0 {
             return Opened::NoMore;
@@ -100,6 +110,14 @@ impl Pieces for ListPieces {
             len,
         }
     }
+
+    ghost none_opened = { λ a. tt };
+
+    ghost opened_on = { λ a b c xs ys one two. tt };
+
+    ghost failed_on = { λ a b c xs why one two. tt };
+
+    ghost goes_on = { λ a b xs may one. tt };
 }
 
 // Each piece is a list of lines.
@@ -123,15 +141,32 @@ fn pieces_of(alloc: Global, files: &[&[&[u8]]], failing: u8) -> Result<ListPiece
 // The seconds of the lines, and how the merge ended.
 fn told<R: ReadAt, P: Pieces<Reader = R>>(
     alloc: Global,
-    mut merge: Merge<R>,
+    merge: Merge<R>,
     pieces: &mut P,
 ) -> Result<String, Fail>
-    requires { IsGoing R.tells R.bytes merge }
+    requires going { IsGoing R.tells R.bytes merge }
+    requires may { P.may_open pieces.old }
 {
+    told_by::<R, P, Brand>(alloc, merge, pieces, Blank::new(1))
+}
+
+fn told_by<R: ReadAt, P: Pieces<Reader = R>, L: Ledger>(
+    alloc: Global,
+    mut merge: Merge<R>,
+    pieces: &mut P,
+    blank: Blank,
+) -> Result<String, Fail>
+    requires going { IsGoing R.tells R.bytes merge }
+    requires may { P.may_open pieces.old }
+    requires name { blank.name ≡ L.name }
+    requires parts { blank.parts ≡ L.parts }
+    requires some { 0 < blank.parts }
+{
+    let mut steps = Steps::<L>::new(blank);
     let mut text = String::new(alloc);
     let mut line = Vec::new(alloc);
     'lines: for _ in 0..100 {
-        match merge.next(pieces, &mut line) {
+        match merge.next(pieces, &mut line, &mut steps) {
             Merged::Line { t } => write!(text, "{} ", t.saturating_sub(START) / SECOND)?,
             Merged::End => {
                 text.push_str("end")?;

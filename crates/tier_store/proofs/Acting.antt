@@ -7,14 +7,15 @@ use Rattle.disk_model.specs.declared.disk.DiskErr.{DiskErr}
 use Rattle.disk_model.specs.declared.disk.DiskErr.TheVariants.{Fault, Memory}
 use Rattle.disk_model.proofs.Passing.{passes_then, passes_weaker, passes_none}
 use Rattle.partition_names.specs.declared.granularity.Granularity.{Granularity}
-use Rattle.tier_store.specs.Held.{Held}
-use Rattle.tier_store.specs.Seen.{Seen, IsSettled}
+use Rattle.tier_store.specs.Held.{Held, Listing, ListsStill, listing_of}
+use Rattle.tier_store.specs.Seen.{Seen, IsSettled, listing_in}
 use Rattle.tier_store.specs.Ends.{End, Done, Refused, Failed, Spent, end_of_error, end_of_disk, IsFailed, IsCut}
 use Rattle.tier_store.specs.Stored.{Holds, HoldsEither}
-use Rattle.tier_store.specs.Change.{Has, HasEither, IsOpen, IsEither, Comes, HoldsBy, HoldsChange, Call, EndsFrom, OnlyReads, Changes, Acts}
+use Rattle.tier_store.specs.Change.{IsKnown, Has, HasEither, IsOpen, IsEither, Comes, HoldsBy, HoldsChange, Call, EndsFrom, OnlyReads, KeepsLists, Changes, Acts}
 use Rattle.tier_store.proofs.Holding.{stored_left, doubt_left}
+use Rattle.tier_store.proofs.KeptBytes.{lists_itself, lists_on, leaves_none, leaves_read, leaves_on, leaves_earlier}
 
-rose_after : (before mid now : ℕ) → before ≤ mid → Rose mid now → Rose before now
+pub rose_after : (before mid now : ℕ) → before ≤ mid → Rose mid now → Rose before now
 rose_after before mid now later rose = grind arith
 
 pub has_left : (tells : Bool) (s : Seen) (held : Held) → Has tells s held → IsTrue tells → (image : Files) → MayLeave s.past image → Holds s.manifest.granularity image held
@@ -60,6 +61,42 @@ only_reads {B} tells old new r files passes more cause = record { files = files;
     failed (Err Fault) cause is = cause refl
     failed (Err Memory) cause none = absurd none
 
+-- WHAT IS LISTED
+
+-- what is listed of what the memory knows
+listed_known : (s : Seen) (held : Held) → IsKnown s.catalogue s.manifest held → listing_of held ≡ listing_in s
+listed_known s held known i = ((known.numbered i, sym known.rows i), sym known.entries i)
+
+pub listed_still : (old new : Seen) (a b : Held) → IsKnown old.catalogue old.manifest a → IsKnown new.catalogue new.manifest b → ListsStill (listing_of a) (listing_of b) → ListsStill (listing_in old) (listing_in new)
+listed_still old new a b one other still = subst (λ (l : Listing). ListsStill l (listing_in new)) (listed_known old a one) (subst (ListsStill (listing_of a)) (listed_known new b other) still)
+
+-- of a store in doubt the memory knows what was before the change
+pub open_known : (tells : Bool) (s : Seen) (before after : Held) → IsOpen tells s before after → IsKnown s.catalogue s.manifest before
+open_known tells s before after (inl has) = has.known
+open_known tells s before after (inr doubt) = doubt.known
+
+-- what was settled lists what was listed
+settled_still : (tells : Bool) (old mid : Seen) (before after : Held) → ((before after : Held) → IsOpen tells old before after → HasEither tells mid before after) → ((held : Held) → Has tells old held → Has tells mid held) → IsOpen tells old before after → ListsStill (listing_in old) (listing_in mid)
+settled_still tells old mid before after settled nothing (inl has) = listed_still old mid before before has.known (nothing before has).known (lists_itself (listing_of before))
+settled_still tells old mid before after settled nothing (inr doubt) = elim (settled before after (inr doubt)) [
+  | inl has ↦ listed_still old mid before before doubt.known has.known (lists_itself (listing_of before))
+  | inr has ↦ listed_still old mid before after doubt.known has.known doubt.still
+]
+
+pub keeps_then : (tells : Bool) (old mid new : Seen) → KeepsLists tells old mid → KeepsLists tells mid new → KeepsLists tells old new
+keeps_then tells old mid new one two = record {
+  still = lists_on (listing_in old) (listing_in mid) (listing_in new) one.still two.still;
+  leaves = λ told. leaves_on (listing_in old) old.files mid.files new.files old.past mid.past new.past (one.leaves told) (leaves_earlier (listing_in old) (listing_in mid) mid.files new.files mid.past new.past one.still (two.leaves told));
+}
+
+-- nothing was done
+pub keeps_all : (tells : Bool) (s : Seen) → KeepsLists tells s s
+keeps_all tells s = record { still = lists_itself (listing_in s); leaves = λ told. leaves_none (listing_in s) s.files s.past }
+
+-- the disk was only read
+pub reads_keep : {A E : Type 0} (tells : Bool) (old new : Seen) (end : End A E) → ListsStill (listing_in old) (listing_in new) → OnlyReads tells old new end → KeepsLists tells old new
+reads_keep {A} {E} tells old new end still reads = record { still = still; leaves = λ told. leaves_read (listing_in old) old.files new.files old.past new.past (reads.files told) (reads.any_moment told) }
+
 -- nothing was read
 pub nothing_read : {A E : Type 0} (tells : Bool) (s : Seen) (end : End A E) → (IsFailed end → ⊥) → OnlyReads tells s s end
 nothing_read {A} {E} tells s end not_failed = record {
@@ -71,36 +108,44 @@ nothing_read {A} {E} tells s end not_failed = record {
 
 -- the settling failed, so something stood in doubt
 pub cut_acts : {A B E : Type 0} (tells : Bool) (call : Call A E) (old new : Seen) (r : Result B DiskErr) (e : DiskErr) (end : End A E) → r ≡ Err e → end ≡ end_of_error e → (IsSettled old → (a : B) × (r ≡ Ok a)) → ((before after : Held) → IsOpen tells old before after → IsOpen tells new before after)
-    → new.manifest.granularity ≡ old.manifest.granularity → OnlyReads tells old new (end_of_disk r) → Acts tells call old new end
-cut_acts {A} {B} {E} tells call old new r e end failed is fine still same_g reads = subst (λ (x : End A E). Acts tells call old new x) (sym is) (go e (subst (λ (x : Result B DiskErr). OnlyReads tells old new (end_of_disk x)) failed reads))
+    → new.manifest.granularity ≡ old.manifest.granularity → OnlyReads tells old new (end_of_disk r) → (before : Held) × (after : Held) × IsOpen tells old before after → Acts tells call old new end
+cut_acts {A} {B} {E} tells call old new r e end failed is fine still same_g reads begun = subst (λ (x : End A E). Acts tells call old new x) (sym is) (go e (subst (λ (x : Result B DiskErr). OnlyReads tells old new (end_of_disk x)) failed reads))
   where
     doubted : IsSettled old → ⊥
     doubted settled = let ok = fine settled in let both : ◌≡◌ {A = Result B DiskErr} (Ok ok.0) (Err e) = sym ok.1 ∙ failed in cc (both)
+
+    lists : KeepsLists tells old new
+    lists =
+        let same = listed_still old new begun.0 begun.0 (open_known tells old begun.0 begun.1 begun.2) (open_known tells new begun.0 begun.1 (still begun.0 begun.1 begun.2)) (lists_itself (listing_of begun.0)) in
+        reads_keep tells old new (end_of_disk r) same reads
 
     go : (e : DiskErr) → OnlyReads tells old new (end_of_disk {A = B} (Err e)) → Acts tells call old new (end_of_error {A = A} {E = E} e)
     go Fault reads = record {
       ends = λ before after was. inl (tt, still before after was);
       settled = λ held has. absurd (doubted has.settled);
       any_moment = λ told before after was. settling_holds tells call.by old new.past before after was told (reads.any_moment told);
+      lists = lists;
       costs = record { granularity = same_g; faults = reads.faults; cause = reads.cause };
     }
     go Memory reads = record {
       ends = λ before after was. inl (tt, still before after was);
       settled = λ held has. absurd (doubted has.settled);
       any_moment = λ told before after was. settling_holds tells call.by old new.past before after was told (reads.any_moment told);
+      lists = lists;
       costs = record { granularity = same_g; faults = reads.faults; cause = λ failed. absurd failed };
     }
 
 -- the doubt was settled, and then the call did its own
 pub then_acts : {A B E F : Type 0} (tells : Bool) (call : Call A E) (old mid new : Seen) (settling : End B F) (end : End A E) → ((before after : Held) → IsOpen tells old before after → HasEither tells mid before after)
-    → ((held : Held) → Has tells old held → Has tells mid held) → mid.manifest.granularity ≡ old.manifest.granularity → OnlyReads tells old mid settling → Changes tells call mid new end → Acts tells call old new end
-then_acts {A} {B} {E} {F} tells call old mid new settling end settled nothing same_g reads change = record {
+    → ((held : Held) → Has tells old held → Has tells mid held) → mid.manifest.granularity ≡ old.manifest.granularity → OnlyReads tells old mid settling → Changes tells call mid new end → (before : Held) × (after : Held) × IsOpen tells old before after → Acts tells call old new end
+then_acts {A} {B} {E} {F} tells call old mid new settling end settled nothing same_g reads change begun = record {
   ends = λ before after was. let held = settled_one tells mid before after (settled before after was) in inr (held.0, held.1, change.ends held.0 held.2);
   settled = λ held has. change.ends held (nothing held has);
   any_moment = λ told before after was.
       let held = settled_one tells mid before after (settled before after was) in
       then_holds old.manifest.granularity call.by old.past mid.past new.past before after held.0 held.1 (settling_holds tells call.by old mid.past before after was told (reads.any_moment told))
       (subst (λ (g : Granularity). Passes (HoldsBy g call.by held.0) mid.past new.past) same_g (change.any_moment told held.0 held.2));
+  lists = keeps_then tells old mid new (reads_keep tells old mid settling (settled_still tells old mid begun.0 begun.1 settled nothing begun.2) reads) change.lists;
   costs = record {
     granularity = change.costs.granularity ∙ same_g;
     faults = let more = reads.faults in let later = change.costs.faults in omega (arith, more, later);
@@ -113,6 +158,7 @@ pub nothing_changes : {A E : Type 0} (tells : Bool) (call : Call A E) (s : Seen)
 nothing_changes {A} {E} tells call s end ends not_failed = record {
   ends = ends;
   any_moment = λ told held has. passes_none (HoldsBy s.manifest.granularity call.by held) s.past (λ image left. inl (has_left tells s held has told image left));
+  lists = keeps_all tells s;
   costs = record { granularity = refl; faults = omega arith; cause = λ failed. absurd (not_failed failed) };
 }
 

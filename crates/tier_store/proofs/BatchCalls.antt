@@ -21,17 +21,18 @@ use Rattle.series_model.specs.declared.sample.Sample.{Sample}
 use Rattle.store_manifest.specs.Entries.{all_changed}
 use Rattle.store_manifest.specs.Manifest.{ManifestState}
 use Rattle.tier_store.specs.declared.piece.Piece.{Piece}
-use Rattle.tier_store.specs.Held.{Filed, Held, IsListed, entry_of, count_of}
+use Rattle.tier_store.specs.Held.{Filed, Held, IsListed, ListsStill, entry_of, count_of}
 use Rattle.tier_store.specs.Flush.{IsSampleOf, IsFlushed, CanFlush, HoldsEntries, Flushes, MakesFiles, with_files, put_all}
-use Rattle.tier_store.specs.Seen.{Seen, seen_on}
+use Rattle.tier_store.specs.Seen.{Seen, seen_on, listing_in}
 use Rattle.tier_store.specs.Ends.{End, Done, end_of_error}
 use Rattle.tier_store.specs.Stored.{AreHeld, HoldsEither}
-use Rattle.tier_store.specs.Writing.{IsStoredAs, IsDoubtedAs, set_of}
-use Rattle.tier_store.specs.Change.{IsKnown, Has, Doubts, HoldsBy, Changes, flushing}
+use Rattle.tier_store.specs.Writing.{LeavesListed, IsStoredAs, IsDoubtedAs, set_of}
+use Rattle.tier_store.specs.Change.{IsKnown, Has, Doubts, HoldsBy, KeepsLists, Changes, flushing}
 use Rattle.tier_store.proofs.Ending.{valid_with}
 use Rattle.tier_store.proofs.Whole.{next_entries}
 use Rattle.tier_store.proofs.OnDisk.{on_disk}
-use Rattle.tier_store.proofs.Acting.{either_by}
+use Rattle.tier_store.proofs.Acting.{either_by, listed_still}
+use Rattle.tier_store.proofs.KeptBytes.{lists_itself}
 
 samples_still : (row later : Row) (xs : List Sample) → later.about ≡ row.about → All (IsSampleOf row) xs → All (IsSampleOf later) xs
 samples_still row later xs same all k d lt =
@@ -99,11 +100,19 @@ module _ {S : Type 0} (files_of : S → Files) (opened_of : S → Name → ℕ) 
 
   -- what the writing of the pieces says in any case
   module _ (granularity : made.granularity ≡ m.granularity) (moment : IsTrue tells → (catalogue : JournalState) (held : Held) (fs : List Filed) → IsStoredBefore catalogue held → MakesFiles m.granularity held pieces fs → Passes (HoldsEither m.granularity held (with_files held fs)) (past_of d) (past_of after))
-      (faults : faults_of d ≤ faults_of after) where
+      (faults : faults_of d ≤ faults_of after) (leaves : IsTrue tells → LeavesListed ((1, rows), m.entries) (files_of d) (files_of after) (past_of d) (past_of after)) (was : (held : Held) × Has tells before held) where
     any_moment : IsTrue tells → (held : Held) → Has tells before held → Passes (HoldsBy m.granularity (λ old new. IsFlushed old batch new) held) (past_of d) (past_of after)
     any_moment told held has =
         let to = to_flush held has.known in
         either_by m.granularity (λ old new. IsFlushed old batch new) held (with_files held to.filed) (past_of d) (past_of after) to.flushed (moment told c.journal held to.filed (is_stored held has told) to.makes)
+
+    leaves_in : IsTrue tells → LeavesListed (listing_in before) (files_of d) (files_of after) (past_of d) (past_of after)
+    leaves_in told = subst (λ (r : List Row). LeavesListed ((1, r), m.entries) (files_of d) (files_of after) (past_of d) (past_of after)) same_rows (leaves told)
+
+    known_made : made.entries ≡ all_changed m.entries (map set_of pieces) → (held : Held) (known : IsKnown c m held) → IsKnown c made (with_files held (to_flush held known).filed)
+    known_made entries held known =
+        let to = to_flush held known in
+        record { numbered = known.numbered; rows = known.rows; entries = entries ∙ to.lists; valid = subst (λ (g : Granularity). AreHeld g (with_files held to.filed)) (sym granularity) to.valid }
 
     pub flush_done : made.entries ≡ all_changed m.entries (map set_of pieces) → made.journal.sound ≡ true
         → (IsTrue tells → (catalogue : JournalState) (held : Held) (fs : List Filed) → IsStoredBefore catalogue held → MakesFiles m.granularity held pieces fs → IsStoredAs catalogue made (1, rows) (files_of after) (opened_of after) (past_of after) (with_files held fs))
@@ -115,12 +124,15 @@ module _ {S : Type 0} (files_of : S → Files) (opened_of : S → Name → ℕ) 
             to.flushed,
             to.more,
             record {
-              known = record { numbered = has.known.numbered; rows = has.known.rows; entries = entries ∙ to.lists; valid = subst (λ (g : Granularity). AreHeld g (with_files held to.filed)) (sym granularity) to.valid };
+              known = known_made entries held has.known;
               settled = record { catalogue = has.settled.catalogue; manifest = sound };
               disk = λ told. (stored told c.journal held to.filed (is_stored held has told) to.makes).stored;
             },
           );
       any_moment = any_moment;
+      lists =
+          let to = to_flush was.0 was.1.known in
+          record { still = listed_still before behind was.0 (with_files was.0 to.filed) was.1.known (known_made entries was.0 was.1.known) to.flushed.still; leaves = leaves_in };
       costs = record { granularity = granularity; faults = faults; cause = λ failed. absurd failed };
     }
 
@@ -145,8 +157,12 @@ module _ {S : Type 0} (files_of : S → Files) (opened_of : S → Name → ℕ) 
             numbered_after = has.known.numbered;
             valid_after = subst (λ (g : Granularity). AreHeld g (with_files held to.filed)) (sym granularity) to.valid;
             stand = refl;
+            still = to.flushed.still;
             disk = λ told. (in_doubt told c.journal held to.filed (is_stored held has told) to.makes unsound).in_doubt;
           }
+
+      kept : KeepsLists tells before behind
+      kept = record { still = subst (λ (es : List Entry). ListsStill (listing_in before) ((1, c.rows), es)) (sym unchanged) (lists_itself (listing_in before)); leaves = leaves_in }
 
       left : (held : Held) (has : Has tells before held) (sound : Bool) → made.journal.sound ≡ sound → Has tells behind held ⊎ ((next : Held) × IsFlushed held batch next × Doubts tells behind held next)
       left held has true sound = inl (still_has held has sound)
@@ -159,10 +175,12 @@ module _ {S : Type 0} (files_of : S → Files) (opened_of : S → Name → ℕ) 
           go Fault memory cause = record {
             ends = λ held has. left held has made.journal.sound refl;
             any_moment = any_moment;
+            lists = kept;
             costs = record { granularity = granularity; faults = faults; cause = λ failed. cause refl };
           }
           go Memory memory cause = record {
             ends = λ held has. still_has held has (ap (λ (j : JournalState). j.sound) (memory refl) ∙ has.settled.manifest);
             any_moment = any_moment;
+            lists = kept;
             costs = record { granularity = granularity; faults = faults; cause = λ failed. absurd failed };
           }

@@ -38,7 +38,7 @@ filter-map test (x ∷ xs) = go (filter-map test xs) (test (entry_of x))
     go more true = ap (λ (l : List Entry). entry_of x ∷ l) more
     go more false = more
 
-map-put : (x : Filed) (xs : List Filed) → map entry_of (put filed_at x xs) ≡ put place (entry_of x) (map entry_of xs)
+pub map-put : (x : Filed) (xs : List Filed) → map entry_of (put filed_at x xs) ≡ put place (entry_of x) (map entry_of xs)
 map-put x xs =
     map-append entry_of (filter (λ y. comes_before (filed_at y) (filed_at x)) xs) (x ∷ filter (λ y. comes_before (filed_at x) (filed_at y)) xs)
     ∙ ap (λ (l : List Entry). l ++ (entry_of x ∷ map entry_of (filter (λ y. comes_before (filed_at x) (filed_at y)) xs))) (sym (filter-map (λ e. comes_before (place e) (filed_at x)) xs))

@@ -4,6 +4,7 @@ pub mod Appending
 pub mod BatchCalls
 pub mod Batches
 pub mod Begins
+pub mod Counting
 pub mod Doubting
 pub mod Ending
 pub mod Files
@@ -11,6 +12,7 @@ pub mod Frame
 pub mod Growing
 pub mod Headers
 pub mod Holding
+pub mod KeptBytes
 pub mod KeptHeaders
 pub mod Lasts
 pub mod Listed

@@ -14,7 +14,7 @@ use Rattle.event_types.specs.declared.about.State.TheVariants.{Running, Paused, 
 use Rattle.gate_journal.specs.Kept.{SaysEither}
 use Rattle.pv_name.specs.Key.{key_of}
 use Rattle.pv_catalog.specs.Catalogue as catalogue
-use Rattle.pv_catalog.specs.Catalogue.{CatalogueState, HasState, Refuses, IsRefusal, IsOfRows, registered}
+use Rattle.pv_catalog.specs.Catalogue.{CatalogueState, catalogue_name, HasState, Refuses, IsRefusal, IsOfRows, registered}
 use Rattle.pv_catalog.specs.Rows.{IsCatalogue, KeepsRows, HasKey, switched}
 use Rattle.pv_catalog.specs.declared.error.RegisterErr.{RegisterErr}
 use Rattle.pv_catalog.specs.declared.error.RegisterErr.TheVariants as of_register
@@ -23,20 +23,23 @@ use Rattle.pv_catalog.specs.declared.error.StateErr.TheVariants as of_state
 use Rattle.pv_catalog.specs.declared.row.Row.{Row}
 use Rattle.pv_catalog.proofs.Standing.{in_pushed, in_switched, keeps_more, keeps_switched}
 use Rattle.store_manifest.specs.Manifest.{ManifestState}
-use Rattle.tier_store.specs.Held.{Held}
-use Rattle.tier_store.specs.Seen.{Seen, seen_on}
+use Rattle.tier_store.specs.Held.{Held, ListsStill, listing_of}
+use Rattle.tier_store.specs.Seen.{Seen, seen_on, listing_in}
 use Rattle.tier_store.specs.Ends.{End, Done, Refused, Failed, Spent, IsFailed, end_of_register, end_of_switch}
 use Rattle.tier_store.specs.Stored.{KeysDiffer, AreHeld, IsStored}
-use Rattle.tier_store.specs.Change.{IsKnown, Has, HoldsBy, Call, EndsFrom, Changes, registering, pausing, resuming, Registers, Switches, with_rows}
-use Rattle.tier_store.proofs.Growing.{held_grows}
+use Rattle.tier_store.specs.Writing.{LeavesListed}
+use Rattle.tier_store.specs.Change.{IsKnown, Has, HoldsBy, Call, EndsFrom, KeepsLists, Changes, registering, pausing, resuming, Registers, Switches, with_rows}
+use Rattle.tier_store.proofs.Growing.{held_grows, still_grows}
 use Rattle.tier_store.proofs.OnDisk.{on_disk}
 use Rattle.tier_store.proofs.RowChange.{rows_hold, rows_made, rows_doubt}
-use Rattle.tier_store.proofs.Acting.{has_left, either_by}
+use Rattle.tier_store.proofs.Holding.{not_in}
+use Rattle.tier_store.proofs.KeptBytes.{lists_itself, leaves_none, leaves_beside}
+use Rattle.tier_store.proofs.Acting.{has_left, either_by, listed_still}
 
 -- KEYS
 
 -- a name that isn't refused has a key of its own
-keys_pushed : (rows : List Row) (name : List ℕ) (about : About) → ((e : RegisterErr) → Refuses rows name e → ⊥) → KeysDiffer rows → KeysDiffer (rows ++ registered rows name about ∷ [])
+pub keys_pushed : (rows : List Row) (name : List ℕ) (about : About) → ((e : RegisterErr) → Refuses rows name e → ⊥) → KeysDiffer rows → KeysDiffer (rows ++ registered rows name about ∷ [])
 keys_pushed rows name about free differ i j a b here there same = elim (in_pushed rows (registered rows name about) a i here) [
   | inl first ↦ elim (in_pushed rows (registered rows name about) b j there) [
     | inl second ↦ differ i j a b first second same
@@ -51,7 +54,7 @@ keys_pushed rows name about free differ i j a b here there same = elim (in_pushe
     taken : (k : ℕ) → HasKey rows k (key_of name) → ⊥
     taken k has = free (of_register.KeyTaken k) (has, λ named. free (of_register.NameTaken k) named)
 
-keys_switched : (row : ℕ) (state : State) (rows : List Row) → KeysDiffer rows → KeysDiffer (switched row state rows)
+pub keys_switched : (row : ℕ) (state : State) (rows : List Row) → KeysDiffer rows → KeysDiffer (switched row state rows)
 keys_switched row state rows differ i j a b here there same =
     let first = in_switched row state rows i a here in
     let second = in_switched row state rows j b there in
@@ -61,7 +64,7 @@ registers : (c : List Row) (name : List ℕ) (about : About) → ((e : RegisterE
 registers c name about free held same = (λ e refuses. free e (subst (λ (rs : List Row). Refuses rs name e) same refuses), ap (λ (rs : List Row). with_rows held (rs ++ registered rs name about ∷ [])) (sym same))
 
 -- the disk's error isn't a reason of the rows
-of_disk : (rows : List Row) (name : List ℕ) (e : RegisterErr) (failed : DiskErr) → ◌≡◌ {A = Result ℕ RegisterErr} (Err (of_register.Disk failed)) (Err e) → Refuses rows name e → ⊥
+pub of_disk : (rows : List Row) (name : List ℕ) (e : RegisterErr) (failed : DiskErr) → ◌≡◌ {A = Result ℕ RegisterErr} (Err (of_register.Disk failed)) (Err e) → Refuses rows name e → ⊥
 of_disk rows name (of_register.NameTaken i) failed is refuses = absurd (cc (is))
 of_disk rows name (of_register.KeyTaken i) failed is refuses = absurd (cc (is))
 of_disk rows name of_register.Full failed is refuses = absurd (cc (is))
@@ -82,7 +85,7 @@ same_state Retired Paused = inr (λ is. cc (is))
 same_state Retired Retired = inl refl
 
 -- a row has the state, or it hasn't
-has_state : (rows : List Row) (row : ℕ) (state : State) → row < length rows → HasState rows row state ⊎ (HasState rows row state → ⊥)
+pub has_state : (rows : List Row) (row : ℕ) (state : State) → row < length rows → HasState rows row state ⊎ (HasState rows row state → ⊥)
 has_state [] row state within = absurd (omega (arith, within))
 has_state (r ∷ rows) zero state within = elim (same_state r.state state) [
   | inl is ↦ inl (record { row = r; here = refl; is = is })
@@ -102,12 +105,17 @@ module _ {S : Type 0} (files_of : S → Files) (opened_of : S → Name → ℕ) 
   abbrev behind : Seen
   behind = seen_on files_of opened_of past_of faults_of made m after
 
+  -- the memory lists the same files
+  same_rows : made.rows ≡ c.rows → ListsStill (listing_in before) (listing_in behind)
+  same_rows rows = subst (λ (rs : List Row). ListsStill (listing_in before) ((1, rs), m.entries)) (sym rows) (lists_itself (listing_in before))
+
   -- the rows and the disk are as they were
   rows_same : {A E : Type 0} (call : Call A E) (end : End A E) → made.journal ≡ c.journal → made.rows ≡ c.rows → after ≡ d → ((held : Held) → Has tells behind held → held.rows ≡ c.rows → EndsFrom tells call behind held end) → (IsFailed end → ⊥) → Changes tells call before behind end
   rows_same {A} {E} call end journal rows same ends not_failed = record {
     ends = λ held has. ends held (still held has) (sym has.known.rows);
     any_moment = λ told held has.
         subst (λ (x : S). Passes (HoldsBy m.granularity call.by held) (past_of d) (past_of x)) (sym same) (passes_none (HoldsBy m.granularity call.by held) (past_of d) (λ image left. inl (has_left tells before held has told image left)));
+    lists = record { still = same_rows rows; leaves = λ told. subst (λ (x : S). LeavesListed (listing_in before) (files_of d) (files_of x) (past_of d) (past_of x)) (sym same) (leaves_none (listing_in before) (files_of d) (past_of d)) };
     costs = record { granularity = refl; faults = subst (λ (x : S). faults_of d ≤ faults_of x) (sym same) (omega arith); cause = λ failed. absurd (not_failed failed) };
   }
     where
@@ -119,7 +127,7 @@ module _ {S : Type 0} (files_of : S → Files) (opened_of : S → Name → ℕ) 
       })
 
   module _ (next : List Row) (keeps : KeepsRows c.rows next) (name : made.journal.name ≡ c.journal.name) (passes : IsTrue tells → Passes (At c.journal.name (SaysEither IsCatalogue c.rows next)) (past_of d) (past_of after)) (elsewhere : IsTrue tells → (n : Name) → n ≢ c.journal.name → files_of after n ≡ files_of d n)
-      (opened : IsTrue tells → opened_of after ≡ opened_of d) (faults : faults_of d ≤ faults_of after) {A E : Type 0} (call : Call A E) (by : (held : Held) → held.rows ≡ c.rows → call.by held (with_rows held next)) (keys : KeysDiffer c.rows → KeysDiffer next) where
+      (opened : IsTrue tells → opened_of after ≡ opened_of d) (faults : faults_of d ≤ faults_of after) {A E : Type 0} (call : Call A E) (by : (held : Held) → held.rows ≡ c.rows → call.by held (with_rows held next)) (keys : KeysDiffer c.rows → KeysDiffer next) (was : (held : Held) × Has tells before held) where
     grows : (held : Held) → IsKnown c m held → AreHeld m.granularity (with_rows held next)
     grows held known = held_grows m.granularity held next (subst (λ (r : List Row). KeepsRows r next) known.rows keeps) (keys (subst KeysDiffer (sym known.rows) known.valid.keys)) known.valid
 
@@ -128,6 +136,18 @@ module _ {S : Type 0} (files_of : S → Files) (opened_of : S → Name → ℕ) 
         either_by m.granularity call.by held (with_rows held next) (past_of d) (past_of after) (by held (sym has.known.rows))
         (rows_hold c made m (files_of d) (files_of after) (opened_of d) (opened_of after) (past_of d) (past_of after) held (on_disk tells before held has told) next keeps (passes told) (elsewhere told) (opened told) name)
 
+    -- no listed file is the catalogue
+    leaves : IsTrue tells → LeavesListed (listing_in before) (files_of d) (files_of after) (past_of d) (past_of after)
+    leaves told =
+        leaves_beside (listing_in before) c.journal.name (SaysEither IsCatalogue c.rows next) (files_of d) (files_of after) (past_of d) (past_of after)
+        (not_in 1 c.journal.name catalogue_name (omega arith) (was.1.disk told).rows.named refl) (elsewhere told) (passes told)
+
+    still : (held : Held) → IsKnown c m held → ListsStill (listing_of held) (listing_of (with_rows held next))
+    still held known = still_grows m.granularity held next (subst (λ (r : List Row). KeepsRows r next) known.rows keeps) known.valid.filed
+
+    known_made : made.rows ≡ next → (held : Held) → IsKnown c m held → IsKnown made m (with_rows held next)
+    known_made rows held known = record { numbered = known.numbered; rows = rows; entries = known.entries; valid = grows held known }
+
     rows_done : (a : A) → ((held : Held) → held.rows ≡ c.rows → call.says a held (with_rows held next)) → made.rows ≡ next → made.journal.sound ≡ true → (IsTrue tells → catalogue.IsStored made (files_of after) (opened_of after) (past_of after)) → Changes tells call before behind (Done a)
     rows_done a says rows sound stored = record {
       ends = λ held has. (
@@ -135,12 +155,13 @@ module _ {S : Type 0} (files_of : S → Files) (opened_of : S → Name → ℕ) 
         by held (sym has.known.rows),
         says held (sym has.known.rows),
         record {
-          known = record { numbered = has.known.numbered; rows = rows; entries = has.known.entries; valid = grows held has.known };
+          known = known_made rows held has.known;
           settled = record { catalogue = sound; manifest = has.settled.manifest };
           disk = λ told. (rows_made c made m (files_of d) (files_of after) (opened_of d) (opened_of after) (past_of d) (past_of after) held (on_disk tells before held has told) next keeps (passes told) (elsewhere told) (opened told) name rows sound (stored told));
         },
       );
       any_moment = any_moment;
+      lists = record { still = listed_still before behind was.0 (with_rows was.0 next) was.1.known (known_made rows was.0 was.1.known) (still was.0 was.1.known); leaves = leaves };
       costs = record { granularity = refl; faults = faults; cause = λ failed. absurd failed };
     }
 
@@ -155,10 +176,12 @@ module _ {S : Type 0} (files_of : S → Files) (opened_of : S → Name → ℕ) 
           numbered_after = has.known.numbered;
           valid_after = grows held has.known;
           stand = refl;
+          still = still held has.known;
           disk = λ told. rows_doubt c made m (files_of d) (files_of after) (opened_of d) (opened_of after) (past_of d) (past_of after) held (on_disk tells before held has told) next keeps (passes told) (elsewhere told) (opened told) name rows is unsound (doubt told);
         },
       );
       any_moment = any_moment;
+      lists = record { still = same_rows rows; leaves = leaves };
       costs = record { granularity = refl; faults = faults; cause = λ failed. rose };
     }
 
@@ -171,27 +194,27 @@ module _ {S : Type 0} (files_of : S → Files) (opened_of : S → Name → ℕ) 
       → IfErr r (IsRefusal c.rows name) → ((e : RegisterErr) → Refuses c.rows name e → (r ≡ Err e) ⊎ (r ≡ Err (of_register.Disk Memory))) → IfErr r (λ e. IsOfRows e → (made ≡ c) × (after ≡ d)) → OnErr r (made.rows ≡ c.rows)
       → (IsTrue tells → r ≡ Err (of_register.Disk Fault) → catalogue.IsInDoubt made (files_of after) (opened_of after) (past_of after)) → (r ≡ Err (of_register.Disk Fault) → made.next ≡ c.rows ++ registered c.rows name about ∷ [])
       → (r ≡ Err (of_register.Disk Fault) → (made.journal.sound ≡ false) × Rose (faults_of d) (faults_of after)) → (r ≡ Err (of_register.Disk Memory) → (made.journal ≡ c.journal) × (after ≡ d))
-      → Changes tells (registering name about) before behind (end_of_register r)
-  register_changes name about (Ok id) named passes elsewhere opened faults is_id rows sound stored refusal exactly unchanged kept doubt next fault memory =
+      → (held : Held) × Has tells before held → Changes tells (registering name about) before behind (end_of_register r)
+  register_changes name about (Ok id) named passes elsewhere opened faults is_id rows sound stored refusal exactly unchanged kept doubt next fault memory was =
       let free : (e : RegisterErr) → Refuses c.rows name e → ⊥ = λ e refuses. elim (exactly e refuses) [ inl is ↦ absurd (cc (is)) | inr is ↦ absurd (cc (is)) ] in
-      rows_done (c.rows ++ registered c.rows name about ∷ []) (keeps_more c.rows (registered c.rows name about ∷ [])) named passes elsewhere opened faults (registering name about) (registers c.rows name about free) (keys_pushed c.rows name about free) id (λ held same. is_id ∙ ap (λ (rs : List Row). length rs) (sym same)) rows sound stored
-  register_changes name about (Err (of_register.NameTaken i)) named passes elsewhere opened faults is_id rows sound stored refusal exactly unchanged kept doubt next fault memory =
+      rows_done (c.rows ++ registered c.rows name about ∷ []) (keeps_more c.rows (registered c.rows name about ∷ [])) named passes elsewhere opened faults (registering name about) (registers c.rows name about free) (keys_pushed c.rows name about free) was id (λ held same. is_id ∙ ap (λ (rs : List Row). length rs) (sym same)) rows sound stored
+  register_changes name about (Err (of_register.NameTaken i)) named passes elsewhere opened faults is_id rows sound stored refusal exactly unchanged kept doubt next fault memory was =
       rows_same (registering name about) (Refused (of_register.NameTaken i)) (ap (λ (s : CatalogueState). s.journal) (unchanged tt).0) kept (unchanged tt).1 (λ held has same. (has, subst (λ (rs : List Row). Refuses rs name (of_register.NameTaken i)) (sym same) refusal)) (λ failed. failed)
-  register_changes name about (Err (of_register.KeyTaken i)) named passes elsewhere opened faults is_id rows sound stored refusal exactly unchanged kept doubt next fault memory =
+  register_changes name about (Err (of_register.KeyTaken i)) named passes elsewhere opened faults is_id rows sound stored refusal exactly unchanged kept doubt next fault memory was =
       rows_same (registering name about) (Refused (of_register.KeyTaken i)) (ap (λ (s : CatalogueState). s.journal) (unchanged tt).0) kept (unchanged tt).1 (λ held has same. (has, subst (λ (rs : List Row). Refuses rs name (of_register.KeyTaken i)) (sym same) refusal)) (λ failed. failed)
-  register_changes name about (Err of_register.Full) named passes elsewhere opened faults is_id rows sound stored refusal exactly unchanged kept doubt next fault memory =
+  register_changes name about (Err of_register.Full) named passes elsewhere opened faults is_id rows sound stored refusal exactly unchanged kept doubt next fault memory was =
       rows_same (registering name about) (Refused of_register.Full) (ap (λ (s : CatalogueState). s.journal) (unchanged tt).0) kept (unchanged tt).1 (λ held has same. (has, subst (λ (rs : List Row). Refuses rs name of_register.Full) (sym same) refusal)) (λ failed. failed)
-  register_changes name about (Err (of_register.Disk Fault)) named passes elsewhere opened faults is_id rows sound stored refusal exactly unchanged kept doubt next fault memory =
+  register_changes name about (Err (of_register.Disk Fault)) named passes elsewhere opened faults is_id rows sound stored refusal exactly unchanged kept doubt next fault memory was =
       let free : (e : RegisterErr) → Refuses c.rows name e → ⊥ = λ e refuses. elim (exactly e refuses) [ inl is ↦ of_disk c.rows name e Fault is refuses | inr is ↦ absurd (cc (is)) ] in
-      rows_failed (c.rows ++ registered c.rows name about ∷ []) (keeps_more c.rows (registered c.rows name about ∷ [])) named passes elsewhere opened faults (registering name about) (registers c.rows name about free) (keys_pushed c.rows name about free) kept (next refl) (fault refl).0 (λ told. doubt told refl) (fault refl).1
-  register_changes name about (Err (of_register.Disk Memory)) named passes elsewhere opened faults is_id rows sound stored refusal exactly unchanged kept doubt next fault memory =
+      rows_failed (c.rows ++ registered c.rows name about ∷ []) (keeps_more c.rows (registered c.rows name about ∷ [])) named passes elsewhere opened faults (registering name about) (registers c.rows name about free) (keys_pushed c.rows name about free) was kept (next refl) (fault refl).0 (λ told. doubt told refl) (fault refl).1
+  register_changes name about (Err (of_register.Disk Memory)) named passes elsewhere opened faults is_id rows sound stored refusal exactly unchanged kept doubt next fault memory was =
       rows_same (registering name about) Spent (memory refl).0 kept (memory refl).1 (λ held has same. has) (λ failed. failed)
 
   -- SWITCHING
 
   module _ (row : ℕ) (within : row < length c.rows) (named : made.journal.name ≡ c.journal.name) (elsewhere : IsTrue tells → (n : Name) → n ≢ c.journal.name → files_of after n ≡ files_of d n) (opened : IsTrue tells → opened_of after ≡ opened_of d) (faults : faults_of d ≤ faults_of after) (r : Result (Unit {0}) StateErr)
       (sound : OnOk r (made.journal.sound ≡ true)) (stored : IsTrue tells → OnOk r (catalogue.IsStored made (files_of after) (opened_of after) (past_of after))) (kept : OnErr r (made.rows ≡ c.rows)) (doubt : IsTrue tells → r ≡ Err (of_state.Disk Fault) → catalogue.IsInDoubt made (files_of after) (opened_of after) (past_of after))
-      (fault : r ≡ Err (of_state.Disk Fault) → (made.journal.sound ≡ false) × Rose (faults_of d) (faults_of after)) (memory : r ≡ Err (of_state.Disk Memory) → (made.journal ≡ c.journal) × (after ≡ d)) where
+      (fault : r ≡ Err (of_state.Disk Fault) → (made.journal.sound ≡ false) × Rose (faults_of d) (faults_of after)) (memory : r ≡ Err (of_state.Disk Memory) → (made.journal ≡ c.journal) × (after ≡ d)) (was : (held : Held) × Has tells before held) where
     pub pause_changes : (IsTrue tells → Passes (At c.journal.name (SaysEither IsCatalogue c.rows (switched row Paused c.rows))) (past_of d) (past_of after)) → OnOk r (made.rows ≡ switched row Paused c.rows) → ((r ≡ Err of_state.NotRunning) ↔ (HasState c.rows row Running → ⊥)) → (r ≡ Err of_state.NotPaused → ⊥)
         → (r ≡ Err of_state.NotRunning → (made ≡ c) × (after ≡ d)) → (r ≡ Err (of_state.Disk Fault) → made.next ≡ switched row Paused c.rows) → Changes tells (pausing row) before behind (end_of_switch r)
     pause_changes passes rows exactly never unchanged next = go r refl sound stored kept rows
@@ -201,12 +224,12 @@ module _ {S : Type 0} (files_of : S → Files) (opened_of : S → Name → ℕ) 
 
         go : (x : Result (Unit {0}) StateErr) → r ≡ x → OnOk x (made.journal.sound ≡ true) → (IsTrue tells → OnOk x (catalogue.IsStored made (files_of after) (opened_of after) (past_of after))) → OnErr x (made.rows ≡ c.rows) → OnOk x (made.rows ≡ switched row Paused c.rows) → Changes tells (pausing row) before behind (end_of_switch x)
         go (Ok a) is sound stored kept rows =
-            rows_done (switched row Paused c.rows) (keeps_switched row Paused c.rows) named passes elsewhere opened faults (pausing row) (by (λ other. absurd (cc (is, other)))) (keys_switched row Paused c.rows) a (λ held same. tt) rows sound stored
+            rows_done (switched row Paused c.rows) (keeps_switched row Paused c.rows) named passes elsewhere opened faults (pausing row) (by (λ other. absurd (cc (is, other)))) (keys_switched row Paused c.rows) was a (λ held same. tt) rows sound stored
         go (Err of_state.NotRunning) is sound stored kept rows =
             rows_same (pausing row) (Refused of_state.NotRunning) (ap (λ (s : CatalogueState). s.journal) (unchanged is).0) kept (unchanged is).1 (λ held has same. (has, λ state. exactly.0 is (subst (λ (rs : List Row). HasState rs row Running) same state))) (λ failed. failed)
         go (Err of_state.NotPaused) is sound stored kept rows = absurd (never is)
         go (Err (of_state.Disk Fault)) is sound stored kept rows =
-            rows_failed (switched row Paused c.rows) (keeps_switched row Paused c.rows) named passes elsewhere opened faults (pausing row) (by (λ other. absurd (cc (is, other)))) (keys_switched row Paused c.rows) kept (next is) (fault is).0 (λ told. doubt told is) (fault is).1
+            rows_failed (switched row Paused c.rows) (keeps_switched row Paused c.rows) named passes elsewhere opened faults (pausing row) (by (λ other. absurd (cc (is, other)))) (keys_switched row Paused c.rows) was kept (next is) (fault is).0 (λ told. doubt told is) (fault is).1
         go (Err (of_state.Disk Memory)) is sound stored kept rows = rows_same (pausing row) Spent (memory is).0 kept (memory is).1 (λ held has same. has) (λ failed. failed)
 
     pub resume_changes : (IsTrue tells → Passes (At c.journal.name (SaysEither IsCatalogue c.rows (switched row Running c.rows))) (past_of d) (past_of after)) → OnOk r (made.rows ≡ switched row Running c.rows) → ((r ≡ Err of_state.NotPaused) ↔ (HasState c.rows row Paused → ⊥)) → (r ≡ Err of_state.NotRunning → ⊥)
@@ -218,10 +241,10 @@ module _ {S : Type 0} (files_of : S → Files) (opened_of : S → Name → ℕ) 
 
         go : (x : Result (Unit {0}) StateErr) → r ≡ x → OnOk x (made.journal.sound ≡ true) → (IsTrue tells → OnOk x (catalogue.IsStored made (files_of after) (opened_of after) (past_of after))) → OnErr x (made.rows ≡ c.rows) → OnOk x (made.rows ≡ switched row Running c.rows) → Changes tells (resuming row) before behind (end_of_switch x)
         go (Ok a) is sound stored kept rows =
-            rows_done (switched row Running c.rows) (keeps_switched row Running c.rows) named passes elsewhere opened faults (resuming row) (by (λ other. absurd (cc (is, other)))) (keys_switched row Running c.rows) a (λ held same. tt) rows sound stored
+            rows_done (switched row Running c.rows) (keeps_switched row Running c.rows) named passes elsewhere opened faults (resuming row) (by (λ other. absurd (cc (is, other)))) (keys_switched row Running c.rows) was a (λ held same. tt) rows sound stored
         go (Err of_state.NotPaused) is sound stored kept rows =
             rows_same (resuming row) (Refused of_state.NotPaused) (ap (λ (s : CatalogueState). s.journal) (unchanged is).0) kept (unchanged is).1 (λ held has same. (has, λ state. exactly.0 is (subst (λ (rs : List Row). HasState rs row Paused) same state))) (λ failed. failed)
         go (Err of_state.NotRunning) is sound stored kept rows = absurd (never is)
         go (Err (of_state.Disk Fault)) is sound stored kept rows =
-            rows_failed (switched row Running c.rows) (keeps_switched row Running c.rows) named passes elsewhere opened faults (resuming row) (by (λ other. absurd (cc (is, other)))) (keys_switched row Running c.rows) kept (next is) (fault is).0 (λ told. doubt told is) (fault is).1
+            rows_failed (switched row Running c.rows) (keeps_switched row Running c.rows) named passes elsewhere opened faults (resuming row) (by (λ other. absurd (cc (is, other)))) (keys_switched row Running c.rows) was kept (next is) (fault is).0 (λ told. doubt told is) (fault is).1
         go (Err (of_state.Disk Memory)) is sound stored kept rows = rows_same (resuming row) Spent (memory is).0 kept (memory is).1 (λ held has same. has) (λ failed. failed)

@@ -36,12 +36,12 @@ get_set_same [] i x y is = absurd (cc)
 get_set_same (z ∷ ys) zero x y is = refl
 get_set_same (z ∷ ys) (suc i) x y is = get_set_same ys i x y is
 
-set_long : {A : Type 0} (xs : List A) (i : ℕ) (x : A) → length (slice_set xs i x) ≡ length xs
+pub set_long : {A : Type 0} (xs : List A) (i : ℕ) (x : A) → length (slice_set xs i x) ≡ length xs
 set_long [] i x = refl
 set_long (y ∷ ys) zero x = refl
 set_long (y ∷ ys) (suc i) x = ap suc (set_long ys i x)
 
-same_cases : (k i : ℕ) → (k ≡ i) ⊎ (k ≢ i)
+pub same_cases : (k i : ℕ) → (k ≡ i) ⊎ (k ≢ i)
 same_cases k i = elim (cases_lt k i) [
   | inl low ↦ inr (λ is. absurd (omega (arith, low, is)))
   | inr high ↦ elim (cases_lt i k) [
@@ -64,7 +64,7 @@ at_place (z ∷ xs) (suc i) x y is low here = at_place xs i x y is (omega (arith
 
 -- BESIDE A COMMIT
 
-manifests_differ : (a b : ℕ) → a ≢ b → manifest_name a ≢ manifest_name b
+pub manifests_differ : (a b : ℕ) → a ≢ b → manifest_name a ≢ manifest_name b
 manifests_differ a b apart is = let digit : 48 + a ≡ 48 + b = ap (λ (n : Name). get_or n.1 8 0) is in apart (omega (arith, digit))
 
 -- a commit of the manifest of this store

@@ -5,6 +5,7 @@ use Rattle.disk_model.specs.Past.{Past}
 use Rattle.disk_model.specs.declared.disk.Disk.{Ghosts}
 use Rattle.pv_catalog.specs.Catalogue.{CatalogueState}
 use Rattle.store_manifest.specs.Manifest.{ManifestState}
+use Rattle.tier_store.specs.Held.{Listing}
 use Rattle.tier_store.specs.declared.store.TierStore.{TierStore}
 
 -- its rows and its list of files in memory, what reads give, how far each name was opened, what crashes leave, and the count of faults
@@ -23,6 +24,10 @@ seen_on {D} files opened past faults catalogue manifest d = record { catalogue =
 -- a store, by the members of its disk's type
 abbrev pub seen : {D R : Type 0} → Ghosts D R → TierStore D R → Seen
 seen {D} {R} disk store = seen_on disk.files disk.opened disk.past disk.faults store.catalogue store.manifest store.disk
+
+-- what the memory lists of store 1
+abbrev pub listing_in : Seen → Listing
+listing_in s = ((1, s.catalogue.rows), s.manifest.entries)
 
 -- no change stands in doubt
 pub record IsSettled (s : Seen) : Type 0 where

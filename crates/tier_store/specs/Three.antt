@@ -15,6 +15,10 @@ use Rattle.tier_store.specs.Ahead.{CanRelist}
 abbrev pub Anything : Content → Content → Type 0
 Anything old new = Unit {0}
 
+-- every name has what it had, but the files of this store and this name
+abbrev pub Beside : ℕ → Name → Files → Files → Type 0
+Beside store name old new = (n : Name) → n.0 ≢ store → n ≢ name → new n ≡ old n
+
 -- the stores 1, 2 and 3, in this order
 pub record AreThree (rows : List Row) (ts : List Held) : Type 0 where
   pub three : length ts ≡ 3

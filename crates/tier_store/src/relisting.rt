@@ -18,7 +18,7 @@ use gate_journal::GREATEST_BATCH;
 use store_manifest::{Change, Manifest};
 
 /// Lists other files of the same rows in one commit. A crash at any moment leaves what was held, or what is next.
-pub(crate) fn relist<D: Disk>(
+pub fn relist<D: Disk>(
     disk: &mut D,
     manifest: &mut Manifest,
     changes: &[Change],
@@ -43,6 +43,7 @@ pub(crate) fn relist<D: Disk>(
     ensures unchanged { OnErr result (manifest.new.entries ≡ manifest.old.entries) }
     ensures next { OnErr result (manifest.new.journal.sound ≡ false → manifest.new.next ≡ all_changed manifest.old.entries changes.now) }
     ensures sound { OnOk result (manifest.new.journal.sound ≡ true) }
+    ensures doubt { IsErrOf result DiskErr.Fault → manifest.new.journal.sound ≡ false }
     ensures memory { IsErrOf result DiskErr.Memory → manifest.new.journal ≡ manifest.old.journal }
     ensures state { (manifest.new.granularity ≡ manifest.old.granularity) × (manifest.new.journal.name ≡ manifest.old.journal.name) }
     ensures faults { D.faults disk.old ≤ D.faults disk.new }
@@ -54,7 +55,7 @@ pub(crate) fn relist<D: Disk>(
 
 /// Lists other files in the store at this place, which is its number less one. A crash at any moment leaves what all stores held, or
 /// that with these files.
-pub(crate) fn relist_in<D: Disk>(
+pub fn relist_in<D: Disk>(
     disk: &mut D,
     manifests: &mut Vec<Manifest>,
     i: usize,

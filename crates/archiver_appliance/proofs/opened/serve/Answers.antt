@@ -20,7 +20,7 @@ use Rattle.archiver_appliance.specs.Status.{number_of}
 use Rattle.archiver_appliance.proofs.Checking.{check_judges, checks_whole}
 use Rattle.archiver_appliance.proofs.Ingests.{ingests_into, stays_open}
 use Rattle.archiver_appliance.proofs.Judgements.{OneVerdict, exactly, get_judges, ingest_judges, report_judges}
-use Rattle.archiver_appliance.proofs.Opening.{first_stands, opening_reads, same_said, then_reads}
+use Rattle.archiver_appliance.proofs.Opening.{first_stands, opened_listed, opening_reads, reads_listed, same_said, then_reads}
 use Rattle.archiver_appliance.proofs.Outcomes.{check_ends, check_stands, get_ends, get_refused, gets_of, ingest_ends, report_ends, tells_of}
 use Rattle.archiver_appliance.proofs.Refusals.{refused_does}
 use Rattle.archiver_appliance.proofs.Retrieving.{gets_whole}
@@ -67,6 +67,7 @@ returns-in-Ingest-clause-does g c =
                 };
             tells = λ yes. tt;
             reads = λ none. absurd (none whole);
+            listed = opened_listed short files (g.D.Disk.past c.args.disk) g.D.Disk.tells (seen g.D.Disk c.in-Ok.store) (seen g.D.Disk after) told (opening_reads g.D.Disk short c.args.disk c.in-Ok.store.disk (c.in-Ok.ensures.reopens told)) (c.in-Ok.ensures.said told) c.ingest-ingested.ensures.lists;
           } in
           (serves, exactly verdict short command.Ingest files (ingested_status came) serves.judges),
     ) in
@@ -100,6 +101,8 @@ returns-in-Get-clause-does g c =
       get_ends (g.S.Source.left c.args.source.now) name query came,
       λ told.
           let reopens = c.in-Ok.ensures.reopens told in
+          let only = then_reads short files (g.D.Disk.files store.disk) (g.D.Disk.files after.disk) (g.D.Disk.past c.args.disk) (g.D.Disk.past store.disk) (g.D.Disk.past after.disk) (opening_reads g.D.Disk short c.args.disk store.disk reopens)
+          (c.get-got.ensures.leaves.reads.files told) (c.get-got.ensures.leaves.reads.any_moment told) in
           let serves : Serves short asked old new (got_status came) = record {
             judges = get_judges g.D.Disk.tells short files (seen g.D.Disk store) told (c.in-Ok.ensures.whole told refl) (c.in-Ok.ensures.said told) reopens.elsewhere g.D.Reader.ReadAt.faults (g.K.Sink.write_faults c.args.sink.now) (g.K.Sink.write_faults c.get-got.new.sink) came name query ends.none.0 ends.none.1 ends.cause;
             makes = λ one other opens stands.
@@ -108,8 +111,8 @@ returns-in-Get-clause-does g c =
                 let none = subst (λ (rows : List Row). (came ≡ Err got.NoSuchVariable) → HasNone rows name.now) read.has.known.rows ends.none.0 in
                 record { first = read.held; either = read.either; read = read.read; makes = gets_of read.held name.now query a b came none (ends.writes read.held read.has standing told) };
             tells = λ whole. gets_whole short store.catalogue.rows (g.D.Disk.files store.disk) files store.manifest.entries name.now query a b came reopens.elsewhere (c.in-Ok.ensures.said told) (ends.read told) whole;
-            reads = λ reading. then_reads short files (g.D.Disk.files store.disk) (g.D.Disk.files after.disk) (g.D.Disk.past c.args.disk) (g.D.Disk.past store.disk) (g.D.Disk.past after.disk) (opening_reads g.D.Disk short c.args.disk store.disk reopens)
-                (c.get-got.ensures.leaves.reads.files told) (c.get-got.ensures.leaves.reads.any_moment told);
+            reads = λ reading. only;
+            listed = λ whole. reads_listed short files (g.D.Disk.files after.disk) (g.D.Disk.past c.args.disk) (g.D.Disk.past after.disk) whole.rows whole.entries only;
           } in
           (serves, exactly verdict short asked files (got_status came) serves.judges),
     ) in
@@ -145,6 +148,7 @@ returns-in-Status-clause-does g c =
     let does : Does short g.D.Disk.tells (OverStore command.Status) old new status = (
       report_ends (g.S.Source.left c.args.source.now) came,
       λ told.
+          let only = opening_reads g.D.Disk short c.args.disk store.disk (c.in-Ok.ensures.reopens told) in
           let serves : Serves short command.Status old new status = record {
             judges = report_judges short files came (c.in-Ok.ensures.whole told refl);
             makes = λ one other opens stands.
@@ -154,7 +158,8 @@ returns-in-Status-clause-does g c =
             tells = λ whole.
                 let same = same_said short files rows whole.rows entries whole.entries (c.in-Ok.ensures.said told) whole.said in
                 subst (λ (es : List Entry). Tells (listed_text whole.rows es) a b status) same.1 (subst (λ (rs : List Row). Tells (listed_text rs entries) a b status) same.0 (tells_of (listed_text rows entries) a b came c.status-reported.ensures.text));
-            reads = λ reading. opening_reads g.D.Disk short c.args.disk store.disk (c.in-Ok.ensures.reopens told);
+            reads = λ reading. only;
+            listed = λ whole. reads_listed short files (g.D.Disk.files store.disk) (g.D.Disk.past c.args.disk) (g.D.Disk.past store.disk) whole.rows whole.entries only;
           } in
           (serves, exactly verdict short command.Status files status serves.judges),
     ) in
@@ -184,6 +189,8 @@ returns-in-Check-clause-does g c =
           let reopens = c.in-Ok.ensures.reopens told in
           let said = c.in-Ok.ensures.said told in
           let checks = subst (λ (t : Bool). Checks t rows between entries a b came) told c.check-checked.ensures.checks in
+          let only = then_reads short files between (g.D.Disk.files after.disk) (g.D.Disk.past c.args.disk) (g.D.Disk.past store.disk) (g.D.Disk.past after.disk) (opening_reads g.D.Disk short c.args.disk store.disk reopens)
+          (c.check-checked.ensures.leaves.reads.files told) (c.check-checked.ensures.leaves.reads.any_moment told) in
           let serves : Serves short command.Check old new status = record {
             judges = check_judges short rows between files entries a b came reopens.elsewhere said (c.in-Ok.ensures.whole told refl) checks;
             makes = λ one other opens stands.
@@ -191,8 +198,8 @@ returns-in-Check-clause-does g c =
                 let standing = first_stands short (g.D.Disk.past c.args.disk) one other read.held opens stands read.either in
                 record { first = read.held; either = read.either; read = read.read; makes = check_stands came (c.check-checked.ensures.stands read.held read.has standing told) };
             tells = λ whole. checks_whole short rows between files entries a b came reopens.elsewhere said checks whole;
-            reads = λ reading. then_reads short files between (g.D.Disk.files after.disk) (g.D.Disk.past c.args.disk) (g.D.Disk.past store.disk) (g.D.Disk.past after.disk) (opening_reads g.D.Disk short c.args.disk store.disk reopens)
-                (c.check-checked.ensures.leaves.reads.files told) (c.check-checked.ensures.leaves.reads.any_moment told);
+            reads = λ reading. only;
+            listed = λ whole. reads_listed short files (g.D.Disk.files after.disk) (g.D.Disk.past c.args.disk) (g.D.Disk.past after.disk) whole.rows whole.entries only;
           } in
           (serves, exactly verdict short command.Check files status serves.judges),
     ) in

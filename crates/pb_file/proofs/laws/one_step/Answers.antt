@@ -1,4 +1,4 @@
-use Rattle.pb_file.proofs.Steps as steps
+use Rattle.pb_file.proofs.OneStep as steps
 use Rattle.pb_file.proofs.laws.one_step.Goals as goal
 
 pub returns : goal.returns

@@ -8,6 +8,7 @@ use Rattle.pb_lines.specs.Reader.{Chunks, ReadsItem, Stops, to_come}
 use Rattle.pb_lines.specs.Stream.{Section, chunk_end, header, sample}
 use Rattle.pb_lines.proofs.Reading.{when_none}
 use Rattle.pv_catalog.proofs.Fields.{same_some}
+use Rattle.tier_store.proofs.Acting.{keeps_all, keeps_then}
 use Rattle.store_ingest.specs.declared.ingest.Ingested.TheVariants.{Done, Refused, SourceFault, OutOfMemory}
 use Rattle.store_ingest.specs.Chunk.{ChunkState, IsReady, sample_of}
 use Rattle.store_ingest.proofs.Flush.{flushes_all, ready_emptied}
@@ -39,6 +40,7 @@ items-init g c =
       read_faults = omega arith;
       paid = record { granularity = refl; faults = omega arith; cause = λ failed. absurd failed };
       read = record { items = []; passed = read_nothing first_reader (left c.args.source.now) c.in-Ok.ensures };
+      lists = keeps_all g.D.Disk.tells _;
       has = c.requires.has;
       progress = λ first has stands. starts first_reader (left c.args.source.now) (g.C.Clock.coming c.args.clock.now) c.new-chunk.result c.in-Ok.ensures c.new-chunk.ensures has stands;
     }
@@ -57,6 +59,9 @@ offer-done-requires-clause-sample g c =
     let inside : mid.section.chunk ≡ Some of.0 = sym (ap (λ (s : Section). s.chunk) read.0) ∙ of.1 in
     let is : IsSample of.0.ty of.0.year (record { t = c.in-Sample.t; line = new.lines.line }) = record { whole = of.2; meant = of.3 } in
     rw c.line.ensures (sample_fits c.items.chunk.target of.0 (record { t = c.in-Sample.t; line = new.lines.line }) (known.of_type of.0 inside) is)
+
+pub returns-in_default-clause-lists : goal.returns-in_default-clause-lists
+returns-in_default-clause-lists g c = keeps_all g.D.Disk.tells _
 
 pub returns-in-End-clause-ingests : goal.returns-in-End-clause-ingests
 returns-in-End-clause-ingests g c = λ first has stands.
@@ -77,6 +82,9 @@ returns-in-End-clause-stream g c =
 
 pub returns-in-End-clause-usable : goal.returns-in-End-clause-usable
 returns-in-End-clause-usable g c = rw c.ended.ensures (usable_ended Done c.flush.result c.flush.ensures.changes c.items.invariant.has (λ has. has))
+
+pub returns-in-End-clause-lists : goal.returns-in-End-clause-lists
+returns-in-End-clause-lists g c = keeps_then g.D.Disk.tells _ _ _ c.items.invariant.lists c.flush.ensures.changes.lists
 
 pub returns-in-End-clause-costs : goal.returns-in-End-clause-costs
 returns-in-End-clause-costs g c = rw c.ended.ensures (pays_ended Done c.flush.result (λ failed. failed) c.items.invariant.paid c.flush.ensures.changes.costs)
@@ -108,6 +116,9 @@ returns-in-Refused-clause-stream g c =
 
 pub returns-in-Refused-clause-usable : goal.returns-in-Refused-clause-usable
 returns-in-Refused-clause-usable g c = rw c.ended-in-Refused.ensures (usable_ended (Refused c.number-line.result c.in-Refused.fault) c.flush-in-Refused.result c.flush-in-Refused.ensures.changes c.items.invariant.has (λ has. has))
+
+pub returns-in-Refused-clause-lists : goal.returns-in-Refused-clause-lists
+returns-in-Refused-clause-lists g c = keeps_then g.D.Disk.tells _ _ _ c.items.invariant.lists c.flush-in-Refused.ensures.changes.lists
 
 pub returns-in-Refused-clause-costs : goal.returns-in-Refused-clause-costs
 returns-in-Refused-clause-costs g c = rw c.ended-in-Refused.ensures (pays_ended (Refused c.number-line.result c.in-Refused.fault) c.flush-in-Refused.result (λ failed. failed) c.items.invariant.paid c.flush-in-Refused.ensures.changes.costs)
@@ -171,6 +182,13 @@ returns-in-Err-clause-usable g c =
       | in-ChunkEnd w ↦ rw w.store-is (usable_stopped w.flush-done.result c.in-Err.err (sym w.done-is ∙ c.in-Err.is) w.flush-done.ensures.changes c.items.invariant.has)
     ])
 
+pub returns-in-Err-clause-lists : goal.returns-in-Err-clause-lists
+returns-in-Err-clause-lists g c = elim c.match-next.branch [
+  | in-Header+in-Some w ↦ rw w.store-is (keeps_then g.D.Disk.tells _ _ _ c.items.invariant.lists w.begin-done.ensures.changes.lists)
+  | in-Sample w ↦ rw w.store-is (keeps_then g.D.Disk.tells _ _ _ c.items.invariant.lists w.offer-done.ensures.changes.lists)
+  | in-ChunkEnd w ↦ rw w.store-is (keeps_then g.D.Disk.tells _ _ _ c.items.invariant.lists w.flush-done.ensures.changes.lists)
+]
+
 pub returns-in-Err-clause-costs : goal.returns-in-Err-clause-costs
 returns-in-Err-clause-costs g c =
     rw c.stopped.ensures (elim c.match-next.branch [
@@ -206,6 +224,7 @@ items-preserved g c =
             read_faults = omega (arith, known.read_faults, c.next.ensures.faults);
             paid = rw w.store-is (pays_on call.result known.paid call.ensures.changes.costs);
             read = read_more (header info new.lines.line ∷ []) known.read own;
+            lists = rw w.store-is (keeps_then g.D.Disk.tells _ _ _ known.lists call.ensures.changes.lists);
             has = rw w.store-is (has_done call.result _ done call.ensures.changes known.has);
             progress = λ first has stands.
                 let p = known.progress first has stands in
@@ -232,6 +251,7 @@ items-preserved g c =
             read_faults = omega (arith, known.read_faults, c.next.ensures.faults);
             paid = rw w.store-is (pays_on call.result known.paid call.ensures.changes.costs);
             read = read_more (sample x ∷ []) known.read own;
+            lists = rw w.store-is (keeps_then g.D.Disk.tells _ _ _ known.lists call.ensures.changes.lists);
             has = rw w.store-is (has_done call.result _ done call.ensures.changes known.has);
             progress = λ first has stands.
                 let p = known.progress first has stands in
@@ -254,6 +274,7 @@ items-preserved g c =
             read_faults = omega (arith, known.read_faults, c.next.ensures.faults);
             paid = rw w.store-is (pays_on call.result known.paid call.ensures.changes.costs);
             read = read_more (chunk_end ∷ []) known.read read.1;
+            lists = rw w.store-is (keeps_then g.D.Disk.tells _ _ _ known.lists call.ensures.changes.lists);
             has = rw w.store-is (has_done call.result _ done call.ensures.changes known.has);
             progress = λ first has stands.
                 let p = known.progress first has stands in

@@ -1,10 +1,18 @@
-use Rattle.std.proofs.Common.{inl, [], ◌∷◌, Ok, Err, ◌∙◌, ap, arith}
+use Rattle.std.proofs.Common.{inl, ◌<◌, List, [], ◌∷◌, length, Ok, Err, sym, ◌∙◌, ap, subst, arith}
 use Rattle.std.proofs.lemmas.Result.{err_from_is_err_and}
 use Rattle.pv_catalog.specs.Catalogue.{CatalogueState}
+use Rattle.pv_catalog.specs.declared.row.Row.{Row}
+use Rattle.tier_store.proofs.There.{row_listed}
 use Rattle.store_reports.specs.Check.{Inspected}
 use Rattle.store_reports.proofs.Leaving.{leaves_ended, leaves_put, leaves_written, unwritten}
 use Rattle.store_reports.proofs.Telling.{found_before, told_err, told_more, untold}
 use Rattle.store_reports.proofs.inspection.check_entry.Goals as goal
+
+pub tell-requires : goal.tell-requires
+tell-requires g c =
+    let old = c.args.store.now in
+    let rows = c.rows.ensures.value ∙ ap (λ (k : CatalogueState). k.rows) (c.catalogue.ensures ∙ (c.find.ensures.leaves 0).catalogue) in
+    subst (λ (l : List Row). c.args.entry.now.series < length l) (sym rows) (row_listed old.catalogue old.manifest c.requires.has.0 c.args.entry.now c.requires.has.1.known c.requires.listed)
 
 pub returns-in_err-finding-clause-told : goal.returns-in_err-finding-clause-told
 returns-in_err-finding-clause-told g c rows files shows before a told =

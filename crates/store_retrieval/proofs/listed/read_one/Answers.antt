@@ -20,6 +20,7 @@ use Rattle.store_retrieval.proofs.Series.{are_own}
 use Rattle.store_retrieval.proofs.Choosing.{ends_before, ends_broken}
 use Rattle.store_retrieval.proofs.Listing.{row_at, row_here, entry_at, entries_are, opened_at, open_broken, open_cause, told_cause, told_one, told_quiet, damaged_file}
 use Rattle.store_retrieval.proofs.Leaving.{counted_first, leaves_none, leaves_opened, open_failed}
+use Rattle.tier_store.proofs.There.{row_listed}
 use Rattle.store_retrieval.proofs.listed.read_one.Goals as goal
 
 pub offset_bounds-listed-at : goal.offset_bounds-listed-at
@@ -42,6 +43,14 @@ read_file-read-requires g c = record {
       let long = ap length bytes in
       omega (arith, len, long);
 }
+
+pub told-requires : goal.told-requires
+told-requires g c =
+    let old = c.args.store.now in
+    let e = c.index-listed-at.result in
+    let entry = entry_at old.manifest.entries c.args.id c.args.at c.entries-listed.result.now e (c.entries-listed.ensures ∙ ap (λ (m : ManifestState). own_entries c.args.id m.entries) c.manifest.ensures) c.index-listed-at.is c.requires.here in
+    let rows : c.rows-rows.result.now ≡ old.catalogue.rows = c.rows-rows.ensures.value ∙ ap (λ (k : CatalogueState). k.rows) (c.catalogue.ensures ∙ c.open_listed.ensures.same.0) in
+    subst (λ (l : List Row). e.series < length l) (sym rows) (row_listed old.catalogue old.manifest c.requires.has.0 e c.requires.has.1.known entry.listed)
 
 pub returns-then-is_past-clause-reads : goal.returns-then-is_past-clause-reads
 returns-then-is_past-clause-reads g c held has stands told row here a r =

@@ -7,7 +7,7 @@ use Rattle.tier_store.specs.Flush.{Grows}
 use Rattle.tier_store.specs.Writing.{IsWritten}
 use Rattle.tier_store.proofs.Names.{outside}
 use Rattle.tier_store.proofs.Stays.{still_safe}
-use Rattle.tier_store.proofs.WrittenPiece.{piece_name, nth_grows, all_listed, more_behind, more_written}
+use Rattle.tier_store.proofs.WrittenPiece.{piece_name, nth_grows, all_listed, more_behind, reads_behind, more_written}
 use Rattle.tier_store.proofs.writing.write_pieces.Goals as goal
 
 pub write_piece-requires-clause-row : goal.write_piece-requires-clause-row
@@ -27,6 +27,12 @@ returns-in_err-write_piece-clause-any_moment g c tells gr held fs safe makes =
     more_behind gr (c.args.store, c.args.rows.now) held c.piece-item.result nth.0 (g.D.Disk.files c.args.disk.now) (g.D.Disk.opened c.args.disk.now) (g.D.Disk.past c.args.disk.now) (g.D.Disk.past c.loop-piece.disk) (g.D.Disk.past c.write_piece.new.disk) safe nth.3
     (c.loop-piece.invariant.crash tells gr held fs safe makes) (c.write_piece.ensures.any_moment tells)
 
+pub returns-in_err-write_piece-clause-behind : goal.returns-in_err-write_piece-clause-behind
+returns-in_err-write_piece-clause-behind g c tells gr held fs safe makes =
+    let nth = nth_grows gr held c.args.pieces.now fs c.loop-piece.piece-index c.piece-item.result makes.each c.loop-piece-test.true c.piece-item.is in
+    reads_behind gr (c.args.store, c.args.rows.now) held c.piece-item.result nth.0 (g.D.Disk.files c.args.disk.now) (g.D.Disk.files c.loop-piece.disk) (g.D.Disk.files c.write_piece.new.disk) (g.D.Disk.opened c.args.disk.now) (g.D.Disk.past c.args.disk.now) safe nth.3
+    (c.loop-piece.invariant.behind tells gr held fs safe makes) (c.write_piece.ensures.kept tells)
+
 pub returns-in_err-write_piece-clause-still : goal.returns-in_err-write_piece-clause-still
 returns-in_err-write_piece-clause-still g c tells gr held fs safe makes =
     let nth = nth_grows gr held c.args.pieces.now fs c.loop-piece.piece-index c.piece-item.result makes.each c.loop-piece-test.true c.piece-item.is in
@@ -40,6 +46,10 @@ loop-piece-preserved g c = record {
       let nth = nth_grows gr held c.args.pieces.now fs c.loop-piece.piece-index c.piece-item.result makes.each c.loop-piece-test.true c.piece-item.is in
       more_behind gr (c.args.store, c.args.rows.now) held c.piece-item.result nth.0 (g.D.Disk.files c.args.disk.now) (g.D.Disk.opened c.args.disk.now) (g.D.Disk.past c.args.disk.now) (g.D.Disk.past c.loop-piece.disk) (g.D.Disk.past c.write_piece.new.disk) safe nth.3
       (c.loop-piece.invariant.crash tells gr held fs safe makes) (c.write_piece.ensures.any_moment tells);
+  behind = λ tells gr held fs safe makes.
+      let nth = nth_grows gr held c.args.pieces.now fs c.loop-piece.piece-index c.piece-item.result makes.each c.loop-piece-test.true c.piece-item.is in
+      reads_behind gr (c.args.store, c.args.rows.now) held c.piece-item.result nth.0 (g.D.Disk.files c.args.disk.now) (g.D.Disk.files c.loop-piece.disk) (g.D.Disk.files c.write_piece.new.disk) (g.D.Disk.opened c.args.disk.now) (g.D.Disk.past c.args.disk.now) safe nth.3
+      (c.loop-piece.invariant.behind tells gr held fs safe makes) (c.write_piece.ensures.kept tells);
   still = λ tells gr held fs safe makes.
       let nth = nth_grows gr held c.args.pieces.now fs c.loop-piece.piece-index c.piece-item.result makes.each c.loop-piece-test.true c.piece-item.is in
       let now = still_safe gr (c.args.store, c.args.rows.now) (g.D.Disk.files c.args.disk.now) (g.D.Disk.files c.loop-piece.disk) (g.D.Disk.opened c.args.disk.now) (g.D.Disk.opened c.loop-piece.disk) (g.D.Disk.past c.args.disk.now) (g.D.Disk.past c.loop-piece.disk) held safe
@@ -52,8 +62,8 @@ loop-piece-preserved g c = record {
       let name : file_of (shelf_of held) nth.0.entry ≡ file_of (c.args.store, c.args.rows.now) c.piece-item.result.entry = piece_name gr (c.args.store, c.args.rows.now) held (g.D.Disk.files c.args.disk.now) (g.D.Disk.opened c.args.disk.now) (g.D.Disk.past c.args.disk.now) c.piece-item.result nth.0 safe nth.3 in
       more_written gr held fs c.loop-piece.piece-index nth.0 (g.D.Disk.files c.loop-piece.disk) (g.D.Disk.files c.write_piece.new.disk) (g.D.Disk.opened c.loop-piece.disk) (g.D.Disk.opened c.write_piece.new.disk)
       safe.valid.keys (all_listed gr held c.args.pieces.now fs makes.each) makes.apart nth.1 nth.2 (c.loop-piece.invariant.written tells gr held fs safe makes) (c.in_ok-write_piece.ensures.written tells gr held nth.0 now nth.3)
-      (λ n apart. c.write_piece.ensures.elsewhere tells n (λ is. apart (is ∙ sym name))) (c.write_piece.ensures.no_more tells);
-  elsewhere = λ tells n other. c.write_piece.ensures.elsewhere tells n (outside (c.args.store, c.args.rows.now) c.piece-item.result.entry n other) ∙ c.loop-piece.invariant.elsewhere tells n other;
+      (λ n apart. (c.write_piece.ensures.kept tells).elsewhere n (λ is. apart (is ∙ sym name))) (c.write_piece.ensures.no_more tells);
+  elsewhere = λ tells n other. (c.write_piece.ensures.kept tells).elsewhere n (outside (c.args.store, c.args.rows.now) c.piece-item.result.entry n other) ∙ c.loop-piece.invariant.elsewhere tells n other;
   no_more = λ tells n. omega (arith, c.write_piece.ensures.no_more tells n, c.loop-piece.invariant.no_more tells n);
   faults = omega (arith, c.write_piece.ensures.faults, c.loop-piece.invariant.faults);
 }

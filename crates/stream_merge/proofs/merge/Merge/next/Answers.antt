@@ -10,6 +10,8 @@ use Rattle.stream_merge.specs.Source.{open_pieces, Grew, unread}
 use Rattle.stream_merge.specs.Merging.{IsKept, kept_of, kept_count}
 use Rattle.stream_merge.proofs.Coming.{opens_any}
 use Rattle.stream_merge.proofs.Giving.{due_answers, last_answers, gives_answers, gives_event, going_at, kept_now, none_is_kept, passes_join, passes_at, damaged_back, failed_since, since_through, since_more, answers_none, opens_none, still_at, step_skip, step_keep, early_at, rose_lower, count_le, due_count, kept_length, gives_count}
+use Rattle.stream_merge.proofs.Went.{goes_nowhere, goes_still, goes_joined, went_given, went_joined, gives_given, grew_same}
+use Rattle.stream_merge.proofs.Later.{given_later, next_low, kept_low, gives_later}
 use Rattle.stream_merge.proofs.merge.Merge.next.Goals as goal
 
 pub returns-then-is_due-clause-lines : goal.returns-then-is_due-clause-lines
@@ -68,6 +70,8 @@ returns-in_default g c =
           let p = inv.opens tells ps is in
           damaged_back c.samples.self.source.ty c.args.self.now.source.ty (open_pieces R.bytes first ++ ps) p.passed (open_pieces R.bytes c.samples.self.source.piece ++ p.rest) name at inv.same.1 p.are (e.damaged tells p.rest p.left_is name at bad);
       failed = λ failed is. failed_since R.faults first c.samples.self.source.piece _ _ _ _ failed (λ (h : P.count c.pull.new.pieces < P.count c.samples.pieces). omega (arith, h, inv.count)) (rose_lower (P.faults c.args.pieces.now) (P.faults c.samples.pieces) (P.faults c.pull.new.pieces) inv.faults) since (e.failed failed is);
+      later = λ t is. absurd (none t is);
+      went = went_joined R.tells R.bytes P.opened P.failed g.met.P.Pieces.opened_on g.met.P.Pieces.failed_on c.args.self.now.source.ty c.samples.self.source.ty c.args.pieces.now c.samples.pieces c.pull.new.pieces first c.samples.self.source.piece c.pull.new.self.piece r inv.same.1 inv.went e.went;
       spent = e.spent;
       faults = omega (arith, e.faults, inv.faults);
       count = omega (arith, e.count, inv.count);
@@ -107,6 +111,8 @@ samples-preserved-then-not-is_later g c =
       since = since_through R.faults first m.source.piece s.piece _ _ (λ (h : P.count c.pull.new.pieces < P.count c.samples.pieces). omega (arith, h, inv.count)) (e.grew t refl) since;
       faults = omega (arith, e.faults, inv.faults);
       count = omega (arith, e.count, inv.count);
+      went = goes_joined R.tells R.bytes P.opened P.failed g.met.P.Pieces.opened_on c.args.pieces.now c.samples.pieces c.pull.new.pieces first m.source.piece s.piece inv.went e.went;
+      low = inv.low;
       smaller = omega (arith, e.smaller t refl, inv.smaller);
     }
 
@@ -175,6 +181,8 @@ samples-preserved g c =
       since = subst S (sym k.rest.1) (since_through R.faults first m.source.piece s.piece _ _ (λ (h : P.count c.pull.new.pieces < P.count c.samples.pieces). omega (arith, h, inv.count)) (e.grew t refl) since);
       faults = omega (arith, e.faults, inv.faults);
       count = omega (arith, e.count, inv.count);
+      went = goes_still R.tells R.bytes P.opened P.failed c.args.pieces.now c.pull.new.pieces first s.piece m₂.source.piece (goes_joined R.tells R.bytes P.opened P.failed g.met.P.Pieces.opened_on c.args.pieces.now c.samples.pieces c.pull.new.pieces first m.source.piece s.piece inv.went e.went) (λ tells. ap (λ (v : Source g.row.R.Denot). open_pieces R.bytes v.piece) k.rest.1);
+      low = omega (arith, inv.low, next_low m.source.ty m.last m.kept m.kept_line.items t inv.going.kept (c.is_later.ensures.0 c.if-not-is_later.false), kept_low m₂.last m₂.kept t k.some);
       smaller = omega (arith, e.smaller t refl, inv.smaller, ap (λ (v : Source g.row.R.Denot). unread (P.count c.pull.new.pieces) v) k.rest.1, count_le m₂.kept);
     }
 
@@ -195,3 +203,86 @@ returns-then-t-self-clause-smaller g c at is =
     let m = c.samples.self in
     let e = c.give.ensures in
     omega (arith, gives_count m.query.to m.kept c.in-Line.t c.give.new.self.kept c.give.result e.gives, ap (λ (v : Source g.row.R.Denot). unread (g.P.Pieces.count c.pull.new.pieces) v) e.rest.1, c.in-Line.ensures.smaller c.in-Line.t refl, c.samples.invariant.smaller)
+
+-- WHAT BECAME OF THE PIECES
+
+pub samples-init : goal.samples-init
+samples-init g c =
+    let R = g.R.ReadAt in
+    let first = c.args.self.now.source.piece in
+    record {
+      going = c.requires.going;
+      early = c.is_due.ensures.early (λ is. absurd (let no = c.if-is_due.false in cc));
+      same = (refl, refl);
+      lines = λ tells ps xs is rest. record { pieces = ps; left_is = is; rest = rest };
+      opens = λ tells ps is. record { passed = []; rest = ps; left_is = is; are = refl };
+      since = inr (grew_same R.faults first);
+      faults = omega arith;
+      count = omega arith;
+      went = goes_nowhere R.tells R.bytes g.P.Pieces.opened g.P.Pieces.failed g.met.P.Pieces.none_opened c.args.pieces.now first first refl;
+      low = omega arith;
+      smaller = omega arith;
+    }
+
+pub pull-requires-clause-may : goal.pull-requires-clause-may
+pull-requires-clause-may g c =
+    let went = c.samples.invariant.went in
+    g.met.P.Pieces.goes_on c.args.pieces.now c.samples.pieces went.pieces c.requires.may went.were
+
+pub returns-then-is_due-clause-went : goal.returns-then-is_due-clause-went
+returns-then-is_due-clause-went g c =
+    let R = g.R.ReadAt in
+    let P = g.P.Pieces in
+    let e = c.give_due.ensures in
+    let m = c.args.self.now in
+    went_given R.tells R.bytes P.opened P.failed m.source.ty c.args.pieces.now c.args.pieces.now m.source.piece c.give_due.new.self.source.piece c.give_due.result e.whole
+    (goes_nowhere R.tells R.bytes P.opened P.failed g.met.P.Pieces.none_opened c.args.pieces.now m.source.piece c.give_due.new.self.source.piece (ap (λ (v : Source g.row.R.Denot). v.piece) e.rest.1))
+
+pub returns-in-End-clause-went : goal.returns-in-End-clause-went
+returns-in-End-clause-went g c =
+    let R = g.R.ReadAt in
+    let P = g.P.Pieces in
+    let e = c.give_kept.ensures in
+    let first = c.args.self.now.source.piece in
+    let inv = c.samples.invariant in
+    let now = c.give_kept.new.self.source.piece in
+    went_given R.tells R.bytes P.opened P.failed c.args.self.now.source.ty c.args.pieces.now c.pull.new.pieces first now c.give_kept.result e.whole
+    (goes_still R.tells R.bytes P.opened P.failed c.args.pieces.now c.pull.new.pieces first c.pull.new.self.piece now (goes_joined R.tells R.bytes P.opened P.failed g.met.P.Pieces.opened_on c.args.pieces.now c.samples.pieces c.pull.new.pieces first c.samples.self.source.piece c.pull.new.self.piece inv.went c.in-End.ensures.went) (λ tells. ap (λ (v : Source g.row.R.Denot). open_pieces R.bytes v.piece) e.rest.1))
+
+pub returns-then-t-self-clause-went : goal.returns-then-t-self-clause-went
+returns-then-t-self-clause-went g c =
+    let R = g.R.ReadAt in
+    let P = g.P.Pieces in
+    let e = c.give.ensures in
+    let m = c.samples.self in
+    let first = c.args.self.now.source.piece in
+    let inv = c.samples.invariant in
+    let now = c.give.new.self.source.piece in
+    went_given R.tells R.bytes P.opened P.failed c.args.self.now.source.ty c.args.pieces.now c.pull.new.pieces first now c.give.result (gives_given m.query.to m.kept c.in-Line.t c.give.new.self.kept c.give.result e.gives)
+    (goes_still R.tells R.bytes P.opened P.failed c.args.pieces.now c.pull.new.pieces first c.pull.new.self.piece now (goes_joined R.tells R.bytes P.opened P.failed g.met.P.Pieces.opened_on c.args.pieces.now c.samples.pieces c.pull.new.pieces first m.source.piece c.pull.new.self.piece inv.went c.in-Line.ensures.went) (λ tells. ap (λ (v : Source g.row.R.Denot). open_pieces R.bytes v.piece) e.rest.1))
+
+-- EACH LINE IS LATER
+
+pub returns-then-is_due-clause-later : goal.returns-then-is_due-clause-later
+returns-then-is_due-clause-later g c t is =
+    let m = c.args.self.now in
+    let e = c.give_due.ensures in
+    let s : Sample = record { t = t; line = c.give_due.new.line.items } in
+    let k = given_later m.source.ty m.last m.kept c.give_due.new.self.last c.give_due.new.self.kept m.kept_line.items s c.requires.going.kept (e.line t is).0 e.rest.2 e.none in
+    (omega (arith, k.0), k.1)
+
+pub returns-in-End-clause-later : goal.returns-in-End-clause-later
+returns-in-End-clause-later g c t is =
+    let m = c.samples.self in
+    let e = c.give_kept.ensures in
+    let s : Sample = record { t = t; line = c.give_kept.new.line.items } in
+    let k = given_later m.source.ty m.last m.kept c.give_kept.new.self.last c.give_kept.new.self.kept m.kept_line.items s c.samples.invariant.going.kept (e.line t is) e.rest.2 e.none in
+    (omega (arith, k.0, c.samples.invariant.low), k.1)
+
+pub returns-then-t-self-clause-later : goal.returns-then-t-self-clause-later
+returns-then-t-self-clause-later g c at is =
+    let m = c.samples.self in
+    let inv = c.samples.invariant in
+    let e = c.give.ensures in
+    let k = gives_later m.source.ty m.query.to m.last m.kept c.give.new.self.last c.give.new.self.kept m.kept_line.items c.in-Line.t at c.give.result inv.going.kept (c.is_later.ensures.0 c.if-not-is_later.false) e.rest.2 e.gives is in
+    (omega (arith, k.0, inv.low), k.1)

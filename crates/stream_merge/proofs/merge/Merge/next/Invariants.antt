@@ -1,8 +1,8 @@
 use Rattle.std.proofs.Common.{◌≡◌, ◌≤◌, ◌<◌, ◌⊎◌, ◌++◌, List, IsTrue}
 use Rattle.series_model.specs.declared.sample.Sample.{Sample}
 use Rattle.stream_merge.specs.Pieces.{NamedBytes}
-use Rattle.stream_merge.specs.Source.{Passes, Grew, open_pieces, unread}
-use Rattle.stream_merge.specs.Merging.{IsGoing, IsEarly, Rest, StillGives, remaining}
+use Rattle.stream_merge.specs.Source.{Passes, GoesOn, Grew, open_pieces, unread}
+use Rattle.stream_merge.specs.Merging.{IsGoing, IsEarly, Rest, StillGives, line_from, remaining}
 use Rattle.stream_merge.proofs.merge.Merge.next.Given as goal
 
 abbrev pub invariant-samples : goal.invariant-samples
@@ -18,6 +18,8 @@ invariant-samples g l =
       since : (P.count l.pieces < P.count l.fn.pieces) ⊎ Grew R.faults l.fn.self.source.piece l.self.source.piece;
       faults : P.faults l.fn.pieces ≤ P.faults l.pieces;
       count : P.count l.pieces ≤ P.count l.fn.pieces;
+      went : GoesOn R.tells R.bytes P.opened l.fn.pieces l.fn.self.source.piece l.pieces l.self.source.piece;
+      low : line_from l.fn.self ≤ line_from l.self;
       smaller : remaining (P.count l.pieces) l.self ≤ remaining (P.count l.fn.pieces) l.fn.self;
     }
 

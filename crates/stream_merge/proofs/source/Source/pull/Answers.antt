@@ -1,11 +1,12 @@
-use Rattle.std.proofs.Common.{◌≡◌, ◌++◌, ◌∷◌, [], List, Some, None, inl, refl, sym, ap, ◌∙◌, subst, take, arith}
+use Rattle.std.proofs.Common.{◌≡◌, ◌++◌, ◌∷◌, [], List, Some, None, inl, inr, refl, sym, ap, ◌∙◌, subst, take, arith}
 use Rattle.series_model.specs.declared.sample.Sample.{Sample}
 use Rattle.pb_wire.specs.declared.payload.PayloadType.{PayloadType}
 use Rattle.stream_merge.specs.declared.source.Source.{Source}
-use Rattle.stream_merge.specs.Pieces.{NamedBytes}
+use Rattle.stream_merge.specs.Pieces.{NamedBytes, Faulted, OutOfActs, OutOfMemory}
 use Rattle.stream_merge.specs.Reading.{IsSampleOf, AreSamplesOf, IsDamaged}
 use Rattle.stream_merge.specs.Source.{open_pieces, IsReady, Coming, Pulls}
 use Rattle.stream_merge.proofs.Coming.{ended, opened, pulls_tail, pulls_open, passes_end, passes_opened, passes_none, passed_all, damaged_in, damaged_one, failed_open, failed_first, grew_since, opens_open, opens_any, given_ready, less_open, less_opened, tail_event, none_left, err_is}
+use Rattle.stream_merge.proofs.Went.{goes_nowhere, goes_opened, goes_none, went_open, went_begun, went_tail, failure_of}
 use Rattle.stream_merge.proofs.source.Source.pull.Goals as goal
 
 pub returns-in_default : goal.returns-in_default
@@ -34,6 +35,7 @@ returns-in_default g c =
           subst Q inv.same.0 (damaged_in s.ty all p.passed (open_pieces R.bytes s.piece) p.rest name at p.are (e.damaged tells name at bad));
       failed = λ failed is. failed_open R.faults first s.piece _ _ failed inv.since (e.failed failed is);
       spent = λ is. absurd (e.never is);
+      went = went_open R.tells R.bytes P.opened P.failed c.args.self.now.ty s.ty c.args.pieces.now c.pieces.pieces first s.piece new.piece R.faults r inv.same.0 inv.went e.stays e.damaged e.failed e.never c.in_default.not-End;
       faults = inv.faults;
       count = inv.count;
       grew = λ t is. grew_since R.faults first s.piece new.piece _ (e.grew t is) inv.since;
@@ -68,6 +70,8 @@ pieces-preserved g c =
           let over = o.opens tells passed.rest passed.left_is in
           passes_opened R.bytes (P.left c.open_next.new.self) all (Some p) passed.passed passed.rest over.rest n (passed_all R.bytes (P.left c.pieces.pieces) all new.piece none passed) over.first (c.in-Ok.ensures.pieces tells) over.others;
       since = inl (omega (arith, o.count, inv.count));
+      may = g.met.P.Pieces.goes_on c.pieces.pieces c.open_next.new.self (n ∷ []) inv.may o.leads;
+      went = goes_opened R.tells R.bytes P.opened P.failed g.met.P.Pieces.opened_on c.args.pieces.now c.pieces.pieces c.open_next.new.self c.args.self.now.piece s.piece (Some p) n inv.went o.leads c.in-Ok.ensures.pieces;
       faults = omega (arith, o.faults, inv.faults);
       count = omega (arith, o.count, inv.count);
       smaller = less_opened (P.count c.pieces.pieces) (P.count c.open_next.new.self) _ s new p e.same o.count c.in-Ok.ensures.small inv.smaller;
@@ -140,3 +144,61 @@ pub returns-in-NoMore-clause-no_more : goal.returns-in-NoMore-clause-no_more
 returns-in-NoMore-clause-no_more g c is =
     let P = g.P.Pieces in
     none_left (P.count c.pieces.pieces) (P.count c.open_next.new.self) _ c.pieces.self c.read_open.new.self c.read_tail.new.self c.in-End.ensures.same (c.in-End.ensures.closed refl) (c.read_tail.ensures.end is).1 c.in-NoMore.ensures.count c.pieces.invariant.smaller
+
+pub pieces-init : goal.pieces-init
+pieces-init g c =
+    let R = g.R.ReadAt in
+    let first = c.args.self.now.piece in
+    record {
+      ready = c.requires.ready;
+      same = (refl, refl, refl);
+      lines = λ tells ps xs is coming. record { pieces = ps; left_is = is; coming = coming };
+      opens = λ tells ps is. record { passed = []; rest = ps; left_is = is; are = refl };
+      since = inr refl;
+      faults = omega arith;
+      count = omega arith;
+      may = c.requires.may;
+      went = goes_nowhere R.tells R.bytes g.P.Pieces.opened g.P.Pieces.failed g.met.P.Pieces.none_opened c.args.pieces.now first first refl;
+      smaller = omega arith;
+    }
+
+pub returns-in-Err-clause-went : goal.returns-in-Err-clause-went
+returns-in-Err-clause-went g c =
+    let R = g.R.ReadAt in
+    let P = g.P.Pieces in
+    let inv = c.pieces.invariant in
+    let s = c.pieces.self in
+    let new = c.read_open.new.self in
+    let n : NamedBytes = record { name = c.in-Piece.name; bytes = take c.in-Piece.len (R.bytes c.in-Piece.reader) } in
+    let ty : new.ty ≡ c.args.self.now.ty = ap (λ (x : Source g.row.R.Denot). x.ty) c.in-End.ensures.same ∙ inv.same.0 in
+    went_begun R.tells R.bytes P.opened P.failed g.met.P.Pieces.opened_on c.args.self.now.ty c.args.pieces.now c.pieces.pieces c.open_next.new.self c.args.self.now.piece s.piece new.piece n R.faults c.in-Err.merged inv.went c.in-Piece.ensures.leads
+    (λ tells name at is.
+    let found = c.begin.ensures.damaged tells name at (err_is c.begin.result c.in-Err.merged _ c.in-Err.is is) in
+    let Q : PayloadType → Type 0 = λ y. IsDamaged y (n ∷ []) name at in
+    subst Q ty (damaged_one new.ty n name at found.0 found.1))
+    (λ failed is. c.begin.ensures.failed failed (err_is c.begin.result c.in-Err.merged _ c.in-Err.is is)) (failure_of c.begin.result c.in-Err.merged c.in-Err.is c.begin.ensures.failure)
+
+pub returns-in-NoMore-clause-went : goal.returns-in-NoMore-clause-went
+returns-in-NoMore-clause-went g c =
+    let R = g.R.ReadAt in
+    let P = g.P.Pieces in
+    let inv = c.pieces.invariant in
+    let last = c.read_tail.new.self in
+    let none : last.piece ≡ None = ap (λ (x : Source g.row.R.Denot). x.piece) c.read_tail.ensures.same ∙ c.in-End.ensures.closed refl in
+    went_tail R.tells R.bytes P.opened P.failed g.met.P.Pieces.opened_on c.args.self.now.ty c.args.pieces.now c.open_next.new.self c.args.self.now.piece last.piece c.read_tail.result c.read_tail.ensures.whole
+    (goes_none R.tells R.bytes P.opened P.failed g.met.P.Pieces.opened_on c.args.pieces.now c.pieces.pieces c.open_next.new.self c.args.self.now.piece c.pieces.self.piece last.piece inv.went c.in-NoMore.ensures.leads none)
+
+pub returns-in-ReadFault-clause-went : goal.returns-in-ReadFault-clause-went
+returns-in-ReadFault-clause-went g c =
+    let inv = c.pieces.invariant in
+    g.met.P.Pieces.failed_on c.args.pieces.now c.pieces.pieces c.open_next.new.self inv.went.pieces Faulted inv.went.were c.in-ReadFault.ensures.leads
+
+pub returns-in-Spent-clause-went : goal.returns-in-Spent-clause-went
+returns-in-Spent-clause-went g c =
+    let inv = c.pieces.invariant in
+    g.met.P.Pieces.failed_on c.args.pieces.now c.pieces.pieces c.open_next.new.self inv.went.pieces OutOfActs inv.went.were c.in-Spent.ensures.leads
+
+pub returns-in-Memory-clause-went : goal.returns-in-Memory-clause-went
+returns-in-Memory-clause-went g c =
+    let inv = c.pieces.invariant in
+    inr (g.met.P.Pieces.failed_on c.args.pieces.now c.pieces.pieces c.open_next.new.self inv.went.pieces OutOfMemory inv.went.were c.in-Memory.ensures.leads)

@@ -1,7 +1,7 @@
 use Rattle.std.proofs.Common.{◌≡◌, ◌≤◌, ◌<◌, ◌⊎◌, ◌++◌, List, IsTrue}
 use Rattle.series_model.specs.declared.sample.Sample.{Sample}
 use Rattle.stream_merge.specs.Pieces.{NamedBytes}
-use Rattle.stream_merge.specs.Source.{IsReady, Coming, StillComing, Passes, open_pieces, unread}
+use Rattle.stream_merge.specs.Source.{IsReady, Coming, StillComing, Passes, GoesOn, open_pieces, unread}
 use Rattle.stream_merge.proofs.source.Source.pull.Given as goal
 
 abbrev pub invariant-pieces : goal.invariant-pieces
@@ -16,6 +16,8 @@ invariant-pieces g l =
       since : (P.count l.pieces < P.count l.initial.pieces) ⊎ (l.self.piece ≡ l.initial.self.piece);
       faults : P.faults l.initial.pieces ≤ P.faults l.pieces;
       count : P.count l.pieces ≤ P.count l.initial.pieces;
+      may : P.may_open l.pieces;
+      went : GoesOn R.tells R.bytes P.opened l.initial.pieces l.initial.self.piece l.pieces l.self.piece;
       smaller : unread (P.count l.pieces) l.self ≤ unread (P.count l.initial.pieces) l.initial.self;
     }
 

@@ -3,7 +3,7 @@ use Rattle.pb_file.specs.declared.walk.Walked.TheVariants as walked
 use Rattle.pb_file.specs.Walk.{Walk, HasWalked, Walks}
 use Rattle.pb_file.specs.Verdict.{Says, IsDamaged}
 use Rattle.pb_file.proofs.Verdicts.{checked_sample, outside_damaged, walk_damaged, end_says}
-use Rattle.pb_file.proofs.check.check_file.Goals as goal
+use Rattle.pb_file.proofs.check.check_lines.Goals as goal
 
 pub returns-else-is_inside-clause-verdict : goal.returns-else-is_inside-clause-verdict
 returns-else-is_inside-clause-verdict g c tells =

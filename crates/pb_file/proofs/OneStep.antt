@@ -11,7 +11,7 @@ use Rattle.pb_lines.proofs.Unique.{one_moment}
 use Rattle.pb_file.specs.declared.walk.Walked.{Walked}
 use Rattle.pb_file.specs.declared.walk.Walked.TheVariants as walked
 use Rattle.pb_file.specs.File.{IsFile, IsBadAt, IsSample}
-use Rattle.pb_file.specs.Walk.{Walk, Front, HasWalked, Gives, Walks, Steps, IsAnswer}
+use Rattle.pb_file.specs.Walk.{Walk, Front, HasWalked, Gives, Walks, Reads, IsAnswer}
 use Rattle.pb_file.proofs.Lines.{one_line}
 use Rattle.pb_file.proofs.Meaning.{is_cut, one_file, excluded, no_header_no_file}
 use Rattle.pb_file.proofs.Walking.{next_line, within_first, bad_at, some_or_none, one_info}
@@ -30,7 +30,7 @@ next_by old new bytes line whole long len within place is = record {
   text = next_line bytes line old.place old.len (omega (arith, within, len, place)) long (ap (λ (n : ℕ). take n bytes) (sym place) ∙ is);
 }
 
-header_next : (front : Option Front) (bytes line : List ℕ) (old new : Walk) → HasWalked old bytes front → old.len ≤ length bytes → Steps front bytes old line walked.Header new → NextLine old bytes line
+header_next : (front : Option Front) (bytes line : List ℕ) (old new : Walk) → HasWalked old bytes front → old.len ≤ length bytes → Reads front bytes old line walked.Header new → NextLine old bytes line
 header_next (Some f) bytes line old new h long step = absurd step.walks
 header_next None bytes line old new h long step =
     let file = step.walks.1 in
@@ -38,7 +38,7 @@ header_next None bytes line old new h long step =
     next_by old new bytes line step.gives.2 long (ap (λ (w : Walk). w.len) step.gives.4) file.within (ap (λ (w : Walk). w.place) step.gives.4)
     (file.read.0.text ∙ ap (λ (u : List ℕ). u ++ (line ++ 10 ∷ [])) zero)
 
-sample_next : (front : Option Front) (bytes line : List ℕ) (old new : Walk) (t : ℕ) → HasWalked old bytes front → old.len ≤ length bytes → Steps front bytes old line (walked.Sample t) new → NextLine old bytes line
+sample_next : (front : Option Front) (bytes line : List ℕ) (old new : Walk) (t : ℕ) → HasWalked old bytes front → old.len ≤ length bytes → Reads front bytes old line (walked.Sample t) new → NextLine old bytes line
 sample_next None bytes line old new t h long step = absurd step.walks
 sample_next (Some f) bytes line old new t h long step =
     let file = step.walks in
@@ -50,12 +50,12 @@ one_next : (old : Walk) (bytes line other : List ℕ) → NextLine old bytes lin
 one_next old bytes line other h k = (one_line line other h.rest k.rest h.whole k.whole (sym h.text ∙ k.text)).0
 
 -- at the end no line comes next
-no_next : (front : Option Front) (bytes line other : List ℕ) (old new : Walk) → Steps front bytes old other walked.End new → old.len ≤ length bytes → NextLine old bytes line → ⊥
+no_next : (front : Option Front) (bytes line other : List ℕ) (old new : Walk) → Reads front bytes old other walked.End new → old.len ≤ length bytes → NextLine old bytes line → ⊥
 no_next front bytes line other old new step long next =
     omega (arith, step.gives.1, long, ap length next.text, length-append line (10 ∷ next.rest), length-drop old.place (take old.len bytes), length-take-le old.len bytes long)
 
 -- where a line comes next, none is bad
-no_damage : (front : Option Front) (bytes line other : List ℕ) (old new : Walk) (at : ℕ) → HasWalked old bytes front → Steps front bytes old other (walked.Damaged at) new → IsBadAt (take old.len bytes) old.place
+no_damage : (front : Option Front) (bytes line other : List ℕ) (old new : Walk) (at : ℕ) → HasWalked old bytes front → Reads front bytes old other (walked.Damaged at) new → IsBadAt (take old.len bytes) old.place
 no_damage front bytes line other old new at h step =
     let P : ℕ → Type 0 = λ n. IsBadAt (take n bytes) at in
     let Q : ℕ → Type 0 = λ n. IsBadAt (take old.len bytes) n in
@@ -63,7 +63,7 @@ no_damage front bytes line other old new at h step =
 
 -- ONE ANSWER
 
-header_or_damage : (front : Option Front) (bytes line other : List ℕ) (old v w : Walk) (at : ℕ) → HasWalked old bytes front → old.len ≤ length bytes → Steps front bytes old line walked.Header v → Steps front bytes old other (walked.Damaged at) w → ⊥
+header_or_damage : (front : Option Front) (bytes line other : List ℕ) (old v w : Walk) (at : ℕ) → HasWalked old bytes front → old.len ≤ length bytes → Reads front bytes old line walked.Header v → Reads front bytes old other (walked.Damaged at) w → ⊥
 header_or_damage (Some f) bytes line other old v w at h long step bad = step.walks
 header_or_damage None bytes line other old v w at h long step bad =
     let next = header_next None bytes line old v h long step in
@@ -72,7 +72,7 @@ header_or_damage None bytes line other old v w at h long step bad =
       | inr damage ↦ nothing_begun old.place (take old.len bytes) damage.head damage.info damage.samples h.read.0 damage.front
     ]
 
-sample_or_damage : (front : Option Front) (bytes line other : List ℕ) (old v w : Walk) (t at : ℕ) → HasWalked old bytes front → old.len ≤ length bytes → Steps front bytes old line (walked.Sample t) v → Steps front bytes old other (walked.Damaged at) w → ⊥
+sample_or_damage : (front : Option Front) (bytes line other : List ℕ) (old v w : Walk) (t at : ℕ) → HasWalked old bytes front → old.len ≤ length bytes → Reads front bytes old line (walked.Sample t) v → Reads front bytes old other (walked.Damaged at) w → ⊥
 sample_or_damage None bytes line other old v w t at h long step bad = step.walks
 sample_or_damage (Some f) bytes line other old v w t at h long step bad =
     let next = sample_next (Some f) bytes line old v t h long step in
@@ -87,7 +87,7 @@ sample_or_damage (Some f) bytes line other old v w t at h long step bad =
           damage.bad.none (record { t = t; line = line }) next.rest next.text (subst I (one_info old.info step.gives.0 f.info step.gives.1 h.read.1 ∙ same.1) step.gives.2) (subst E (h.read.2 ∙ ap end_of same.2) step.gives.3)
     ]
 
-end_or_damage : (front : Option Front) (bytes line other : List ℕ) (old v w : Walk) (at : ℕ) → HasWalked old bytes front → Steps front bytes old line walked.End v → Steps front bytes old other (walked.Damaged at) w → ⊥
+end_or_damage : (front : Option Front) (bytes line other : List ℕ) (old v w : Walk) (at : ℕ) → HasWalked old bytes front → Reads front bytes old line walked.End v → Reads front bytes old other (walked.Damaged at) w → ⊥
 end_or_damage None bytes line other old v w at h step bad = step.walks
 end_or_damage (Some f) bytes line other old v w at h step bad =
     let P : ℕ → Type 0 = λ n. IsFile (take n bytes) f.head f.info f.samples in
@@ -97,7 +97,7 @@ no_info : (o : Option PayloadInfo) → o ≡ None → IsSome o → ⊥
 no_info o none some = cc
 
 -- a sample's moment is that of its line
-one_time : (front : Option Front) (bytes line other : List ℕ) (old v w : Walk) (t u : ℕ) → HasWalked old bytes front → old.len ≤ length bytes → Steps front bytes old line (walked.Sample t) v → Steps front bytes old other (walked.Sample u) w → t ≡ u
+one_time : (front : Option Front) (bytes line other : List ℕ) (old v w : Walk) (t u : ℕ) → HasWalked old bytes front → old.len ≤ length bytes → Reads front bytes old line (walked.Sample t) v → Reads front bytes old other (walked.Sample u) w → t ≡ u
 one_time front bytes line other old v w t u h long step more =
     let same = one_next old bytes line other (sample_next front bytes line old v t h long step) (sample_next front bytes other old w u h long more) in
     let info = step.gives.0 in
@@ -105,7 +105,7 @@ one_time front bytes line other old v w t u h long step more =
     let L : List ℕ → Type 0 = λ l. IsSampleLine info.ty info.year l t in
     one_moment info.ty info.year other t u (subst L same step.gives.2.meant) (subst I (one_info old.info more.gives.0 info more.gives.1 step.gives.1) more.gives.2.meant)
 
-pub one_step : (front : Option Front) (bytes line other : List ℕ) (a b : Walked) (old v w : Walk) → HasWalked old bytes front → old.len ≤ length bytes → IsAnswer a → IsAnswer b → Steps front bytes old line a v → Steps front bytes old other b w → a ≡ b
+pub one_step : (front : Option Front) (bytes line other : List ℕ) (a b : Walked) (old v w : Walk) → HasWalked old bytes front → old.len ≤ length bytes → IsAnswer a → IsAnswer b → Reads front bytes old line a v → Reads front bytes old other b w → a ≡ b
 one_step front bytes line other walked.Header walked.Header old v w h long p q s u = refl
 one_step front bytes line other walked.Header (walked.Sample t) old v w h long p q s u = absurd (some_or_none old.info u.gives.0 s.gives.1 u.gives.1)
 one_step front bytes line other walked.Header walked.End old v w h long p q s u = absurd (no_info old.info s.gives.1 u.gives.0)

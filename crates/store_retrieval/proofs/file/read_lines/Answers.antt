@@ -10,7 +10,7 @@ use Rattle.store_retrieval.specs.File.{HasBegun, StandsIn}
 use Rattle.store_retrieval.specs.Read.{ReadsFile}
 use Rattle.store_retrieval.proofs.Years.{year_back}
 use Rattle.store_retrieval.proofs.Reading.{none_bad, header_stop, stands_first, same_stop}
-use Rattle.store_retrieval.proofs.file.read_file.Goals as goal
+use Rattle.store_retrieval.proofs.file.read_lines.Goals as goal
 
 pub returns-in_err-year-clause-reads : goal.returns-in_err-year-clause-reads
 returns-in_err-year-clause-reads g c tells a head info earlier samples file type rising covers =

@@ -1,0 +1,201 @@
+use Rattle.std.proofs.Common.{◌≡◌, ◌≤◌, ◌<◌, ◌∙◌, ◌+◌, ◌-◌, ◌/◌, ◌*◌, Err, None, Some, Option, IsTrue, inl, inr, List, ℕ, refl, sym, ap, subst, arith, take, drop, length}
+use Rattle.std.specs.Prelude.{IfSome}
+use Rattle.std.proofs.lemmas.List.{length-append, length-take-le}
+use Rattle.std.proofs.lemmas.Result.{err_from_is_err_and}
+use Rattle.pb_file.specs.declared.search.SearchErr.{SearchErr}
+use Rattle.pb_file.specs.declared.search.SearchErr.TheVariants as search_err
+use Rattle.payload_info.specs.declared.info.PayloadInfo.{PayloadInfo}
+use Rattle.pb_file.specs.declared.search.Found.{Found}
+use Rattle.pb_file.specs.File.{HasNoSample}
+use Rattle.pb_file.specs.Skip.{HasHeader}
+use Rattle.pb_file.specs.Parting.{BeginsFrom, IsFoundIn}
+use Rattle.pb_file.proofs.Narrowing.{unknown, none_found, found_earlier, found_later, parted, halves_again}
+use Rattle.pb_file.proofs.Starts.{low_start, low_first, from_start, end_start}
+use Rattle.pb_file.proofs.Reading.{same_err}
+use Rattle.pb_file.proofs.search.halve.Goals as goal
+
+pub halves-init : goal.halves-init
+halves-init g c =
+    let bytes = g.H.ReadAt.bytes c.args.file.now in
+    let all = take c.args.walk.now.len bytes in
+    let low = c.min-low.result in
+    record {
+      len_is = c.len-len.ensures;
+      same_len = refl;
+      info = refl;
+      within = (omega (arith, c.min-low.ensures), omega arith, omega arith);
+      last_within = tt;
+      same = λ tells. refl;
+      faults = omega arith;
+      counts = omega arith;
+      headed = λ tells head info h. h;
+      starts = λ tells head info h. (
+        low_start all c.args.head_len c.len-len.result low (c.len-len.ensures ∙ sym (length-take-le c.args.walk.now.len bytes (c.requires.file tells))) (omega (arith, c.min-low.ensures)) (λ less. omega (arith, less, c.min-low.ensures)),
+        inr (inl (c.len-len.ensures ∙ sym (length-take-le c.args.walk.now.len bytes (c.requires.file tells)))),
+        tt,
+      );
+      narrowed = λ tells head info samples h file first.
+          let size : c.len-len.result ≡ length all = c.len-len.ensures ∙ sym (length-take-le c.args.walk.now.len bytes (c.requires.file tells)) in
+          unknown all head info samples (c.args.until + 1) low c.len-len.result file size (low_first all head info samples c.args.head_len c.len-len.result low file size first (λ within. omega (arith, within, c.min-low.ensures)));
+      cost = λ d within. (d, omega (arith, within, c.len-len.ensures), omega arith);
+    }
+
+pub returns-in_err-found-clause-refused : goal.returns-in_err-found-clause-refused
+returns-in_err-found-clause-refused g c tells head info h at is =
+    let bytes = g.H.ReadAt.bytes c.args.file.now in
+    let inv = c.halves.invariant in
+    let w = c.halves.walk in
+    let middle = c.halves.low + (c.halves.high - c.halves.low) / 2 in
+    let p = err_from_is_err_and c.from_residual.result c.from_residual.ensures.1 in
+    let st : c.in_err-found.field-0.0 ≡ search_err.Damaged at = sym p.2 ∙ same_err c.from_residual.result p.0 (search_err.Damaged at) p.1 is in
+    let H : List ℕ → Type 0 = λ b. HasHeader w b head info in
+    let bad = c.in_err-found.ensures.refused tells head info (subst H (sym (inv.same tells)) (inv.headed tells head info h)) at (ap (λ (x : SearchErr). Err x) st) in
+    let P : List ℕ → Type 0 = λ b. BeginsFrom (take w.len b) c.halves.low middle at × HasNoSample info (λ t. Unit {0}) (drop at (take w.len b)) in
+    let L : ℕ → Type 0 = λ n. BeginsFrom (take n bytes) c.halves.low middle at × HasNoSample info (λ t. Unit {0}) (drop at (take n bytes)) in
+    let here = subst L inv.same_len (subst P (inv.same tells) bad) in
+    (from_start (take c.args.walk.now.len bytes) c.args.head_len c.halves.low middle at (omega (arith, c.halves-test.true, inv.within.1, inv.len_is, length-take-le c.args.walk.now.len bytes (c.requires.file tells))) (inv.starts tells head info h).0 here.0, here.1)
+
+pub halves-preserved-in_default : goal.halves-preserved-in_default
+halves-preserved-in_default g c =
+    let bytes = g.H.ReadAt.bytes c.args.file.now in
+    let all = take c.args.walk.now.len bytes in
+    let inv = c.halves.invariant in
+    let w = c.halves.walk in
+    let new = c.find.new.walk in
+    let e = c.in_ok-found.ensures in
+    let low = c.halves.low in
+    let high = c.halves.high in
+    let middle = low + (high - low) / 2 in
+    let half : 2 * (middle - low) ≤ high - low = omega arith in
+    let below : middle < high = omega (arith, c.halves-test.true) in
+    let within : IsTrue g.H.ReadAt.tells → middle ≤ length all = λ tells. omega (arith, below, inv.within.1, inv.len_is, length-take-le c.args.walk.now.len bytes (c.requires.file tells)) in
+    let now : IsTrue g.H.ReadAt.tells → (head : List ℕ) (info : PayloadInfo) → HasHeader c.args.walk.now bytes head info → HasHeader w (g.H.ReadAt.bytes c.halves.file) head info =
+    λ tells head info h. (let H : List ℕ → Type 0 = λ b. HasHeader w b head info in subst H (sym (inv.same tells)) (inv.headed tells head info h)) in
+    let found : IsTrue g.H.ReadAt.tells → (head : List ℕ) (info : PayloadInfo) → HasHeader c.args.walk.now bytes head info → IsFoundIn info all low middle c.halves.next None =
+    λ tells head info h. (
+    let P : List ℕ → Type 0 = λ b. IsFoundIn info (take w.len b) low middle c.halves.next c.in_ok-found.field-0 in
+    let L : ℕ → Type 0 = λ n. IsFoundIn info (take n bytes) low middle c.halves.next c.in_ok-found.field-0 in
+    let O : Option Found → Type 0 = λ o. IsFoundIn info all low middle c.halves.next o in
+    subst O c.in_default.is (subst L inv.same_len (subst P (inv.same tells) (e.found tells head info (now tells head info h))))
+    ) in
+    record {
+      len_is = inv.len_is;
+      same_len = e.len ∙ inv.same_len;
+      info = e.info ∙ inv.info;
+      within = (inv.within.0, omega (arith, below, inv.within.1), inv.within.2);
+      last_within = inv.last_within;
+      same = λ tells. e.same tells ∙ inv.same tells;
+      faults = omega (arith, e.faults, inv.faults);
+      counts = omega (arith, e.counts, inv.counts);
+      headed = λ tells head info h. (let H : List ℕ → Type 0 = λ b. HasHeader new b head info in subst H (inv.same tells) (e.headed tells head info (now tells head info h)));
+      starts = λ tells head info h. inv.starts tells head info h;
+      narrowed = λ tells head info samples h file first. none_found all head info samples (c.args.until + 1) low high middle c.halves.next c.halves.last file (within tells) (inv.narrowed tells head info samples h file first) (found tells head info h);
+      cost = λ d most.
+          let k = inv.cost d most in
+          let again = halves_again k.0 (high - low) (middle - low) k.1 (omega (arith, c.halves-test.true)) half in
+          (again.0, again.2, omega (arith, k.2, again.1, e.steps));
+    }
+
+pub halves-preserved-then-found-until : goal.halves-preserved-then-found-until
+halves-preserved-then-found-until g c =
+    let bytes = g.H.ReadAt.bytes c.args.file.now in
+    let all = take c.args.walk.now.len bytes in
+    let inv = c.halves.invariant in
+    let w = c.halves.walk in
+    let new = c.find.new.walk in
+    let e = c.in_ok-found.ensures in
+    let low = c.halves.low in
+    let high = c.halves.high in
+    let middle = low + (high - low) / 2 in
+    let half : 2 * (middle - low) ≤ high - low = omega arith in
+    let below : middle < high = omega (arith, c.halves-test.true) in
+    let f = c.in-Some.found in
+    let S : Option Found → Type 0 = λ o. IfSome o (λ x. (middle ≤ x.at) × (x.at < x.end) × (x.end ≤ w.len)) in
+    let place = subst S c.in-Some.is e.place in
+    let within : IsTrue g.H.ReadAt.tells → middle ≤ length all = λ tells. omega (arith, below, inv.within.1, inv.len_is, length-take-le c.args.walk.now.len bytes (c.requires.file tells)) in
+    let now : IsTrue g.H.ReadAt.tells → (head : List ℕ) (info : PayloadInfo) → HasHeader c.args.walk.now bytes head info → HasHeader w (g.H.ReadAt.bytes c.halves.file) head info =
+    λ tells head info h. (let H : List ℕ → Type 0 = λ b. HasHeader w b head info in subst H (sym (inv.same tells)) (inv.headed tells head info h)) in
+    let found : IsTrue g.H.ReadAt.tells → (head : List ℕ) (info : PayloadInfo) → HasHeader c.args.walk.now bytes head info → IsFoundIn info all low middle c.halves.next (Some c.in-Some.found) =
+    λ tells head info h. (
+    let P : List ℕ → Type 0 = λ b. IsFoundIn info (take w.len b) low middle c.halves.next c.in_ok-found.field-0 in
+    let L : ℕ → Type 0 = λ n. IsFoundIn info (take n bytes) low middle c.halves.next c.in_ok-found.field-0 in
+    let O : Option Found → Type 0 = λ o. IsFoundIn info all low middle c.halves.next o in
+    subst O c.in-Some.is (subst L inv.same_len (subst P (inv.same tells) (e.found tells head info (now tells head info h))))
+    ) in
+    let at_within : IsTrue g.H.ReadAt.tells → f.at ≤ length all = λ tells. omega (arith, place.1, place.2, inv.same_len, length-take-le c.args.walk.now.len bytes (c.requires.file tells)) in
+    record {
+      len_is = inv.len_is;
+      same_len = e.len ∙ inv.same_len;
+      info = e.info ∙ inv.info;
+      within = (omega (arith, place.2, inv.same_len, inv.len_is), inv.within.1, inv.within.2);
+      last_within = omega (arith, place.1, place.2, inv.same_len, inv.len_is);
+      same = λ tells. e.same tells ∙ inv.same tells;
+      faults = omega (arith, e.faults, inv.faults);
+      counts = omega (arith, e.counts, inv.counts);
+      headed = λ tells head info h. (let H : List ℕ → Type 0 = λ b. HasHeader new b head info in subst H (inv.same tells) (e.headed tells head info (now tells head info h)));
+      starts = λ tells head info h. (
+        end_start all c.args.head_len info f (at_within tells) (found tells head info h).2,
+        (inv.starts tells head info h).1,
+        from_start all c.args.head_len low middle f.at (within tells) (inv.starts tells head info h).0 (found tells head info h).0,
+      );
+      narrowed = λ tells head info samples h file first. found_earlier all head info samples (c.args.until + 1) low high middle c.halves.next c.halves.last f file (within tells) (inv.narrowed tells head info samples h file first) (found tells head info h) (omega (arith, c.if-found-until.true));
+      cost = λ d most.
+          let k = inv.cost d most in
+          let again = halves_again k.0 (high - low) (high - f.end) k.1 (omega (arith, c.halves-test.true)) (omega (arith, half, place.0, place.1)) in
+          (again.0, again.2, omega (arith, k.2, again.1, e.steps));
+    }
+
+pub halves-preserved : goal.halves-preserved
+halves-preserved g c =
+    let bytes = g.H.ReadAt.bytes c.args.file.now in
+    let all = take c.args.walk.now.len bytes in
+    let inv = c.halves.invariant in
+    let w = c.halves.walk in
+    let new = c.find.new.walk in
+    let e = c.in_ok-found.ensures in
+    let low = c.halves.low in
+    let high = c.halves.high in
+    let middle = low + (high - low) / 2 in
+    let half : 2 * (middle - low) ≤ high - low = omega arith in
+    let below : middle < high = omega (arith, c.halves-test.true) in
+    let f = c.in-Some.found in
+    let S : Option Found → Type 0 = λ o. IfSome o (λ x. (middle ≤ x.at) × (x.at < x.end) × (x.end ≤ w.len)) in
+    let place = subst S c.in-Some.is e.place in
+    let within : IsTrue g.H.ReadAt.tells → middle ≤ length all = λ tells. omega (arith, below, inv.within.1, inv.len_is, length-take-le c.args.walk.now.len bytes (c.requires.file tells)) in
+    let now : IsTrue g.H.ReadAt.tells → (head : List ℕ) (info : PayloadInfo) → HasHeader c.args.walk.now bytes head info → HasHeader w (g.H.ReadAt.bytes c.halves.file) head info =
+    λ tells head info h. (let H : List ℕ → Type 0 = λ b. HasHeader w b head info in subst H (sym (inv.same tells)) (inv.headed tells head info h)) in
+    let found : IsTrue g.H.ReadAt.tells → (head : List ℕ) (info : PayloadInfo) → HasHeader c.args.walk.now bytes head info → IsFoundIn info all low middle c.halves.next (Some c.in-Some.found) =
+    λ tells head info h. (
+    let P : List ℕ → Type 0 = λ b. IsFoundIn info (take w.len b) low middle c.halves.next c.in_ok-found.field-0 in
+    let L : ℕ → Type 0 = λ n. IsFoundIn info (take n bytes) low middle c.halves.next c.in_ok-found.field-0 in
+    let O : Option Found → Type 0 = λ o. IsFoundIn info all low middle c.halves.next o in
+    subst O c.in-Some.is (subst L inv.same_len (subst P (inv.same tells) (e.found tells head info (now tells head info h))))
+    ) in
+    record {
+      len_is = inv.len_is;
+      same_len = e.len ∙ inv.same_len;
+      info = e.info ∙ inv.info;
+      within = (inv.within.0, omega (arith, below, inv.within.1), omega (arith, place.1, place.2, inv.same_len, inv.len_is));
+      last_within = inv.last_within;
+      same = λ tells. e.same tells ∙ inv.same tells;
+      faults = omega (arith, e.faults, inv.faults);
+      counts = omega (arith, e.counts, inv.counts);
+      headed = λ tells head info h. (let H : List ℕ → Type 0 = λ b. HasHeader new b head info in subst H (inv.same tells) (e.headed tells head info (now tells head info h)));
+      starts = λ tells head info h. (
+        (inv.starts tells head info h).0,
+        from_start all c.args.head_len low middle f.at (within tells) (inv.starts tells head info h).0 (found tells head info h).0,
+        (inv.starts tells head info h).2,
+      );
+      narrowed = λ tells head info samples h file first. found_later all head info samples (c.args.until + 1) low high middle c.halves.next c.halves.last f file (within tells) (inv.narrowed tells head info samples h file first) (found tells head info h) (omega (arith, c.if-found-until.false));
+      cost = λ d most.
+          let k = inv.cost d most in
+          let again = halves_again k.0 (high - low) (middle - low) k.1 (omega (arith, c.halves-test.true)) half in
+          (again.0, again.2, omega (arith, k.2, again.1, e.steps));
+    }
+
+pub returns-clause-start : goal.returns-clause-start
+returns-clause-start g c tells head info h = ((c.halves.invariant.starts tells head info h).1, (c.halves.invariant.starts tells head info h).2)
+
+pub returns-clause-parted : goal.returns-clause-parted
+returns-clause-parted g c tells head info samples h file first =
+    parted head samples (c.args.until + 1) c.halves.low c.halves.high (record { last = c.halves.last; next = c.halves.next }) c.halves-test.false (c.halves.invariant.narrowed tells head info samples h file first)
