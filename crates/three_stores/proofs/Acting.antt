@@ -1,0 +1,136 @@
+-- A call that changes the stores, behind the settling of a doubt.
+use Rattle.std.proofs.Common.{◌≡◌, ◌⊎◌, inl, inr, Bool, ◌≤◌, List, refl, sym, ◌∙◌, subst, arith}
+use Rattle.std.specs.Prelude.{IsTrue, Result, Ok, Err}
+use Rattle.disk_model.specs.Files.{Files, Rose}
+use Rattle.disk_model.specs.Past.{Past, Passes}
+use Rattle.disk_model.specs.declared.disk.DiskErr.{DiskErr}
+use Rattle.disk_model.specs.declared.disk.DiskErr.TheVariants.{Fault, Memory}
+use Rattle.disk_model.proofs.Passing.{passes_then, passes_weaker, passes_none}
+use Rattle.partition_names.specs.declared.granularity.Granularity.{Granularity}
+use Rattle.tier_store.specs.Ends.{End, Done, Refused, Failed, Spent, end_of_error, end_of_disk, IsFailed, IsCut}
+use Rattle.tier_store.proofs.Acting.{rose_after}
+use Rattle.three_stores.specs.Stores.{Stores}
+use Rattle.three_stores.specs.Seen.{Seen, IsSettled, granularities}
+use Rattle.three_stores.specs.Stored.{HoldsAll}
+use Rattle.three_stores.specs.Change.{Has, HasEither, IsOpen, IsEither, Comes, HoldsBy, HoldsChange, Call, EndsFrom, OnlyReads, Changes, Acts}
+use Rattle.three_stores.proofs.Left.{has_left, open_left}
+
+-- the settling reads alone
+settling_holds : (tells : Bool) (By : Stores → Stores → Type 0) (s : Seen) (new : Past) (before after : Stores) → IsOpen tells s before after → IsTrue tells → Passes (λ a b. b ≡ a) s.past new → Passes (HoldsChange (granularities s.manifests) By before after) s.past new
+settling_holds tells By s new before after was told passes =
+    passes_weaker (λ a b. b ≡ a) (HoldsChange (granularities s.manifests) By before after) s.past new passes
+    (λ a b left is. inl (subst (λ (f : Files). HoldsAll (granularities s.manifests) f before ⊎ HoldsAll (granularities s.manifests) f after) (sym is) (open_left tells s before after was told a left)))
+
+-- and then the change is made of what was settled
+then_holds : (gs : List Granularity) (By : Stores → Stores → Type 0) (old mid new : Past) (before after held : Stores) → IsEither before after held → Passes (HoldsChange gs By before after) old mid → Passes (HoldsBy gs By held) mid new → Passes (HoldsChange gs By before after) old new
+then_holds gs By old mid new before after held either first second = passes_then (HoldsChange gs By before after) (HoldsBy gs By held) old mid new first second (λ a b c was before left now. go c now)
+  where
+    same : (image : Files) → HoldsAll gs image held → IsEither before after held → HoldsAll gs image before ⊎ HoldsAll gs image after
+    same image holds (inl is) = inl (subst (HoldsAll gs image) is holds)
+    same image holds (inr is) = inr (subst (HoldsAll gs image) is holds)
+
+    go : (c : Files) → HoldsAll gs c held ⊎ ((made : Stores) × By held made × HoldsAll gs c made) → (HoldsAll gs c before ⊎ HoldsAll gs c after) ⊎ ((made : Stores) × Comes By before after made × HoldsAll gs c made)
+    go c (inl holds) = inl (same c holds either)
+    go c (inr made) = inr (made.0, record { from = held; either = either; by = made.1 }, made.2)
+
+-- one of the two is there
+settled_one : (tells : Bool) (s : Seen) (before after : Stores) → HasEither tells s before after → (held : Stores) × IsEither before after held × Has tells s held
+settled_one tells s before after (inl has) = (before, inl refl, has)
+settled_one tells s before after (inr has) = (after, inr refl, has)
+
+pub has_one : (tells : Bool) (s : Seen) (before after : Stores) → HasEither tells s before after → (held : Stores) × Has tells s held
+has_one tells s before after settled = let held = settled_one tells s before after settled in (held.0, held.2)
+
+-- a call on the disk that only read it
+pub only_reads : {B : Type 0} (tells : Bool) (old new : Seen) (r : Result B DiskErr) → (IsTrue tells → new.files ≡ old.files) → (IsTrue tells → Passes (λ a b. b ≡ a) old.past new.past) → old.faults ≤ new.faults → (r ≡ Err Fault → Rose old.faults new.faults) → OnlyReads tells old new (end_of_disk r)
+only_reads {B} tells old new r files passes more cause = record { files = files; any_moment = passes; faults = more; cause = failed r cause }
+  where
+    failed : (x : Result B DiskErr) → (x ≡ Err Fault → Rose old.faults new.faults) → IsFailed (end_of_disk x) → Rose old.faults new.faults
+    failed (Ok a) cause none = absurd none
+    failed (Err Fault) cause is = cause refl
+    failed (Err Memory) cause none = absurd none
+
+-- nothing was read
+pub nothing_read : {A E : Type 0} (tells : Bool) (s : Seen) (end : End A E) → (IsFailed end → ⊥) → OnlyReads tells s s end
+nothing_read {A} {E} tells s end not_failed = record {
+  files = λ told. refl;
+  any_moment = λ told. passes_none (λ (a b : Files). b ≡ a) s.past (λ image left. refl);
+  faults = omega arith;
+  cause = λ failed. absurd (not_failed failed);
+}
+
+-- the settling failed, so something stood in doubt
+pub cut_acts : {A B E : Type 0} (tells : Bool) (call : Call A E) (old new : Seen) (r : Result B DiskErr) (e : DiskErr) (end : End A E) → r ≡ Err e → end ≡ end_of_error e → (IsSettled old → (a : B) × (r ≡ Ok a)) → ((before after : Stores) → IsOpen tells old before after → IsOpen tells new before after)
+    → granularities new.manifests ≡ granularities old.manifests → OnlyReads tells old new (end_of_disk r) → Acts tells call old new end
+cut_acts {A} {B} {E} tells call old new r e end failed is fine still same_g reads = subst (λ (x : End A E). Acts tells call old new x) (sym is) (go e (subst (λ (x : Result B DiskErr). OnlyReads tells old new (end_of_disk x)) failed reads))
+  where
+    doubted : IsSettled old → ⊥
+    doubted settled = let ok = fine settled in let both : ◌≡◌ {A = Result B DiskErr} (Ok ok.0) (Err e) = sym ok.1 ∙ failed in cc (both)
+
+    go : (e : DiskErr) → OnlyReads tells old new (end_of_disk {A = B} (Err e)) → Acts tells call old new (end_of_error {A = A} {E = E} e)
+    go Fault reads = record {
+      ends = λ before after was. inl (tt, still before after was);
+      settled = λ held has. absurd (doubted has.settled);
+      any_moment = λ told before after was. settling_holds tells call.by old new.past before after was told (reads.any_moment told);
+      costs = record { granularity = same_g; faults = reads.faults; cause = reads.cause };
+    }
+    go Memory reads = record {
+      ends = λ before after was. inl (tt, still before after was);
+      settled = λ held has. absurd (doubted has.settled);
+      any_moment = λ told before after was. settling_holds tells call.by old new.past before after was told (reads.any_moment told);
+      costs = record { granularity = same_g; faults = reads.faults; cause = λ failed. absurd failed };
+    }
+
+-- the doubt was settled, and then the call did its own
+pub then_acts : {A B E F : Type 0} (tells : Bool) (call : Call A E) (old mid new : Seen) (settling : End B F) (end : End A E) → ((before after : Stores) → IsOpen tells old before after → HasEither tells mid before after)
+    → ((held : Stores) → Has tells old held → Has tells mid held) → granularities mid.manifests ≡ granularities old.manifests → OnlyReads tells old mid settling → Changes tells call mid new end → Acts tells call old new end
+then_acts {A} {B} {E} {F} tells call old mid new settling end settled nothing same_g reads change = record {
+  ends = λ before after was. let held = settled_one tells mid before after (settled before after was) in inr (held.0, held.1, change.ends held.0 held.2);
+  settled = λ held has. change.ends held (nothing held has);
+  any_moment = λ told before after was.
+      let held = settled_one tells mid before after (settled before after was) in
+      then_holds (granularities old.manifests) call.by old.past mid.past new.past before after held.0 held.1 (settling_holds tells call.by old mid.past before after was told (reads.any_moment told))
+      (subst (λ (gs : List Granularity). Passes (HoldsBy gs call.by held.0) mid.past new.past) same_g (change.any_moment told held.0 held.2));
+  costs = record {
+    granularity = change.costs.granularity ∙ same_g;
+    faults = let more = reads.faults in let later = change.costs.faults in omega (arith, more, later);
+    cause = λ failed. rose_after old.faults mid.faults new.faults reads.faults (change.costs.cause failed);
+  };
+}
+
+-- nothing was done
+pub nothing_changes : {A E : Type 0} (tells : Bool) (call : Call A E) (s : Seen) (end : End A E) → ((held : Stores) → Has tells s held → EndsFrom tells call s held end) → (IsFailed end → ⊥) → Changes tells call s s end
+nothing_changes {A} {E} tells call s end ends not_failed = record {
+  ends = ends;
+  any_moment = λ told held has. passes_none (HoldsBy (granularities s.manifests) call.by held) s.past (λ image left. inl (has_left tells s held has told image left));
+  costs = record { granularity = refl; faults = omega arith; cause = λ failed. absurd (not_failed failed) };
+}
+
+-- WHAT A CALL LEAVES
+
+from_open : {A E : Type 0} (tells : Bool) (call : Call A E) (new : Seen) (held : Stores) (end : End A E) → EndsFrom tells call new held end → (before : Stores) × (after : Stores) × IsOpen tells new before after
+from_open {A} {E} tells call new held (Done a) (made, by, says, has) = (made, made, inl has)
+from_open {A} {E} tells call new held (Refused e) (has, refuses) = (held, held, inl has)
+from_open {A} {E} tells call new held Failed (inl has) = (held, held, inl has)
+from_open {A} {E} tells call new held Failed (inr (made, by, doubt)) = (held, made, inr doubt)
+from_open {A} {E} tells call new held Spent has = (held, held, inl has)
+
+-- whatever it answers, the next call may be made
+pub still_open : {A E : Type 0} (tells : Bool) (call : Call A E) (old new : Seen) (end : End A E) (before after : Stores) → Acts tells call old new end → IsOpen tells old before after → (x : Stores) × (y : Stores) × IsOpen tells new x y
+still_open {A} {E} tells call old new end before after acts was = elim (acts.ends before after was) [
+  | inl cut ↦ (before, after, cut.1)
+  | inr done ↦ from_open tells call new done.0 end done.2
+]
+
+-- where it is done or refused, nothing stands in doubt
+pub settled_end : {A E : Type 0} (tells : Bool) (call : Call A E) (old new : Seen) (end : End A E) (before after : Stores) → Acts tells call old new end → (IsCut end → ⊥) → IsOpen tells old before after → (held : Stores) × Has tells new held
+settled_end {A} {E} tells call old new end before after acts not_cut was = elim (acts.ends before after was) [
+  | inl cut ↦ absurd (not_cut cut.0)
+  | inr done ↦ go end not_cut done.0 done.2
+]
+  where
+    go : (end : End A E) → (IsCut end → ⊥) → (held : Stores) → EndsFrom tells call new held end → (h : Stores) × Has tells new h
+    go (Done a) not_cut held ends = (ends.0, ends.3)
+    go (Refused e) not_cut held ends = (held, ends.0)
+    go Failed not_cut held ends = absurd (not_cut tt)
+    go Spent not_cut held ends = absurd (not_cut tt)

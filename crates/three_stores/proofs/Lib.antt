@@ -1,0 +1,12 @@
+pub mod Acting
+pub mod Beside
+pub mod Doubting
+pub mod FlushCall
+pub mod Holding
+pub mod Left
+pub mod OnePlace
+pub mod Places
+pub mod RelistCall
+pub mod Rising
+pub mod RowCalls
+pub mod There

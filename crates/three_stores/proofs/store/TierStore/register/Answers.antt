@@ -1,0 +1,23 @@
+use Rattle.std.proofs.Common.{Err, ◌∙◌, ap, sym, subst}
+use Rattle.std.proofs.lemmas.Result.{err_from_is_err_and}
+use Rattle.pv_catalog.specs.Catalogue.{CatalogueState, Refuses}
+use Rattle.pv_catalog.specs.declared.error.RegisterErr.{RegisterErr}
+use Rattle.tier_store.specs.Ends.{end_of_disk, end_of_register}
+use Rattle.three_stores.specs.Change.{registering}
+use Rattle.three_stores.proofs.Acting.{has_one, cut_acts, then_acts}
+use Rattle.three_stores.proofs.store.TierStore.register.Goals as goal
+
+pub register_row-requires : goal.register_row-requires
+register_row-requires g c = let was = c.requires.begun in record { has = has_one g.D.Disk.tells _ was.0 was.1 (c.in_ok-review.ensures.settled was.0 was.1 was.2) }
+
+pub returns-in_err-review-clause-acts : goal.returns-in_err-review-clause-acts
+returns-in_err-review-clause-acts g c =
+    let p = err_from_is_err_and c.from_residual.result c.from_residual.ensures.1 in
+    cut_acts g.D.Disk.tells (registering c.args.name.now c.args.about.now) _ _ c.review.result c.in_err-review.field-0.0 _ c.in_err-review.was (ap end_of_register (p.1 ∙ ap (λ (x : RegisterErr). Err x) p.2)) (λ settled. (tt, (c.review.ensures.nothing settled).0)) c.in_err-review.ensures.still c.review.ensures.granularity c.review.ensures.reads
+
+pub returns-clause-acts : goal.returns-clause-acts
+returns-clause-acts g c = then_acts g.D.Disk.tells (registering c.args.name.now c.args.about.now) _ _ _ (end_of_disk c.review.result) _ c.in_ok-review.ensures.settled (λ held has. rw (c.review.ensures.nothing has.settled).1 has) c.review.ensures.granularity c.review.ensures.reads c.register_row.ensures.changes
+
+pub returns-clause-exactly : goal.returns-clause-exactly
+returns-clause-exactly g c settled e refuses =
+    c.register_row.ensures.exactly e (subst (λ (s : CatalogueState). Refuses s.rows c.args.name.now e) (ap (λ s. s.catalogue) (sym (c.review.ensures.nothing settled).1)) refuses)

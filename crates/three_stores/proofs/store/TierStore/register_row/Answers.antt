@@ -1,0 +1,9 @@
+use Rattle.three_stores.proofs.RowCalls.{register_changes}
+use Rattle.three_stores.proofs.store.TierStore.register_row.Goals as goal
+
+pub returns-clause-changes : goal.returns-clause-changes
+returns-clause-changes g c =
+    let self = c.args.self.now in
+    let says = c.register.ensures in
+    register_changes g.D.Disk.files g.D.Disk.opened g.D.Disk.past g.D.Disk.faults g.D.Disk.tells self.catalogue c.register.new.self self.manifests.items self.disk c.register.new.disk c.args.name.now c.args.about.now c.register.result
+    says.name says.any_moment says.elsewhere says.opened says.faults says.id says.rows says.sound says.stored says.refusal says.exactly says.unchanged says.kept says.doubt says.next says.fault says.memory

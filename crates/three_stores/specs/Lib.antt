@@ -1,0 +1,4 @@
+pub mod Change
+pub mod Seen
+pub mod Stored
+pub mod Stores

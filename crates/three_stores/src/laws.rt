@@ -1,0 +1,53 @@
+//! What follows from holding, for all images and stores.
+ghost use Rattle.std.specs.Prelude.{◌≡◌, ◌⊎◌, ℕ, List, map, length, slice_get, Some, true, false, All, IsTrue};
+ghost use Rattle.disk_model.specs.Files.{Files};
+ghost use Rattle.disk_model.specs.Past.{MayLeave};
+ghost use Rattle.partition_names.specs.declared.granularity.Granularity.{Granularity};
+ghost use Rattle.pv_catalog.specs.Catalogue.{CatalogueState};
+ghost use Rattle.series_model.specs.Series.{IsRising};
+ghost use Rattle.series_model.specs.declared.batch.RowSamples.{RowSamples};
+ghost use Rattle.store_manifest.specs.Manifest.{ManifestState};
+ghost use Rattle.tier_store.specs.Ahead.{drop_of, without_all};
+ghost use Rattle.tier_store.specs.Flush.{with_batch};
+ghost use Rattle.tier_store.specs.Held.{Filed};
+ghost use Rattle.three_stores.specs.Stores.{Stores, list_at, samples_in};
+ghost use Rattle.three_stores.specs.Seen.{seen_on, AtEach, granularities};
+ghost use Rattle.three_stores.specs.Stored.{HoldsAll};
+ghost use Rattle.three_stores.specs.Change.{IsKnown, Has, IsOpen, Flushes, CanList};
+
+use disk_model::Disk;
+
+/// An image holds one thing at most of three stores that stand, whatever the granularities: the rows, and in each store of each listed
+/// file the entry, the header's line and the samples.
+pub fn one_image_holds_one_thing()
+    ensures { (gs hs : List Granularity) (image : Files) (a b : Stores) → length gs ≡ 3 → length hs ≡ 3 → IsTrue a.stands → IsTrue b.stands → HoldsAll gs image a → HoldsAll hs image b → a ≡ b }
+{}
+
+/// Whatever a crash leaves of the stores holds what they hold; where a change stands in doubt, what was before it or what is after it.
+pub fn a_crash_leaves_what_is_held<D: Disk>()
+    ensures settled { (disk : D) (catalogue : CatalogueState) (ms : List ManifestState) (held : Stores) (image : Files)
+        → IsTrue D.tells → Has D.tells (seen_on D.files D.opened D.past D.faults catalogue ms disk) held → MayLeave (D.past disk) image → HoldsAll (granularities ms) image held }
+    ensures in_doubt { (disk : D) (catalogue : CatalogueState) (ms : List ManifestState) (before after : Stores) (image : Files)
+        → IsTrue D.tells → IsOpen D.tells (seen_on D.files D.opened D.past D.faults catalogue ms disk) before after → MayLeave (D.past disk) image → HoldsAll (granularities ms) image before ⊎ HoldsAll (granularities ms) image after }
+{}
+
+/// At most one of the four journals is in doubt.
+pub fn one_journal_is_in_doubt<D: Disk>()
+    ensures catalogue { (disk : D) (catalogue : CatalogueState) (ms : List ManifestState) (before after : Stores)
+        → IsOpen D.tells (seen_on D.files D.opened D.past D.faults catalogue ms disk) before after → catalogue.journal.sound ≡ false → AtEach ms (λ i m. m.journal.sound ≡ true) }
+    ensures manifest { (disk : D) (catalogue : CatalogueState) (ms : List ManifestState) (before after : Stores) (i k : ℕ) (m n : ManifestState)
+        → IsOpen D.tells (seen_on D.files D.opened D.past D.faults catalogue ms disk) before after → slice_get ms i ≡ Some m → slice_get ms k ≡ Some n → m.journal.sound ≡ false → n.journal.sound ≡ false → i ≡ k }
+{}
+
+/// Of each row the three stores hold after a flush what they held, with the batch over it.
+pub fn a_flush_adds_the_batch()
+    ensures { (catalogue : CatalogueState) (ms : List ManifestState) (batch : List RowSamples) (old new : Stores) → IsKnown catalogue ms old → IsTrue old.stands → All (λ (p : RowSamples). IsRising p.samples) batch → Flushes batch old new
+        → (row : ℕ) → samples_in row new ≡ with_batch row (samples_in row old) batch }
+{}
+
+/// Files that a store lists may be dropped from its list: what is left is as safe as it was.
+pub fn listed_files_may_be_dropped<D: Disk>()
+    ensures { (disk : D) (catalogue : CatalogueState) (ms : List ManifestState) (held : Stores) (i : ℕ) (m : ManifestState) (parts : List Filed)
+        → Has D.tells (seen_on D.files D.opened D.past D.faults catalogue ms disk) held → slice_get ms i ≡ Some m
+        → CanList i D.tells (seen_on D.files D.opened D.past D.faults catalogue ms disk) (map drop_of parts) held (without_all (list_at i held) parts) }
+{}

@@ -1,0 +1,24 @@
+//! Three stores of partition files on one disk, with one catalogue of rows.
+//!
+//! New samples are flushed to store 1; later their files move to store 2 and then to store 3. What is held of a row is what the three hold
+//! of it together (`samples_in`). What an image of a disk holds is said once (`HoldsAll`): the rows, and in each store the listed files with
+//! their samples.
+//!
+//! Each call that changes the stores has one clause, `acts`: it first settles what stands in doubt, then makes its change or leaves all as
+//! it was; a crash at any moment leaves what was held, with the doubtful change or without, or that with the call's own. After a fault it
+//! may not be known whether the change was made; `TierStore::review` finds out, and every call that changes the stores does so first. At
+//! most one of the four journals, the catalogue and the three manifests, is in doubt at a time.
+//!
+//! Stores whose listed files somebody else damaged may be used as any others, as long as each is there and no shorter than it is
+//! listed. What is held then doesn't stand (`Stores.stands`): nothing is promised of its samples, but no call writes below a listed
+//! length, and each can be made again.
+#![tactic(auto)]
+
+pub mod laws;
+mod opening;
+mod registry;
+mod relisting;
+mod settling;
+mod store;
+
+pub use store::TierStore;

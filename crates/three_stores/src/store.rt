@@ -1,0 +1,111 @@
+// The stores: a disk with its catalogue and its three manifests.
+ghost use Rattle.std.specs.Prelude.{◌≡◌, ◌≤◌, ◌+◌, ℕ, length, slice_get, Some, IsTrue};
+ghost use Rattle.pv_catalog.specs.Rows.{KeepsRows};
+ghost use Rattle.tier_store.specs.Flush.{CanFlush};
+ghost use Rattle.tier_store.specs.Ends.{end_of_disk};
+ghost use Rattle.three_stores.specs.Stores.{Stores};
+ghost use Rattle.three_stores.specs.Seen.{seen};
+ghost use Rattle.three_stores.specs.Change.{Has, IsOpen, Changes, Acts, flushing};
+
+use disk_model::{Disk, DiskErr};
+use pv_catalog::Catalogue;
+use series_model::Batch;
+use std::alloc::Global;
+use store_manifest::Manifest;
+use tier_store::{flush_pieces, plan_flush};
+
+// The number of the store that flushes write to.
+const SHORT: u8 = 1;
+
+/// Three stores of partition files: their disk, the catalogue of their rows, and the manifests of stores 1, 2 and 3, each at the place
+/// of its number less one.
+#[derive(Drop)]
+pub struct TierStore<D: Disk> {
+    pub(crate) alloc: Global,
+    pub(crate) disk: D,
+    pub(crate) catalogue: Catalogue,
+    pub(crate) manifests: Vec<Manifest>,
+}
+
+impl<D: Disk> TierStore<D> {
+    /// The stores of a disk, whose catalogue and whose manifests of stores 1, 2 and 3, in this order, were loaded from it.
+    pub fn new(
+        alloc: Global,
+        disk: D,
+        catalogue: Catalogue,
+        manifests: Vec<Manifest>,
+    ) -> TierStore<D>
+        ensures { result ≡ record { alloc = alloc; disk = disk; catalogue = catalogue; manifests = manifests } }
+    {
+        TierStore {
+            alloc,
+            disk,
+            catalogue,
+            manifests,
+        }
+    }
+
+    /// Its rows. Where a change of them stands in doubt, they are those from before it.
+    pub fn catalogue(&self) -> &Catalogue
+        ensures { result.now ≡ self.now.catalogue }
+    {
+        &self.catalogue
+    }
+
+    /// What a store lists, from 1 to 3. Where a change of that stands in doubt, it is the list from before it.
+    pub fn manifest(&self, store: u8) -> &Manifest
+        requires first { 1 ≤ store }
+        requires last { store ≤ length self.now.manifests.items }
+        ensures { (i : ℕ) → store ≡ i + 1 → slice_get self.now.manifests.items i ≡ Some result.now }
+    {
+        &self.manifests[usize::from(store) - 1]
+    }
+
+    /// The disk, given back.
+    pub fn into_disk(self) -> D
+        ensures { result ≡ self.disk }
+    {
+        self.disk
+    }
+}
+
+impl<D: Disk> TierStore<D> {
+    // Flushes a batch where no change stands in doubt.
+    fn flush_batch(&mut self, batch: &Batch) -> Result<u64, DiskErr>
+        requires can { CanFlush self.old.catalogue.rows batch.now }
+        requires has { (held : Stores) × Has D.tells (seen D.Disk self.old) held }
+        ensures changes { Changes D.tells (flushing batch.now) (seen D.Disk self.old) (seen D.Disk self.new) (end_of_disk result) }
+        ensures catalogue { self.new.catalogue ≡ self.old.catalogue }
+    {
+        let rows = self.catalogue.rows();
+        let plan = plan_flush(self.alloc, rows, &self.manifests[0], batch)?;
+        flush_pieces(
+            self.alloc,
+            &mut self.disk,
+            SHORT,
+            rows,
+            &mut self.manifests[0],
+            &plan.pieces,
+        )?;
+        Ok(plan.count)
+    }
+
+    /// Appends the samples of a batch that are later than their rows' last ones in store 1 to the partition files of their rows there,
+    /// and answers how many these are. A change that stands in doubt is settled first. Each file is written behind its listed length,
+    /// then each is synced, and then one commit lists all of them; so a crash at any moment of the call leaves what was held, or that
+    /// with all of the batch.
+    ///
+    /// After `Fault`, which comes only where the disk's count of faults rose in the call, what was held is still held, or it isn't
+    /// known whether the batch is; the next call that changes the stores finds out. After `Memory` what was held is still held.
+    pub fn flush(&mut self, batch: &Batch) -> Result<u64, DiskErr>
+        requires can { CanFlush self.old.catalogue.rows batch.now }
+        requires begun { (before : Stores) × (after : Stores) × IsOpen D.tells (seen D.Disk self.old) before after }
+
+        ensures acts { Acts D.tells (flushing batch.now) (seen D.Disk self.old) (seen D.Disk self.new) (end_of_disk result) }
+        ensures keeps { KeepsRows self.old.catalogue.rows self.new.catalogue.rows }
+        ensures settled { IsTrue self.old.catalogue.journal.sound → self.new.catalogue ≡ self.old.catalogue }
+    {
+        self.review()?;
+        self.flush_batch(batch)
+    }
+}
