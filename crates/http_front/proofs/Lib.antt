@@ -5,3 +5,8 @@ pub mod ReadLemmas
 pub mod Readings
 pub mod Answering
 pub mod QueryLemmas
+pub mod Walks
+pub mod Digits
+pub mod Chunking
+pub mod Sending
+pub mod Standing

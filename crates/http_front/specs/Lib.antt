@@ -6,4 +6,7 @@ pub mod Calls
 pub mod Heads
 pub mod Reading
 pub mod Reply
+pub mod Chunks
+pub mod Sends
+pub mod Behind
 pub mod Laws

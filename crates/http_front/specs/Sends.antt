@@ -1,0 +1,7 @@
+-- What went out of bytes.
+use Rattle.std.specs.Prelude.{◌≡◌, ℕ, List, ◌++◌, Option}
+use Rattle.std.specs.Io.KnownBytes.{Appends}
+
+-- A front of the bytes went out, and these are left.
+abbrev pub Sends : Option (List ℕ) → Option (List ℕ) → List ℕ → List ℕ → Type 0
+Sends a b bytes left = (out : List ℕ) × (bytes ≡ out ++ left) × Appends a b out
