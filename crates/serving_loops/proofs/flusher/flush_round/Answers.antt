@@ -1,0 +1,43 @@
+use Rattle.std.proofs.Common.{true, false, subst}
+use Rattle.std.specs.Prelude.{Option, None}
+use Rattle.serving_end.specs.Rounds.{IsFlushRound}
+use Rattle.serving_loops.specs.Does.{Does, Anything, AsksDoors}
+use Rattle.serving_loops.specs.Flushes.{TicksAll, FlushesAll, IsRoundSo}
+use Rattle.serving_loops.proofs.Joins.{join, join_any, TicksAfter, ticks_after, round_goes, round_ends}
+use Rattle.serving_loops.proofs.flusher.flush_round.Goals as goal
+
+pub returns-in-Err-tick_all-clause-spent : goal.returns-in-Err-tick_all-clause-spent
+returns-in-Err-tick_all-clause-spent g c =
+    (join_any g.A.Actor.number g.A.Actor.between g.met.A.Actor.joined g.met.A.Actor.number_stays (AsksDoors c.in-Ok.shut) c.args.actor.now c.are_doors_shut.new.actor c.tick_all.new.actor c.in-Ok.ensures.asks c.in-Err-tick_all.ensures.spent.0, c.in-Err-tick_all.ensures.spent.1)
+
+pub returns-then-shut-clause-round : goal.returns-then-shut-clause-round
+returns-then-shut-clause-round g c =
+    let number = g.A.Actor.number in
+    let between = g.A.Actor.between in
+    let j = g.met.A.Actor.joined in
+    let n = g.met.A.Actor.number_stays in
+    let begun = join number between j n (AsksDoors c.in-Ok.shut) (TicksAll c.args.now) (TicksAfter c.args.now c.in-Ok.shut) (ticks_after c.args.now c.in-Ok.shut) c.args.actor.now c.are_doors_shut.new.actor c.tick_all.new.actor c.in-Ok.ensures.asks c.in-Ok-tick_all.ensures.ticks in
+    join number between j n (TicksAfter c.args.now true) (FlushesAll c.in-Ok-flush_all.end) (IsRoundSo c.in-Ok-flush_all.end) (round_ends c.args.now c.in-Ok-flush_all.end) c.args.actor.now c.tick_all.new.actor c.flush_all.new.actor
+    (subst (λ b. Does number between c.args.actor.now (TicksAfter c.args.now b) c.tick_all.new.actor) c.if-shut.true begun) c.in-Ok-flush_all.ensures.flushes
+
+pub returns-in-Ok-flush_all-clause-round : goal.returns-in-Ok-flush_all-clause-round
+returns-in-Ok-flush_all-clause-round g c =
+    let number = g.A.Actor.number in
+    let between = g.A.Actor.between in
+    let j = g.met.A.Actor.joined in
+    let n = g.met.A.Actor.number_stays in
+    let begun = join number between j n (AsksDoors c.in-Ok.shut) (TicksAll c.args.now) (TicksAfter c.args.now c.in-Ok.shut) (ticks_after c.args.now c.in-Ok.shut) c.args.actor.now c.are_doors_shut.new.actor c.tick_all.new.actor c.in-Ok.ensures.asks c.in-Ok-tick_all.ensures.ticks in
+    join number between j n (TicksAfter c.args.now c.in-Ok.shut) (FlushesAll c.in-Ok-flush_all.end) IsFlushRound (round_goes c.args.now c.in-Ok.shut c.in-Ok-flush_all.end) c.args.actor.now c.tick_all.new.actor c.flush_all.new.actor
+    begun c.in-Ok-flush_all.ensures.flushes
+
+pub returns-in-Err-flush_all-clause-spent : goal.returns-in-Err-flush_all-clause-spent
+returns-in-Err-flush_all-clause-spent g c =
+    let number = g.A.Actor.number in
+    let between = g.A.Actor.between in
+    let j = g.met.A.Actor.joined in
+    let n = g.met.A.Actor.number_stays in (
+      join_any number between j n (TicksAfter c.args.now c.in-Ok.shut) c.args.actor.now c.tick_all.new.actor c.flush_all.new.actor
+          (join number between j n (AsksDoors c.in-Ok.shut) (TicksAll c.args.now) (TicksAfter c.args.now c.in-Ok.shut) (ticks_after c.args.now c.in-Ok.shut) c.args.actor.now c.are_doors_shut.new.actor c.tick_all.new.actor c.in-Ok.ensures.asks c.in-Ok-tick_all.ensures.ticks)
+          c.in-Err-flush_all.ensures.spent.0,
+      c.in-Err-flush_all.ensures.spent.1,
+    )

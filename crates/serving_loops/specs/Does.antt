@@ -1,0 +1,18 @@
+-- What an actor did in a call, as a list of its own acts.
+use Rattle.std.specs.Prelude.{◌≡◌, ℕ, List, [], ◌∷◌, Bool, true}
+use Rattle.act_model.specs.declared.acts.Act.TheVariants.{Doors}
+use Rattle.act_model.specs.declared.acts.Answer.TheVariants.{DoorsLeft}
+use Rattle.act_model.specs.Reply.{Reply}
+use Rattle.act_model.specs.History.{Entry, Done, Made}
+
+-- just such acts were made
+abbrev pub Does : {A : Type 0} → (A → ℕ) → (A → List Entry → A → Type 0) → A → (List Done → Type 0) → A → Type 0
+Does number between old Such new = (ds : List Done) × Made number between old ds new × Such ds
+
+-- any acts
+abbrev pub Anything : List Done → Type 0
+Anything ds = Unit {0}
+
+-- the one act that asks for the doors, and whether it found none
+abbrev pub AsksDoors : Bool → List Done → Type 0
+AsksDoors none ds = (reply : Reply) × (ds ≡ record { act = Doors; answer = reply } ∷ []) × (none ≡ true → reply ≡ DoorsLeft 0)

@@ -1,0 +1,106 @@
+// The mover: round after round it moves what is ripe, and sweeps.
+ghost use Rattle.std.specs.Prelude.{◌≡◌, ℕ, List, IfOk, OnErr, Option};
+ghost use Rattle.act_model.specs.Machine.{Machine};
+ghost use Rattle.serving_end.specs.Rounds.{IsMoving};
+ghost use Rattle.serving_loops.specs.Does.{Does, Anything};
+ghost use Rattle.serving_loops.specs.Moves.{fault_of, first_of, end_of_round, IsMoverRoundSo};
+
+use crate::flusher::are_doors_shut;
+use crate::moves::{move_store, sweep};
+use act_model::{Actor, Spent};
+use edge_io::Clock;
+use serving_end::MoverEnd;
+use std::sync::Wait;
+
+/// How long the mover rests between two rounds, in nanoseconds.
+pub const MOVER_RESTS: u64 = 1_000_000_000;
+
+// The fault or want of memory of an end.
+fn fault_in(end: Option<MoverEnd>) -> Option<MoverEnd>
+    ensures { result ≡ fault_of end }
+{
+    match end {
+        Some(MoverEnd::MeetsFault) => Some(MoverEnd::MeetsFault),
+        Some(MoverEnd::MeetsNoMemory) => Some(MoverEnd::MeetsNoMemory),
+        Some(MoverEnd::Rests) => None,
+        None => None,
+    }
+}
+
+// The first of two ends that is told.
+fn first_told(one: Option<MoverEnd>, other: Option<MoverEnd>) -> Option<MoverEnd>
+    ensures { result ≡ first_of one other }
+{
+    match one {
+        Some(end) => Some(end),
+        None => other,
+    }
+}
+
+// How a round ended, if it is the last: both stores had nothing to move and no doors were left, or the round began with no doors and met a
+// fault or lacked memory.
+fn round_end(
+    shut: bool,
+    short: Option<MoverEnd>,
+    medium: Option<MoverEnd>,
+    swept: Option<MoverEnd>,
+) -> Option<MoverEnd>
+    ensures { result ≡ end_of_round shut short medium swept }
+{
+    match (short, medium) {
+        (Some(MoverEnd::Rests), Some(MoverEnd::Rests)) => return Some(MoverEnd::Rests),
+        _ => {}
+    }
+    if !shut {
+        return None;
+    }
+    first_told(fault_in(short), first_told(fault_in(medium), swept))
+}
+
+// Moves what is ripe in both stores, and sweeps. It tells how that ended, if it is the last round.
+fn move_round<A: Actor>(rt: &impl Wait, actor: &mut A, now: u64) -> Result<Option<MoverEnd>, Spent>
+    requires stands { (m : Machine) × A.stands actor.old m }
+    ensures round { IfOk result (λ end. Does A.number A.between actor.old (IsMoverRoundSo end) actor.new) }
+    ensures spent { OnErr result (Does A.number A.between actor.old Anything actor.new × A.is_spent actor.new) }
+    ensures stands { (n : Machine) × A.stands actor.new n }
+{
+    let shut = match are_doors_shut(actor) {
+        Ok(shut) => shut,
+        Err(spent) => return Err(spent),
+    };
+    let short = match move_store(rt, actor, 1, now) {
+        Ok(short) => short,
+        Err(spent) => return Err(spent),
+    };
+    let medium = match move_store(rt, actor, 2, now) {
+        Ok(medium) => medium,
+        Err(spent) => return Err(spent),
+    };
+    match sweep(actor) {
+        Ok(swept) => return Ok(round_end(shut, short, medium, swept)),
+        Err(spent) => return Err(spent),
+    }
+}
+
+/// The mover's work, to its end: rounds, up to one in which both stores had nothing to move and no doors were left, or one that began
+/// when no doors were left and met a fault or lacked memory. Each round is at one moment of the clock, and between two it rests. `Spent`
+/// comes where no act is left.
+pub fn move_to_end<A: Actor, C: Clock>(
+    rt: &impl Wait,
+    actor: &mut A,
+    clock: &mut C,
+) -> Result<MoverEnd, Spent>
+    requires stands { (m : Machine) × A.stands actor.old m }
+    ensures moved { IfOk result (λ end. Does A.number A.between actor.old (IsMoving end) actor.new) }
+    ensures spent { OnErr result (Does A.number A.between actor.old Anything actor.new × A.is_spent actor.new) }
+    ensures stands { (n : Machine) × A.stands actor.new n }
+{
+    for _ in rt.forever() {
+        match move_round(rt, actor, clock.now()) {
+            Ok(Some(end)) => return Ok(end),
+            Ok(None) => clock.rest(MOVER_RESTS),
+            Err(spent) => return Err(spent),
+        }
+    }
+    unreachable!()
+}
