@@ -1,0 +1,5 @@
+pub mod Making
+pub mod Reading
+pub mod Asked
+pub mod Flushing
+pub mod Going

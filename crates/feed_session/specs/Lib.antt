@@ -1,0 +1,4 @@
+pub mod Asks
+pub mod Asking
+pub mod Session
+pub mod Replies

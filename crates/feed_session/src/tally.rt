@@ -1,0 +1,67 @@
+// How many samples were kept, held and dropped.
+ghost use Rattle.std.specs.Prelude.{◌≡◌, ◌<◌, ◌^◌};
+ghost use Rattle.feed_session.specs.Asking.{both, none, one_more, total};
+
+use crate::end::Fed;
+
+/// What came of an offer.
+#[derive(Clone, Copy)]
+pub(crate) enum Outcome {
+    Kept,
+    Held,
+    Dropped,
+}
+
+/// How many samples were kept, held and dropped.
+#[derive(Clone, Copy)]
+pub(crate) struct Tally {
+    pub kept: u64,
+    pub held: u64,
+    pub dropped: u64,
+}
+
+impl Tally {
+    /// None so far.
+    pub(crate) fn new() -> Tally
+        ensures { result ≡ none }
+    {
+        Tally {
+            kept: 0,
+            held: 0,
+            dropped: 0,
+        }
+    }
+
+    /// Counts one sample more.
+    pub(crate) fn count(&mut self, outcome: Outcome)
+        requires { total self.old < 2 ^ 63 }
+        ensures { self.new ≡ one_more outcome self.old }
+    {
+        match outcome {
+            Outcome::Kept => self.kept += 1,
+            Outcome::Held => self.held += 1,
+            Outcome::Dropped => self.dropped += 1,
+        }
+    }
+
+    /// Counts the samples of a chunk too.
+    pub(crate) fn add(&mut self, chunk: Tally)
+        requires { total (both self.old chunk) < 2 ^ 63 }
+        ensures { self.new ≡ both self.old chunk }
+    {
+        self.kept += chunk.kept;
+        self.held += chunk.held;
+        self.dropped += chunk.dropped;
+    }
+
+    /// The end of a session that counted so.
+    pub(crate) fn fed(self) -> Fed
+        ensures { result ≡ Fed.Fed self.kept self.held self.dropped }
+    {
+        Fed::Fed {
+            kept: self.kept,
+            held: self.held,
+            dropped: self.dropped,
+        }
+    }
+}
