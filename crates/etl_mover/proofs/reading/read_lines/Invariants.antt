@@ -1,0 +1,14 @@
+use Rattle.std.proofs.Common.{◌≤◌, ◌-◌, IsTrue}
+use Rattle.etl_mover.specs.Reading.{OnlyReads}
+use Rattle.etl_mover.proofs.reading.read_lines.Given as goal
+
+abbrev pub invariant-loop-bytes : goal.invariant-loop-bytes
+invariant-loop-bytes g l = record {
+  some : 1 ≤ l.want;
+  within : l.want ≤ l.rest;
+  reads : IsTrue g.D.Disk.tells → OnlyReads (g.D.Disk.files l.fn.disk) (g.D.Disk.files l.disk) (g.D.Disk.opened l.fn.disk) (g.D.Disk.opened l.disk) (g.D.Disk.past l.fn.disk) (g.D.Disk.past l.disk);
+  faults : g.D.Disk.faults l.fn.disk ≤ g.D.Disk.faults l.disk;
+}
+
+abbrev pub decreases-loop-bytes : goal.decreases-loop-bytes
+decreases-loop-bytes g l = l.rest - l.want

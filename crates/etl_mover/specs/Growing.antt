@@ -1,0 +1,17 @@
+-- What becomes of a destination's file.
+use Rattle.std.specs.Prelude.{◌≡◌, ◌+◌, ℕ, List, ◌++◌, length, Option, IsTrue}
+use Rattle.partition_names.specs.declared.granularity.Granularity.{Granularity}
+use Rattle.tier_store.specs.Held.{Filed, Held, IsFiled, IsListed, bytes_of, filed_at}
+use Rattle.tier_store.specs.Flush.{bytes_at, len_at, start_of}
+
+-- the file is of its row, and has these bytes behind those that were ahead of it
+pub record HasBytes (g : Granularity) (held : Held) (bytes : List ℕ) (f : Filed) : Type 0 where
+  pub filed : IsFiled g held.rows f
+  pub are : bytes_of f ≡ bytes_at (filed_at f) held.files ++ bytes
+
+-- f is a file with these bytes behind place `at`, where it is listed so long, or of these bytes alone where it isn't listed
+pub record BecomesFile (g : Granularity) (held : Held) (at : Option ℕ) (bytes : List ℕ) (f : Filed) : Type 0 where
+  pub listed : IsListed g held.rows f
+  pub place : at ≡ len_at (filed_at f) held.files
+  pub len : f.entry.len ≡ start_of at + length bytes
+  pub own : IsTrue held.stands → HasBytes g held bytes f

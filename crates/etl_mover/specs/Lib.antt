@@ -1,0 +1,10 @@
+pub mod Copying
+pub mod Growing
+pub mod Laws
+pub mod Lines
+pub mod Lists
+pub mod Move
+pub mod Moving
+pub mod Reading
+pub mod Removal
+pub mod Writing

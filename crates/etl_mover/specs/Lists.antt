@@ -1,0 +1,57 @@
+-- How a call ends that lists other files in one commit of a manifest.
+use Rattle.std.specs.Prelude.{◌≡◌, ℕ, Bool, true, false, List, Result, Ok, Err}
+use Rattle.disk_model.specs.Files.{Name, Files}
+use Rattle.disk_model.specs.Past.{Past, Passes}
+use Rattle.disk_model.specs.declared.disk.DiskErr.{DiskErr}
+use Rattle.disk_model.specs.declared.disk.DiskErr.TheVariants.{Fault, Memory}
+use Rattle.gate_journal.specs.Journal.{JournalState}
+use Rattle.store_manifest.specs.declared.entry.Entry.{Entry}
+use Rattle.store_manifest.specs.Manifest.{ManifestState}
+use Rattle.tier_store.specs.Held.{Held, Shelf}
+use Rattle.tier_store.specs.Stored.{HoldsEither}
+use Rattle.tier_store.specs.Writing.{IsStoredAs, IsDoubtedAs}
+use Rattle.etl_mover.specs.declared.moving.RetireEnd.{RetireEnd}
+use Rattle.etl_mover.specs.declared.moving.RetireEnd.TheVariants.{Retired, Again}
+
+-- the commit wasn't made, it was, or it isn't known whether it was
+pub data Outcome : Type 0 where
+  Unmade : Outcome
+  Made : Outcome
+  Doubtful : Outcome
+
+-- by a publication's answer, and whether the manifest is sound behind it
+abbrev pub published : Result Unit DiskErr → Bool → Outcome
+published (Ok done) sound = Made
+published (Err e) true = Unmade
+published (Err e) false = Doubtful
+
+-- By a retirement's answer: after a fault with a sound manifest the commit was made, and the removal of a file failed.
+abbrev pub retired : Result RetireEnd DiskErr → Bool → Outcome
+retired (Ok Retired) sound = Made
+retired (Ok (Again len copied)) sound = Unmade
+retired (Err Memory) sound = Unmade
+retired (Err Fault) true = Made
+retired (Err Fault) false = Doubtful
+
+-- what the store has then, of what it had and what it was to have
+abbrev pub Stands : JournalState → ManifestState → Shelf → Files → (Name → ℕ) → Past → Held → Held → Outcome → Type 0
+Stands catalogue made shelf files opened past held next Unmade = IsStoredAs catalogue made shelf files opened past held
+Stands catalogue made shelf files opened past held next Made = IsStoredAs catalogue made shelf files opened past next
+Stands catalogue made shelf files opened past held next Doubtful = IsDoubtedAs catalogue made shelf files opened past held next
+
+-- A crash at any moment of the call leaves what was held or what is next, and the call ends so.
+pub record Relists (catalogue : JournalState) (m made : ManifestState) (shelf : Shelf) (files : Files) (opened : Name → ℕ) (old new : Past) (held next : Held) (outcome : Outcome) : Type 0 where
+  pub any_moment : Passes (HoldsEither m.granularity held next) old new
+  pub stands : Stands catalogue made shelf files opened new held next outcome
+
+-- what the manifest in memory lists then
+abbrev pub Knows : ManifestState → ManifestState → List Entry → Outcome → Type 0
+Knows m made next Unmade = (made.entries ≡ m.entries) × (made.journal.sound ≡ true)
+Knows m made next Made = (made.entries ≡ next) × (made.journal.sound ≡ true)
+Knows m made next Doubtful = (made.entries ≡ m.entries) × (made.next ≡ next) × (made.journal.sound ≡ false)
+
+-- the manifest is that of the same store and granularity, and lists these entries if the commit was made
+pub record Commits (m made : ManifestState) (next : List Entry) (outcome : Outcome) : Type 0 where
+  pub granularity : made.granularity ≡ m.granularity
+  pub name : made.journal.name ≡ m.journal.name
+  pub knows : Knows m made next outcome

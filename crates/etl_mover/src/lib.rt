@@ -1,0 +1,13 @@
+//! The running move of a series' oldest partition files from one store to the next.
+#![tactic(auto)]
+
+mod copying;
+pub mod laws;
+mod lines;
+mod moving;
+mod publishing;
+mod reading;
+mod retiring;
+mod writing;
+
+pub use moving::{Copied, MOST_PARTS, Move, RetireEnd, Stage};

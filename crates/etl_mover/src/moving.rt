@@ -1,0 +1,155 @@
+// A move, and its beginning.
+ghost use Rattle.std.specs.Prelude.{◌≡◌, ◌≤◌, IfOk, length, map, slice_get};
+ghost use Rattle.std.specs.Option.{option_copied};
+ghost use Rattle.tier_store.specs.Plan.{IsLastOf};
+ghost use Rattle.etl_mover.specs.Move.{HasBegun, of_series, part_file};
+
+use disk_model::FileName;
+use partition_names::{Granularity, file_path};
+use pv_name::PvName;
+use std::alloc::{AllocError, Global};
+use std::marker::Model;
+use store_manifest::{Entry, Manifest};
+
+/// As many parts as one move may have.
+pub const MOST_PARTS: usize = 65_536;
+
+/// How far a move has come.
+#[derive(Clone, Copy, Debug, PartialEq, Eq)]
+pub enum Stage {
+    /// Its parts are being copied, or all are copied and not listed yet.
+    Copying,
+    /// The destination lists what was copied.
+    Published,
+    /// It has ended.
+    Ended,
+}
+
+/// How a step of copying left the move.
+#[derive(Clone, Copy, Debug, PartialEq, Eq)]
+pub enum Copied {
+    /// Parts are left to be copied.
+    More,
+    /// All parts are copied.
+    Done,
+}
+
+/// How a retirement ended the move.
+#[derive(Clone, Copy, Debug, PartialEq, Eq)]
+pub enum RetireEnd {
+    /// The source lists the parts no more.
+    Retired,
+    /// The source lists a part at `len` bytes, of which `copied` were published. Nothing has changed: another move copies the rest.
+    Again { len: u64, copied: u64 },
+}
+
+/// A running move of the oldest partitions of one series from a store to the next.
+#[derive(Drop)]
+pub struct Move {
+    pub(crate) alloc: Global,
+    pub(crate) source: u8,
+    pub(crate) destination: u8,
+    pub(crate) granularity: Granularity,
+    pub(crate) series: u32,
+    pub(crate) name: PvName,
+    // The last entry that the destination lists of the series.
+    pub(crate) listed: Option<Entry>,
+    // As the source listed them when the move began; of those that are copied with the length up to which they are.
+    pub(crate) parts: Vec<Entry>,
+    pub(crate) at: usize,
+    pub(crate) pending: Vec<Entry>,
+    pub(crate) stage: Stage,
+    pub(crate) files: Vec<FileName>,
+}
+
+impl Model for Move {
+    ghost use Rattle.etl_mover.specs.Move.{MoveState};
+
+    ghost Value = { MoveState };
+
+    ghost view = { λ m. record { source = m.source; destination = m.destination; granularity = m.granularity; series = m.series; name = m.name; listed = m.listed; parts = m.parts.items; at = m.at; pending = m.pending.items; stage = m.stage; files = m.files.items } };
+}
+
+impl Move {
+    /// A move of the `parts` oldest partitions that `source` lists of a series of this name. It makes no call of a disk. Room for the
+    /// parts and for the names of their files is made here.
+    pub fn begin(
+        alloc: Global,
+        source: &Manifest,
+        dest: &Manifest,
+        series: u32,
+        name: &PvName,
+        parts: usize,
+    ) -> Result<Move, AllocError>
+        requires some { 1 ≤ parts }
+        requires most { parts ≤ MOST_PARTS }
+        requires listed { parts ≤ length (of_series series source.now.entries) }
+        ensures begun { IfOk result (HasBegun source.now dest.now series name.now parts) }
+    {
+        let parts = Vec::from_slice(alloc, &source.entries(series)[..parts])?;
+        let from = source.store();
+        let to = dest.store();
+        let files = names_of(alloc, from, name, &parts)?;
+        Ok(Move {
+            alloc,
+            source: from,
+            destination: to,
+            granularity: dest.granularity(),
+            series,
+            name: name.clone()?,
+            listed: last_listed(dest, series),
+            parts,
+            at: 0,
+            pending: Vec::new(alloc),
+            stage: Stage::Copying,
+            files,
+        })
+    }
+
+    /// The source's entry, as it was when the move began, of the part that is copied next; `None` once all are copied.
+    pub fn at(&self) -> Option<&Entry>
+        ensures { option_copied result ≡ slice_get self.now.parts self.now.at }
+    {
+        self.parts.get(self.at)
+    }
+
+    /// The files of the parts that the move hasn't removed: all of them until the retirement, those that a pin names once it is done,
+    /// and after a fault in it also those that may be there still.
+    pub fn kept(&self) -> &[FileName]
+        ensures { result.now ≡ self.now.files }
+    {
+        &self.files
+    }
+}
+
+// The last entry that a manifest lists of a series.
+fn last_listed(manifest: &Manifest, series: u32) -> Option<Entry>
+    ensures { IsLastOf manifest.now.entries series result }
+{
+    let entry = manifest.entries(series).last()?;
+    Some(*entry)
+}
+
+// The names of the parts' files in their store, in order.
+fn names_of(
+    alloc: Global,
+    store: u8,
+    name: &PvName,
+    parts: &[Entry],
+) -> Result<Vec<FileName>, AllocError>
+    ensures { IfOk result (λ v. v.items ≡ map (part_file store name.now) parts.now) }
+{
+    let mut names = Vec::with_capacity(alloc, parts.len())?;
+    for part in parts {
+        names.push(file_name(alloc, store, name, part)?)?;
+    }
+    Ok(names)
+}
+
+fn file_name(alloc: Global, store: u8, name: &PvName, part: &Entry) -> Result<FileName, AllocError>
+    ensures { IfOk result (λ n. n ≡ part_file store name.now part.now) }
+{
+    let mut path = Vec::new(alloc);
+    file_path(name, &part.part.name, &mut path)?;
+    Ok(FileName { store, path })
+}

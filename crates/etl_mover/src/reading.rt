@@ -1,0 +1,68 @@
+// Reads of a part's file, which leave the disk as it is.
+ghost use Rattle.std.specs.Prelude.{◌≡◌, ◌⊎◌, ◌≤◌, ◌<◌, ◌+◌, ℕ, List, Some, length, take, drop, IfOk, IsErrOf, IsTrue};
+ghost use Rattle.disk_model.specs.Files.{HasFile, Rose};
+ghost use Rattle.etl_mover.specs.Reading.{OnlyReads, IsChunk, cut_to_line};
+
+use crate::lines::line_len;
+use disk_model::{Disk, DiskErr, FileName};
+use std::alloc::Global;
+
+/// As many bytes as one step of copying appends, but for a line that is longer.
+pub const MOST_BYTES: usize = 1_048_576;
+
+// Reads bytes of a file from a place on.
+pub(crate) fn read<D: Disk>(
+    alloc: Global,
+    disk: &mut D,
+    name: &FileName,
+    at: u64,
+    len: usize,
+) -> Result<Vec<u8>, DiskErr>
+    requires { IsTrue D.tells → HasFile (D.files disk.old) name.now (λ b. at + len ≤ length b) }
+    ensures bytes { IsTrue D.tells → (b : List ℕ) → D.files disk.old name.now ≡ Some b → IfOk result (λ v. v.items ≡ take len (drop at b)) }
+    ensures reads { IsTrue D.tells → OnlyReads (D.files disk.old) (D.files disk.new) (D.opened disk.old) (D.opened disk.new) (D.past disk.old) (D.past disk.new) }
+    ensures faults { D.faults disk.old ≤ D.faults disk.new }
+    ensures cause { IsErrOf result DiskErr.Fault → Rose (D.faults disk.old) (D.faults disk.new) }
+{
+    let mut bytes = vec![in alloc; 0u8; len]?;
+    let count = disk.read(name, at, &mut bytes)?;
+    bytes.truncate(count);
+    Ok(bytes)
+}
+
+// Reads lines of a file from a place on, behind which `rest` bytes of it count: at most as many bytes as one step appends, or, where no
+// line ends in these, one line.
+pub(crate) fn read_lines<D: Disk>(
+    alloc: Global,
+    disk: &mut D,
+    name: &FileName,
+    from: u64,
+    rest: u64,
+) -> Result<Vec<u8>, DiskErr>
+    requires some { 1 ≤ rest }
+    requires there { IsTrue D.tells → HasFile (D.files disk.old) name.now (λ b. from + rest ≤ length b) }
+    ensures chunk { IsTrue D.tells → (b : List ℕ) → D.files disk.old name.now ≡ Some b → IfOk result (λ v. IsChunk (drop from b) rest MOST_BYTES v.items) }
+    ensures reads { IsTrue D.tells → OnlyReads (D.files disk.old) (D.files disk.new) (D.opened disk.old) (D.opened disk.new) (D.past disk.old) (D.past disk.new) }
+    ensures faults { D.faults disk.old ≤ D.faults disk.new }
+    ensures cause { IsErrOf result DiskErr.Fault → Rose (D.faults disk.old) (D.faults disk.new) }
+{
+    let mut want = rest.min(MOST_BYTES as u64);
+    loop {
+        let mut bytes = read(alloc, disk, name, from, want as usize)?;
+        let end = line_len(&bytes);
+        if end < bytes.len() || want == rest {
+            cut_to_line(&mut bytes, end);
+            return Ok(bytes);
+        }
+        want = want.saturating_mul(2).min(rest);
+    }
+}
+
+// Cuts more bytes than one step appends to their first line, whose newline stands at `end`, if there is one.
+fn cut_to_line(bytes: &mut Vec<u8>, end: usize)
+    ensures { bytes.new.items ≡ cut_to_line MOST_BYTES end bytes.old.items }
+{
+    if bytes.len() > MOST_BYTES && end < bytes.len() {
+        bytes.truncate(end + 1);
+    }
+}
