@@ -1,10 +1,13 @@
 //! Writes a raw PB stream to standard output: of a size in bytes, the same at each call.
 //!
-//! `make double BYTES` writes SCALAR_DOUBLE samples at 10 Hz from the start of 2024 on, and
-//! `make waveform BYTES` WAVEFORM_DOUBLE samples of 1,000 elements, one in 10 seconds. Values are a
-//! slow wave with noise in the low bits, so a byte needs an escape about as often as in real data.
+//! `make double BYTES` writes SCALAR_DOUBLE samples at 10 Hz from the start of 2024 on, `make int BYTES`
+//! SCALAR_INT samples at 10 Hz, and `make waveform BYTES` WAVEFORM_DOUBLE samples of 1,000 elements, one in
+//! 10 seconds. Values are a slow wave with noise in the low bits, so a byte needs an escape about as often
+//! as in real data.
 
 use std::io::{self, BufWriter, Write};
+
+const INT: u8 = 5;
 
 /// Noise: a linear congruential generator.
 struct Noise(u64);
@@ -24,7 +27,13 @@ fn put_varint(out: &mut Vec<u8>, mut number: u64) {
     out.push(number as u8);
 }
 
-fn put_value(out: &mut Vec<u8>, elements: usize, sample: u64, noise: &mut Noise) {
+fn put_value(out: &mut Vec<u8>, payload_type: u8, elements: usize, sample: u64, noise: &mut Noise) {
+    if payload_type == INT {
+        out.push(0x1d);
+        let value = 100_000.0 * (sample as f64 / 7000.0).sin() + 1000.0 * noise.next();
+        out.extend_from_slice(&(value as i32).to_le_bytes());
+        return;
+    }
     if elements == 1 {
         out.push(0x19);
     } else {
@@ -57,8 +66,9 @@ fn main() -> io::Result<()> {
     let words: Vec<String> = std::env::args().skip(1).collect();
     let (payload_type, elements, tenths) = match words[0].as_str() {
         "double" => (6, 1, 1),
+        "int" => (INT, 1, 1),
         "waveform" => (13, 1000, 100),
-        other => panic!("double or waveform, and not {other}"),
+        other => panic!("double, int or waveform, and not {other}"),
     };
     let bytes: usize = words[1].parse().expect("a size in bytes");
     let mut out = BufWriter::with_capacity(1 << 16, io::stdout().lock());
@@ -72,7 +82,7 @@ fn main() -> io::Result<()> {
         put_varint(&mut message, sample * tenths / 10);
         message.push(0x10);
         put_varint(&mut message, sample * tenths % 10 * 100_000_000);
-        put_value(&mut message, elements, sample, &mut noise);
+        put_value(&mut message, payload_type, elements, sample, &mut noise);
         if sample % 600 == 0 {
             message.extend_from_slice(&[0x20, 1, 0x28, 3]); // a minor alarm, now and then
         }
