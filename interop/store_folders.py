@@ -7,6 +7,7 @@ Each case takes a place of its own and a source of randomness. One that this acc
 import contextlib
 import fcntl
 import os
+import shutil
 import subprocess
 import time
 
@@ -14,7 +15,7 @@ import store_streams
 from comparing import agree, compare_runs
 from pb_model import Run
 from store_model import Store, complaint
-from store_place import FOLDERS, WHOLE_WORDS, compare_files, compare_listed, compare_whole
+from store_place import FOLDERS, WHOLE_WORDS, compare_files, compare_listed, compare_whole, state_after_break
 
 READING = (["status"], ["check"], ["get", "A", *WHOLE_WORDS])
 NOBODY = 65534
@@ -121,6 +122,42 @@ def readers(rng, place):
     compare_whole(place, model)
 
 
+# Copies
+
+COPIES = 12
+
+
+def copied(place, folder):
+    """A copy of a store beside an ingest, in the order in which it may be taken: what a file needs is copied behind it."""
+    copy = place.elsewhere(folder)
+    copy.site.mkdir(parents=True)
+    for name in ("manifest1", "catalogue"):
+        with contextlib.suppress(FileNotFoundError):  # the ingest hasn't made it yet
+            shutil.copyfile(place.site / name, copy.site / name)
+    if place.short.exists():
+        shutil.copytree(place.short, copy.short, ignore_dangling_symlinks=True)
+    return copy
+
+
+def copies(rng, place):
+    """Copies that are taken while an ingest runs: each is an archive of a front of the stream, by whole chunks."""
+    model = filled(rng, place)
+    stream = store_streams.long_stream(rng, store_streams.long_variables(rng))
+    taken = []
+    with place.kept(stream.text).open("rb") as source:
+        process = subprocess.Popen([place.program, "ingest"], stdin=source, stdout=subprocess.PIPE, stderr=subprocess.PIPE,
+                                   cwd=place.folder, env=place.environment)
+        while process.poll() is None and len(taken) < COPIES:
+            taken.append(copied(place, place.folder / f"copy{len(taken)}"))
+            time.sleep(rng.uniform(0, 0.02))
+        compare_runs(ended(process, None), Run(0, b"", b""))
+    taken.append(copied(place, place.folder / "last"))
+    for copy in taken:
+        state = state_after_break(model, stream.chunks, copy.run("status").output)
+        compare_whole(copy, state)
+        compare_listed(copy, state)
+
+
 # Folders that may not be written
 
 
@@ -182,7 +219,7 @@ def small_disk(folder):
         subprocess.run(["umount", folder], check=True)
 
 
-def full_disk(rng, place, after_kill):
+def full_disk(rng, place):
     """An ingest of more than fits. What is left is a front of the stream, and can be read."""
     small = place.folder / "small"
     for title in FOLDERS:
@@ -196,7 +233,7 @@ def full_disk(rng, place, after_kill):
         lines = ended_at.complaint.split(b"\n")
         agree("complaint", lines[0] + b"\n", complaint("disk failed"))
         agree("its cause", lines[1].split(b": ")[-1], b"No space left on device (os error 28)")
-        model = after_kill(Store(), stream.chunks, place.run("status").output)
+        model = state_after_break(Store(), stream.chunks, place.run("status").output)
         compare_whole(place, model)
         compare_listed(place, model)
 
@@ -242,9 +279,11 @@ def no_file(rng, place):
 CASES = {
     "two ingests": two_ingests,
     "readers": readers,
+    "copies": copies,
     "only read": only_read,
     "no folders": no_folders,
     "named folders": named_folders,
     "one folder": one_folder,
     "no file": no_file,
+    "full disk": full_disk,
 }

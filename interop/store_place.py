@@ -2,6 +2,7 @@
 
 import os
 import subprocess
+import time
 from pathlib import Path
 
 import comparing
@@ -29,6 +30,7 @@ class Place:
         self.kills = 0
         # The words that a run of the program begins with.
         self.before = []
+        self.way = way
         self.prefix = {0: "", 1: f"{folder}/", 2: "below/more/"}[way]
         names = [self.prefix + name for name in ("sts", "mts", "lts", "site")]
         self.short, self.site = folder / names[0], folder / names[3]
@@ -36,6 +38,11 @@ class Place:
         if way:
             settings = {f"ARCHAPPL_{title}_FOLDER": name for title, name in zip(FOLDERS, names)}
             self.environment.update(settings)
+
+    def elsewhere(self, folder):
+        """The same folders below another one."""
+        folder.mkdir()
+        return Place(self.program, folder, self.way)
 
     def run(self, *words, data=b""):
         """A run of the program in the folder."""
@@ -97,6 +104,21 @@ class Place:
 
 
 # Comparisons
+
+
+def state_after_break(model, chunks, told):
+    """The model with a front of the chunks, as `status` tells it after an ingest was broken off. The next one's row may be there."""
+    state = model.copy()
+    now = time.time_ns()
+    for chunk in [None, *chunks]:
+        if chunk is not None:
+            state.register(chunk.header)
+            if state.status().output == told:
+                return state
+            state.take(chunk, now)
+        if state.status().output == told:
+            return state
+    raise Difference(f"no front of the stream gives {told}, behind {model.status().output}")
 
 
 def compare_whole(place, model):

@@ -190,3 +190,8 @@ def long_stream(rng, group):
     counts = [rng.choice((1, 20, 100, 400)) for _ in range(40)] + [3000]
     rng.shuffle(counts)
     return streams.joined(rng, [long_chunk(rng, rng.choice(group), count) for count in counts])
+
+
+def short_stream(rng, group):
+    """A stream of some chunks, whose samples all rise."""
+    return streams.joined(rng, [long_chunk(rng, rng.choice(group), rng.choice((1, 5, 20, 60))) for _ in range(rng.randrange(1, 12))])
