@@ -194,6 +194,7 @@ fn read_header(message: &[u8]) -> Result<Header, Fault> {
 }
 
 /// The moment of a sample, which is checked in full.
+#[inline(never)]
 fn read_sample(header: &Header, message: &[u8]) -> Result<u64, Fault> {
     let (element, repeated) = layout(header.payload_type);
     let (mut secs, mut nano, mut val, mut whole) = (None, None, repeated, true);
@@ -218,33 +219,46 @@ fn read_sample(header: &Header, message: &[u8]) -> Result<u64, Fault> {
 }
 
 /// The message that a line means: the line itself where nothing in it is escaped.
+#[inline(never)]
 fn unescape<'a>(line: &'a [u8], work: &'a mut Vec<u8>) -> Result<&'a [u8], Fault> {
-    if !line.contains(&0x1b) {
+    let Some(mut at) = line.iter().position(|&byte| byte == 0x1b) else {
         return Ok(line);
-    }
+    };
     work.clear();
-    let mut bytes = line.iter();
-    while let Some(byte) = bytes.next() {
-        work.push(match byte {
-            0x1b => match bytes.next() {
-                Some(1) => 0x1b,
-                Some(2) => 0x0a,
-                Some(3) => 0x0d,
-                _ => return Err(BAD_ESCAPE),
-            },
-            other => *other,
+    let mut rest = line;
+    loop {
+        work.extend_from_slice(&rest[..at]);
+        work.push(match rest.get(at + 1) {
+            Some(1) => 0x1b,
+            Some(2) => 0x0a,
+            Some(3) => 0x0d,
+            _ => return Err(BAD_ESCAPE),
         });
+        rest = &rest[at + 2..];
+        match rest.iter().position(|&byte| byte == 0x1b) {
+            Some(next) => at = next,
+            None => {
+                work.extend_from_slice(rest);
+                return Ok(work);
+            }
+        }
     }
-    Ok(work)
 }
 
-/// The number at the front, and what stands behind it.
+/// The number of at most five bytes at the front, and what stands behind it.
+#[inline(always)]
 fn short_varint(bytes: &[u8]) -> Option<(u64, &[u8])> {
-    let mut number = 0;
-    for (i, &byte) in bytes.iter().take(5).enumerate() {
-        number |= u64::from(byte & 127) << (7 * i);
+    let (&byte, mut rest) = bytes.split_first()?;
+    let mut number = u64::from(byte & 127);
+    if byte < 128 {
+        return Some((number, rest));
+    }
+    for shift in [7, 14, 21, 28] {
+        let (&byte, behind) = rest.split_first()?;
+        rest = behind;
+        number |= u64::from(byte & 127) << shift;
         if byte < 128 {
-            return Some((number, &bytes[i + 1..]));
+            return Some((number, rest));
         }
     }
     None
@@ -255,13 +269,14 @@ fn short_varint(bytes: &[u8]) -> Option<(u64, &[u8])> {
 fn usual_sample(element: Element, message: &[u8]) -> Option<(u32, u32)> {
     let (secs, rest) = short_varint(message.strip_prefix(&[0x08])?)?;
     let (nano, rest) = short_varint(rest.strip_prefix(&[0x10])?)?;
-    let rest = match element {
-        Element::Fixed64 => rest.strip_prefix(&[0x19])?.get(8..)?,
-        Element::Fixed32 => rest.strip_prefix(&[0x1d])?.get(4..)?,
-        Element::Sint => short_varint(rest.strip_prefix(&[0x18])?)?.1,
-        Element::Bytes => return None,
+    let &tag = rest.first()?;
+    let is_whole = match element {
+        Element::Fixed64 => tag == 0x19 && rest.len() == 9,
+        Element::Fixed32 => tag == 0x1d && rest.len() == 5,
+        Element::Sint => tag == 0x18 && short_varint(&rest[1..])?.1.is_empty(),
+        Element::Bytes => false,
     };
-    rest.is_empty().then_some((secs as u32, nano as u32))
+    is_whole.then_some((secs as u32, nano as u32))
 }
 
 /// Of 16 bytes, which are newlines and which are escapes: a bit for each.
@@ -362,11 +377,12 @@ impl Extraction {
         if bare.is_empty() {
             return Ok(self.end_chunk());
         }
-        let t = match (!escaped && chunk.usual).then(|| usual_sample(chunk.element, bare)).flatten() {
+        let message = if escaped { unescape(bare, &mut self.work)? } else { bare };
+        let t = match chunk.usual.then(|| usual_sample(chunk.element, message)).flatten() {
             Some((secs, nano)) if secs < chunk.header.length && nano < 1_000_000_000 => {
                 chunk.header.start + u64::from(secs) * 1_000_000_000 + u64::from(nano)
             }
-            _ => general_sample(&chunk.header, bare, &mut self.work)?,
+            _ => read_sample(&chunk.header, message)?,
         };
         if chunk.last.is_some_and(|last| t <= last) {
             return Ok(Wish::Nothing);
@@ -418,11 +434,6 @@ impl Extraction {
     }
 }
 
-#[inline(never)]
-fn general_sample(header: &Header, bare: &[u8], work: &mut Vec<u8>) -> Result<u64, Fault> {
-    read_sample(header, unescape(bare, work)?)
-}
-
 /// Lines in one buffer, those of it that are to be written, and where they go.
 struct Stream<W> {
     buffer: Vec<u8>,
@@ -449,6 +460,7 @@ impl<W: Write> Stream<W> {
         Ok(())
     }
 
+    #[inline(never)]
     fn wish(&mut self, wish: Wish, line: Range<usize>, earlier: &[u8]) -> io::Result<()> {
         match wish {
             Wish::Write => self.keep(line),
@@ -497,7 +509,11 @@ fn run<W: Write>(number: &mut u64, from: u64, to: u64, stream: &mut Stream<W>) -
             }
             let wish = extraction.line(&stream.buffer[line.clone()], escaped)?;
             stream.begin = line.end;
-            stream.wish(wish, line, extraction.earlier())?;
+            if let Wish::Write = wish {
+                stream.keep(line)?;
+            } else {
+                stream.wish(wish, line, extraction.earlier())?;
+            }
         }
         let held = stream.end - stream.begin;
         if held > MAX_LINE || !stream.fill(&mut input)? {
