@@ -2,6 +2,7 @@ pub mod Fields
 pub mod Periods
 pub mod Calls
 pub mod ReadLemmas
+pub mod Waiting
 pub mod Readings
 pub mod Answering
 pub mod QueryLemmas
@@ -10,3 +11,4 @@ pub mod Digits
 pub mod Chunking
 pub mod Sending
 pub mod Standing
+pub mod Taking

@@ -1,6 +1,6 @@
 -- What the bytes that were taken are answered.
 use Rattle.std.proofs.Common.{◌≡◌, ℕ, ◌+◌, ◌-◌, ◌<◌, ◌≤◌, List, [], ◌++◌, Option, Some, None, Result, Ok, Err, length, take, drop, sym, ap, ◌∙◌, subst, inl, inr, arith}
-use Rattle.std.specs.Prelude.{codes, IfOk, IfSome}
+use Rattle.std.specs.Prelude.{◌⊎◌, codes, IfOk, IfSome, IfNone}
 use Rattle.std.specs.Io.KnownBytes.{Consumes, ReadConsumes}
 use Rattle.std.proofs.KnownBytes.{Consumes-nil, Consumes-trans}
 use Rattle.std.proofs.lemmas.List.{length-take, take-append-le}
@@ -14,7 +14,7 @@ use Rattle.http_front.specs.declared.reading.Due.{Due}
 use Rattle.http_front.specs.declared.reading.Due.TheVariants as due
 use Rattle.http_front.specs.Calls.{Answers, CallOf}
 use Rattle.http_front.specs.Heads.{BeginsWith, IsUnfinished}
-use Rattle.http_front.specs.Reading.{Judges, HasRead, ReadsBehind, NoHeadYet}
+use Rattle.http_front.specs.Reading.{AnswersHead, Judges, HasRead, ReadsBehind, GoesOn, NoHeadYet}
 
 bad_is_no_fault : (a : Result Request HttpErr) → a ≡ Err BadHead → a ≡ Err SourceFault → ⊥
 bad_is_no_fault a p q = cc
@@ -35,7 +35,7 @@ refused method target minor Memory get h = (get, h)
 -- a head is there
 pub head_judged : (taken method target : List ℕ) (minor : ℕ) (Ended : Type 0) (a : Result Request HttpErr) → BeginsWith taken method target minor → Answers method target minor a → Judges taken Ended a
 head_judged taken method target minor Ended (Ok request) b x = record { method = method; target = target; minor = minor; begins = b; answers = x }
-head_judged taken method target minor Ended (Err SourceFault) b x = tt
+head_judged taken method target minor Ended (Err SourceFault) b x = absurd x.1
 head_judged taken method target minor Ended (Err BadHead) b x = absurd x.1
 head_judged taken method target minor Ended (Err HeadTooLong) b x = absurd x.1
 head_judged taken method target minor Ended (Err BadMethod) b x = record { method = method; target = target; minor = minor; begins = b; answers = x }
@@ -63,6 +63,29 @@ maybe_judged taken why (Some a) unfinished full h = none_judged taken why a unfi
 pub maybe_unfailed : (why : Due) (r : Option (Result Request HttpErr)) → IfSome r (NoHeadYet why) → IfSome r (λ (a : Result Request HttpErr). a ≡ Err SourceFault → ⊥)
 maybe_unfailed why None h = tt
 maybe_unfailed why (Some a) h = none_unfailed why a h
+
+bad_is_no_want : (a : Result Request HttpErr) → a ≡ Err BadHead → a ≡ Err Memory → ⊥
+bad_is_no_want a p q = cc
+
+long_is_no_want : (a : Result Request HttpErr) → a ≡ Err HeadTooLong → a ≡ Err Memory → ⊥
+long_is_no_want a p q = cc
+
+none_wanting : (why : Due) (a : Result Request HttpErr) → NoHeadYet why a → a ≡ Err Memory → ⊥
+none_wanting why a (inl bad) e = bad_is_no_want a bad.1 e
+none_wanting why a (inr long) e = long_is_no_want a long.1 e
+
+-- memory doesn't run out where no head is there
+pub maybe_wanting : (taken : List ℕ) (why : Due) (r : Option (Result Request HttpErr)) → IfSome r (NoHeadYet why) → IfSome r (λ (a : Result Request HttpErr). a ≡ Err Memory → AnswersHead taken a)
+maybe_wanting taken why None h = tt
+maybe_wanting taken why (Some a) h = λ e. absurd (none_wanting why a h e)
+
+goes_on : (taken : List ℕ) (why : Due) → IsUnfinished taken → (why ≡ due.Nothing) ⊎ (why ≡ due.Newline) → GoesOn why taken
+goes_on taken why unfinished (inl is) = subst (λ (w : Due). GoesOn w taken) (sym is) tt
+goes_on taken why unfinished (inr is) = subst (λ (w : Due). GoesOn w taken) (sym is) unfinished
+
+pub maybe_on : (taken : List ℕ) (why : Due) (r : Option (Result Request HttpErr)) → IsUnfinished taken → IfNone r ((why ≡ due.Nothing) ⊎ (why ≡ due.Newline)) → IfNone r (GoesOn why taken)
+maybe_on taken why None unfinished h = goes_on taken why unfinished h
+maybe_on taken why (Some a) unfinished h = tt
 
 -- the parts by other names
 pub begins_so : (taken method target method' target' : List ℕ) (minor : ℕ) → method' ≡ method → target' ≡ target → BeginsWith taken method target minor → BeginsWith taken method' target' minor

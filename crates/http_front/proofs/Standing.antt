@@ -12,7 +12,7 @@ use Rattle.edge_io.specs.declared.stream.Failed.{Failed}
 use Rattle.http_front.specs.Sends.{Sends}
 use Rattle.http_front.proofs.Chunking.{chunked_joined, chunked_short, full_behind}
 
-both : (a b : Bool) → a && b ≡ true → (a ≡ true) × (b ≡ true)
+pub both : (a b : Bool) → a && b ≡ true → (a ≡ true) × (b ≡ true)
 both true b h = (refl, h)
 both false b h = cc
 
@@ -46,7 +46,7 @@ has_got_sent : (start a b : Option (List ℕ)) (text p q : List ℕ) → Sends a
 has_got_sent start a b text p q sends h =
     has_got_kept start (append_known a p) (append_known b q) text (append_known-moved a b sends.0 q p sends.2 sends.1) h
 
-full_of : (taken : List ℕ) → is_full taken ≡ true → length taken ≡ 8192 * full_in taken
+pub full_of : (taken : List ℕ) → is_full taken ≡ true → length taken ≡ 8192 * full_in taken
 full_of taken h = let e = h in search rules
 
 is_full_of : (taken : List ℕ) → length taken ≡ 8192 * full_in taken → is_full taken ≡ true

@@ -1,7 +1,7 @@
 -- What is behind a sink of a body: the link, and the text that goes to it. The list that tells it has five parts, of which a write keeps
 -- the first four: 1 while the text goes out in chunks, and 0 where it goes out as it is; the name of the reference to the link; 1 where
 -- the link tells what it has, and else 0; how many bytes the link had before the body; and those bytes, and then the body.
-use Rattle.std.specs.Prelude.{◌≡◌, ◌⊎◌, ℕ, Result, Ok, Err, IsSomeAnd, ◌*◌, ◌==◌, ◌&&◌, ◌||◌, not, Bool, true, false, List, [], ◌∷◌, ◌++◌, Option, Some, None, length, take, drop, bytes_eq, if◌then◌else◌, ⊤}
+use Rattle.std.specs.Prelude.{◌≡◌, ◌⊎◌, ℕ, Result, Ok, Err, IsSomeAnd, ◌*◌, ◌-◌, ◌/◌, ◌%◌, min, ◌==◌, ◌&&◌, ◌||◌, not, Bool, true, false, List, [], ◌∷◌, ◌++◌, Option, Some, None, length, take, drop, bytes_eq, if◌then◌else◌, ⊤}
 use Rattle.std.specs.Io.KnownBytes.{append_known}
 use Rattle.edge_io.specs.declared.stream.Failed.{Failed}
 use Rattle.http_front.specs.Chunks.{full_chunks, full_in, chunked}
@@ -70,6 +70,32 @@ ended text = text
 abbrev pub told_of : List ℕ → ℕ
 told_of (mode ∷ name ∷ told ∷ more) = told
 told_of text = 0
+
+-- the body of a text in chunks, as far as it has come
+abbrev pub body_of : List ℕ → List ℕ
+body_of (mode ∷ name ∷ told ∷ before ∷ text) = drop before text
+body_of text = []
+
+-- whether the text goes out in chunks
+abbrev pub mode_of : List ℕ → ℕ
+mode_of (mode ∷ more) = mode
+mode_of text = 0
+
+-- How many bytes there is room for in the chunk that the next byte of a body stands in.
+abbrev pub room_of : List ℕ → ℕ
+room_of told = 8192 - length (body_of told) % 8192
+
+-- What the link has once a write ended well: of a body each full chunk behind which something was taken, and else all of the text.
+abbrev pub sent_of : List ℕ → List ℕ
+sent_of (mode ∷ name ∷ told ∷ before ∷ text) = if mode == 0 then text else take before text ++ full_chunks ((length (drop before text) - 1) / 8192) (drop before text)
+sent_of text = []
+
+-- Of so many bytes this many are taken, in chunks as many as there is room for; and those that go out as they are, are written then.
+abbrev pub Takes : Option (List ℕ) → Option (List ℕ) → Option (List ℕ) → ℕ → Result ℕ Failed → Type 0
+Takes None new now most result = ⊤
+Takes (Some told) None now most result = ⊤
+Takes (Some told) (Some more) now most (Ok count) = (mode_of told ≡ 1 → count ≡ min most (room_of told)) × (told_of more ≡ 1 → now ≡ Some (sent_of more))
+Takes (Some told) (Some more) now most (Err e) = ⊤
 
 -- What the end of a body comes to: at Ok the link has all of it, and else the end has begun or hasn't.
 abbrev pub EndsBody : Option (List ℕ) → Option (List ℕ) → Option (List ℕ) → Result Unit Failed → Type 0

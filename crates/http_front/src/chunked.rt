@@ -84,6 +84,7 @@ impl<'a, K: Sink> ChunkedSink<'a, K> {
         ensures same_reference { self.new.link.ghost_name ≡ self.old.link.ghost_name }
         ensures kept { Keeps (⟦<ChunkedSink<'a, K> as Sink>⟧.written self.old) (⟦<ChunkedSink<'a, K> as Sink>⟧.written self.new) }
         ensures room { (self.new.in_chunks ≡ true) × (array_vec_len self.new.held < 8192) }
+        ensures out { OnOk result (drop self.new.from self.new.room.items ≡ []) }
         ensures faults { K.write_faults self.old.link.now ≤ K.write_faults self.new.link.now }
         ensures failed { OnErr result (Rose (K.write_faults self.old.link.now) (K.write_faults self.new.link.now)) }
     {
@@ -143,6 +144,8 @@ impl<'a, K: Sink> ChunkedSink<'a, K> {
         requires plain { self.old.in_chunks ≡ false }
         requires out { drop self.old.from self.old.room.items ≡ [] }
         requires some { 0 < length bytes.now }
+        ensures same_reference { self.new.link.ghost_name ≡ self.old.link.ghost_name }
+        ensures rest { (self.new.in_chunks ≡ false) × (drop self.new.from self.new.room.items ≡ []) }
         ensures least { IfOk result (λ n. 0 < n) }
         ensures bound { IfOk result (λ n. n ≤ length bytes.now) }
         ensures bytes { WriteAppends (⟦<ChunkedSink<'a, K> as Sink>⟧.written self.old) (⟦<ChunkedSink<'a, K> as Sink>⟧.written self.new) result bytes.now }
@@ -161,13 +164,24 @@ impl<'a, K: Sink> ChunkedSink<'a, K> {
 }
 
 impl<'a, K: Sink> Sink for ChunkedSink<'a, K> {
-    ghost use Rattle.http_front.specs.Behind.{written_behind};
+    ghost use Rattle.http_front.specs.Behind.{written_behind, Takes};
 
     ghost written = { λ s. written_behind (K.written s.start.value) (K.written s.link.now) s.link.ghost_name s.in_chunks s.taken.bytes s.held.items (drop s.from s.room.items) };
 
     ghost write_faults = { λ s. K.write_faults s.link.now };
 
-    fn write(&mut self, bytes: &[u8]) -> Result<usize, Failed> {
+    /// Takes the first bytes: in chunks as many as there is room for in the chunk that they stand in, which goes out once more comes;
+    /// and as it is as many as the link takes in one write.
+    fn write(&mut self, bytes: &[u8]) -> Result<usize, Failed>
+        requires { 0 < length bytes.now }
+        ensures least { IfOk result (λ n. 0 < n) }
+        ensures bound { IfOk result (λ n. n ≤ length bytes.now) }
+        ensures bytes { WriteAppends (⟦<ChunkedSink<'a, K> as Sink>⟧.written self.old) (⟦<ChunkedSink<'a, K> as Sink>⟧.written self.new) result bytes.now }
+        ensures faults { K.write_faults self.old.link.now ≤ K.write_faults self.new.link.now }
+        ensures failed { OnErr result (Rose (K.write_faults self.old.link.now) (K.write_faults self.new.link.now)) }
+        ensures same_reference { self.new.link.ghost_name ≡ self.old.link.ghost_name }
+        ensures takes { Takes (⟦<ChunkedSink<'a, K> as Sink>⟧.written self.old) (⟦<ChunkedSink<'a, K> as Sink>⟧.written self.new) (K.written self.new.link.now) (length bytes.now) result }
+    {
         self.flush()?;
         if !self.in_chunks {
             return self.pass(bytes);

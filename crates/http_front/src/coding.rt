@@ -1,5 +1,5 @@
 // Chunks, and writes that go on where an earlier one stopped.
-ghost use Rattle.std.specs.Prelude.{◌≡◌, ◌+◌, ◌<◌, ◌≤◌, ◌++◌, [], length, take, drop, OnOk, OnErr, false};
+ghost use Rattle.std.specs.Prelude.{◌≡◌, ◌+◌, ◌-◌, min, ◌<◌, ◌≤◌, ◌++◌, [], length, take, drop, OnOk, OnErr, false};
 ghost use Rattle.std.specs.Fmt.{digits};
 ghost use Rattle.std.specs.Char.{digit_char};
 ghost use Rattle.arrayvec.specs.ArrayVec.{array_vec_len};
@@ -118,6 +118,7 @@ pub fn gather(held: &mut ArrayVec<u8, CHUNK>, bytes: &[u8]) -> usize
     requires some { 0 < length bytes.now }
     ensures least { 0 < result }
     ensures within { result ≤ length bytes.now }
+    ensures count { result ≡ min (length bytes.now) (8192 - array_vec_len held.old) }
     ensures items { held.new.items ≡ held.old.items ++ take result bytes.now }
 {
     let count = bytes.len().min(CHUNK - held.len());

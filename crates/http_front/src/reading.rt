@@ -1,9 +1,8 @@
 //! Reading a request from a source.
-ghost use Rattle.std.specs.Prelude.{◌≡◌, ◌≢◌, ℕ, ◌+◌, ◌<◌, ◌≤◌, ◌++◌, List, length, take, IfOk, IfSome, IfNone, OnErr, IsErrOf};
-ghost use Rattle.std.specs.Io.KnownBytes.{Consumes, Keeps, IsAtEnd};
+ghost use Rattle.std.specs.Prelude.{◌≡◌, ◌≢◌, ◌⊎◌, ◌+◌, ◌<◌, ◌≤◌, length, take, true, false, IfOk, IfSome, IfNone, OnErr, IsErrOf};
 ghost use Rattle.edge_io.specs.Stream.{Rose};
-ghost use Rattle.http_front.specs.Reading.{Judges, HasRead, ReadsBehind, GoesOn, NoHeadYet};
-ghost use Rattle.http_front.specs.declared.reading.Due.TheVariants.{End, Limit};
+ghost use Rattle.http_front.specs.Reading.{Judges, HasRead, TookHead, AnswersHead, Waits, ReadsBehind, GoesOn, NoHeadYet};
+ghost use Rattle.http_front.specs.declared.reading.Due.TheVariants.{Nothing, Newline, End, Limit};
 
 use crate::call::answer_of;
 use crate::head::{Seen, look};
@@ -29,10 +28,14 @@ enum Due {
 
 /// Reads one request, and takes at most 16,384 bytes.
 ///
-/// The bytes are parsed where a read brought a newline, where the source ended and where no more
-/// are taken. `SourceFault` comes only where the source's count of failed reads rose.
+/// The bytes are parsed after a read that brought a newline, after the one that found the end, and
+/// where no more are taken. So nothing is read once a whole head was, and what can't become a head
+/// is refused with the next newline. `SourceFault` comes only where the source's count of failed
+/// reads rose, and before a whole head was read. `Memory` comes before anything was read, or where
+/// a whole head was.
 pub fn read_request<S: Source>(alloc: Global, source: &mut S) -> Result<Request, HttpErr>
     ensures read { HasRead (S.left source.old) (S.left source.new) result }
+    ensures memory { IsErrOf result HttpErr.Memory → (source.new ≡ source.old) ⊎ TookHead (S.left source.old) (S.left source.new) }
     ensures faults { S.read_faults source.old ≤ S.read_faults source.new }
     ensures failed { IsErrOf result HttpErr.SourceFault → Rose (S.read_faults source.old) (S.read_faults source.new) }
 {
@@ -55,6 +58,7 @@ fn read_into<S: Source>(
     requires bytes { length bytes.old ≡ 16384 }
     requires room { 8192 ≤ length fields.old }
     ensures read { HasRead (S.left source.old) (S.left source.new) result }
+    ensures memory { IsErrOf result HttpErr.Memory → TookHead (S.left source.old) (S.left source.new) }
     ensures faults { S.read_faults source.old ≤ S.read_faults source.new }
     ensures failed { IsErrOf result HttpErr.SourceFault → Rose (S.read_faults source.old) (S.read_faults source.new) }
 {
@@ -75,9 +79,10 @@ fn read_into<S: Source>(
 
 // What a read makes due that gave so many bytes, of so many in all, with a newline among them or not.
 fn due_after(more: usize, len: usize, is_line: bool) -> Due
+    ensures nothing { result ≡ Nothing → (is_line ≡ false) × (0 < more) × (len ≢ 16384) }
+    ensures newline { result ≡ Newline → (is_line ≡ true) × (0 < more) × (len ≢ 16384) }
     ensures end { result ≡ End → more ≡ 0 }
-    ensures limit { result ≡ Limit → len ≡ 16384 }
-    ensures goes_on { GoesOn result → (0 < more) × (len ≢ 16384) }
+    ensures limit { result ≡ Limit → (0 < more) × (len ≡ 16384) }
 {
     if more == 0 {
         return Due::End;
@@ -103,7 +108,8 @@ fn judge(
     requires limit { due ≡ Limit → length taken.now ≡ 16384 }
     ensures some { IfSome result (Judges taken.now (due ≡ End)) }
     ensures unfailed { IfSome result (λ answer. IsErrOf answer HttpErr.SourceFault → ⊥) }
-    ensures none { IfNone result (GoesOn due) }
+    ensures memory { IfSome result (λ answer. IsErrOf answer HttpErr.Memory → AnswersHead taken.now answer) }
+    ensures none { IfNone result (GoesOn due taken.now) }
 {
     if let Due::Nothing = due {
         return None;
@@ -122,7 +128,7 @@ fn judge(
 // What bytes without a head are answered, if no more come.
 fn more_or_none(due: Due) -> Option<Result<Request, HttpErr>>
     ensures some { IfSome result (NoHeadYet due) }
-    ensures none { IfNone result (GoesOn due) }
+    ensures none { IfNone result ((due ≡ Nothing) ⊎ (due ≡ Newline)) }
 {
     match due {
         Due::Nothing | Due::Newline => None,
@@ -131,9 +137,10 @@ fn more_or_none(due: Due) -> Option<Result<Request, HttpErr>>
     }
 }
 
-// Reads behind the first bytes, and answers how many more there are.
+// Reads behind the first bytes, which want more, and answers how many more there are.
 fn read_behind<S: Source>(bytes: &mut [u8], len: usize, source: &mut S) -> Result<usize, Failed>
-    requires { len < length bytes.old }
+    requires room { len < length bytes.old }
+    requires waits { Waits (take len bytes.old) }
     ensures bound { IfOk result (λ more. len + more ≤ length bytes.old) }
     ensures read { ReadsBehind bytes.old bytes.new len (S.left source.old) (S.left source.new) result }
     ensures faults { S.read_faults source.old ≤ S.read_faults source.new }

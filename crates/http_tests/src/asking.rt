@@ -9,11 +9,12 @@ use std::fmt::Write as _;
 use std::process::Abort;
 use std::test::Fail;
 
-// A source that gives at most so many bytes a read.
+// A source that gives at most so many bytes a read, and counts its reads.
 #[derive(Drop)]
 pub struct Pieces {
     pub source: MemSource,
     pub most: usize,
+    pub reads: u64,
 }
 
 impl Source for Pieces {
@@ -22,6 +23,7 @@ impl Source for Pieces {
     ghost read_faults = { λ s. ⟦<MemSource as Source>⟧.read_faults s.source };
 
     fn read(&mut self, buf: &mut [u8]) -> Result<usize, Failed> {
+        self.reads = self.reads.saturating_add(1);
         let most = self.most.max(1).min(buf.len());
         self.source.read(&mut buf[..most])
     }
@@ -33,6 +35,7 @@ pub fn expect(rt: &impl Abort, alloc: Global, bytes: &[u8], wanted: &str) -> Res
         let mut source = Pieces {
             source: MemSource::new(alloc, bytes, &[])?,
             most,
+            reads: 0,
         };
         let text = answer_to(alloc, &mut source)?;
         assert_eq!(rt; text.as_str(), wanted, "at {bytes:?} in pieces of {most}");

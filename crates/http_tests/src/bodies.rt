@@ -40,6 +40,24 @@ impl Sink for Stubborn {
     }
 }
 
+// A sink whose writes are counted.
+#[derive(Drop)]
+struct Counted {
+    inner: MemSink,
+    writes: u64,
+}
+
+impl Sink for Counted {
+    ghost written = { λ s. ⟦<MemSink as Sink>⟧.written s.inner };
+
+    ghost write_faults = { λ s. ⟦<MemSink as Sink>⟧.write_faults s.inner };
+
+    fn write(&mut self, bytes: &[u8]) -> Result<usize, Failed> {
+        self.writes = self.writes.saturating_add(1);
+        self.inner.write(bytes)
+    }
+}
+
 fn body_of(alloc: Global, len: u32) -> Result<Vec<u8>, Fail> {
     let mut body = Vec::new(alloc);
     for i in 0..len {
@@ -164,5 +182,56 @@ fn pieces_of_a_body_are_joined(rt: HostRuntime) -> Result<(), Fail> {
     let mut link = MemSink::new(rt.alloc(), ROOM, &[])?;
     assert_eq!(&rt; write_pieces(&mut link), Ok(()));
     assert_eq!(&rt; link.bytes(), b"7\r\nabcdefg\r\n0\r\n\r\nHTTP".as_slice());
+    Ok(())
+}
+
+// Writes a piece, and answers how much of it was taken.
+fn write_piece<K: Sink>(link: &mut K, version: u8, piece: &[u8]) -> Result<usize, Failed> {
+    if piece.is_empty() {
+        return Ok(0);
+    }
+    let mut sink = ChunkedSink::new(link, version);
+    sink.write(piece)
+}
+
+#[test]
+fn a_body_as_it_is_is_written_at_once(rt: HostRuntime) -> Result<(), Fail> {
+    for len in [1, 7, 8_192, 8_193, 20_000] {
+        let body = body_of(rt.alloc(), len)?;
+        let mut link = MemSink::new(rt.alloc(), ROOM, &[])?;
+        assert_eq!(&rt; write_piece(&mut link, 0, &body), Ok(body.len()));
+        assert!(&rt; link.bytes() == body.as_slice());
+    }
+    Ok(())
+}
+
+// Writes a full chunk and more, and its end, each once, however it ends, and answers how many of the two failed.
+fn write_both<K: Sink>(link: &mut K, version: u8, body: &[u8]) -> u64 {
+    let mut sink = ChunkedSink::new(link, version);
+    let first = write_whole(&mut sink, body).is_err();
+    let second = sink.finish().is_err();
+    u64::from(first) + u64::from(second)
+}
+
+#[test]
+fn a_failed_write_is_not_tried_again(rt: HostRuntime) -> Result<(), Fail> {
+    let body = body_of(rt.alloc(), 10_000)?;
+    // The version, the writes that fail, how many calls fail then, and how many writes there are in all.
+    let table: [(u8, &[u64], u64, u64); 6] = [
+        (1, &[], 0, 2),
+        (1, &[1], 1, 3),
+        (1, &[1, 2], 2, 2),
+        (1, &[2], 1, 2),
+        (0, &[], 0, 1),
+        (0, &[1], 1, 1),
+    ];
+    for (version, failing, failures, writes) in table {
+        let mut link = Counted {
+            inner: MemSink::new(rt.alloc(), ROOM, failing)?,
+            writes: 0,
+        };
+        assert_eq!(&rt; write_both(&mut link, version, &body), failures);
+        assert_eq!(&rt; link.writes, writes);
+    }
     Ok(())
 }

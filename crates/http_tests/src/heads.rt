@@ -116,9 +116,7 @@ fn a_head_has_at_most_16384_bytes(rt: HostRuntime) -> Result<(), Fail> {
     }
     // 30 bytes and 3 for each field
     for (count, wanted) in [(5_451usize, "1 flush"), (5_452, "E28"), (8_192, "E28")] {
-        let mut source = MemSource::new(rt.alloc(), &head_of_fields(rt.alloc(), count)?, &[])?;
-        let text = answer_to(rt.alloc(), &mut source)?;
-        assert_eq!(rt; text.as_str(), wanted, "at {count} fields");
+        expect(&rt, rt.alloc(), &head_of_fields(rt.alloc(), count)?, wanted)?;
     }
     Ok(())
 }
@@ -133,6 +131,7 @@ fn a_target_without_end_is_taken_no_further(rt: HostRuntime) -> Result<(), Fail>
         let mut source = Pieces {
             source: MemSource::new(rt.alloc(), &bytes, &[])?,
             most,
+            reads: 0,
         };
         let text = answer_to(rt.alloc(), &mut source)?;
         assert_eq!(rt; text.as_str(), "E28");
@@ -152,5 +151,42 @@ fn nothing_is_read_behind_a_head(rt: HostRuntime) -> Result<(), Fail> {
     let mut source = MemSource::new(rt.alloc(), head, &[1])?;
     let text = answer_to(rt.alloc(), &mut source)?;
     assert_eq!(rt; text.as_str(), "fault");
+    Ok(())
+}
+
+#[test]
+fn a_source_is_read_no_more_often_than_it_must_be(rt: HostRuntime) -> Result<(), Fail> {
+    let head = b"GET /mgmt/bpl/flush HTTP/1.1\r\n\r\n".as_slice();
+    let more =
+        b"GET /mgmt/bpl/flush HTTP/1.1\r\n\r\nGET /mgmt/bpl/flush HTTP/1.1\r\n\r\n".as_slice();
+    let bad = b"\x00GET / HTTP/1.1\r\n\r\n".as_slice();
+    let endless = vec![in rt.alloc(); b'a'; 20_000]?;
+    let table: [(&[u8], usize, u64); 12] = [
+        // up to the end of the head
+        (head, 1, 32),
+        (head, 7, 5),
+        (head, 65_536, 1),
+        (more, 1, 32),
+        (more, 7, 5),
+        (more, 65_536, 1),
+        // up to the newline behind what no head begins with
+        (bad, 1, 17),
+        (bad, 7, 3),
+        (bad, 65_536, 1),
+        // up to the end, which is one read more
+        (b"\x00GET", 1, 5),
+        // up to 16,384 bytes
+        (endless.as_slice(), 7, 2_341),
+        (endless.as_slice(), 65_536, 1),
+    ];
+    for (bytes, most, wanted) in table {
+        let mut source = Pieces {
+            source: MemSource::new(rt.alloc(), bytes, &[])?,
+            most,
+            reads: 0,
+        };
+        answer_to(rt.alloc(), &mut source)?;
+        assert_eq!(rt; source.reads, wanted, "in pieces of {most}");
+    }
     Ok(())
 }

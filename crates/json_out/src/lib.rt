@@ -10,6 +10,8 @@
 //! and a newline. Strings are written by `serde_json` and numbers by `itoa`; the members of objects stand in the order of the text
 //! above, so no tree of values is made.
 //!
+//! `put_string`, `put_number` and `put_array` append values of other JSON texts to bytes; what an array may have is an `Element`.
+//!
 //! Model: the sink, what is gathered for it, and of the text the samples' type and whether one was given.
 //!
 //! Caveats: floating-point numbers are written as their bits, since a decimal number would not tell them exactly. The names of one
@@ -26,3 +28,4 @@ mod output;
 mod value;
 
 pub use output::JsonOut;
+pub use value::{Element, Number, put_array, put_number, put_string};

@@ -50,6 +50,11 @@ impl<'a, K: Sink> JsonOut<'a, K> {
 }
 
 impl<'a, K: Sink> Out for JsonOut<'a, K> {
+    ghost use Rattle.std.specs.Prelude.{List, ◌∷◌};
+    ghost use Rattle.series_model.specs.declared.sample.Sample.{Sample};
+    ghost use Rattle.act_model.specs.Event.{AreEvents};
+    ghost use Rattle.act_model.specs.Out.{Subject, MayGive};
+
     ghost gave = { λ before subject xs now. (now.sink.ghost_name ≡ before.sink.ghost_name) × Gives (K.written before.sink.now) (K.written now.sink.now) before.buffer now.buffer now.ty now.later subject xs };
 
     ghost finished = { λ before subject xs now. (now.sink.ghost_name ≡ before.sink.ghost_name) × Finishes (K.written before.sink.now) (K.written now.sink.now) before.buffer now.buffer subject xs };
@@ -58,7 +63,14 @@ impl<'a, K: Sink> Out for JsonOut<'a, K> {
 
     ghost faults = { λ out. K.write_faults out.sink.now };
 
-    fn begin(&mut self, name: &[u8], about: &About, _query: Query) -> Result<(), OutErr> {
+    /// At `Memory` nothing of the text was taken; what was gathered before may have gone out in part.
+    fn begin(&mut self, name: &[u8], about: &About, _query: Query) -> Result<(), OutErr>
+        ensures begun { OnOk result (⟦<JsonOut<'a, K> as Out>⟧.gave self.old (record { name = name.now; about = about.now; query = _query }) [] self.new) }
+        ensures broken { OnErr result ((all : List Sample) → AreEvents about.now.ty all → ⟦<JsonOut<'a, K> as Out>⟧.broke self.old (record { name = name.now; about = about.now; query = _query }) all self.new) }
+        ensures faults { K.write_faults self.old.sink.now ≤ K.write_faults self.new.sink.now }
+        ensures cause { IsErrOf result OutErr.SinkFault → Rose (K.write_faults self.old.sink.now) (K.write_faults self.new.sink.now) }
+        ensures memory { IsErrOf result OutErr.Memory → Sends (K.written self.old.sink.now) (K.written self.new.sink.now) self.old.buffer self.new.buffer }
+    {
         self.piece.clear();
         let Ok(()) = put_head(self.alloc, name, about.headers.items(), &mut self.piece) else {
             return Err(OutErr::Memory);
@@ -69,7 +81,16 @@ impl<'a, K: Sink> Out for JsonOut<'a, K> {
         Ok(())
     }
 
-    fn sample(&mut self, t: u64, line: &[u8]) -> Result<(), OutErr> {
+    /// At `Memory` nothing of the sample was taken; what was gathered before may have gone out in part.
+    fn sample(&mut self, t: u64, line: &[u8]) -> Result<(), OutErr>
+        requires event { MayGive ⟦<JsonOut<'a, K> as Out>⟧.gave self.old (record { t = t; line = line.now }) }
+        ensures given { (before : _) (subject : Subject) (xs : List Sample) → ⟦<JsonOut<'a, K> as Out>⟧.gave before subject xs self.old → OnOk result (⟦<JsonOut<'a, K> as Out>⟧.gave before subject (xs ++ record { t = t; line = line.now } ∷ []) self.new) }
+        ensures broken { (before : _) (subject : Subject) (xs more : List Sample) → AreEvents subject.about.ty (xs ++ record { t = t; line = line.now } ∷ more) → ⟦<JsonOut<'a, K> as Out>⟧.gave before subject xs self.old
+            → OnErr result (⟦<JsonOut<'a, K> as Out>⟧.broke before subject (xs ++ record { t = t; line = line.now } ∷ more) self.new) }
+        ensures faults { K.write_faults self.old.sink.now ≤ K.write_faults self.new.sink.now }
+        ensures cause { IsErrOf result OutErr.SinkFault → Rose (K.write_faults self.old.sink.now) (K.write_faults self.new.sink.now) }
+        ensures memory { IsErrOf result OutErr.Memory → Sends (K.written self.old.sink.now) (K.written self.new.sink.now) self.old.buffer self.new.buffer }
+    {
         let Some(ty) = self.ty else {
             unreachable!();
         };
@@ -83,7 +104,14 @@ impl<'a, K: Sink> Out for JsonOut<'a, K> {
         Ok(())
     }
 
-    fn finish(&mut self) -> Result<(), OutErr> {
+    /// At `Memory` nothing of the text's end was taken; what was gathered before may have gone out in part.
+    fn finish(&mut self) -> Result<(), OutErr>
+        ensures finished { (before : _) (subject : Subject) (xs : List Sample) → ⟦<JsonOut<'a, K> as Out>⟧.gave before subject xs self.old → OnOk result (⟦<JsonOut<'a, K> as Out>⟧.finished before subject xs self.new) }
+        ensures broken { (before : _) (subject : Subject) (xs : List Sample) → ⟦<JsonOut<'a, K> as Out>⟧.gave before subject xs self.old → OnErr result (⟦<JsonOut<'a, K> as Out>⟧.broke before subject xs self.new) }
+        ensures faults { K.write_faults self.old.sink.now ≤ K.write_faults self.new.sink.now }
+        ensures cause { IsErrOf result OutErr.SinkFault → Rose (K.write_faults self.old.sink.now) (K.write_faults self.new.sink.now) }
+        ensures memory { IsErrOf result OutErr.Memory → Sends (K.written self.old.sink.now) (K.written self.new.sink.now) self.old.buffer self.new.buffer }
+    {
         send(&mut self.buffer, b"]}]\n", self.sink)?;
         let Ok(()) = self.buffer.finish(self.sink) else {
             return Err(OutErr::SinkFault);
@@ -94,10 +122,11 @@ impl<'a, K: Sink> Out for JsonOut<'a, K> {
     ghost front = { λ before now subject xs more events gave. (gave.0, gives_breaks (K.written before.sink.now) (K.written now.sink.now) before.buffer now.buffer now.ty now.later subject xs more gave.1) };
 }
 
-// Takes a piece of the text for the sink.
+// Takes a piece of the text for the sink. At `Memory` nothing of the piece was taken.
 fn send<K: Sink>(buffer: &mut SinkBuffer, piece: &[u8], sink: &mut K) -> Result<(), OutErr>
     ensures sent { OnOk result (Sends (K.written sink.old) (K.written sink.new) (buffer.old ++ piece.now) buffer.new) }
     ensures front { OnErr result (AppendsFront (K.written sink.old) (K.written sink.new) (buffer.old ++ piece.now)) }
+    ensures memory { IsErrOf result OutErr.Memory → Sends (K.written sink.old) (K.written sink.new) buffer.old buffer.new }
     ensures faults { K.write_faults sink.old ≤ K.write_faults sink.new }
     ensures cause { IsErrOf result OutErr.SinkFault → Rose (K.write_faults sink.old) (K.write_faults sink.new) }
 {

@@ -1,5 +1,5 @@
 // The JSON texts of values.
-ghost use Rattle.std.specs.Prelude.{◌≡◌, ℕ, ◌<◌, ◌≤◌, ◌∷◌, [], ◌++◌, List, OnOk, decimal};
+ghost use Rattle.std.specs.Prelude.{◌≡◌, ℕ, ◌<◌, ◌≤◌, ◌∷◌, [], ◌++◌, List, OnOk, OnErr, decimal};
 ghost use Rattle.std.specs.Char.{digit_char};
 ghost use Rattle.std.specs.Fmt.{signed_decimal};
 ghost use Rattle.std.specs.List.{flat_map, list_all};
@@ -11,16 +11,29 @@ use serde_json::Value as Json;
 use series_model::Blob;
 use std::alloc::{AllocError, Global};
 
-/// An element of a value: a whole number, the bits of a floating-point number, or a string.
-pub(crate) trait Element {
-    // Its JSON text.
+/// What an array may have as an element: a number, the bits of a floating-point number, or a string.
+pub trait Element {
+    /// Its JSON text.
     ghost text: { Self → List ℕ };
 
-    /// Appends the text.
+    /// Appends the text. After want of memory a part of it may stand in `out`.
     fn put(&self, alloc: Global, out: &mut Vec<u8>) -> Result<(), AllocError>
         ensures { OnOk result (out.new.items ≡ out.old.items ++ text self.now) };
 }
 
+/// A whole number in decimal. A bare `u64` is the bits of a floating-point number.
+#[derive(Clone, Copy, Debug, PartialEq, Eq)]
+pub struct Number(pub u64);
+
+impl Element for Number {
+    ghost text = { λ number. decimal number.0 };
+
+    fn put(&self, _alloc: Global, out: &mut Vec<u8>) -> Result<(), AllocError> {
+        put_number(self.0, out)
+    }
+}
+
+/// A byte is a number in decimal.
 impl Element for u8 {
     ghost text = { decimal };
 
@@ -29,6 +42,7 @@ impl Element for u8 {
     }
 }
 
+/// A number in decimal.
 impl Element for i32 {
     ghost text = { signed_decimal };
 
@@ -37,6 +51,7 @@ impl Element for i32 {
     }
 }
 
+/// The bits of a floating-point number of single precision, in a string.
 impl Element for u32 {
     ghost text = { bits_text 8 };
 
@@ -45,6 +60,7 @@ impl Element for u32 {
     }
 }
 
+/// The bits of a floating-point number of double precision, in a string.
 impl Element for u64 {
     ghost text = { bits_text 16 };
 
@@ -53,6 +69,7 @@ impl Element for u64 {
     }
 }
 
+/// A string of the bytes.
 impl Element for Blob {
     ghost text = { string_text };
 
@@ -83,17 +100,18 @@ pub(crate) fn put_value(alloc: Global, value: &Value, out: &mut Vec<u8>) -> Resu
     }
 }
 
-/// Appends a number in decimal.
-pub(crate) fn put_number<I: Integer>(number: I, out: &mut Vec<u8>) -> Result<(), AllocError>
-    ensures { OnOk result (out.new.items ≡ out.old.items ++ I.text number) }
+/// Appends a number in decimal. After want of memory `out` is as it was.
+pub fn put_number<I: Integer>(number: I, out: &mut Vec<u8>) -> Result<(), AllocError>
+    ensures text { OnOk result (out.new.items ≡ out.old.items ++ I.text number) }
+    ensures memory { OnErr result (out.new.items ≡ out.old.items) }
 {
     let mut digits = Buffer::new();
     out.extend_from_slice(digits.format(number).as_bytes())
 }
 
-/// Appends a JSON string of the bytes, with U+FFFD for what isn't UTF-8.
+/// Appends a JSON string of the bytes, with U+FFFD for what isn't UTF-8. After want of memory a part of it may stand in `out`.
 #[tactic(auto, using(crate::proofs::Strings::plain_string))]
-pub(crate) fn put_string(alloc: Global, bytes: &[u8], out: &mut Vec<u8>) -> Result<(), AllocError>
+pub fn put_string(alloc: Global, bytes: &[u8], out: &mut Vec<u8>) -> Result<(), AllocError>
     ensures { OnOk result (out.new.items ≡ out.old.items ++ string_text bytes.now) }
 {
     if are_plain(bytes) {
@@ -151,9 +169,12 @@ fn hex_digit(digit: u8) -> u8
     }
 }
 
-// Appends an array of the elements.
-
-fn put_array<T: Element>(alloc: Global, items: &[T], out: &mut Vec<u8>) -> Result<(), AllocError>
+/// Appends an array of the elements in order. After want of memory a part of it may stand in `out`.
+pub fn put_array<T: Element>(
+    alloc: Global,
+    items: &[T],
+    out: &mut Vec<u8>,
+) -> Result<(), AllocError>
     ensures { OnOk result (out.new.items ≡ out.old.items ++ array_text T.text items.now) }
 {
     let Some((first, rest)) = items.split_first() else {

@@ -14,6 +14,9 @@ use pb_lines::sample_of;
 use series_model::{Blob, Pairs, Query};
 use std::alloc::{AllocError, Global};
 
+#[cfg(test)]
+mod faults;
+
 // A type, the variable's headers, and the lines of its samples in 2024.
 type Case = (
     PayloadType,
