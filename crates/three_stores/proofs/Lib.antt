@@ -5,8 +5,10 @@ pub mod FlushCall
 pub mod Holding
 pub mod Left
 pub mod OnePlace
+pub mod OpeningPieces
 pub mod Places
 pub mod RelistCall
 pub mod Rising
 pub mod RowCalls
+pub mod Showing
 pub mod There

@@ -1,4 +1,6 @@
 pub mod Change
+pub mod Opening
+pub mod Pinned
 pub mod Seen
 pub mod Stored
 pub mod Stores

@@ -13,6 +13,10 @@ ghost use Rattle.tier_store.specs.Held.{Filed};
 ghost use Rattle.three_stores.specs.Stores.{Stores, list_at, samples_in};
 ghost use Rattle.three_stores.specs.Seen.{seen_on, AtEach, granularities};
 ghost use Rattle.three_stores.specs.Stored.{HoldsAll};
+ghost use Rattle.std.specs.FinMap.{FinMap, empty, remove};
+ghost use Rattle.std.specs.Ordering.{nat_cmp};
+ghost use Rattle.pinned_pieces.specs.Pieces.{PinOf};
+ghost use Rattle.three_stores.specs.Pinned.{PinsStand, KeepsShown};
 ghost use Rattle.three_stores.specs.Change.{IsKnown, Has, IsOpen, Flushes, CanList};
 
 use disk_model::Disk;
@@ -50,4 +54,15 @@ pub fn listed_files_may_be_dropped<D: Disk>()
     ensures { (disk : D) (catalogue : CatalogueState) (ms : List ManifestState) (held : Stores) (i : ℕ) (m : ManifestState) (parts : List Filed)
         → Has D.tells (seen_on D.files D.opened D.past D.faults catalogue ms disk) held → slice_get ms i ≡ Some m
         → CanList i D.tells (seen_on D.files D.opened D.past D.faults catalogue ms disk) (map drop_of parts) held (without_all (list_at i held) parts) }
+{}
+
+/// Pieces of pins stand as they were pinned: with no pin, after a call that keeps what is shown, and after the
+/// end of a pin.
+pub fn pins_stand<D: Disk>()
+    ensures none { (disk : D) (catalogue : CatalogueState) (ms : List ManifestState) → PinsStand D.tells (seen_on D.files D.opened D.past D.faults catalogue ms disk) empty }
+    ensures kept { (old new : D) (catalogue later : CatalogueState) (ms ns : List ManifestState) (pins : FinMap nat_cmp PinOf)
+        → KeepsShown D.tells (seen_on D.files D.opened D.past D.faults catalogue ms old) (seen_on D.files D.opened D.past D.faults later ns new)
+        → PinsStand D.tells (seen_on D.files D.opened D.past D.faults catalogue ms old) pins → PinsStand D.tells (seen_on D.files D.opened D.past D.faults later ns new) pins }
+    ensures fewer { (disk : D) (catalogue : CatalogueState) (ms : List ManifestState) (pins : FinMap nat_cmp PinOf) (n : ℕ)
+        → PinsStand D.tells (seen_on D.files D.opened D.past D.faults catalogue ms disk) pins → PinsStand D.tells (seen_on D.files D.opened D.past D.faults catalogue ms disk) (remove pins n) }
 {}

@@ -16,6 +16,7 @@
 
 pub mod laws;
 mod opening;
+mod opening_pieces;
 mod registry;
 mod relisting;
 mod settling;

@@ -8,6 +8,7 @@ ghost use Rattle.three_stores.specs.Stores.{Stores};
 ghost use Rattle.three_stores.specs.Seen.{seen, IsSettled};
 ghost use Rattle.tier_store.specs.Ends.{end_of_register, end_of_switch};
 ghost use Rattle.three_stores.specs.Change.{Has, IsOpen, Changes, Acts, registering, pausing, resuming};
+ghost use Rattle.three_stores.specs.Pinned.{KeepsShown};
 
 use crate::TierStore;
 use disk_model::Disk;
@@ -19,6 +20,8 @@ impl<D: Disk> TierStore<D> {
     fn register_row(&mut self, name: &PvName, about: &About) -> Result<u32, RegisterErr>
         requires has { (held : Stores) × Has D.tells (seen D.Disk self.old) held }
         ensures changes { Changes D.tells (registering name.now about.now) (seen D.Disk self.old) (seen D.Disk self.new) (end_of_register result) }
+        ensures shown { KeepsShown D.tells (seen D.Disk self.old) (seen D.Disk self.new) }
+        ensures pins { self.new.pinned ≡ self.old.pinned }
         ensures exactly { (e : RegisterErr) → Refuses self.old.catalogue.rows name.now e → (result ≡ Err e) ⊎ (result ≡ Err (RegisterDisk Memory)) }
     {
         self.catalogue.register(&mut self.disk, name, about)
@@ -28,6 +31,8 @@ impl<D: Disk> TierStore<D> {
         requires row { row < length self.old.catalogue.rows }
         requires has { (held : Stores) × Has D.tells (seen D.Disk self.old) held }
         ensures changes { Changes D.tells (pausing row) (seen D.Disk self.old) (seen D.Disk self.new) (end_of_switch result) }
+        ensures shown { KeepsShown D.tells (seen D.Disk self.old) (seen D.Disk self.new) }
+        ensures pins { self.new.pinned ≡ self.old.pinned }
     {
         self.catalogue.pause(&mut self.disk, row)
     }
@@ -36,6 +41,8 @@ impl<D: Disk> TierStore<D> {
         requires row { row < length self.old.catalogue.rows }
         requires has { (held : Stores) × Has D.tells (seen D.Disk self.old) held }
         ensures changes { Changes D.tells (resuming row) (seen D.Disk self.old) (seen D.Disk self.new) (end_of_switch result) }
+        ensures shown { KeepsShown D.tells (seen D.Disk self.old) (seen D.Disk self.new) }
+        ensures pins { self.new.pinned ≡ self.old.pinned }
     {
         self.catalogue.resume(&mut self.disk, row)
     }
@@ -50,6 +57,8 @@ impl<D: Disk> TierStore<D> {
         requires begun { (before : Stores) × (after : Stores) × IsOpen D.tells (seen D.Disk self.old) before after }
 
         ensures acts { Acts D.tells (registering name.now about.now) (seen D.Disk self.old) (seen D.Disk self.new) (end_of_register result) }
+        ensures shown { KeepsShown D.tells (seen D.Disk self.old) (seen D.Disk self.new) }
+        ensures pins { self.new.pinned ≡ self.old.pinned }
         ensures exactly { IsSettled (seen D.Disk self.old) → (e : RegisterErr)
             → Refuses self.old.catalogue.rows name.now e → (result ≡ Err e) ⊎ (result ≡ Err (RegisterDisk Memory)) }
     {
@@ -64,6 +73,8 @@ impl<D: Disk> TierStore<D> {
         requires begun { (before : Stores) × (after : Stores) × IsOpen D.tells (seen D.Disk self.old) before after }
 
         ensures acts { Acts D.tells (pausing row) (seen D.Disk self.old) (seen D.Disk self.new) (end_of_switch result) }
+        ensures shown { KeepsShown D.tells (seen D.Disk self.old) (seen D.Disk self.new) }
+        ensures pins { self.new.pinned ≡ self.old.pinned }
     {
         self.review()?;
         self.pause_row(row)
@@ -76,6 +87,8 @@ impl<D: Disk> TierStore<D> {
         requires begun { (before : Stores) × (after : Stores) × IsOpen D.tells (seen D.Disk self.old) before after }
 
         ensures acts { Acts D.tells (resuming row) (seen D.Disk self.old) (seen D.Disk self.new) (end_of_switch result) }
+        ensures shown { KeepsShown D.tells (seen D.Disk self.old) (seen D.Disk self.new) }
+        ensures pins { self.new.pinned ≡ self.old.pinned }
     {
         self.review()?;
         self.resume_row(row)

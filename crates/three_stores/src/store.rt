@@ -6,8 +6,11 @@ ghost use Rattle.tier_store.specs.Ends.{end_of_disk};
 ghost use Rattle.three_stores.specs.Stores.{Stores};
 ghost use Rattle.three_stores.specs.Seen.{seen};
 ghost use Rattle.three_stores.specs.Change.{Has, IsOpen, Changes, Acts, flushing};
+ghost use Rattle.three_stores.specs.Pinned.{KeepsShown};
+ghost use Rattle.std.specs.FinMap as map;
 
 use disk_model::{Disk, DiskErr};
+use pinned_pieces::PinnedPieces;
 use pv_catalog::Catalogue;
 use series_model::Batch;
 use std::alloc::Global;
@@ -17,31 +20,33 @@ use tier_store::{flush_pieces, plan_flush};
 // The number of the store that flushes write to.
 const SHORT: u8 = 1;
 
-/// Three stores of partition files: their disk, the catalogue of their rows, and the manifests of stores 1, 2 and 3, each at the place
-/// of its number less one.
+/// Three stores of partition files: their disk, the catalogue of their rows, the manifests of stores 1, 2 and 3, each at the place
+/// of its number less one, and the pins of those who read them.
 #[derive(Drop)]
 pub struct TierStore<D: Disk> {
     pub(crate) alloc: Global,
     pub(crate) disk: D,
     pub(crate) catalogue: Catalogue,
     pub(crate) manifests: Vec<Manifest>,
+    pub(crate) pinned: PinnedPieces,
 }
 
 impl<D: Disk> TierStore<D> {
-    /// The stores of a disk, whose catalogue and whose manifests of stores 1, 2 and 3, in this order, were loaded from it.
+    /// The stores of a disk, with no pin, whose catalogue and whose manifests of stores 1, 2 and 3, in this order, were loaded from it.
     pub fn new(
         alloc: Global,
         disk: D,
         catalogue: Catalogue,
         manifests: Vec<Manifest>,
     ) -> TierStore<D>
-        ensures { result ≡ record { alloc = alloc; disk = disk; catalogue = catalogue; manifests = manifests } }
+        ensures { result ≡ record { alloc = alloc; disk = disk; catalogue = catalogue; manifests = manifests; pinned = map.empty } }
     {
         TierStore {
             alloc,
             disk,
             catalogue,
             manifests,
+            pinned: PinnedPieces::new(alloc),
         }
     }
 
@@ -76,6 +81,8 @@ impl<D: Disk> TierStore<D> {
         requires has { (held : Stores) × Has D.tells (seen D.Disk self.old) held }
         ensures changes { Changes D.tells (flushing batch.now) (seen D.Disk self.old) (seen D.Disk self.new) (end_of_disk result) }
         ensures catalogue { self.new.catalogue ≡ self.old.catalogue }
+        ensures shown { KeepsShown D.tells (seen D.Disk self.old) (seen D.Disk self.new) }
+        ensures pins { self.new.pinned ≡ self.old.pinned }
     {
         let rows = self.catalogue.rows();
         let plan = plan_flush(self.alloc, rows, &self.manifests[0], batch)?;
@@ -104,6 +111,8 @@ impl<D: Disk> TierStore<D> {
         ensures acts { Acts D.tells (flushing batch.now) (seen D.Disk self.old) (seen D.Disk self.new) (end_of_disk result) }
         ensures keeps { KeepsRows self.old.catalogue.rows self.new.catalogue.rows }
         ensures settled { IsTrue self.old.catalogue.journal.sound → self.new.catalogue ≡ self.old.catalogue }
+        ensures shown { KeepsShown D.tells (seen D.Disk self.old) (seen D.Disk self.new) }
+        ensures pins { self.new.pinned ≡ self.old.pinned }
     {
         self.review()?;
         self.flush_batch(batch)

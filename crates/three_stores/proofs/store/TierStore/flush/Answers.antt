@@ -20,3 +20,6 @@ returns-in_err-review-clause-acts g c =
 
 pub returns-clause-acts : goal.returns-clause-acts
 returns-clause-acts g c = then_acts g.D.Disk.tells (flushing c.args.batch.now) _ _ _ (end_of_disk c.review.result) _ c.in_ok-review.ensures.settled (λ held has. rw (c.review.ensures.nothing has.settled).1 has) c.review.ensures.granularity c.review.ensures.reads c.flush_batch.ensures.changes
+
+pub returns-clause-shown : goal.returns-clause-shown
+returns-clause-shown g c name bytes was = c.flush_batch.ensures.shown name bytes (c.review.ensures.shown name bytes was)

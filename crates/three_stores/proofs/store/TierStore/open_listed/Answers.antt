@@ -4,6 +4,7 @@ use Rattle.disk_model.specs.Files.{Name}
 use Rattle.pv_catalog.specs.declared.row.Row.{Row}
 use Rattle.tier_store.specs.Held.{file_of}
 use Rattle.three_stores.proofs.There.{row_listed, listed_file, file_there, front_there, opened_has}
+use Rattle.three_stores.proofs.Showing.{read_shown}
 use Rattle.three_stores.proofs.store.TierStore.open_listed.Goals as goal
 
 pub file_name-requires : goal.file_name-requires
@@ -52,3 +53,9 @@ returns-in_err-reader-clause-kept g c held was =
     let named : c.in_ok-name.name ≡ file_of (c.args.store, self.catalogue.rows) e = c.in_ok-name.ensures ∙ ap (λ (r : List Row). file_of (c.args.store, r) e) c.rows.ensures.value in
     opened_has g.D.Disk.files g.D.Disk.opened g.D.Disk.past g.D.Disk.faults g.D.Disk.tells self.catalogue self.manifests.items self.disk c.open_file.new.self held c.args.store e c.in_ok-name.name was (λ tells. listed_file g.D.Disk.tells _ held c.args.store e c.in_ok-name.name was c.requires.listed named)
     c.open_file.ensures.crash c.open_file.ensures.same (λ tells. let here : g.D.Disk.opened c.open_file.new.self c.in_ok-name.name ≡ g.D.Disk.opened self.disk c.in_ok-name.name = ap (λ (o : Name → ℕ). o c.in_ok-name.name) (c.in_err-reader.ensures.unopened tells) in omega (arith, here)) c.open_file.ensures.others
+
+pub returns-clause-shown : goal.returns-clause-shown
+returns-clause-shown g c = let self = c.args.self.now in read_shown g.D.Disk.files g.D.Disk.opened g.D.Disk.past g.D.Disk.faults g.D.Disk.tells self.catalogue self.manifests.items self.disk c.open_file.new.self c.open_file.ensures.same
+
+pub returns-in_err-reader-clause-shown : goal.returns-in_err-reader-clause-shown
+returns-in_err-reader-clause-shown g c = let self = c.args.self.now in read_shown g.D.Disk.files g.D.Disk.opened g.D.Disk.past g.D.Disk.faults g.D.Disk.tells self.catalogue self.manifests.items self.disk c.open_file.new.self c.open_file.ensures.same

@@ -1,11 +1,16 @@
+use Rattle.event_types.specs.declared.about.State.TheVariants.{Running, Paused}
+use Rattle.tier_store.specs.Ends.{end_of_switch}
+use Rattle.three_stores.specs.Change.{pausing}
 use Rattle.three_stores.proofs.RowCalls.{pause_changes}
+use Rattle.three_stores.proofs.Showing.{rows_shown, switches_on}
 use Rattle.three_stores.proofs.store.TierStore.pause_row.Goals as goal
 
-pub returns : goal.returns
-returns g c =
+pub returns-clause-changes : goal.returns-clause-changes
+returns-clause-changes g c =
     let self = c.args.self.now in
     let says = c.pause.ensures in
-    record {
-      changes = pause_changes g.D.Disk.files g.D.Disk.opened g.D.Disk.past g.D.Disk.faults g.D.Disk.tells self.catalogue c.pause.new.self self.manifests.items self.disk c.pause.new.disk c.args.row c.requires.row says.name says.elsewhere says.opened says.faults c.pause.result
-          says.sound says.stored says.kept says.doubt says.fault says.memory says.any_moment says.rows says.exactly says.never says.unchanged says.next;
-    }
+    pause_changes g.D.Disk.files g.D.Disk.opened g.D.Disk.past g.D.Disk.faults g.D.Disk.tells self.catalogue c.pause.new.self self.manifests.items self.disk c.pause.new.disk c.args.row c.requires.row says.name says.elsewhere says.opened says.faults c.pause.result
+    says.sound says.stored says.kept says.doubt says.fault says.memory says.any_moment says.rows says.exactly says.never says.unchanged says.next
+
+pub returns-clause-shown : goal.returns-clause-shown
+returns-clause-shown g c = rows_shown g.D.Disk.tells (pausing c.args.row) _ _ (end_of_switch c.pause.result) c.requires.has (switches_on c.args.row Running Paused) (returns-clause-changes g c) c.pause.ensures.elsewhere

@@ -21,3 +21,6 @@ returns-clause-acts g c = then_acts g.D.Disk.tells (registering c.args.name.now 
 pub returns-clause-exactly : goal.returns-clause-exactly
 returns-clause-exactly g c settled e refuses =
     c.register_row.ensures.exactly e (subst (λ (s : CatalogueState). Refuses s.rows c.args.name.now e) (ap (λ s. s.catalogue) (sym (c.review.ensures.nothing settled).1)) refuses)
+
+pub returns-clause-shown : goal.returns-clause-shown
+returns-clause-shown g c name bytes was = c.register_row.ensures.shown name bytes (c.review.ensures.shown name bytes was)

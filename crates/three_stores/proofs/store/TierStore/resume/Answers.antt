@@ -13,12 +13,13 @@ resume_row-requires-clause-row g c = still_within c.args.self.now.catalogue.rows
 pub resume_row-requires-clause-has : goal.resume_row-requires-clause-has
 resume_row-requires-clause-has g c = let was = c.requires.begun in has_one g.D.Disk.tells _ was.0 was.1 (c.in_ok-review.ensures.settled was.0 was.1 was.2)
 
-pub returns-in_err-review : goal.returns-in_err-review
-returns-in_err-review g c =
+pub returns-in_err-review-clause-acts : goal.returns-in_err-review-clause-acts
+returns-in_err-review-clause-acts g c =
     let p = err_from_is_err_and c.from_residual.result c.from_residual.ensures.1 in
-    record {
-      acts = cut_acts g.D.Disk.tells (resuming c.args.row) _ _ c.review.result c.in_err-review.field-0.0 _ c.in_err-review.was (ap end_of_switch (p.1 ∙ ap (λ (x : StateErr). Err x) p.2)) (λ settled. (tt, (c.review.ensures.nothing settled).0)) c.in_err-review.ensures.still c.review.ensures.granularity c.review.ensures.reads;
-    }
+    cut_acts g.D.Disk.tells (resuming c.args.row) _ _ c.review.result c.in_err-review.field-0.0 _ c.in_err-review.was (ap end_of_switch (p.1 ∙ ap (λ (x : StateErr). Err x) p.2)) (λ settled. (tt, (c.review.ensures.nothing settled).0)) c.in_err-review.ensures.still c.review.ensures.granularity c.review.ensures.reads
 
-pub returns : goal.returns
-returns g c = record { acts = then_acts g.D.Disk.tells (resuming c.args.row) _ _ _ (end_of_disk c.review.result) _ c.in_ok-review.ensures.settled (λ held has. rw (c.review.ensures.nothing has.settled).1 has) c.review.ensures.granularity c.review.ensures.reads c.resume_row.ensures.changes }
+pub returns-clause-acts : goal.returns-clause-acts
+returns-clause-acts g c = then_acts g.D.Disk.tells (resuming c.args.row) _ _ _ (end_of_disk c.review.result) _ c.in_ok-review.ensures.settled (λ held has. rw (c.review.ensures.nothing has.settled).1 has) c.review.ensures.granularity c.review.ensures.reads c.resume_row.ensures.changes
+
+pub returns-clause-shown : goal.returns-clause-shown
+returns-clause-shown g c name bytes was = c.resume_row.ensures.shown name bytes (c.review.ensures.shown name bytes was)

@@ -1,11 +1,16 @@
+use Rattle.event_types.specs.declared.about.State.TheVariants.{Running, Paused}
+use Rattle.tier_store.specs.Ends.{end_of_switch}
+use Rattle.three_stores.specs.Change.{resuming}
 use Rattle.three_stores.proofs.RowCalls.{resume_changes}
+use Rattle.three_stores.proofs.Showing.{rows_shown, switches_on}
 use Rattle.three_stores.proofs.store.TierStore.resume_row.Goals as goal
 
-pub returns : goal.returns
-returns g c =
+pub returns-clause-changes : goal.returns-clause-changes
+returns-clause-changes g c =
     let self = c.args.self.now in
     let says = c.resume.ensures in
-    record {
-      changes = resume_changes g.D.Disk.files g.D.Disk.opened g.D.Disk.past g.D.Disk.faults g.D.Disk.tells self.catalogue c.resume.new.self self.manifests.items self.disk c.resume.new.disk c.args.row c.requires.row says.name says.elsewhere says.opened says.faults c.resume.result
-          says.sound says.stored says.kept says.doubt says.fault says.memory says.any_moment says.rows says.exactly says.never says.unchanged says.next;
-    }
+    resume_changes g.D.Disk.files g.D.Disk.opened g.D.Disk.past g.D.Disk.faults g.D.Disk.tells self.catalogue c.resume.new.self self.manifests.items self.disk c.resume.new.disk c.args.row c.requires.row says.name says.elsewhere says.opened says.faults c.resume.result
+    says.sound says.stored says.kept says.doubt says.fault says.memory says.any_moment says.rows says.exactly says.never says.unchanged says.next
+
+pub returns-clause-shown : goal.returns-clause-shown
+returns-clause-shown g c = rows_shown g.D.Disk.tells (resuming c.args.row) _ _ (end_of_switch c.resume.result) c.requires.has (switches_on c.args.row Paused Running) (returns-clause-changes g c) c.resume.ensures.elsewhere
