@@ -1,0 +1,6 @@
+pub mod HandedBack
+pub mod Having
+pub mod Keeping
+pub mod Looking
+pub mod Manifests
+pub mod Verdicts

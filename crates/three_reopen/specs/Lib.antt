@@ -1,0 +1,4 @@
+pub mod Loading
+pub mod Refusal
+pub mod Reopen
+pub mod Verdict

@@ -1,0 +1,49 @@
+-- What the loads of the four journals keep of a disk.
+use Rattle.std.specs.Prelude.{◌≡◌, ◌≢◌, ◌+◌, ℕ, List, unwrap_or, slice_get}
+use Rattle.partition_names.specs.declared.granularity.Granularity.{Granularity}
+use Rattle.partition_names.specs.declared.granularity.Granularity.TheVariants.{Hour}
+use Rattle.disk_model.specs.Files.{Name, Files}
+use Rattle.disk_model.specs.Past.{Past, Passes}
+use Rattle.gate_journal.specs.Kept.{Says, StillSays}
+use Rattle.store_manifest.specs.declared.entry.Entry.{Entry}
+use Rattle.store_manifest.specs.Batches.{Folds}
+use Rattle.store_manifest.specs.Manifest.{manifest_name}
+use Rattle.pv_catalog.specs.declared.row.Row.{Row}
+use Rattle.pv_catalog.specs.Catalogue.{catalogue_name}
+use Rattle.pv_catalog.specs.Rows.{IsCatalogue}
+
+-- the journals: the catalogue, and the manifest of the store at each place, which is its number less one
+pub data Journal : Type 0 where
+  Catalogue : Journal
+  Manifest : ℕ → Journal
+
+abbrev pub name_of : Journal → Name
+name_of Catalogue = catalogue_name
+name_of (Manifest i) = manifest_name (i + 1)
+
+-- what a journal says: rows, or the entries of listed files
+abbrev pub Value : Journal → Type 0
+Value Catalogue = List Row
+Value (Manifest i) = List Entry
+
+-- the granularity of the store at a place; where there is none, the answer is of no use
+abbrev pub granularity_at : List Granularity → ℕ → Granularity
+granularity_at gs i = unwrap_or (slice_get gs i) Hour
+
+-- what its batches mean, where the manifests of the stores are of these granularities
+abbrev pub Means : List Granularity → (j : Journal) → List (List ℕ) → Value j → Type 0
+Means gs Catalogue = IsCatalogue
+Means gs (Manifest i) = Folds (granularity_at gs i)
+
+-- each journal of an image still says what reads gave at first, or is as it was, and every other store is as it was
+pub record StillSay (gs : List Granularity) (files old new : Files) : Type 0 where
+  pub journals : (j : Journal) → StillSays (Means gs j) (files (name_of j)) (old (name_of j)) (new (name_of j))
+  pub elsewhere : (n : Name) → n.0 ≢ 0 → new n ≡ old n
+
+-- Whatever a crash leaves, the journals say what they said; reads give so too, and nothing more. The other stores are as they were.
+pub record KeepsSaid (gs : List Granularity) (files : Files) (opened : Name → ℕ) (old : Past) (later : Files) (after : Name → ℕ) (new : Past) : Type 0 where
+  pub passes : Passes (StillSay gs files) old new
+  pub elsewhere : (n : Name) → n.0 ≢ 0 → later n ≡ files n
+  pub said : (j : Journal) (value : Value j) → Says (Means gs j) value (files (name_of j)) → Says (Means gs j) value (later (name_of j))
+  pub no_more : (hs : List Granularity) (j : Journal) (value : Value j) → Says (Means hs j) value (later (name_of j)) → Says (Means hs j) value (files (name_of j))
+  pub same_opened : (n : Name) → after n ≡ opened n

@@ -1,0 +1,28 @@
+//! Opening a disk as three stores: they are what the disk's journals say, where all that these list is there.
+//!
+//! `reopen` loads the catalogue and then the manifests of stores 1 to 3, each in the configured granularity of its store. Then it looks
+//! whether each entry is of a row, and then, store by store and in the order of series and time, whether each listed file is there and
+//! at least as long as it is listed. The first that is wrong is told: the name of a file, and a place in it.
+//!
+//! | What is wrong | The file told | The place told |
+//! |---|---|---|
+//! | something is cut off behind an open gate of a journal | the journal | that gate |
+//! | a batch of a journal means nothing behind those before it | the journal | its open gate |
+//! | the journals before a manifest are good, and it is of another granularity | none: both granularities are told | |
+//! | an entry's series is no row | the first manifest with one | 0 |
+//! | a listed file is absent | that file | 0 |
+//! | a listed file is shorter than it is listed | that file | its length |
+//!
+//! What the image holds is what the stores hold. Opening writes nothing but the first bytes of journals that are missing.
+//!
+//! Caveat: it looks only at lengths, so a disk whose listed bytes others damaged is opened too.
+#![tactic(auto)]
+
+mod error;
+mod files;
+mod journals;
+pub mod laws;
+mod opening;
+
+pub use error::ReopenErr;
+pub use opening::reopen;
