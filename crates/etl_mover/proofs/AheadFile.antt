@@ -13,18 +13,18 @@ use Rattle.store_manifest.specs.Entries.{Place, comes_before}
 use Rattle.store_manifest.specs.Manifest.{ManifestState}
 use Rattle.tier_store.specs.Held.{Filed, Held, IsFiled, IsListed, IsIn, file_of, filed_at, bytes_of, shelf_of, Shelf}
 use Rattle.tier_store.specs.Flush.{file_at, listed_bytes, listed_len, start_of, with_files, put_all}
-use Rattle.tier_store.specs.Stored.{AreHeld, AreLong, AreSafe}
+use Rattle.tier_store.specs.Stored.{AreHeld, AreLong, AreSafe, Holds}
 use Rattle.tier_store.specs.Writing.{Behind, IsSafe, IsStoredAs}
 use Rattle.tier_store.specs.Ahead.{Leads, HasCopied}
-use Rattle.tier_store.proofs.Ahead.{leads_on, leads_behind, leads_long, put_all_has}
+use Rattle.tier_store.proofs.Ahead.{copied_moment, leads_on, leads_behind, leads_long, put_all_has}
 use Rattle.tier_store.proofs.Names.{name_cases, same_place, same_file}
 use Rattle.tier_store.proofs.Listed.{found, listed_at, all_put_all, rise_put_all}
 use Rattle.tier_store.proofs.Stays.{having, AllowTo, whole_in, call_behind, still_safe, safe_both}
 use Rattle.tier_store.proofs.Whole.{still_stored_as}
 use Rattle.etl_mover.specs.Writing.{WritesFile, LeavesFile}
-use Rattle.etl_mover.specs.Growing.{BecomesFile}
+use Rattle.etl_mover.specs.Growing.{IsPlaced, BecomesFile}
 
-module _ (g : Granularity) (base : Held) (at : Option ℕ) (bytes : List ℕ) (f : Filed) (valid : AreHeld g base) (is : BecomesFile g base at bytes f) where
+module _ (g : Granularity) (base : Held) (at : Option ℕ) (f : Filed) (valid : AreHeld g base) (is : IsPlaced g base at f) where
   -- a file ahead that has the name is the one behind which the bytes go on
   same_listed : (k : ℕ) (d : Filed) → k < length base.files → file_of (shelf_of base) (get_or base.files k d).entry ≡ file_of (shelf_of base) f.entry → at ≡ Some (get_or base.files k d).entry.len
   same_listed k d lt same =
@@ -61,13 +61,14 @@ module _ (g : Granularity) (base : Held) (at : Option ℕ) (bytes : List ℕ) (f
   unlisted None same = refl
   unlisted (Some h) same = absurd (cc (same))
 
+module _ (g : Granularity) (base : Held) (at : Option ℕ) (bytes : List ℕ) (f : Filed) (valid : AreHeld g base) (is : BecomesFile g base at bytes f) where
   -- all of it is valid with the file
   pub valid_more : AreHeld g (with_files base (f ∷ []))
   valid_more = record {
     keys = valid.keys;
     filed = record {
       numbered = valid.filed.numbered;
-      listed = all_put_all (IsListed g base.rows) base.files (f ∷ []) valid.filed.listed (All-cons (IsListed g base.rows) f [] is.listed (All-nil (IsListed g base.rows)));
+      listed = all_put_all (IsListed g base.rows) base.files (f ∷ []) valid.filed.listed (All-cons (IsListed g base.rows) f [] is.placed.listed (All-nil (IsListed g base.rows)));
       filed = λ stands. all_put_all (IsFiled g base.rows) base.files (f ∷ []) (valid.filed.filed stands) (All-cons (IsFiled g base.rows) f [] (is.own stands).filed (All-nil (IsFiled g base.rows)));
     };
     apart = rise_put_all base.files (f ∷ []) valid.apart;
@@ -86,11 +87,11 @@ module _ (g : Granularity) (base : Held) (at : Option ℕ) (bytes : List ℕ) (f
               let one : f ≡ x = only x within in
               let place : filed_at h ≡ filed_at f = same ∙ ap filed_at (sym one) in
               let here : file_at (filed_at f) base.files ≡ Some h = ap (λ (q : Place). file_at q base.files) (sym place) ∙ found base.files valid.apart k d lt in
-              let start = ap start_of (is.place ∙ ap listed_len here) in
+              let start = ap start_of (is.placed.place ∙ ap listed_len here) in
               record {
                 file = f;
                 within = subst (Contains (put_all base.files (f ∷ []))) (sym one) there;
-                name = sym (same_file g base.store base.rows h f (valid.filed.listed k d lt) is.listed place);
+                name = sym (same_file g base.store base.rows h f (valid.filed.listed k d lt) is.placed.listed place);
                 longer = omega (arith, start, is.len);
                 front = λ stands.
                     let whole : bytes_of f ≡ bytes_of h ++ bytes = (is.own stands).are ∙ ap (λ (o : Option Filed). listed_bytes o ++ bytes) here in
@@ -106,8 +107,8 @@ module _ (g : Granularity) (base : Held) (at : Option ℕ) (bytes : List ℕ) (f
 
 -- WHAT A CALL WROTE
 
-module _ (catalogue : JournalState) (m : ManifestState) (shelf : Shelf) (files later : Files) (opened after : Name → ℕ) (old new : Past) (held base : Held) (at : Option ℕ) (bytes : List ℕ) (f : Filed) (has : HasCopied catalogue m shelf files opened old held base)
-    (is : BecomesFile m.granularity base at bytes f) (call : LeavesFile (file_of (shelf_of base) f.entry) at files later opened after old new) where
+module _ (catalogue : JournalState) (m : ManifestState) (shelf : Shelf) (files later : Files) (opened after : Name → ℕ) (old new : Past) (held base : Held) (at : Option ℕ) (f : Filed) (has : HasCopied catalogue m shelf files opened old held base)
+    (placed : IsPlaced m.granularity base at f) (call : LeavesFile (file_of (shelf_of base) f.entry) at files later opened after old new) where
   name : Name
   name = file_of (shelf_of base) f.entry
 
@@ -116,13 +117,13 @@ module _ (catalogue : JournalState) (m : ManifestState) (shelf : Shelf) (files l
 
   -- what is ahead stays
   pub stays_ahead : Passes (Behind base) old new
-  stays_ahead = call_behind m.granularity base (file_of (shelf_of base) f.entry) (start_of at) old new valid.filed refl (allows m.granularity base at bytes f valid is) call.any_moment
+  stays_ahead = call_behind m.granularity base (file_of (shelf_of base) f.entry) (start_of at) old new valid.filed refl (allows m.granularity base at f valid placed) call.any_moment
 
   pub stays_long : AreLong base later
   stays_long k d lt =
       let h : Filed = get_or base.files k d in
       elim (name_cases (file_of (shelf_of base) h.entry) (file_of (shelf_of base) f.entry)) [
-        | inl same ↦ subst (λ (n : Name). HasFile later n (λ b. h.entry.len ≤ length b)) (sym same) (call.long h.entry.len (same_listed m.granularity base at bytes f valid is k d lt same))
+        | inl same ↦ subst (λ (n : Name). HasFile later n (λ b. h.entry.len ≤ length b)) (sym same) (call.long h.entry.len (same_listed m.granularity base at f valid placed k d lt same))
         | inr apart ↦
             let was = has.safe.safe.long k d lt in
             record { bytes = was.bytes; file = call.elsewhere (file_of (shelf_of base) h.entry) apart ∙ was.file; holds = was.holds }
@@ -141,12 +142,16 @@ module _ (catalogue : JournalState) (m : ManifestState) (shelf : Shelf) (files l
   pub still_ahead : HasCopied catalogue m shelf later after new held base
   still_ahead = record { stored = still_listed; leads = has.leads; safe = still_safe_ahead }
 
+  -- and at each moment a crash leaves what is listed
+  pub still_holds : Passes (λ a b. Holds m.granularity b held) old new
+  still_holds = copied_moment catalogue m shelf files opened old new held base has stays_ahead
+
   -- and the file is safe once it is written
-  module _ (wrote : WritesFile (file_of (shelf_of base) f.entry) at bytes files later after new) (seen : MayLeave old files) where
+  module _ (bytes : List ℕ) (is : BecomesFile m.granularity base at bytes f) (wrote : WritesFile (file_of (shelf_of base) f.entry) at bytes files later after new) (seen : MayLeave old files) where
     long_file : (o : Option ℕ) → at ≡ o → HasFile later (file_of (shelf_of base) f.entry) (λ b. f.entry.len ≤ length b)
     long_file None none = let start = ap start_of none in record { bytes = bytes; file = wrote.made none; holds = omega (arith, is.len, start) }
     long_file (Some len) some =
-        let on = goes_on m.granularity base at bytes f valid is len some in
+        let on = goes_on m.granularity base at f valid placed len some in
         let P : Filed → Type 0 = λ h. HasFile files (file_of (shelf_of base) h.entry) (λ b. h.entry.len ≤ length b) in
         let was = subst (λ (n : Name). HasFile files n (λ b. on.file.entry.len ≤ length b)) on.name (All-contains P base.files on.file has.safe.safe.long on.within) in
         let start = ap start_of some in
@@ -155,17 +160,17 @@ module _ (catalogue : JournalState) (m : ManifestState) (shelf : Shelf) (files l
     low_file : (o : Option ℕ) → at ≡ o → after (file_of (shelf_of base) f.entry) ≤ f.entry.len
     low_file None none = omega (arith, wrote.closed none)
     low_file (Some len) some =
-        let on = goes_on m.granularity base at bytes f valid is len some in
+        let on = goes_on m.granularity base at f valid placed len some in
         let start = ap start_of some in
         let was : opened (file_of (shelf_of base) f.entry) ≤ on.file.entry.len = subst (λ (n : Name). opened n ≤ on.file.entry.len) on.name (All-contains (λ (h : Filed). opened (file_of (shelf_of base) h.entry) ≤ h.entry.len) base.files on.file has.safe.safe.unopened on.within) in
         omega (arith, was, on.long, start, is.len, call.fewer (file_of (shelf_of base) f.entry))
 
     just_file : (stands : IsTrue base.stands) (o : Option ℕ) → at ≡ o → later (file_of (shelf_of base) f.entry) ≡ Some (bytes_of f)
     just_file stands None none =
-        let whole : bytes_of f ≡ bytes = (is.own stands).are ∙ ap (λ (o : Option Filed). listed_bytes o ++ bytes) (unlisted m.granularity base at bytes f valid is (file_at (filed_at f) base.files) (sym is.place ∙ none)) in
+        let whole : bytes_of f ≡ bytes = (is.own stands).are ∙ ap (λ (o : Option Filed). listed_bytes o ++ bytes) (unlisted m.granularity base at f valid placed (file_at (filed_at f) base.files) (sym placed.place ∙ none)) in
         wrote.made none ∙ ap (λ (l : List ℕ). Some l) (sym whole)
     just_file stands (Some len) some =
-        let on = goes_on m.granularity base at bytes f valid is len some in
+        let on = goes_on m.granularity base at f valid placed len some in
         let h : Filed = on.file in
         let filed : IsFiled m.granularity base.rows h = All-contains (IsFiled m.granularity base.rows) base.files h (valid.filed.filed stands) on.within in
         let began : Begins (bytes_of h) (files (file_of (shelf_of base) f.entry)) = subst (λ (n : Name). Begins (bytes_of h) (files n)) on.name (All-contains (IsIn (shelf_of base) files) base.files h (has.safe.safe.left files seen stands) on.within) in

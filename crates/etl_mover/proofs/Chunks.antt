@@ -21,12 +21,12 @@ lines_nil (x ∷ xs) u is = absurd (omega (arith, simp (length-append) at (ap le
 one_more : (k : ℕ) → 1 + k ≡ suc k
 one_more k = omega arith
 
-cut : (line more : List ℕ) (n : ℕ) → length line < n → take n (line ++ 10 ∷ more) ≡ line ++ 10 ∷ take (n - (length line + 1)) more
+pub cut : (line more : List ℕ) (n : ℕ) → length line < n → take n (line ++ 10 ∷ more) ≡ line ++ 10 ∷ take (n - (length line + 1)) more
 cut line more n lt =
     let at : n ≡ length line + (1 + (n - (length line + 1))) = omega arith in
     ap (λ (i : ℕ). take i (line ++ 10 ∷ more)) at ∙ (take-append-add line (10 ∷ more) (1 + (n - (length line + 1))) ∙ ap (λ (i : ℕ). line ++ take i (10 ∷ more)) (one_more (n - (length line + 1))))
 
-no_ten : (line : List ℕ) (n : ℕ) → HasNoNewline line → Contains (take n line) 10 → ⊥
+pub no_ten : (line : List ℕ) (n : ℕ) → HasNoNewline line → Contains (take n line) 10 → ⊥
 no_ten line n whole (k, low, is) = let long = length-take n line in whole k 10 (omega (arith, low, long)) (sym (get_or-take n line k 10 (omega (arith, low, long))) ∙ is)
 
 -- What is taken of a chunk of the lines of samples are the first of them, at least one where there is one.

@@ -1,11 +1,17 @@
+mod SampleLaws
+pub mod Advancing
 pub mod AheadFile
+pub mod Beginning
 pub mod Chunks
+pub mod StepEnds
+pub mod StepWrites
 pub mod Dropping
 pub mod Growth
 pub mod Listing
+pub mod Loading
+pub mod Onward
 pub mod Parts
 pub mod Removing
 pub mod Retired
-mod SampleLaws
 pub mod Taking
 pub mod Written

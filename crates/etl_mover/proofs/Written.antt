@@ -15,7 +15,7 @@ all_names name opened after same low n = elim (name_cases n name) [
   | inr apart ↦ let is = same n apart in omega (arith, is)
 ]
 
-same_opened : (opened after : Name → ℕ) → after ≡ opened → (n : Name) → after n ≤ opened n
+pub same_opened : (opened after : Name → ℕ) → after ≡ opened → (n : Name) → after n ≤ opened n
 same_opened opened after same n = let is : after n ≡ opened n = ap (λ (o : Name → ℕ). o n) same in omega (arith, is)
 
 -- a file that was cut, or wasn't

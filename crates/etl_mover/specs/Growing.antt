@@ -9,9 +9,13 @@ pub record HasBytes (g : Granularity) (held : Held) (bytes : List ℕ) (f : File
   pub filed : IsFiled g held.rows f
   pub are : bytes_of f ≡ bytes_at (filed_at f) held.files ++ bytes
 
--- f is a file with these bytes behind place `at`, where it is listed so long, or of these bytes alone where it isn't listed
-pub record BecomesFile (g : Granularity) (held : Held) (at : Option ℕ) (bytes : List ℕ) (f : Filed) : Type 0 where
+-- bytes go behind place `at` of the file of f's entry, where a file is ahead that is to be listed so long; elsewhere it is made anew
+pub record IsPlaced (g : Granularity) (held : Held) (at : Option ℕ) (f : Filed) : Type 0 where
   pub listed : IsListed g held.rows f
   pub place : at ≡ len_at (filed_at f) held.files
+
+-- and f is the file with these bytes there
+pub record BecomesFile (g : Granularity) (held : Held) (at : Option ℕ) (bytes : List ℕ) (f : Filed) : Type 0 where
+  pub placed : IsPlaced g held at f
   pub len : f.entry.len ≡ start_of at + length bytes
   pub own : IsTrue held.stands → HasBytes g held bytes f

@@ -7,4 +7,5 @@ pub mod Move
 pub mod Moving
 pub mod Reading
 pub mod Removal
+pub mod Step
 pub mod Writing

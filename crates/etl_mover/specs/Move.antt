@@ -1,9 +1,9 @@
 -- A move between its calls, and how what it has written stands ahead of what its destination lists.
-use Rattle.std.specs.Prelude.{◌≡◌, ◌≤◌, ◌<◌, ◌==◌, ℕ, List, [], ◌++◌, All, Option, Some, length, map, filter, take, slice_get, IfSome}
+use Rattle.std.specs.Prelude.{◌≡◌, ◌⊎◌, ◌≤◌, ◌<◌, ◌+◌, ◌==◌, ℕ, List, [], ◌∷◌, ◌++◌, All, Option, Some, length, map, filter, take, slice_get, IfSome}
 use Rattle.disk_model.specs.Files.{Name}
 use Rattle.partition_names.specs.declared.granularity.Granularity.{Granularity}
 use Rattle.partition_names.specs.Granularity.{Holds}
-use Rattle.partition_names.specs.Part.{IsPart}
+use Rattle.partition_names.specs.Part.{IsPart, HoldsMoment}
 use Rattle.partition_names.specs.Path.{path_of}
 use Rattle.store_manifest.specs.declared.entry.Entry.{Entry}
 use Rattle.store_manifest.specs.declared.entry.Change.{Change}
@@ -60,6 +60,19 @@ pub record HasBegun (source destination : ManifestState) (number : ℕ) (text : 
 
 -- WHAT STAYS TRUE OF IT
 
+-- the last entry that is to be listed is of the partition that holds the part that is copied next
+pub record OfNext (move : MoveState) : Type 0 where
+  pub rest : List Entry
+  pub entry : Entry
+  pub part : Entry
+  pub are : move.pending ≡ rest ++ entry ∷ []
+  pub next : slice_get move.parts move.at ≡ Some part
+  pub holds : HoldsMoment entry.part part.part.start
+
+-- No more entries are to be listed than parts are copied, but for that of the part that is copied next.
+abbrev pub FewPending : MoveState → Type 0
+FewPending move = (length move.pending ≤ move.at) ⊎ ((length move.pending ≡ move.at + 1) × OfNext move)
+
 -- Its parts are partitions of the source in order, each within one of the destination, and what is to be listed is of the destination's.
 pub record IsMove (fine : Granularity) (move : MoveState) : Type 0 where
   pub nested : Holds move.granularity fine
@@ -68,7 +81,7 @@ pub record IsMove (fine : Granularity) (move : MoveState) : Type 0 where
   pub few : length move.parts ≤ 65_536
   pub at : move.at ≤ length move.parts
   pub pending : All (λ (e : Entry). IsPart move.granularity e.part × (e.series ≡ move.series)) move.pending
-  pub most : length move.pending ≤ move.at
+  pub most : FewPending move
   pub listed : IfSome move.listed (λ (e : Entry). IsPart move.granularity e.part × (e.series ≡ move.series))
   pub files : move.files ≡ map (part_file move.source move.name) move.parts
 

@@ -1,7 +1,8 @@
 // The copying of a part's lines to the destination's file of its partition, ahead of what is listed there.
-ghost use Rattle.std.specs.Prelude.{◌≡◌, ◌≢◌, ◌≤◌, ◌<◌, ◌+◌, ◌++◌, ◌∷◌, [], ℕ, List, Ok, None, Some, length, take, vec_len, vec_capacity, IfOk, IfSome, OnOk, OnErr, IsErrOf, IsTrue};
+ghost use Rattle.std.specs.Prelude.{◌≡◌, ◌≢◌, ◌⊎◌, ◌≤◌, ◌<◌, ◌+◌, ◌++◌, ◌∷◌, [], ℕ, ℤ, List, Ok, None, Some, length, take, vec_len, vec_capacity, IfOk, IfSome, OnOk, OnErr, IsErrOf, IsTrue};
 ghost use Rattle.arch_time.specs.YearTime.{IsSampleYear};
 ghost use Rattle.line_escape.specs.Unescaping.{HasNoNewline};
+ghost use Rattle.pb_wire.specs.declared.payload.PayloadType.{PayloadType as PayloadTypeValue};
 ghost use Rattle.pb_lines.specs.Header.{IsHeaderLine};
 ghost use Rattle.payload_info.specs.declared.info.PayloadInfo.{PayloadInfo as PayloadInfoValue};
 ghost use Rattle.etl_mover.specs.Lines.{TakesLines};
@@ -122,7 +123,7 @@ fn header_of(
 }
 
 // Cuts bytes to the lines of samples at their front that are of the type and year that the header says, and gives the entry with them.
-fn take_part(
+pub(crate) fn take_part(
     alloc: Global,
     head: &[u8],
     lines: &mut Vec<u8>,
@@ -130,7 +131,9 @@ fn take_part(
 ) -> Result<Entry, AllocError>
     ensures keeps { IfOk result (λ new. (new.part ≡ entry.now.part) × (new.series ≡ entry.now.series)) }
     ensures takes { IfOk result (λ new. (line : List ℕ) (info : PayloadInfoValue) → head.now ≡ line ++ 10 ∷ [] → HasNoNewline line → IsHeaderLine line info
-        → TakesLines info.ty info.year lines.old.items entry.now (length lines.new.items) new × (lines.new.items ≡ take (length lines.new.items) lines.old.items)) }
+        → TakesLines info.ty info.year lines.old.items entry.now (length lines.new.items) new) }
+    ensures some { IfOk result (λ new. (lines.new.items ≡ []) ⊎ ((ty : PayloadTypeValue) × (year : ℤ) × TakesLines ty year lines.old.items entry.now (length lines.new.items) new)) }
+    ensures front { OnOk result (lines.new.items ≡ take (length lines.new.items) lines.old.items) }
 {
     let mut work = Vec::new(alloc);
     let Some(info) = header_of(alloc, head, &mut work)? else {
@@ -146,7 +149,7 @@ fn take_part(
 }
 
 // Sets the last pending entry, in the place of the one of its partition if that is the last.
-fn set_last(pending: &mut Vec<Entry>, entry: Entry)
+pub(crate) fn set_last(pending: &mut Vec<Entry>, entry: Entry)
     requires { vec_len pending.old < vec_capacity pending.old }
     ensures { SetsLast entry pending.old.items pending.new.items }
 {

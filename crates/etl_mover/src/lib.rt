@@ -8,6 +8,7 @@ mod moving;
 mod publishing;
 mod reading;
 mod retiring;
+mod stepping;
 mod writing;
 
 pub use moving::{Copied, MOST_PARTS, Move, RetireEnd, Stage};

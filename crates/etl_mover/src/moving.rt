@@ -1,8 +1,10 @@
 // A move, and its beginning.
 ghost use Rattle.std.specs.Prelude.{◌≡◌, ◌≤◌, IfOk, length, map, slice_get};
 ghost use Rattle.std.specs.Option.{option_copied};
+ghost use Rattle.partition_names.specs.Granularity.{Holds};
+ghost use Rattle.store_manifest.specs.Entries.{AreEntries};
 ghost use Rattle.tier_store.specs.Plan.{IsLastOf};
-ghost use Rattle.etl_mover.specs.Move.{HasBegun, of_series, part_file};
+ghost use Rattle.etl_mover.specs.Move.{HasBegun, IsMove, StillLists, of_series, part_file};
 
 use disk_model::FileName;
 use partition_names::{Granularity, file_path};
@@ -72,7 +74,8 @@ impl Model for Move {
 
 impl Move {
     /// A move of the `parts` oldest partitions that `source` lists of a series of this name. It makes no call of a disk. Room for the
-    /// parts and for the names of their files is made here.
+    /// parts and for the names of their files is made here. It is one that goes on where the source's partitions lie in the
+    /// destination's.
     pub fn begin(
         alloc: Global,
         source: &Manifest,
@@ -85,6 +88,8 @@ impl Move {
         requires most { parts ≤ MOST_PARTS }
         requires listed { parts ≤ length (of_series series source.now.entries) }
         ensures begun { IfOk result (HasBegun source.now dest.now series name.now parts) }
+        ensures running { Holds dest.now.granularity source.now.granularity → AreEntries source.now.granularity source.now.entries → AreEntries dest.now.granularity dest.now.entries → IfOk result (IsMove source.now.granularity) }
+        ensures lists { IfOk result (λ move. StillLists move source.now) }
     {
         let parts = Vec::from_slice(alloc, &source.entries(series)[..parts])?;
         let from = source.store();
@@ -146,7 +151,12 @@ fn names_of(
     Ok(names)
 }
 
-fn file_name(alloc: Global, store: u8, name: &PvName, part: &Entry) -> Result<FileName, AllocError>
+pub(crate) fn file_name(
+    alloc: Global,
+    store: u8,
+    name: &PvName,
+    part: &Entry,
+) -> Result<FileName, AllocError>
     ensures { IfOk result (λ n. n ≡ part_file store name.now part.now) }
 {
     let mut path = Vec::new(alloc);

@@ -13,6 +13,7 @@ use Rattle.tier_store.specs.Ahead.{CanRelist}
 use Rattle.etl_mover.specs.Move.{set_entry}
 use Rattle.etl_mover.specs.Lists.{Relists, Knows, published}
 use Rattle.etl_mover.proofs.Listing.{may_publish, sets_follow, nothing_listed, failed_listing, failed_knows}
+use Rattle.etl_mover.proofs.Advancing.{pending_few}
 use Rattle.etl_mover.proofs.moving.Move.publish.Goals as goal
 
 pub relist-requires-clause-follow : goal.relist-requires-clause-follow
@@ -27,7 +28,7 @@ relist-requires-clause-few g c =
     let move = c.args.self.now in
     let is = c.requires.running.1 in
     let long : length c.deref.result.now ≡ length move.pending = ap length (c.deref.ensures.value ∙ c.in_ok-changes.ensures) ∙ length-map move.pending set_entry in
-    omega (arith, batch_length c.deref.result.now, long, is.most, is.at, is.few)
+    omega (arith, batch_length c.deref.result.now, long, pending_few c.requires.running.0 move is, is.few)
 
 pub relist-requires-clause-can : goal.relist-requires-clause-can
 relist-requires-clause-can g c tells =
