@@ -1,0 +1,11 @@
+pub mod Lists
+pub mod Fronts
+pub mod KeptRows
+pub mod Durable
+pub mod Times
+pub mod Standing
+pub mod Offering
+pub mod Ticking
+pub mod Crashes
+pub mod Making
+pub mod Settled

@@ -1,0 +1,190 @@
+-- What the stores make of a change is what the machine makes of it.
+use Rattle.std.proofs.Common.{◌≡◌, ℕ, zero, suc, ◌+◌, ◌<◌, List, [], ◌∷◌, ◌++◌, length, Bool, true, false, cond, Some, refl, sym, ◌∙◌, ap, subst, arith, append_assoc, append-nil, length-append}
+use Rattle.std.specs.Prelude.{◌==◌, slice_get, map, nat_eq, IsTrue, All}
+use Rattle.std.proofs.lemmas.Bool.Decides.{nat_tests}
+use Rattle.std.proofs.lemmas.List.{length-map}
+use Rattle.std.proofs.lemmas.List.Elements.{All-head, All-tail}
+use Rattle.std.proofs.lemmas.Option.{same_Some, slice_get_within}
+use Rattle.event_types.specs.declared.about.About.{About}
+use Rattle.event_types.specs.declared.about.State.{State}
+use Rattle.pv_catalog.specs.Catalogue.{CatalogueState, registered}
+use Rattle.pv_catalog.specs.Rows.{switched}
+use Rattle.pv_catalog.specs.declared.row.Row.{Row}
+use Rattle.pv_catalog.proofs.Standing.{length-switched}
+use Rattle.series_model.specs.Series.{end_of, over, RisesFrom}
+use Rattle.series_model.specs.declared.batch.RowSamples.{RowSamples}
+use Rattle.series_model.specs.declared.sample.Sample.{Sample}
+use Rattle.series_model.proofs.OverLemmas.{end_of-over}
+use Rattle.series_model.proofs.RisingLists.{end_from-append, RisesFrom-front, RisesFrom-rest, RisesFrom-lower, since_all}
+use Rattle.partition_names.specs.declared.granularity.Granularity.{Granularity}
+use Rattle.store_manifest.specs.Manifest.{ManifestState}
+use Rattle.tier_store.specs.Flush.{with_batch}
+use Rattle.tier_store.specs.Held.{Filed, IsListed, samples_of}
+use Rattle.three_stores.specs.Change.{IsKnown, Registers, Switches, Flushes}
+use Rattle.three_stores.specs.Stores.{Stores, list_at, with_rows}
+use Rattle.three_stores.proofs.Places.{manifest_at}
+use Rattle.act_model.specs.Changes.{changed, added, made, of_row}
+use Rattle.act_model.specs.Crash.{DurableRow, kept_of}
+use Rattle.act_model.specs.Flush.{batch_of}
+use Rattle.act_model.specs.Machine.{Machine, Change, AddsRow, SetsState, Appends}
+use Rattle.act_model.specs.Rows.{RowState, durable, fresh_row}
+use Rattle.act_model.specs.Sound.{IsSound}
+use Rattle.act_model.proofs.Puts.{put_plain}
+use Rattle.act_model.proofs.RowActs.{flush_may}
+use Rattle.act_model.proofs.Rows.{Came, from_row, is_new, came, more_rows}
+use Rattle.archive_core.specs.Stands.{IsDurableAt, HoldsDurable}
+
+kept_from : (rs : List RowState) (i : ℕ) (d : DurableRow) → slice_get (map kept_of rs) i ≡ Some d → (r : RowState) × (slice_get rs i ≡ Some r) × (kept_of r ≡ d)
+kept_from [] i d here = absurd (cc (here))
+kept_from (r ∷ rs) zero d here = (r, refl, same_Some (kept_of r) d here)
+kept_from (r ∷ rs) (suc i) d here = kept_from rs i d here
+
+pub kept_to : (rs : List RowState) (i : ℕ) (r : RowState) → slice_get rs i ≡ Some r → slice_get (map kept_of rs) i ≡ Some (kept_of r)
+kept_to [] i r here = absurd (cc (here))
+kept_to (q ∷ rs) zero r here = ap (λ (x : RowState). Some (kept_of x)) (same_Some q r here)
+kept_to (q ∷ rs) (suc i) r here = kept_to rs i r here
+
+-- the rows that a change makes are durable, where each is
+durable_made : (m : Machine) (c : Change) (new : Stores) → length m.rows + length (added c) ≡ length new.rows → ((i : ℕ) (r : RowState) → slice_get m.rows i ≡ Some r → IsDurableAt m.told new i (kept_of (changed m.told m.limbo c i r)))
+    → ((j : ℕ) (r : RowState) → slice_get (added c) j ≡ Some r → IsDurableAt m.told new (length m.rows + j) (kept_of r)) → HoldsDurable new (made [] c m)
+durable_made m c new count old_rows new_rows = record {
+  count = length-map (made [] c m).rows kept_of ∙ (more_rows m.told m.limbo c m.rows ∙ count);
+  each = λ i d got. let from = kept_from (made [] c m).rows i d got in by_row i d from.0 from.2 (came m.told m.limbo c m.rows i from.0 from.1);
+}
+  where
+    by_row : (i : ℕ) (d : DurableRow) (r : RowState) → kept_of r ≡ d → Came m.told m.limbo c m.rows i r → IsDurableAt m.told new i d
+    by_row i d r is (from_row was here made_is) = subst (λ (x : DurableRow). IsDurableAt m.told new i x) (ap kept_of (sym made_is) ∙ is) (old_rows i was here)
+    by_row i d r is (is_new j at_is here) = subst (λ (x : DurableRow). IsDurableAt m.told new i x) is (subst (λ (k : ℕ). IsDurableAt m.told new k (kept_of r)) (sym at_is) (new_rows j r here))
+
+count_of : (old : Stores) (m : Machine) → HoldsDurable old m → length m.rows ≡ length old.rows
+count_of old m holds = sym (length-map m.rows kept_of) ∙ holds.count
+
+-- A ROW IS ADDED
+
+-- no file is listed of a row that isn't there
+samples_none : (g : Granularity) (rows : List Row) (files : List Filed) → All (IsListed g rows) files → samples_of (length rows) files ≡ []
+samples_none g rows [] listed = refl
+samples_none g rows (f ∷ files) listed =
+    let head = All-head (IsListed g rows) f files listed in
+    let low = slice_get_within rows f.entry.series head.row head.stands in
+    let other : nat_eq f.entry.series (length rows) ≡ false = grind (arith, nat_tests) in
+    rw other (samples_none g rows files (All-tail (IsListed g rows) f files listed))
+
+known_none : (catalogue : CatalogueState) (ms : List ManifestState) (s : Stores) → IsKnown catalogue ms s → (i : ℕ) → i < 3 → samples_of (length s.rows) (list_at i s) ≡ []
+known_none catalogue ms s known i low =
+    let three = known.three in
+    let m = manifest_at ms i (omega (arith, low, three)) in
+    samples_none m.0.granularity s.rows (list_at i s) (known.each i m.0 m.1).valid.filed.listed
+
+get_front : (xs ys : List Row) (i : ℕ) (x : Row) → slice_get xs i ≡ Some x → slice_get (xs ++ ys) i ≡ Some x
+get_front [] ys i x here = absurd (cc (here))
+get_front (y ∷ xs) ys zero x here = here
+get_front (y ∷ xs) ys (suc i) x here = get_front xs ys i x here
+
+get_last : (xs : List Row) (x : Row) → slice_get (xs ++ x ∷ []) (length xs) ≡ Some x
+get_last [] x = refl
+get_last (y ∷ xs) x = get_last xs x
+
+pub register_holds : (catalogue : CatalogueState) (ms : List ManifestState) (name : List ℕ) (about : About) (old new : Stores) (m : Machine) → IsKnown catalogue ms old → Registers name about old new → HoldsDurable old m → HoldsDurable new (made [] (AddsRow name about) m)
+register_holds catalogue ms name about old new m known registers holds = subst (λ (s : Stores). HoldsDurable s (made [] (AddsRow name about) m)) (sym registers.1)
+    (durable_made m (AddsRow name about) (with_rows old (old.rows ++ row ∷ [])) (let count = count_of old m holds in let more = length-append old.rows (row ∷ []) in omega (arith, count, more)) (λ i r here. there i r (holds.each i (kept_of r) (kept_to m.rows i r here))) own)
+  where
+    row : Row
+    row = registered old.rows name about
+
+    there : (i : ℕ) (r : RowState) → IsDurableAt m.told old i (kept_of r) → IsDurableAt m.told (with_rows old (old.rows ++ row ∷ [])) i (kept_of r)
+    there i r at = record {
+      row = at.row;
+      here = get_front old.rows (row ∷ []) i at.row at.here;
+      is = record { name = at.is.name; about = at.is.about; state = at.is.state; short = at.is.short; medium = at.is.medium; long = at.is.long };
+    }
+
+    fresh : IsDurableAt m.told (with_rows old (old.rows ++ row ∷ [])) (length old.rows) (kept_of (fresh_row name about))
+    fresh = record {
+      row = row;
+      here = get_last old.rows row;
+      is = record { name = refl; about = refl; state = refl; short = λ told. sym (known_none catalogue ms old known 0 (omega arith)); medium = λ told. sym (known_none catalogue ms old known 1 (omega arith)); long = λ told. sym (known_none catalogue ms old known 2 (omega arith)) };
+    }
+
+    own : (j : ℕ) (r : RowState) → slice_get (fresh_row name about ∷ []) j ≡ Some r → IsDurableAt m.told (with_rows old (old.rows ++ row ∷ [])) (length m.rows + j) (kept_of r)
+    own zero r here =
+        let count = count_of old m holds in
+        let place : length old.rows ≡ length m.rows + 0 = omega (arith, count) in
+        subst (λ (k : ℕ). IsDurableAt m.told (with_rows old (old.rows ++ row ∷ [])) k (kept_of r)) place (subst (λ (q : RowState). IsDurableAt m.told (with_rows old (old.rows ++ row ∷ [])) (length old.rows) (kept_of q)) (same_Some (fresh_row name about) r here) fresh)
+    own (suc j) r here = absurd (cc (here))
+
+-- A STATE IS SET
+
+switched_get : (k : ℕ) (to : State) (rows : List Row) (i : ℕ) (row : Row) → slice_get rows i ≡ Some row → slice_get (switched k to rows) i ≡ Some (cond (i == k) (record row { state = to }) row)
+switched_get k to [] i row here = absurd (cc (here))
+switched_get zero to (x ∷ rows) zero row here = ap (λ (w : Row). Some (record w { state = to })) (same_Some x row here)
+switched_get zero to (x ∷ rows) (suc i) row here = let other : (suc i == 0) ≡ false = grind (arith, nat_tests) in here ∙ ap (λ (b : Bool). Some (cond b (record row { state = to }) row)) (sym other)
+switched_get (suc k) to (x ∷ rows) zero row here = let other : (0 == suc k) ≡ false = grind (arith, nat_tests) in here ∙ ap (λ (b : Bool). Some (cond b (record row { state = to }) row)) (sym other)
+switched_get (suc k) to (x ∷ rows) (suc i) row here =
+    let same : (suc i == suc k) ≡ (i == k) = grind (arith, nat_tests) in
+    switched_get k to rows i row here ∙ ap (λ (b : Bool). Some (cond b (record row { state = to }) row)) (sym same)
+
+pub switch_holds : (row : ℕ) (from to : State) (old new : Stores) (m : Machine) → Switches row from to old new → HoldsDurable old m → HoldsDurable new (made [] (SetsState row to) m)
+switch_holds k from to old new m switches holds = subst (λ (s : Stores). HoldsDurable s (made [] (SetsState k to) m)) (sym switches.1)
+    (durable_made m (SetsState k to) (with_rows old (switched k to old.rows)) (let count = count_of old m holds in let same = length-switched k to old.rows in omega (arith, count, same)) (λ i r here. by_test i r (holds.each i (kept_of r) (kept_to m.rows i r here)) (i == k) refl) (λ j r here. absurd (cc (here))))
+  where
+    by_test : (i : ℕ) (r : RowState) → IsDurableAt m.told old i (kept_of r) → (b : Bool) → (i == k) ≡ b → IsDurableAt m.told (with_rows old (switched k to old.rows)) i (kept_of (changed m.told m.limbo (SetsState k to) i r))
+    by_test i r at true is = rw is (record {
+      row = record at.row { state = to };
+      here = switched_get k to old.rows i at.row at.here ∙ ap (λ (b : Bool). Some (cond b (record at.row { state = to }) at.row)) is;
+      is = record { name = at.is.name; about = at.is.about; state = refl; short = at.is.short; medium = at.is.medium; long = at.is.long };
+    })
+    by_test i r at false is = rw is (record {
+      row = at.row;
+      here = switched_get k to old.rows i at.row at.here ∙ ap (λ (b : Bool). Some (cond b (record at.row { state = to }) at.row)) is;
+      is = record { name = at.is.name; about = at.is.about; state = at.is.state; short = at.is.short; medium = at.is.medium; long = at.is.long };
+    })
+
+-- SAMPLES ARE FLUSHED
+
+batch_behind : (batch : List RowSamples) (i : ℕ) (xs : List Sample) → RisesFrom (end_of xs) (of_row i batch) → with_batch i xs batch ≡ xs ++ of_row i batch
+batch_behind [] i xs later = sym (append-nil xs)
+batch_behind (p ∷ batch) i xs later = by_test (nat_eq p.row i) later (λ ys h. batch_behind batch i ys h)
+  where
+    by_test : (b : Bool) → RisesFrom (end_of xs) (cond b (p.samples ++ of_row i batch) (of_row i batch)) → ((ys : List Sample) → RisesFrom (end_of ys) (of_row i batch) → with_batch i ys batch ≡ ys ++ of_row i batch)
+        → with_batch i (cond b (over xs p.samples) xs) batch ≡ xs ++ cond b (p.samples ++ of_row i batch) (of_row i batch)
+    by_test true later more =
+        let n = end_of xs in
+        let plain : over xs p.samples ≡ xs ++ p.samples = ap (λ w. xs ++ w) (since_all n n p.samples (RisesFrom-front n p.samples (of_row i batch) later) (omega arith)) in
+        let rest : RisesFrom (end_of (xs ++ p.samples)) (of_row i batch) = rw (end_from-append 0 xs p.samples) (RisesFrom-rest n p.samples (of_row i batch) later) in
+        ap (λ w. with_batch i w batch) plain ∙ (more (xs ++ p.samples) rest ∙ append_assoc xs p.samples (of_row i batch))
+    by_test false later more = more xs later
+
+-- what a flush takes of a row is later than all that store 1 lists of it
+taken_later : (limit : ℕ) (m : Machine) (i : ℕ) (r : RowState) → IsSound m → slice_get m.rows i ≡ Some r → RisesFrom (end_of r.short) (of_row i (batch_of limit m))
+taken_later limit m i r sound here =
+    let row = sound.each_row i r here in
+    let may = flush_may limit m i r here in
+    let later : RisesFrom (end_of (durable r)) (of_row i (batch_of limit m) ++ may.0) = subst (λ (xs : List Sample). RisesFrom (end_of (durable r)) xs) may.1 row.later in
+    let front = RisesFrom-front (end_of (durable r)) (of_row i (batch_of limit m)) may.0 later in
+    let end = end_of-over (over r.long r.medium) r.short row.short in
+    RisesFrom-lower (end_of r.short) (end_of (durable r)) (of_row i (batch_of limit m)) front (omega (arith, end))
+
+pub flush_holds : (limit : ℕ) (old new : Stores) (m : Machine) → IsSound m → m.limbo ≡ [] → (m.told ≡ true → IsTrue old.stands) → Flushes (batch_of limit m) old new → HoldsDurable old m → HoldsDurable new (made [] (Appends (batch_of limit m)) m)
+flush_holds limit old new m sound none stands flushes holds = durable_made m (Appends (batch_of limit m)) new
+    (let count = count_of old m holds in let same = ap (λ (s : Stores). length s.rows) flushes.same in omega (arith, count, same))
+    (λ i r here. by_row i r here (holds.each i (kept_of r) (kept_to m.rows i r here))) (λ j r here. absurd (cc (here)))
+  where
+    by_row : (i : ℕ) (r : RowState) → slice_get m.rows i ≡ Some r → IsDurableAt m.told old i (kept_of r) → IsDurableAt m.told new i (kept_of (changed m.told m.limbo (Appends (batch_of limit m)) i r))
+    by_row i r here at = record {
+      row = at.row;
+      here = ap (λ (s : Stores). slice_get s.rows i) flushes.same ∙ at.here;
+      is = record {
+        name = at.is.name;
+        about = at.is.about;
+        state = at.is.state;
+        short = λ told.
+            let plain : (changed m.told m.limbo (Appends (batch_of limit m)) i r).short ≡ r.short ++ of_row i (batch_of limit m) = rw (told, none) (put_plain (of_row i (batch_of limit m)) r.short) in
+            let later = taken_later limit m i r sound here in
+            let was : r.short ≡ samples_of i old.short = at.is.short told in
+            let now : samples_of i new.short ≡ samples_of i old.short ++ of_row i (batch_of limit m) = flushes.flushed.samples (stands told) i ∙ batch_behind (batch_of limit m) i (samples_of i old.short) (subst (λ (xs : List Sample). RisesFrom (end_of xs) (of_row i (batch_of limit m))) was later) in
+            plain ∙ (ap (λ (xs : List Sample). xs ++ of_row i (batch_of limit m)) was ∙ sym now);
+        medium = λ told. at.is.medium told ∙ sym (ap (λ (s : Stores). samples_of i s.medium) flushes.same);
+        long = λ told. at.is.long told ∙ sym (ap (λ (s : Stores). samples_of i s.long) flushes.same);
+      };
+    }

@@ -1,0 +1,145 @@
+-- How an offer ends, by what was found of its row.
+use Rattle.std.proofs.Common.{◌≡◌, inl, inr, ℕ, ◌+◌, List, [], ◌∷◌, ◌++◌, length, Bool, true, false, Option, Some, None, Result, Ok, Err, refl, sym, ◌∙◌, ap, subst, arith}
+use Rattle.std.specs.Prelude.{slice_get, slice_set, nat_lt}
+use Rattle.std.proofs.lemmas.Bool.Decides.{nat_tests}
+use Rattle.std.proofs.lemmas.Option.{same_Some}
+use Rattle.append_buffer.specs.Tails.{TailState, tail_at, SetsTail, KeepsTails}
+use Rattle.append_buffer.specs.Tails as tails
+use Rattle.event_types.specs.declared.about.Method.{Method}
+use Rattle.event_types.specs.declared.about.Method.TheVariants.{Monitor, Scan}
+use Rattle.pb_wire.specs.declared.payload.PayloadType.{PayloadType}
+use Rattle.pv_catalog.specs.declared.row.Row.{Row}
+use Rattle.sampler.specs.Row.{after}
+use Rattle.series_model.specs.Admission.{admit_before, admit_after}
+use Rattle.series_model.specs.declared.admission.Reason.{Reason}
+use Rattle.series_model.specs.declared.admission.Reason.TheVariants.{Unknown}
+use Rattle.series_model.specs.Sampling.{Cell, cell_after}
+use Rattle.series_model.specs.declared.sample.Sample.{Sample}
+use Rattle.series_model.specs.declared.sampling.ScanEvent.TheVariants.{Offered}
+use Rattle.act_model.specs.declared.acts.Answer.TheVariants.{Dropped, IntakeFull, Kept, Held, Memory}
+use Rattle.act_model.specs.Changes.{at, with_rows}
+use Rattle.act_model.specs.Event.{IsEvent}
+use Rattle.act_model.specs.Machine.{Machine, find_row, held_bytes}
+use Rattle.act_model.specs.Offer.{OfferStep, offered_to, tried, gains, with_held, room}
+use Rattle.act_model.specs.Outcome.{Outcome, Ends}
+use Rattle.act_model.specs.Reply.{Reply}
+use Rattle.act_model.specs.Rows.{RowState, standing, is_running, number_of, period_of}
+use Rattle.act_model.proofs.RowActs.{offer_sound}
+use Rattle.act_model.specs.Asks.{offered_reply}
+use Rattle.act_model.specs.declared.answers.Offered.{Offered as OfferAnswer}
+use Rattle.act_model.specs.declared.answers.Offered.TheVariants as offer
+use Rattle.archive_core.specs.declared.memory.RowMemory.{RowMemory}
+use Rattle.archive_core.specs.declared.trying.Refusal.{Refusal}
+use Rattle.archive_core.specs.declared.trying.Refusal.TheVariants as refusal
+use Rattle.archive_core.specs.Memory.{IsRowOf, cell_in, period_in}
+use Rattle.archive_core.specs.Parts.{Parts}
+use Rattle.archive_core.specs.Stands.{Stands}
+use Rattle.archive_core.specs.Trying.{IsTried, IsOffered}
+use Rattle.archive_core.proofs.KeptRows.{held_is}
+use Rattle.archive_core.proofs.Standing.{row_stands, still_stands}
+
+-- THE MACHINE'S END
+
+pub offer_unknown : (m : Machine) (name : List ℕ) (ty : PayloadType) (s : Sample) (now : ℕ) → find_row m name ≡ None → OfferStep name ty s now m (Dropped Unknown) m
+offer_unknown m name ty s now none = rw none (inl (refl, refl))
+
+-- an offer to the row that has the name
+found_step : (m n : Machine) (name : List ℕ) (i : ℕ) (r : RowState) (ty : PayloadType) (s : Sample) (now : ℕ) (answer : Reply) → find_row m name ≡ Some i → slice_get m.rows i ≡ Some r → Ends (offered_to m i r ty s now) m answer n → OfferStep name ty s now m answer n
+found_step m n name i r ty s now answer found here ends = rw (found, here) ends
+
+-- what comes of a sample that is tried
+abbrev pub TriedAs : Machine → RowState → Sample → ℕ → Outcome → Result (Unit {0}) Refusal → Type 0
+TriedAs m r s now kept (Ok a) = tried m r s now kept ≡ kept
+TriedAs m r s now kept (Err refusal.Memory) = Unit {0}
+TriedAs m r s now kept (Err (refusal.Dropped reason)) = tried m r s now kept ≡ record { answer = Dropped reason; after = m }
+TriedAs m r s now kept (Err (refusal.IntakeFull held)) = tried m r s now kept ≡ record { answer = IntakeFull held; after = m }
+
+pub tried_as : (m : Machine) (r : RowState) (s : Sample) (now next held : ℕ) (kept : Outcome) (result : Result (Unit {0}) Refusal) → r.next ≡ next → held_bytes m.rows ≡ held → IsTried next held s.t (length s.line) now result → TriedAs m r s now kept result
+tried_as m r s now next held kept (Ok a) next_is held_is is =
+    let late : admit_after r.next s.t now ≡ None = ap (λ n. admit_after n s.t now) next_is ∙ is.0 in
+    let fits : nat_lt room (held_bytes m.rows + (length s.line + 1)) ≡ false = let low = is.1 in grind (arith, nat_tests) in
+    rw (late, fits) refl
+tried_as m r s now next held kept (Err refusal.Memory) next_is held_is is = tt
+tried_as m r s now next held kept (Err (refusal.Dropped reason)) next_is held_is is =
+    let late : admit_after r.next s.t now ≡ Some reason = ap (λ n. admit_after n s.t now) next_is ∙ is in
+    rw late refl
+tried_as m r s now next held kept (Err (refusal.IntakeFull bytes)) next_is held_is is =
+    let late : admit_after r.next s.t now ≡ None = ap (λ n. admit_after n s.t now) next_is ∙ is.0 in
+    let over : nat_lt room (held_bytes m.rows + (length s.line + 1)) ≡ true = let high = is.1 in grind (arith, nat_tests) in
+    let told : held_bytes m.rows ≡ bytes = held_is ∙ sym is.2 in
+    rw (late, over) (ap (λ b. record { answer = IntakeFull b; after = m }) told)
+
+standing_is : (r : RowState) (row : Row) → r.about ≡ row.about → r.state ≡ row.state → standing r ≡ record { is_running = is_running row.state; ty = number_of row.about.ty; next = r.next }
+standing_is r row about state = rw (about, state) refl
+
+-- a row of which nothing is sampled is monitored, and else it has the period
+monitored : (d : Method) → None ≡ period_of d → d ≡ Monitor
+monitored Monitor is = refl
+monitored (Scan period) is = absurd (cc (is))
+
+sampled_at : (d : Method) (n : ℕ) → Some n ≡ period_of d → d ≡ Scan n
+sampled_at Monitor n is = absurd (cc (is))
+sampled_at (Scan period) n is = ap (λ k. Scan k) (sym (same_Some n period is))
+
+-- THE ARCHIVE'S END
+
+module _ (tells : Bool) (p : Parts) (m : Machine) (s : Stands tells p m) (name : List ℕ) (i : ℕ) (ty : PayloadType) (x : Sample) (now : ℕ) (found : find_row m name ≡ Some i) (row : Row) (memory : RowMemory) (r : RowState) (row_here : slice_get p.at.catalogue.rows i ≡ Some row) (here : slice_get m.rows i ≡ Some r) (is : IsRowOf p.tails i row memory r) (there : slice_get p.kept i ≡ Some memory) where
+  abbrev pub Offers : Parts → Reply → Type 0
+  Offers new answer = (n : Machine) × OfferStep name ty x now m answer n × Stands tells new n
+
+  -- the first three reasons, as the machine has them
+  by_row : (o : Option Reason) → ((next : ℕ) → o ≡ admit_before (Some (record { is_running = is_running row.state; ty = number_of row.about.ty; next = next })) (number_of ty)) → admit_before (Some (standing r)) (number_of ty) ≡ o
+  by_row o reason = ap (λ w. admit_before (Some w) (number_of ty)) (standing_is r row is.about is.state) ∙ sym (reason r.next)
+
+  pub offer_dropped : (reason : Reason) → ((next : ℕ) → Some reason ≡ admit_before (Some (record { is_running = is_running row.state; ty = number_of row.about.ty; next = next })) (number_of ty)) → Offers p (Dropped reason)
+  offer_dropped reason why =
+      let first = by_row (Some reason) why in
+      let ends : Ends (offered_to m i r ty x now) m (Dropped reason) m = rw first (inl (refl, refl)) in
+      (m, found_step m m name i r ty x now (Dropped reason) found here ends, s)
+
+  -- none of the first three reasons applies
+  abbrev pub IsPast : Type 0
+  IsPast = (next : ℕ) → None ≡ admit_before (Some (record { is_running = is_running row.state; ty = number_of row.about.ty; next = next })) (number_of ty)
+
+  -- how an offer ends to a row that isn't sampled
+  by_trial : (o : Outcome) → IsPast → memory.scan ≡ None → tried m r x now (record { answer = Kept; after = with_rows m (at i (gains x)) }) ≡ o → offered_to m i r ty x now ≡ o
+  by_trial o why scan is_o =
+      let first = by_row None why in
+      let method : r.about.method ≡ Monitor = monitored r.about.method (ap period_in (sym scan) ∙ is.period) in
+      rw (first, method) is_o
+
+  trial : (result : Result (Unit {0}) Refusal) → IsTried memory.next (tails.held_bytes p.tails) x.t (length x.line) now result → TriedAs m r x now (record { answer = Kept; after = with_rows m (at i (gains x)) }) result
+  trial result tried = tried_as m r x now memory.next (tails.held_bytes p.tails) (record { answer = Kept; after = with_rows m (at i (gains x)) }) result is.next (held_is p.at.catalogue.rows p.kept p.tails m.rows s.rows) tried
+
+  -- the machine stays
+  ended : (answer : Reply) (new : Parts) → offered_to m i r ty x now ≡ record { answer = answer; after = m } → Stands tells new m → Offers new answer
+  ended answer new end stands = let ends : Ends (offered_to m i r ty x now) m answer m = rw end (inl (refl, refl)) in (m, found_step m m name i r ty x now answer found here ends, stands)
+
+  pub offer_ends : IsEvent ty x → IsPast → (answer : OfferAnswer) (new : List TailState) (set : RowMemory) → IsOffered p.tails memory i x now answer new set → Offers (record p { kept = slice_set p.kept i set; tails = new }) (offered_reply answer)
+  offer_ends event why offer.Held new set (sampled, scan, keeps, set_is) =
+      let first = by_row None why in
+      let n = with_rows m (at i (with_held x)) in
+      let method : r.about.method ≡ Scan sampled.period = sampled_at r.about.method sampled.period (ap period_in (sym scan) ∙ is.period) in
+      let ends : Ends (offered_to m i r ty x now) m Held n = rw (first, method) (inl (refl, refl)) in
+      let step = found_step m n name i r ty x now Held found here ends in
+      let held : RowMemory = record memory { scan = Some (after sampled (Offered x)) } in
+      let cell : (with_held x r).cell ≡ cell_in (Some (after sampled (Offered x))) = ap (λ (c : Cell). cell_after 0 c (Offered x)) (is.cell ∙ ap cell_in scan) in
+      let period : period_in (Some (after sampled (Offered x))) ≡ period_of r.about.method = ap period_in (sym scan) ∙ is.period in
+      let own : IsRowOf new i row held (with_held x r) = record { name = is.name; about = is.about; state = is.state; next = is.next; cell = cell; period = period; tail = is.tail ∙ sym (keeps i) } in
+      let stands = row_stands tells p m s i (with_held x) held new row r row_here here own (λ j apart. keeps j) (λ q. refl) (offer_sound name ty x now m n Held s.sound event step) in
+      (n, step, subst (λ (w : RowMemory). Stands tells (record p { kept = slice_set p.kept i w; tails = new }) n) (sym set_is) stands)
+  offer_ends event why offer.Kept new set (scan, tried, sets, set_is) =
+      let n = with_rows m (at i (gains x)) in
+      let end = by_trial (record { answer = Kept; after = n }) why scan (trial (Ok tt) tried) in
+      let ends : Ends (offered_to m i r ty x now) m Kept n = rw end (inl (refl, refl)) in
+      let step = found_step m n name i r ty x now Kept found here ends in
+      let more : RowMemory = record memory { next = x.t + 1 } in
+      let tail : (gains x r).tail ≡ (tail_at new i).samples = ap (λ (xs : List Sample). xs ++ x ∷ []) is.tail ∙ sym sets.own in
+      let own : IsRowOf new i row more (gains x r) = record { name = is.name; about = is.about; state = is.state; next = refl; cell = is.cell; period = is.period; tail = tail } in
+      let stands = row_stands tells p m s i (gains x) more new row r row_here here own sets.others (λ q. refl) (offer_sound name ty x now m n Kept s.sound event step) in
+      (n, step, subst (λ (w : RowMemory). Stands tells (record p { kept = slice_set p.kept i w; tails = new }) n) (sym set_is) stands)
+  offer_ends event why (offer.Dropped reason) new set (scan, late, keeps, set_is) =
+      ended (Dropped reason) (record p { kept = slice_set p.kept i set; tails = new }) (by_trial (record { answer = Dropped reason; after = m }) why scan (trial (Err (refusal.Dropped reason)) late)) (still_stands tells p m new s keeps i memory set there set_is)
+  offer_ends event why (offer.IntakeFull held) new set (scan, full, keeps, set_is) =
+      ended (IntakeFull held) (record p { kept = slice_set p.kept i set; tails = new }) (by_trial (record { answer = IntakeFull held; after = m }) why scan (trial (Err (refusal.IntakeFull held)) full)) (still_stands tells p m new s keeps i memory set there set_is)
+  offer_ends event why offer.Memory new set (keeps, set_is) = (m, found_step m m name i r ty x now Memory found here (inr (refl, refl)), still_stands tells p m new s keeps i memory set there set_is)

@@ -1,0 +1,293 @@
+-- The archive once a doubt is settled.
+use Rattle.std.proofs.Common.{◌≡◌, ◌≢◌, ◌⊎◌, inl, inr, ℕ, zero, suc, ◌+◌, ◌≤◌, List, [], ◌∷◌, ◌++◌, length, Bool, true, false, Option, Some, None, refl, sym, ◌∙◌, ap, subst, arith}
+use Rattle.std.specs.Prelude.{◌==◌, ◌&&◌, slice_get, slice_set, map}
+use Rattle.std.proofs.lemmas.Bool.Decides.{nat_tests}
+use Rattle.std.proofs.lemmas.List.{length-map}
+use Rattle.std.proofs.lemmas.Option.{same_Some}
+use Rattle.append_buffer.specs.Tails.{TailState, tail_at}
+use Rattle.event_types.specs.declared.about.About.{About}
+use Rattle.event_types.specs.declared.about.Method.{Method}
+use Rattle.event_types.specs.declared.about.Method.TheVariants.{Monitor, Scan}
+use Rattle.event_types.specs.declared.about.State.{State}
+use Rattle.pv_catalog.specs.Catalogue.{HasState}
+use Rattle.pv_catalog.specs.declared.row.Row.{Row}
+use Rattle.sampler.specs.Row.{SampledRow, after}
+use Rattle.series_model.specs.Sampling.{first_cell}
+use Rattle.three_stores.specs.Change.{Has, IsOpen, HasEither}
+use Rattle.three_stores.specs.Seen.{Seen, granularities}
+use Rattle.three_stores.specs.Stores.{Stores}
+use Rattle.act_model.specs.Changes.{each, at, changed, made, Settles, no_doubt, as_not_made, as_made, without_held}
+use Rattle.act_model.specs.Crash.{kept_of, kept}
+use Rattle.act_model.specs.Machine.{Machine, Change, AddsRow, SetsState, Appends, Publishes, Unlists}
+use Rattle.act_model.specs.Rows.{RowState, fresh_row, period_of}
+use Rattle.act_model.proofs.Rows.{Came, from_row, is_new, came, more_rows}
+use Rattle.act_model.proofs.StepLaws.{settled_sound, settled_none}
+use Rattle.archive_core.specs.declared.memory.RowMemory.{RowMemory}
+use Rattle.archive_core.specs.declared.memory.Doubt.{Doubt}
+use Rattle.archive_core.specs.declared.memory.Doubt.TheVariants as kind
+use Rattle.act_model.specs.Limbo.{FileState, unlisted}
+use Rattle.archive_core.proofs.Making.{kept_to}
+use Rattle.archive_core.proofs.Standing.{each_to}
+use Rattle.archive_core.specs.Memory.{IsRowAt, AreRowsOf, cell_in, period_in, fresh_memory, sampling_by, cleared, IsCleared}
+use Rattle.archive_core.specs.Parts.{Parts}
+use Rattle.archive_core.specs.Stands.{Stands, Rests, IsReady, IsDoubtOf, AreDurable, HoldsDurable, with_doubted}
+use Rattle.archive_core.proofs.Lists.{same_or_not, get_set_same, get_set_other}
+
+-- WHAT IS KEPT IN MEMORY ALONE
+
+-- the memory of a row apart from the catalogue
+pub record IsKeptOf (tails : List TailState) (i : ℕ) (memory : RowMemory) (r : RowState) : Type 0 where
+  pub next : r.next ≡ memory.next
+  pub cell : r.cell ≡ cell_in memory.scan
+  pub period : period_in memory.scan ≡ period_of r.about.method
+  pub tail : r.tail ≡ (tail_at tails i).samples
+
+pub record AreKeptOf (kept : List RowMemory) (tails : List TailState) (rs : List RowState) : Type 0 where
+  pub each : (i : ℕ) (r : RowState) → slice_get rs i ≡ Some r → (memory : RowMemory) × (slice_get kept i ≡ Some memory) × IsKeptOf tails i memory r
+  pub beyond : (i : ℕ) → length rs ≤ i → (tail_at tails i).samples ≡ []
+
+kept_part : (rows : List Row) (kept : List RowMemory) (ts : List TailState) (rs : List RowState) → AreRowsOf rows kept ts rs → AreKeptOf kept ts rs
+kept_part rows kept ts rs are = record {
+  each = λ i r here. let old = are.each i r here in (old.memory, old.there, record { next = old.is.next; cell = old.is.cell; period = old.is.period; tail = old.is.tail });
+  beyond = are.beyond;
+}
+
+-- beside stores that hold what is durable of the rows
+rows_of : (told : Bool) (s : Stores) (kept : List RowMemory) (ts : List TailState) (rs : List RowState) → AreKeptOf kept ts rs → AreDurable told s (map kept_of rs) → AreRowsOf s.rows kept ts rs
+rows_of told s kept ts rs are durable = record {
+  count = sym (length-map rs kept_of) ∙ durable.count;
+  each = λ i r here.
+      let old = are.each i r here in
+      let new = durable.each i (kept_of r) (kept_to rs i r here) in
+      record { row = new.row; memory = old.0; here = new.here; there = old.1; is = record { name = new.is.name; about = new.is.about; state = new.is.state; next = old.2.next; cell = old.2.cell; period = old.2.period; tail = old.2.tail } };
+  beyond = are.beyond;
+}
+
+sampling_period : (d : Method) → period_in (sampling_by d) ≡ period_of d
+sampling_period Monitor = refl
+sampling_period (Scan period) = refl
+
+sampling_cell : (d : Method) → first_cell ≡ cell_in (sampling_by d)
+sampling_cell Monitor = refl
+sampling_cell (Scan period) = refl
+
+-- a row was added, whose memory was there
+kept_added : (m : Machine) (kept : List RowMemory) (ts : List TailState) (name : List ℕ) (about : About) → AreKeptOf kept ts m.rows → slice_get kept (length m.rows) ≡ Some (fresh_memory about) → AreKeptOf kept ts (made [] (AddsRow name about) m).rows
+kept_added m kept ts name about are ready = record {
+  each = λ i r here. by_row i r (came m.told m.limbo (AddsRow name about) m.rows i r here);
+  beyond = λ i high. are.beyond i (let more = more_rows m.told m.limbo (AddsRow name about) m.rows in omega (arith, high, more));
+}
+  where
+    of_fresh : (i : ℕ) (r : RowState) (j : ℕ) → i ≡ length m.rows + j → slice_get (fresh_row name about ∷ []) j ≡ Some r → (memory : RowMemory) × (slice_get kept i ≡ Some memory) × IsKeptOf ts i memory r
+    of_fresh i r zero at_is here =
+        let plain : length m.rows ≡ i = omega (arith, at_is) in
+        let none = are.beyond i (omega (arith, at_is)) in
+        let own : IsKeptOf ts i (fresh_memory about) (fresh_row name about) = record { next = refl; cell = sampling_cell about.method; period = sampling_period about.method; tail = sym none } in
+        (fresh_memory about, subst (λ (k : ℕ). slice_get kept k ≡ Some (fresh_memory about)) plain ready, subst (λ (q : RowState). IsKeptOf ts i (fresh_memory about) q) (same_Some (fresh_row name about) r here) own)
+    of_fresh i r (suc j) at_is here = absurd (cc (here))
+
+    by_row : (i : ℕ) (r : RowState) → Came m.told m.limbo (AddsRow name about) m.rows i r → (memory : RowMemory) × (slice_get kept i ≡ Some memory) × IsKeptOf ts i memory r
+    by_row i r (from_row was here made_is) = subst (λ (q : RowState). (memory : RowMemory) × (slice_get kept i ≡ Some memory) × IsKeptOf ts i memory q) (sym made_is) (are.each i was here)
+    by_row i r (is_new j at_is here) = of_fresh i r j at_is here
+
+cleared_cell : (memory : RowMemory) → first_cell ≡ cell_in (cleared memory).scan
+cleared_cell memory = by_scan memory.next memory.scan
+  where
+    by_scan : (next : ℕ) (o : Option SampledRow) → first_cell ≡ cell_in (cleared (record { next = next; scan = o })).scan
+    by_scan next None = refl
+    by_scan next (Some sampled) = refl
+
+cleared_period : (memory : RowMemory) → period_in (cleared memory).scan ≡ period_in memory.scan
+cleared_period memory = by_scan memory.next memory.scan
+  where
+    by_scan : (next : ℕ) (o : Option SampledRow) → period_in (cleared (record { next = next; scan = o })).scan ≡ period_in o
+    by_scan next None = refl
+    by_scan next (Some sampled) = refl
+
+kept_cleared : (m : Machine) (kept : List RowMemory) (ts : List TailState) (k : ℕ) (to : State) (memory : RowMemory) → AreKeptOf kept ts m.rows → slice_get kept k ≡ Some memory → AreKeptOf (slice_set kept k (cleared memory)) ts (made [] (SetsState k to) m).rows
+kept_cleared m kept ts k to memory are there = record {
+  each = λ i r here. by_row i r (came m.told m.limbo (SetsState k to) m.rows i r here);
+  beyond = λ i high. are.beyond i (let more = more_rows m.told m.limbo (SetsState k to) m.rows in omega (arith, high, more));
+}
+  where
+    by_place : (i : ℕ) (was : RowState) → slice_get m.rows i ≡ Some was → (i ≡ k) ⊎ (i ≢ k) → (own : RowMemory) × (slice_get (slice_set kept k (cleared memory)) i ≡ Some own) × IsKeptOf ts i own (at k (without_held to) i was)
+    by_place i was here (inl same) =
+        let test : (i == k) ≡ true = grind (arith, nat_tests) in
+        let old = are.each i was here in
+        let is : old.0 ≡ memory = same_Some old.0 memory (sym old.1 ∙ (ap (slice_get kept) same ∙ there)) in
+        let set : slice_get (slice_set kept k (cleared memory)) i ≡ Some (cleared memory) = ap (slice_get (slice_set kept k (cleared memory))) same ∙ get_set_same kept k memory (cleared memory) there in
+        (cleared memory, set, rw test (record { next = old.2.next ∙ ap (λ (w : RowMemory). w.next) is; cell = cleared_cell memory; period = cleared_period memory ∙ (ap (λ (w : RowMemory). period_in w.scan) (sym is) ∙ old.2.period); tail = old.2.tail }))
+    by_place i was here (inr apart) =
+        let test : (i == k) ≡ false = grind (arith, nat_tests) in
+        let old = are.each i was here in
+        (old.0, get_set_other kept k i (cleared memory) apart ∙ old.1, rw test old.2)
+
+    by_row : (i : ℕ) (r : RowState) → Came m.told m.limbo (SetsState k to) m.rows i r → (own : RowMemory) × (slice_get (slice_set kept k (cleared memory)) i ≡ Some own) × IsKeptOf ts i own r
+    by_row i r (from_row was here made_is) = subst (λ (q : RowState). (own : RowMemory) × (slice_get (slice_set kept k (cleared memory)) i ≡ Some own) × IsKeptOf ts i own q) (sym made_is) (by_place i was here (same_or_not i k))
+    by_row i r (is_new j at_is here) = absurd (cc (here))
+
+get_front : (xs ys : List RowState) (i : ℕ) (x : RowState) → slice_get xs i ≡ Some x → slice_get (xs ++ ys) i ≡ Some x
+get_front [] ys i x here = absurd (cc (here))
+get_front (y ∷ xs) ys zero x here = here
+get_front (y ∷ xs) ys (suc i) x here = get_front xs ys i x here
+
+-- THE SETTLED ARCHIVE
+
+known_rows : (tells : Bool) (at : Seen) (before after : Stores) → IsOpen tells at before after → at.catalogue.rows ≡ before.rows
+known_rows tells at before after (inl has) = has.known.rows
+known_rows tells at before after (inr doubt) = doubt.known.rows
+
+-- the archive after the settling: other stores and memory, and no doubt
+abbrev pub settled_parts : Parts → Seen → List RowMemory → Parts
+settled_parts p at kept = record { at = at; tails = p.tails; kept = kept; doubt = None; doors = p.doors }
+
+module _ (tells : Bool) (p : Parts) (m : Machine) (s : Stands tells p m) (new : Seen) (kept : List RowMemory) (same_g : granularities new.manifests ≡ granularities p.at.manifests) where
+  -- what is left to show of the machine that the archive comes to
+  pub record Reaches (mid : Machine) (held : Stores) : Type 0 where
+    pub settles : Settles m mid
+    pub has : Has tells new held
+    pub told : mid.told ≡ (tells && held.stands)
+    pub holds : HoldsDurable held mid
+    pub memory : AreKeptOf kept p.tails mid.rows
+    pub rule : mid.rule ≡ m.rule
+    pub limbo : mid.limbo ≡ []
+    pub pins : mid.pins ≡ m.pins
+    pub moves : mid.moves ≡ m.moves
+    pub doors : mid.doors ≡ m.doors
+
+  rests : (mid : Machine) (held : Stores) → Reaches mid held → Rests tells (settled_parts p new kept) (record mid { faults = new.faults })
+  rests mid held r = record {
+    stands = record {
+      sound = settled_sound r.settles s.sound;
+      plain = record { rule = ap (λ w. w.granularity) r.rule ∙ (s.plain.rule ∙ sym same_g); limbo = r.limbo; pins = r.pins ∙ s.plain.pins; moves = r.moves ∙ s.plain.moves };
+      faults = refl;
+      doors = r.doors ∙ s.doors;
+      rows = subst (λ (rows : List Row). AreRowsOf rows kept p.tails mid.rows) (sym r.has.known.rows) (rows_of mid.told held kept p.tails mid.rows r.memory r.holds);
+      doubt = subst (λ (d : Option Change). IsDoubtOf None d) (sym none) tt;
+      ready = subst (λ (d : Option Change). IsReady kept mid.rows d) (sym none) tt;
+      store = record { before = held; after = held; is_open = inl r.has; told = r.told; stand = refl; holds = r.holds; holds_after = again };
+    };
+    settled = none;
+    held = held;
+    has = r.has;
+    told = r.told;
+    holds = r.holds;
+  }
+    where
+      none : mid.doubt ≡ None
+      none = settled_none r.settles
+
+      again : HoldsDurable held (with_doubted mid.doubt (record mid { faults = new.faults }))
+      again = subst (λ (d : Option Change). HoldsDurable held (with_doubted d (record mid { faults = new.faults }))) (sym none) r.holds
+
+  doubt_state : (o : Option Doubt) (d : Option Change) → IsDoubtOf o d → (k : ℕ) (to : State) → o ≡ Some (kind.State k to) → d ≡ Some (SetsState k to)
+  doubt_state None d doubt k to is = absurd (cc (is))
+  doubt_state (Some kind.Row) d doubt k to is = absurd (cc (is))
+  doubt_state (Some (kind.State row state)) None doubt k to is = absurd doubt
+  doubt_state (Some (kind.State row state)) (Some c) doubt k to is = let own : kind.State row state ≡ kind.State k to = same_Some (kind.State row state) (kind.State k to) is in cc (own, doubt)
+
+  same_memory : AreKeptOf p.kept p.tails m.rows
+  same_memory = kept_part p.at.catalogue.rows p.kept p.tails m.rows s.rows
+
+  -- it was not made: no row has the doubted state
+  not_made : IsCleared s.store.before.rows p.doubt p.kept kept → Has tells new s.store.before → (mid : Machine) × Reaches mid s.store.before
+  not_made memory has = by_doubt m.doubt refl
+    where
+      unset : (k : ℕ) (to : State) → p.doubt ≡ Some (kind.State k to) → HasState s.store.before.rows k to → ⊥
+      unset k to is has_it =
+          let ready = subst (λ (d : Option Change). IsReady p.kept m.rows d) (doubt_state p.doubt m.doubt s.doubt k to is) s.ready in
+          let at = s.store.holds.each k (kept_of ready.0) (kept_to m.rows k ready.0 ready.1) in
+          let same : at.row ≡ has_it.row = same_Some at.row has_it.row (sym at.here ∙ has_it.here) in
+          ready.2 (at.is.state ∙ (ap (λ (w : Row). w.state) same ∙ has_it.is))
+
+      same : kept ≡ p.kept
+      same = memory.other unset
+
+      stays : AreKeptOf kept p.tails m.rows
+      stays = subst (λ (ks : List RowMemory). AreKeptOf ks p.tails m.rows) (sym same) same_memory
+
+      by_doubt : (d : Option Change) → m.doubt ≡ d → (mid : Machine) × Reaches mid s.store.before
+      by_doubt None is = (m, record { settles = no_doubt is; has = has; told = s.store.told; holds = s.store.holds; memory = stays; rule = refl; limbo = s.plain.limbo; pins = refl; moves = refl; doors = refl })
+      by_doubt (Some c) is = (record m { doubt = None }, record { settles = as_not_made c is; has = has; told = s.store.told; holds = s.store.holds; memory = stays; rule = refl; limbo = s.plain.limbo; pins = refl; moves = refl; doors = refl })
+
+  told_after : m.told ≡ (tells && s.store.after.stands)
+  told_after = s.store.told ∙ ap (λ (b : Bool). tells && b) (sym s.store.stand)
+
+  no_limbo : (rows : List RowState) → unlisted rows (m.limbo ++ []) ≡ []
+  no_limbo rows = ap (λ (l : List FileState). unlisted rows (l ++ [])) s.plain.limbo
+
+  -- the doubted state was set
+  made_state : (k : ℕ) (to : State) → IsCleared s.store.after.rows p.doubt p.kept kept → Has tells new s.store.after → m.doubt ≡ Some (SetsState k to) → HoldsDurable s.store.after (made [] (SetsState k to) m) → IsReady p.kept m.rows (Some (SetsState k to)) → (mid : Machine) × Reaches mid s.store.after
+  made_state k to memory has is holds ready = by_own p.doubt refl (subst (λ (d : Option Change). IsDoubtOf p.doubt d) is s.doubt)
+    where
+      at_row : IsRowAt p.at.catalogue.rows p.kept p.tails k ready.0
+      at_row = s.rows.each k ready.0 ready.1
+
+      set_row : RowState
+      set_row = changed m.told m.limbo (SetsState k to) (0 + k) ready.0
+
+      set_here : slice_get (made [] (SetsState k to) m).rows k ≡ Some set_row
+      set_here = get_front (each (changed m.told m.limbo (SetsState k to)) 0 m.rows) [] k set_row (each_to (changed m.told m.limbo (SetsState k to)) 0 m.rows k ready.0 ready.1)
+
+      set_state : set_row.state ≡ to
+      set_state = let test : (0 + k == k) ≡ true = grind (arith, nat_tests) in rw test refl
+
+      has_it : HasState s.store.after.rows k to
+      has_it = let durable = holds.each k (kept_of set_row) (kept_to (made [] (SetsState k to) m).rows k set_row set_here) in record { row = durable.row; here = durable.here; is = sym durable.is.state ∙ set_state }
+
+      by_own : (o : Option Doubt) → p.doubt ≡ o → IsDoubtOf o (Some (SetsState k to)) → (mid : Machine) × Reaches mid s.store.after
+      by_own None own doubt = absurd doubt
+      by_own (Some kind.Row) own doubt = absurd (let wrong = doubt.2 in cc (wrong))
+      by_own (Some (kind.State row state)) own doubt =
+          let named : kind.State row state ≡ kind.State k to = cc (doubt) in
+          let set = memory.own k to (own ∙ ap (λ (w : Doubt). Some w) named) has_it at_row.memory at_row.there in
+          let rows = kept_cleared m p.kept p.tails k to at_row.memory same_memory at_row.there in
+          (record (made [] (SetsState k to) m) { doubt = None }, record { settles = as_made (SetsState k to) [] is refl; has = has; told = told_after; holds = holds; memory = subst (λ (ks : List RowMemory). AreKeptOf ks p.tails (made [] (SetsState k to) m).rows) (sym set) rows; rule = refl; limbo = no_limbo (made [] (SetsState k to) m).rows; pins = refl; moves = refl; doors = refl })
+
+  -- it was made
+  made_so : IsCleared s.store.after.rows p.doubt p.kept kept → Has tells new s.store.after → (mid : Machine) × Reaches mid s.store.after
+  made_so memory has = by_doubt m.doubt refl s.store.holds_after s.ready p.doubt refl
+    where
+      no_state : (o : Option Doubt) → p.doubt ≡ o → ((k : ℕ) (to : State) → o ≡ Some (kind.State k to) → ⊥) → kept ≡ p.kept
+      no_state o is none = memory.other (λ k to state has_it. none k to (sym is ∙ state))
+
+      by_doubt : (d : Option Change) → m.doubt ≡ d → HoldsDurable s.store.after (with_doubted d m) → IsReady p.kept m.rows d → (o : Option Doubt) → p.doubt ≡ o → (mid : Machine) × Reaches mid s.store.after
+      by_doubt None is holds ready o own =
+          let doubt : IsDoubtOf p.doubt None = subst (λ (d : Option Change). IsDoubtOf p.doubt d) is s.doubt in
+          let same : kept ≡ p.kept = memory.other (λ k to state has_it. let wrong : ◌≡◌ {A = Option Change} None (Some (SetsState k to)) = doubt_state p.doubt None doubt k to state in cc (wrong)) in
+          (m, record { settles = no_doubt is; has = has; told = told_after; holds = holds; memory = subst (λ (ks : List RowMemory). AreKeptOf ks p.tails m.rows) (sym same) same_memory; rule = refl; limbo = s.plain.limbo; pins = refl; moves = refl; doors = refl })
+      by_doubt (Some (AddsRow name about)) is holds ready o own =
+          let doubt : IsDoubtOf p.doubt (Some (AddsRow name about)) = subst (λ (d : Option Change). IsDoubtOf p.doubt d) is s.doubt in
+          let same : kept ≡ p.kept = memory.other (λ k to state has_it. let wrong = doubt_state p.doubt (Some (AddsRow name about)) doubt k to state in let plain : AddsRow name about ≡ SetsState k to = same_Some (AddsRow name about) (SetsState k to) wrong in cc (plain)) in
+          let own_rows = kept_added m p.kept p.tails name about same_memory ready in
+          (record (made [] (AddsRow name about) m) { doubt = None }, record { settles = as_made (AddsRow name about) [] is refl; has = has; told = told_after; holds = holds; memory = subst (λ (ks : List RowMemory). AreKeptOf ks p.tails (made [] (AddsRow name about) m).rows) (sym same) own_rows; rule = refl; limbo = no_limbo (made [] (AddsRow name about) m).rows; pins = refl; moves = refl; doors = refl })
+      by_doubt (Some (SetsState k to)) is holds ready o own = made_state k to memory has is holds ready
+      by_doubt (Some (Appends batch)) is holds ready o own = absurd ready
+      by_doubt (Some (Publishes i store copied)) is holds ready o own = absurd ready
+      by_doubt (Some (Unlists i store to)) is holds ready o own = absurd ready
+
+  -- once the stores have settled their doubt, so has the archive
+  pub settled_ends : IsCleared new.catalogue.rows p.doubt p.kept kept → HasEither tells new s.store.before s.store.after → (mid : Machine) × Settles m mid × Rests tells (settled_parts p new kept) (record mid { faults = new.faults })
+  settled_ends memory (inl has) =
+      let is = not_made (subst (λ (rows : List Row). IsCleared rows p.doubt p.kept kept) has.known.rows memory) has in
+      (is.0, is.1.settles, rests is.0 s.store.before is.1)
+  settled_ends memory (inr has) =
+      let is = made_so (subst (λ (rows : List Row). IsCleared rows p.doubt p.kept kept) has.known.rows memory) has in
+      (is.0, is.1.settles, rests is.0 s.store.after is.1)
+
+-- the doubt stands as it stood
+pub still_doubted : (tells : Bool) (p : Parts) (m : Machine) (new : Seen) (s : Stands tells p m) → IsOpen tells new s.store.before s.store.after → granularities new.manifests ≡ granularities p.at.manifests → Stands tells (record p { at = new }) (record m { faults = new.faults })
+still_doubted tells p m new s is_open same_g = record {
+  sound = s.sound;
+  plain = record { rule = s.plain.rule ∙ sym same_g; limbo = s.plain.limbo; pins = s.plain.pins; moves = s.plain.moves };
+  faults = refl;
+  doors = s.doors;
+  rows = subst (λ (rows : List Row). AreRowsOf rows p.kept p.tails m.rows) (known_rows tells p.at s.store.before s.store.after s.store.is_open ∙ sym (known_rows tells new s.store.before s.store.after is_open)) s.rows;
+  doubt = s.doubt;
+  ready = s.ready;
+  store = record { before = s.store.before; after = s.store.after; is_open = is_open; told = s.store.told; stand = s.store.stand; holds = s.store.holds; holds_after = by_doubt m.doubt s.store.holds_after };
+}
+  where
+    by_doubt : (c : Option Change) → AreDurable (with_doubted c m).told s.store.after (kept (with_doubted c m)) → AreDurable (with_doubted c (record m { faults = new.faults })).told s.store.after (kept (with_doubted c (record m { faults = new.faults })))
+    by_doubt None holds = holds
+    by_doubt (Some c) holds = holds

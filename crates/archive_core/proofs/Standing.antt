@@ -1,0 +1,116 @@
+-- An archive stands for the next machine, where a row changes in memory.
+use Rattle.std.proofs.Common.{◌≡◌, ◌≢◌, ℕ, ◌+◌, ◌<◌, List, length, Bool, true, false, Option, Some, None, refl, sym, ◌∙◌, ap, subst, arith, [], ◌∷◌, zero, suc}
+use Rattle.std.specs.Prelude.{◌==◌, slice_get, slice_set}
+use Rattle.std.proofs.lemmas.Option.{same_Some, slice_get_within}
+use Rattle.append_buffer.specs.Tails.{TailState, tail_at}
+use Rattle.pv_catalog.specs.declared.row.Row.{Row}
+use Rattle.act_model.specs.Rows.{RowState}
+use Rattle.act_model.specs.Machine.{Machine, Change, AddsRow, SetsState, Appends, Publishes, Unlists}
+use Rattle.act_model.specs.Changes.{each, at, with_rows}
+use Rattle.act_model.specs.Crash.{DurableRow, kept_of, kept}
+use Rattle.act_model.specs.Sound.{IsSound}
+use Rattle.act_model.proofs.Rows.{length-each}
+use Rattle.archive_core.specs.declared.memory.RowMemory.{RowMemory}
+use Rattle.archive_core.specs.Memory.{IsRowOf}
+use Rattle.archive_core.specs.Parts.{Parts}
+use Rattle.archive_core.specs.Stands.{Stands, IsReady, IsBetween, AreDurable, with_doubted}
+use Rattle.archive_core.proofs.Lists.{get_set_other, set_same}
+use Rattle.archive_core.proofs.KeptRows.{rows_at, rows_spared}
+use Rattle.archive_core.proofs.Durable.{kept_each, kept_changed}
+use Rattle.three_stores.specs.Seen.{Seen}
+
+-- the stores are as much those of the machine
+between_rows : (tells : Bool) (at : Seen) (m : Machine) (g : ℕ → RowState → RowState) → ((i : ℕ) (r : RowState) → kept_of (g i r) ≡ kept_of r) → IsBetween tells at m → IsBetween tells at (with_rows m g)
+between_rows tells at m g stays s = record {
+  before = s.before;
+  after = s.after;
+  is_open = s.is_open;
+  told = s.told;
+  stand = s.stand;
+  holds = subst (λ (ds : List DurableRow). AreDurable m.told s.before ds) (sym (kept_each g 0 m.rows stays)) s.holds;
+  holds_after = by_doubt m.doubt s.holds_after;
+}
+  where
+    by_doubt : (d : Option Change) → AreDurable (with_doubted d m).told s.after (kept (with_doubted d m)) → AreDurable (with_doubted d (with_rows m g)).told s.after (kept (with_doubted d (with_rows m g)))
+    by_doubt None holds = subst (λ (ds : List DurableRow). AreDurable m.told s.after ds) (sym (kept_each g 0 m.rows stays)) holds
+    by_doubt (Some c) holds = subst (λ (ds : List DurableRow). AreDurable m.told s.after ds) (sym (kept_changed m g c stays)) holds
+
+at_stays : (k : ℕ) (f : RowState → RowState) → ((r : RowState) → kept_of (f r) ≡ kept_of r) → (i : ℕ) (r : RowState) → kept_of (at k f i r) ≡ kept_of r
+at_stays k f stays i r = by_test (i == k) refl
+  where
+    by_test : (t : Bool) → (i == k) ≡ t → kept_of (at k f i r) ≡ kept_of r
+    by_test true is = rw is (stays r)
+    by_test false is = rw is refl
+
+-- a row is changed by its number
+pub each_to : (f : ℕ → RowState → RowState) (j : ℕ) (rows : List RowState) (k : ℕ) (r : RowState) → slice_get rows k ≡ Some r → slice_get (each f j rows) k ≡ Some (f (j + k) r)
+each_to f j [] k r here = absurd (cc (here))
+each_to f j (q ∷ rows) zero r here =
+    let plain : j ≡ j + 0 = omega arith in
+    ap (λ (n : ℕ). Some (f n q)) plain ∙ ap (λ (w : RowState). Some (f (j + 0) w)) (same_Some q r here)
+each_to f j (q ∷ rows) (suc k) r here =
+    let next : (j + 1) + k ≡ j + suc k = omega arith in
+    each_to f (j + 1) rows k r here ∙ ap (λ (n : ℕ). Some (f n r)) next
+
+still_ready : (kept : List RowMemory) (rows : List RowState) (i : ℕ) (f : RowState → RowState) (memory : RowMemory) → i < length rows → ((r : RowState) → kept_of (f r) ≡ kept_of r) → (d : Option Change) → IsReady kept rows d → IsReady (slice_set kept i memory) (each (at i f) 0 rows) d
+still_ready kept rows i f memory low stays None ready = tt
+still_ready kept rows i f memory low stays (Some (AddsRow name about)) ready =
+    ap (slice_get (slice_set kept i memory)) (length-each (at i f) 0 rows) ∙ (get_set_other kept i (length rows) memory (λ same. omega (arith, low, same)) ∙ ready)
+still_ready kept rows i f memory low stays (Some (SetsState k state)) ready =
+    let same : (at i f (0 + k) ready.0).state ≡ ready.0.state = ap (λ (d : DurableRow). d.state) (at_stays i f stays (0 + k) ready.0) in
+    (at i f (0 + k) ready.0, each_to (at i f) 0 rows k ready.0 ready.1, λ is. ready.2 (sym same ∙ is))
+still_ready kept rows i f memory low stays (Some (Appends batch)) ready = ready
+still_ready kept rows i f memory low stays (Some (Publishes k store copied)) ready = ready
+still_ready kept rows i f memory low stays (Some (Unlists k store to)) ready = ready
+
+-- one row changes, with what is kept of it and its tail
+pub row_stands : (tells : Bool) (p : Parts) (m : Machine) → Stands tells p m → (i : ℕ) (f : RowState → RowState) (memory : RowMemory) (new : List TailState) (row : Row) (r : RowState)
+    → slice_get p.at.catalogue.rows i ≡ Some row → slice_get m.rows i ≡ Some r → IsRowOf new i row memory (f r) → ((j : ℕ) → j ≢ i → (tail_at new j).samples ≡ (tail_at p.tails j).samples)
+    → ((q : RowState) → kept_of (f q) ≡ kept_of q) → IsSound (with_rows m (at i f)) → Stands tells (record p { kept = slice_set p.kept i memory; tails = new }) (with_rows m (at i f))
+row_stands tells p m s i f memory new row r here there is others stays sound = record {
+  sound = sound;
+  plain = record { rule = s.plain.rule; limbo = s.plain.limbo; pins = s.plain.pins; moves = s.plain.moves };
+  faults = s.faults;
+  doors = s.doors;
+  rows = rows_at p.at.catalogue.rows p.kept p.tails new m.rows s.rows i f memory row r here there is others;
+  doubt = s.doubt;
+  ready = still_ready p.kept m.rows i f memory (slice_get_within m.rows i r there) stays m.doubt s.ready;
+  store = between_rows tells p.at m (at i f) (at_stays i f stays) s.store;
+}
+
+-- spares change
+pub spared_stands : (tells : Bool) (p : Parts) (m : Machine) (new : List TailState) → Stands tells p m → ((j : ℕ) → (tail_at new j).samples ≡ (tail_at p.tails j).samples) → Stands tells (record p { tails = new }) m
+spared_stands tells p m new s same = record {
+  sound = s.sound;
+  plain = s.plain;
+  faults = s.faults;
+  doors = s.doors;
+  rows = rows_spared p.at.catalogue.rows p.kept p.tails new m.rows s.rows same;
+  doubt = s.doubt;
+  ready = s.ready;
+  store = s.store;
+}
+
+-- a row's memory is set to what it was
+pub still_stands : (tells : Bool) (p : Parts) (m : Machine) (new : List TailState) → Stands tells p m → ((j : ℕ) → (tail_at new j).samples ≡ (tail_at p.tails j).samples) → (i : ℕ) (memory set : RowMemory) → slice_get p.kept i ≡ Some memory → set ≡ memory
+    → Stands tells (record p { kept = slice_set p.kept i set; tails = new }) m
+still_stands tells p m new s same i memory set here is =
+    let back : slice_set p.kept i set ≡ p.kept = ap (slice_set p.kept i) is ∙ set_same p.kept i memory here in
+    subst (λ (kept : List RowMemory). Stands tells (record p { kept = kept; tails = new }) m) (sym back) (spared_stands tells p m new s same)
+
+-- the stores are as much those of a machine with another count of doors
+pub doors_stand : (tells : Bool) (p : Parts) (m : Machine) (doors d : ℕ) → d ≡ doors → Stands tells p m → Stands tells (record p { doors = doors }) (record m { doors = d })
+doors_stand tells p m doors d same s = record {
+  sound = s.sound;
+  plain = record { rule = s.plain.rule; limbo = s.plain.limbo; pins = s.plain.pins; moves = s.plain.moves };
+  faults = s.faults;
+  doors = same;
+  rows = s.rows;
+  doubt = s.doubt;
+  ready = s.ready;
+  store = record { before = s.store.before; after = s.store.after; is_open = s.store.is_open; told = s.store.told; stand = s.store.stand; holds = s.store.holds; holds_after = by_doubt m.doubt s.store.holds_after };
+}
+  where
+    by_doubt : (c : Option Change) → AreDurable (with_doubted c m).told s.store.after (kept (with_doubted c m)) → AreDurable (with_doubted c (record m { doors = d })).told s.store.after (kept (with_doubted c (record m { doors = d })))
+    by_doubt None holds = holds
+    by_doubt (Some c) holds = holds

@@ -1,0 +1,5 @@
+pub mod Memory
+pub mod Parts
+pub mod Stands
+pub mod Ends
+pub mod Trying

@@ -1,0 +1,73 @@
+-- What an archive keeps of its rows in memory, beside the catalogue's rows: of each the first moment that is later than all its accepted
+-- samples, what a sampled row holds, and the tail that the intake holds.
+use Rattle.std.specs.Prelude.{◌≡◌, ◌≤◌, ℕ, List, [], length, Option, Some, None, slice_get, slice_set}
+use Rattle.event_types.specs.declared.about.About.{About}
+use Rattle.event_types.specs.declared.about.Method.{Method}
+use Rattle.event_types.specs.declared.about.Method.TheVariants.{Monitor, Scan}
+use Rattle.pv_catalog.specs.Catalogue.{HasState}
+use Rattle.pv_catalog.specs.declared.row.Row.{Row}
+use Rattle.series_model.specs.Sampling.{Cell, first_cell}
+use Rattle.sampler.specs.Row.{SampledRow, fresh, after}
+use Rattle.series_model.specs.declared.sampling.ScanEvent.TheVariants.{Cleared}
+use Rattle.event_types.specs.declared.about.State.{State}
+use Rattle.append_buffer.specs.Tails.{TailState, tail_at}
+use Rattle.act_model.specs.Rows.{RowState, period_of}
+use Rattle.archive_core.specs.declared.memory.Doubt.{Doubt}
+use Rattle.archive_core.specs.declared.memory.Doubt.TheVariants as doubt
+use Rattle.archive_core.specs.declared.memory.RowMemory.{RowMemory}
+
+-- what is held of a row for its next tick: nothing where it isn't sampled
+abbrev pub cell_in : Option SampledRow → Cell
+cell_in None = first_cell
+cell_in (Some sampled) = sampled.cell
+
+-- the period of a row that is sampled
+abbrev pub period_in : Option SampledRow → Option ℕ
+period_in None = None
+period_in (Some sampled) = Some sampled.period
+
+-- what is kept of the sampling of a row that was just registered
+abbrev pub sampling_by : Method → Option SampledRow
+sampling_by Monitor = None
+sampling_by (Scan period) = Some (fresh period)
+
+-- what is kept of a row that was just registered
+abbrev pub fresh_memory : About → RowMemory
+fresh_memory about = record { next = 0; scan = sampling_by about.method }
+
+-- A row of the catalogue, what is kept of it, and its tail, which is the one of this number, are those of a row of the machine.
+pub record IsRowOf (tails : List TailState) (i : ℕ) (row : Row) (kept : RowMemory) (r : RowState) : Type 0 where
+  pub name : r.name ≡ row.name
+  pub about : r.about ≡ row.about
+  pub state : r.state ≡ row.state
+  pub next : r.next ≡ kept.next
+  pub cell : r.cell ≡ cell_in kept.scan
+  pub period : period_in kept.scan ≡ period_of r.about.method
+  pub tail : r.tail ≡ (tail_at tails i).samples
+
+-- all that is in memory of the row of this number is that of a row of the machine
+pub record IsRowAt (rows : List Row) (kept : List RowMemory) (tails : List TailState) (i : ℕ) (r : RowState) : Type 0 where
+  pub row : Row
+  pub memory : RowMemory
+  pub here : slice_get rows i ≡ Some row
+  pub there : slice_get kept i ≡ Some memory
+  pub is : IsRowOf tails i row memory r
+
+-- The rows in memory are those of the machine, and behind them the intake holds nothing.
+pub record AreRowsOf (rows : List Row) (kept : List RowMemory) (tails : List TailState) (rs : List RowState) : Type 0 where
+  pub count : length rs ≡ length rows
+  pub each : (i : ℕ) (r : RowState) → slice_get rs i ≡ Some r → IsRowAt rows kept tails i r
+  pub beyond : (i : ℕ) → length rs ≤ i → (tail_at tails i).samples ≡ []
+
+-- what is kept of a row whose state is set: nothing is held, and a tick is due at once
+abbrev pub cleared : RowMemory → RowMemory
+cleared memory = record memory { scan = clear memory.scan }
+  where
+    clear : Option SampledRow → Option SampledRow
+    clear None = None
+    clear (Some sampled) = Some (after sampled Cleared)
+
+-- Where the doubted change is a state, and the row has it, what is kept of the row is cleared. All else stays.
+pub record IsCleared (rows : List Row) (d : Option Doubt) (old new : List RowMemory) : Type 0 where
+  pub other : ((row : ℕ) (to : State) → d ≡ Some (doubt.State row to) → HasState rows row to → ⊥) → new ≡ old
+  pub own : (row : ℕ) (to : State) → d ≡ Some (doubt.State row to) → HasState rows row to → (memory : RowMemory) → slice_get old row ≡ Some memory → new ≡ slice_set old row (cleared memory)

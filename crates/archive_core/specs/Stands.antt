@@ -1,0 +1,108 @@
+-- The machine that an archive stands for. Its memory has the machine's rows, tails and cells, and its stores have the machine's durable
+-- part, or are in doubt between that and what the doubted change makes of it.
+use Rattle.std.specs.FinMap.{empty}
+use Rattle.std.specs.Prelude.{◌≡◌, ◌≢◌, ℕ, List, [], length, Bool, true, ◌&&◌, Option, Some, None, slice_get}
+use Rattle.pv_catalog.specs.declared.row.Row.{Row}
+use Rattle.tier_store.specs.Held.{samples_of}
+use Rattle.three_stores.specs.Stores.{Stores}
+use Rattle.three_stores.specs.Seen.{Seen, granularities}
+use Rattle.three_stores.specs.Change.{Has, IsOpen}
+use Rattle.act_model.specs.Rows.{RowState}
+use Rattle.act_model.specs.Machine.{Machine, Change, AddsRow, SetsState, Appends, Publishes, Unlists}
+use Rattle.act_model.specs.Changes.{made}
+use Rattle.act_model.specs.Crash.{DurableRow, kept}
+use Rattle.act_model.specs.Sound.{IsSound}
+use Rattle.archive_core.specs.declared.memory.RowMemory.{RowMemory}
+use Rattle.archive_core.specs.declared.memory.Doubt.{Doubt}
+use Rattle.archive_core.specs.declared.memory.Doubt.TheVariants as doubt
+use Rattle.archive_core.specs.Memory.{AreRowsOf, fresh_memory}
+use Rattle.archive_core.specs.Parts.{Parts}
+
+-- WHAT STORES HOLD OF A MACHINE
+
+-- A row of the stores is a durable row of the machine. Its samples are told of where the machine is told.
+pub record IsDurable (told : Bool) (s : Stores) (i : ℕ) (row : Row) (r : DurableRow) : Type 0 where
+  pub name : r.name ≡ row.name
+  pub about : r.about ≡ row.about
+  pub state : r.state ≡ row.state
+  pub short : told ≡ true → r.short ≡ samples_of i s.short
+  pub medium : told ≡ true → r.medium ≡ samples_of i s.medium
+  pub long : told ≡ true → r.long ≡ samples_of i s.long
+
+-- the stores hold the durable row of this number
+pub record IsDurableAt (told : Bool) (s : Stores) (i : ℕ) (r : DurableRow) : Type 0 where
+  pub row : Row
+  pub here : slice_get s.rows i ≡ Some row
+  pub is : IsDurable told s i row r
+
+-- what the stores hold is this durable part
+pub record AreDurable (told : Bool) (s : Stores) (rs : List DurableRow) : Type 0 where
+  pub count : length rs ≡ length s.rows
+  pub each : (i : ℕ) (r : DurableRow) → slice_get rs i ≡ Some r → IsDurableAt told s i r
+
+-- the stores hold what is durable of the machine
+abbrev pub HoldsDurable : Stores → Machine → Type 0
+HoldsDurable s m = AreDurable m.told s (kept m)
+
+-- THE DOUBT
+
+-- the machine with its doubted change made, if there is one
+abbrev pub with_doubted : Option Change → Machine → Machine
+with_doubted None m = m
+with_doubted (Some change) m = made [] change m
+
+-- what the archive keeps of a doubted change tells which change it is
+abbrev pub IsDoubtOf : Option Doubt → Option Change → Type 0
+IsDoubtOf None None = Unit {0}
+IsDoubtOf None (Some change) = ⊥
+IsDoubtOf (Some kept) None = ⊥
+IsDoubtOf (Some doubt.Row) (Some change) = (name : List ℕ) × (about : _) × (change ≡ AddsRow name about)
+IsDoubtOf (Some (doubt.State row to)) (Some change) = change ≡ SetsState row to
+
+-- A doubted row's memory is there already. A doubted state is another than the row has.
+abbrev pub IsReady : List RowMemory → List RowState → Option Change → Type 0
+IsReady kept rows None = Unit {0}
+IsReady kept rows (Some (AddsRow name about)) = slice_get kept (length rows) ≡ Some (fresh_memory about)
+IsReady kept rows (Some (SetsState i state)) = (r : RowState) × (slice_get rows i ≡ Some r) × (r.state ≢ state)
+IsReady kept rows (Some (Appends batch)) = ⊥
+IsReady kept rows (Some (Publishes i store copied)) = ⊥
+IsReady kept rows (Some (Unlists i store to)) = ⊥
+
+-- THE ARCHIVE
+
+-- the stores have what is durable of the machine, or are in doubt whether they have it with the doubted change
+pub record IsBetween (tells : Bool) (at : Seen) (m : Machine) : Type 0 where
+  pub before : Stores
+  pub after : Stores
+  pub is_open : IsOpen tells at before after
+  pub told : m.told ≡ (tells && before.stands)
+  pub stand : after.stands ≡ before.stands
+  pub holds : HoldsDurable before m
+  pub holds_after : HoldsDurable after (with_doubted m.doubt m)
+
+-- what a machine has that no act of an archive without moves and pins changes
+pub record IsPlain (at : Seen) (m : Machine) : Type 0 where
+  pub rule : m.rule.granularity ≡ granularities at.manifests
+  pub limbo : m.limbo ≡ []
+  pub pins : m.pins ≡ empty
+  pub moves : m.moves ≡ empty
+
+-- the archive stands for the machine
+pub record Stands (tells : Bool) (p : Parts) (m : Machine) : Type 0 where
+  pub sound : IsSound m
+  pub plain : IsPlain p.at m
+  pub faults : m.faults ≡ p.at.faults
+  pub doors : m.doors ≡ p.doors
+  pub rows : AreRowsOf p.at.catalogue.rows p.kept p.tails m.rows
+  pub doubt : IsDoubtOf p.doubt m.doubt
+  pub ready : IsReady p.kept m.rows m.doubt
+  pub store : IsBetween tells p.at m
+
+-- Nothing stands in doubt: the stores have what is durable of the machine.
+pub record Rests (tells : Bool) (p : Parts) (m : Machine) : Type 0 where
+  pub stands : Stands tells p m
+  pub settled : m.doubt ≡ None
+  pub held : Stores
+  pub has : Has tells p.at held
+  pub told : m.told ≡ (tells && held.stands)
+  pub holds : HoldsDurable held m

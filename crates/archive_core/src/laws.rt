@@ -1,0 +1,37 @@
+//! What follows from standing for a machine, and what the stores' changes are to it.
+ghost use Rattle.std.specs.Prelude.{◌≡◌, ℕ, List, Option, IsTrue, [], true};
+ghost use Rattle.append_buffer.specs.Tails.{TailState};
+ghost use Rattle.disk_model.specs.Files.{Files};
+ghost use Rattle.disk_model.specs.Past.{MayLeave};
+ghost use Rattle.event_types.specs.declared.about.About.{About};
+ghost use Rattle.event_types.specs.declared.about.State.{State};
+ghost use Rattle.pv_catalog.specs.Catalogue.{CatalogueState};
+ghost use Rattle.store_manifest.specs.Manifest.{ManifestState};
+ghost use Rattle.three_stores.specs.Change.{IsKnown, Registers, Switches, Flushes};
+ghost use Rattle.three_stores.specs.Seen.{seen_on, granularities};
+ghost use Rattle.three_stores.specs.Stores.{Stores};
+ghost use Rattle.act_model.specs.Changes.{made};
+ghost use Rattle.act_model.specs.Flush.{batch_of};
+ghost use Rattle.act_model.specs.Machine.{Machine, AddsRow, SetsState, Appends};
+ghost use Rattle.act_model.specs.Sound.{IsSound};
+ghost use Rattle.archive_core.specs.declared.memory.Doubt.{Doubt};
+ghost use Rattle.archive_core.specs.declared.memory.RowMemory.{RowMemory};
+ghost use Rattle.archive_core.specs.Ends.{LeavesBetween};
+ghost use Rattle.archive_core.specs.Stands.{Stands, HoldsDurable};
+
+use disk_model::Disk;
+
+/// Whatever a crash between acts leaves of an archive's disk holds what is durable of a machine that it stood for, or that with the
+/// change that stood in doubt.
+pub fn a_crash_leaves_what_is_durable<D: Disk>()
+    ensures { (disk : D) (catalogue : CatalogueState) (ms : List ManifestState) (tails : List TailState) (kept : List RowMemory) (doubt : Option Doubt) (doors : ℕ) (m : Machine) (image : Files)
+        → IsTrue D.tells → Stands D.tells (record { at = seen_on D.files D.opened D.past D.faults catalogue ms disk; tails = tails; kept = kept; doubt = doubt; doors = doors }) m → MayLeave (D.past disk) image → LeavesBetween (granularities ms) m image }
+{}
+
+/// What the stores make of a change is what the machine makes of it: where they held what is durable of a machine, they hold what is
+/// durable of the machine with the change made. So it is of a new row, of a row's state, and of what a flush takes of the tails.
+pub fn changes_are_the_machines()
+    ensures register { (catalogue : CatalogueState) (ms : List ManifestState) (name : List ℕ) (about : About) (old new : Stores) (m : Machine) → IsKnown catalogue ms old → Registers name about old new → HoldsDurable old m → HoldsDurable new (made [] (AddsRow name about) m) }
+    ensures switch { (row : ℕ) (from to : State) (old new : Stores) (m : Machine) → Switches row from to old new → HoldsDurable old m → HoldsDurable new (made [] (SetsState row to) m) }
+    ensures flush { (limit : ℕ) (old new : Stores) (m : Machine) → IsSound m → m.limbo ≡ [] → (m.told ≡ true → IsTrue old.stands) → Flushes (batch_of limit m) old new → HoldsDurable old m → HoldsDurable new (made [] (Appends (batch_of limit m)) m) }
+{}

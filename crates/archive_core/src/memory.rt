@@ -1,0 +1,21 @@
+// What is kept in memory of each row, and of a change that stands in doubt.
+use event_types::State;
+use sampler::Scan;
+
+/// What is kept of a row beside the catalogue and its tail.
+#[derive(Debug, Drop)]
+pub struct RowMemory {
+    /// The first moment that is later than all its accepted samples.
+    pub next: u64,
+    /// What it holds for its next tick, if it is sampled.
+    pub scan: Option<Scan>,
+}
+
+/// The change that a failed write may have made: what is to be done in memory where it turns out to be made.
+#[derive(Drop)]
+pub enum Doubt {
+    /// A row was added, whose memory is there already.
+    Row,
+    /// A row's state was set.
+    State { row: u32, to: State },
+}

@@ -1,0 +1,68 @@
+// Samples that come: an offer, and a tick of a row that is sampled. No file is touched.
+ghost use Rattle.std.specs.Prelude.{◌≡◌, ◌<◌, ℕ, List, length, Some};
+ghost use Rattle.act_model.specs.Asks.{offered_reply, ticked_reply};
+ghost use Rattle.act_model.specs.Event.{IsEvent};
+ghost use Rattle.act_model.specs.Machine.{Machine, find_row};
+ghost use Rattle.act_model.specs.Offer.{OfferStep};
+ghost use Rattle.act_model.specs.Tick.{TickStep};
+ghost use Rattle.archive_core.specs.Ends.{Steps, EndsNamed};
+ghost use Rattle.archive_core.specs.Parts.{parts};
+ghost use Rattle.archive_core.specs.Stands.{Stands};
+
+use crate::Archive;
+use crate::trying::{offer_row, reason_by_row, runs, tick_row};
+use act_model::{Offered, Ticked};
+use disk_model::Disk;
+use event_types::PayloadType;
+use series_model::{Reason, Sample};
+
+impl<D: Disk> Archive<D> {
+    // An offer to the row of this number.
+    fn offer_to(&mut self, row: u32, ty: PayloadType, sample: Sample, now: u64) -> Offered
+        requires here { row < length self.old.store.catalogue.rows }
+        requires there { row < length self.old.rows.items }
+        requires event { IsEvent ty sample }
+        ensures step { EndsNamed D.tells row (λ name. OfferStep name ty sample now) (parts D.Disk self.old) (offered_reply result) (parts D.Disk self.new) }
+        ensures store { self.new.store ≡ self.old.store }
+    {
+        let at = row as usize;
+        match reason_by_row(&self.store.catalogue().rows()[at], ty) {
+            Some(reason) => Offered::Dropped(reason),
+            None => offer_row(&mut self.intake, &mut self.rows[at], row, sample, now),
+        }
+    }
+
+    /// Offers a sample: its line is an event of the type at its moment, escaped and without its newline. It makes no call of the disk,
+    /// and takes no memory but for the row's tail, and that only where the tail has none to spare.
+    pub fn offer(&mut self, name: &[u8], ty: PayloadType, sample: Sample, now: u64) -> Offered
+        requires stands { (m : Machine) × Stands D.tells (parts D.Disk self.old) m }
+        requires event { IsEvent ty sample }
+        ensures step { Steps D.tells (OfferStep name.now ty sample now) (parts D.Disk self.old) (offered_reply result) (parts D.Disk self.new) }
+        ensures store { self.new.store ≡ self.old.store }
+    {
+        match self.store.catalogue().find(name) {
+            None => Offered::Dropped(Reason::Unknown),
+            Some(row) => self.offer_to(row, ty, sample, now),
+        }
+    }
+
+    /// Tries what a sampled row holds, where its period is over. It makes no call of the disk, and takes no memory but for the row's
+    /// tail.
+    pub fn tick(&mut self, row: u32, now: u64) -> Ticked
+        requires stands { (m : Machine) × Stands D.tells (parts D.Disk self.old) m }
+        ensures step { Steps D.tells (TickStep row now) (parts D.Disk self.old) (ticked_reply result) (parts D.Disk self.new) }
+        ensures store { self.new.store ≡ self.old.store }
+    {
+        let Some(variable) = self.store.catalogue().row(row) else {
+            return Ticked::NoRow;
+        };
+        let is_running = runs(variable);
+        tick_row(
+            &mut self.intake,
+            &mut self.rows[row as usize],
+            row,
+            is_running,
+            now,
+        )
+    }
+}

@@ -1,0 +1,66 @@
+// The settling of a change that stands in doubt.
+ghost use Rattle.std.specs.Prelude.{◌≡◌, ◌↔◌, IsTrue, OnOk, OnErr};
+ghost use Rattle.pv_catalog.specs.Catalogue.{HasState};
+ghost use Rattle.tier_store.specs.Ends.{end_of_disk};
+ghost use Rattle.three_stores.specs.Change.{OnlyReads};
+ghost use Rattle.three_stores.specs.Seen.{seen};
+ghost use Rattle.act_model.specs.Machine.{Machine};
+ghost use Rattle.archive_core.specs.Ends.{SettlesTo, StandsStill};
+ghost use Rattle.archive_core.specs.Memory.{cleared, IsCleared};
+ghost use Rattle.archive_core.specs.Parts.{parts};
+ghost use Rattle.archive_core.specs.Stands.{Stands};
+
+use crate::Archive;
+use crate::memory::{Doubt, RowMemory};
+use disk_model::{Disk, DiskErr};
+use event_types::State;
+use pv_catalog::Row;
+
+// Whether the row of this number has the state.
+fn has_state(rows: &[Row], row: u32, to: State) -> bool
+    ensures { IsTrue result ↔ HasState rows.now row to }
+{
+    match rows.get(row as usize) {
+        Some(found) => found.state == to,
+        None => false,
+    }
+}
+
+// Gives up what a sampled row holds.
+fn clear(memory: &mut RowMemory)
+    ensures { memory.new ≡ cleared memory.old }
+{
+    if let Some(scan) = &mut memory.scan {
+        scan.clear();
+    }
+}
+
+// Takes in a doubted change of a row's state, where the row has that state.
+fn clear_set(rows: &[Row], kept: &mut Vec<RowMemory>, doubt: &Option<Doubt>)
+    ensures { IsCleared rows.now doubt.now kept.old.items kept.new.items }
+{
+    let Some(Doubt::State { row, to }) = doubt else {
+        return;
+    };
+    let at = *row as usize;
+    if at < kept.len() && has_state(rows, *row, *to) {
+        clear(&mut kept[at]);
+    }
+}
+
+impl<D: Disk> Archive<D> {
+    /// Finds out whether a change that stands in doubt was made, and takes it in where it was: it only reads.
+    ///
+    /// After an error the doubt stands as before. `Fault` comes only where the disk's count of faults rose in the call.
+    pub fn settle(&mut self) -> Result<(), DiskErr>
+        requires stands { (m : Machine) × Stands D.tells (parts D.Disk self.old) m }
+        ensures settled { OnOk result (SettlesTo D.tells (parts D.Disk self.old) (parts D.Disk self.new)) }
+        ensures still { OnErr result (StandsStill D.tells (parts D.Disk self.old) (parts D.Disk self.new)) }
+        ensures reads { OnlyReads D.tells (seen D.Disk self.old.store) (seen D.Disk self.new.store) (end_of_disk result) }
+    {
+        self.store.review()?;
+        clear_set(self.store.catalogue().rows(), &mut self.rows, &self.doubt);
+        self.doubt = None;
+        Ok(())
+    }
+}

@@ -1,0 +1,61 @@
+// What an archive tells without its disk: names of rows, and doors.
+ghost use Rattle.std.specs.Prelude.{◌≡◌, ◌≤◌, ℕ, IfOk, take, drop, map};
+ghost use Rattle.pv_catalog.specs.declared.row.Row.{Row};
+ghost use Rattle.act_model.specs.Asks.{names_told_reply, doors_left_reply};
+ghost use Rattle.act_model.specs.Doors.{DoorsStep, DoorDoneStep};
+ghost use Rattle.act_model.specs.Machine.{Machine};
+ghost use Rattle.act_model.specs.Names.{NamesStep};
+ghost use Rattle.archive_core.specs.Ends.{Steps};
+ghost use Rattle.archive_core.specs.Parts.{parts};
+
+use crate::Archive;
+use act_model::{DoorsLeft, NamesTold};
+use disk_model::Disk;
+use pv_catalog::Row;
+use series_model::{Blob, Blobs};
+use std::alloc::{AllocError, Global};
+
+// The names of so many rows from a place on.
+fn names_of(alloc: Global, rows: &[Row], from: usize, most: usize) -> Result<Blobs, AllocError>
+    ensures { IfOk result (λ names. names ≡ take most (drop from (map (λ (row : Row). row.name) rows.now))) }
+{
+    let rest = &rows[from.min(rows.len())..];
+    let asked = &rest[..most.min(rest.len())];
+    let mut names = Vec::new(alloc);
+    for row in asked {
+        names.push(Blob::from(row.name.bytes().to_vec(alloc)?))?;
+    }
+    Ok(Blobs::from(names))
+}
+
+impl<D: Disk> Archive<D> {
+    /// The names of rows from a number on, at most `most`, and whether a row stands behind them. It makes no call of the disk.
+    pub fn names(&self, from: u32, most: u32) -> NamesTold
+        ensures step { Steps D.tells (NamesStep from most) (parts D.Disk self.now) (names_told_reply result) (parts D.Disk self.now) }
+    {
+        let rows = self.store.catalogue().rows();
+        match names_of(self.alloc, rows, from as usize, most as usize) {
+            Ok(names) => NamesTold::NamesAre {
+                names,
+                more: u64::from(from) + u64::from(most) < rows.len() as u64,
+            },
+            Err(_) => NamesTold::Memory,
+        }
+    }
+
+    /// How many doors are open. It makes no call of the disk.
+    pub fn doors(&self) -> DoorsLeft
+        ensures step { Steps D.tells DoorsStep (parts D.Disk self.now) (doors_left_reply result) (parts D.Disk self.now) }
+    {
+        DoorsLeft { doors: self.doors }
+    }
+
+    /// Counts a door off that has ended, and tells how many are open. It makes no call of the disk.
+    pub fn door_done(&mut self) -> DoorsLeft
+        ensures step { Steps D.tells DoorDoneStep (parts D.Disk self.old) (doors_left_reply result) (parts D.Disk self.new) }
+        ensures store { self.new.store ≡ self.old.store }
+    {
+        self.doors = self.doors.saturating_sub(1);
+        DoorsLeft { doors: self.doors }
+    }
+}

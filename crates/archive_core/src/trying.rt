@@ -1,0 +1,221 @@
+// Samples that are tried: whether one is accepted, and where it goes then.
+ghost use Rattle.std.specs.Prelude.{◌≡◌, ◌⊎◌, true, false, ◌≤◌, ◌<◌, ◌+◌, ◌++◌, ◌∷◌, [], ℕ, length, Some, None, IfSome, IsSome, OnOk, OnErr};
+ghost use Rattle.append_buffer.specs.Tails.{tail_at, held_bytes, KeepsTails, SetsTail};
+ghost use Rattle.series_model.specs.Admission.{admit_before, admit_after};
+ghost use Rattle.sampler.specs.Row.{SampledRow};
+ghost use Rattle.act_model.specs.declared.answers.Ticked.TheVariants.{TickNone, NotDue};
+ghost use Rattle.act_model.specs.Rows.{is_running, number_of};
+ghost use Rattle.series_model.specs.declared.sample.Sample.{Sample as SampleValue};
+ghost use Rattle.archive_core.specs.Trying.{IsTried, IsOffered, IsTickedDue, moved_on};
+
+use crate::memory::RowMemory;
+use act_model::{Offered, Ticked};
+use append_buffer::{Intake, ROOM};
+use event_types::{PayloadType, State};
+use pv_catalog::Row;
+use series_model::{Reason, Sample, Standing, admit};
+
+/// Why a sample isn't accepted.
+#[derive(Drop)]
+pub enum Refusal {
+    /// For this reason.
+    Dropped(Reason),
+    /// The intake holds so many bytes.
+    IntakeFull { held: u64 },
+    /// Memory ran out.
+    Memory,
+}
+
+// Whether samples of the row are tried.
+pub(crate) fn runs(row: &Row) -> bool
+    ensures { result ≡ is_running row.now.state }
+{
+    matches!(row.state, State::Running)
+}
+
+// The first of the first three reasons to drop a sample of the type that is offered to this row.
+pub(crate) fn reason_by_row(row: &Row, ty: PayloadType) -> Option<Reason>
+    ensures { (next : ℕ) → result ≡ admit_before (Some (record { is_running = is_running row.now.state; ty = number_of row.now.about.ty; next = next })) (number_of ty) }
+{
+    if !runs(row) {
+        Some(Reason::Paused)
+    } else if row.about.ty.number() != ty.number() {
+        Some(Reason::WrongType)
+    } else {
+        None
+    }
+}
+
+// The first of the last two reasons to drop a sample at `t`, of a row that takes samples from `next` on.
+fn reason_by_time(next: u64, t: u64, now: u64) -> Option<Reason>
+    ensures { result ≡ admit_after next t now }
+{
+    let row = Standing {
+        is_running: true,
+        ty: 0,
+        next,
+    };
+    admit(Some(row), 0, t, now)
+}
+
+// Whether a sample of the row would be accepted. Where it would, there is memory for it.
+pub(crate) fn examine(
+    intake: &mut Intake,
+    row: u32,
+    next: u64,
+    sample: &Sample,
+    now: u64,
+) -> Result<(), Refusal>
+    ensures tried { IsTried next (held_bytes intake.old) sample.now.t (length sample.now.line) now result }
+    ensures spare { OnOk result (1 ≤ (tail_at intake.new row).spare) }
+    ensures tails { KeepsTails intake.old intake.new }
+    ensures held { held_bytes intake.new ≡ held_bytes intake.old }
+{
+    if let Some(reason) = reason_by_time(next, sample.t, now) {
+        return Err(Refusal::Dropped(reason));
+    }
+    let held = intake.held();
+    if sample.line.bytes().len() as u64 >= ROOM - held {
+        return Err(Refusal::IntakeFull { held });
+    }
+    match intake.reserve(row, 1) {
+        Ok(()) => Ok(()),
+        Err(_) => Err(Refusal::Memory),
+    }
+}
+
+// Accepts a sample for which there is room and memory.
+pub(crate) fn keep(intake: &mut Intake, memory: &mut RowMemory, row: u32, sample: Sample)
+    requires time { sample.t < 18446744073709551615 }
+    requires room { held_bytes intake.old + (length sample.line + 1) ≤ 67108864 }
+    requires spare { 1 ≤ (tail_at intake.old row).spare }
+    ensures tail { SetsTail row ((tail_at intake.old row).samples ++ sample ∷ []) intake.old intake.new }
+    ensures memory { memory.new ≡ record memory.old { next = sample.t + 1 } }
+{
+    memory.next = sample.t + 1;
+    let _ = intake.offer(row, sample);
+}
+
+// Tries a sample of the row, and accepts it where nothing speaks against it.
+pub(crate) fn try_sample(
+    intake: &mut Intake,
+    memory: &mut RowMemory,
+    row: u32,
+    sample: Sample,
+    now: u64,
+) -> Result<(), Refusal>
+    requires time { sample.t < 18446744073709551615 }
+    ensures tried { IsTried memory.old.next (held_bytes intake.old) sample.t (length sample.line) now result }
+    ensures kept { OnOk result (SetsTail row ((tail_at intake.old row).samples ++ sample ∷ []) intake.old intake.new × (memory.new ≡ record memory.old { next = sample.t + 1 })) }
+    ensures refused { OnErr result (KeepsTails intake.old intake.new × (memory.new ≡ memory.old)) }
+{
+    examine(intake, row, memory.next, &sample, now)?;
+    keep(intake, memory, row, sample);
+    Ok(())
+}
+
+// Takes an offer to a row to which none of the first three reasons applies: a sampled row holds the sample, another one tries it.
+pub(crate) fn offer_row(
+    intake: &mut Intake,
+    memory: &mut RowMemory,
+    row: u32,
+    sample: Sample,
+    now: u64,
+) -> Offered
+    requires time { sample.t < 18446744073709551615 }
+    ensures { IsOffered intake.old memory.old row sample now result intake.new memory.new }
+{
+    if let Some(scan) = &mut memory.scan {
+        scan.offer(sample);
+        return Offered::Held;
+    }
+    match try_sample(intake, memory, row, sample, now) {
+        Ok(()) => Offered::Kept,
+        Err(Refusal::Dropped(reason)) => Offered::Dropped(reason),
+        Err(Refusal::IntakeFull { held }) => Offered::IntakeFull { held },
+        Err(Refusal::Memory) => Offered::Memory,
+    }
+}
+
+// Whether what a sampled row holds would be accepted, if it holds anything. Where it would, there is memory for it.
+fn examine_held(
+    intake: &mut Intake,
+    memory: &RowMemory,
+    row: u32,
+    now: u64,
+) -> Option<Result<(), Refusal>>
+    ensures none { result ≡ None → (sampled : SampledRow) → memory.now.scan ≡ Some sampled → sampled.cell.held ≡ None }
+    ensures tried { IfSome result (λ r. (sampled : SampledRow) → memory.now.scan ≡ Some sampled → (s : SampleValue) × (sampled.cell.held ≡ Some s) × IsTried memory.now.next (held_bytes intake.old) s.t (length s.line) now r) }
+    ensures spare { IfSome result (λ r. OnOk r (1 ≤ (tail_at intake.new row).spare)) }
+    ensures tails { KeepsTails intake.old intake.new }
+    ensures held { held_bytes intake.new ≡ held_bytes intake.old }
+{
+    let sample = memory.scan.as_ref()?.held()?;
+    Some(examine(intake, row, memory.next, sample, now))
+}
+
+// Gives up what a sampled row holds, at a tick that is due.
+fn move_on(memory: &mut RowMemory, now: u64) -> Option<Sample>
+    requires due { (sampled : SampledRow) → memory.old.scan ≡ Some sampled → sampled.cell.due ≤ now }
+    ensures held { (sampled : SampledRow) → memory.old.scan ≡ Some sampled → (result ≡ sampled.cell.held) × (memory.new ≡ moved_on memory.old sampled now) }
+{
+    match &mut memory.scan {
+        Some(scan) => scan.tick(now),
+        None => None,
+    }
+}
+
+// Tries what a sampled row holds, at a tick that is due.
+pub(crate) fn try_held(intake: &mut Intake, memory: &mut RowMemory, row: u32, now: u64) -> Ticked
+    requires sampled { IsSome memory.old.scan }
+    requires due { (sampled : SampledRow) → memory.old.scan ≡ Some sampled → sampled.cell.due ≤ now }
+    requires time { (sampled : SampledRow) (s : SampleValue) → memory.old.scan ≡ Some sampled → sampled.cell.held ≡ Some s → s.t < 18446744073709551615 }
+    ensures { (sampled : SampledRow) → memory.old.scan ≡ Some sampled → IsTickedDue intake.old memory.old sampled row now result intake.new memory.new }
+{
+    match examine_held(intake, memory, row, now) {
+        None => {
+            move_on(memory, now);
+            Ticked::TickNone
+        }
+        Some(Err(Refusal::Dropped(reason))) => {
+            move_on(memory, now);
+            Ticked::Dropped(reason)
+        }
+        Some(Err(Refusal::IntakeFull { held })) => Ticked::IntakeFull { held },
+        Some(Err(Refusal::Memory)) => Ticked::Memory,
+        Some(Ok(())) => match move_on(memory, now) {
+            Some(sample) => {
+                let t = sample.t;
+                keep(intake, memory, row, sample);
+                Ticked::TickKept { t }
+            }
+            None => Ticked::TickNone,
+        },
+    }
+}
+
+// A tick of a row: where it is sampled, running and due, what it holds is tried.
+pub(crate) fn tick_row(
+    intake: &mut Intake,
+    memory: &mut RowMemory,
+    row: u32,
+    is_running: bool,
+    now: u64,
+) -> Ticked
+    requires time { (sampled : SampledRow) (s : SampleValue) → memory.old.scan ≡ Some sampled → sampled.cell.held ≡ Some s → s.t < 18446744073709551615 }
+    ensures none { (memory.old.scan ≡ None) ⊎ (is_running ≡ false) → (result ≡ TickNone) × (intake.new ≡ intake.old) × (memory.new ≡ memory.old) }
+    ensures early { (sampled : SampledRow) → memory.old.scan ≡ Some sampled → is_running ≡ true → now < sampled.cell.due → (result ≡ NotDue sampled.cell.due) × (intake.new ≡ intake.old) × (memory.new ≡ memory.old) }
+    ensures due { (sampled : SampledRow) → memory.old.scan ≡ Some sampled → is_running ≡ true → sampled.cell.due ≤ now → IsTickedDue intake.old memory.old sampled row now result intake.new memory.new }
+{
+    if !is_running {
+        return Ticked::TickNone;
+    }
+    let Some(scan) = &memory.scan else {
+        return Ticked::TickNone;
+    };
+    let due = scan.due();
+    if now < due {
+        return Ticked::NotDue { due };
+    }
+    try_held(intake, memory, row, now)
+}
