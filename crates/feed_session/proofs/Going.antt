@@ -29,18 +29,18 @@ gives_nothing (Some a) = (tt, λ k. ap a (omega arith))
 
 -- ONE ITEM MORE
 
-taken_on : (registers : Bool) (chunk : Option PayloadInfo) (ts : List Taken) (t : Taken) → AreTaken registers chunk ts → IsTaken registers (chunk_after chunk ts) t → AreTaken registers chunk (ts ++ t ∷ [])
+pub taken_on : (registers : Bool) (chunk : Option PayloadInfo) (ts : List Taken) (t : Taken) → AreTaken registers chunk ts → IsTaken registers (chunk_after chunk ts) t → AreTaken registers chunk (ts ++ t ∷ [])
 taken_on registers chunk [] t p q = (q, tt)
 taken_on registers chunk (x ∷ ts) t p q = (p.0, taken_on registers (chunk_behind chunk x.item) ts t p.1 q)
 
-chunk_on : (chunk : Option PayloadInfo) (ts : List Taken) (t : Taken) → chunk_after chunk (ts ++ t ∷ []) ≡ chunk_behind (chunk_after chunk ts) t.item
+pub chunk_on : (chunk : Option PayloadInfo) (ts : List Taken) (t : Taken) → chunk_after chunk (ts ++ t ∷ []) ≡ chunk_behind (chunk_after chunk ts) t.item
 chunk_on chunk [] t = refl
 chunk_on chunk (x ∷ ts) t = chunk_on (chunk_behind chunk x.item) ts t
 
-items_on : (ts : List Taken) (t : Taken) → items_of (ts ++ t ∷ []) ≡ items_of ts ++ t.item ∷ []
+pub items_on : (ts : List Taken) (t : Taken) → items_of (ts ++ t ∷ []) ≡ items_of ts ++ t.item ∷ []
 items_on ts t = map-append (λ (x : Taken). x.item) ts (t ∷ [])
 
-moments_on : (ts : List Taken) (t : Taken) → moments_of (ts ++ t ∷ []) ≡ moments_of ts ++ t.moments
+pub moments_on : (ts : List Taken) (t : Taken) → moments_of (ts ++ t ∷ []) ≡ moments_of ts ++ t.moments
 moments_on ts t = flat_map-append (λ (x : Taken). x.moments) ts (t ∷ []) ∙ ap (λ (l : List ℕ). moments_of ts ++ l) (append-nil t.moments)
 
 pub acts_on : (ts : List Taken) (t : Taken) → acts_of (ts ++ t ∷ []) ≡ acts_of ts ++ t.done
@@ -74,7 +74,7 @@ abbrev pub taken_as : Item → List ℕ → List Done → Taken
 taken_as item moments done = record { item = item; moments = moments; done = done }
 
 module _ {A : Type 0} (number : A → ℕ) (between : A → List Entry → A → Type 0) where
-  pub starts : ((a : A) → between a [] a) → (registers : Bool) (reader : Chunks) (left : Option (List ℕ)) (clock : Option Moments) (start : A) (tally : Tally) → IsFresh reader → tally ≡ none → Progress number between registers reader reader left (to_come reader left) clock clock start start tally
+  abbrev pub starts : ((a : A) → between a [] a) → (registers : Bool) (reader : Chunks) (left : Option (List ℕ)) (clock : Option Moments) (start : A) (tally : Tally) → IsFresh reader → tally ≡ none → Progress number between registers reader reader left (to_come reader left) clock clock start start tally
   starts nothing registers reader left clock start tally fresh is = record {
     taken = [];
     are = tt;
@@ -87,7 +87,7 @@ module _ {A : Type 0} (number : A → ℕ) (between : A → List Entry → A →
 
   module _ (joined : (a b c : A) (xs ys : List Entry) → between a xs b → between b ys c → between a (xs ++ ys) c)
       (number_stays : (a b : A) (entries : List Entry) → between a entries b → number b ≡ number a) where
-    pub goes_on : {registers : Bool} {first mid new : Chunks} {before middle after : Option (List ℕ)} {clock clock' clock'' : Option Moments} {start now next : A} {tally tally' : Tally} {item : Item} → Progress number between registers first mid before middle clock clock' start now tally → Takes number between registers mid new middle after clock' clock'' now next tally tally' item → Progress number between registers first new before after clock clock'' start next tally'
+    abbrev pub goes_on : {registers : Bool} {first mid new : Chunks} {before middle after : Option (List ℕ)} {clock clock' clock'' : Option Moments} {start now next : A} {tally tally' : Tally} {item : Item} → Progress number between registers first mid before middle clock clock' start now tally → Takes number between registers mid new middle after clock' clock'' now next tally tally' item → Progress number between registers first new before after clock clock'' start next tally'
     goes_on {registers} {first} {mid} {new} {before} {middle} {after} {clock} {clock'} {clock''} {start} {now} {next} {tally} {tally'} {item} p q =
         let t = taken_as item q.moments q.done in
         record {

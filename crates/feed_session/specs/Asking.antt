@@ -11,6 +11,8 @@ use Rattle.feed_session.specs.declared.asking.Stopped.{Stopped}
 use Rattle.feed_session.specs.declared.asking.Stopped.TheVariants as stopped
 use Rattle.feed_session.specs.declared.end.Fed.{Fed}
 use Rattle.feed_session.specs.declared.end.Fed.TheVariants as fed
+use Rattle.feed_session.specs.declared.replies.Cut.{Cut}
+use Rattle.feed_session.specs.declared.replies.Cut.TheVariants as cut
 use Rattle.feed_session.specs.declared.tally.Outcome.{Outcome}
 use Rattle.feed_session.specs.declared.tally.Outcome.TheVariants.{Kept, Held, Dropped}
 use Rattle.feed_session.specs.declared.tally.Tally.{Tally}
@@ -20,6 +22,11 @@ abbrev pub end_by : Stopped → Fed
 end_by stopped.DiskFault = fed.DiskFault
 end_by stopped.Spent = fed.Spent
 end_by stopped.Memory = fed.Memory
+
+-- how it ends where a reply was cut off
+abbrev pub cut_by : Cut → Fed
+cut_by cut.Peer = fed.PeerFault
+cut_by cut.Memory = fed.Memory
 
 -- the acts that were made when it stopped
 abbrev pub StopsIn : Stopped → List Done → Type 0

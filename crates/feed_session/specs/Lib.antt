@@ -2,3 +2,4 @@ pub mod Asks
 pub mod Asking
 pub mod Session
 pub mod Replies
+pub mod Durable

@@ -62,9 +62,19 @@ CutsOff fed.PeerFault = Unit {0}
 CutsOff fed.Memory = Unit {0}
 CutsOff other = ⊥
 
--- The text went out. Where it was cut off, a front of what would have been told went out.
+-- The text went out, and the session ended as it would have. Where it was cut off, a front of it went out.
+abbrev pub Tells : Fed → List ℕ → Fed → Option (List ℕ) → Option (List ℕ) → Type 0
+Tells end text result old new = ((result ≡ end) × Appends old new text) ⊎ (CutsOff result × AppendsFront old new text)
+
+-- so is the whole text of a session that ended so
 abbrev pub Replies : Fed → List Taken → Fed → Option (List ℕ) → Option (List ℕ) → Type 0
-Replies end taken result old new = ((result ≡ end) × Appends old new (text_of end taken)) ⊎ (CutsOff result × AppendsFront old new (text_of end taken))
+Replies end taken result old new = Tells end (text_of end taken) result old new
+
+-- Just these acts were made under the actor's number, and just the lines for the chunks that ended were written over their answers.
+pub record FeedsChunks {A : Type 0} (number : A → ℕ) (between : A → List Entry → A → Type 0) (result : Fed) (old new : A) (source : Option (List ℕ)) (clock clock' : Option Moments) (written written' : Option (List ℕ)) : Type 0 where
+  pub taken : List Taken
+  pub ended : Ended number between false result taken old new source clock clock'
+  pub told : Tells result (lines_of [] taken) result written written'
 
 -- Just these acts were made under the actor's number, and just this was written over their answers.
 pub record Feeds {A : Type 0} (number : A → ℕ) (between : A → List Entry → A → Type 0) (result : Fed) (old new : A) (source : Option (List ℕ)) (clock clock' : Option Moments) (written written' : Option (List ℕ)) : Type 0 where

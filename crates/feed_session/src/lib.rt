@@ -14,9 +14,12 @@
 
 mod asking;
 mod end;
+pub mod laws;
+mod over_link;
 mod over_source;
 mod replies;
 mod tally;
 
 pub use end::Fed;
+pub use over_link::feed;
 pub use over_source::ingest;

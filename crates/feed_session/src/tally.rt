@@ -1,5 +1,5 @@
 // How many samples were kept, held and dropped.
-ghost use Rattle.std.specs.Prelude.{◌≡◌, ◌<◌, ◌^◌};
+ghost use Rattle.std.specs.Prelude.{◌≡◌, ◌<◌, ◌≤◌, ◌^◌};
 ghost use Rattle.feed_session.specs.Asking.{both, none, one_more, total};
 
 use crate::end::Fed;
@@ -44,14 +44,18 @@ impl Tally {
         }
     }
 
-    /// Counts the samples of a chunk too.
-    pub(crate) fn add(&mut self, chunk: Tally)
-        requires { total (both self.old chunk) < 2 ^ 63 }
-        ensures { self.new ≡ both self.old chunk }
+    /// What was counted since there were so many.
+    pub(crate) fn since(self, then: Tally) -> Tally
+        requires kept { then.kept ≤ self.kept }
+        requires held { then.held ≤ self.held }
+        requires dropped { then.dropped ≤ self.dropped }
+        ensures { both then result ≡ self }
     {
-        self.kept += chunk.kept;
-        self.held += chunk.held;
-        self.dropped += chunk.dropped;
+        Tally {
+            kept: self.kept - then.kept,
+            held: self.held - then.held,
+            dropped: self.dropped - then.dropped,
+        }
     }
 
     /// The end of a session that counted so.
