@@ -1,6 +1,6 @@
 -- How much of a raw text went out, call by call.
-use Rattle.std.proofs.Common.{◌≡◌, ◌≢◌, ℕ, ℤ, List, [], ◌∷◌, ◌++◌, Option, None, Some, inl, inr, refl, sym, ap, ◌∙◌, subst, append_assoc, append-nil}
-use Rattle.std.specs.Prelude.{◌⊎◌, is_some, false}
+use Rattle.std.proofs.Common.{◌≡◌, ℕ, ℤ, List, [], ◌∷◌, ◌++◌, Option, None, Some, inl, inr, refl, sym, ap, ◌∙◌, subst, append_assoc, append-nil}
+use Rattle.std.specs.Prelude.{is_some, false}
 use Rattle.std.specs.Io.KnownBytes.{Appends}
 use Rattle.std.proofs.KnownBytes.{Appends-nil}
 use Rattle.edge_io.specs.Stream.{AppendsFront}
@@ -12,8 +12,8 @@ use Rattle.series_model.specs.declared.sample.Sample.{Sample}
 use Rattle.act_model.specs.Event.{IsEvent, AreEvents}
 use Rattle.act_model.specs.Out.{Subject}
 use Rattle.retrieval_query.specs.declared.head.Head.{Head}
-use Rattle.retrieval_query.specs.Raw.{IsOfYear, IsNearestYear, IsHeaderAlone, IsRaw, header_of, header_text}
-use Rattle.retrieval_query.specs.Writing.{gap, IsOpening, IsHeader, IsEnding, IsText, HasHead, Opens, OpensFront, Closes, ClosesFront, Gives, Finishes, Breaks}
+use Rattle.retrieval_query.specs.Raw.{IsOfYear, IsNearestYear, IsHeaderAlone, IsRaw, header_of}
+use Rattle.retrieval_query.specs.Writing.{IsOpening, IsHeader, IsEnding, IsText, HasHead, Opens, OpensFront, Closes, ClosesFront, Gives, Finishes, Breaks}
 use Rattle.retrieval_query.specs.Texts.{line_of, opening_of, text_none, text_more, raw_front, raw_ended}
 
 -- nothing more was put

@@ -1,6 +1,5 @@
 -- Why a text as far as some samples is a front of the whole text, whatever events follow. An output owes this with its definitions.
-use Rattle.std.proofs.Common.{◌≡◌, ℕ, ℤ, List, [], ◌∷◌, ◌++◌, Option, None, refl, sym, ap, ◌∙◌, append_assoc}
-use Rattle.edge_io.specs.Stream.{AppendsFront}
+use Rattle.std.proofs.Common.{ℕ, List, ◌++◌, Option, sym, append_assoc}
 use Rattle.sink_buffer.proofs.Sending.{front_kept}
 use Rattle.pb_file.proofs.Lines.{all_rest}
 use Rattle.series_model.specs.declared.sample.Sample.{Sample}

@@ -1,20 +1,30 @@
-//! The raw text of an answer: samples of one variable by years, each year's behind a header line, in the PB file format.
+//! Retrievals, and the raw text of an answer: samples of one variable by years, each year's behind a header line, in the PB file format.
 //!
-//! `RawOut::new` over any sink, then the calls of `act_model::Out`: `begin` once, `sample` for each sample, `finish` at the end. An empty
-//! line stands between two years. An answer without samples is one header line, of the year of the interval's beginning, or the nearest one
-//! that samples stand in.
+//! [`retrieve`] pins a variable through any actor, opens the pin's pieces one by one, merges them and the tail, and writes the answer to any
+//! output. Then it gives the pin up.
 //!
-//! Model: `IsRaw` relates a subject and a list of samples to their text. An output knows the header and the year of the last header line,
-//! and nothing of the samples that it was given.
+//! [`RawOut`] is such an output: `RawOut::new` over any sink, then the calls of `act_model::Out`: `begin` once, `sample` for each sample,
+//! `finish` at the end. An empty line stands between two years. An answer without samples is one header line, of the year of the
+//! interval's beginning, or the nearest one that samples stand in.
 //!
-//! Caveats: the year of each sample is computed from its moment.
+//! Model: `IsRaw` relates a subject and a list of samples to their text. `IsPinned` says which acts a retrieval made, why it ended and what
+//! it wrote, and `WritesAnswer` that this is the answer over all that was accepted as its pin was made.
+//!
+//! Caveats: the year of each sample is computed from its moment. A pin is given up before the text is ended, so `Finished` says that both
+//! were done.
 //!
 //! Tests: `query_tests`.
 #![tactic(auto)]
 
+mod give;
 mod head;
+mod pinned;
 mod put;
 mod raw;
+mod retrieval;
+mod retrieved;
 mod year;
 
 pub use raw::RawOut;
+pub use retrieval::retrieve;
+pub use retrieved::Retrieved;

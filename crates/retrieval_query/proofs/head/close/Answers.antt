@@ -1,4 +1,4 @@
-use Rattle.std.proofs.Common.{ℤ, sym, ◌∙◌, subst, w32, to_z, of_z}
+use Rattle.std.proofs.Common.{sym, ◌∙◌, w32, to_z, of_z}
 use Rattle.std.proofs.lemmas.Result.{on_ok_weaker, on_err_weaker}
 use Rattle.retrieval_query.proofs.Sending.{here_is, some_here, none_last, closes_none, closes_none_front}
 use Rattle.retrieval_query.proofs.Years.{nearest_back}

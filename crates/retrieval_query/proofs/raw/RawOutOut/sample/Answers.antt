@@ -1,4 +1,4 @@
-use Rattle.std.proofs.Common.{[], ◌∷◌, ◌++◌, w32, to_z, of_z}
+use Rattle.std.proofs.Common.{w32, to_z, of_z}
 use Rattle.std.proofs.lemmas.Result.{on_ok_weaker, on_err_weaker}
 use Rattle.sink_buffer.proofs.Sending.{on_err}
 use Rattle.series_model.specs.declared.sample.Sample.{Sample}

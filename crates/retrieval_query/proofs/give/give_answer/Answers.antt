@@ -1,0 +1,131 @@
+use Rattle.std.proofs.Common.{◌∙◌, refl, subst, arith, [], ◌∷◌, ◌++◌, ℕ, List, None, rules}
+use Rattle.std.proofs.lemmas.Result.{err_from_is_err_and}
+use Rattle.pb_wire.specs.declared.payload.PayloadType.{PayloadType}
+use Rattle.series_model.specs.declared.sample.Sample.{Sample}
+use Rattle.act_model.specs.Event.{IsEvent, AreEvents}
+use Rattle.act_model.specs.Out.{Subject}
+use Rattle.stream_merge.specs.Reading.{IsSampleOf}
+use Rattle.stream_merge.specs.Merging.{line_from}
+use Rattle.stream_merge.proofs.Went.{goes_joined, goes_nowhere, went_joined}
+use Rattle.retrieval_query.proofs.Given.{event_from, few, giving_none, giving_more, sample_breaks, sample_breaks_whole, gives_whole, stops_some, stops_whole, stops_by, stops_out, never_sink}
+use Rattle.retrieval_query.proofs.give.give_answer.Goals as goal
+
+pub lines-init : goal.lines-init
+lines-init g c =
+    let R = g.P.Reader.ReadAt in
+    let P = g.P.Pieces in
+    let subject : Subject = record { name = c.args.name.now; about = c.args.about.now; query = c.args.query } in
+    record {
+      going = c.requires.going;
+      ty = c.requires.ty;
+      may = c.requires.may;
+      faults = c.begin.ensures.faults;
+      goes = goes_nowhere R.tells R.bytes P.opened P.failed g.met.P.Pieces.none_opened c.args.pieces.now None c.args.merge.source.piece c.requires.none_open;
+      giving = giving_none R.tells R.bytes P.left g.O.Out.gave g.O.Out.broke c.args.about.now.ty c.args.pieces.now c.args.merge c.args.out.now subject c.begin.new.self (line_from c.args.merge) c.in_ok-begin.ensures.begun;
+    }
+
+pub returns-in_err-sample-in-Line-clause-gives : goal.returns-in_err-sample-in-Line-clause-gives
+returns-in_err-sample-in-Line-clause-gives g c =
+    let R = g.P.Reader.ReadAt in
+    let P = g.P.Pieces in
+    let goes = goes_joined R.tells R.bytes P.opened P.failed g.met.P.Pieces.opened_on c.args.pieces.now c.lines.pieces c.next.new.pieces None c.lines.merge.source.piece c.next.new.self.source.piece c.lines.invariant.goes c.in-Line.ensures.went in
+    let p = err_from_is_err_and c.from_residual-in_err-sample-in-Line.result c.from_residual-in_err-sample-in-Line.ensures.1 in
+    rw (p.1, p.2) (stops_out R.tells R.bytes R.faults P.opened P.failed c.args.about.now.ty c.args.pieces.now c.next.new.pieces c.in_err-sample-in-Line.field-0.0 (goes.pieces, goes.were))
+
+pub returns-in_err-sample-in-Line-clause-gave : goal.returns-in_err-sample-in-Line-clause-gave
+returns-in_err-sample-in-Line-clause-gave g c =
+    let R = g.P.Reader.ReadAt in
+    let P = g.P.Pieces in
+    let inv = c.lines.invariant in
+    let t = c.in-Line.t in
+    let subject : Subject = record { name = c.args.name.now; about = c.args.about.now; query = c.args.query } in
+    let line = c.next.new.line.items in
+    let event : IsEvent c.args.about.now.ty (record { t = t; line = line }) = event_from c.args.about.now.ty (record { t = t; line = line }) (subst (λ (y : PayloadType). IsSampleOf y (record { t = t; line = line })) inv.ty (c.in-Line.ensures.event t refl)) in
+    let given = inv.giving.given in
+    let breaks : (more : List Sample) → AreEvents subject.about.ty (given ++ record { t = t; line = line } ∷ more) → g.O.Out.broke c.args.out.now subject (given ++ record { t = t; line = line } ∷ more) c.sample.new.self =
+    subst (λ (l : List ℕ). (more : List Sample) → AreEvents subject.about.ty (given ++ record { t = t; line = l } ∷ more) → g.O.Out.broke c.args.out.now subject (given ++ record { t = t; line = l } ∷ more) c.sample.new.self) c.deref.ensures.value (λ more events. c.in_err-sample-in-Line.ensures.broken c.args.out.now subject given more events inv.giving.has) in
+    let p = err_from_is_err_and c.from_residual-in_err-sample-in-Line.result c.from_residual-in_err-sample-in-Line.ensures.1 in
+    let low = (c.in-Line.ensures.later t refl).0 in
+    rw p.1 (sample_breaks R.tells R.bytes P.left g.O.Out.gave g.O.Out.broke c.args.about.now.ty c.args.pieces.now c.args.merge c.args.out.now subject c.lines.pieces c.lines.merge c.lines.count (line_from c.lines.merge) c.lines.out inv.giving c.next.new.pieces c.next.new.self t line event low c.in-Line.ensures.lines c.sample.new.self p.0 refl breaks)
+
+pub returns-in_err-sample-in-Line-clause-whole : goal.returns-in_err-sample-in-Line-clause-whole
+returns-in_err-sample-in-Line-clause-whole g c tells ps xs is rest all =
+    let R = g.P.Reader.ReadAt in
+    let P = g.P.Pieces in
+    let inv = c.lines.invariant in
+    let t = c.in-Line.t in
+    let subject : Subject = record { name = c.args.name.now; about = c.args.about.now; query = c.args.query } in
+    let line = c.next.new.line.items in
+    let event : IsEvent c.args.about.now.ty (record { t = t; line = line }) = event_from c.args.about.now.ty (record { t = t; line = line }) (subst (λ (y : PayloadType). IsSampleOf y (record { t = t; line = line })) inv.ty (c.in-Line.ensures.event t refl)) in
+    let given = inv.giving.given in
+    let breaks : (more : List Sample) → AreEvents subject.about.ty (given ++ record { t = t; line = line } ∷ more) → g.O.Out.broke c.args.out.now subject (given ++ record { t = t; line = line } ∷ more) c.sample.new.self =
+    subst (λ (l : List ℕ). (more : List Sample) → AreEvents subject.about.ty (given ++ record { t = t; line = l } ∷ more) → g.O.Out.broke c.args.out.now subject (given ++ record { t = t; line = l } ∷ more) c.sample.new.self) c.deref.ensures.value (λ more events. c.in_err-sample-in-Line.ensures.broken c.args.out.now subject given more events inv.giving.has) in
+    let p = err_from_is_err_and c.from_residual-in_err-sample-in-Line.result c.from_residual-in_err-sample-in-Line.ensures.1 in
+    let low = (c.in-Line.ensures.later t refl).0 in
+    rw p.1 (sample_breaks_whole R.tells R.bytes P.left g.O.Out.gave g.O.Out.broke c.args.about.now.ty c.args.pieces.now c.args.merge c.args.out.now subject c.lines.pieces c.lines.merge c.lines.count (line_from c.lines.merge) c.lines.out inv.giving c.next.new.pieces c.next.new.self t line event low c.in-Line.ensures.lines c.sample.new.self p.0 breaks tells ps xs is rest all)
+
+pub overflow_add-count : goal.overflow_add-count
+overflow_add-count g c =
+    let R = g.P.Reader.ReadAt in
+    let P = g.P.Pieces in
+    let inv = c.lines.invariant in
+    let t = c.in-Line.t in
+    let subject : Subject = record { name = c.args.name.now; about = c.args.about.now; query = c.args.query } in
+    let line = c.next.new.line.items in
+    let s : Sample = record { t = t; line = line } in
+    let event : IsEvent c.args.about.now.ty s = event_from c.args.about.now.ty s (subst (λ (y : PayloadType). IsSampleOf y s) inv.ty (c.in-Line.ensures.event t refl)) in
+    let low = few R.tells R.bytes P.left g.O.Out.gave g.O.Out.broke c.args.about.now.ty c.args.pieces.now c.args.merge c.args.out.now subject c.lines.pieces c.lines.merge c.lines.count (line_from c.lines.merge) c.lines.out inv.giving s event (c.in-Line.ensures.later t refl).0 in
+    search (rules, low)
+
+pub lines-preserved : goal.lines-preserved
+lines-preserved g c =
+    let R = g.P.Reader.ReadAt in
+    let P = g.P.Pieces in
+    let inv = c.lines.invariant in
+    let t = c.in-Line.t in
+    let subject : Subject = record { name = c.args.name.now; about = c.args.about.now; query = c.args.query } in
+    let line = c.next.new.line.items in
+    let event : IsEvent c.args.about.now.ty (record { t = t; line = line }) = event_from c.args.about.now.ty (record { t = t; line = line }) (subst (λ (y : PayloadType). IsSampleOf y (record { t = t; line = line })) inv.ty (c.in-Line.ensures.event t refl)) in
+    let given = inv.giving.given in
+    let has : g.O.Out.gave c.args.out.now subject (given ++ record { t = t; line = line } ∷ []) c.sample.new.self =
+    subst (λ (l : List ℕ). g.O.Out.gave c.args.out.now subject (given ++ record { t = t; line = l } ∷ []) c.sample.new.self) c.deref.ensures.value (c.in_ok-sample-in-Line.ensures.given c.args.out.now subject given inv.giving.has) in
+    let goes = goes_joined R.tells R.bytes P.opened P.failed g.met.P.Pieces.opened_on c.args.pieces.now c.lines.pieces c.next.new.pieces None c.lines.merge.source.piece c.next.new.self.source.piece inv.goes c.in-Line.ensures.went in
+    let later = c.in-Line.ensures.later t refl in
+    record {
+      going = c.in-Line.ensures.going t refl;
+      ty = c.in-Line.ensures.ty ∙ inv.ty;
+      may = g.met.P.Pieces.goes_on c.args.pieces.now c.next.new.pieces goes.pieces c.requires.may goes.were;
+      faults = omega (arith, inv.faults, c.sample.ensures.faults);
+      goes = goes;
+      giving = giving_more R.tells R.bytes P.left g.O.Out.gave g.O.Out.broke c.args.about.now.ty c.args.pieces.now c.args.merge c.args.out.now subject c.lines.pieces c.lines.merge c.lines.count (line_from c.lines.merge) c.lines.out inv.giving c.next.new.pieces c.next.new.self t line event later.0 c.in-Line.ensures.lines (line_from c.next.new.self) c.sample.new.self later.1 has;
+    }
+
+pub returns-in-End-clause-gives : goal.returns-in-End-clause-gives
+returns-in-End-clause-gives g c =
+    let R = g.P.Reader.ReadAt in
+    let P = g.P.Pieces in
+    let goes = goes_joined R.tells R.bytes P.opened P.failed g.met.P.Pieces.opened_on c.args.pieces.now c.lines.pieces c.next.new.pieces None c.lines.merge.source.piece c.next.new.self.source.piece c.lines.invariant.goes c.in-End.ensures.went in
+    (goes.pieces, goes.were)
+
+pub returns-in-End-clause-whole : goal.returns-in-End-clause-whole
+returns-in-End-clause-whole g c tells ps xs is rest all =
+    let R = g.P.Reader.ReadAt in
+    let P = g.P.Pieces in
+    let inv = c.lines.invariant in
+    let subject : Subject = record { name = c.args.name.now; about = c.args.about.now; query = c.args.query } in
+    gives_whole R.tells R.bytes P.left g.O.Out.gave g.O.Out.broke c.args.about.now.ty c.args.pieces.now c.args.merge c.args.out.now subject c.lines.pieces c.lines.merge c.lines.count (line_from c.lines.merge) c.lines.out inv.giving c.in-End.ensures.lines tells ps xs is rest
+
+pub returns-in_default : goal.returns-in_default
+returns-in_default g c =
+    let R = g.P.Reader.ReadAt in
+    let P = g.P.Pieces in
+    let inv = c.lines.invariant in
+    let subject : Subject = record { name = c.args.name.now; about = c.args.about.now; query = c.args.query } in
+    let went = went_joined R.tells R.bytes P.opened P.failed g.met.P.Pieces.opened_on g.met.P.Pieces.failed_on c.args.about.now.ty c.lines.merge.source.ty c.args.pieces.now c.lines.pieces c.next.new.pieces None c.lines.merge.source.piece c.next.new.self.source.piece c.next.result inv.ty inv.goes c.next.ensures.went in
+    record {
+      gives = stops_by R.tells R.bytes R.faults P.opened P.failed c.args.about.now.ty c.args.pieces.now c.next.new.pieces c.lines.merge.source.piece c.next.new.self.source.piece _ _ c.next.result c.stopped_by.result went c.next.ensures.failed c.stopped_by.ensures;
+      gave = stops_some R.tells R.bytes P.left g.O.Out.gave g.O.Out.broke c.args.about.now.ty c.args.pieces.now c.args.merge c.args.out.now subject c.lines.pieces c.lines.merge c.lines.count (line_from c.lines.merge) c.lines.out inv.giving g.met.O.Out.front c.stopped_by.result refl;
+      whole = stops_whole R.tells R.bytes P.left g.O.Out.gave g.O.Out.broke c.args.about.now.ty c.args.pieces.now c.args.merge c.args.out.now subject c.lines.pieces c.lines.merge c.lines.count (line_from c.lines.merge) c.lines.out inv.giving g.met.O.Out.front c.stopped_by.result;
+      faults = inv.faults;
+      cause = λ is. absurd (never_sink c.next.result c.stopped_by.result c.stopped_by.ensures is);
+    }
