@@ -1,0 +1,300 @@
+// The acts of each call, and what it is replied over their answers.
+ghost use Rattle.std.specs.Prelude.{◌≡◌, ◌∷◌, [], true, IfOk};
+ghost use Rattle.act_model.specs.Machine.{Machine};
+ghost use Rattle.act_model.specs.declared.acts.Act.{Act};
+ghost use Rattle.act_model.specs.Asks.{Asked, details_told_reply, flushed_reply, names_told_reply, paused_reply, registered_reply, resumed_reply};
+ghost use Rattle.admin_commands.specs.Bodies.{names_text};
+ghost use Rattle.admin_commands.specs.Next.{details_told, flushes, is_management, registered, set, status_told, tells};
+ghost use Rattle.admin_commands.specs.Pages.{EndsBelow, Gathers, LeavesNone};
+ghost use Rattle.admin_commands.specs.Serving.{Comes, Tells};
+
+use crate::bodies::{
+    NO_ROW, details_text, done_text, flushed_text, names_text, row_text, state_text, status_text,
+};
+use crate::end::Stopped;
+use crate::refusal::Refusal;
+use crate::reply::WebReply;
+use act_model::{
+    Actor, DetailsTold, Flushed, NamesTold, Paused, Registered, Resumed, Spent, ask_details,
+    ask_flush, ask_names, ask_pause, ask_register, ask_resume,
+};
+use event_types::About;
+use http_front::WebCall;
+use pv_name::PvName;
+use series_model::{Blob, Blobs};
+use std::alloc::{AllocError, Global};
+
+// A flush takes at most so many bytes, which is all that an intake can hold.
+const ALL: u64 = 67_108_864;
+
+// How many names are asked for at once.
+const PAGE: u32 = 1_024;
+
+/// Makes the acts of a call, and answers its reply.
+pub(crate) fn serve<A: Actor>(
+    alloc: Global,
+    actor: &mut A,
+    call: &WebCall,
+) -> Result<WebReply, Stopped>
+    requires stands { (m : Machine) × A.stands actor.old m }
+    requires management { is_management call.now ≡ true }
+    ensures comes { Comes A.number A.between A.is_spent call.now actor.old result actor.new }
+    ensures stands { (n : Machine) × A.stands actor.new n }
+{
+    match call {
+        WebCall::AllPvs => tell_names(alloc, actor),
+        WebCall::PvStatus { pv } => tell_status(alloc, actor, pv),
+        WebCall::PvDetails { pv } => tell_details(alloc, actor, pv),
+        WebCall::ArchivePv { pv, about } => archive(alloc, actor, pv, about),
+        WebCall::PausePv { pv } => pause(alloc, actor, pv),
+        WebCall::ResumePv { pv } => resume(alloc, actor, pv),
+        WebCall::FlushAll => flush(alloc, actor),
+        WebCall::Raw { .. } => unreachable!(),
+        WebCall::Json { .. } => unreachable!(),
+    }
+}
+
+fn name_of(alloc: Global, pv: &PvName) -> Result<Blob, AllocError>
+    ensures { IfOk result (λ name. name ≡ pv.now) }
+{
+    let bytes = Vec::from_slice(alloc, pv.bytes())?;
+    Ok(Blob::from(bytes))
+}
+
+fn copies_of(pv: &PvName, about: &About) -> Result<(PvName, About), AllocError>
+    ensures { IfOk result (λ both. (both.0 ≡ pv.now) × (both.1 ≡ about.now)) }
+{
+    Ok((pv.clone()?, about.clone()?))
+}
+
+// A row for a variable.
+fn archive<A: Actor>(
+    alloc: Global,
+    actor: &mut A,
+    pv: &PvName,
+    about: &About,
+) -> Result<WebReply, Stopped>
+    requires stands { (m : Machine) × A.stands actor.old m }
+    ensures comes { Comes A.number A.between A.is_spent (WebCall.ArchivePv pv.now about.now) actor.old result actor.new }
+    ensures stands { (n : Machine) × A.stands actor.new n }
+{
+    let Ok((name, about)) = copies_of(pv, about) else {
+        return Err(Stopped::Memory);
+    };
+    match ask_register(actor, name, about) {
+        Ok(told) => reply_to_register(alloc, told),
+        Err(Spent) => Err(Stopped::Spent),
+    }
+}
+
+pub(crate) fn reply_to_register(alloc: Global, told: Registered) -> Result<WebReply, Stopped>
+    ensures { Tells (registered (registered_reply told)) result }
+{
+    match told {
+        Registered::Registered { row } => Ok(WebReply::Success(row_text(alloc, row)?)),
+        Registered::NameTaken { row } => Ok(WebReply::Refused(Refusal::NameTaken { row })),
+        Registered::KeyTaken { row } => Ok(WebReply::Refused(Refusal::KeyTaken { row })),
+        Registered::CatalogueFull => Ok(WebReply::Refused(Refusal::CatalogueFull)),
+        Registered::DiskFault => Ok(WebReply::Refused(Refusal::DiskFault)),
+        Registered::Memory => Err(Stopped::Memory),
+    }
+}
+
+// That a variable's samples are dropped from now on.
+fn pause<A: Actor>(alloc: Global, actor: &mut A, pv: &PvName) -> Result<WebReply, Stopped>
+    requires stands { (m : Machine) × A.stands actor.old m }
+    ensures comes { Comes A.number A.between A.is_spent (WebCall.PausePv pv.now) actor.old result actor.new }
+    ensures stands { (n : Machine) × A.stands actor.new n }
+{
+    let Ok(name) = name_of(alloc, pv) else {
+        return Err(Stopped::Memory);
+    };
+    match ask_pause(actor, name) {
+        Ok(paused) => reply_to_pause(alloc, paused),
+        Err(Spent) => Err(Stopped::Spent),
+    }
+}
+
+pub(crate) fn reply_to_pause(alloc: Global, paused: Paused) -> Result<WebReply, Stopped>
+    ensures { Tells (set (paused_reply paused)) result }
+{
+    match paused {
+        Paused::Done => Ok(WebReply::Success(done_text(alloc)?)),
+        Paused::NoSuchVariable => Ok(WebReply::Refused(Refusal::NoSuchVariable)),
+        Paused::NotRunning => Ok(WebReply::Refused(Refusal::NotRunning)),
+        Paused::DiskFault => Ok(WebReply::Refused(Refusal::DiskFault)),
+        Paused::Memory => Err(Stopped::Memory),
+    }
+}
+
+// That a variable's samples are taken again.
+fn resume<A: Actor>(alloc: Global, actor: &mut A, pv: &PvName) -> Result<WebReply, Stopped>
+    requires stands { (m : Machine) × A.stands actor.old m }
+    ensures comes { Comes A.number A.between A.is_spent (WebCall.ResumePv pv.now) actor.old result actor.new }
+    ensures stands { (n : Machine) × A.stands actor.new n }
+{
+    let Ok(name) = name_of(alloc, pv) else {
+        return Err(Stopped::Memory);
+    };
+    match ask_resume(actor, name) {
+        Ok(resumed) => reply_to_resume(alloc, resumed),
+        Err(Spent) => Err(Stopped::Spent),
+    }
+}
+
+pub(crate) fn reply_to_resume(alloc: Global, resumed: Resumed) -> Result<WebReply, Stopped>
+    ensures { Tells (set (resumed_reply resumed)) result }
+{
+    match resumed {
+        Resumed::Done => Ok(WebReply::Success(done_text(alloc)?)),
+        Resumed::NoSuchVariable => Ok(WebReply::Refused(Refusal::NoSuchVariable)),
+        Resumed::NotPaused => Ok(WebReply::Refused(Refusal::NotPaused)),
+        Resumed::DiskFault => Ok(WebReply::Refused(Refusal::DiskFault)),
+        Resumed::Memory => Err(Stopped::Memory),
+    }
+}
+
+// Whether a variable is archived.
+fn tell_status<A: Actor>(alloc: Global, actor: &mut A, pv: &PvName) -> Result<WebReply, Stopped>
+    requires stands { (m : Machine) × A.stands actor.old m }
+    ensures comes { Comes A.number A.between A.is_spent (WebCall.PvStatus pv.now) actor.old result actor.new }
+    ensures stands { (n : Machine) × A.stands actor.new n }
+{
+    let Ok(name) = name_of(alloc, pv) else {
+        return Err(Stopped::Memory);
+    };
+    match ask_details(actor, name) {
+        Ok(told) => reply_with_status(alloc, pv, told),
+        Err(Spent) => Err(Stopped::Spent),
+    }
+}
+
+pub(crate) fn reply_with_status(
+    alloc: Global,
+    pv: &PvName,
+    told: DetailsTold,
+) -> Result<WebReply, Stopped>
+    ensures { Tells (status_told pv.now (details_told_reply told)) result }
+{
+    match told {
+        DetailsTold::Described(details) => {
+            let text = status_text(alloc, pv.bytes(), state_text(details.state))?;
+            Ok(WebReply::Success(text))
+        }
+        DetailsTold::NoSuchVariable => {
+            let text = status_text(alloc, pv.bytes(), NO_ROW)?;
+            Ok(WebReply::Success(text))
+        }
+        DetailsTold::DiskFault => Ok(WebReply::Refused(Refusal::DiskFault)),
+        DetailsTold::Memory => Err(Stopped::Memory),
+    }
+}
+
+// What is known of a variable.
+fn tell_details<A: Actor>(alloc: Global, actor: &mut A, pv: &PvName) -> Result<WebReply, Stopped>
+    requires stands { (m : Machine) × A.stands actor.old m }
+    ensures comes { Comes A.number A.between A.is_spent (WebCall.PvDetails pv.now) actor.old result actor.new }
+    ensures stands { (n : Machine) × A.stands actor.new n }
+{
+    let Ok(name) = name_of(alloc, pv) else {
+        return Err(Stopped::Memory);
+    };
+    match ask_details(actor, name) {
+        Ok(told) => reply_with_details(alloc, told),
+        Err(Spent) => Err(Stopped::Spent),
+    }
+}
+
+pub(crate) fn reply_with_details(alloc: Global, told: DetailsTold) -> Result<WebReply, Stopped>
+    ensures { Tells (details_told (details_told_reply told)) result }
+{
+    match told {
+        DetailsTold::Described(details) => Ok(WebReply::Success(details_text(alloc, &details)?)),
+        DetailsTold::NoSuchVariable => Ok(WebReply::Refused(Refusal::NoSuchVariable)),
+        DetailsTold::DiskFault => Ok(WebReply::Refused(Refusal::DiskFault)),
+        DetailsTold::Memory => Err(Stopped::Memory),
+    }
+}
+
+// Flushes all. One flush leaves nothing, so no second one is asked for.
+fn flush<A: Actor>(alloc: Global, actor: &mut A) -> Result<WebReply, Stopped>
+    requires stands { (m : Machine) × A.stands actor.old m }
+    ensures comes { Comes A.number A.between A.is_spent WebCall.FlushAll actor.old result actor.new }
+    ensures stands { (n : Machine) × A.stands actor.new n }
+{
+    match flush_all(actor) {
+        Ok(flushed) => reply_to_flush(alloc, flushed),
+        Err(Spent) => Err(Stopped::Spent),
+    }
+}
+
+fn flush_all<A: Actor>(actor: &mut A) -> Result<Flushed, Spent>
+    requires stands { (m : Machine) × A.stands actor.old m }
+    ensures asked { Asked A.number A.between A.is_spent flushed_reply actor.old (Act.Flush ALL) result actor.new }
+    ensures none_left { IfOk result LeavesNone }
+    ensures stands { (n : Machine) × A.stands actor.new n }
+{
+    ask_flush(actor, ALL)
+}
+
+pub(crate) fn reply_to_flush(alloc: Global, flushed: Flushed) -> Result<WebReply, Stopped>
+    requires { LeavesNone flushed }
+    ensures { Tells (flushes 0 (flushed_reply flushed ∷ [])) result }
+{
+    match flushed {
+        Flushed::Flushed { samples, .. } => Ok(WebReply::Success(flushed_text(alloc, samples)?)),
+        Flushed::DiskFault => Ok(WebReply::Refused(Refusal::DiskFault)),
+        Flushed::Memory => Err(Stopped::Memory),
+    }
+}
+
+// The names of all rows.
+fn tell_names<A: Actor>(alloc: Global, actor: &mut A) -> Result<WebReply, Stopped>
+    requires stands { (m : Machine) × A.stands actor.old m }
+    ensures comes { Comes A.number A.between A.is_spent WebCall.AllPvs actor.old result actor.new }
+    ensures stands { (n : Machine) × A.stands actor.new n }
+{
+    match gather_names(alloc, actor) {
+        Ok(names) => reply_with_names(alloc, names.items()),
+        Err(stopped) => Err(stopped),
+    }
+}
+
+pub(crate) fn reply_with_names(alloc: Global, names: &[Blob]) -> Result<WebReply, Stopped>
+    ensures { Tells (tells (WebReply.Success (names_text names.now))) result }
+{
+    Ok(WebReply::Success(names_text(alloc, names)?))
+}
+
+fn gather_names<A: Actor>(alloc: Global, actor: &mut A) -> Result<Blobs, Stopped>
+    requires stands { (m : Machine) × A.stands actor.old m }
+    ensures gathers { Gathers A.number A.between A.is_spent actor.old result actor.new }
+    ensures stands { (n : Machine) × A.stands actor.new n }
+{
+    let mut names = Vec::new(alloc);
+    let mut from = 0;
+    'pages: loop {
+        match ask_page(actor, from) {
+            Ok(NamesTold::NamesAre { names: page, more }) => {
+                let Ok(()) = names.append(&mut page.into_vec()) else {
+                    return Err(Stopped::Memory);
+                };
+                if !more {
+                    return Ok(Blobs::from(names));
+                }
+                from += PAGE;
+            }
+            Ok(NamesTold::Memory) => return Err(Stopped::Memory),
+            Err(Spent) => return Err(Stopped::Spent),
+        }
+    }
+}
+
+fn ask_page<A: Actor>(actor: &mut A, from: u32) -> Result<NamesTold, Spent>
+    requires stands { (m : Machine) × A.stands actor.old m }
+    ensures asked { Asked A.number A.between A.is_spent names_told_reply actor.old (Act.Names from PAGE) result actor.new }
+    ensures below { IfOk result (EndsBelow from) }
+    ensures stands { (n : Machine) × A.stands actor.new n }
+{
+    ask_names(actor, from, PAGE)
+}
