@@ -8,8 +8,8 @@ use Rattle.std.proofs.Math.Seq.{take-append-add, take-suc, get_or-append_seam}
 use Rattle.pb_wire.specs.declared.payload.PayloadType.{PayloadType}
 use Rattle.line_escape.specs.Unescaping.{HasNoNewline}
 use Rattle.series_model.specs.declared.sample.Sample.{Sample}
-use Rattle.pb_file.specs.File.{AreSamples, lines_of}
-use Rattle.pb_file.proofs.Lines.{one_run}
+use Rattle.pb_lines.specs.File.{AreSamples, lines_of}
+use Rattle.pb_lines.proofs.FileLines.{one_run}
 use Rattle.store_manifest.specs.declared.entry.Entry.{Entry}
 use Rattle.etl_mover.specs.Lines.{TakesLines}
 use Rattle.etl_mover.specs.Reading.{IsChunk, cut_to_line}

@@ -8,8 +8,8 @@ use Rattle.line_escape.specs.Unescaping.{HasNoNewline}
 use Rattle.payload_info.specs.declared.info.PayloadInfo.{PayloadInfo}
 use Rattle.pb_lines.specs.Header.{IsHeaderLine}
 use Rattle.series_model.specs.declared.sample.Sample.{Sample}
-use Rattle.pb_file.specs.File.{IsSample, AreSamples, lines_of}
-use Rattle.pb_file.proofs.Lines.{one_line, no_line}
+use Rattle.pb_lines.specs.File.{IsSample, AreSamples, lines_of}
+use Rattle.pb_lines.proofs.FileLines.{one_line, no_line}
 use Rattle.store_manifest.specs.declared.entry.Entry.{Entry}
 use Rattle.etl_mover.specs.Lines.{TakesLines, IsSampleStart}
 use Rattle.etl_mover.specs.Reading.{IsChunk}

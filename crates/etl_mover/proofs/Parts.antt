@@ -2,7 +2,7 @@
 use Rattle.std.proofs.Common.{◌≡◌, ℕ, suc, ◌+◌, ◌-◌, ◌<◌, List, [], ◌∷◌, ◌++◌, length, take, drop, get_or, Option, Some, slice_get, refl, sym, ◌∙◌, ap, arith}
 use Rattle.line_escape.specs.Unescaping.{HasNoNewline}
 use Rattle.series_model.specs.declared.sample.Sample.{Sample}
-use Rattle.pb_file.proofs.Lines.{one_line}
+use Rattle.pb_lines.proofs.FileLines.{one_line}
 use Rattle.store_manifest.specs.declared.entry.Entry.{Entry}
 use Rattle.etl_mover.specs.Lines.{with_lines, with_line}
 use Rattle.etl_mover.specs.Copying.{last_of}

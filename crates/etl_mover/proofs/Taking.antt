@@ -6,8 +6,8 @@ use Rattle.pb_wire.specs.declared.payload.PayloadType.{PayloadType}
 use Rattle.line_escape.specs.Unescaping.{HasNoNewline}
 use Rattle.series_model.specs.declared.sample.Sample.{Sample}
 use Rattle.pb_lines.specs.Sample.{IsSampleLine}
-use Rattle.pb_file.specs.File.{IsSample, AreSamples, lines_of}
-use Rattle.pb_file.proofs.Lines.{all-append, lines_of-append, one_line, no_line}
+use Rattle.pb_lines.specs.File.{IsSample, AreSamples, lines_of}
+use Rattle.pb_lines.proofs.FileLines.{all-append, lines_of-append, one_line, no_line}
 use Rattle.store_manifest.specs.declared.entry.Entry.{Entry}
 use Rattle.etl_mover.specs.Lines.{IsSampleStart, TakesLines, with_lines, with_line}
 

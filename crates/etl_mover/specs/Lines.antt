@@ -3,7 +3,7 @@ use Rattle.std.specs.Prelude.{◌≡◌, ◌+◌, ℕ, ℤ, List, [], ◌∷◌,
 use Rattle.pb_wire.specs.declared.payload.PayloadType.{PayloadType}
 use Rattle.series_model.specs.declared.sample.Sample.{Sample}
 use Rattle.store_manifest.specs.declared.entry.Entry.{Entry}
-use Rattle.pb_file.specs.File.{IsSample, AreSamples, lines_of}
+use Rattle.pb_lines.specs.File.{IsSample, AreSamples, lines_of}
 
 -- the entry with a line of so many bytes more, whose sample stands at t
 abbrev pub with_line : ℕ → ℕ → Entry → Entry

@@ -10,7 +10,7 @@ use Rattle.partition_names.specs.declared.part.Part.{Part}
 use Rattle.partition_names.specs.Part.{IsPart, HoldsMoment}
 use Rattle.store_manifest.specs.declared.entry.Entry.{Entry}
 use Rattle.pv_catalog.specs.declared.row.Row.{Row}
-use Rattle.pb_file.specs.File.{AreSamples, lines_of}
+use Rattle.pb_lines.specs.File.{AreSamples, lines_of}
 use Rattle.tier_store.specs.Held.{Shelf}
 use Rattle.etl_mover.specs.declared.copying.Start.{Start}
 use Rattle.etl_mover.specs.Copying.{last_of, starts, SetsLast}

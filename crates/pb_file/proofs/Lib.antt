@@ -1,5 +1,3 @@
-pub mod Lines
-pub mod Meaning
 pub mod Blocks
 pub mod Walking
 pub mod Skipping

@@ -15,10 +15,10 @@ use Rattle.pb_lines.specs.Sample.{IsSampleLine}
 use Rattle.pb_lines.proofs.Unique.{one_moment}
 use Rattle.pb_file.specs.declared.search.Found.{Found}
 use Rattle.pb_file.specs.declared.search.Parted.{Parted}
-use Rattle.pb_file.specs.File.{IsFile, AreSamples, lines_of}
+use Rattle.pb_lines.specs.File.{IsFile, AreSamples, lines_of}
 use Rattle.pb_file.specs.Search.{end_place, IsLastLine}
 use Rattle.pb_file.specs.Parting.{BeginsFrom, IsLineAt, IsFoundIn, IsPartedAt}
-use Rattle.pb_file.proofs.Lines.{all-append, all_rest, one_line}
+use Rattle.pb_lines.proofs.FileLines.{all-append, all_rest, one_line}
 use Rattle.pb_file.proofs.Placing.{size-more, size-append, end_is, end-append, drop_front, locate, some_newline, split_two}
 
 -- The lines that begin before `low` are earlier than the moment, those from `next` on aren't, and those between begin before `high`.

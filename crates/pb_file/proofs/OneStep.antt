@@ -10,10 +10,10 @@ use Rattle.pb_lines.specs.Sample.{IsSampleLine}
 use Rattle.pb_lines.proofs.Unique.{one_moment}
 use Rattle.pb_file.specs.declared.walk.Walked.{Walked}
 use Rattle.pb_file.specs.declared.walk.Walked.TheVariants as walked
-use Rattle.pb_file.specs.File.{IsFile, IsBadAt, IsSample}
+use Rattle.pb_lines.specs.File.{IsFile, IsBadAt, IsSample}
 use Rattle.pb_file.specs.Walk.{Walk, Front, HasWalked, Gives, Walks, Reads, IsAnswer}
-use Rattle.pb_file.proofs.Lines.{one_line}
-use Rattle.pb_file.proofs.Meaning.{is_cut, one_file, excluded, no_header_no_file}
+use Rattle.pb_lines.proofs.FileLines.{one_line}
+use Rattle.pb_lines.proofs.FileMeaning.{is_cut, one_file, excluded, no_header_no_file}
 use Rattle.pb_file.proofs.Walking.{next_line, within_first, bad_at, some_or_none, one_info}
 use Rattle.pb_file.proofs.Verdicts.{nothing_begun}
 

@@ -8,9 +8,9 @@ use Rattle.std.specs.List.{AllByRecursion}
 use Rattle.pb_wire.specs.declared.payload.PayloadType.{PayloadType}
 use Rattle.line_escape.specs.Unescaping.{HasNoNewline}
 use Rattle.series_model.specs.declared.sample.Sample.{Sample}
-use Rattle.pb_file.specs.File.{AreSamples, lines_of}
+use Rattle.pb_lines.specs.File.{AreSamples, lines_of}
 use Rattle.pb_file.specs.Search.{end_place}
-use Rattle.pb_file.proofs.Lines.{all_rest, lines_of-append, one_line, no_line}
+use Rattle.pb_lines.proofs.FileLines.{all_rest, lines_of-append, one_line, no_line}
 
 -- LENGTHS
 

@@ -4,7 +4,7 @@ use Rattle.std.proofs.lemmas.List.{length-append, length-take-le, take-append-dr
 use Rattle.series_model.specs.declared.sample.Sample.{Sample}
 use Rattle.payload_info.specs.declared.info.PayloadInfo.{PayloadInfo}
 use Rattle.pb_file.specs.declared.search.Found.{Found}
-use Rattle.pb_file.specs.File.{IsFile, HasNoSample, lines_of}
+use Rattle.pb_lines.specs.File.{IsFile, HasNoSample, lines_of}
 use Rattle.pb_file.specs.Walk.{Walk, Front, with_sample}
 use Rattle.pb_file.specs.declared.search.SearchErr.{SearchErr}
 use Rattle.pb_file.specs.Block.{IsPieceOf}

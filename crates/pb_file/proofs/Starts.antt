@@ -6,12 +6,12 @@ use Rattle.line_escape.specs.Unescaping.{HasNoNewline}
 use Rattle.series_model.specs.declared.sample.Sample.{Sample}
 use Rattle.payload_info.specs.declared.info.PayloadInfo.{PayloadInfo}
 use Rattle.pb_file.specs.declared.search.Found.{Found}
-use Rattle.pb_file.specs.File.{IsFile, IsBadAt, HasNoHeader, lines_of}
+use Rattle.pb_lines.specs.File.{IsFile, IsBadAt, HasNoHeader, lines_of}
 use Rattle.pb_file.specs.Walk.{Walk, Front, HasWalked}
 use Rattle.pb_file.specs.Skip.{HasHeader, BeginsBehind}
 use Rattle.pb_file.specs.Search.{IsLineStart, IsRefusedFor, IsNoSampleAt, IsRefusedAt}
 use Rattle.pb_file.specs.Parting.{BeginsFrom, IsLineAt}
-use Rattle.pb_file.proofs.Meaning.{begin_alike}
+use Rattle.pb_lines.proofs.FileMeaning.{begin_alike}
 
 pub behind_start : (bytes : List ℕ) (first place at : ℕ) → place ≤ length bytes → BeginsBehind bytes place at → IsLineStart bytes first at
 behind_start bytes first place at within (inr h) = inr (inl h.1)

@@ -12,11 +12,11 @@ use Rattle.pb_file.specs.declared.walk.Walked.TheVariants as walked
 use Rattle.pb_file.specs.declared.check.Tally.{Tally}
 use Rattle.pb_file.specs.declared.check.Verdict.{Verdict}
 use Rattle.pb_file.specs.declared.check.Verdict.TheVariants.{Good, Damaged, ReadFault, Memory}
-use Rattle.pb_file.specs.File.{IsFile, IsBadAt, IsSample, HasNoSample, lines_of}
+use Rattle.pb_lines.specs.File.{IsFile, IsBadAt, IsSample, HasNoSample, lines_of}
 use Rattle.pb_file.specs.Walk.{Walk, Front, HasWalked, Walks, with_sample}
 use Rattle.pb_file.specs.Verdict.{AllInside, Spans, IsGood, IsDamagedBehind, IsDamaged, Says, IsDecided}
-use Rattle.pb_file.proofs.Lines.{all-append, all_rest, bad_sample}
-use Rattle.pb_file.proofs.Meaning.{StopsAt, is_cut, one_file, no_header_no_file, never_stops, not_after, some_left, whole_file}
+use Rattle.pb_lines.proofs.FileLines.{all-append, all_rest, bad_sample}
+use Rattle.pb_lines.proofs.FileMeaning.{StopsAt, is_cut, one_file, no_header_no_file, never_stops, not_after, some_left, whole_file}
 use Rattle.pb_file.proofs.Walking.{next_line, within_first, bad_at}
 
 -- THE SAMPLES SO FAR

@@ -10,11 +10,11 @@ use Rattle.pb_lines.specs.Header.{IsHeaderLine}
 use Rattle.pb_lines.specs.Sample.{IsSampleLine}
 use Rattle.pb_file.specs.declared.walk.Walked.{Walked}
 use Rattle.pb_file.specs.declared.walk.Walked.TheVariants as walked
-use Rattle.pb_file.specs.File.{IsFile, IsBadAt, IsSample, HasNoHeader, HasNoSample}
+use Rattle.pb_lines.specs.File.{IsFile, IsBadAt, IsSample, HasNoHeader, HasNoSample}
 use Rattle.pb_file.specs.Block.{Piece, IsPieceOf}
 use Rattle.pb_file.specs.Walk.{Walk, Front, HasWalked, Walks, IsRefused, Takes, with_sample}
-use Rattle.pb_file.proofs.Lines.{torn_head, bad_head, torn_sample, bad_sample}
-use Rattle.pb_file.proofs.Meaning.{begins, grows}
+use Rattle.pb_lines.proofs.FileLines.{torn_head, bad_head, torn_sample, bad_sample}
+use Rattle.pb_lines.proofs.FileMeaning.{begins, grows}
 
 -- WHAT A LINE COMES TO
 

@@ -1,4 +1,3 @@
-pub mod File
 pub mod Line
 pub mod Block
 pub mod Walk

@@ -5,7 +5,7 @@ use Rattle.series_model.specs.Series.{before}
 use Rattle.payload_info.specs.declared.info.PayloadInfo.{PayloadInfo}
 use Rattle.pb_file.specs.declared.search.Parted.{Parted}
 use Rattle.pb_file.specs.declared.search.Found.{Found}
-use Rattle.pb_file.specs.File.{IsSample}
+use Rattle.pb_lines.specs.File.{IsSample}
 use Rattle.pb_file.specs.Skip.{BeginsBehind}
 use Rattle.pb_file.specs.Search.{place_from, IsLastLine, IsLineStart}
 

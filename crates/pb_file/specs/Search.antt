@@ -5,7 +5,7 @@ use Rattle.series_model.specs.declared.sample.Sample.{Sample}
 use Rattle.series_model.specs.Series.{before}
 use Rattle.payload_info.specs.declared.info.PayloadInfo.{PayloadInfo}
 use Rattle.pb_lines.specs.Header.{IsHeaderLine}
-use Rattle.pb_file.specs.File.{HasNoHeader, HasNoSample, lines_of}
+use Rattle.pb_lines.specs.File.{HasNoHeader, HasNoSample, lines_of}
 
 -- how many bytes the file of a header's line and samples has
 abbrev pub end_place : List ℕ → List Sample → ℕ

@@ -7,7 +7,7 @@ use Rattle.pb_lines.specs.Header.{IsHeaderLine}
 use Rattle.pb_file.specs.declared.walk.Walked.{Walked}
 use Rattle.pb_file.specs.declared.walk.Walked.TheVariants as walked
 use Rattle.pb_file.specs.Block.{IsPieceOf}
-use Rattle.pb_file.specs.File.{IsFile, HasNoSample}
+use Rattle.pb_lines.specs.File.{IsFile, HasNoSample}
 use Rattle.pb_file.specs.Walk.{Walk, Front, with_sample}
 
 -- the header's line, and the bytes from a place on

@@ -8,7 +8,7 @@ use Rattle.partition_names.specs.declared.part.Part.{Part}
 use Rattle.partition_names.specs.Part.{HoldsMoment}
 use Rattle.pb_file.specs.declared.check.Verdict.{Verdict}
 use Rattle.pb_file.specs.declared.check.Verdict.TheVariants.{Good, Damaged, ReadFault, Memory}
-use Rattle.pb_file.specs.File.{IsFile, HasNoHeader, HasNoSample}
+use Rattle.pb_lines.specs.File.{IsFile, HasNoHeader, HasNoSample}
 
 -- the partition holds each sample
 abbrev pub AllInside : Part → List Sample → Type 0

@@ -9,7 +9,7 @@ use Rattle.pb_lines.specs.Sample.{IsSampleLine}
 use Rattle.pb_file.specs.declared.walk.Walked.{Walked}
 use Rattle.pb_file.specs.declared.walk.Walked.TheVariants as walked
 use Rattle.pb_file.specs.Block.{Piece, IsPieceOf}
-use Rattle.pb_file.specs.File.{IsFile, IsBadAt, IsSample}
+use Rattle.pb_lines.specs.File.{IsFile, IsBadAt, IsSample}
 
 -- A walk over the first `len` bytes of a file: where the next line begins, the header once it was read, the earliest moment that
 -- the next sample may have, the answer for good once there is one, and the bytes in memory.

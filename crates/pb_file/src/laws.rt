@@ -10,7 +10,7 @@ ghost use Rattle.pb_lines.specs.Header.{IsHeaderLine};
 ghost use Rattle.partition_names.specs.declared.part.Part.{Part};
 ghost use Rattle.pb_file.specs.declared.check.Verdict.{Verdict};
 ghost use Rattle.pb_file.specs.declared.walk.Walked.{Walked};
-ghost use Rattle.pb_file.specs.File.{IsFile, IsBadAt, AreSamples, lines_of};
+ghost use Rattle.pb_lines.specs.File.{IsFile, IsBadAt, AreSamples, lines_of};
 ghost use Rattle.pb_file.specs.Walk.{Front, Walk, HasWalked, Reads, IsAnswer};
 ghost use Rattle.pb_file.specs.Verdict.{Says, IsDecided};
 

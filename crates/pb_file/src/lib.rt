@@ -7,12 +7,12 @@
 //! `08 01 10 00 1D 01 00 00 00 0A` behind it a file of one sample: the value 1, one second into
 //! 2024.
 //!
-//! Model: `IsFile` relates bytes to a header's line, what it means, and samples; `IsBadAt` tells
-//! where the first line begins that isn't so. All bytes are the one or have the other, and each
+//! Model: `IsFile` of `pb_lines` relates bytes to a header's line, what it means, and samples; `IsBadAt`
+//! tells where the first line begins that isn't so. All bytes are the one or have the other, and each
 //! has one answer. A torn last line is bad at its start, and no bytes at all at 0.
 //!
 //! `FileWalk::new(alloc, len)`, then `next` up to `End` or `Damaged`, reads the first `len` bytes of
-//! an opened file line by line, in blocks of 65,536 bytes. `check_file` walks over a partition's
+//! an opened file line by line, in reads of 512 bytes that grow to 16,384. `check_file` walks over a partition's
 //! file and tells its samples' number, first and last moment, or the first line that fails.
 //!
 //! Caveats: each call of `next` is given the same file. Of a file that doesn't tell its bytes, as a

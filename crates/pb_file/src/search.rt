@@ -5,7 +5,7 @@ ghost use Rattle.series_model.specs.declared.sample.Sample.{Sample as SampleValu
 ghost use Rattle.series_model.specs.Series.{before};
 ghost use Rattle.payload_info.specs.declared.info.PayloadInfo.{PayloadInfo as Info};
 ghost use Rattle.pb_file.specs.declared.search.SearchErr.TheVariants.{ReadFault, Damaged};
-ghost use Rattle.pb_file.specs.File.{IsFile, IsBadAt, HasNoSample};
+ghost use Rattle.pb_lines.specs.File.{IsFile, IsBadAt, HasNoSample};
 ghost use Rattle.pb_file.specs.Block.{IsPieceOf};
 ghost use Rattle.pb_file.specs.Walk.{Front, HasWalked};
 ghost use Rattle.pb_file.specs.Skip.{HasHeader};

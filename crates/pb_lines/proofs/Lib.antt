@@ -2,3 +2,5 @@ pub mod Lines
 pub mod Reading
 pub mod Whole
 pub mod Unique
+pub mod FileLines
+pub mod FileMeaning

@@ -3,3 +3,4 @@ pub mod Fault
 pub mod Header
 pub mod Stream
 pub mod Reader
+pub mod File

@@ -19,7 +19,7 @@ use Rattle.act_model.specs.Rows.{RowState}
 use Rattle.act_model.specs.Sound.{IsSound}
 use Rattle.act_model.proofs.Histories.{runs_onward}
 use Rattle.act_model.proofs.PinLaws.{opens_pinned, pin_stands}
-use Rattle.pb_file.proofs.Lines.{one_line}
+use Rattle.pb_lines.proofs.FileLines.{one_line}
 use Rattle.stream_merge.specs.Pieces.{NamedBytes, IsHeadLen}
 use Rattle.retrieval_query.specs.Openings.{LeftOf, IsNamedAs}
 use Rattle.retrieval_query.specs.Held.{IsOther, keeps}

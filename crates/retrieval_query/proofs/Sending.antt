@@ -6,7 +6,7 @@ use Rattle.std.proofs.KnownBytes.{Appends-nil}
 use Rattle.edge_io.specs.Stream.{AppendsFront}
 use Rattle.sink_buffer.specs.Sent.{Sends}
 use Rattle.sink_buffer.proofs.Sending.{front_then, front_longer, front_kept, sends_none, sends_then, all_out, front_out}
-use Rattle.pb_file.proofs.Lines.{all_rest}
+use Rattle.pb_lines.proofs.FileLines.{all_rest}
 use Rattle.payload_info.specs.declared.info.PayloadInfo.{PayloadInfo}
 use Rattle.series_model.specs.declared.sample.Sample.{Sample}
 use Rattle.act_model.specs.Event.{IsEvent, AreEvents}

@@ -9,7 +9,7 @@ use Rattle.series_model.specs.declared.sample.Sample.{Sample}
 use Rattle.series_model.specs.Series.{IsRising, over, since, before, end_of}
 use Rattle.series_model.specs.Retrieval.{answer, last_of, within}
 use Rattle.series_model.proofs.RisingLists.{RisesFrom-lower}
-use Rattle.pb_file.specs.File.{IsFile, IsSample, AreSamples, lines_of}
+use Rattle.pb_lines.specs.File.{IsFile, IsSample, AreSamples, lines_of}
 use Rattle.act_model.specs.declared.acts.Act.TheVariants.{Pin}
 use Rattle.act_model.specs.declared.acts.Answer.TheVariants.{Pinned}
 use Rattle.act_model.specs.Event.{AreEvents}

@@ -7,7 +7,7 @@ use Rattle.line_escape.specs.Escaping.{escaped}
 use Rattle.payload_info.specs.declared.info.PayloadInfo.{PayloadInfo}
 use Rattle.payload_info.specs.Spelling.{info_text}
 use Rattle.series_model.specs.declared.sample.Sample.{Sample}
-use Rattle.pb_file.specs.File.{lines_of}
+use Rattle.pb_lines.specs.File.{lines_of}
 use Rattle.act_model.specs.Out.{Subject}
 
 -- the moment lies in the year

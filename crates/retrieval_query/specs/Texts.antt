@@ -9,8 +9,8 @@ use Rattle.series_model.specs.declared.sample.Sample.{Sample}
 use Rattle.pb_wire.specs.declared.payload.PayloadType.{PayloadType}
 use Rattle.act_model.specs.Event.{IsEvent}
 use Rattle.act_model.specs.Out.{Subject}
-use Rattle.pb_file.specs.File.{lines_of}
-use Rattle.pb_file.proofs.Lines.{lines_of-append, all_front}
+use Rattle.pb_lines.specs.File.{lines_of}
+use Rattle.pb_lines.proofs.FileLines.{lines_of-append, all_front}
 use Rattle.retrieval_query.specs.Raw.{Chunk, IsChunk, HasMoment, IsOfYear, YearsDiffer, AreCut, header_text, chunk_text, chunks_text, IsNearestYear, IsRaw}
 use Rattle.retrieval_query.specs.Writing.{IsText, IsOpening, IsEnding, last_year, gap}
 

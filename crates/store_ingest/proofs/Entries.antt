@@ -10,7 +10,7 @@ use Rattle.series_model.specs.declared.sample.Sample.{Sample}
 use Rattle.series_model.specs.Series.{end_of, end_from}
 use Rattle.series_model.proofs.RisingLists.{end_from-append}
 use Rattle.partition_names.specs.declared.granularity.Granularity.{Granularity}
-use Rattle.pb_file.specs.File.{AreSamples}
+use Rattle.pb_lines.specs.File.{AreSamples}
 use Rattle.pb_lines.specs.Sample.{IsSampleLine}
 use Rattle.pv_catalog.specs.declared.row.Row.{Row}
 use Rattle.store_manifest.specs.declared.entry.Entry.{Entry}

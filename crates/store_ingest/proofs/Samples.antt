@@ -17,8 +17,8 @@ use Rattle.series_model.proofs.AdmissionLemmas.{kept_where_none}
 use Rattle.series_model.specs.Series.{end_of, RisesFrom}
 use Rattle.series_model.proofs.RisingLists.{RisesFrom-append, end_from-append, rises_more}
 use Rattle.payload_info.specs.declared.info.PayloadInfo.{PayloadInfo}
-use Rattle.pb_file.specs.File.{IsSample, lines_of}
-use Rattle.pb_file.proofs.Lines.{lines_of-append}
+use Rattle.pb_lines.specs.File.{IsSample, lines_of}
+use Rattle.pb_lines.proofs.FileLines.{lines_of-append}
 use Rattle.pb_lines.specs.Stream.{sample}
 use Rattle.pv_catalog.specs.declared.row.Row.{Row}
 use Rattle.pv_catalog.proofs.Deciding.{one_type}

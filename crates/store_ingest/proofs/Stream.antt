@@ -10,7 +10,7 @@ use Rattle.disk_model.specs.Past as disk
 use Rattle.disk_model.proofs.Passing.{passes_none, passes_then, passes_weaker}
 use Rattle.edge_io.specs.Moments.{Moments, Gives}
 use Rattle.edge_io.proofs.Clocks.{gives_on}
-use Rattle.pb_file.specs.File.{IsSample, lines_of}
+use Rattle.pb_lines.specs.File.{IsSample, lines_of}
 use Rattle.pb_wire.specs.declared.payload.PayloadType.{PayloadType}
 use Rattle.pb_wire.specs.Payload.{row_of}
 use Rattle.payload_info.specs.declared.info.PayloadInfo.{PayloadInfo}

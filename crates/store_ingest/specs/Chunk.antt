@@ -9,7 +9,7 @@ use Rattle.pb_wire.specs.Payload.{row_of}
 use Rattle.payload_info.specs.declared.info.PayloadInfo.{PayloadInfo}
 use Rattle.pv_catalog.specs.declared.row.Row.{Row}
 use Rattle.pv_catalog.specs.Rows.{HasName}
-use Rattle.pb_file.specs.File.{IsSample, lines_of}
+use Rattle.pb_lines.specs.File.{IsSample, lines_of}
 use Rattle.tier_store.specs.Ends.{End, Done, Refused, Failed, Spent}
 use Rattle.tier_store.specs.Held.{Held}
 use Rattle.tier_store.specs.Flush.{IsFlushed, IsSampleOf}

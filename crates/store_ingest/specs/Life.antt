@@ -18,7 +18,7 @@ use Rattle.pv_catalog.specs.declared.error.RegisterErr.{RegisterErr}
 use Rattle.pv_catalog.specs.Rows.{HasName}
 use Rattle.pv_catalog.specs.Catalogue.{registered, Refuses}
 use Rattle.pb_lines.specs.Stream.{Item, header, sample, chunk_end}
-use Rattle.pb_file.specs.File.{lines_of}
+use Rattle.pb_lines.specs.File.{lines_of}
 use Rattle.tier_store.specs.Held.{Held, samples_of}
 
 -- The rows, each row's accepted samples by its number, those of them that are flushed, and the header of the chunk that goes on.

@@ -9,9 +9,9 @@ use Rattle.series_model.proofs.RisingLists.{RisesFrom-front, end_from-append}
 use Rattle.disk_model.specs.Files.{Name}
 use Rattle.pv_catalog.specs.declared.row.Row.{Row}
 use Rattle.pb_file.specs.declared.walk.Walked.TheVariants as walked
-use Rattle.pb_file.specs.File.{IsSample}
+use Rattle.pb_lines.specs.File.{IsSample}
 use Rattle.pb_file.specs.Walk.{Walk, Walks, with_sample}
-use Rattle.pb_file.proofs.Lines.{all_rest}
+use Rattle.pb_lines.proofs.FileLines.{all_rest}
 use Rattle.store_retrieval.specs.declared.answer.Flow.{Flow}
 use Rattle.store_retrieval.specs.declared.answer.Flow.TheVariants.{GoOn, Enough}
 use Rattle.store_retrieval.specs.declared.file.Stop.{Stop}

@@ -14,7 +14,7 @@ use Rattle.series_model.specs.Retrieval.{answer}
 use Rattle.series_model.proofs.RisingLists.{RisesFrom-front, RisesFrom-rest, RisesFrom-lower}
 use Rattle.series_model.proofs.AnswerLemmas.{answer_of_rest, answer_of_front}
 use Rattle.partition_names.specs.declared.granularity.Granularity.{Granularity}
-use Rattle.pb_file.proofs.Lines.{all_front}
+use Rattle.pb_lines.proofs.FileLines.{all_front}
 use Rattle.store_manifest.specs.declared.entry.Entry.{Entry}
 use Rattle.pv_catalog.specs.declared.row.Row.{Row}
 use Rattle.tier_store.specs.Held.{Filed, IsFiled, entry_of}

@@ -11,7 +11,7 @@ use Rattle.series_model.specs.Series.{end_of, RisesFrom, IsRising, before}
 use Rattle.series_model.specs.Retrieval.{answer, within, last_of}
 use Rattle.series_model.proofs.RisingLists.{end_from-append, RisesFrom-rest}
 use Rattle.series_model.proofs.AnswerLemmas.{before-append, within-append, more_earlier}
-use Rattle.pb_file.proofs.Lines.{all-append, all_rest}
+use Rattle.pb_lines.proofs.FileLines.{all-append, all_rest}
 use Rattle.pv_catalog.specs.declared.row.Row.{Row}
 use Rattle.store_retrieval.specs.Raw.{HasYear}
 use Rattle.store_retrieval.specs.Answer.{Answering, IsKnown, Covers, Breaks, IsPast}

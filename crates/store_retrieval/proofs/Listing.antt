@@ -12,7 +12,7 @@ use Rattle.edge_io.specs.Stream.{Rose}
 use Rattle.disk_model.specs.Files.{Name, Files, HasFile}
 use Rattle.disk_model.specs.declared.disk.DiskErr.{DiskErr}
 use Rattle.disk_model.specs.declared.disk.DiskErr.TheVariants as disk
-use Rattle.pb_file.specs.File.{IsFile}
+use Rattle.pb_lines.specs.File.{IsFile}
 use Rattle.store_manifest.specs.declared.entry.Entry.{Entry}
 use Rattle.pv_catalog.specs.declared.row.Row.{Row}
 use Rattle.pv_catalog.specs.Rows.{HasName}

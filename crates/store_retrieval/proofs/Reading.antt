@@ -12,10 +12,10 @@ use Rattle.pb_lines.specs.Header.{IsHeaderLine}
 use Rattle.pb_lines.proofs.Unique.{one_header}
 use Rattle.pv_catalog.specs.declared.row.Row.{Row}
 use Rattle.pb_file.specs.declared.walk.Walked.TheVariants as walked
-use Rattle.pb_file.specs.File.{IsFile, IsSample, lines_of}
+use Rattle.pb_lines.specs.File.{IsFile, IsSample, lines_of}
 use Rattle.pb_file.specs.Walk.{Walk, Front, HasWalked, Walks, with_sample}
-use Rattle.pb_file.proofs.Lines.{one_line, all_rest}
-use Rattle.pb_file.proofs.Meaning.{begin_alike, excluded, one_file}
+use Rattle.pb_lines.proofs.FileLines.{one_line, all_rest}
+use Rattle.pb_lines.proofs.FileMeaning.{begin_alike, excluded, one_file}
 use Rattle.store_retrieval.specs.declared.answer.Flow.{Flow}
 use Rattle.store_retrieval.specs.declared.file.Stop.{Stop}
 use Rattle.store_retrieval.specs.declared.file.Stop.TheVariants as stop

@@ -14,8 +14,8 @@ use Rattle.partition_names.specs.declared.granularity.Granularity.{Granularity}
 use Rattle.partition_names.specs.declared.part.Part.{Part}
 use Rattle.partition_names.specs.Part.{IsPart, HoldsMoment}
 use Rattle.partition_names.proofs.PartLemmas.{one_part, within}
-use Rattle.pb_file.specs.File.{AreSamples}
-use Rattle.pb_file.proofs.Lines.{all-append}
+use Rattle.pb_lines.specs.File.{AreSamples}
+use Rattle.pb_lines.proofs.FileLines.{all-append}
 use Rattle.store_manifest.specs.declared.entry.Entry.{Entry}
 use Rattle.store_manifest.specs.Entries.{Place}
 use Rattle.pv_catalog.specs.declared.row.Row.{Row}

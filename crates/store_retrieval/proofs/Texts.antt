@@ -7,8 +7,8 @@ use Rattle.std.proofs.lemmas.List.Elements.{All-nil, All-cons, All-push, All-hea
 use Rattle.std.proofs.Math.IntN.{ℤ_discrete}
 use Rattle.series_model.specs.declared.sample.Sample.{Sample}
 use Rattle.pv_catalog.specs.declared.row.Row.{Row}
-use Rattle.pb_file.specs.File.{lines_of}
-use Rattle.pb_file.proofs.Lines.{lines_of-append}
+use Rattle.pb_lines.specs.File.{lines_of}
+use Rattle.pb_lines.proofs.FileLines.{lines_of-append}
 use Rattle.tier_store.proofs.Lasts.{last_view}
 use Rattle.tier_store.proofs.PutFile.{All-front}
 use Rattle.store_retrieval.specs.Raw.{Chunk, IsChunk, HasMoment, HasYear, YearsDiffer, AreCut, header_text, chunk_text, chunks_text, IsNearestYear, IsRaw}

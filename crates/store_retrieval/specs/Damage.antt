@@ -7,7 +7,7 @@ use Rattle.disk_model.specs.Files.{Name, Files, HasFile, Rose}
 use Rattle.store_manifest.specs.declared.entry.Entry.{Entry}
 use Rattle.pv_catalog.specs.declared.row.Row.{Row}
 use Rattle.pv_catalog.specs.Rows.{HasName}
-use Rattle.pb_file.specs.File.{IsBadAt}
+use Rattle.pb_lines.specs.File.{IsBadAt}
 use Rattle.tier_store.specs.Ends.{End, Done, Failed, Spent}
 use Rattle.tier_store.specs.Held.{Held, file_of}
 use Rattle.tier_store.specs.Seen.{Seen}

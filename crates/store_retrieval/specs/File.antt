@@ -6,7 +6,7 @@ use Rattle.series_model.specs.declared.sample.Sample.{Sample}
 use Rattle.series_model.specs.Series.{IsRising}
 use Rattle.payload_info.specs.declared.info.PayloadInfo.{PayloadInfo}
 use Rattle.pv_catalog.specs.declared.row.Row.{Row}
-use Rattle.pb_file.specs.File.{IsFile}
+use Rattle.pb_lines.specs.File.{IsFile}
 use Rattle.pb_file.specs.Walk.{Walk, Front, HasWalked}
 use Rattle.store_retrieval.specs.declared.answer.Flow.{Flow}
 use Rattle.store_retrieval.specs.declared.answer.Flow.TheVariants.{GoOn, Enough}

@@ -6,7 +6,7 @@ use Rattle.line_escape.specs.Escaping.{escaped}
 use Rattle.payload_info.specs.Spelling.{info_text}
 use Rattle.series_model.specs.declared.sample.Sample.{Sample}
 use Rattle.pv_catalog.specs.declared.row.Row.{Row}
-use Rattle.pb_file.specs.File.{lines_of}
+use Rattle.pb_lines.specs.File.{lines_of}
 use Rattle.tier_store.specs.Flush.{header_of}
 
 -- the moment lies in the year

@@ -9,7 +9,7 @@ use Rattle.payload_info.specs.declared.info.PayloadInfo.{PayloadInfo}
 use Rattle.disk_model.specs.Files.{Files, HasFile}
 use Rattle.store_manifest.specs.declared.entry.Entry.{Entry}
 use Rattle.pv_catalog.specs.declared.row.Row.{Row}
-use Rattle.pb_file.specs.File.{IsFile}
+use Rattle.pb_lines.specs.File.{IsFile}
 use Rattle.pb_file.specs.Walk.{Walk, Front, HasWalked}
 use Rattle.tier_store.specs.Held.{Filed, entry_of, file_of}
 use Rattle.store_retrieval.specs.declared.answer.Flow.{Flow}

@@ -6,7 +6,7 @@ ghost use Rattle.disk_model.specs.Files.{Rose};
 ghost use Rattle.series_model.specs.declared.sample.Sample.{Sample};
 ghost use Rattle.series_model.specs.Series.{IsRising};
 ghost use Rattle.payload_info.specs.declared.info.PayloadInfo.{PayloadInfo as Info};
-ghost use Rattle.pb_file.specs.File.{IsFile, IsBadAt};
+ghost use Rattle.pb_lines.specs.File.{IsFile, IsBadAt};
 ghost use Rattle.pb_file.specs.Walk.{HasWalked};
 ghost use Rattle.store_retrieval.specs.declared.file.Stop.TheVariants.{Damaged, ReadFault, SinkFault, Memory};
 ghost use Rattle.store_retrieval.specs.Damage.{IsBadFor};

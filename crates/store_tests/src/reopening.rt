@@ -1,7 +1,7 @@
 // Worked disks, and the durable write where calls fail or the machine stops.
 ghost use Rattle.std.specs.Prelude.{◌≡◌, ◌≤◌, ℕ, length, pos, true, IfOk, IfSome, OnOk, IsTrue};
 ghost use Rattle.line_escape.specs.Unescaping.{HasNoNewline};
-ghost use Rattle.pb_file.specs.File.{IsSample, lines_of};
+ghost use Rattle.pb_lines.specs.File.{IsSample, lines_of};
 ghost use Rattle.tier_store.specs.Held.{Held};
 ghost use Rattle.tier_store.specs.Flush.{IsOfRow, CanFlush};
 ghost use Rattle.tier_store.specs.Seen.{seen};

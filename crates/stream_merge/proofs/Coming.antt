@@ -6,7 +6,7 @@ use Rattle.std.proofs.lemmas.List.Elements.{Contains-append_left, Contains-appen
 use Rattle.disk_model.specs.Files.{Name, Rose}
 use Rattle.series_model.specs.declared.sample.Sample.{Sample}
 use Rattle.pb_wire.specs.declared.payload.PayloadType.{PayloadType}
-use Rattle.pb_file.proofs.Lines.{all_rest}
+use Rattle.pb_lines.proofs.FileLines.{all_rest}
 use Rattle.stream_merge.specs.declared.pieces.Merged.{Merged}
 use Rattle.stream_merge.specs.declared.pieces.Merged.TheVariants.{Line, End, ReadFault, Damaged, Spent, Memory}
 use Rattle.stream_merge.specs.declared.source.OpenPiece.{OpenPiece}

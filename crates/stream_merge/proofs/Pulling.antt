@@ -8,7 +8,7 @@ use Rattle.payload_info.specs.declared.info.PayloadInfo.{PayloadInfo}
 use Rattle.pb_wire.specs.declared.payload.PayloadType.{PayloadType}
 use Rattle.pb_file.specs.declared.walk.Walked.{Walked}
 use Rattle.pb_file.specs.declared.walk.Walked.TheVariants as walked
-use Rattle.pb_file.specs.File.{IsBadAt}
+use Rattle.pb_lines.specs.File.{IsBadAt}
 use Rattle.pb_file.specs.Walk.{Walk, Front, HasWalked, Walks, Gives, fresh, with_sample}
 use Rattle.pb_file.proofs.Walking.{bad_at}
 use Rattle.stream_merge.specs.declared.pieces.Merged.{Merged}

@@ -7,10 +7,10 @@ use Rattle.pb_wire.specs.declared.payload.PayloadType.{PayloadType}
 use Rattle.pb_lines.specs.Header.{IsHeaderLine}
 use Rattle.pb_lines.proofs.Unique.{one_header}
 use Rattle.pb_file.specs.declared.walk.Walked.TheVariants as walked
-use Rattle.pb_file.specs.File.{IsFile, lines_of}
+use Rattle.pb_lines.specs.File.{IsFile, lines_of}
 use Rattle.pb_file.specs.Walk.{Walk, Front, HasWalked, Walks, with_sample}
-use Rattle.pb_file.proofs.Lines.{one_line}
-use Rattle.pb_file.proofs.Meaning.{begin_alike, excluded, one_file}
+use Rattle.pb_lines.proofs.FileLines.{one_line}
+use Rattle.pb_lines.proofs.FileMeaning.{begin_alike, excluded, one_file}
 use Rattle.stream_merge.specs.Reading.{IsBadFor, IsReadAs, BeginsWith}
 
 -- FILES OF THE TYPE

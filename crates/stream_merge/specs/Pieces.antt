@@ -3,7 +3,7 @@ use Rattle.std.specs.Prelude.{◌≡◌, ℕ, ◌+◌, ◌≤◌, List, [], ◌�
 use Rattle.disk_model.specs.Files.{Name}
 use Rattle.series_model.specs.declared.sample.Sample.{Sample}
 use Rattle.payload_info.specs.declared.info.PayloadInfo.{PayloadInfo}
-use Rattle.pb_file.specs.File.{IsFile}
+use Rattle.pb_lines.specs.File.{IsFile}
 use Rattle.stream_merge.specs.declared.pieces.Opened.{Opened}
 use Rattle.stream_merge.specs.declared.pieces.Opened.TheVariants.{Piece, NoMore, ReadFault, Spent, Memory}
 

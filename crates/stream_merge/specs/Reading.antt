@@ -9,7 +9,7 @@ use Rattle.series_model.specs.declared.sample.Sample.{Sample}
 use Rattle.series_model.specs.Series.{IsRising}
 use Rattle.payload_info.specs.declared.info.PayloadInfo.{PayloadInfo}
 use Rattle.pb_lines.specs.Header.{IsHeaderLine}
-use Rattle.pb_file.specs.File.{IsFile, IsBadAt, IsSample}
+use Rattle.pb_lines.specs.File.{IsFile, IsBadAt, IsSample}
 use Rattle.stream_merge.specs.Pieces.{NamedBytes}
 
 -- the sample's line is an event of the type, which stands at its moment in some year

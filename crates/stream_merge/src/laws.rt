@@ -6,7 +6,7 @@ ghost use Rattle.series_model.specs.declared.sample.Query.{Query};
 ghost use Rattle.series_model.specs.Series.{end_of, taken};
 ghost use Rattle.series_model.specs.Retrieval.{answer};
 ghost use Rattle.payload_info.specs.declared.info.PayloadInfo.{PayloadInfo};
-ghost use Rattle.pb_file.specs.File.{IsFile};
+ghost use Rattle.pb_lines.specs.File.{IsFile};
 ghost use Rattle.stream_merge.specs.Reading.{IsReadAs, IsBadFor};
 
 /// A piece that is a file of the type is read as its samples, and as no others; no line of it is bad.

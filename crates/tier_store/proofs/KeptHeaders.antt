@@ -4,7 +4,7 @@ use Rattle.std.specs.Prelude.{All, Contains, IsTrue}
 use Rattle.std.specs.List.{AllZip}
 use Rattle.std.proofs.lemmas.List.Elements.{All-nil, All-cons, All-contains}
 use Rattle.partition_names.specs.declared.granularity.Granularity.{Granularity}
-use Rattle.pb_file.proofs.Meaning.{begin_alike}
+use Rattle.pb_lines.proofs.FileMeaning.{begin_alike}
 use Rattle.tier_store.specs.declared.piece.Piece.{Piece}
 use Rattle.tier_store.specs.Held.{Filed, Held, IsFiled, AreFiled, bytes_of, filed_at}
 use Rattle.tier_store.specs.Flush.{Grows, GrowsOwn, HasHeaderOf, MakesFiles, PlacesRise, file_at, listed_bytes, put_all}

@@ -1,6 +1,6 @@
 // The chunk that an ingest is in: its samples are offered to its row, and those that are kept are held until they are flushed.
 ghost use Rattle.std.specs.Prelude.{◌≡◌, ◌≤◌, ◌<◌, ◌+◌, ◌^◌, ℕ, ℤ, [], ◌++◌, ◌∷◌, length, IfNone, IfOk, IfSome, OnOk, OnErr, IsTrue, Some, None, false};
-ghost use Rattle.pb_file.specs.File.{IsSample, lines_of};
+ghost use Rattle.pb_lines.specs.File.{IsSample, lines_of};
 ghost use Rattle.pv_catalog.specs.Rows.{HasName};
 ghost use Rattle.series_model.specs.Series.{end_of};
 ghost use Rattle.tier_store.specs.Ends.{end_of_disk};
@@ -63,7 +63,7 @@ pub(crate) struct Chunk {
 
 impl Model for Chunk {
     ghost use Rattle.std.specs.Prelude.{◌≡◌, length};
-    ghost use Rattle.pb_file.specs.File.{lines_of};
+    ghost use Rattle.pb_lines.specs.File.{lines_of};
     ghost use Rattle.store_ingest.specs.Chunk.{ChunkState};
 
     ghost Value = { ChunkState };

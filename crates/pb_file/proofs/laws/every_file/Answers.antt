@@ -1,4 +1,4 @@
-use Rattle.pb_file.proofs.Meaning as meaning
+use Rattle.pb_lines.proofs.FileMeaning as meaning
 use Rattle.pb_file.proofs.laws.every_file.Goals as goal
 
 pub returns : goal.returns

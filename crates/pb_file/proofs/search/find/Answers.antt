@@ -2,7 +2,7 @@ use Rattle.std.proofs.Common.{◌≡◌, ◌∙◌, ◌<◌, Err, List, ℕ, ref
 use Rattle.std.proofs.lemmas.Result.{err_from_is_err_and}
 use Rattle.pb_file.specs.declared.search.SearchErr.{SearchErr}
 use Rattle.pb_file.specs.declared.search.SearchErr.TheVariants as search_err
-use Rattle.pb_file.specs.File.{HasNoSample}
+use Rattle.pb_lines.specs.File.{HasNoSample}
 use Rattle.pb_file.specs.Walk.{Walk}
 use Rattle.pb_file.specs.Skip.{HasHeader}
 use Rattle.pb_file.specs.Parting.{BeginsFrom, IsLineAt}

@@ -6,7 +6,7 @@ use Rattle.pb_file.specs.declared.search.SearchErr.{SearchErr}
 use Rattle.pb_file.specs.declared.search.SearchErr.TheVariants as search_err
 use Rattle.payload_info.specs.declared.info.PayloadInfo.{PayloadInfo}
 use Rattle.pb_file.specs.declared.search.Found.{Found}
-use Rattle.pb_file.specs.File.{HasNoSample}
+use Rattle.pb_lines.specs.File.{HasNoSample}
 use Rattle.pb_file.specs.Skip.{HasHeader}
 use Rattle.pb_file.specs.Parting.{BeginsFrom, IsFoundIn}
 use Rattle.pb_file.proofs.Narrowing.{unknown, none_found, found_earlier, found_later, parted, halves_again}

@@ -2,7 +2,7 @@ use Rattle.std.proofs.Common.{◌≡◌, ◌≤◌, ◌<◌, ◌+◌, ◌-◌, �
 use Rattle.std.specs.Prelude.{IfSome}
 use Rattle.series_model.specs.declared.sample.Sample.{Sample}
 use Rattle.payload_info.specs.declared.info.PayloadInfo.{PayloadInfo}
-use Rattle.pb_file.specs.File.{IsFile}
+use Rattle.pb_lines.specs.File.{IsFile}
 use Rattle.pb_file.specs.Skip.{HasHeader}
 use Rattle.pb_file.specs.Search.{IsLineStart}
 use Rattle.pb_file.proofs.Narrowing.{Narrowed}

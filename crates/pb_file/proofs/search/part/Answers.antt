@@ -3,7 +3,7 @@ use Rattle.std.specs.Prelude.{IfOk}
 use Rattle.std.proofs.lemmas.Result.{err_from_is_err_and}
 use Rattle.pb_file.specs.declared.search.SearchErr.{SearchErr}
 use Rattle.pb_file.specs.declared.search.SearchErr.TheVariants as search_err
-use Rattle.pb_file.specs.File.{IsFile}
+use Rattle.pb_lines.specs.File.{IsFile}
 use Rattle.pb_file.specs.Walk.{Walk}
 use Rattle.pb_file.specs.Skip.{HasHeader}
 use Rattle.pb_file.specs.Search.{IsRefusedAt, IsRefusedFor}

@@ -1,5 +1,5 @@
 use Rattle.std.proofs.Common.{◌≡◌, ◌∙◌, ◌+◌, None, List, ℕ, refl, sym, ap, subst, arith, take, drop, length}
-use Rattle.pb_file.specs.File.{HasNoSample}
+use Rattle.pb_lines.specs.File.{HasNoSample}
 use Rattle.pb_file.specs.Walk.{Walk, with_sample}
 use Rattle.pb_file.specs.Parting.{IsLineAt}
 use Rattle.pb_file.proofs.Skipping.{headed}

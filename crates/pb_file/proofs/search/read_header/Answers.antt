@@ -1,5 +1,5 @@
 use Rattle.std.proofs.Common.{◌≡◌, ◌∙◌, [], None, List, ℕ, refl, sym, ap, subst, take}
-use Rattle.pb_file.specs.File.{IsBadAt}
+use Rattle.pb_lines.specs.File.{IsBadAt}
 use Rattle.pb_file.specs.Walk.{Walk}
 use Rattle.pb_file.proofs.Walking.{bad_at}
 use Rattle.pb_file.proofs.Reading.{bare}

@@ -2,7 +2,7 @@ use Rattle.std.proofs.Common.{◌≡◌, ◌∙◌, sym, ap, subst, arith, Some,
 use Rattle.std.specs.Prelude.{IfSome}
 use Rattle.std.specs.Option.{option_copied}
 use Rattle.payload_info.specs.declared.info.PayloadInfo.{PayloadInfo}
-use Rattle.pb_file.specs.File.{IsSample}
+use Rattle.pb_lines.specs.File.{IsSample}
 use Rattle.pb_lines.specs.declared.reader.ChunkItem.TheVariants as it
 use Rattle.pb_lines.specs.Reader.{Chunks, ReadsItem, Stops, to_come}
 use Rattle.pb_lines.specs.Stream.{Section, chunk_end, header, sample}

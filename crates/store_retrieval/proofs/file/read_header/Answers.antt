@@ -1,5 +1,5 @@
 use Rattle.std.proofs.Common.{ℕ, None, ap, subst, inl, take}
-use Rattle.pb_file.specs.File.{IsBadAt}
+use Rattle.pb_lines.specs.File.{IsBadAt}
 use Rattle.pb_file.specs.Walk.{Walk}
 use Rattle.pb_file.proofs.Walking.{bad_at}
 use Rattle.store_retrieval.proofs.Reading.{begun_of, foreign_of, same_place}

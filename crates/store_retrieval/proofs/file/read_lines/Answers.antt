@@ -1,7 +1,7 @@
 use Rattle.std.proofs.Common.{◌≡◌, ℕ, ℤ, List, Err, sym, ap, ◌∙◌, subst, take, inl, w32, to_z, of_z}
 use Rattle.std.specs.Prelude.{IfOk}
 use Rattle.std.proofs.lemmas.Result.{err_from_is_err_and}
-use Rattle.pb_file.specs.File.{IsFile, IsBadAt}
+use Rattle.pb_lines.specs.File.{IsFile, IsBadAt}
 use Rattle.pb_file.specs.Walk.{Walk}
 use Rattle.store_retrieval.specs.declared.file.Stop.{Stop}
 use Rattle.store_retrieval.specs.declared.file.Stop.TheVariants as stop

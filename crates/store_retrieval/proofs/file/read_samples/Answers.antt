@@ -4,10 +4,10 @@ use Rattle.std.proofs.lemmas.Result.{err_from_is_err_and}
 use Rattle.series_model.specs.declared.sample.Query.{Query}
 use Rattle.payload_info.specs.declared.info.PayloadInfo.{PayloadInfo}
 use Rattle.pb_file.specs.declared.walk.Walked.TheVariants as walked
-use Rattle.pb_file.specs.File.{IsBadAt}
+use Rattle.pb_lines.specs.File.{IsBadAt}
 use Rattle.pb_file.specs.Walk.{Walk, HasWalked, Walks}
 use Rattle.pb_file.proofs.Walking.{bad_at}
-use Rattle.pb_file.proofs.Meaning.{excluded}
+use Rattle.pb_lines.proofs.FileMeaning.{excluded}
 use Rattle.store_retrieval.specs.declared.answer.Flow.{Flow}
 use Rattle.store_retrieval.specs.Answer.{Takes}
 use Rattle.store_retrieval.proofs.Along.{along_end, along_first, along_next, along_past}

@@ -5,7 +5,7 @@ use Rattle.std.proofs.lemmas.Bool.{ltb-true}
 use Rattle.std.proofs.lemmas.Option.{slice_get_read}
 use Rattle.series_model.specs.declared.sample.Sample.{Sample}
 use Rattle.pv_catalog.specs.declared.row.Row.{Row}
-use Rattle.pb_file.specs.File.{IsSample, lines_of}
+use Rattle.pb_lines.specs.File.{IsSample, lines_of}
 use Rattle.tier_store.specs.Flush.{IsSampleOf, IsOfRow}
 use Rattle.store_tests.proofs.reopening.part.Goals as goal
 

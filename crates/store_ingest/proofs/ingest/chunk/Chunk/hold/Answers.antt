@@ -1,7 +1,7 @@
 use Rattle.std.proofs.Common.{◌≡◌, ◌∙◌, Bool, Err, sym, ap, subst, refl, cond, length, List, ℕ, [], ◌∷◌, ◌++◌}
 use Rattle.std.specs.Prelude.{OnOk}
 use Rattle.std.proofs.lemmas.Result.{err_from_is_err_and}
-use Rattle.pb_file.specs.File.{lines_of}
+use Rattle.pb_lines.specs.File.{lines_of}
 use Rattle.tier_store.specs.Ends.{end_of_disk}
 use Rattle.tier_store.specs.Seen.{seen}
 use Rattle.tier_store.specs.Change.{Changes}

@@ -18,7 +18,7 @@ use Rattle.pb_lines.specs.Header.{IsHeaderLine}
 use Rattle.pb_lines.specs.Sample.{IsSampleLine, IsStamp}
 use Rattle.pb_lines.proofs.Unique.{one_moment, header_or_fault, sample_or_fault}
 use Rattle.pb_lines.proofs.Whole.{in_year_or_not}
-use Rattle.pb_file.specs.File.{AreSamples, HasNoHeader, HasNoSample, lines_of}
+use Rattle.pb_lines.specs.File.{AreSamples, HasNoHeader, HasNoSample, lines_of}
 
 -- LISTS
 

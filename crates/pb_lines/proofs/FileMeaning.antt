@@ -12,8 +12,8 @@ use Rattle.pb_lines.specs.Header.{IsHeaderLine}
 use Rattle.pb_lines.specs.Sample.{IsSampleLine}
 use Rattle.pb_lines.proofs.Lines.{FirstLine, first_line}
 use Rattle.pb_lines.proofs.Unique.{one_header, one_moment}
-use Rattle.pb_file.specs.File.{IsFile, IsBadAt, IsBadSampleAt, IsSample, AreSamples, HasNoHeader, HasNoSample, lines_of}
-use Rattle.pb_file.proofs.Lines.{all-append, all_front, all_rest, lines_of-append, one_line, torn_head, bad_head, torn_sample, bad_sample, header_or_not, sample_or_not, GoesOn, one_run}
+use Rattle.pb_lines.specs.File.{IsFile, IsBadAt, IsBadSampleAt, IsSample, AreSamples, HasNoHeader, HasNoSample, lines_of}
+use Rattle.pb_lines.proofs.FileLines.{all-append, all_front, all_rest, lines_of-append, one_line, torn_head, bad_head, torn_sample, bad_sample, header_or_not, sample_or_not, GoesOn, one_run}
 
 -- FILES GROW AND ARE CUT
 
