@@ -17,7 +17,7 @@ use Rattle.tier_store.specs.Held.{Filed, IsFiled, samples_of}
 use Rattle.tier_store.specs.Flush.{PlacesRise}
 use Rattle.tier_store.proofs.PutFile.{Comes}
 
-abbrev own_files : ℕ → List Filed → List Filed
+abbrev pub own_files : ℕ → List Filed → List Filed
 own_files id files = filter (λ (f : Filed). nat_eq f.entry.series id) files
 
 abbrev samples_in : List Filed → List Sample
@@ -39,7 +39,7 @@ record AreOwn (g : Granularity) (rows : List Row) (id : ℕ) (fs : List Filed) :
   pub rise : PlacesRise fs
   pub own : AllByRecursion (λ (f : Filed). f.entry.series ≡ id) fs
 
-own_series : (id : ℕ) (xs : List Filed) → AllByRecursion (λ (f : Filed). f.entry.series ≡ id) (own_files id xs)
+pub own_series : (id : ℕ) (xs : List Filed) → AllByRecursion (λ (f : Filed). f.entry.series ≡ id) (own_files id xs)
 own_series id [] = tt
 own_series id (x ∷ xs) = by_test (nat_eq x.entry.series id) refl (own_series id xs)
   where
@@ -57,7 +57,7 @@ are_own g rows id files filed rise = record {
 -- THEY RISE
 
 -- a partition that starts later starts behind the other's end
-parts_apart : (g : Granularity) (p q : Part) → IsPart g p → IsPart g q → p.start < q.start → p.end ≤ q.start
+pub parts_apart : (g : Granularity) (p q : Part) → IsPart g p → IsPart g q → p.start < q.start → p.end ≤ q.start
 parts_apart g p q one two lt = elim (cases_lt q.start p.end) [
   | inr le ↦ le
   | inl inside ↦

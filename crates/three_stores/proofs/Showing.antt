@@ -1,5 +1,5 @@
 -- What is listed to a length stays listed to it, and keeps its bytes, through the calls that change the stores.
-use Rattle.std.proofs.Common.{◌≡◌, ◌≢◌, ◌⊎◌, inl, inr, false, Bool, ℕ, zero, suc, ◌<◌, ◌+◌, ◌++◌, List, [], ◌∷◌, length, map, get_or, Some, Ok, Err, refl, sym, ◌∙◌, ap, subst, arith}
+use Rattle.std.proofs.Common.{◌≡◌, ◌≢◌, ◌⊎◌, inl, inr, false, Bool, ℕ, zero, suc, ◌<◌, ◌≤◌, ◌+◌, ◌++◌, List, [], ◌∷◌, length, map, get_or, Some, Ok, Err, refl, sym, ◌∙◌, ap, subst, arith}
 use Rattle.std.specs.Prelude.{Contains, IsTrue, slice_get, Result, OnOk, OnErr}
 use Rattle.std.proofs.lemmas.List.Elements.{All-contains, Contains-get_or}
 use Rattle.disk_model.specs.Files.{Name, Files}
@@ -10,7 +10,7 @@ use Rattle.event_types.specs.declared.about.State.{State}
 use Rattle.pv_catalog.specs.Catalogue.{CatalogueState, registered}
 use Rattle.pv_catalog.specs.Rows.{KeepsRows, switched}
 use Rattle.pv_catalog.specs.declared.row.Row.{Row}
-use Rattle.pv_catalog.proofs.Standing.{keeps_more, keeps_switched}
+use Rattle.pv_catalog.proofs.Standing.{keeps_more, keeps_same, keeps_switched}
 use Rattle.series_model.specs.declared.batch.RowSamples.{RowSamples}
 use Rattle.store_files.specs.Fronts.{Begins, Keeps}
 use Rattle.store_manifest.specs.declared.entry.Entry.{Entry}
@@ -24,7 +24,8 @@ use Rattle.tier_store.proofs.Three.{same_cases}
 use Rattle.three_stores.specs.Stores.{Stores, list_at, tier, with_rows}
 use Rattle.three_stores.specs.Seen.{Seen, seen_on}
 use Rattle.three_stores.specs.Change.{IsKnown, Has, Doubts, IsOpen, HasEither, Call, EndsFrom, Changes, Flushes, Registers, Switches}
-use Rattle.three_stores.specs.Pinned.{listing_at, IsHeldTo, KeepsShown, KeepsFronts}
+use Rattle.three_stores.specs.Pinned.{SeenAll, beside, listing_at, IsHeldTo, NoneShorter, IsNoShorter, NoneOf, IsRetiredTo, IsThereTo, KeepsShown, KeepsFronts}
+use Rattle.three_stores.specs.declared.limbo.Retired.{Retired}
 use Rattle.three_stores.proofs.Places.{within_three, one_manifest, tier_other}
 
 -- LISTS
@@ -98,7 +99,7 @@ goes_to at held made place m name len known here (inl stays) to = still_to (list
 goes_to at held made place m name len known here (inr grows) to = subst (λ (s : Stores). ListsTo place s name len) (sym grows.0) (grown_to place held made.rows name len (names_grow at held place m made.rows known here grows.1) to)
 
 -- where a change stands in doubt
-doubts_held : (tells : Bool) (at : Seen) (held made : Stores) (place : ℕ) (name : Name) (len : ℕ) → Doubts tells at held made → place < 3 → ListsTo place held name len → ListsTo place made name len → IsHeldTo at name len
+pub doubts_held : (tells : Bool) (at : Seen) (held made : Stores) (place : ℕ) (name : Name) (len : ℕ) → Doubts tells at held made → place < 3 → ListsTo place held name len → ListsTo place made name len → IsHeldTo at name len
 doubts_held tells at held made place name len doubt low to to_made =
     let m = manifest_at at.manifests place (let three = doubt.known.three in omega (arith, low, three)) in
     record {
@@ -203,62 +204,209 @@ ends_held {A} {E} tells call old new held end name len has goes ends h = go end 
     go Failed (inr (made, by, doubt)) = doubts_held tells new held made h.place name len doubt low to (goes_to old held made h.place h.manifest name len has.known h.here (goes made by) to)
     go Spent now = has_held tells new held h.place name len now low to
 
+-- NOWHERE LISTED SHORTER
+
+-- where the stores list the name, they do so to this length at least
+abbrev pub Spares : Stores → Name → ℕ → Type 0
+Spares s name len = (k : ℕ) → k < 3 → NoneShorter (listing_of (tier k s)) name len
+
+-- so do these entries at a place, under these rows
+abbrev ShortAt : ℕ → List Row → Name → ℕ → List Entry → Type 0
+ShortAt place rows name len es = NoneShorter ((place + 1, rows), es) name len
+
+pub known_spares : (at : Seen) (s : Stores) (name : Name) (len : ℕ) → IsKnown at.catalogue at.manifests s → IsNoShorter at name len → Spares s name len
+known_spares at s name len known short k low =
+    let m = manifest_at at.manifests k (let three = known.three in omega (arith, low, three)) in
+    subst (ShortAt k s.rows name len) (known.each k m.0 m.1).entries (subst (λ (r : List Row). ShortAt k r name len m.0.entries) known.rows (short.listed k m.0 m.1))
+
+spares_known : (at : Seen) (s : Stores) (name : Name) (len : ℕ) → IsKnown at.catalogue at.manifests s → Spares s name len → (k : ℕ) (m : ManifestState) → slice_get at.manifests k ≡ Some m → NoneShorter (listing_at at k m.entries) name len
+spares_known at s name len known spares k m here =
+    subst (λ (r : List Row). ShortAt k r name len m.entries) (sym known.rows) (subst (ShortAt k s.rows name len) (sym (known.each k m here).entries) (spares k (low_of at s k m known here)))
+
+pub has_spares : (tells : Bool) (at : Seen) (s : Stores) (name : Name) (len : ℕ) → Has tells at s → Spares s name len → IsNoShorter at name len
+has_spares tells at s name len has spares = record {
+  listed = spares_known at s name len has.known spares;
+  in_doubt = λ k m here unsound. absurd (cc (unsound, has.settled.manifests k m here));
+  rows_in_doubt = λ unsound. absurd (cc (unsound, has.settled.catalogue));
+}
+
+-- so does what comes after the doubtful change
+pub after_spares : (tells : Bool) (at : Seen) (before after : Stores) (name : Name) (len : ℕ) → Doubts tells at before after → IsNoShorter at name len → Spares after name len
+after_spares tells at before after name len doubt short k low = elim doubt.change [
+  | inl r ↦
+      let lists : m.0.entries ≡ map entry_of (list_at k after) = (doubt.known.each k m.0 m.1).entries ∙ ap (λ (s : Stores). map entry_of (list_at k s)) (sym r.same) in
+      subst (ShortAt k after.rows name len) lists (subst (λ (rs : List Row). ShortAt k rs name len m.0.entries) r.next (short.rows_in_doubt r.unsound k m.0 m.1))
+  | inr p ↦ elim (same_cases k p.0) [
+    | inl is ↦
+        let own : p.1.manifest ≡ m.0 = one_manifest at.manifests k p.0 m.0 p.1.manifest (sym is) m.1 p.1.here in
+        let unsound : m.0.journal.sound ≡ false = sym (ap (λ (x : ManifestState). x.journal.sound) own) ∙ p.1.unsound in
+        let next : m.0.next ≡ map entry_of (list_at k after) = sym (ap (λ (x : ManifestState). x.next) own) ∙ p.1.next ∙ ap (λ (j : ℕ). map entry_of (list_at j after)) (sym is) in
+        let rows : at.catalogue.rows ≡ after.rows = doubt.known.rows ∙ sym (ap (λ (s : Stores). s.rows) p.1.same) in
+        subst (ShortAt k after.rows name len) next (subst (λ (r : List Row). ShortAt k r name len m.0.next) rows (short.in_doubt k m.0 m.1 unsound))
+    | inr apart ↦
+        let low_too = low_of at before p.0 p.1.manifest doubt.known p.1.here in
+        let same : tier k after ≡ tier k before = ap (tier k) p.1.same ∙ tier_other p.0 k (list_at p.0 after) before low_too low apart in
+        subst (λ (t : Held). NoneShorter (listing_of t) name len) (sym same) (known_spares at before name len doubt.known short k low)
+  ]
+]
+  where
+    m : (m : ManifestState) × (slice_get at.manifests k ≡ Some m)
+    m = manifest_at at.manifests k (let three = doubt.known.three in omega (arith, low, three))
+
+-- where a change stands in doubt
+pub doubts_spares : (tells : Bool) (at : Seen) (held made : Stores) (name : Name) (len : ℕ) → Doubts tells at held made → Spares held name len → Spares made name len → IsNoShorter at name len
+doubts_spares tells at held made name len doubt spares spares_made = record {
+  listed = spares_known at held name len doubt.known spares;
+  in_doubt = λ k m here unsound. elim doubt.change [
+    | inl r ↦ absurd (cc (unsound, r.sound k m here))
+    | inr p ↦ elim (same_cases k p.0) [
+      | inl is ↦
+          let own : p.1.manifest ≡ m = one_manifest at.manifests k p.0 m p.1.manifest (sym is) here p.1.here in
+          let next : m.next ≡ map entry_of (list_at k made) = sym (ap (λ (x : ManifestState). x.next) own) ∙ p.1.next ∙ ap (λ (j : ℕ). map entry_of (list_at j made)) (sym is) in
+          let rows : at.catalogue.rows ≡ made.rows = doubt.known.rows ∙ sym (ap (λ (s : Stores). s.rows) p.1.same) in
+          subst (ShortAt k at.catalogue.rows name len) (sym next) (subst (λ (r : List Row). ShortAt k r name len (map entry_of (list_at k made))) (sym rows) (spares_made k (low_of at held k m doubt.known here)))
+      | inr apart ↦ absurd (cc (unsound, p.1.others k m here apart))
+    ]
+  ];
+  rows_in_doubt = λ unsound k m here. elim doubt.change [
+    | inl r ↦
+        let lists : m.entries ≡ map entry_of (list_at k made) = (doubt.known.each k m here).entries ∙ ap (λ (s : Stores). map entry_of (list_at k s)) (sym r.same) in
+        subst (ShortAt k at.catalogue.next name len) (sym lists) (subst (λ (rs : List Row). ShortAt k rs name len (map entry_of (list_at k made))) (sym r.next) (spares_made k (low_of at held k m doubt.known here)))
+    | inr p ↦ absurd (cc (unsound, p.1.sound))
+  ];
+}
+
+pub settled_spares : (tells : Bool) (old new : Seen) (before after : Stores) (name : Name) (len : ℕ) → IsOpen tells old before after → ((x y : Stores) → IsOpen tells old x y → HasEither tells new x y) → IsNoShorter old name len → IsNoShorter new name len
+settled_spares tells old new before after name len (inl has) settled short = elim (settled before before (inl has)) [
+  | inl now ↦ has_spares tells new before name len now (known_spares old before name len has.known short)
+  | inr now ↦ has_spares tells new before name len now (known_spares old before name len has.known short)
+]
+settled_spares tells old new before after name len (inr doubt) settled short = elim (settled before after (inr doubt)) [
+  | inl now ↦ has_spares tells new before name len now (known_spares old before name len doubt.known short)
+  | inr now ↦ has_spares tells new after name len now (after_spares tells old before after name len doubt short)
+]
+
+pub still_spares : (tells : Bool) (old new : Seen) (before after : Stores) (name : Name) (len : ℕ) → IsOpen tells old before after → ((x y : Stores) → IsOpen tells old x y → IsOpen tells new x y) → IsNoShorter old name len → IsNoShorter new name len
+still_spares tells old new before after name len (inl has) still short =
+    let spares = known_spares old before name len has.known short in
+    elim (still before before (inl has)) [ inl now ↦ has_spares tells new before name len now spares | inr doubt ↦ doubts_spares tells new before before name len doubt spares spares ]
+still_spares tells old new before after name len (inr was) still short =
+    let spares = known_spares old before name len was.known short in
+    elim (still before after (inr was)) [ inl now ↦ has_spares tells new before name len now spares | inr doubt ↦ doubts_spares tells new before after name len doubt spares (after_spares tells old before after name len was short) ]
+
+-- a call's own change that lists no such name shorter
+pub ends_spares : {A E : Type 0} (tells : Bool) (call : Call A E) (old new : Seen) (held : Stores) (end : End A E) (name : Name) (len : ℕ) → Has tells old held → ((made : Stores) → call.by held made → Spares held name len → Spares made name len) → EndsFrom tells call new held end → IsNoShorter old name len → IsNoShorter new name len
+ends_spares {A} {E} tells call old new held end name len has goes ends short = go end ends
+  where
+    spares : Spares held name len
+    spares = known_spares old held name len has.known short
+
+    go : (end : End A E) → EndsFrom tells call new held end → IsNoShorter new name len
+    go (Done a) (made, by, says, now) = has_spares tells new made name len now (goes made by spares)
+    go (Refused e) (now, refuses) = has_spares tells new held name len now spares
+    go Failed (inl now) = has_spares tells new held name len now spares
+    go Failed (inr (made, by, doubt)) = doubts_spares tells new held made name len doubt spares (goes made by spares)
+    go Spent now = has_spares tells new held name len now spares
+
+-- rows that go on name no listed file anew
+grown_spares : (at : Seen) (held : Stores) (later : List Row) (name : Name) (len : ℕ) → IsKnown at.catalogue at.manifests held → KeepsRows held.rows later → Spares held name len → Spares (with_rows held later) name len
+grown_spares at held later name len known keeps spares k low j e lt named =
+    let m = manifest_at at.manifests k (let three = known.three in omega (arith, low, three)) in
+    let f = contains_map (list_at k held) (get_or (map entry_of (list_at k held)) j e) (Contains-get_or (map entry_of (list_at k held)) j e lt) in
+    let same : file_of (k + 1, later) (get_or (map entry_of (list_at k held)) j e) ≡ file_of (k + 1, held.rows) (get_or (map entry_of (list_at k held)) j e) = subst (λ (x : Entry). file_of (k + 1, later) x ≡ file_of (k + 1, held.rows) x) f.2 (names_grow at held k m.0 later known m.1 keeps f.0 f.1) in
+    spares k low j e lt (sym same ∙ named)
+
 -- SHOWN
 
-pub shown : (tells : Bool) (old new : Seen) → ((name : Name) (len : ℕ) → IsHeldTo old name len → IsHeldTo new name len) → (IsTrue tells → KeepsFronts old new) → KeepsShown tells old new
-shown tells old new held fronts name bytes was = record {
-  held = held name (length bytes) was.held;
+pub shown : (tells : Bool) (old new : SeenAll) → new.limbo ≡ old.limbo → ((name : Name) (len : ℕ) → IsHeldTo old.stores name len → IsHeldTo new.stores name len) → ((name : Name) (len : ℕ) → IsRetiredTo old name len → IsNoShorter new.stores name len) → (IsTrue tells → KeepsFronts old new) → KeepsShown tells old new
+shown tells old new limbo held spares fronts name bytes was = record {
+  held = elim was.held [
+    | inl h ↦ inl (held name (length bytes) h)
+    | inr r ↦ inr (record { file = r.file; within = subst (λ (rs : List Retired). Contains rs r.file) (sym limbo) r.within; named = r.named; longer = r.longer; numbered = r.numbered; no_shorter = spares name (length bytes) r })
+  ];
   some = was.some;
   front = λ told. fronts told name (length bytes) was.held bytes was.some (omega arith) (was.front told);
 }
 
-pub fronts_same : (old new : Seen) → new.files ≡ old.files → KeepsFronts old new
+pub fronts_same : (old new : SeenAll) → new.stores.files ≡ old.stores.files → KeepsFronts old new
 fronts_same old new same name len held front some within begins = subst (λ (f : Files). Begins front (f name)) (sym same) begins
 
 -- a listed name is of its place's store
 pub name_listed : (at : Seen) (name : Name) (len : ℕ) (h : IsHeldTo at name len) → name.0 ≡ h.place + 1
 name_listed at name len h = sym (ap (λ (n : Name). n.0) h.listed.named)
 
+pub numbered : (all : SeenAll) (name : Name) (len : ℕ) → IsThereTo all name len → 1 ≤ name.0
+numbered all name len (inl h) = let number = name_listed all.stores name len h in omega (arith, number)
+numbered all name len (inr r) = r.numbered
+
 -- calls that leave all names but one of store 0 as they were
-pub fronts_beside : (old new : Seen) (journal : Name) → journal.0 ≡ 0 → ((n : Name) → n ≢ journal → new.files n ≡ old.files n) → KeepsFronts old new
+pub fronts_beside : (old new : SeenAll) (journal : Name) → journal.0 ≡ 0 → ((n : Name) → n ≢ journal → new.stores.files n ≡ old.stores.files n) → KeepsFronts old new
 fronts_beside old new journal zero_store same name len held front some within begins =
-    let number = name_listed old name len held in
+    let number = numbered old name len held in
     subst (Begins front) (sym (same name (λ is. let at_zero : name.0 ≡ journal.0 = ap (λ (n : Name). n.0) is in absurd (omega (arith, at_zero, zero_store, number))))) begins
 
 -- the memory is the same
 pub held_same : {S : Type 0} (files_of : S → Files) (opened_of : S → Name → ℕ) (past_of : S → Past) (faults_of : S → ℕ) (c : CatalogueState) (ms : List ManifestState) (d after : S) (name : Name) (len : ℕ) → IsHeldTo (seen_on files_of opened_of past_of faults_of c ms d) name len → IsHeldTo (seen_on files_of opened_of past_of faults_of c ms after) name len
 held_same {S} files_of opened_of past_of faults_of c ms d after name len h = record { place = h.place; manifest = h.manifest; here = h.here; listed = h.listed; in_doubt = h.in_doubt; rows_in_doubt = h.rows_in_doubt }
 
-pub read_shown : {S : Type 0} (files_of : S → Files) (opened_of : S → Name → ℕ) (past_of : S → Past) (faults_of : S → ℕ) (tells : Bool) (c : CatalogueState) (ms : List ManifestState) (d after : S) → (IsTrue tells → files_of after ≡ files_of d) → KeepsShown tells (seen_on files_of opened_of past_of faults_of c ms d) (seen_on files_of opened_of past_of faults_of c ms after)
-read_shown {S} files_of opened_of past_of faults_of tells c ms d after same =
-    shown tells (seen_on files_of opened_of past_of faults_of c ms d) (seen_on files_of opened_of past_of faults_of c ms after) (λ name len h. held_same files_of opened_of past_of faults_of c ms d after name len h)
-    (λ told. fronts_same (seen_on files_of opened_of past_of faults_of c ms d) (seen_on files_of opened_of past_of faults_of c ms after) (same told))
+pub read_shown : {S : Type 0} (files_of : S → Files) (opened_of : S → Name → ℕ) (past_of : S → Past) (faults_of : S → ℕ) (tells : Bool) (c : CatalogueState) (ms : List ManifestState) (limbo : List Retired) (d after : S) → (IsTrue tells → files_of after ≡ files_of d)
+    → KeepsShown tells (beside (seen_on files_of opened_of past_of faults_of c ms d) limbo) (beside (seen_on files_of opened_of past_of faults_of c ms after) limbo)
+read_shown {S} files_of opened_of past_of faults_of tells c ms limbo d after same = shown tells old new refl (λ name len h. held_same files_of opened_of past_of faults_of c ms d after name len h)
+    (λ name len r. record { listed = r.no_shorter.listed; in_doubt = r.no_shorter.in_doubt; rows_in_doubt = r.no_shorter.rows_in_doubt })
+    (λ told. fronts_same old new (same told))
+  where
+    old : SeenAll
+    old = beside (seen_on files_of opened_of past_of faults_of c ms d) limbo
+
+    new : SeenAll
+    new = beside (seen_on files_of opened_of past_of faults_of c ms after) limbo
 
 -- THE CALLS
 
 -- the settling of a doubt
-pub review_shown : {B : Type 0} (tells : Bool) (old new : Seen) (r : Result B DiskErr) → (before : Stores) × (after : Stores) × IsOpen tells old before after → ((x y : Stores) → IsOpen tells old x y → OnOk r (HasEither tells new x y)) → ((x y : Stores) → IsOpen tells old x y → OnErr r (IsOpen tells new x y)) → (IsTrue tells → new.files ≡ old.files) → KeepsShown tells old new
-review_shown {B} tells old new r begun settled still same = go r settled still
+pub review_shown : {B : Type 0} (tells : Bool) (old new : SeenAll) (r : Result B DiskErr) → new.limbo ≡ old.limbo → (before : Stores) × (after : Stores) × IsOpen tells old.stores before after → ((x y : Stores) → IsOpen tells old.stores x y → OnOk r (HasEither tells new.stores x y)) → ((x y : Stores) → IsOpen tells old.stores x y → OnErr r (IsOpen tells new.stores x y))
+    → (IsTrue tells → new.stores.files ≡ old.stores.files) → KeepsShown tells old new
+review_shown {B} tells old new r limbo begun settled still same = go r settled still
   where
-    go : (r : Result B DiskErr) → ((x y : Stores) → IsOpen tells old x y → OnOk r (HasEither tells new x y)) → ((x y : Stores) → IsOpen tells old x y → OnErr r (IsOpen tells new x y)) → KeepsShown tells old new
-    go (Ok a) settled still = shown tells old new (λ name len h. settled_held tells old new begun.0 begun.1 name len begun.2 settled h) (λ told. fronts_same old new (same told))
-    go (Err e) settled still = shown tells old new (λ name len h. still_held tells old new begun.0 begun.1 name len begun.2 still h) (λ told. fronts_same old new (same told))
+    go : (r : Result B DiskErr) → ((x y : Stores) → IsOpen tells old.stores x y → OnOk r (HasEither tells new.stores x y)) → ((x y : Stores) → IsOpen tells old.stores x y → OnErr r (IsOpen tells new.stores x y)) → KeepsShown tells old new
+    go (Ok a) settled still =
+        shown tells old new limbo (λ name len h. settled_held tells old.stores new.stores begun.0 begun.1 name len begun.2 settled h) (λ name len r. settled_spares tells old.stores new.stores begun.0 begun.1 name len begun.2 settled r.no_shorter) (λ told. fronts_same old new (same told))
+    go (Err e) settled still =
+        shown tells old new limbo (λ name len h. still_held tells old.stores new.stores begun.0 begun.1 name len begun.2 still h) (λ name len r. still_spares tells old.stores new.stores begun.0 begun.1 name len begun.2 still r.no_shorter) (λ told. fronts_same old new (same told))
 
--- a change of the rows
-pub rows_shown : {A E : Type 0} (tells : Bool) (call : Call A E) (old new : Seen) (end : End A E) → (held : Stores) × Has tells old held → ((held made : Stores) → call.by held made → GoesOn held made) → Changes tells call old new end → (IsTrue tells → (n : Name) → n ≢ old.catalogue.journal.name → new.files n ≡ old.files n) → KeepsShown tells old new
-rows_shown {A} {E} tells call old new end has goes change elsewhere =
-    shown tells old new (λ name len h. ends_held tells call old new has.0 end name len has.1 (goes has.0) (change.ends has.0 has.1) h)
-    (λ told. fronts_beside old new old.catalogue.journal.name (ap (λ (n : Name). n.0) (has.1.disk told).rows.named) (elsewhere told))
+-- rows that a change leaves go on
+pub rows_keep : {A E : Type 0} (tells : Bool) (call : Call A E) (old new : Seen) (end : End A E) → (held : Stores) × Has tells old held → ((held made : Stores) → call.by held made → (made ≡ with_rows held made.rows) × KeepsRows held.rows made.rows) → Changes tells call old new end → KeepsRows old.catalogue.rows new.catalogue.rows
+rows_keep {A} {E} tells call old new end has goes change = go end (change.ends has.0 has.1)
+  where
+    same : (s : Stores) → new.catalogue.rows ≡ s.rows → KeepsRows has.0.rows s.rows → KeepsRows old.catalogue.rows new.catalogue.rows
+    same s rows keeps = subst (λ (r : List Row). KeepsRows r new.catalogue.rows) (sym has.1.known.rows) (subst (KeepsRows has.0.rows) (sym rows) keeps)
 
-pub registers_on : (name : List ℕ) (about : About) (held made : Stores) → Registers name about held made → GoesOn held made
+    go : (end : End A E) → EndsFrom tells call new has.0 end → KeepsRows old.catalogue.rows new.catalogue.rows
+    go (Done a) (made, by, says, now) = same made now.known.rows (goes has.0 made by).1
+    go (Refused e) (now, refuses) = same has.0 now.known.rows (keeps_same has.0.rows)
+    go Failed (inl now) = same has.0 now.known.rows (keeps_same has.0.rows)
+    go Failed (inr (made, by, doubt)) = same has.0 doubt.known.rows (keeps_same has.0.rows)
+    go Spent now = same has.0 now.known.rows (keeps_same has.0.rows)
+
+-- a change of the rows, which go on
+pub rows_shown : {A E : Type 0} (tells : Bool) (call : Call A E) (old new : SeenAll) (end : End A E) → new.limbo ≡ old.limbo → (held : Stores) × Has tells old.stores held → ((held made : Stores) → call.by held made → (made ≡ with_rows held made.rows) × KeepsRows held.rows made.rows) → Changes tells call old.stores new.stores end
+    → (IsTrue tells → (n : Name) → n ≢ old.stores.catalogue.journal.name → new.stores.files n ≡ old.stores.files n) → KeepsShown tells old new
+rows_shown {A} {E} tells call old new end limbo has goes change elsewhere =
+    shown tells old new limbo (λ name len h. ends_held tells call old.stores new.stores has.0 end name len has.1 (λ made by. inr (goes has.0 made by)) (change.ends has.0 has.1) h)
+    (λ name len r. ends_spares tells call old.stores new.stores has.0 end name len has.1
+    (λ made by spares. let on = goes has.0 made by in subst (λ (s : Stores). Spares s name len) (sym on.0) (grown_spares old.stores has.0 made.rows name len has.1.known on.1 spares))
+    (change.ends has.0 has.1) r.no_shorter)
+    (λ told. fronts_beside old new old.stores.catalogue.journal.name (ap (λ (n : Name). n.0) (has.1.disk told).rows.named) (elsewhere told))
+
+pub registers_on : (name : List ℕ) (about : About) (held made : Stores) → Registers name about held made → (made ≡ with_rows held made.rows) × KeepsRows held.rows made.rows
 registers_on name about held made by =
     let rows : made.rows ≡ held.rows ++ registered held.rows name about ∷ [] = ap (λ (s : Stores). s.rows) by.1 in
-    inr (by.1 ∙ ap (with_rows held) (sym rows), subst (KeepsRows held.rows) (sym rows) (keeps_more held.rows (registered held.rows name about ∷ [])))
+    (by.1 ∙ ap (with_rows held) (sym rows), subst (KeepsRows held.rows) (sym rows) (keeps_more held.rows (registered held.rows name about ∷ [])))
 
-pub switches_on : (row : ℕ) (from to : State) (held made : Stores) → Switches row from to held made → GoesOn held made
+pub switches_on : (row : ℕ) (from to : State) (held made : Stores) → Switches row from to held made → (made ≡ with_rows held made.rows) × KeepsRows held.rows made.rows
 switches_on row from to held made by =
     let rows : made.rows ≡ switched row to held.rows = ap (λ (s : Stores). s.rows) by.1 in
-    inr (by.1 ∙ ap (with_rows held) (sym rows), subst (KeepsRows held.rows) (sym rows) (keeps_switched row to held.rows))
+    (by.1 ∙ ap (with_rows held) (sym rows), subst (KeepsRows held.rows) (sym rows) (keeps_switched row to held.rows))
 
 still_itself : (l : Listing) → ListsStill l l
 still_itself l k d lt = record { entry = get_or l.1 k d; within = Contains-get_or l.1 k d lt; named = refl; longer = omega arith }
@@ -274,24 +422,44 @@ flushes_on batch held made by = inl (ap (λ (s : Stores). s.rows) by.same, go)
           subst (λ (t : Held). ListsStill (listing_of (tier place held)) (listing_of t)) (sym same) (still_itself (listing_of (tier place held)))
     ]
 
+-- a flush lists no name of another store
+flush_spares : (batch : List RowSamples) (held made : Stores) (name : Name) (len : ℕ) → Flushes batch held made → name.0 ≢ 1 → Spares held name len → Spares made name len
+flush_spares batch held made name len by other spares k low = elim (same_cases k 0) [
+  | inl is ↦ λ j e lt named. let number : k + 1 ≡ name.0 = ap (λ (n : Name). n.0) named in absurd (other (omega (arith, number, is)))
+  | inr apart ↦
+      let same : tier k made ≡ tier k held = ap (tier k) by.same ∙ tier_other 0 k made.short held (omega arith) low apart in
+      subst (λ (t : Held). NoneShorter (listing_of t) name len) (sym same) (spares k low)
+]
+
+-- no name in limbo is of the store
+other_store : (all : SeenAll) (name : Name) (len store : ℕ) → NoneOf store all.limbo → IsRetiredTo all name len → name.0 ≢ store
+other_store all name len store none r is = All-contains (λ (x : Retired). x.name.0 ≢ store) all.limbo r.file none r.within (ap (λ (n : Name). n.0) r.named ∙ is)
+
 -- a flush into store 1
-pub flush_shown : {A E : Type 0} (tells : Bool) (call : Call A E) (old new : Seen) (end : End A E) → (held : Stores) × Has tells old held → ((held made : Stores) → call.by held made → GoesOn held made) → Changes tells call old new end → (rows : List Row) → rows ≡ old.catalogue.rows → (m : ManifestState) → slice_get old.manifests 0 ≡ Some m
-    → (IsTrue tells → LeavesListed ((1, rows), m.entries) old.files new.files old.past new.past) → (IsTrue tells → (n : Name) → n.0 ≢ 1 → n ≢ m.journal.name → new.files n ≡ old.files n) → KeepsShown tells old new
-flush_shown {A} {E} tells call old new end has goes change rows same m here leaves elsewhere =
-    shown tells old new (λ name len h. ends_held tells call old new has.0 end name len has.1 (goes has.0) (change.ends has.0 has.1) h) fronts
+pub flush_shown : {E : Type 0} (tells : Bool) (batch : List RowSamples) (call : Call ℕ E) (old new : SeenAll) (end : End ℕ E) → new.limbo ≡ old.limbo → NoneOf 1 old.limbo → (held : Stores) × Has tells old.stores held → ((held made : Stores) → call.by held made → Flushes batch held made) → Changes tells call old.stores new.stores end → (rows : List Row) → rows ≡ old.stores.catalogue.rows
+    → (m : ManifestState) → slice_get old.stores.manifests 0 ≡ Some m → (IsTrue tells → LeavesListed ((1, rows), m.entries) old.stores.files new.stores.files old.stores.past new.stores.past) → (IsTrue tells → (n : Name) → n.0 ≢ 1 → n ≢ m.journal.name → new.stores.files n ≡ old.stores.files n) → KeepsShown tells old new
+flush_shown {E} tells batch call old new end limbo none has by change rows same m here leaves elsewhere =
+    shown tells old new limbo (λ name len h. ends_held tells call old.stores new.stores has.0 end name len has.1 (λ made made_by. flushes_on batch has.0 made (by has.0 made made_by)) (change.ends has.0 has.1) h)
+    (λ name len r. ends_spares tells call old.stores new.stores has.0 end name len has.1 (λ made made_by. flush_spares batch has.0 made name len (by has.0 made made_by) (other_store old name len 1 none r)) (change.ends has.0 has.1) r.no_shorter)
+    fronts
   where
+    -- another store's file
+    beside_it : IsTrue tells → (name : Name) (len : ℕ) → IsThereTo old name len → name.0 ≢ 1 → Keeps len (old.stores.files name) (new.stores.files name)
+    beside_it told name len there apart front some within begins =
+        let number = numbered old name len there in
+        let zero_store : m.journal.name.0 ≡ 0 = ap (λ (n : Name). n.0) ((has.1.disk told).each 0 m here).named in
+        subst (Begins front) (sym (elsewhere told name apart (λ is. let at_zero : name.0 ≡ m.journal.name.0 = ap (λ (n : Name). n.0) is in absurd (omega (arith, at_zero, zero_store, number))))) begins
+
     fronts : IsTrue tells → KeepsFronts old new
-    fronts told name len h front some within begins = elim (same_cases h.place 0) [
+    fronts told name len (inr r) front some within begins = beside_it told name len (inr r) (other_store old name len 1 none r) front some within begins
+    fronts told name len (inl h) front some within begins = elim (same_cases h.place 0) [
       | inl is ↦
-          let own : h.manifest ≡ m = one_manifest old.manifests 0 h.place m h.manifest is here h.here in
+          let own : h.manifest ≡ m = one_manifest old.stores.manifests 0 h.place m h.manifest is here h.here in
           let e = h.listed.entry in
           let listed : Contains m.entries e = subst (λ (x : ManifestState). Contains x.entries e) own h.listed.within in
-          let named : file_of (1, rows) e ≡ name = ap (λ (r : List Row). file_of (1, r) e) same ∙ (ap (λ (k : ℕ). file_of (k + 1, old.catalogue.rows) e) (sym is) ∙ h.listed.named) in
-          let keeps = All-contains (λ (x : Entry). Keeps x.len (old.files (file_of (1, rows) x)) (new.files (file_of (1, rows) x))) m.entries e (leaves told).now listed in
+          let named : file_of (1, rows) e ≡ name = ap (λ (r : List Row). file_of (1, r) e) same ∙ (ap (λ (k : ℕ). file_of (k + 1, old.stores.catalogue.rows) e) (sym is) ∙ h.listed.named) in
+          let keeps = All-contains (λ (x : Entry). Keeps x.len (old.stores.files (file_of (1, rows) x)) (new.stores.files (file_of (1, rows) x))) m.entries e (leaves told).now listed in
           let longer = h.listed.longer in
-          subst (λ (n : Name). Begins front (new.files n)) named (keeps front some (omega (arith, within, longer)) (subst (λ (n : Name). Begins front (old.files n)) (sym named) begins))
-      | inr apart ↦
-          let number = name_listed old name len h in
-          let zero_store : m.journal.name.0 ≡ 0 = ap (λ (n : Name). n.0) ((has.1.disk told).each 0 m here).named in
-          subst (Begins front) (sym (elsewhere told name (λ is. apart (omega (arith, is, number))) (λ is. let at_zero : name.0 ≡ m.journal.name.0 = ap (λ (n : Name). n.0) is in absurd (omega (arith, at_zero, zero_store, number))))) begins
+          subst (λ (n : Name). Begins front (new.stores.files n)) named (keeps front some (omega (arith, within, longer)) (subst (λ (n : Name). Begins front (old.stores.files n)) (sym named) begins))
+      | inr apart ↦ let number = name_listed old.stores name len h in beside_it told name len (inl h) (λ is. apart (omega (arith, is, number))) front some within begins
     ]

@@ -1,6 +1,9 @@
 pub mod Change
+pub mod Limbo
 pub mod Opening
 pub mod Pinned
+pub mod Pinning
 pub mod Seen
+pub mod Settling
 pub mod Stored
 pub mod Stores

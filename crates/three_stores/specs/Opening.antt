@@ -12,8 +12,7 @@ use Rattle.pin_table.specs.declared.table.PinErr.TheVariants.{NoPin, NotYours}
 use Rattle.pinned_pieces.specs.Pieces.{PinOf}
 use Rattle.pinned_pieces.specs.declared.piece.PinnedFile.{PinnedFile}
 use Rattle.tier_store.specs.Ends.{End, Done, Failed, Spent}
-use Rattle.three_stores.specs.Seen.{Seen}
-use Rattle.three_stores.specs.Pinned.{Shows}
+use Rattle.three_stores.specs.Pinned.{SeenAll, Shows}
 
 -- one who asks for a pin that isn't there, or is another's, is told so
 abbrev pub refusal : {R : Type 0} → PinErr → Answer R
@@ -33,16 +32,16 @@ end_of_answer Memory = Spent
 end_of_answer answer = Done answer
 
 -- The reader hasn't failed, and has just the bytes that are shown of the file up to the pinned length.
-pub record IsReaderOf {R : Type 0} (tells reader_tells : Bool) (bytes : R → List ℕ) (faults : R → ℕ) (at : Seen) (piece : PinnedFile) (reader : R) : Type 0 where
+pub record IsReaderOf {R : Type 0} (tells reader_tells : Bool) (bytes : R → List ℕ) (faults : R → ℕ) (all : SeenAll) (piece : PinnedFile) (reader : R) : Type 0 where
   pub fresh : faults reader ≡ 0
-  pub shows : IsTrue tells → (pinned : List ℕ) → length pinned ≡ piece.len → Shows tells at piece.name pinned → IsTrue reader_tells × (bytes reader ≡ pinned)
+  pub shows : IsTrue tells → (pinned : List ℕ) → length pinned ≡ piece.len → Shows tells all piece.name pinned → IsTrue reader_tells × (bytes reader ≡ pinned)
 
 -- a piece that is there is opened, or the disk failed, or memory was wanting
-abbrev pub IsOpened : {R : Type 0} → Bool → Bool → (R → List ℕ) → (R → ℕ) → Seen → PinnedFile → Answer R → Type 0
-IsOpened tells reader_tells bytes faults at piece (Piece reader name head_len len) = IsReaderOf tells reader_tells bytes faults at piece reader × (name ≡ piece.name) × (head_len ≡ piece.head_len) × (len ≡ piece.len)
-IsOpened tells reader_tells bytes faults at piece DiskFault = Unit {0}
-IsOpened tells reader_tells bytes faults at piece Memory = Unit {0}
-IsOpened tells reader_tells bytes faults at piece _ = ⊥
+abbrev pub IsOpened : {R : Type 0} → Bool → Bool → (R → List ℕ) → (R → ℕ) → SeenAll → PinnedFile → Answer R → Type 0
+IsOpened tells reader_tells bytes faults all piece (Piece reader name head_len len) = IsReaderOf tells reader_tells bytes faults all piece reader × (name ≡ piece.name) × (head_len ≡ piece.head_len) × (len ≡ piece.len)
+IsOpened tells reader_tells bytes faults all piece DiskFault = Unit {0}
+IsOpened tells reader_tells bytes faults all piece Memory = Unit {0}
+IsOpened tells reader_tells bytes faults all piece _ = ⊥
 
 -- how an owner is answered who gives up a pin, by the pin that has the number
 abbrev pub given_up : {R : Type 0} → Result PinOf PinErr → Answer R

@@ -1,15 +1,34 @@
--- What is pinned stays: files that are listed to their pinned lengths, whatever stands in doubt, and begin with the pinned bytes.
+-- What is pinned stays: files that are listed to their pinned lengths, whatever stands in doubt, or are in limbo, and begin with the pinned
+-- bytes.
 use Rattle.std.specs.FinMap.{FinMap, get}
 use Rattle.std.specs.Ordering.{nat_cmp}
-use Rattle.std.specs.Prelude.{◌≡◌, ◌≤◌, ◌+◌, ℕ, Bool, List, length, IsTrue, Some, slice_get, false}
+use Rattle.std.specs.Prelude.{◌≡◌, ◌≢◌, ◌⊎◌, ◌≤◌, ◌+◌, ℕ, Bool, List, All, Contains, length, IsTrue, Some, slice_get, false}
 use Rattle.disk_model.specs.Files.{Name}
+use Rattle.disk_model.specs.declared.disk.Disk.{Ghosts}
 use Rattle.pinned_pieces.specs.Pieces.{PinOf}
 use Rattle.pinned_pieces.specs.declared.piece.PinnedFile.{PinnedFile}
 use Rattle.store_files.specs.Fronts.{Begins, Keeps}
 use Rattle.store_manifest.specs.Manifest.{ManifestState}
 use Rattle.store_manifest.specs.declared.entry.Entry.{Entry}
-use Rattle.tier_store.specs.Held.{Listing, IsListedTo}
-use Rattle.three_stores.specs.Seen.{Seen}
+use Rattle.tier_store.specs.Held.{Listing, IsListedTo, file_of}
+use Rattle.three_stores.specs.Seen.{Seen, AtEach, seen}
+use Rattle.three_stores.specs.declared.limbo.Retired.{Retired}
+use Rattle.three_stores.specs.declared.store.TierStore.{TierStore}
+
+-- all that contracts see: the stores, and the files in limbo
+pub record SeenAll : Type 1 where
+  pub stores : Seen
+  pub limbo : List Retired
+
+abbrev pub beside : Seen → List Retired → SeenAll
+beside at limbo = record { stores = at; limbo = limbo }
+
+abbrev pub seen_all : {D R : Type 0} → Ghosts D R → TierStore D R → SeenAll
+seen_all {D} {R} disk store = beside (seen disk store) store.limbo.items
+
+-- no file in limbo is of this store
+abbrev pub NoneOf : ℕ → List Retired → Type 0
+NoneOf store limbo = All (λ (r : Retired). r.name.0 ≢ store) limbo
 
 -- entries that the memory may list at a place
 abbrev pub listing_at : Seen → ℕ → List Entry → Listing
@@ -25,26 +44,51 @@ pub record IsHeldTo (at : Seen) (name : Name) (len : ℕ) : Type 0 where
   pub in_doubt : manifest.journal.sound ≡ false → IsListedTo (listing_at at place manifest.next) name len
   pub rows_in_doubt : at.catalogue.journal.sound ≡ false → IsListedTo ((place + 1, at.catalogue.next), manifest.entries) name len
 
--- So many bytes of the file, at least one, are listed, and it begins with them. What is said of bytes is said of a disk that tells them alone.
-pub record Shows (tells : Bool) (at : Seen) (name : Name) (bytes : List ℕ) : Type 0 where
-  pub held : IsHeldTo at name (length bytes)
-  pub some : 1 ≤ length bytes
-  pub front : IsTrue tells → Begins bytes (at.files name)
+-- where these entries list the name, they do so to this length at least
+abbrev pub NoneShorter : Listing → Name → ℕ → Type 0
+NoneShorter listing name len = All (λ (e : Entry). file_of listing.0 e ≡ name → len ≤ e.len) listing.1
 
--- whatever is listed and shown is so still
-abbrev pub KeepsShown : Bool → Seen → Seen → Type 0
+-- where the memory lists the name, it does so to this length at least, and so does what is after a change that stands in doubt
+pub record IsNoShorter (at : Seen) (name : Name) (len : ℕ) : Type 0 where
+  pub listed : AtEach at.manifests (λ k m. NoneShorter (listing_at at k m.entries) name len)
+  pub in_doubt : AtEach at.manifests (λ k m. m.journal.sound ≡ false → NoneShorter (listing_at at k m.next) name len)
+  pub rows_in_doubt : at.catalogue.journal.sound ≡ false → AtEach at.manifests (λ k m. NoneShorter ((k + 1, at.catalogue.next), m.entries) name len)
+
+-- A file of stores 1 to 3 in limbo has the name, and at least this length. Its retirement may stand in doubt, or it may be listed again: then
+-- no shorter.
+pub record IsRetiredTo (all : SeenAll) (name : Name) (len : ℕ) : Type 0 where
+  pub file : Retired
+  pub within : Contains all.limbo file
+  pub named : file.name ≡ name
+  pub longer : len ≤ file.entry.len
+  pub numbered : 1 ≤ name.0
+  pub no_shorter : IsNoShorter all.stores name len
+
+-- the file is listed so far, or in limbo
+abbrev pub IsThereTo : SeenAll → Name → ℕ → Type 0
+IsThereTo all name len = IsHeldTo all.stores name len ⊎ IsRetiredTo all name len
+
+-- So many bytes of the file, at least one, are listed or in limbo, and it begins with them. What is said of bytes is said of a disk that
+-- tells them alone.
+pub record Shows (tells : Bool) (all : SeenAll) (name : Name) (bytes : List ℕ) : Type 0 where
+  pub held : IsThereTo all name (length bytes)
+  pub some : 1 ≤ length bytes
+  pub front : IsTrue tells → Begins bytes (all.stores.files name)
+
+-- whatever is listed or in limbo, and shown, is so still
+abbrev pub KeepsShown : Bool → SeenAll → SeenAll → Type 0
 KeepsShown tells old new = (name : Name) (bytes : List ℕ) → Shows tells old name bytes → Shows tells new name bytes
 
--- the listed bytes of all files are what they were
-abbrev pub KeepsFronts : Seen → Seen → Type 0
-KeepsFronts old new = (name : Name) (len : ℕ) → IsHeldTo old name len → Keeps len (old.files name) (new.files name)
+-- the bytes of all files that are listed or in limbo are what they were
+abbrev pub KeepsFronts : SeenAll → SeenAll → Type 0
+KeepsFronts old new = (name : Name) (len : ℕ) → IsThereTo old name len → Keeps len (old.stores.files name) (new.stores.files name)
 
 -- bytes that a piece may have: as many as were pinned, which are shown
-pub record IsShown (tells : Bool) (at : Seen) (piece : PinnedFile) : Type 0 where
+pub record IsShown (tells : Bool) (all : SeenAll) (piece : PinnedFile) : Type 0 where
   pub bytes : List ℕ
   pub len : length bytes ≡ piece.len
-  pub shown : Shows tells at piece.name bytes
+  pub shown : Shows tells all piece.name bytes
 
 -- each piece of each pin is shown
-abbrev pub PinsStand : Bool → Seen → FinMap nat_cmp PinOf → Type 0
-PinsStand tells at pins = (n i : ℕ) (pin : PinOf) (piece : PinnedFile) → get pins n ≡ Some pin → slice_get pin.pieces i ≡ Some piece → IsShown tells at piece
+abbrev pub PinsStand : Bool → SeenAll → FinMap nat_cmp PinOf → Type 0
+PinsStand tells all pins = (n i : ℕ) (pin : PinOf) (piece : PinnedFile) → get pins n ≡ Some pin → slice_get pin.pieces i ≡ Some piece → IsShown tells all piece

@@ -16,7 +16,10 @@ ghost use Rattle.three_stores.specs.Stored.{HoldsAll};
 ghost use Rattle.std.specs.FinMap.{FinMap, empty, remove};
 ghost use Rattle.std.specs.Ordering.{nat_cmp};
 ghost use Rattle.pinned_pieces.specs.Pieces.{PinOf};
-ghost use Rattle.three_stores.specs.Pinned.{PinsStand, KeepsShown};
+ghost use Rattle.pv_catalog.specs.Rows.{KeepsRows};
+ghost use Rattle.three_stores.specs.Limbo.{LimboStands};
+ghost use Rattle.three_stores.specs.Pinned.{beside, PinsStand, KeepsShown};
+ghost use Rattle.three_stores.specs.declared.limbo.Retired.{Retired};
 ghost use Rattle.three_stores.specs.Change.{IsKnown, Has, IsOpen, Flushes, CanList};
 
 use disk_model::Disk;
@@ -59,10 +62,16 @@ pub fn listed_files_may_be_dropped<D: Disk>()
 /// Pieces of pins stand as they were pinned: with no pin, after a call that keeps what is shown, and after the
 /// end of a pin.
 pub fn pins_stand<D: Disk>()
-    ensures none { (disk : D) (catalogue : CatalogueState) (ms : List ManifestState) → PinsStand D.tells (seen_on D.files D.opened D.past D.faults catalogue ms disk) empty }
-    ensures kept { (old new : D) (catalogue later : CatalogueState) (ms ns : List ManifestState) (pins : FinMap nat_cmp PinOf)
-        → KeepsShown D.tells (seen_on D.files D.opened D.past D.faults catalogue ms old) (seen_on D.files D.opened D.past D.faults later ns new)
-        → PinsStand D.tells (seen_on D.files D.opened D.past D.faults catalogue ms old) pins → PinsStand D.tells (seen_on D.files D.opened D.past D.faults later ns new) pins }
-    ensures fewer { (disk : D) (catalogue : CatalogueState) (ms : List ManifestState) (pins : FinMap nat_cmp PinOf) (n : ℕ)
-        → PinsStand D.tells (seen_on D.files D.opened D.past D.faults catalogue ms disk) pins → PinsStand D.tells (seen_on D.files D.opened D.past D.faults catalogue ms disk) (remove pins n) }
+    ensures none { (disk : D) (catalogue : CatalogueState) (ms : List ManifestState) (limbo : List Retired) → PinsStand D.tells (beside (seen_on D.files D.opened D.past D.faults catalogue ms disk) limbo) empty }
+    ensures kept { (old new : D) (catalogue later : CatalogueState) (ms ns : List ManifestState) (limbo left : List Retired) (pins : FinMap nat_cmp PinOf)
+        → KeepsShown D.tells (beside (seen_on D.files D.opened D.past D.faults catalogue ms old) limbo) (beside (seen_on D.files D.opened D.past D.faults later ns new) left)
+        → PinsStand D.tells (beside (seen_on D.files D.opened D.past D.faults catalogue ms old) limbo) pins → PinsStand D.tells (beside (seen_on D.files D.opened D.past D.faults later ns new) left) pins }
+    ensures fewer { (disk : D) (catalogue : CatalogueState) (ms : List ManifestState) (limbo : List Retired) (pins : FinMap nat_cmp PinOf) (n : ℕ)
+        → PinsStand D.tells (beside (seen_on D.files D.opened D.past D.faults catalogue ms disk) limbo) pins → PinsStand D.tells (beside (seen_on D.files D.opened D.past D.faults catalogue ms disk) limbo) (remove pins n) }
+{}
+
+/// Files in limbo keep their rows' and partitions' names while rows go on and partitions stay as long as they are.
+pub fn limbo_stands<D: Disk>()
+    ensures { (old new : D) (catalogue later : CatalogueState) (ms ns : List ManifestState) (limbo : List Retired) → KeepsRows catalogue.rows later.rows → granularities ns ≡ granularities ms
+        → LimboStands (seen_on D.files D.opened D.past D.faults catalogue ms old) limbo → LimboStands (seen_on D.files D.opened D.past D.faults later ns new) limbo }
 {}

@@ -9,17 +9,24 @@
 //! may not be known whether the change was made; `TierStore::review` finds out, and every call that changes the stores does so first. At
 //! most one of the four journals, the catalogue and the three manifests, is in doubt at a time.
 //!
+//! A reader pins the files of a row that its query needs (`TierStore::pin`), opens them one after another, and gives the pin up. What is
+//! pinned opens as it was, whatever has become of the files.
+//!
 //! Stores whose listed files somebody else damaged may be used as any others, as long as each is there and no shorter than it is
 //! listed. What is held then doesn't stand (`Stores.stands`): nothing is promised of its samples, but no call writes below a listed
 //! length, and each can be made again.
 #![tactic(auto)]
 
 pub mod laws;
+mod limbo;
 mod opening;
 mod opening_pieces;
+mod pinning;
 mod registry;
 mod relisting;
+mod retiring;
 mod settling;
 mod store;
 
+pub use limbo::Retired;
 pub use store::TierStore;

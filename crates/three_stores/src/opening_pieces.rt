@@ -9,7 +9,7 @@ ghost use Rattle.pinned_pieces.specs.declared.piece.PinnedFile.{PinnedFile as Pi
 ghost use Rattle.three_stores.specs.Stores.{Stores};
 ghost use Rattle.three_stores.specs.Seen.{seen};
 ghost use Rattle.three_stores.specs.Change.{IsOpen, OnlyReads};
-ghost use Rattle.three_stores.specs.Pinned.{PinsStand, KeepsShown};
+ghost use Rattle.three_stores.specs.Pinned.{seen_all, PinsStand, KeepsShown};
 ghost use Rattle.three_stores.specs.Opening.{IsOpened, answer_of, end_of_answer, refusal, given_up, pins_left};
 
 use crate::TierStore;
@@ -31,14 +31,14 @@ impl<D: Disk> TierStore<D> {
     // Opens piece `i` of an owner's pin, if it is there.
     fn read_piece(&mut self, who: u64, pin: u32, i: u32) -> Result<Answer<D::Reader>, DiskErr>
         requires begun { (before : Stores) × (after : Stores) × IsOpen D.tells (seen D.Disk self.old) before after }
-        requires stand { PinsStand D.tells (seen D.Disk self.old) self.old.pinned }
+        requires stand { PinsStand D.tells (seen_all D.Disk self.old) self.old.pinned }
 
         ensures refused { (e : PinErrValue) → asked who (get self.old.pinned pin) ≡ Err e → result ≡ Ok (refusal e) }
         ensures no_piece { (p : PinOf) → asked who (get self.old.pinned pin) ≡ Ok p → slice_get p.pieces i ≡ None → result ≡ Ok (NoPiece (length p.pieces)) }
         ensures piece { (p : PinOf) (piece : Piece) → asked who (get self.old.pinned pin) ≡ Ok p → slice_get p.pieces i ≡ Some piece
-            → IsOpened D.tells D.Reader.tells D.Reader.bytes D.Reader.faults (seen D.Disk self.old) piece (answer_of result) }
+            → IsOpened D.tells D.Reader.tells D.Reader.bytes D.Reader.faults (seen_all D.Disk self.old) piece (answer_of result) }
         ensures kept { (before after : Stores) → IsOpen D.tells (seen D.Disk self.old) before after → IsOpen D.tells (seen D.Disk self.new) before after }
-        ensures same { (self.new.catalogue ≡ self.old.catalogue) × (self.new.manifests ≡ self.old.manifests) × (self.new.pinned ≡ self.old.pinned) }
+        ensures same { (self.new.catalogue ≡ self.old.catalogue) × (self.new.manifests ≡ self.old.manifests) × (self.new.pinned ≡ self.old.pinned) × (self.new.limbo ≡ self.old.limbo) }
         ensures reads { OnlyReads D.tells (seen D.Disk self.old) (seen D.Disk self.new) (end_of_answer (answer_of result)) }
     {
         let pieces = match self.pinned.pieces(who, pin) {
@@ -67,15 +67,15 @@ impl<D: Disk> TierStore<D> {
     /// `DiskFault` comes only where the disk's count of faults rose in the call.
     pub fn open_piece(&mut self, who: u64, pin: u32, i: u32) -> Answer<D::Reader>
         requires begun { (before : Stores) × (after : Stores) × IsOpen D.tells (seen D.Disk self.old) before after }
-        requires stand { PinsStand D.tells (seen D.Disk self.old) self.old.pinned }
+        requires stand { PinsStand D.tells (seen_all D.Disk self.old) self.old.pinned }
 
         ensures refused { (e : PinErrValue) → asked who (get self.old.pinned pin) ≡ Err e → result ≡ refusal e }
         ensures no_piece { (p : PinOf) → asked who (get self.old.pinned pin) ≡ Ok p → slice_get p.pieces i ≡ None → result ≡ NoPiece (length p.pieces) }
         ensures piece { (p : PinOf) (piece : Piece) → asked who (get self.old.pinned pin) ≡ Ok p → slice_get p.pieces i ≡ Some piece
-            → IsOpened D.tells D.Reader.tells D.Reader.bytes D.Reader.faults (seen D.Disk self.old) piece result }
+            → IsOpened D.tells D.Reader.tells D.Reader.bytes D.Reader.faults (seen_all D.Disk self.old) piece result }
         ensures kept { (before after : Stores) → IsOpen D.tells (seen D.Disk self.old) before after → IsOpen D.tells (seen D.Disk self.new) before after }
-        ensures same { (self.new.catalogue ≡ self.old.catalogue) × (self.new.manifests ≡ self.old.manifests) × (self.new.pinned ≡ self.old.pinned) }
-        ensures shown { KeepsShown D.tells (seen D.Disk self.old) (seen D.Disk self.new) }
+        ensures same { (self.new.catalogue ≡ self.old.catalogue) × (self.new.manifests ≡ self.old.manifests) × (self.new.pinned ≡ self.old.pinned) × (self.new.limbo ≡ self.old.limbo) }
+        ensures shown { KeepsShown D.tells (seen_all D.Disk self.old) (seen_all D.Disk self.new) }
         ensures reads { OnlyReads D.tells (seen D.Disk self.old) (seen D.Disk self.new) (end_of_answer result) }
     {
         told(self.read_piece(who, pin, i))
@@ -85,7 +85,7 @@ impl<D: Disk> TierStore<D> {
     pub fn unpin(&mut self, who: u64, pin: u32) -> Answer<D::Reader>
         ensures answer { result ≡ given_up (asked who (get self.old.pinned pin)) }
         ensures pins { self.new.pinned ≡ pins_left self.old.pinned pin (asked who (get self.old.pinned pin)) }
-        ensures same { (self.new.catalogue ≡ self.old.catalogue) × (self.new.manifests ≡ self.old.manifests) × (self.new.disk ≡ self.old.disk) }
+        ensures same { (self.new.catalogue ≡ self.old.catalogue) × (self.new.manifests ≡ self.old.manifests) × (self.new.disk ≡ self.old.disk) × (self.new.limbo ≡ self.old.limbo) }
     {
         match self.pinned.drop_pin(who, pin) {
             Ok(()) => Answer::Unpinned,
@@ -95,7 +95,7 @@ impl<D: Disk> TierStore<D> {
 }
 
 // What is answered after a call of the disk.
-fn told<R: Drop>(done: Result<Answer<R>, DiskErr>) -> Answer<R>
+pub(crate) fn told<R: Drop>(done: Result<Answer<R>, DiskErr>) -> Answer<R>
     ensures { result ≡ answer_of done }
 {
     match done {

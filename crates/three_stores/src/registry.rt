@@ -2,13 +2,14 @@
 ghost use Rattle.std.specs.Prelude.{◌≡◌, ◌⊎◌, ◌<◌, ℕ, length, IsTrue, Err};
 ghost use Rattle.disk_model.specs.declared.disk.DiskErr.TheVariants.{Memory};
 ghost use Rattle.pv_catalog.specs.Catalogue.{Refuses};
+ghost use Rattle.pv_catalog.specs.Rows.{KeepsRows};
 ghost use Rattle.pv_catalog.specs.declared.error.RegisterErr.{RegisterErr};
 ghost use Rattle.pv_catalog.specs.declared.error.RegisterErr.TheVariants.{Disk as RegisterDisk};
 ghost use Rattle.three_stores.specs.Stores.{Stores};
 ghost use Rattle.three_stores.specs.Seen.{seen, IsSettled};
 ghost use Rattle.tier_store.specs.Ends.{end_of_register, end_of_switch};
 ghost use Rattle.three_stores.specs.Change.{Has, IsOpen, Changes, Acts, registering, pausing, resuming};
-ghost use Rattle.three_stores.specs.Pinned.{KeepsShown};
+ghost use Rattle.three_stores.specs.Pinned.{seen_all, KeepsShown};
 
 use crate::TierStore;
 use disk_model::Disk;
@@ -20,8 +21,10 @@ impl<D: Disk> TierStore<D> {
     fn register_row(&mut self, name: &PvName, about: &About) -> Result<u32, RegisterErr>
         requires has { (held : Stores) × Has D.tells (seen D.Disk self.old) held }
         ensures changes { Changes D.tells (registering name.now about.now) (seen D.Disk self.old) (seen D.Disk self.new) (end_of_register result) }
-        ensures shown { KeepsShown D.tells (seen D.Disk self.old) (seen D.Disk self.new) }
+        ensures shown { KeepsShown D.tells (seen_all D.Disk self.old) (seen_all D.Disk self.new) }
+        ensures keeps { KeepsRows self.old.catalogue.rows self.new.catalogue.rows }
         ensures pins { self.new.pinned ≡ self.old.pinned }
+        ensures limbo { self.new.limbo ≡ self.old.limbo }
         ensures exactly { (e : RegisterErr) → Refuses self.old.catalogue.rows name.now e → (result ≡ Err e) ⊎ (result ≡ Err (RegisterDisk Memory)) }
     {
         self.catalogue.register(&mut self.disk, name, about)
@@ -31,8 +34,10 @@ impl<D: Disk> TierStore<D> {
         requires row { row < length self.old.catalogue.rows }
         requires has { (held : Stores) × Has D.tells (seen D.Disk self.old) held }
         ensures changes { Changes D.tells (pausing row) (seen D.Disk self.old) (seen D.Disk self.new) (end_of_switch result) }
-        ensures shown { KeepsShown D.tells (seen D.Disk self.old) (seen D.Disk self.new) }
+        ensures shown { KeepsShown D.tells (seen_all D.Disk self.old) (seen_all D.Disk self.new) }
+        ensures keeps { KeepsRows self.old.catalogue.rows self.new.catalogue.rows }
         ensures pins { self.new.pinned ≡ self.old.pinned }
+        ensures limbo { self.new.limbo ≡ self.old.limbo }
     {
         self.catalogue.pause(&mut self.disk, row)
     }
@@ -41,8 +46,10 @@ impl<D: Disk> TierStore<D> {
         requires row { row < length self.old.catalogue.rows }
         requires has { (held : Stores) × Has D.tells (seen D.Disk self.old) held }
         ensures changes { Changes D.tells (resuming row) (seen D.Disk self.old) (seen D.Disk self.new) (end_of_switch result) }
-        ensures shown { KeepsShown D.tells (seen D.Disk self.old) (seen D.Disk self.new) }
+        ensures shown { KeepsShown D.tells (seen_all D.Disk self.old) (seen_all D.Disk self.new) }
+        ensures keeps { KeepsRows self.old.catalogue.rows self.new.catalogue.rows }
         ensures pins { self.new.pinned ≡ self.old.pinned }
+        ensures limbo { self.new.limbo ≡ self.old.limbo }
     {
         self.catalogue.resume(&mut self.disk, row)
     }
@@ -57,8 +64,10 @@ impl<D: Disk> TierStore<D> {
         requires begun { (before : Stores) × (after : Stores) × IsOpen D.tells (seen D.Disk self.old) before after }
 
         ensures acts { Acts D.tells (registering name.now about.now) (seen D.Disk self.old) (seen D.Disk self.new) (end_of_register result) }
-        ensures shown { KeepsShown D.tells (seen D.Disk self.old) (seen D.Disk self.new) }
+        ensures shown { KeepsShown D.tells (seen_all D.Disk self.old) (seen_all D.Disk self.new) }
+        ensures keeps { KeepsRows self.old.catalogue.rows self.new.catalogue.rows }
         ensures pins { self.new.pinned ≡ self.old.pinned }
+        ensures limbo { self.new.limbo ≡ self.old.limbo }
         ensures exactly { IsSettled (seen D.Disk self.old) → (e : RegisterErr)
             → Refuses self.old.catalogue.rows name.now e → (result ≡ Err e) ⊎ (result ≡ Err (RegisterDisk Memory)) }
     {
@@ -73,8 +82,10 @@ impl<D: Disk> TierStore<D> {
         requires begun { (before : Stores) × (after : Stores) × IsOpen D.tells (seen D.Disk self.old) before after }
 
         ensures acts { Acts D.tells (pausing row) (seen D.Disk self.old) (seen D.Disk self.new) (end_of_switch result) }
-        ensures shown { KeepsShown D.tells (seen D.Disk self.old) (seen D.Disk self.new) }
+        ensures shown { KeepsShown D.tells (seen_all D.Disk self.old) (seen_all D.Disk self.new) }
+        ensures keeps { KeepsRows self.old.catalogue.rows self.new.catalogue.rows }
         ensures pins { self.new.pinned ≡ self.old.pinned }
+        ensures limbo { self.new.limbo ≡ self.old.limbo }
     {
         self.review()?;
         self.pause_row(row)
@@ -87,8 +98,10 @@ impl<D: Disk> TierStore<D> {
         requires begun { (before : Stores) × (after : Stores) × IsOpen D.tells (seen D.Disk self.old) before after }
 
         ensures acts { Acts D.tells (resuming row) (seen D.Disk self.old) (seen D.Disk self.new) (end_of_switch result) }
-        ensures shown { KeepsShown D.tells (seen D.Disk self.old) (seen D.Disk self.new) }
+        ensures shown { KeepsShown D.tells (seen_all D.Disk self.old) (seen_all D.Disk self.new) }
+        ensures keeps { KeepsRows self.old.catalogue.rows self.new.catalogue.rows }
         ensures pins { self.new.pinned ≡ self.old.pinned }
+        ensures limbo { self.new.limbo ≡ self.old.limbo }
     {
         self.review()?;
         self.resume_row(row)

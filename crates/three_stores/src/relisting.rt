@@ -31,6 +31,7 @@ impl<D: Disk> TierStore<D> {
         ensures changes { Changes D.tells (relisting place D.tells (seen D.Disk self.old) changes.now) (seen D.Disk self.old) (seen D.Disk self.new) (end_of_disk result) }
         ensures catalogue { self.new.catalogue ≡ self.old.catalogue }
         ensures pins { self.new.pinned ≡ self.old.pinned }
+        ensures limbo { self.new.limbo ≡ self.old.limbo }
     {
         relist(&mut self.disk, &mut self.manifests[place], changes)?;
         Ok(())

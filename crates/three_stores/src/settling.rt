@@ -6,7 +6,7 @@ ghost use Rattle.tier_store.specs.Ends.{end_of_disk};
 ghost use Rattle.three_stores.specs.Stores.{Stores};
 ghost use Rattle.three_stores.specs.Seen.{seen, AtEach, IsSettled, granularities};
 ghost use Rattle.three_stores.specs.Change.{IsOpen, HasEither, OnlyReads};
-ghost use Rattle.three_stores.specs.Pinned.{KeepsShown};
+ghost use Rattle.three_stores.specs.Pinned.{seen_all, KeepsShown};
 
 use crate::TierStore;
 use disk_model::{Disk, DiskErr};
@@ -30,6 +30,7 @@ impl<D: Disk> TierStore<D> {
         ensures keeps { KeepsRows self.old.catalogue.rows self.new.catalogue.rows }
         ensures manifests { self.new.manifests.items ≡ self.old.manifests.items }
         ensures pins { self.new.pinned ≡ self.old.pinned }
+        ensures limbo { self.new.limbo ≡ self.old.limbo }
         ensures reads { OnlyReads D.tells (seen D.Disk self.old) (seen D.Disk self.new) (end_of_disk result) }
     {
         self.catalogue.review(&mut self.disk)?;
@@ -45,6 +46,7 @@ impl<D: Disk> TierStore<D> {
         ensures still { (before after : Stores) → IsOpen D.tells (seen D.Disk self.old) before after → OnErr result (IsOpen D.tells (seen D.Disk self.new) before after) }
         ensures catalogue { self.new.catalogue ≡ self.old.catalogue }
         ensures pins { self.new.pinned ≡ self.old.pinned }
+        ensures limbo { self.new.limbo ≡ self.old.limbo }
         ensures granularity { granularities self.new.manifests.items ≡ granularities self.old.manifests.items }
         ensures reads { OnlyReads D.tells (seen D.Disk self.old) (seen D.Disk self.new) (end_of_disk result) }
     {
@@ -64,8 +66,9 @@ impl<D: Disk> TierStore<D> {
         ensures keeps { KeepsRows self.old.catalogue.rows self.new.catalogue.rows }
         ensures granularity { granularities self.new.manifests.items ≡ granularities self.old.manifests.items }
         ensures rows { IsTrue self.old.catalogue.journal.sound → self.new.catalogue ≡ self.old.catalogue }
-        ensures shown { KeepsShown D.tells (seen D.Disk self.old) (seen D.Disk self.new) }
+        ensures shown { KeepsShown D.tells (seen_all D.Disk self.old) (seen_all D.Disk self.new) }
         ensures pins { self.new.pinned ≡ self.old.pinned }
+        ensures limbo { self.new.limbo ≡ self.old.limbo }
         ensures nothing { IsSettled (seen D.Disk self.old) → (result ≡ Ok tt) × (self.new ≡ self.old) }
         ensures reads { OnlyReads D.tells (seen D.Disk self.old) (seen D.Disk self.new) (end_of_disk result) }
     {

@@ -1,14 +1,15 @@
 // The stores: a disk with its catalogue and its three manifests.
-ghost use Rattle.std.specs.Prelude.{◌≡◌, ◌≤◌, ◌+◌, ℕ, length, slice_get, Some, IsTrue};
+ghost use Rattle.std.specs.Prelude.{◌≡◌, ◌≤◌, ◌+◌, ℕ, length, slice_get, Some, IsTrue, []};
 ghost use Rattle.pv_catalog.specs.Rows.{KeepsRows};
 ghost use Rattle.tier_store.specs.Flush.{CanFlush};
 ghost use Rattle.tier_store.specs.Ends.{end_of_disk};
 ghost use Rattle.three_stores.specs.Stores.{Stores};
 ghost use Rattle.three_stores.specs.Seen.{seen};
 ghost use Rattle.three_stores.specs.Change.{Has, IsOpen, Changes, Acts, flushing};
-ghost use Rattle.three_stores.specs.Pinned.{KeepsShown};
+ghost use Rattle.three_stores.specs.Pinned.{seen_all, NoneOf, KeepsShown};
 ghost use Rattle.std.specs.FinMap as map;
 
+use crate::limbo::Retired;
 use disk_model::{Disk, DiskErr};
 use pinned_pieces::PinnedPieces;
 use pv_catalog::Catalogue;
@@ -21,7 +22,7 @@ use tier_store::{flush_pieces, plan_flush};
 const SHORT: u8 = 1;
 
 /// Three stores of partition files: their disk, the catalogue of their rows, the manifests of stores 1, 2 and 3, each at the place
-/// of its number less one, and the pins of those who read them.
+/// of its number less one, the pins of those who read them, and the limbo: retired files that are still on the disk.
 #[derive(Drop)]
 pub struct TierStore<D: Disk> {
     pub(crate) alloc: Global,
@@ -29,17 +30,24 @@ pub struct TierStore<D: Disk> {
     pub(crate) catalogue: Catalogue,
     pub(crate) manifests: Vec<Manifest>,
     pub(crate) pinned: PinnedPieces,
+    pub(crate) limbo: Vec<Retired>,
 }
 
 impl<D: Disk> TierStore<D> {
-    /// The stores of a disk, with no pin, whose catalogue and whose manifests of stores 1, 2 and 3, in this order, were loaded from it.
+    /// The stores of a disk, with no pin and nothing in limbo, whose catalogue and whose manifests of stores 1, 2 and 3, in this order,
+    /// were loaded from it.
     pub fn new(
         alloc: Global,
         disk: D,
         catalogue: Catalogue,
         manifests: Vec<Manifest>,
     ) -> TierStore<D>
-        ensures { result ≡ record { alloc = alloc; disk = disk; catalogue = catalogue; manifests = manifests; pinned = map.empty } }
+        ensures alloc { result.alloc ≡ alloc }
+        ensures disk { result.disk ≡ disk }
+        ensures rows { result.catalogue ≡ catalogue }
+        ensures lists { result.manifests.items ≡ manifests.items }
+        ensures pins { result.pinned ≡ map.empty }
+        ensures limbo { result.limbo.items ≡ [] }
     {
         TierStore {
             alloc,
@@ -47,6 +55,7 @@ impl<D: Disk> TierStore<D> {
             catalogue,
             manifests,
             pinned: PinnedPieces::new(alloc),
+            limbo: Vec::new(alloc),
         }
     }
 
@@ -78,11 +87,13 @@ impl<D: Disk> TierStore<D> {
     // Flushes a batch where no change stands in doubt.
     fn flush_batch(&mut self, batch: &Batch) -> Result<u64, DiskErr>
         requires can { CanFlush self.old.catalogue.rows batch.now }
+        requires none_retired { NoneOf 1 self.old.limbo.items }
         requires has { (held : Stores) × Has D.tells (seen D.Disk self.old) held }
         ensures changes { Changes D.tells (flushing batch.now) (seen D.Disk self.old) (seen D.Disk self.new) (end_of_disk result) }
         ensures catalogue { self.new.catalogue ≡ self.old.catalogue }
-        ensures shown { KeepsShown D.tells (seen D.Disk self.old) (seen D.Disk self.new) }
+        ensures shown { KeepsShown D.tells (seen_all D.Disk self.old) (seen_all D.Disk self.new) }
         ensures pins { self.new.pinned ≡ self.old.pinned }
+        ensures limbo { self.new.limbo ≡ self.old.limbo }
     {
         let rows = self.catalogue.rows();
         let plan = plan_flush(self.alloc, rows, &self.manifests[0], batch)?;
@@ -102,17 +113,22 @@ impl<D: Disk> TierStore<D> {
     /// then each is synced, and then one commit lists all of them; so a crash at any moment of the call leaves what was held, or that
     /// with all of the batch.
     ///
+    /// It needs that limbo has no file of store 1: the batch might go to that file's partition, whose name is never made anew while it may
+    /// be pinned.
+    ///
     /// After `Fault`, which comes only where the disk's count of faults rose in the call, what was held is still held, or it isn't
     /// known whether the batch is; the next call that changes the stores finds out. After `Memory` what was held is still held.
     pub fn flush(&mut self, batch: &Batch) -> Result<u64, DiskErr>
         requires can { CanFlush self.old.catalogue.rows batch.now }
+        requires none_retired { NoneOf 1 self.old.limbo.items }
         requires begun { (before : Stores) × (after : Stores) × IsOpen D.tells (seen D.Disk self.old) before after }
 
         ensures acts { Acts D.tells (flushing batch.now) (seen D.Disk self.old) (seen D.Disk self.new) (end_of_disk result) }
         ensures keeps { KeepsRows self.old.catalogue.rows self.new.catalogue.rows }
         ensures settled { IsTrue self.old.catalogue.journal.sound → self.new.catalogue ≡ self.old.catalogue }
-        ensures shown { KeepsShown D.tells (seen D.Disk self.old) (seen D.Disk self.new) }
+        ensures shown { KeepsShown D.tells (seen_all D.Disk self.old) (seen_all D.Disk self.new) }
         ensures pins { self.new.pinned ≡ self.old.pinned }
+        ensures limbo { self.new.limbo ≡ self.old.limbo }
     {
         self.review()?;
         self.flush_batch(batch)

@@ -1,7 +1,8 @@
 use Rattle.std.proofs.Common.{refl, sym, subst}
 use Rattle.three_stores.specs.Stores.{Stores}
-use Rattle.three_stores.specs.Seen.{seen_on, seen}
+use Rattle.three_stores.specs.Seen.{seen_on}
 use Rattle.three_stores.specs.Change.{Has}
+use Rattle.three_stores.proofs.Sparing.{seen_new}
 use Rattle.three_reopen.specs.Reopen.{HasRead, Reopens, stores_of}
 use Rattle.three_reopen.proofs.Having.{has_some, has_read, reads_one, loaded_again, reopened, count_of}
 use Rattle.three_reopen.proofs.opening.reopen.Goals as goal
@@ -18,7 +19,7 @@ returns-in-Ok-clause-stands g c tells before after opens =
     let has = has_read g.D.Disk.tells gs s (g.D.Disk.files old) (g.D.Disk.past old) before after read.0 refl c.in-Ok.ensures.ready opens read.1 read.2
     (λ told. (loaded_again gs s (g.D.Disk.files old) (g.D.Disk.opened old) (g.D.Disk.past old) refl (c.load_stores.ensures.keeps told) (c.requires.unopened told) c.in-Ok.ensures.ready (c.in-Ok.ensures.stored told) (c.in-Ok.ensures.kept told) c.in-Ok.ensures.name c.in-Ok.ensures.names (c.in-Ok.ensures.said told) (c.in-Ok.ensures.there told), (c.load_stores.ensures.keeps told).passes))
     (c.in-Ok.ensures.said tells) in
-    record { held = read.0; either = read.1; read = read.2; has = subst (λ store. Has g.D.Disk.tells (seen g.D.Disk store) read.0) (sym c.new.ensures) has }
+    record { held = read.0; either = read.1; read = read.2; has = subst (λ s. Has g.D.Disk.tells s read.0) (sym (seen_new g.D.Disk c.new.result c.in-Ok.catalogue c.in-Ok.manifests.items c.load_stores.new.disk c.new.ensures.rows c.new.ensures.lists c.new.ensures.disk)) has }
 
 pub returns-in-Ok-clause-has : goal.returns-in-Ok-clause-has
 returns-in-Ok-clause-has g c =
@@ -26,11 +27,11 @@ returns-in-Ok-clause-has g c =
     let old = c.args.disk in
     let s = seen_on g.D.Disk.files g.D.Disk.opened g.D.Disk.past g.D.Disk.faults c.in-Ok.catalogue c.in-Ok.manifests.items c.load_stores.new.disk in
     let some = has_some g.D.Disk.tells gs s refl c.in-Ok.ensures.ready (count_of gs c.in-Ok.manifests.items refl c.in-Ok.ensures.ready.granularity) (λ told. loaded_again gs s (g.D.Disk.files old) (g.D.Disk.opened old) (g.D.Disk.past old) refl (c.load_stores.ensures.keeps told) (c.requires.unopened told) c.in-Ok.ensures.ready (c.in-Ok.ensures.stored told) (c.in-Ok.ensures.kept told) c.in-Ok.ensures.name c.in-Ok.ensures.names (c.in-Ok.ensures.said told) (c.in-Ok.ensures.there told)) in
-    subst (λ store. (held : Stores) × Has g.D.Disk.tells (seen g.D.Disk store) held) (sym c.new.ensures) some
+    subst (λ s. (held : Stores) × Has g.D.Disk.tells s held) (sym (seen_new g.D.Disk c.new.result c.in-Ok.catalogue c.in-Ok.manifests.items c.load_stores.new.disk c.new.ensures.rows c.new.ensures.lists c.new.ensures.disk)) some
 
 pub returns-in-Ok-clause-reopens : goal.returns-in-Ok-clause-reopens
 returns-in-Ok-clause-reopens g c tells =
-    subst (λ store. Reopens g.D.Disk (stores_of c.args.config.now) c.args.disk store.disk) (sym c.new.ensures) (reopened g.D.Disk (stores_of c.args.config.now) c.args.disk c.load_stores.new.disk refl (g.met.D.Disk.seen c.args.disk tells) (c.requires.unopened tells) (c.load_stores.ensures.keeps tells))
+    subst (λ d. Reopens g.D.Disk (stores_of c.args.config.now) c.args.disk d) (sym c.new.ensures.disk) (reopened g.D.Disk (stores_of c.args.config.now) c.args.disk c.load_stores.new.disk refl (g.met.D.Disk.seen c.args.disk tells) (c.requires.unopened tells) (c.load_stores.ensures.keeps tells))
 
 pub returns-in-Err-Disk-Fault-clause-reopens : goal.returns-in-Err-Disk-Fault-clause-reopens
 returns-in-Err-Disk-Fault-clause-reopens g c tells = reopened g.D.Disk (stores_of c.args.config.now) c.args.disk c.load_stores.new.disk refl (g.met.D.Disk.seen c.args.disk tells) (c.requires.unopened tells) (c.load_stores.ensures.keeps tells)

@@ -1,8 +1,9 @@
-use Rattle.std.proofs.Common.{Err, Result, ℕ, ◌∙◌, ap}
+use Rattle.std.proofs.Common.{Err, Result, ℕ, ◌∙◌, ap, subst, sym}
 use Rattle.std.proofs.lemmas.Result.{err_from_is_err_and}
 use Rattle.disk_model.specs.declared.disk.DiskErr.{DiskErr}
 use Rattle.tier_store.specs.Ends.{end_of_disk}
 use Rattle.three_stores.specs.Change.{flushing}
+use Rattle.three_stores.specs.Pinned.{NoneOf}
 use Rattle.tier_store.proofs.BatchCalls.{can_still}
 use Rattle.three_stores.proofs.Acting.{has_one, cut_acts, then_acts}
 use Rattle.three_stores.proofs.store.TierStore.flush.Goals as goal
@@ -12,6 +13,9 @@ flush_batch-requires-clause-can g c = can_still c.args.self.now.catalogue.rows c
 
 pub flush_batch-requires-clause-has : goal.flush_batch-requires-clause-has
 flush_batch-requires-clause-has g c = let was = c.requires.begun in has_one g.D.Disk.tells _ was.0 was.1 (c.in_ok-review.ensures.settled was.0 was.1 was.2)
+
+pub flush_batch-requires-clause-none_retired : goal.flush_batch-requires-clause-none_retired
+flush_batch-requires-clause-none_retired g c = subst (λ files. NoneOf 1 files.items) (sym c.review.ensures.limbo) c.requires.none_retired
 
 pub returns-in_err-review-clause-acts : goal.returns-in_err-review-clause-acts
 returns-in_err-review-clause-acts g c =

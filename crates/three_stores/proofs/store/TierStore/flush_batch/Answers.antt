@@ -13,7 +13,7 @@ use Rattle.three_stores.specs.Change.{Changes, flushing}
 use Rattle.three_stores.proofs.Acting.{nothing_changes}
 use Rattle.three_stores.proofs.FlushCall.{planned, to, is_stored, on_store, flush_done, flush_cut}
 use Rattle.three_stores.proofs.Places.{manifest_here, one_manifest, first_of_three}
-use Rattle.three_stores.proofs.Showing.{flush_shown, flushes_on}
+use Rattle.three_stores.proofs.Showing.{flush_shown}
 use Rattle.three_stores.proofs.store.TierStore.flush_batch.Goals as goal
 
 pub returns-in_err-plan-clause-changes : goal.returns-in_err-plan-clause-changes
@@ -95,10 +95,10 @@ pub returns-in_err-flush_pieces-clause-shown : goal.returns-in_err-flush_pieces-
 returns-in_err-flush_pieces-clause-shown g c =
     let ms = c.args.self.now.manifests.items in
     let low = first_of_three ms c.requires.has.1.known.three in
-    flush_shown g.D.Disk.tells (flushing c.args.batch.now) _ _ (end_of_disk c.from_residual-in_err-flush_pieces.result) c.requires.has (flushes_on c.args.batch.now) (returns-in_err-flush_pieces-clause-changes g c) _ c.rows-rows.ensures.value c.index_mut.result.now (manifest_here ms 0 c.index_mut.result.now c.index_mut.ensures.value low) c.flush_pieces.ensures.listed c.flush_pieces.ensures.elsewhere
+    flush_shown g.D.Disk.tells c.args.batch.now (flushing c.args.batch.now) _ _ (end_of_disk c.from_residual-in_err-flush_pieces.result) refl c.requires.none_retired c.requires.has (λ held made by. by) (returns-in_err-flush_pieces-clause-changes g c) _ c.rows-rows.ensures.value c.index_mut.result.now (manifest_here ms 0 c.index_mut.result.now c.index_mut.ensures.value low) c.flush_pieces.ensures.listed c.flush_pieces.ensures.elsewhere
 
 pub returns-clause-shown : goal.returns-clause-shown
 returns-clause-shown g c =
     let ms = c.args.self.now.manifests.items in
     let low = first_of_three ms c.requires.has.1.known.three in
-    flush_shown g.D.Disk.tells (flushing c.args.batch.now) _ _ _ c.requires.has (flushes_on c.args.batch.now) (returns-clause-changes g c) _ c.rows-rows.ensures.value c.index_mut.result.now (manifest_here ms 0 c.index_mut.result.now c.index_mut.ensures.value low) c.flush_pieces.ensures.listed c.flush_pieces.ensures.elsewhere
+    flush_shown g.D.Disk.tells c.args.batch.now (flushing c.args.batch.now) _ _ _ refl c.requires.none_retired c.requires.has (λ held made by. by) (returns-clause-changes g c) _ c.rows-rows.ensures.value c.index_mut.result.now (manifest_here ms 0 c.index_mut.result.now c.index_mut.ensures.value low) c.flush_pieces.ensures.listed c.flush_pieces.ensures.elsewhere

@@ -55,7 +55,7 @@ returns-in_err-reader-clause-kept g c held was =
     c.open_file.ensures.crash c.open_file.ensures.same (λ tells. let here : g.D.Disk.opened c.open_file.new.self c.in_ok-name.name ≡ g.D.Disk.opened self.disk c.in_ok-name.name = ap (λ (o : Name → ℕ). o c.in_ok-name.name) (c.in_err-reader.ensures.unopened tells) in omega (arith, here)) c.open_file.ensures.others
 
 pub returns-clause-shown : goal.returns-clause-shown
-returns-clause-shown g c = let self = c.args.self.now in read_shown g.D.Disk.files g.D.Disk.opened g.D.Disk.past g.D.Disk.faults g.D.Disk.tells self.catalogue self.manifests.items self.disk c.open_file.new.self c.open_file.ensures.same
+returns-clause-shown g c = let self = c.args.self.now in read_shown g.D.Disk.files g.D.Disk.opened g.D.Disk.past g.D.Disk.faults g.D.Disk.tells self.catalogue self.manifests.items self.limbo.items self.disk c.open_file.new.self c.open_file.ensures.same
 
 pub returns-in_err-reader-clause-shown : goal.returns-in_err-reader-clause-shown
-returns-in_err-reader-clause-shown g c = let self = c.args.self.now in read_shown g.D.Disk.files g.D.Disk.opened g.D.Disk.past g.D.Disk.faults g.D.Disk.tells self.catalogue self.manifests.items self.disk c.open_file.new.self c.open_file.ensures.same
+returns-in_err-reader-clause-shown g c = let self = c.args.self.now in read_shown g.D.Disk.files g.D.Disk.opened g.D.Disk.past g.D.Disk.faults g.D.Disk.tells self.catalogue self.manifests.items self.limbo.items self.disk c.open_file.new.self c.open_file.ensures.same

@@ -1,6 +1,10 @@
-use Rattle.std.proofs.Common.{sym, subst}
+use Rattle.std.proofs.Common.{ap, sym, subst}
 use Rattle.three_stores.specs.Opening.{IsOpened}
+use Rattle.three_stores.proofs.Sparing.{same_shown}
 use Rattle.three_stores.proofs.store.TierStore.open_piece.Goals as goal
 
 pub returns-clause-piece : goal.returns-clause-piece
 returns-clause-piece g c p piece granted here = subst (IsOpened g.D.Disk.tells g.D.Reader.ReadAt.tells g.D.Reader.ReadAt.bytes g.D.Reader.ReadAt.faults _ piece) (sym c.told.ensures) (c.read_piece.ensures.piece p piece granted here)
+
+pub returns-clause-shown : goal.returns-clause-shown
+returns-clause-shown g c = let same = c.read_piece.ensures.same in same_shown g.D.Disk.tells _ _ same.0 (ap (λ v. v.items) same.1) (ap (λ v. v.items) same.3) c.read_piece.ensures.reads.files

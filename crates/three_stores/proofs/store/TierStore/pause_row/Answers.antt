@@ -1,8 +1,9 @@
+use Rattle.std.proofs.Common.{refl}
 use Rattle.event_types.specs.declared.about.State.TheVariants.{Running, Paused}
 use Rattle.tier_store.specs.Ends.{end_of_switch}
 use Rattle.three_stores.specs.Change.{pausing}
 use Rattle.three_stores.proofs.RowCalls.{pause_changes}
-use Rattle.three_stores.proofs.Showing.{rows_shown, switches_on}
+use Rattle.three_stores.proofs.Showing.{rows_shown, rows_keep, switches_on}
 use Rattle.three_stores.proofs.store.TierStore.pause_row.Goals as goal
 
 pub returns-clause-changes : goal.returns-clause-changes
@@ -13,4 +14,7 @@ returns-clause-changes g c =
     says.sound says.stored says.kept says.doubt says.fault says.memory says.any_moment says.rows says.exactly says.never says.unchanged says.next
 
 pub returns-clause-shown : goal.returns-clause-shown
-returns-clause-shown g c = rows_shown g.D.Disk.tells (pausing c.args.row) _ _ (end_of_switch c.pause.result) c.requires.has (switches_on c.args.row Running Paused) (returns-clause-changes g c) c.pause.ensures.elsewhere
+returns-clause-shown g c = rows_shown g.D.Disk.tells (pausing c.args.row) _ _ (end_of_switch c.pause.result) refl c.requires.has (switches_on c.args.row Running Paused) (returns-clause-changes g c) c.pause.ensures.elsewhere
+
+pub returns-clause-keeps : goal.returns-clause-keeps
+returns-clause-keeps g c = rows_keep g.D.Disk.tells (pausing c.args.row) _ _ (end_of_switch c.pause.result) c.requires.has (switches_on c.args.row Running Paused) (returns-clause-changes g c)

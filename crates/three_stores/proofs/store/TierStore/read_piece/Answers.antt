@@ -6,6 +6,8 @@ use Rattle.std.specs.FinMap.{get}
 use Rattle.pinned_pieces.specs.Pieces.{asked}
 use Rattle.three_stores.specs.Seen.{seen_on}
 use Rattle.three_stores.specs.Opening.{IsReaderOf}
+use Rattle.three_stores.specs.Pinned.{beside}
+use Rattle.three_stores.proofs.Showing.{numbered}
 use Rattle.three_stores.proofs.OpeningPieces.{found_at, granted_shown, one_piece, some_piece, shown_long, shown_held, reader_of, piece_opened}
 use Rattle.three_stores.proofs.store.TierStore.read_piece.Goals as goal
 
@@ -31,9 +33,9 @@ returns-in_err-reader-clause-kept g c before after was =
     let self = c.args.self.now in
     let len = c.in-Some.piece.now.len in
     let shown = granted_shown g.D.Disk.tells _ self.pinned c.args.who c.args.pin c.args.i _ c.in-Some.piece.now c.requires.stand c.in-Ok.ensures.found here in
-    piece_opened g.D.Disk.files g.D.Disk.opened g.D.Disk.past g.D.Disk.faults g.D.Disk.tells self.catalogue self.manifests.items self.disk c.open_file.new.self c.in_ok-name.name len c.open_file.ensures.crash c.open_file.ensures.same
-    (λ tells. let is : g.D.Disk.opened c.open_file.new.self c.in_ok-name.name ≡ g.D.Disk.opened self.disk c.in_ok-name.name = ap (λ (o : Name → ℕ). o c.in_ok-name.name) (c.in_err-reader.ensures.unopened tells) in omega (arith, is)) c.open_file.ensures.others before after
-    (shown_held g.D.Disk.tells _ c.in-Some.piece.now c.in_ok-name.name c.in_ok-name.ensures shown) was
+    let there = shown_held g.D.Disk.tells _ c.in-Some.piece.now c.in_ok-name.name c.in_ok-name.ensures shown in
+    piece_opened g.D.Disk.files g.D.Disk.opened g.D.Disk.past g.D.Disk.faults g.D.Disk.tells self.catalogue self.manifests.items self.disk c.open_file.new.self c.in_ok-name.name len (numbered _ c.in_ok-name.name len there) c.open_file.ensures.crash c.open_file.ensures.same
+    (λ tells. let is : g.D.Disk.opened c.open_file.new.self c.in_ok-name.name ≡ g.D.Disk.opened self.disk c.in_ok-name.name = ap (λ (o : Name → ℕ). o c.in_ok-name.name) (c.in_err-reader.ensures.unopened tells) in omega (arith, is)) c.open_file.ensures.others self.limbo.items before after there was
 
 pub returns-clause-kept : goal.returns-clause-kept
 returns-clause-kept g c before after was =
@@ -41,16 +43,16 @@ returns-clause-kept g c before after was =
     let self = c.args.self.now in
     let len = c.in-Some.piece.now.len in
     let shown = granted_shown g.D.Disk.tells _ self.pinned c.args.who c.args.pin c.args.i _ c.in-Some.piece.now c.requires.stand c.in-Ok.ensures.found here in
-    piece_opened g.D.Disk.files g.D.Disk.opened g.D.Disk.past g.D.Disk.faults g.D.Disk.tells self.catalogue self.manifests.items self.disk c.open_file.new.self c.in_ok-name.name len c.open_file.ensures.crash c.open_file.ensures.same
-    (λ tells. let is : g.D.Disk.opened c.open_file.new.self c.in_ok-name.name ≡ max (g.D.Disk.opened self.disk c.in_ok-name.name) len = c.in_ok-reader.ensures.opened tells in omega (arith, is)) c.open_file.ensures.others before after
-    (shown_held g.D.Disk.tells _ c.in-Some.piece.now c.in_ok-name.name c.in_ok-name.ensures shown) was
+    let there = shown_held g.D.Disk.tells _ c.in-Some.piece.now c.in_ok-name.name c.in_ok-name.ensures shown in
+    piece_opened g.D.Disk.files g.D.Disk.opened g.D.Disk.past g.D.Disk.faults g.D.Disk.tells self.catalogue self.manifests.items self.disk c.open_file.new.self c.in_ok-name.name len (numbered _ c.in_ok-name.name len there) c.open_file.ensures.crash c.open_file.ensures.same
+    (λ tells. let is : g.D.Disk.opened c.open_file.new.self c.in_ok-name.name ≡ max (g.D.Disk.opened self.disk c.in_ok-name.name) len = c.in_ok-reader.ensures.opened tells in omega (arith, is)) c.open_file.ensures.others self.limbo.items before after there was
 
 pub returns-clause-piece : goal.returns-clause-piece
 returns-clause-piece g c p piece granted there =
     let here : slice_get c.in-Ok.pieces.now c.args.i ≡ Some c.in-Some.piece.now = found_at c.in-Ok.pieces.now c.args.i c.in-Some.piece.now c.in-Some.ensures.lookup.3.0 c.in-Some.ensures.lookup.1 in
     let same = one_piece (asked c.args.who (get c.args.self.now.pinned c.args.pin)) _ p c.args.i c.in-Some.piece.now piece c.in-Ok.ensures.found granted here there in
-    let reader = reader_of g.D.Disk.tells g.D.Reader.ReadAt.tells g.D.Reader.ReadAt.bytes g.D.Reader.ReadAt.faults (seen_on g.D.Disk.files g.D.Disk.opened g.D.Disk.past g.D.Disk.faults c.args.self.now.catalogue c.args.self.now.manifests.items c.args.self.now.disk) c.in-Some.piece.now c.in_ok-reader.reader c.in_ok-name.name c.in_ok-name.ensures c.in_ok-reader.ensures.fresh c.in_ok-reader.ensures.reader in (
-      subst (λ (x : PinnedFile). IsReaderOf g.D.Disk.tells g.D.Reader.ReadAt.tells g.D.Reader.ReadAt.bytes g.D.Reader.ReadAt.faults (seen_on g.D.Disk.files g.D.Disk.opened g.D.Disk.past g.D.Disk.faults c.args.self.now.catalogue c.args.self.now.manifests.items c.args.self.now.disk) x c.in_ok-reader.reader) same reader,
+    let reader = reader_of g.D.Disk.tells g.D.Reader.ReadAt.tells g.D.Reader.ReadAt.bytes g.D.Reader.ReadAt.faults (beside (seen_on g.D.Disk.files g.D.Disk.opened g.D.Disk.past g.D.Disk.faults c.args.self.now.catalogue c.args.self.now.manifests.items c.args.self.now.disk) c.args.self.now.limbo.items) c.in-Some.piece.now c.in_ok-reader.reader c.in_ok-name.name c.in_ok-name.ensures c.in_ok-reader.ensures.fresh c.in_ok-reader.ensures.reader in (
+      subst (λ (x : PinnedFile). IsReaderOf g.D.Disk.tells g.D.Reader.ReadAt.tells g.D.Reader.ReadAt.bytes g.D.Reader.ReadAt.faults (beside (seen_on g.D.Disk.files g.D.Disk.opened g.D.Disk.past g.D.Disk.faults c.args.self.now.catalogue c.args.self.now.manifests.items c.args.self.now.disk) c.args.self.now.limbo.items) x c.in_ok-reader.reader) same reader,
       c.in_ok-name.ensures ∙ ap (λ (x : PinnedFile). x.name) same,
       ap (λ (x : PinnedFile). x.head_len) same,
       ap (λ (x : PinnedFile). x.len) same,

@@ -1,7 +1,8 @@
+use Rattle.std.proofs.Common.{refl}
 use Rattle.tier_store.specs.Ends.{end_of_register}
 use Rattle.three_stores.specs.Change.{registering}
 use Rattle.three_stores.proofs.RowCalls.{register_changes}
-use Rattle.three_stores.proofs.Showing.{rows_shown, registers_on}
+use Rattle.three_stores.proofs.Showing.{rows_shown, rows_keep, registers_on}
 use Rattle.three_stores.proofs.store.TierStore.register_row.Goals as goal
 
 pub returns-clause-changes : goal.returns-clause-changes
@@ -12,4 +13,7 @@ returns-clause-changes g c =
     says.name says.any_moment says.elsewhere says.opened says.faults says.id says.rows says.sound says.stored says.refusal says.exactly says.unchanged says.kept says.doubt says.next says.fault says.memory
 
 pub returns-clause-shown : goal.returns-clause-shown
-returns-clause-shown g c = rows_shown g.D.Disk.tells (registering c.args.name.now c.args.about.now) _ _ (end_of_register c.register.result) c.requires.has (registers_on c.args.name.now c.args.about.now) (returns-clause-changes g c) c.register.ensures.elsewhere
+returns-clause-shown g c = rows_shown g.D.Disk.tells (registering c.args.name.now c.args.about.now) _ _ (end_of_register c.register.result) refl c.requires.has (registers_on c.args.name.now c.args.about.now) (returns-clause-changes g c) c.register.ensures.elsewhere
+
+pub returns-clause-keeps : goal.returns-clause-keeps
+returns-clause-keeps g c = rows_keep g.D.Disk.tells (registering c.args.name.now c.args.about.now) _ _ (end_of_register c.register.result) c.requires.has (registers_on c.args.name.now c.args.about.now) (returns-clause-changes g c)

@@ -1,8 +1,9 @@
+use Rattle.std.proofs.Common.{refl}
 use Rattle.event_types.specs.declared.about.State.TheVariants.{Running, Paused}
 use Rattle.tier_store.specs.Ends.{end_of_switch}
 use Rattle.three_stores.specs.Change.{resuming}
 use Rattle.three_stores.proofs.RowCalls.{resume_changes}
-use Rattle.three_stores.proofs.Showing.{rows_shown, switches_on}
+use Rattle.three_stores.proofs.Showing.{rows_shown, rows_keep, switches_on}
 use Rattle.three_stores.proofs.store.TierStore.resume_row.Goals as goal
 
 pub returns-clause-changes : goal.returns-clause-changes
@@ -13,4 +14,7 @@ returns-clause-changes g c =
     says.sound says.stored says.kept says.doubt says.fault says.memory says.any_moment says.rows says.exactly says.never says.unchanged says.next
 
 pub returns-clause-shown : goal.returns-clause-shown
-returns-clause-shown g c = rows_shown g.D.Disk.tells (resuming c.args.row) _ _ (end_of_switch c.resume.result) c.requires.has (switches_on c.args.row Paused Running) (returns-clause-changes g c) c.resume.ensures.elsewhere
+returns-clause-shown g c = rows_shown g.D.Disk.tells (resuming c.args.row) _ _ (end_of_switch c.resume.result) refl c.requires.has (switches_on c.args.row Paused Running) (returns-clause-changes g c) c.resume.ensures.elsewhere
+
+pub returns-clause-keeps : goal.returns-clause-keeps
+returns-clause-keeps g c = rows_keep g.D.Disk.tells (resuming c.args.row) _ _ (end_of_switch c.resume.result) c.requires.has (switches_on c.args.row Paused Running) (returns-clause-changes g c)

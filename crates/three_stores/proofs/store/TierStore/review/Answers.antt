@@ -1,4 +1,4 @@
-use Rattle.std.proofs.Common.{sym, subst}
+use Rattle.std.proofs.Common.{ap, sym, subst}
 use Rattle.pv_catalog.specs.Catalogue.{CatalogueState}
 use Rattle.pv_catalog.specs.Rows.{KeepsRows}
 use Rattle.pv_catalog.proofs.Standing.{keeps_same}
@@ -10,10 +10,10 @@ pub returns-in-Some-clause-nothing : goal.returns-in-Some-clause-nothing
 returns-in-Some-clause-nothing g c settled = absurd (none_doubted c.args.self.now.manifests.items c.deref.result.now c.in-Some.i c.deref.ensures.value c.in-Some.ensures.found settled.manifests)
 
 pub returns-then-not-is_sound-clause-shown : goal.returns-then-not-is_sound-clause-shown
-returns-then-not-is_sound-clause-shown g c = review_shown g.D.Disk.tells _ _ c.settle_rows.result c.requires.begun c.settle_rows.ensures.settled c.settle_rows.ensures.still c.settle_rows.ensures.reads.files
+returns-then-not-is_sound-clause-shown g c = review_shown g.D.Disk.tells _ _ c.settle_rows.result (ap (λ v. v.items) c.settle_rows.ensures.limbo) c.requires.begun c.settle_rows.ensures.settled c.settle_rows.ensures.still c.settle_rows.ensures.reads.files
 
 pub returns-in-Some-clause-keeps : goal.returns-in-Some-clause-keeps
 returns-in-Some-clause-keeps g c = subst (λ (s : CatalogueState). KeepsRows c.args.self.now.catalogue.rows s.rows) (sym c.settle_list.ensures.catalogue) (keeps_same c.args.self.now.catalogue.rows)
 
 pub returns-in-Some-clause-shown : goal.returns-in-Some-clause-shown
-returns-in-Some-clause-shown g c = review_shown g.D.Disk.tells _ _ c.settle_list.result c.requires.begun c.settle_list.ensures.settled c.settle_list.ensures.still c.settle_list.ensures.reads.files
+returns-in-Some-clause-shown g c = review_shown g.D.Disk.tells _ _ c.settle_list.result (ap (λ v. v.items) c.settle_list.ensures.limbo) c.requires.begun c.settle_list.ensures.settled c.settle_list.ensures.still c.settle_list.ensures.reads.files
