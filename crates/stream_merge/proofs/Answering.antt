@@ -23,7 +23,7 @@ all_rise : (ty : PayloadType) (ps : List NamedBytes) (lists : List (List Sample)
 all_rise ty [] [] are = tt
 all_rise ty [] (xs ∷ lists) are = absurd are
 all_rise ty (p ∷ ps) [] are = absurd are
-all_rise ty (p ∷ ps) (xs ∷ lists) are = (are.0.rising, all_rise ty ps lists are.1)
+all_rise ty (p ∷ ps) (xs ∷ lists) are = (are.0.file.rising, all_rise ty ps lists are.1)
 
 over_flat : (lists : List (List Sample)) (a b tail : List Sample) → IsRising b → b ≡ taken a → AllByRecursion IsRising lists → IsRising tail → taken (a ++ (flat lists ++ tail)) ≡ over (over_each b lists) tail
 over_flat [] a b tail rises is all last = taken_over a tail last ∙ ap (λ (x : List Sample). over x tail) (sym is)
@@ -37,7 +37,7 @@ whole ty ps lists tail q are last = ap (λ (x : List Sample). answer x q) (sym (
 
 -- ONE STEP
 
-no_before : (from n : ℕ) (xs : List Sample) → RisesFrom n xs → from ≤ n → before from xs ≡ []
+pub no_before : (from n : ℕ) (xs : List Sample) → RisesFrom n xs → from ≤ n → before from xs ≡ []
 no_before from n [] rises low = refl
 no_before from n (x ∷ xs) rises low =
     let first : n ≤ x.t = rises.0 in

@@ -1,10 +1,13 @@
 -- What is yet to come, from one read to the next.
 use Rattle.std.proofs.Common.{◌≡◌, ◌⊎◌, ℕ, ◌+◌, ◌*◌, ◌^◌, ◌≤◌, ◌<◌, inl, inr, List, [], ◌∷◌, ◌++◌, Option, None, Some, Result, Err, length, take, drop, refl, sym, ap, ◌∙◌, subst, arith, append_assoc}
 use Rattle.std.specs.List.{flat_map, Contains}
+use Rattle.std.specs.Int.Digits.{digits_of}
+use Rattle.std.proofs.lemmas.Int.Digits.{number_digits_of, number_lt, all_below_base_digits_of}
 use Rattle.std.proofs.lemmas.List.{take-append-drop}
 use Rattle.std.proofs.lemmas.List.Elements.{Contains-append_left, Contains-append_right, Contains-push}
 use Rattle.disk_model.specs.Files.{Name, Rose}
 use Rattle.series_model.specs.declared.sample.Sample.{Sample}
+use Rattle.series_model.specs.declared.sample.Query.{Query}
 use Rattle.pb_wire.specs.declared.payload.PayloadType.{PayloadType}
 use Rattle.pb_lines.proofs.FileLines.{all_rest}
 use Rattle.stream_merge.specs.declared.pieces.Merged.{Merged}
@@ -13,7 +16,9 @@ use Rattle.stream_merge.specs.declared.source.OpenPiece.{OpenPiece}
 use Rattle.stream_merge.specs.declared.source.Source.{Source}
 use Rattle.stream_merge.specs.Pieces.{NamedBytes}
 use Rattle.stream_merge.specs.Reading.{IsSampleOf, AreSamplesOf, IsReadAs, AreReadAs, IsBadFor, IsDamaged}
-use Rattle.stream_merge.specs.Source.{open_pieces, IsOpenAs, ReadsOpen, Coming, StillComing, Pulls, Passes, OpensOn, HasFailedNow, HasRisen, HasFailed, Grew, IsGiven, unread, unread_in}
+use Rattle.stream_merge.specs.Beginning.{early_count, IsPlaced, AnswersAs}
+use Rattle.stream_merge.specs.Source.{open_pieces, IsOpenAs, BeginsAs, ReadsOpen, Coming, StillComing, search_steps, HasTaken, TakesFew, Pulls, PullsLine, PullsEnd, Passes, OpensOn, HasFailedNow, HasRisen, HasFailed, Grew, IsFailure, IsGiven, unread, unread_in}
+use Rattle.stream_merge.proofs.Leaving.{answers_on, answers_same, placed_rest, placed_none, early_cons, early_one}
 
 abbrev flat : List (List Sample) → List Sample
 flat lists = flat_map (λ (l : List Sample). l) lists
@@ -21,9 +26,9 @@ flat lists = flat_map (λ (l : List Sample). l) lists
 -- THE LISTS
 
 -- the open piece came to its end
-pub ended : {R : Type 0} (bytes : R → List ℕ) (s : Source R) (o : Option (OpenPiece R)) (ps : List NamedBytes) (xs : List Sample) → o ≡ None → ((ys : List Sample) → IsOpenAs bytes s.ty s.piece ys → ys ≡ []) → Coming bytes s ps xs → Coming bytes (record s { piece = o }) ps xs
+pub ended : {R : Type 0} (bytes : R → List ℕ) (s : Source R) (o : Option (OpenPiece R)) (ps : List NamedBytes) (xs : List Sample) → o ≡ None → ((ys : List Sample) → IsOpenAs bytes s.piece ys → ys ≡ []) → Coming bytes s ps xs → Coming bytes (record s { piece = o }) ps xs
 ended {R} bytes s o ps xs none end c =
-    let P : Option (OpenPiece R) → Type 0 = λ x. IsOpenAs bytes s.ty x [] in
+    let P : Option (OpenPiece R) → Type 0 = λ x. IsOpenAs bytes x [] in
     record {
       here = [];
       lists = c.lists;
@@ -38,7 +43,7 @@ IsLeft ty ps d xs = (lists : List (List Sample)) × AreReadAs ty ps lists × (xs
 
 is_left : {R : Type 0} (bytes : R → List ℕ) (s : Source R) (ps : List NamedBytes) (xs : List Sample) → s.piece ≡ None → Coming bytes s ps xs → IsLeft s.ty ps (drop s.at s.tail.items) xs
 is_left {R} bytes s ps xs none c =
-    let P : Option (OpenPiece R) → Type 0 = λ x. IsOpenAs bytes s.ty x c.here in
+    let P : Option (OpenPiece R) → Type 0 = λ x. IsOpenAs bytes x c.here in
     let empty : c.here ≡ [] = subst P none c.begins in
     (c.lists, c.are_left, c.all ∙ ap (λ (l : List Sample). l ++ (flat c.lists ++ drop s.at s.tail.items)) empty)
 
@@ -51,15 +56,6 @@ none_of : (ty : PayloadType) (d xs : List Sample) → IsLeft ty [] d xs → xs �
 none_of ty d xs ([], are, is) = is
 none_of ty d xs (ys ∷ lists, are, is) = absurd are
 
--- the next piece was opened
-pub opened : {R : Type 0} (bytes : R → List ℕ) (s : Source R) (p : OpenPiece R) (ps rest : List NamedBytes) (n : NamedBytes) (xs : List Sample) → s.piece ≡ None → ps ≡ n ∷ rest → ((ys : List Sample) → IsReadAs s.ty n.bytes ys → IsOpenAs bytes s.ty (Some p) ys) → Coming bytes s ps xs
-    → Coming bytes (record s { piece = Some p }) rest xs
-opened {R} bytes s p ps rest n xs none is begins c =
-    let d = drop s.at s.tail.items in
-    let L : List NamedBytes → Type 0 = λ l. IsLeft s.ty l d xs in
-    let f = first_of s.ty n rest d xs (subst L is (is_left bytes s ps xs none c)) in
-    record { here = f.0; lists = f.1; begins = begins f.0 f.2; are_left = f.3; all = f.4 }
-
 -- none was left: the tail is
 pub tail_left : {R : Type 0} (bytes : R → List ℕ) (s : Source R) (ps : List NamedBytes) (xs : List Sample) → s.piece ≡ None → ps ≡ [] → Coming bytes s ps xs → xs ≡ drop s.at s.tail.items
 tail_left {R} bytes s ps xs none is c =
@@ -69,35 +65,199 @@ tail_left {R} bytes s ps xs none is c =
 
 pub only_tail : {R : Type 0} (bytes : R → List ℕ) (left : List NamedBytes → Type 0) (s : Source R) → s.piece ≡ None → left [] → StillComing bytes left s (drop s.at s.tail.items)
 only_tail {R} bytes left s none is =
-    let P : Option (OpenPiece R) → Type 0 = λ x. IsOpenAs bytes s.ty x [] in
+    let P : Option (OpenPiece R) → Type 0 = λ x. IsOpenAs bytes x [] in
     record { pieces = []; left_is = is; coming = record { here = []; lists = []; begins = subst P (sym none) refl; are_left = tt; all = refl } }
 
+-- THE STEPS
+
+-- a number is below the power of two of its binary digits
+below_power : (n : ℕ) → n < 2 ^ length (digits_of 2 n)
+below_power n =
+    let two : 2 ≤ 2 = omega arith in
+    let P : ℕ → Type 0 = λ m. m < 2 ^ length (digits_of 2 n) in
+    subst P (number_digits_of 2 n two) (number_lt 2 (digits_of 2 n) (all_below_base_digits_of 2 n two))
+
+search_steps-append : (xs ys : List NamedBytes) → search_steps (xs ++ ys) ≡ search_steps xs + search_steps ys
+search_steps-append [] ys = omega arith
+search_steps-append (x ∷ xs) ys = omega (arith, search_steps-append xs ys)
+
+pub takes_none : (pieces : List NamedBytes) (room steps : ℕ) → steps ≤ room → HasTaken pieces pieces room steps
+takes_none pieces room steps few = record { opened = []; are = refl; few = omega (arith, few) }
+
+pub takes_more : (pieces left : List NamedBytes) (room room₂ steps steps₂ : ℕ) → HasTaken pieces left room steps → (room + steps₂ ≤ room₂ + steps) → HasTaken pieces left room₂ steps₂
+takes_more pieces left room room₂ steps steps₂ taken more = record { opened = taken.opened; are = taken.are; few = omega (arith, taken.few, more) }
+
+pub takes_on : (pieces middle left : List NamedBytes) (room steps steps₂ : ℕ) → HasTaken pieces middle room steps → HasTaken middle left steps steps₂ → HasTaken pieces left room steps₂
+takes_on pieces middle left room steps steps₂ one two = record {
+  opened = one.opened ++ two.opened;
+  are = one.are ∙ ap (λ (l : List NamedBytes). one.opened ++ l) two.are ∙ sym (append_assoc one.opened two.opened left);
+  few = omega (arith, one.few, two.few, search_steps-append one.opened two.opened);
+}
+
+pub takes_at : (pieces left left₂ : List NamedBytes) (room steps : ℕ) → left ≡ left₂ → HasTaken pieces left room steps → HasTaken pieces left₂ room steps
+takes_at pieces left left₂ room steps is taken = let P : List NamedBytes → Type 0 = λ l. HasTaken pieces l room steps in subst P is taken
+
+-- a piece was opened, and the place found where it begins
+pub opens_one : (n : NamedBytes) (left : List NamedBytes) (len steps steps₂ : ℕ) → length n.bytes ≡ len → ((d : ℕ) → len < 2 ^ d → steps₂ ≤ steps + 4 * d + 5) → HasTaken (n ∷ left) left steps (steps₂ + 1)
+opens_one n left len steps steps₂ size few =
+    let d = length (digits_of 2 (length n.bytes)) in
+    let P : ℕ → Type 0 = λ m. m < 2 ^ d in
+    record { opened = n ∷ []; are = refl; few = omega (arith, few d (subst P size (below_power (length n.bytes)))) }
+
+-- WHAT WAS READ
+
+-- what is to come still answers as what was, and there is room for the steps
+pub record Proceeds {R : Type 0} (bytes : R → List ℕ) (left : List NamedBytes → Type 0) (n : ℕ) (q : Query) (pieces : List NamedBytes) (xs : List Sample) (room : ℕ) (s : Source R) (steps : ℕ) : Type 0 where
+  pub coming : List Sample
+  pub same : AnswersAs n q xs coming
+  pub still : StillComing bytes left s coming
+  pub placed : IsPlaced n q.from still.coming.here
+  pub taken : HasTaken pieces still.pieces room (steps + early_count q.from still.coming.here)
+
+pub proceeds_first : {R : Type 0} (bytes : R → List ℕ) (left : List NamedBytes → Type 0) (n : ℕ) (q : Query) (ps : List NamedBytes) (xs : List Sample) (s : Source R) (steps : ℕ) → left ps → (c : Coming bytes s ps xs) → IsPlaced n q.from c.here → Proceeds bytes left n q ps xs (steps + early_count q.from c.here) s steps
+proceeds_first {R} bytes left n q ps xs s steps is c placed = record {
+  coming = xs;
+  same = answers_same n q xs xs refl;
+  still = record { pieces = ps; left_is = is; coming = c };
+  placed = placed;
+  taken = takes_none ps (steps + early_count q.from c.here) (steps + early_count q.from c.here) (omega arith);
+}
+
+-- the open piece came to its end
+pub proceeds_ended : {R : Type 0} (bytes : R → List ℕ) (left : List NamedBytes → Type 0) (n : ℕ) (q : Query) (ps : List NamedBytes) (xs : List Sample) (room : ℕ) (s : Source R) (o : Option (OpenPiece R)) (steps steps₂ : ℕ) → o ≡ None → ((ys : List Sample) → IsOpenAs bytes s.piece ys → ys ≡ []) → steps₂ ≡ steps
+    → Proceeds bytes left n q ps xs room s steps → Proceeds bytes left n q ps xs room (record s { piece = o }) steps₂
+unfolding ended
+proceeds_ended {R} bytes left n q ps xs room s o steps steps₂ none end same p = record {
+  coming = p.coming;
+  same = p.same;
+  still = record { pieces = p.still.pieces; left_is = p.still.left_is; coming = ended bytes s o p.still.pieces p.coming none end p.still.coming };
+  placed = placed_none n q.from;
+  taken = takes_more ps p.still.pieces room room (steps + early_count q.from p.still.coming.here) (steps₂ + 0) p.taken (omega (arith, same));
+}
+
+pub proceeds_at : {R : Type 0} (bytes : R → List ℕ) (left : List NamedBytes → Type 0) (n : ℕ) (q : Query) (ps : List NamedBytes) (xs : List Sample) (room : ℕ) (s s₂ : Source R) (steps : ℕ) → s₂ ≡ s → Proceeds bytes left n q ps xs room s steps → Proceeds bytes left n q ps xs room s₂ steps
+proceeds_at {R} bytes left n q ps xs room s s₂ steps is p = let P : Source R → Type 0 = λ x. Proceeds bytes left n q ps xs room x steps in subst P (sym is) p
+
+-- the next piece was opened
+pub proceeds_opened : {R : Type 0} (bytes : R → List ℕ) (left left₂ : List NamedBytes → Type 0) (n : ℕ) (q : Query) (ps : List NamedBytes) (xs : List Sample) (room : ℕ) (s : Source R) (p : OpenPiece R) (m : NamedBytes) (rest : List NamedBytes) (len steps steps₂ : ℕ) → s.piece ≡ None → (a : Proceeds bytes left n q ps xs room s steps)
+    → a.still.pieces ≡ m ∷ rest → left₂ rest → ((ys : List Sample) → IsReadAs s.ty m.bytes ys → BeginsAs bytes n q p ys) → length m.bytes ≡ len → ((d : ℕ) → len < 2 ^ d → steps₂ ≤ steps + 4 * d + 5) → Proceeds bytes left₂ n q ps xs room (record s { piece = Some p }) steps₂
+proceeds_opened {R} bytes left left₂ n q ps xs room s p m rest len steps steps₂ none a is left_is begins size few =
+    let d = drop s.at s.tail.items in
+    let L : List NamedBytes → Type 0 = λ l. IsLeft s.ty l d a.coming in
+    let f = first_of s.ty m rest d a.coming (subst L is (is_left bytes s a.still.pieces a.coming none a.still.coming)) in
+    let b = begins f.0 f.2 in
+    let more = flat f.1 ++ d in
+    let now = b.here ++ more in
+    let before = takes_at ps a.still.pieces (m ∷ rest) room (steps + early_count q.from a.still.coming.here) is a.taken in
+    let there = takes_more ps (m ∷ rest) room room (steps + early_count q.from a.still.coming.here) steps before (omega arith) in
+    record {
+      coming = now;
+      same = answers_on n q xs a.coming now a.same (answers_on n q a.coming (f.0 ++ more) now (answers_same n q a.coming (f.0 ++ more) f.4) (b.same more));
+      still = record { pieces = rest; left_is = left_is; coming = record { here = b.here; lists = f.1; begins = b.gives; are_left = f.3; all = refl } };
+      placed = b.placed;
+      taken = takes_more ps rest room room (steps₂ + 1) (steps₂ + early_count q.from b.here) (takes_on ps (m ∷ rest) rest room steps (steps₂ + 1) there (opens_one m rest len steps steps₂ size few)) (omega (arith, b.placed.1));
+    }
+
+-- the next piece was opened, and then a call failed
+pub fails_opened : {R : Type 0} (bytes : R → List ℕ) (left left₂ : List NamedBytes → Type 0) (n : ℕ) (q : Query) (ps : List NamedBytes) (xs : List Sample) (room : ℕ) (s : Source R) (m : NamedBytes) (rest : List NamedBytes) (len steps steps₂ : ℕ) → (a : Proceeds bytes left n q ps xs room s steps) → a.still.pieces ≡ m ∷ rest → left₂ rest → length m.bytes ≡ len
+    → ((d : ℕ) → len < 2 ^ d → steps₂ ≤ steps + 4 * d + 5) → TakesFew left₂ ps (room + 1) steps₂
+fails_opened {R} bytes left left₂ n q ps xs room s m rest len steps steps₂ a is left_is size few =
+    let before = takes_at ps a.still.pieces (m ∷ rest) room (steps + early_count q.from a.still.coming.here) is a.taken in
+    let there = takes_more ps (m ∷ rest) room room (steps + early_count q.from a.still.coming.here) steps before (omega arith) in
+    record { rest = rest; left_is = left_is; taken = takes_more ps rest room (room + 1) (steps₂ + 1) steps₂ (takes_on ps (m ∷ rest) rest room steps (steps₂ + 1) there (opens_one m rest len steps steps₂ size few)) (omega arith) }
+
+-- nothing was opened
+pub fails_there : {R : Type 0} (bytes : R → List ℕ) (left left₂ : List NamedBytes → Type 0) (n : ℕ) (q : Query) (ps : List NamedBytes) (xs : List Sample) (room : ℕ) (s : Source R) (steps : ℕ) → (a : Proceeds bytes left n q ps xs room s steps) → left₂ a.still.pieces → TakesFew left₂ ps (room + 1) steps
+fails_there {R} bytes left left₂ n q ps xs room s steps a is = record { rest = a.still.pieces; left_is = is; taken = takes_more ps a.still.pieces room (room + 1) (steps + early_count q.from a.still.coming.here) steps a.taken (omega arith) }
+
+-- a failure says nothing but that
+pub pulls_failed : {R : Type 0} (bytes : R → List ℕ) (left : List NamedBytes → Type 0) (n : ℕ) (q : Query) (ps : List NamedBytes) (xs : List Sample) (room : ℕ) (s : Source R) (line : List ℕ) (steps : ℕ) (r : Merged R) → IsFailure r → TakesFew left ps (room + 1) steps → Pulls bytes left n q ps xs room s line steps r
+pulls_failed {R} bytes left n q ps xs room s line steps (Line t) is few = absurd is
+pulls_failed {R} bytes left n q ps xs room s line steps End is few = absurd is
+pulls_failed {R} bytes left n q ps xs room s line steps (ReadFault failed) is few = few
+pulls_failed {R} bytes left n q ps xs room s line steps (Damaged name at) is few = few
+pulls_failed {R} bytes left n q ps xs room s line steps Spent is few = few
+pulls_failed {R} bytes left n q ps xs room s line steps Memory is few = few
+
+-- so these are to come, none of a piece
+abbrev EndsWith : {R : Type 0} → (R → List ℕ) → (List NamedBytes → Type 0) → ℕ → Query → List NamedBytes → ℕ → ℕ → Source R → List Sample → Type 0
+EndsWith {R} bytes left n q pieces room steps s l = (still : StillComing bytes left s l) × IsPlaced n q.from still.coming.here × HasTaken pieces still.pieces room (steps + early_count q.from still.coming.here)
+
 -- what the tail gave
-pub pulls_tail : {R : Type 0} (bytes : R → List ℕ) (left : List NamedBytes → Type 0) (old new : Source R) (ps : List NamedBytes) (xs : List Sample) (line : List ℕ) (r : Merged R) → old.piece ≡ None → new.piece ≡ None → ps ≡ [] → left [] → Coming bytes old ps xs
-    → ((t : ℕ) → r ≡ Line t → drop old.at old.tail.items ≡ record { t = t; line = line } ∷ drop new.at new.tail.items) → (r ≡ End → (drop old.at old.tail.items ≡ []) × (new ≡ old)) → Pulls bytes left new xs line r
-pulls_tail {R} bytes left old new ps xs line (Line t) none none₂ is left_is c gives end = (drop new.at new.tail.items, tail_left bytes old ps xs none is c ∙ gives t refl, only_tail bytes left new none₂ left_is)
-pulls_tail {R} bytes left old new ps xs line End none none₂ is left_is c gives end =
-    let over = end refl in
-    let P : List Sample → Type 0 = λ l. StillComing bytes left new l in
-    (tail_left bytes old ps xs none is c ∙ over.0, subst P (ap (λ (x : Source R). drop x.at x.tail.items) over.1 ∙ over.0) (only_tail bytes left new none₂ left_is))
-pulls_tail {R} bytes left old new ps xs line (ReadFault failed) none none₂ is left_is c gives end = tt
-pulls_tail {R} bytes left old new ps xs line (Damaged name at) none none₂ is left_is c gives end = tt
-pulls_tail {R} bytes left old new ps xs line Spent none none₂ is left_is c gives end = tt
-pulls_tail {R} bytes left old new ps xs line Memory none none₂ is left_is c gives end = tt
+pub pulls_tail : {R : Type 0} (bytes : R → List ℕ) (left left₂ : List NamedBytes → Type 0) (n : ℕ) (q : Query) (ps : List NamedBytes) (xs : List Sample) (room : ℕ) (old new : Source R) (steps : ℕ) (line : List ℕ) (r : Merged R) → (a : Proceeds bytes left n q ps xs room old steps) → old.piece ≡ None → new.piece ≡ None → a.still.pieces ≡ [] → left₂ []
+    → ((t : ℕ) → r ≡ Line t → drop old.at old.tail.items ≡ record { t = t; line = line } ∷ drop new.at new.tail.items) → (r ≡ End → (drop old.at old.tail.items ≡ []) × (new ≡ old)) → Pulls bytes left₂ n q ps xs room new line steps r
+unfolding only_tail
+pulls_tail {R} bytes left left₂ n q ps xs room old new steps line r a none none₂ is left_is gives end = by_answer r gives end
+  where
+    there : HasTaken ps [] room steps
+    there = takes_more ps [] room room (steps + early_count q.from a.still.coming.here) steps (takes_at ps a.still.pieces [] room (steps + early_count q.from a.still.coming.here) is a.taken) (omega arith)
+
+    all : AnswersAs n q xs (drop old.at old.tail.items)
+    all = answers_on n q xs a.coming (drop old.at old.tail.items) a.same (answers_same n q a.coming (drop old.at old.tail.items) (tail_left bytes old a.still.pieces a.coming none is a.still.coming))
+
+    few : TakesFew left₂ ps (room + 1) steps
+    few = record { rest = []; left_is = left_is; taken = takes_more ps [] room (room + 1) steps steps there (omega arith) }
+
+    by_answer : (r : Merged R) → ((t : ℕ) → r ≡ Line t → drop old.at old.tail.items ≡ record { t = t; line = line } ∷ drop new.at new.tail.items) → (r ≡ End → (drop old.at old.tail.items ≡ []) × (new ≡ old)) → Pulls bytes left₂ n q ps xs room new line steps r
+    by_answer (Line t) gives end =
+        let s : Sample = record { t = t; line = line } in
+        let more = drop new.at new.tail.items in
+        record {
+          rest = more;
+          same = answers_on n q xs (drop old.at old.tail.items) (s ∷ more) all (answers_same n q (drop old.at old.tail.items) (s ∷ more) (gives t refl));
+          still = only_tail bytes left₂ new none₂ left_is;
+          placed = placed_none n q.from;
+          later = placed_none (t + 1) q.from;
+          taken = takes_more ps [] room (room + 1) steps (steps + 0) there (omega arith);
+          free = λ which. takes_more ps [] room room steps (steps + 0) there (omega arith);
+        }
+    by_answer End gives end =
+        let over = end refl in
+        let P : List Sample → Type 0 = λ l. EndsWith bytes left₂ n q ps room steps new l in
+        let tail : EndsWith bytes left₂ n q ps room steps new (drop new.at new.tail.items) = (only_tail bytes left₂ new none₂ left_is, placed_none n q.from, takes_more ps [] room room steps (steps + 0) there (omega arith)) in
+        let ends = subst P (ap (λ (x : Source R). drop x.at x.tail.items) over.1 ∙ over.0) tail in
+        record {
+          same = answers_on n q xs (drop old.at old.tail.items) [] all (answers_same n q (drop old.at old.tail.items) [] over.0);
+          still = ends.0;
+          placed = ends.1;
+          taken = ends.2;
+        }
+    by_answer (ReadFault failed) gives end = few
+    by_answer (Damaged name at) gives end = few
+    by_answer Spent gives end = few
+    by_answer Memory gives end = few
 
 -- what the open piece gave
-pub pulls_open : {R : Type 0} (bytes : R → List ℕ) (left : List NamedBytes → Type 0) (s : Source R) (o : Option (OpenPiece R)) (xs : List Sample) (line : List ℕ) (r : Merged R) → StillComing bytes left s xs → ((ys : List Sample) → IsOpenAs bytes s.ty s.piece ys → ReadsOpen bytes s.ty o ys line r) → (r ≡ End → ⊥)
-    → Pulls bytes left (record s { piece = o }) xs line r
-pulls_open {R} bytes left s o xs line (Line t) still reads more =
-    let c = still.coming in
-    let d = flat c.lists ++ drop s.at s.tail.items in
-    let read = reads c.here c.begins in
-    (read.0 ++ d, c.all ∙ ap (λ (l : List Sample). l ++ d) read.1, record { pieces = still.pieces; left_is = still.left_is; coming = record { here = read.0; lists = c.lists; begins = read.2; are_left = c.are_left; all = refl } })
-pulls_open {R} bytes left s o xs line End still reads more = absurd (more refl)
-pulls_open {R} bytes left s o xs line (ReadFault failed) still reads more = tt
-pulls_open {R} bytes left s o xs line (Damaged name at) still reads more = tt
-pulls_open {R} bytes left s o xs line Spent still reads more = tt
-pulls_open {R} bytes left s o xs line Memory still reads more = tt
+pub pulls_open : {R : Type 0} (bytes : R → List ℕ) (left : List NamedBytes → Type 0) (n : ℕ) (q : Query) (ps : List NamedBytes) (xs : List Sample) (room : ℕ) (s : Source R) (o : Option (OpenPiece R)) (steps steps₂ : ℕ) (line : List ℕ) (r : Merged R) → Proceeds bytes left n q ps xs room s steps → ((ys : List Sample) → IsOpenAs bytes s.piece ys → ReadsOpen bytes o ys line r)
+    → steps₂ ≤ steps + 1 → (r ≡ End → ⊥) → Pulls bytes left n q ps xs room (record s { piece = o }) line steps₂ r
+pulls_open {R} bytes left n q ps xs room s o steps steps₂ line r a reads one more = by_answer r reads more
+  where
+    few : TakesFew left ps (room + 1) steps₂
+    few = record { rest = a.still.pieces; left_is = a.still.left_is; taken = takes_more ps a.still.pieces room (room + 1) (steps + early_count q.from a.still.coming.here) steps₂ a.taken (omega (arith, one)) }
+
+    by_answer : (r : Merged R) → ((ys : List Sample) → IsOpenAs bytes s.piece ys → ReadsOpen bytes o ys line r) → (r ≡ End → ⊥) → Pulls bytes left n q ps xs room (record s { piece = o }) line steps₂ r
+    by_answer (Line t) reads more =
+        let c = a.still.coming in
+        let d = flat c.lists ++ drop s.at s.tail.items in
+        let x : Sample = record { t = t; line = line } in
+        let read = reads c.here c.begins in
+        let P : List Sample → Type 0 = λ l. IsPlaced n q.from l in
+        let rest = placed_rest n q.from x read.0 (subst P read.1 a.placed) in
+        let count : early_count q.from c.here ≡ early_count q.from (x ∷ []) + early_count q.from read.0 = ap (λ (l : List Sample). early_count q.from l) read.1 ∙ early_cons q.from x read.0 in
+        record {
+          rest = read.0 ++ d;
+          same = answers_on n q xs a.coming (x ∷ (read.0 ++ d)) a.same (answers_same n q a.coming (x ∷ (read.0 ++ d)) (c.all ∙ ap (λ (l : List Sample). l ++ d) read.1));
+          still = record { pieces = a.still.pieces; left_is = a.still.left_is; coming = record { here = read.0; lists = c.lists; begins = read.2; are_left = c.are_left; all = refl } };
+          placed = rest.0;
+          later = rest.1;
+          taken = takes_more ps a.still.pieces room (room + 1) (steps + early_count q.from c.here) (steps₂ + early_count q.from read.0) a.taken (omega (arith, one, count));
+          free = λ which. takes_more ps a.still.pieces room room (steps + early_count q.from c.here) (steps₂ + early_count q.from read.0) a.taken (elim which [ inl gone ↦ absurd (omega (arith, gone, rest.2)) | inr less ↦ omega (arith, one, count, early_one q.from x less) ]);
+        }
+    by_answer End reads more = absurd (more refl)
+    by_answer (ReadFault failed) reads more = few
+    by_answer (Damaged name at) reads more = few
+    by_answer Spent reads more = few
+    by_answer Memory reads more = few
 
 -- THE PIECES
 

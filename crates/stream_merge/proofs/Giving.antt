@@ -7,7 +7,7 @@ use Rattle.disk_model.specs.Files.{Name, Rose}
 use Rattle.std.proofs.lemmas.Bool.{cases_lt}
 use Rattle.series_model.specs.declared.sample.Sample.{Sample}
 use Rattle.series_model.specs.declared.sample.Query.{Query}
-use Rattle.series_model.specs.Series.{RisesFrom, IsRising, taken_from}
+use Rattle.series_model.specs.Series.{RisesFrom, IsRising, end_of, taken_from}
 use Rattle.series_model.specs.Retrieval.{answer}
 use Rattle.series_model.proofs.RisingLists.{RisesFrom-taken_from}
 use Rattle.pb_wire.specs.declared.payload.PayloadType.{PayloadType}
@@ -20,10 +20,12 @@ use Rattle.stream_merge.specs.declared.merge.Merge.{Merge}
 use Rattle.stream_merge.specs.Pieces.{NamedBytes}
 use Rattle.stream_merge.specs.Reading.{AreReadAs, IsSampleOf, AreSamplesOf, IsBadFor, IsDamaged}
 use Rattle.stream_merge.specs.Over.{over_all}
-use Rattle.stream_merge.specs.Source.{IsReady, IsOpenAs, Coming, StillComing, Passes, OpensOn, HasRisen, HasFailed, Grew, IsGiven, open_pieces}
+use Rattle.stream_merge.specs.Source.{IsReady, IsOpenAs, Coming, StillComing, HasTaken, TakesFew, Pulls, PullsLine, Passes, OpensOn, HasRisen, HasFailed, Grew, IsGiven, open_pieces}
 use Rattle.stream_merge.specs.Merging.{kept_of, kept_count, IsEarly, IsDue, IsKept, IsGoing, Rest, StillGives, Answers, Gives}
 use Rattle.stream_merge.proofs.Answering.{flat, whole, first_within, none_left, first_held, takes, drops, more_earlier}
-use Rattle.stream_merge.proofs.Coming.{now_risen}
+use Rattle.stream_merge.specs.Beginning.{early_count, IsPlaced, AnswersAs}
+use Rattle.stream_merge.proofs.Leaving.{placed_none}
+use Rattle.stream_merge.proofs.Coming.{now_risen, takes_none, takes_more, takes_on}
 
 -- OVER LISTS
 
@@ -66,33 +68,94 @@ step_end q n coming xs ks none is all = all ∙ ap (λ (l : List Sample). answer
 
 -- OF A MERGE
 
-pub still_at : {R : Type 0} (bytes : R → List ℕ) (left : List NamedBytes → Type 0) (m : Merge R) (s : Source R) (q : Query) (last : Option ℕ) (ks coming xs : List Sample) → m.source ≡ s → m.query ≡ q → m.last ≡ last → kept_of m.kept m.kept_line.items ≡ ks → StillComing bytes left s coming
-    → xs ≡ answer (ks ++ taken_from (behind last) coming) q → StillGives bytes left m xs
-still_at {R} bytes left m s q last ks coming xs source query was kept still is =
-    let C : Source R → Type 0 = λ x. Coming bytes x still.pieces coming in
+-- a merge still has these to give, and there is room for the steps
+pub record GivesOn {R : Type 0} (bytes : R → List ℕ) (left : List NamedBytes → Type 0) (pieces : List NamedBytes) (room : ℕ) (m : Merge R) (xs : List Sample) (steps : ℕ) : Type 0 where
+  pub still : StillGives bytes left m xs
+  pub taken : HasTaken pieces still.pieces room (steps + early_count m.query.from still.rest.comes.here)
+
+pub gives_first : {R : Type 0} (bytes : R → List ℕ) (left : List NamedBytes → Type 0) (ps : List NamedBytes) (m : Merge R) (xs : List Sample) (steps : ℕ) → left ps → (r : Rest bytes m ps xs) → GivesOn bytes left ps (steps + early_count m.query.from r.comes.here) m xs steps
+gives_first {R} bytes left ps m xs steps is r = record { still = record { pieces = ps; left_is = is; rest = r }; taken = takes_none ps (steps + early_count m.query.from r.comes.here) (steps + early_count m.query.from r.comes.here) (omega arith) }
+
+pub gives_at : {R : Type 0} (bytes : R → List ℕ) (left : List NamedBytes → Type 0) (ps : List NamedBytes) (room : ℕ) (m : Merge R) (s : Source R) (q : Query) (last : Option ℕ) (ks coming xs : List Sample) (steps : ℕ) → m.source ≡ s → m.query ≡ q → m.last ≡ last → kept_of m.kept m.kept_line.items ≡ ks → (still : StillComing bytes left s coming)
+    → IsPlaced (behind last) q.from still.coming.here → HasTaken ps still.pieces room (steps + early_count q.from still.coming.here) → xs ≡ answer (ks ++ taken_from (behind last) coming) q → GivesOn bytes left ps room m xs steps
+gives_at {R} bytes left ps room m s q last ks coming xs steps source query was kept still placed taken is =
     let now = kept_of m.kept m.kept_line.items in
+    let C : Source R → Type 0 = λ x. (c : Coming bytes x still.pieces coming) × IsPlaced (behind m.last) m.query.from c.here × HasTaken ps still.pieces room (steps + early_count m.query.from c.here) in
+    let L : Option ℕ → Type 0 = λ o. IsPlaced (behind o) m.query.from still.coming.here in
+    let Q : Query → Type 0 = λ x. IsPlaced (behind last) x.from still.coming.here in
+    let T : Query → Type 0 = λ x. HasTaken ps still.pieces room (steps + early_count x.from still.coming.here) in
+    let here = subst C (sym source) (still.coming, subst L (sym was) (subst Q (sym query) placed), subst T (sym query) taken) in
     record {
-      pieces = still.pieces;
-      left_is = still.left_is;
-      rest = record {
-        coming = coming;
-        comes = subst C (sym source) still.coming;
-        are = is ∙ ap (λ (k : List Sample). answer (k ++ taken_from (behind last) coming) q) (sym kept) ∙ ap (λ (o : Option ℕ). answer (now ++ taken_from (behind o) coming) q) (sym was) ∙ ap (λ (x : Query). answer (now ++ taken_from (behind m.last) coming) x) (sym query);
+      still = record {
+        pieces = still.pieces;
+        left_is = still.left_is;
+        rest = record {
+          coming = coming;
+          comes = here.0;
+          placed = here.1;
+          are = is ∙ ap (λ (k : List Sample). answer (k ++ taken_from (behind last) coming) q) (sym kept) ∙ ap (λ (o : Option ℕ). answer (now ++ taken_from (behind o) coming) q) (sym was) ∙ ap (λ (x : Query). answer (now ++ taken_from (behind m.last) coming) x) (sym query);
+        };
       };
+      taken = here.2;
     }
+
+still_at : {R : Type 0} (bytes : R → List ℕ) (left : List NamedBytes → Type 0) (m : Merge R) (s : Source R) (q : Query) (last : Option ℕ) (ks coming xs : List Sample) → m.source ≡ s → m.query ≡ q → m.last ≡ last → kept_of m.kept m.kept_line.items ≡ ks → (still : StillComing bytes left s coming) → IsPlaced (behind last) q.from still.coming.here
+    → xs ≡ answer (ks ++ taken_from (behind last) coming) q → StillGives bytes left m xs
+still_at {R} bytes left m s q last ks coming xs source query was kept still placed is =
+    let few = early_count q.from still.coming.here in
+    (gives_at bytes left still.pieces few m s q last ks coming xs 0 source query was kept still placed (takes_none still.pieces few (0 + few) (omega arith)) is).still
+
+-- what is kept of the samples so far
+kept_rises : (ty : PayloadType) (last k : Option ℕ) (l : List ℕ) → IsKept ty last k l → IsRising (kept_of k l) × (end_of (kept_of k l) ≤ behind last)
+kept_rises ty last None l kept = (tt, omega arith)
+kept_rises ty last (Some t) l kept = ((omega arith, tt), omega (arith, kept.1))
+
+-- the samples that were left out aren't missed
+pub left_out : (ty : PayloadType) (q : Query) (last k : Option ℕ) (l : List ℕ) (xs coming now : List Sample) → IsKept ty last k l → AnswersAs (behind last) q coming now → xs ≡ answer (kept_of k l ++ taken_from (behind last) coming) q → xs ≡ answer (kept_of k l ++ taken_from (behind last) now) q
+left_out ty q last k l xs coming now kept same is = let r = kept_rises ty last k l kept in is ∙ same (kept_of k l) r.0 r.1
+
+-- THE STEPS
+
+pub few_none : (left : List NamedBytes → Type 0) (ps : List NamedBytes) (steps steps₂ : ℕ) → left ps → steps₂ ≤ steps → TakesFew left ps (steps + 4) steps₂
+few_none left ps steps steps₂ is few = record { rest = ps; left_is = is; taken = takes_none ps (steps + 4) steps₂ (omega (arith, few)) }
+
+pub few_on : {R : Type 0} (bytes : R → List ℕ) (left₁ left : List NamedBytes → Type 0) (ps : List NamedBytes) (xs : List Sample) (m first : Merge R) (was : Rest bytes first ps xs) (steps steps₁ steps₂ : ℕ) → (a : GivesOn bytes left₁ ps (steps + early_count first.query.from was.comes.here) m xs steps₁) → TakesFew left a.still.pieces (steps₁ + early_count m.query.from a.still.rest.comes.here + 1) steps₂
+    → TakesFew left ps (steps + 4) steps₂
+few_on {R} bytes left₁ left ps xs m first was steps steps₁ steps₂ a few =
+    let used = steps₁ + early_count m.query.from a.still.rest.comes.here in
+    let room = steps + early_count first.query.from was.comes.here in
+    let one = takes_more ps a.still.pieces room (room + 1) used (used + 1) a.taken (omega arith) in
+    record { rest = few.rest; left_is = few.left_is; taken = takes_more ps few.rest (room + 1) (steps + 4) steps₂ steps₂ (takes_on ps a.still.pieces few.rest (room + 1) (used + 1) steps₂ one few.taken) (omega (arith, was.placed.1)) }
+
+pub taken_on : {R : Type 0} (bytes : R → List ℕ) (left : List NamedBytes → Type 0) (ps rest : List NamedBytes) (xs : List Sample) (m : Merge R) (room steps used : ℕ) → (a : GivesOn bytes left ps room m xs steps) → HasTaken a.still.pieces rest (steps + early_count m.query.from a.still.rest.comes.here) used → HasTaken ps rest room used
+taken_on {R} bytes left ps rest xs m room steps used a more = takes_on ps a.still.pieces rest room (steps + early_count m.query.from a.still.rest.comes.here) used a.taken more
+
+-- of a line, the end or a failure
+pub few_line : {R : Type 0} (bytes : R → List ℕ) (left : List NamedBytes → Type 0) (n : ℕ) (q : Query) (ps : List NamedBytes) (xs : List Sample) (room : ℕ) (s : Source R) (x : Sample) (steps : ℕ) → PullsLine bytes left n q ps xs room s x steps → TakesFew left ps (room + 1) steps
+few_line {R} bytes left n q ps xs room s x steps p = record { rest = p.still.pieces; left_is = p.still.left_is; taken = takes_more ps p.still.pieces (room + 1) (room + 1) (steps + early_count q.from p.still.coming.here) steps p.taken (omega arith) }
+
+pub few_pulled : {R : Type 0} (bytes : R → List ℕ) (left : List NamedBytes → Type 0) (n : ℕ) (q : Query) (ps : List NamedBytes) (xs : List Sample) (room : ℕ) (s : Source R) (line : List ℕ) (steps : ℕ) (r : Merged R) → Pulls bytes left n q ps xs room s line steps r → TakesFew left ps (room + 1) steps
+few_pulled {R} bytes left n q ps xs room s line steps (Line t) p = few_line bytes left n q ps xs room s (record { t = t; line = line }) steps p
+few_pulled {R} bytes left n q ps xs room s line steps End p = record { rest = p.still.pieces; left_is = p.still.left_is; taken = takes_more ps p.still.pieces room (room + 1) (steps + early_count q.from p.still.coming.here) steps p.taken (omega arith) }
+few_pulled {R} bytes left n q ps xs room s line steps (ReadFault failed) p = p
+few_pulled {R} bytes left n q ps xs room s line steps (Damaged name at) p = p
+few_pulled {R} bytes left n q ps xs room s line steps Spent p = p
+few_pulled {R} bytes left n q ps xs room s line steps Memory p = p
 
 pub rest_whole : {R : Type 0} (bytes : R → List ℕ) (m : Merge R) (s : Source R) (q : Query) (ps : List NamedBytes) (lists : List (List Sample)) (tail : List Sample) → m.source ≡ s → m.query ≡ q → m.last ≡ None → m.kept ≡ None → s.piece ≡ None → drop s.at s.tail.items ≡ tail
     → AreReadAs s.ty ps lists → IsRising tail → Rest bytes m ps (answer (over_all lists tail) q)
 rest_whole {R} bytes m s q ps lists tail source query was kept none at are last =
     let coming = flat lists ++ tail in
-    let P : Option (OpenPiece R) → Type 0 = λ x. IsOpenAs bytes s.ty x [] in
+    let P : Option (OpenPiece R) → Type 0 = λ x. IsOpenAs bytes x [] in
     let first : Coming bytes s ps coming = record { here = []; lists = lists; begins = subst P (sym none) refl; are_left = are; all = ap (λ (d : List Sample). flat lists ++ d) (sym at) } in
-    let C : Source R → Type 0 = λ x. Coming bytes x ps coming in
+    let C : Source R → Type 0 = λ x. (c : Coming bytes x ps coming) × IsPlaced (behind m.last) m.query.from c.here in
+    let here = subst C (sym source) (first, placed_none (behind m.last) m.query.from) in
     let now = kept_of m.kept m.kept_line.items in
     let empty : now ≡ [] = ap (λ (o : Option ℕ). kept_of o m.kept_line.items) kept in
     record {
       coming = coming;
-      comes = subst C (sym source) first;
+      comes = here.0;
+      placed = here.1;
       are = whole s.ty ps lists tail q are last ∙ ap (λ (k : List Sample). answer (k ++ taken_from 0 coming) q) (sym empty) ∙ ap (λ (o : Option ℕ). answer (now ++ taken_from (behind o) coming) q) (sym was) ∙ ap (λ (x : Query). answer (now ++ taken_from (behind m.last) coming) x) (sym query);
     }
 
@@ -126,7 +189,7 @@ due_answers {R} bytes left m m₂ ty ps xs line (Line t) is rest source query la
     let more = answer ([] ++ taken_from n rest.coming) m.query in (
       more,
       step_due m.query n s rest.coming xs ks gave.0 (due_from m.kept m.kept_line.items s m.query.from gave.0 due) gave.1 (kept_before ty m.last m.kept m.kept_line.items s gave.0 kept) rest.are,
-      still_at bytes left m₂ m.source m.query m.last [] rest.coming more source query last (none_kept m₂ none) (record { pieces = ps; left_is = is; coming = rest.comes }) refl,
+      still_at bytes left m₂ m.source m.query m.last [] rest.coming more source query last (none_kept m₂ none) (record { pieces = ps; left_is = is; coming = rest.comes }) rest.placed refl,
     )
 due_answers {R} bytes left m m₂ ty ps xs line End is rest source query last none due kept gives ends given = due_end ty m.query m.last m.kept m.kept_line.items rest.coming xs due kept (λ t some. ends t refl some) rest.are
 due_answers {R} bytes left m m₂ ty ps xs line (ReadFault failed) is rest source query last none due kept gives ends given = absurd given
@@ -135,46 +198,46 @@ due_answers {R} bytes left m m₂ ty ps xs line Spent is rest source query last 
 due_answers {R} bytes left m m₂ ty ps xs line Memory is rest source query last none due kept gives ends given = absurd given
 
 -- nothing more comes
-pub last_answers : {R : Type 0} (bytes : R → List ℕ) (left : List NamedBytes → Type 0) (m m₂ : Merge R) (s : Source R) (coming xs : List Sample) (line : List ℕ) (r : Merged R) → m₂.source ≡ s → m₂.query ≡ m.query → m₂.last ≡ m.last → m₂.kept ≡ None → coming ≡ [] → StillComing bytes left s []
+pub last_answers : {R : Type 0} (bytes : R → List ℕ) (left : List NamedBytes → Type 0) (m m₂ : Merge R) (s : Source R) (coming xs : List Sample) (line : List ℕ) (r : Merged R) → m₂.source ≡ s → m₂.query ≡ m.query → m₂.last ≡ m.last → m₂.kept ≡ None → coming ≡ [] → (still : StillComing bytes left s []) → IsPlaced (behind m.last) m.query.from still.coming.here
     → IsEarly m.kept m.query.from → xs ≡ answer (kept_of m.kept m.kept_line.items ++ taken_from (behind m.last) coming) m.query
     → ((t : ℕ) → r ≡ Line t → kept_of m.kept m.kept_line.items ≡ record { t = t; line = line } ∷ []) → (r ≡ End → kept_of m.kept m.kept_line.items ≡ []) → IsGiven r → Answers bytes left m₂ xs line r
-last_answers {R} bytes left m m₂ s coming xs line (Line t) source query last none empty still early is gives ends given =
+last_answers {R} bytes left m m₂ s coming xs line (Line t) source query last none empty still placed early is gives ends given =
     let x : Sample = record { t = t; line = line } in
     let ks = kept_of m.kept m.kept_line.items in
     let more = answer ([] ++ taken_from (behind m.last) []) m.query in
-    (more, step_last m.query (behind m.last) x coming xs ks empty (gives t refl) (early_from m.kept m.kept_line.items x m.query.from (gives t refl) early) is, still_at bytes left m₂ s m.query m.last [] [] more source query last (none_kept m₂ none) still refl)
-last_answers {R} bytes left m m₂ s coming xs line End source query last none empty still early is gives ends given = step_end m.query (behind m.last) coming xs (kept_of m.kept m.kept_line.items) empty (ends refl) is
-last_answers {R} bytes left m m₂ s coming xs line (ReadFault failed) source query last none empty still early is gives ends given = absurd given
-last_answers {R} bytes left m m₂ s coming xs line (Damaged name at) source query last none empty still early is gives ends given = absurd given
-last_answers {R} bytes left m m₂ s coming xs line Spent source query last none empty still early is gives ends given = absurd given
-last_answers {R} bytes left m m₂ s coming xs line Memory source query last none empty still early is gives ends given = absurd given
+    (more, step_last m.query (behind m.last) x coming xs ks empty (gives t refl) (early_from m.kept m.kept_line.items x m.query.from (gives t refl) early) is, still_at bytes left m₂ s m.query m.last [] [] more source query last (none_kept m₂ none) still placed refl)
+last_answers {R} bytes left m m₂ s coming xs line End source query last none empty still placed early is gives ends given = step_end m.query (behind m.last) coming xs (kept_of m.kept m.kept_line.items) empty (ends refl) is
+last_answers {R} bytes left m m₂ s coming xs line (ReadFault failed) source query last none empty still placed early is gives ends given = absurd given
+last_answers {R} bytes left m m₂ s coming xs line (Damaged name at) source query last none empty still placed early is gives ends given = absurd given
+last_answers {R} bytes left m m₂ s coming xs line Spent source query last none empty still placed early is gives ends given = absurd given
+last_answers {R} bytes left m m₂ s coming xs line Memory source query last none empty still placed early is gives ends given = absurd given
 
 -- a sample that isn't earlier than the interval came
-gives_none : {R : Type 0} (bytes : R → List ℕ) (left : List NamedBytes → Type 0) (m₂ : Merge R) (s : Source R) (q : Query) (n t : ℕ) (line line₂ : List ℕ) (rest coming xs : List Sample) (r : Merged R) → m₂.source ≡ s → m₂.query ≡ q → m₂.last ≡ Some t → coming ≡ record { t = t; line = line } ∷ rest → StillComing bytes left s rest
+gives_none : {R : Type 0} (bytes : R → List ℕ) (left : List NamedBytes → Type 0) (m₂ : Merge R) (s : Source R) (q : Query) (n t : ℕ) (line line₂ : List ℕ) (rest coming xs : List Sample) (r : Merged R) → m₂.source ≡ s → m₂.query ≡ q → m₂.last ≡ Some t → coming ≡ record { t = t; line = line } ∷ rest → (still : StillComing bytes left s rest) → IsPlaced (t + 1) q.from still.coming.here
     → n ≤ t → q.from ≤ t → xs ≡ answer ([] ++ taken_from n coming) q → (m₂.kept ≡ None) × (t ≤ q.to → r ≡ Line t) × (q.to < t → r ≡ End) → line₂ ≡ line → Answers bytes left m₂ xs line₂ r
-gives_none {R} bytes left m₂ s q n t line line₂ rest coming xs r source query last is still low from all gives same =
+gives_none {R} bytes left m₂ s q n t line line₂ rest coming xs r source query last is still placed low from all gives same =
     let x : Sample = record { t = t; line = line } in
     let A : Merged R → Type 0 = λ k. Answers bytes left m₂ xs line₂ k in
     elim (cases_lt q.to t) [
       | inl past ↦ subst A (sym (gives.2 past)) (step_past q n x rest coming xs is low from past all)
       | inr within ↦
           let more = answer ([] ++ taken_from (t + 1) rest) q in
-          subst A (sym (gives.1 within)) (more, step_within q n x rest coming xs is low from within all ∙ ap (λ (l : List ℕ). record { t = t; line = l } ∷ more) (sym same), still_at bytes left m₂ s q (Some t) [] rest more source query last (none_kept m₂ gives.0) still refl)
+          subst A (sym (gives.1 within)) (more, step_within q n x rest coming xs is low from within all ∙ ap (λ (l : List ℕ). record { t = t; line = l } ∷ more) (sym same), still_at bytes left m₂ s q (Some t) [] rest more source query last (none_kept m₂ gives.0) still placed refl)
     ]
 
-gives_some : {R : Type 0} (bytes : R → List ℕ) (left : List NamedBytes → Type 0) (m₂ : Merge R) (s : Source R) (q : Query) (n t b : ℕ) (l line line₂ : List ℕ) (rest coming xs : List Sample) (r : Merged R) → m₂.source ≡ s → m₂.query ≡ q → m₂.last ≡ Some t → coming ≡ record { t = t; line = line } ∷ rest → StillComing bytes left s rest
+gives_some : {R : Type 0} (bytes : R → List ℕ) (left : List NamedBytes → Type 0) (m₂ : Merge R) (s : Source R) (q : Query) (n t b : ℕ) (l line line₂ : List ℕ) (rest coming xs : List Sample) (r : Merged R) → m₂.source ≡ s → m₂.query ≡ q → m₂.last ≡ Some t → coming ≡ record { t = t; line = line } ∷ rest → (still : StillComing bytes left s rest) → IsPlaced (t + 1) q.from still.coming.here
     → n ≤ t → q.from ≤ t → b < q.from → xs ≡ answer (kept_of (Some b) l ++ taken_from n coming) q → (m₂.kept ≡ Some t) × (r ≡ Line b) → line₂ ≡ l → m₂.kept_line.items ≡ line → Answers bytes left m₂ xs line₂ r
-gives_some {R} bytes left m₂ s q n t b l line line₂ rest coming xs r source query last is still low from early all gives same now =
+gives_some {R} bytes left m₂ s q n t b l line line₂ rest coming xs r source query last is still placed low from early all gives same now =
     let x : Sample = record { t = t; line = line } in
     let more = answer ((x ∷ []) ++ taken_from (t + 1) rest) q in
     let A : Merged R → Type 0 = λ k. Answers bytes left m₂ xs line₂ k in
     let kept : kept_of m₂.kept m₂.kept_line.items ≡ x ∷ [] = ap (λ (o : Option ℕ). kept_of o m₂.kept_line.items) gives.0 ∙ ap (λ (k : List ℕ). record { t = t; line = k } ∷ []) now in
-    subst A (sym gives.1) (more, step_held q n b l x rest coming xs is low from early all ∙ ap (λ (k : List ℕ). record { t = b; line = k } ∷ more) (sym same), still_at bytes left m₂ s q (Some t) (x ∷ []) rest more source query last kept still refl)
+    subst A (sym gives.1) (more, step_held q n b l x rest coming xs is low from early all ∙ ap (λ (k : List ℕ). record { t = b; line = k } ∷ more) (sym same), still_at bytes left m₂ s q (Some t) (x ∷ []) rest more source query last kept still placed refl)
 
 pub gives_answers : {R : Type 0} (bytes : R → List ℕ) (left : List NamedBytes → Type 0) (m₂ : Merge R) (k : Option ℕ) (l : List ℕ) (s : Source R) (q : Query) (n t : ℕ) (line line₂ : List ℕ) (rest coming xs : List Sample) (r : Merged R) → m₂.source ≡ s → m₂.query ≡ q → m₂.last ≡ Some t → coming ≡ record { t = t; line = line } ∷ rest
-    → StillComing bytes left s rest → n ≤ t → q.from ≤ t → IsEarly k q.from → xs ≡ answer (kept_of k l ++ taken_from n coming) q → Gives q.to k t m₂.kept r → (IsSome k → (line₂ ≡ l) × (m₂.kept_line.items ≡ line)) → (k ≡ None → line₂ ≡ line) → Answers bytes left m₂ xs line₂ r
-gives_answers {R} bytes left m₂ None l s q n t line line₂ rest coming xs r source query last is still low from early all gives swapped stays = gives_none bytes left m₂ s q n t line line₂ rest coming xs r source query last is still low from all gives (stays refl)
-gives_answers {R} bytes left m₂ (Some b) l s q n t line line₂ rest coming xs r source query last is still low from early all gives swapped stays = let lines = swapped refl in gives_some bytes left m₂ s q n t b l line line₂ rest coming xs r source query last is still low from early all gives lines.0 lines.1
+    → (still : StillComing bytes left s rest) → IsPlaced (t + 1) q.from still.coming.here → n ≤ t → q.from ≤ t → IsEarly k q.from → xs ≡ answer (kept_of k l ++ taken_from n coming) q → Gives q.to k t m₂.kept r → (IsSome k → (line₂ ≡ l) × (m₂.kept_line.items ≡ line)) → (k ≡ None → line₂ ≡ line) → Answers bytes left m₂ xs line₂ r
+gives_answers {R} bytes left m₂ None l s q n t line line₂ rest coming xs r source query last is still placed low from early all gives swapped stays = gives_none bytes left m₂ s q n t line line₂ rest coming xs r source query last is still placed low from all gives (stays refl)
+gives_answers {R} bytes left m₂ (Some b) l s q n t line line₂ rest coming xs r source query last is still placed low from early all gives swapped stays = let lines = swapped refl in gives_some bytes left m₂ s q n t b l line line₂ rest coming xs r source query last is still placed low from early all gives lines.0 lines.1
 
 line_same : {R : Type 0} (a b : ℕ) → ◌≡◌ {A = Merged R} (Line a) (Line b) → a ≡ b
 line_same {R} a b is = cc

@@ -1,4 +1,6 @@
 mod Answering
+mod Leaving
+mod Starting
 pub mod Reading
 mod Pulling
 mod Coming

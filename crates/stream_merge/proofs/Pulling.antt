@@ -1,31 +1,41 @@
 -- What one read of the open piece, or of the next piece's header, comes to.
-use Rattle.std.proofs.Common.{◌≡◌, ℕ, ◌≤◌, Bool, List, [], ◌∷◌, ◌++◌, Option, None, Some, Result, Err, IsTrue, length, take, refl, sym, ap, ◌∙◌, subst, arith}
+use Rattle.std.proofs.Common.{◌≡◌, ℕ, ◌+◌, ◌≤◌, inl, inr, append_assoc, drop, Bool, List, [], ◌∷◌, ◌++◌, Option, None, Some, Result, Err, IsTrue, length, take, refl, sym, ap, ◌∙◌, subst, arith}
 use Rattle.std.specs.Prelude.{IfNone}
+use Rattle.std.proofs.lemmas.List.{length-append, length-take, length-take-le, length-drop, take-append-drop, take-take, nil_from_length}
 use Rattle.std.proofs.lemmas.List.Elements.{Contains-push}
 use Rattle.disk_model.specs.Files.{Name, Rose}
 use Rattle.series_model.specs.declared.sample.Sample.{Sample}
+use Rattle.series_model.specs.declared.sample.Query.{Query}
+use Rattle.series_model.specs.Series.{end_of}
 use Rattle.payload_info.specs.declared.info.PayloadInfo.{PayloadInfo}
 use Rattle.pb_wire.specs.declared.payload.PayloadType.{PayloadType}
 use Rattle.pb_file.specs.declared.walk.Walked.{Walked}
 use Rattle.pb_file.specs.declared.walk.Walked.TheVariants as walked
-use Rattle.pb_lines.specs.File.{IsBadAt}
+use Rattle.pb_file.specs.declared.search.SearchErr.{SearchErr}
+use Rattle.pb_file.specs.declared.search.SearchErr.TheVariants as refused
+use Rattle.pb_lines.specs.File.{IsFile, IsBadAt, HasNoSample, lines_of}
+use Rattle.pb_lines.proofs.FileMeaning.{begins}
 use Rattle.pb_file.specs.Walk.{Walk, Front, HasWalked, Walks, Gives, fresh, with_sample}
-use Rattle.pb_file.proofs.Walking.{bad_at}
+use Rattle.pb_file.specs.Search.{IsLineStart, IsRefusedAt}
+use Rattle.pb_file.specs.Skip.{HasSkipped, GoesOnFrom, from_place}
+use Rattle.pb_file.proofs.Walking.{bad_at, one_info}
+use Rattle.pb_file.proofs.Starts.{no_header_there}
 use Rattle.stream_merge.specs.declared.pieces.Merged.{Merged}
 use Rattle.stream_merge.specs.declared.pieces.Merged.TheVariants.{Line, End, ReadFault, Damaged, Spent, Memory}
 use Rattle.stream_merge.specs.declared.source.OpenPiece.{OpenPiece}
 use Rattle.stream_merge.specs.Pieces.{NamedBytes}
 use Rattle.stream_merge.specs.Reading.{IsReadAs, IsBadFor, IsDamaged}
-use Rattle.stream_merge.specs.Source.{open_pieces, IsBegun, IsReady, GoesOnAs, IsOpenAs, ReadsOpen, ClosesAs, HasRisen}
-use Rattle.stream_merge.proofs.Reading.{next_read}
+use Rattle.stream_merge.specs.Beginning.{IsAtLine, MovesOn, BeginsWell, TellsAs}
+use Rattle.stream_merge.specs.Source.{open_pieces, HasBegun, IsBegun, IsReady, GoesOnAs, IsOpenAs, BeginsAs, ReadsOpen, ClosesAs, IsFailure, HasRisen}
+use Rattle.stream_merge.proofs.Reading.{next_read, end_read, same_header, file_from, refused_bad}
 
 -- OF THE OPEN PIECE
 
 pub begun : {R : Type 0} (tells : Bool) (bytes : R → List ℕ) (ty : PayloadType) (o : Option (OpenPiece R)) (p : OpenPiece R) → o ≡ Some p → IsReady tells bytes ty o → IsBegun tells bytes ty p
 begun {R} tells bytes ty o p is ready = let P : Option (OpenPiece R) → Type 0 = λ x. IsReady tells bytes ty x in subst P is ready
 
-pub goes_on : {R : Type 0} (bytes : R → List ℕ) (ty : PayloadType) (o : Option (OpenPiece R)) (p : OpenPiece R) (xs : List Sample) → o ≡ Some p → IsOpenAs bytes ty o xs → GoesOnAs bytes ty p xs
-goes_on {R} bytes ty o p xs is now = let P : Option (OpenPiece R) → Type 0 = λ x. IsOpenAs bytes ty x xs in subst P is now
+pub goes_on : {R : Type 0} (bytes : R → List ℕ) (o : Option (OpenPiece R)) (p : OpenPiece R) (xs : List Sample) → o ≡ Some p → IsOpenAs bytes o xs → GoesOnAs bytes p xs
+goes_on {R} bytes o p xs is now = let P : Option (OpenPiece R) → Type 0 = λ x. IsOpenAs bytes x xs in subst P is now
 
 pub gives_now : (stop : Option Walked) (P : Type 0) → stop ≡ None → IfNone stop P → P
 gives_now None P is h = h
@@ -41,8 +51,8 @@ same_len old new line walked.Memory g = ap (λ (v : Walk). v.len) g
 
 -- A sample was read.
 pub begun_on : {R : Type 0} (tells : Bool) (bytes : R → List ℕ) (ty : PayloadType) (p : OpenPiece R) (file : R) (new : Walk) (line : List ℕ) (t : ℕ) → IsBegun tells bytes ty p → Gives p.walk line (walked.Sample t) new → new.place ≤ new.len
-    → (IsTrue tells → bytes file ≡ bytes p.reader) → (IsTrue tells → (front : Option Front) → HasWalked p.walk (bytes p.reader) front → Walks front (bytes p.reader) line (walked.Sample t) new) → IsBegun tells bytes ty (record { reader = file; name = p.name; walk = new })
-begun_on {R} tells bytes ty p file new line t b g within same walks = record {
+    → (IsTrue tells → bytes file ≡ bytes p.reader) → (IsTrue tells → (at : ℕ) (front : Front) → HasSkipped p.walk (bytes p.reader) at front → GoesOnFrom at front (bytes p.reader) line (walked.Sample t) new) → IsBegun tells bytes ty (record { reader = file; name = p.name; walk = new })
+begun_on {R} tells bytes ty p file new line t b g within same skips = record {
   going = ap (λ (v : Walk). v.stop) g.4 ∙ b.going;
   info = b.info;
   header = ap (λ (v : Walk). v.info) g.4 ∙ b.header;
@@ -51,21 +61,48 @@ begun_on {R} tells bytes ty p file new line t b g within same walks = record {
   bytes_are = λ told. omega (arith, b.bytes_are told, ap (λ (v : Walk). v.len) g.4, ap length (same told));
   walked = λ told.
       let before = b.walked told in
-      let after = with_sample before.0 t line in
-      let P : List ℕ → Type 0 = λ l. HasWalked new l (Some after) in
-      (after, subst P (sym (same told)) (walks told (Some before.0) before.1));
+      let P : List ℕ → Type 0 = λ l. HasBegun new l in
+      let T : ℕ → Type 0 = λ n. take n (bytes p.reader) ≡ before.front.head ++ 10 ∷ before.rest in
+      let L : ℕ → Type 0 = λ n. IsLineStart (take n (bytes p.reader)) (length before.front.head + 1) before.at in
+      let len : p.walk.len ≡ new.len = sym (ap (λ (v : Walk). v.len) g.4) in
+      subst P (sym (same told)) (record { at = before.at; front = with_sample before.front t line; rest = before.rest; skipped = skips told before.at before.front before.skipped; text = subst T len before.text; begins = subst L len before.begins });
 }
 
-pub line_read : {R : Type 0} (bytes : R → List ℕ) (ty : PayloadType) (p : OpenPiece R) (file : R) (new : Walk) (line : List ℕ) (t : ℕ) (xs : List Sample) → GoesOnAs bytes ty p xs → new.len ≡ p.walk.len → bytes file ≡ bytes p.reader
-    → ((front : Option Front) → HasWalked p.walk (bytes p.reader) front → Walks front (bytes p.reader) line (walked.Sample t) new)
-    → (rest : List Sample) × (xs ≡ record { t = t; line = line } ∷ rest) × GoesOnAs bytes ty (record { reader = file; name = p.name; walk = new }) rest
-line_read {R} bytes ty p file new line t xs now len same walks =
-    let next = walks (Some now.front) now.walked in
-    let read = next_read ty (bytes p.reader) line t p.walk.len new now.front xs next len now.type now.read in
+pub line_read : {R : Type 0} (bytes : R → List ℕ) (p : OpenPiece R) (file : R) (new : Walk) (line : List ℕ) (t : ℕ) (xs : List Sample) → GoesOnAs bytes p xs → new.len ≡ p.walk.len → p.walk.len ≤ length (bytes p.reader) → bytes file ≡ bytes p.reader
+    → ((at : ℕ) (front : Front) → HasSkipped p.walk (bytes p.reader) at front → GoesOnFrom at front (bytes p.reader) line (walked.Sample t) new)
+    → (rest : List Sample) × (xs ≡ record { t = t; line = line } ∷ rest) × GoesOnAs bytes (record { reader = file; name = p.name; walk = new }) rest
+line_read {R} bytes p file new line t xs now len long same skips =
+    let next = skips now.at now.front now.skipped in
+    let read = next_read (bytes p.reader) line t now.at p.walk.len new now.front xs next len long now.file in
     let after = with_sample now.front t line in
-    let H : List ℕ → Type 0 = λ l. HasWalked new l (Some after) in
-    let P : List ℕ → Type 0 = λ l. IsReadAs ty (take new.len l) (after.samples ++ read.0) in
-    (read.0, read.1, record { front = after; walked = subst H (sym same) next; type = now.type; read = subst P (sym same) read.2 })
+    let H : List ℕ → Type 0 = λ l. HasSkipped new l now.at after in
+    let P : List ℕ → Type 0 = λ l. IsFile (from_place after.head now.at (take new.len l)) after.head after.info (after.samples ++ read.0) in
+    (read.0, read.1, record { at = now.at; front = after; skipped = subst H (sym same) next; file = subst P (sym same) read.2 })
+
+-- The piece came to its end.
+pub no_line_left : {R : Type 0} (bytes : R → List ℕ) (p : OpenPiece R) (new : Walk) (line : List ℕ) (xs : List Sample) → (now : GoesOnAs bytes p xs) → new.len ≡ p.walk.len → GoesOnFrom now.at now.front (bytes p.reader) line walked.End new → xs ≡ []
+no_line_left {R} bytes p new line xs now len end = end_read (bytes p.reader) now.at p.walk.len new now.front xs end len now.file
+
+-- Its next line is bad.
+pub read_bad : (ty : PayloadType) (bytes line : List ℕ) (old new : Walk) (info : PayloadInfo) (bad : ℕ) → (b : HasBegun old bytes) → old.info ≡ Some info → info.ty ≡ ty → Gives old line (walked.Damaged bad) new → GoesOnFrom b.at b.front bytes line (walked.Damaged bad) new → IsBadFor ty (take old.len bytes) bad
+read_bad ty bytes line old new info bad b header type g goes =
+    let f = b.front in
+    let F : List ℕ → Type 0 = λ l. IsFile (from_place f.head b.at l) f.head f.info f.samples in
+    let N : ℕ → Type 0 = λ n. IsFile (from_place f.head b.at (take n (take old.len bytes))) f.head f.info f.samples in
+    let L : ℕ → Type 0 = λ n. HasNoSample f.info (λ t. end_of f.samples ≤ t) (drop bad (take n bytes)) in
+    inr (record {
+      head = f.head;
+      rest = b.rest;
+      info = f.info;
+      start = b.at;
+      samples = f.samples;
+      text = b.text;
+      type = ap (λ (i : PayloadInfo). i.ty) (one_info old.info f.info info b.skipped.header header) ∙ type;
+      begins = b.begins;
+      order = omega (arith, b.skipped.begun, g.0);
+      lines = subst N (sym g.0) (subst F (sym (take-take old.place old.len bytes b.skipped.within)) b.skipped.read);
+      bad = subst L (ap (λ (v : Walk). v.len) g.1) goes;
+    })
 
 -- The piece was closed.
 
@@ -109,20 +146,22 @@ closed_damaged {R} p (walked.Damaged n) r name at is bad = let same : n ≡ at =
 closed_damaged {R} p walked.ReadFault r name at is bad = absurd (cc)
 closed_damaged {R} p walked.Memory r name at is bad = absurd (cc)
 
--- where the walk found a bad line
-pub walk_bad : (front : Option Front) (bytes line : List ℕ) (w : Walked) (at len : ℕ) (old new : Walk) → w ≡ walked.Damaged at → Gives old line w new → old.len ≡ len → Walks front bytes line w new → IsBadAt (take len bytes) at
-walk_bad front bytes line w at len old new is gives same walks =
-    let W : Walked → Type 0 = λ k. Walks front bytes line k new in
+-- no header was read
+pub walk_bad : (ty : PayloadType) (bytes line : List ℕ) (w : Walked) (at len : ℕ) (old new : Walk) → w ≡ walked.Damaged at → Gives old line w new → old.place ≡ 0 → old.len ≡ len → Walks None bytes line w new → IsBadFor ty (take len bytes) at
+walk_bad ty bytes line w at len old new is gives first same walks =
+    let W : Walked → Type 0 = λ k. Walks None bytes line k new in
+    let G : Walked → Type 0 = λ k. Gives old line k new in
     let L : ℕ → Type 0 = λ n. IsBadAt (take n bytes) at in
-    subst L (same_len old new line w gives ∙ same) (bad_at front bytes line at new (subst W is walks))
+    let zero : at ≡ 0 = (subst G is gives).0 ∙ first in
+    inl (zero, inl (no_header_there (take len bytes) at zero (subst L (same_len old new line w gives ∙ same) (bad_at None bytes line at new (subst W is walks)))))
 
-pub reads_open : {R : Type 0} (bytes : R → List ℕ) (ty : PayloadType) (o : Option (OpenPiece R)) (xs : List Sample) (line : List ℕ) (r : Merged R) → ((t : ℕ) → r ≡ Line t → ⊥) → (r ≡ End → xs ≡ []) → ReadsOpen bytes ty o xs line r
-reads_open {R} bytes ty o xs line (Line t) none end = absurd (none t refl)
-reads_open {R} bytes ty o xs line End none end = end refl
-reads_open {R} bytes ty o xs line (ReadFault failed) none end = tt
-reads_open {R} bytes ty o xs line (Damaged name at) none end = tt
-reads_open {R} bytes ty o xs line Spent none end = tt
-reads_open {R} bytes ty o xs line Memory none end = tt
+pub reads_open : {R : Type 0} (bytes : R → List ℕ) (o : Option (OpenPiece R)) (xs : List Sample) (line : List ℕ) (r : Merged R) → ((t : ℕ) → r ≡ Line t → ⊥) → (r ≡ End → xs ≡ []) → ReadsOpen bytes o xs line r
+reads_open {R} bytes o xs line (Line t) none end = absurd (none t refl)
+reads_open {R} bytes o xs line End none end = end refl
+reads_open {R} bytes o xs line (ReadFault failed) none end = tt
+reads_open {R} bytes o xs line (Damaged name at) none end = tt
+reads_open {R} bytes o xs line Spent none end = tt
+reads_open {R} bytes o xs line Memory none end = tt
 
 pub has_risen : {R : Type 0} (faults : R → ℕ) (o : Option (OpenPiece R)) (p : OpenPiece R) (r : R) (failed : Option R) → o ≡ Some p → failed ≡ Some r → Rose (faults p.reader) (faults r) → HasRisen faults o failed
 has_risen {R} faults o p r failed is same rose =
@@ -133,10 +172,32 @@ has_risen {R} faults o p r failed is same rose =
 -- OF THE NEXT PIECE
 
 -- Its header was read.
+pub at_header : (bytes line : List ℕ) (info : PayloadInfo) (w : Walk) → HasWalked w bytes (Some (record { head = line; info = info; samples = [] })) → w.len ≤ length bytes → IsAtLine w.place w bytes
+at_header bytes line info w h long =
+    let file = h.read.0 in
+    let all = take w.len bytes in
+    let rest = drop w.place all in
+    let none : drop w.place (take w.place bytes) ≡ [] = nil_from_length (drop w.place (take w.place bytes)) (omega (arith, length-drop w.place (take w.place bytes), length-take w.place bytes)) in
+    let F : List ℕ → Type 0 = λ l. IsFile (line ++ 10 ∷ l) line info [] in
+    record {
+      head = line;
+      info = info;
+      rest = rest;
+      size = omega (arith, length-take-le w.place bytes (omega (arith, h.within, long)), ap length file.text, length-append line (10 ∷ []));
+      text = sym (take-append-drop w.place all) ∙ ap (λ (u : List ℕ). u ++ rest) (take-take w.place w.len bytes h.within ∙ file.text) ∙ append_assoc line (10 ∷ []) rest;
+      skipped = record { going = h.going; begun = omega arith; within = h.within; read = subst F (sym none) (begins line info file.whole file.header); header = h.read.1; earliest = h.read.2; piece = h.piece };
+      begins = inl refl;
+    }
+
+pub at_line_begun : (head_len : ℕ) (w : Walk) (bytes : List ℕ) → IsAtLine head_len w bytes → HasBegun w bytes
+at_line_begun head_len w bytes l =
+    let L : ℕ → Type 0 = λ n. IsLineStart (take w.len bytes) n w.place in
+    record { at = w.place; front = record { head = l.head; info = l.info; samples = [] }; rest = l.rest; skipped = l.skipped; text = l.text; begins = subst L l.size l.begins }
+
 pub begun_first : {R : Type 0} (tells : Bool) (bytes : R → List ℕ) (ty : PayloadType) (reader file : R) (name : Name) (line : List ℕ) (len : ℕ) (old new : Walk) → old ≡ fresh len → (g : Gives old line walked.Header new) → g.0.ty ≡ ty → new.place ≤ new.len
-    → (IsTrue tells → len ≤ length (bytes reader)) → (IsTrue tells → bytes file ≡ bytes reader) → (IsTrue tells → (info : PayloadInfo) × HasWalked new (bytes reader) (Some (record { head = line; info = info; samples = [] })))
+    → (IsTrue tells → len ≤ length (bytes reader)) → (IsTrue tells → bytes file ≡ bytes reader) → (IsTrue tells → IsAtLine new.place new (bytes reader))
     → IsBegun tells bytes ty (record { reader = file; name = name; walk = new })
-begun_first {R} tells bytes ty reader file name line len old new start g type within long same walks = record {
+begun_first {R} tells bytes ty reader file name line len old new start g type within long same here = record {
   going = ap (λ (v : Walk). v.stop) g.4 ∙ ap (λ (v : Walk). v.stop) start;
   info = g.0;
   header = ap (λ (v : Walk). v.info) g.4;
@@ -144,20 +205,68 @@ begun_first {R} tells bytes ty reader file name line len old new start g type wi
   within = within;
   bytes_are = λ told. omega (arith, long told, ap (λ (v : Walk). v.len) g.4, ap (λ (v : Walk). v.len) start, ap length (same told));
   walked = λ told.
-      let first = walks told in
-      let front : Front = record { head = line; info = first.0; samples = [] } in
-      let P : List ℕ → Type 0 = λ l. HasWalked new l (Some front) in
-      (front, subst P (sym (same told)) first.1);
+      let P : List ℕ → Type 0 = λ l. HasBegun new l in
+      subst P (sym (same told)) (at_line_begun new.place new (bytes reader) (here told));
 }
 
-pub opens_as : {R : Type 0} (bytes : R → List ℕ) (ty : PayloadType) (reader file : R) (name : Name) (line : List ℕ) (len : ℕ) (info : PayloadInfo) (new : Walk) (xs : List Sample) → HasWalked new (bytes reader) (Some (record { head = line; info = info; samples = [] })) → info.ty ≡ ty → new.len ≡ len → bytes file ≡ bytes reader
-    → IsReadAs ty (take len (bytes reader)) xs → GoesOnAs bytes ty (record { reader = file; name = name; walk = new }) xs
-opens_as {R} bytes ty reader file name line len info new xs h type same is read =
-    let front : Front = record { head = line; info = info; samples = [] } in
-    let H : List ℕ → Type 0 = λ l. HasWalked new l (Some front) in
-    let L : ℕ → Type 0 = λ n. IsReadAs ty (take n (bytes reader)) xs in
-    let P : List ℕ → Type 0 = λ l. IsReadAs ty (take new.len l) xs in
-    record { front = front; walked = subst H (sym is) h; type = type; read = subst P (sym is) (subst L (sym same) read) }
+-- It went on at another place.
+pub begun_there : {R : Type 0} (tells : Bool) (bytes : R → List ℕ) (ty : PayloadType) (p : OpenPiece R) (file : R) (new : Walk) (head_len : ℕ) → IsBegun tells bytes ty p → MovesOn p.walk new → (IsTrue tells → bytes file ≡ bytes p.reader) → (IsTrue tells → IsAtLine head_len new (bytes p.reader))
+    → IsBegun tells bytes ty (record { reader = file; name = p.name; walk = new })
+begun_there {R} tells bytes ty p file new head_len b moves same here = record {
+  going = moves.going;
+  info = b.info;
+  header = ap (λ (v : Walk). v.info) moves.same ∙ b.header;
+  type = b.type;
+  within = moves.within;
+  bytes_are = λ told. omega (arith, b.bytes_are told, ap (λ (v : Walk). v.len) moves.same, ap length (same told));
+  walked = λ told.
+      let P : List ℕ → Type 0 = λ l. HasBegun new l in
+      subst P (sym (same told)) (at_line_begun head_len new (bytes p.reader) (here told));
+}
+
+-- It begins to give its samples there.
+pub begins_as : {R : Type 0} (bytes : R → List ℕ) (ty : PayloadType) (n : ℕ) (q : Query) (p : OpenPiece R) (head_len : ℕ) (xs : List Sample) → IsAtLine head_len p.walk (bytes p.reader) → (r : IsReadAs ty (take p.walk.len (bytes p.reader)) xs) → BeginsWell n q r.head xs p.walk.place → BeginsAs bytes n q p xs
+begins_as {R} bytes ty n q p head_len xs l r well =
+    let all = take p.walk.len (bytes p.reader) in
+    let one = same_header all l.head r.head l.rest (lines_of xs) l.info r.info l.text r.file.text l.skipped.read.whole r.file.whole l.skipped.read.header r.file.header in
+    let own = file_from all r.head r.info xs well.here p.walk.place r.file well.split in
+    let H : List ℕ → Type 0 = λ h. IsFile (from_place h p.walk.place all) h r.info well.here in
+    let I : PayloadInfo → Type 0 = λ i. IsFile (from_place l.head p.walk.place all) l.head i well.here in
+    record {
+      here = well.here;
+      gives = record { at = p.walk.place; front = record { head = l.head; info = l.info; samples = [] }; skipped = l.skipped; file = subst I (sym one.infos) (subst H (sym one.heads) own) };
+      placed = well.placed;
+      same = well.same;
+    }
+
+-- the header that was read is that of the file
+pub head_place : (ty : PayloadType) (bytes : List ℕ) (head_len len : ℕ) (w : Walk) (xs : List Sample) → IsAtLine head_len w bytes → w.len ≡ len → (r : IsReadAs ty (take len bytes) xs) → head_len ≡ length r.head + 1
+head_place ty bytes head_len len w xs l same r =
+    let T : ℕ → Type 0 = λ n. take n bytes ≡ l.head ++ 10 ∷ l.rest in
+    let one = same_header (take len bytes) l.head r.head l.rest (lines_of xs) l.info r.info (subst T same l.text) r.file.text l.skipped.read.whole r.file.whole l.skipped.read.header r.file.header in
+    l.size ∙ ap (λ (h : List ℕ). length h + 1) one.heads
+
+-- A search refused a line of it.
+pub search_bad : (ty : PayloadType) (bytes : List ℕ) (head_len len at : ℕ) (w : Walk) (info : PayloadInfo) → w.info ≡ Some info → info.ty ≡ ty → w.len ≡ len → IsAtLine head_len w bytes → IsRefusedAt (take len bytes) head_len at → IsBadFor ty (take len bytes) at
+search_bad ty bytes head_len len at w info header type same l bad =
+    let T : ℕ → Type 0 = λ n. take n bytes ≡ l.head ++ 10 ∷ l.rest in
+    refused_bad ty (take len bytes) head_len at l.head l.rest l.info (subst T same l.text) l.skipped.read.whole l.skipped.read.header l.size (ap (λ (i : PayloadInfo). i.ty) (one_info w.info l.info info l.skipped.header header) ∙ type) bad
+
+-- what a failed search is told as
+pub told_damaged : {R : Type 0} (p : OpenPiece R) (e : SearchErr) (r : Merged R) (name : Name) (at : ℕ) → TellsAs p e r → r ≡ Damaged name at → (e ≡ refused.Damaged at) × (name ≡ p.name)
+told_damaged {R} p refused.ReadFault r name at is bad = absurd (cc)
+told_damaged {R} p (refused.Damaged n) r name at is bad = let same : n ≡ at = cc in (ap (λ (k : ℕ). refused.Damaged k) same, cc)
+told_damaged {R} p refused.Memory r name at is bad = absurd (cc)
+
+pub told_fault : {R : Type 0} (p : OpenPiece R) (e : SearchErr) (r : Merged R) (failed : Option R) → TellsAs p e r → r ≡ ReadFault failed → (e ≡ refused.ReadFault) × (failed ≡ Some p.reader)
+told_fault {R} p refused.ReadFault r failed is fault = (refl, cc)
+told_fault {R} p (refused.Damaged n) r failed is fault = absurd (cc)
+told_fault {R} p refused.Memory r failed is fault = absurd (cc)
+
+pub told_failure : {R : Type 0} (p : OpenPiece R) (e : SearchErr) (r : Merged R) → TellsAs p e r → IsFailure r
+told_failure {R} p refused.ReadFault r is = let P : Merged R → Type 0 = IsFailure in subst P (sym is) tt
+told_failure {R} p (refused.Damaged n) r is = let P : Merged R → Type 0 = IsFailure in subst P (sym is) tt
+told_failure {R} p refused.Memory r is = let P : Merged R → Type 0 = IsFailure in subst P (sym is) tt
 
 -- the open piece has a bad line
 pub open_damaged : {R : Type 0} (bytes : R → List ℕ) (ty : PayloadType) (o : Option (OpenPiece R)) (p : OpenPiece R) (name : Name) (at : ℕ) → o ≡ Some p → name ≡ p.name → IsBadFor ty (take p.walk.len (bytes p.reader)) at → IsDamaged ty (open_pieces bytes o) name at

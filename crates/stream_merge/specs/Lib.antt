@@ -1,5 +1,6 @@
 pub mod Pieces
 pub mod Reading
 pub mod Over
+pub mod Beginning
 pub mod Source
 pub mod Merging

@@ -11,6 +11,7 @@ use Rattle.stream_merge.specs.declared.merge.Merge.{Merge}
 use Rattle.stream_merge.specs.Pieces.{NamedBytes}
 use Rattle.stream_merge.specs.Reading.{IsSampleOf, AreSamplesOf}
 use Rattle.stream_merge.specs.Source.{IsReady, Coming, unread}
+use Rattle.stream_merge.specs.Beginning.{IsPlaced}
 
 -- a sample that is kept, if one is
 abbrev pub kept_of : Option ℕ → List ℕ → List Sample
@@ -59,6 +60,7 @@ pub record IsGoing {R : Type 0} (tells : Bool) (bytes : R → List ℕ) (m : Mer
 pub record Rest {R : Type 0} (bytes : R → List ℕ) (m : Merge R) (left : List NamedBytes) (xs : List Sample) : Type 0 where
   pub coming : List Sample
   pub comes : Coming bytes m.source left coming
+  pub placed : IsPlaced (behind m.last) m.query.from comes.here
   pub are : xs ≡ answer (kept_of m.kept m.kept_line.items ++ taken_from (behind m.last) coming) m.query
 
 -- some of the pieces are left, and it has these yet to give

@@ -1,15 +1,16 @@
--- What the bytes of a piece say. A piece of the merge's type is a file whose header is of that type. Of a piece that isn't, those
--- samples count that stand before its first bad line.
-use Rattle.std.specs.Prelude.{◌≡◌, ◌≢◌, ◌⊎◌, ℕ, ℤ, List, ◌∷◌, ◌++◌, take, Contains}
+-- What the bytes of a piece say: a file of the merge's type, or one with a bad line.
+use Rattle.std.specs.Prelude.{◌≡◌, ◌≢◌, ◌⊎◌, ◌≤◌, ◌+◌, ℕ, ℤ, List, ◌∷◌, ◌++◌, length, take, drop, Contains}
 use Rattle.std.specs.List.{AllByRecursion, AllZip}
 use Rattle.line_escape.specs.Unescaping.{HasNoNewline}
 use Rattle.pb_wire.specs.declared.payload.PayloadType.{PayloadType}
 use Rattle.disk_model.specs.Files.{Name}
 use Rattle.series_model.specs.declared.sample.Sample.{Sample}
-use Rattle.series_model.specs.Series.{IsRising}
+use Rattle.series_model.specs.Series.{end_of}
 use Rattle.payload_info.specs.declared.info.PayloadInfo.{PayloadInfo}
 use Rattle.pb_lines.specs.Header.{IsHeaderLine}
-use Rattle.pb_lines.specs.File.{IsFile, IsBadAt, IsSample}
+use Rattle.pb_lines.specs.File.{IsFile, IsSample, HasNoHeader, HasNoSample}
+use Rattle.pb_file.specs.Search.{IsLineStart}
+use Rattle.pb_file.specs.Skip.{from_place}
 use Rattle.stream_merge.specs.Pieces.{NamedBytes}
 
 -- the sample's line is an event of the type, which stands at its moment in some year
@@ -31,11 +32,26 @@ pub record HasForeignHeader (ty : PayloadType) (bytes : List ℕ) : Type 0 where
   pub header : IsHeaderLine head info
   pub other : info.ty ≢ ty
 
--- the first bad line begins at this place; a header of another type is bad at 0
-abbrev pub IsBadFor : PayloadType → List ℕ → ℕ → Type 0
-IsBadFor ty bytes at = IsBadAt bytes at ⊎ ((at ≡ 0) × HasForeignHeader ty bytes)
+-- The bytes begin with a header of the type. From `start`, where a line begins, up to this place they are the lines of samples of the
+-- header's year that rise, and here stands no such line that is later.
+pub record IsBadLine (ty : PayloadType) (bytes : List ℕ) (at : ℕ) : Type 0 where
+  pub head : List ℕ
+  pub rest : List ℕ
+  pub info : PayloadInfo
+  pub start : ℕ
+  pub samples : List Sample
+  pub text : bytes ≡ head ++ 10 ∷ rest
+  pub type : info.ty ≡ ty
+  pub begins : IsLineStart bytes (length head + 1) start
+  pub order : start ≤ at
+  pub lines : IsFile (from_place head start (take at bytes)) head info samples
+  pub bad : HasNoSample info (λ t. end_of samples ≤ t) (drop at bytes)
 
--- one of the pieces has this name, and its first bad line begins at this place
+-- a bad line begins at this place; no header, or one of another type, is bad at 0
+abbrev pub IsBadFor : PayloadType → List ℕ → ℕ → Type 0
+IsBadFor ty bytes at = ((at ≡ 0) × (HasNoHeader bytes ⊎ HasForeignHeader ty bytes)) ⊎ IsBadLine ty bytes at
+
+-- one of the pieces has this name, and a bad line begins in it at this place
 pub record IsDamaged (ty : PayloadType) (pieces : List NamedBytes) (name : Name) (at : ℕ) : Type 0 where
   pub piece : NamedBytes
   pub among : Contains pieces piece
@@ -44,17 +60,13 @@ pub record IsDamaged (ty : PayloadType) (pieces : List NamedBytes) (name : Name)
 
 -- SAMPLES
 
--- these samples come first
-abbrev pub BeginsWith : List Sample → List Sample → Type 0
-BeginsWith samples front = (more : List Sample) × (samples ≡ front ++ more)
-
--- The samples that a piece may have, as far as its lines tell: they rise, and begin with those of each file of the type that the bytes
--- begin with. Of a whole file of the type they are its samples.
+-- the piece is a file of the type, and these are its samples
 pub record IsReadAs (ty : PayloadType) (bytes : List ℕ) (samples : List Sample) : Type 0 where
-  pub rising : IsRising samples
-  pub fronts : (at : ℕ) (head : List ℕ) (info : PayloadInfo) (front : List Sample) → IsFile (take at bytes) head info front → info.ty ≡ ty → BeginsWith samples front
-  pub whole : (head : List ℕ) (info : PayloadInfo) (all : List Sample) → IsFile bytes head info all → info.ty ≡ ty → samples ≡ all
+  pub head : List ℕ
+  pub info : PayloadInfo
+  pub file : IsFile bytes head info samples
+  pub type : info.ty ≡ ty
 
--- each piece may have these samples
+-- each piece is a file of the type, and these are their samples
 abbrev pub AreReadAs : PayloadType → List NamedBytes → List (List Sample) → Type 0
 AreReadAs ty pieces lists = AllZip (λ p xs. IsReadAs ty p.bytes xs) pieces lists

@@ -1,22 +1,37 @@
 -- The samples that are yet to be read: of the open piece, of the pieces behind it, and of the tail. And what a call that reads the next
 -- one comes to.
-use Rattle.std.specs.Prelude.{◌≡◌, ◌⊎◌, ℕ, ◌+◌, ◌-◌, ◌*◌, ◌^◌, ◌≤◌, Bool, List, [], ◌∷◌, ◌++◌, Option, None, Some, IsTrue, length, take, drop}
+use Rattle.std.specs.Prelude.{◌≡◌, ◌⊎◌, ℕ, ◌+◌, ◌-◌, ◌*◌, ◌^◌, ◌≤◌, ◌<◌, Bool, List, [], ◌∷◌, ◌++◌, Option, None, Some, IsTrue, length, take, drop}
 use Rattle.std.specs.List.{flat_map}
 use Rattle.pb_wire.specs.declared.payload.PayloadType.{PayloadType}
 use Rattle.disk_model.specs.Files.{Name, Rose}
+use Rattle.std.specs.Int.Digits.{digits_of}
 use Rattle.series_model.specs.declared.sample.Sample.{Sample}
+use Rattle.series_model.specs.declared.sample.Query.{Query}
 use Rattle.payload_info.specs.declared.info.PayloadInfo.{PayloadInfo}
 use Rattle.pb_file.specs.declared.walk.Walked.{Walked}
 use Rattle.pb_file.specs.declared.walk.Walked.TheVariants as walked
-use Rattle.pb_file.specs.Walk.{Front, HasWalked}
+use Rattle.pb_lines.specs.File.{IsFile}
+use Rattle.pb_file.specs.Walk.{Walk, Front}
+use Rattle.pb_file.specs.Search.{IsLineStart}
+use Rattle.pb_file.specs.Skip.{HasSkipped, from_place}
 use Rattle.stream_merge.specs.declared.pieces.Merged.{Merged}
 use Rattle.stream_merge.specs.declared.pieces.Merged.TheVariants.{Line, End, ReadFault, Damaged, Spent, Memory}
 use Rattle.stream_merge.specs.declared.source.OpenPiece.{OpenPiece}
 use Rattle.stream_merge.specs.declared.source.Source.{Source}
 use Rattle.stream_merge.specs.Pieces.{NamedBytes, Failure, Faulted, OutOfActs, OutOfMemory}
-use Rattle.stream_merge.specs.Reading.{IsReadAs, AreReadAs, IsDamaged}
+use Rattle.stream_merge.specs.Reading.{AreReadAs, IsDamaged}
+use Rattle.stream_merge.specs.Beginning.{early_count, IsPlaced, AnswersAs}
 
 -- THE OPEN PIECE
+
+-- The bytes begin with the header's line. The walk went on at a place where a line begins, and since then has read samples.
+pub record HasBegun (w : Walk) (bytes : List ℕ) : Type 0 where
+  pub at : ℕ
+  pub front : Front
+  pub rest : List ℕ
+  pub skipped : HasSkipped w bytes at front
+  pub text : take w.len bytes ≡ front.head ++ 10 ∷ rest
+  pub begins : IsLineStart (take w.len bytes) (length front.head + 1) at
 
 -- The header was read, which is of the type, and the walk goes on. The reader has the bytes of the piece.
 pub record IsBegun {R : Type 0} (tells : Bool) (bytes : R → List ℕ) (ty : PayloadType) (p : OpenPiece R) : Type 0 where
@@ -26,7 +41,7 @@ pub record IsBegun {R : Type 0} (tells : Bool) (bytes : R → List ℕ) (ty : Pa
   pub type : info.ty ≡ ty
   pub within : p.walk.place ≤ p.walk.len
   pub bytes_are : IsTrue tells → p.walk.len ≤ length (bytes p.reader)
-  pub walked : IsTrue tells → (front : Front) × HasWalked p.walk (bytes p.reader) (Some front)
+  pub walked : IsTrue tells → HasBegun p.walk (bytes p.reader)
 
 -- the next line may be read: a piece that is open has begun
 abbrev pub IsReady : {R : Type 0} → Bool → (R → List ℕ) → PayloadType → Option (OpenPiece R) → Type 0
@@ -38,23 +53,24 @@ abbrev pub open_pieces : {R : Type 0} → (R → List ℕ) → Option (OpenPiece
 open_pieces {R} bytes None = []
 open_pieces {R} bytes (Some p) = record { name = p.name; bytes = take p.walk.len (bytes p.reader) } ∷ []
 
--- behind the samples that were read, these may come
-pub record GoesOnAs {R : Type 0} (bytes : R → List ℕ) (ty : PayloadType) (p : OpenPiece R) (xs : List Sample) : Type 0 where
+-- The header's line and the bytes from the place on where the walk went on are a file, of the samples that were read since then and of
+-- these.
+pub record GoesOnAs {R : Type 0} (bytes : R → List ℕ) (p : OpenPiece R) (xs : List Sample) : Type 0 where
+  pub at : ℕ
   pub front : Front
-  pub walked : HasWalked p.walk (bytes p.reader) (Some front)
-  pub type : front.info.ty ≡ ty
-  pub read : IsReadAs ty (take p.walk.len (bytes p.reader)) (front.samples ++ xs)
+  pub skipped : HasSkipped p.walk (bytes p.reader) at front
+  pub file : IsFile (from_place front.head at (take p.walk.len (bytes p.reader))) front.head front.info (front.samples ++ xs)
 
 -- what the open piece may have yet to give
-abbrev pub IsOpenAs : {R : Type 0} → (R → List ℕ) → PayloadType → Option (OpenPiece R) → List Sample → Type 0
-IsOpenAs {R} bytes ty None xs = xs ≡ []
-IsOpenAs {R} bytes ty (Some p) xs = GoesOnAs bytes ty p xs
+abbrev pub IsOpenAs : {R : Type 0} → (R → List ℕ) → Option (OpenPiece R) → List Sample → Type 0
+IsOpenAs {R} bytes None xs = xs ≡ []
+IsOpenAs {R} bytes (Some p) xs = GoesOnAs bytes p xs
 
 -- what a read of the open piece's next line came to, where these were to come
-abbrev pub ReadsOpen : {R : Type 0} → (R → List ℕ) → PayloadType → Option (OpenPiece R) → List Sample → List ℕ → Merged R → Type 0
-ReadsOpen {R} bytes ty piece xs line (Line t) = (rest : List Sample) × (xs ≡ record { t = t; line = line } ∷ rest) × IsOpenAs bytes ty piece rest
-ReadsOpen {R} bytes ty piece xs line End = xs ≡ []
-ReadsOpen {R} bytes ty piece xs line _ = Unit {0}
+abbrev pub ReadsOpen : {R : Type 0} → (R → List ℕ) → Option (OpenPiece R) → List Sample → List ℕ → Merged R → Type 0
+ReadsOpen {R} bytes piece xs line (Line t) = (rest : List Sample) × (xs ≡ record { t = t; line = line } ∷ rest) × IsOpenAs bytes piece rest
+ReadsOpen {R} bytes piece xs line End = xs ≡ []
+ReadsOpen {R} bytes piece xs line _ = Unit {0}
 
 -- ALL THAT IS TO COME
 
@@ -62,7 +78,7 @@ ReadsOpen {R} bytes ty piece xs line _ = Unit {0}
 pub record Coming {R : Type 0} (bytes : R → List ℕ) (s : Source R) (left : List NamedBytes) (xs : List Sample) : Type 0 where
   pub here : List Sample
   pub lists : List (List Sample)
-  pub begins : IsOpenAs bytes s.ty s.piece here
+  pub begins : IsOpenAs bytes s.piece here
   pub are_left : AreReadAs s.ty left lists
   pub all : xs ≡ here ++ (flat_map (λ (l : List Sample). l) lists ++ drop s.at s.tail.items)
 
@@ -72,11 +88,59 @@ pub record StillComing {R : Type 0} (bytes : R → List ℕ) (left : List NamedB
   pub left_is : left pieces
   pub coming : Coming bytes s pieces xs
 
+-- WHERE A PIECE BEGINS
+
+-- of a file of these samples the piece gives those that count, whatever comes behind it
+pub record BeginsAs {R : Type 0} (bytes : R → List ℕ) (n : ℕ) (q : Query) (p : OpenPiece R) (xs : List Sample) : Type 0 where
+  pub here : List Sample
+  pub gives : GoesOnAs bytes p here
+  pub placed : IsPlaced n q.from here
+  pub same : (more : List Sample) → AnswersAs n q (xs ++ more) (here ++ more)
+
+-- THE STEPS
+
+-- a bound on the steps that it takes to find where pieces begin: 4 * d + 8 for each, d being the number of binary digits of its length
+abbrev pub search_steps : List NamedBytes → ℕ
+search_steps [] = 0
+search_steps (p ∷ ps) = 4 * length (digits_of 2 (length p.bytes)) + 8 + search_steps ps
+
+-- The first of the pieces were opened, and these are left. The steps are no more than the room and what it takes to open those.
+pub record HasTaken (pieces left : List NamedBytes) (room steps : ℕ) : Type 0 where
+  pub opened : List NamedBytes
+  pub are : pieces ≡ opened ++ left
+  pub few : steps ≤ room + search_steps opened
+
+-- so it is for the pieces that are left
+pub record TakesFew (left : List NamedBytes → Type 0) (pieces : List NamedBytes) (room steps : ℕ) : Type 0 where
+  pub rest : List NamedBytes
+  pub left_is : left rest
+  pub taken : HasTaken pieces rest room steps
+
+-- A line was read, where these were to come. A step is counted beside the room, but not for a sample that isn't from n on, or is earlier
+-- than the interval.
+pub record PullsLine {R : Type 0} (bytes : R → List ℕ) (left : List NamedBytes → Type 0) (n : ℕ) (q : Query) (pieces : List NamedBytes) (xs : List Sample) (room : ℕ) (s : Source R) (sample : Sample) (steps : ℕ) : Type 0 where
+  pub rest : List Sample
+  pub same : AnswersAs n q xs (sample ∷ rest)
+  pub still : StillComing bytes left s rest
+  pub placed : IsPlaced n q.from still.coming.here
+  pub later : IsPlaced (sample.t + 1) q.from still.coming.here
+  pub taken : HasTaken pieces still.pieces (room + 1) (steps + early_count q.from still.coming.here)
+  pub free : (sample.t < n) ⊎ (sample.t < q.from) → HasTaken pieces still.pieces room (steps + early_count q.from still.coming.here)
+
+-- none was left, where these were to come
+pub record PullsEnd {R : Type 0} (bytes : R → List ℕ) (left : List NamedBytes → Type 0) (n : ℕ) (q : Query) (pieces : List NamedBytes) (xs : List Sample) (room : ℕ) (s : Source R) (steps : ℕ) : Type 0 where
+  pub same : AnswersAs n q xs []
+  pub still : StillComing bytes left s []
+  pub placed : IsPlaced n q.from still.coming.here
+  pub taken : HasTaken pieces still.pieces room (steps + early_count q.from still.coming.here)
+
 -- what a read of the next line came to, where these were to come
-abbrev pub Pulls : {R : Type 0} → (R → List ℕ) → (List NamedBytes → Type 0) → Source R → List Sample → List ℕ → Merged R → Type 0
-Pulls {R} bytes left s xs line (Line t) = (rest : List Sample) × (xs ≡ record { t = t; line = line } ∷ rest) × StillComing bytes left s rest
-Pulls {R} bytes left s xs line End = (xs ≡ []) × StillComing bytes left s []
-Pulls {R} bytes left s xs line _ = Unit {0}
+abbrev pub Pulls : {R : Type 0} → (R → List ℕ) → (List NamedBytes → Type 0) → ℕ → Query → List NamedBytes → List Sample → ℕ → Source R → List ℕ → ℕ → Merged R → Type 0
+Pulls {R} bytes left n q pieces xs room s line steps (Line t) = PullsLine bytes left n q pieces xs room s (record { t = t; line = line }) steps
+Pulls {R} bytes left n q pieces xs room s line steps End = PullsEnd bytes left n q pieces xs room s steps
+Pulls {R} bytes left n q pieces xs room s line steps _ = TakesFew left pieces (room + 1) steps
+
+-- WHICH PIECES ARE DONE WITH
 
 -- of the pieces, the open one and those that were left, the first ones are done with
 pub record Passes {R : Type 0} (bytes : R → List ℕ) (left : List NamedBytes → Type 0) (pieces : List NamedBytes) (piece : Option (OpenPiece R)) : Type 0 where

@@ -1,5 +1,5 @@
 //! The merge of pieces and a tail.
-ghost use Rattle.std.specs.Prelude.{◌≡◌, ◌≤◌, ◌<◌, ◌↔◌, ◌∷◌, ◌++◌, [], ℕ, List, Option, Some, None, IsSome, IsTrue};
+ghost use Rattle.std.specs.Prelude.{◌≡◌, ◌≤◌, ◌<◌, ◌+◌, ◌↔◌, ◌∷◌, ◌++◌, [], ℕ, List, Option, Some, None, IsSome, IsTrue};
 ghost use Rattle.disk_model.specs.Files.{Name, Rose};
 ghost use Rattle.series_model.specs.declared.sample.Sample.{Sample as SampleValue};
 ghost use Rattle.series_model.specs.Series.{IsRising};
@@ -8,7 +8,7 @@ ghost use Rattle.stream_merge.specs.Pieces.{NamedBytes};
 ghost use Rattle.stream_merge.specs.Reading.{IsSampleOf, AreSamplesOf, AreReadAs, IsDamaged};
 ghost use Rattle.pb_file.specs.Walk.{behind};
 ghost use Rattle.stream_merge.specs.Over.{over_all};
-ghost use Rattle.stream_merge.specs.Source.{open_pieces, HasFailed, OpensOn, IsGiven, Went};
+ghost use Rattle.stream_merge.specs.Source.{open_pieces, HasFailed, OpensOn, IsGiven, Went, TakesFew};
 ghost use Rattle.stream_merge.specs.Merging.{IsGoing, IsDue, IsEarly, Rest, Answers, Gives, kept_of, line_from, remaining};
 
 use crate::pieces::{Merged, Pieces};
@@ -55,7 +55,8 @@ impl<R: ReadAt> Merge<R> {
     /// Gives the next line of the answer, in place of what `line` had, or tells that there is none. After any answer but `Line` it isn't
     /// called again.
     ///
-    /// Each call is given the pieces that are left of the same ones. `steps` counts the lines that are read.
+    /// Each call is given the pieces that are left of the same ones. `steps` counts the lines that are read: of files of the type at most 4,
+    /// and `4 * d + 8` for each piece that is opened, `d` being the number of binary digits of its length.
     pub fn next<P: Pieces<Reader = R>, L: Ledger>(
         &mut self,
         pieces: &mut P,
@@ -77,12 +78,13 @@ impl<R: ReadAt> Merge<R> {
         ensures faults { P.faults pieces.old ≤ P.faults pieces.new }
         ensures count { P.count pieces.new ≤ P.count pieces.old }
         ensures smaller { (t : ℕ) → result ≡ Merged.Line t → remaining (P.count pieces.new) self.new < remaining (P.count pieces.old) self.old }
+        ensures steps { IsTrue R.tells → (ps : List NamedBytes) (xs : List SampleValue) → P.left pieces.old ps → Rest R.bytes self.old ps xs → TakesFew (P.left pieces.new) ps (steps.old + 4) steps.new }
     {
         if self.is_due() {
             return self.give_due(line);
         }
         'samples: loop {
-            let t = match self.source.pull(pieces, line, steps) {
+            let t = match self.source.pull(pieces, self.query, self.last, line, steps) {
                 Merged::Line { t } => t,
                 Merged::End => return self.give_kept(line),
                 merged => return merged,

@@ -35,7 +35,8 @@ pub enum Merged<R: ReadAt> {
     /// A read of this file failed, which it has counted. Where there is none, the opening of a piece failed, which the pieces have
     /// counted.
     ReadFault { failed: Option<R> },
-    /// The bytes of this piece are no file of the type; the first bad line begins at this place. A header of another type is bad at 0.
+    /// The bytes of this piece are no file of the type: a bad line begins at this place. A header of another type is bad at 0. Lines that
+    /// are passed over aren't looked at.
     Damaged { name: FileName, at: u64 },
     /// The acts by which pieces are opened are spent.
     Spent,

@@ -1,5 +1,5 @@
 //! The samples of pieces and of a tail, one after another.
-ghost use Rattle.std.specs.Prelude.{◌≡◌, ◌≢◌, ◌≤◌, ◌<◌, ◌^◌, ◌↔◌, ◌⊎◌, ◌∷◌, ◌++◌, [], ℕ, List, Option, Some, None, IsSome, IsTrue, IfOk, IfErr, Err, length, take, drop};
+ghost use Rattle.std.specs.Prelude.{◌≡◌, ◌≢◌, ◌≤◌, ◌<◌, ◌+◌, ◌*◌, ◌^◌, ◌↔◌, ◌⊎◌, ◌∷◌, ◌++◌, [], ℕ, List, Option, Some, None, IsSome, IsTrue, IfOk, IfErr, Err, length, take, drop};
 ghost use Rattle.disk_model.specs.Files.{Name, Rose};
 ghost use Rattle.series_model.specs.declared.sample.Sample.{Sample as SampleValue};
 ghost use Rattle.payload_info.specs.declared.info.PayloadInfo.{PayloadInfo as Info};
@@ -7,12 +7,16 @@ ghost use Rattle.stream_merge.specs.declared.pieces.Merged.TheVariants as merged
 ghost use Rattle.stream_merge.specs.Pieces.{NamedBytes};
 ghost use Rattle.stream_merge.specs.Reading.{IsSampleOf, AreSamplesOf, IsBadFor, IsReadAs, IsDamaged};
 ghost use Rattle.stream_merge.specs.Source.{IsReady, IsOpenAs, open_pieces, HasFailed, HasFailedNow, HasRisen, Grew, Coming, ReadsOpen, Pulls, OpensOn, Went, unread, unread_in, IsStop, ClosesAs, IsFailure, IsGiven, IsOfTail};
+ghost use Rattle.stream_merge.specs.Source.{BeginsAs};
+ghost use Rattle.stream_merge.specs.Beginning.{early_count, IsPlaced, IsAtLine, TellsAs};
+ghost use Rattle.pb_file.specs.Walk.{behind};
 
+use crate::beginning::skip;
 use crate::pieces::{Merged, Opened, Pieces};
 use disk_model::{FileName, ReadAt};
-use pb_file::{FileWalk, Steps, Walked};
+use pb_file::{FileWalk, SearchErr, Steps, Walked};
 use pb_wire::PayloadType;
-use series_model::Sample;
+use series_model::{Query, Sample};
 use std::alloc::Global;
 use std::sync::ledger::Ledger;
 
@@ -48,10 +52,13 @@ impl<R: ReadAt> Source<R> {
         }
     }
 
-    // Reads the next sample's line. `End` says that there is none.
+    // Reads the next sample's line. `End` says that there is none. Of a piece that is opened those samples are left out that aren't later
+    // than `last`, and those before the last one that is earlier than the interval.
     pub(crate) fn pull<P: Pieces<Reader = R>, L: Ledger>(
         &mut self,
         pieces: &mut P,
+        query: Query,
+        last: Option<u64>,
         line: &mut Vec<u8>,
         steps: &mut Steps<L>,
     ) -> Merged<R>
@@ -60,7 +67,8 @@ impl<R: ReadAt> Source<R> {
         requires may { P.may_open pieces.old }
         ensures ready { IsGiven result → IsReady R.tells R.bytes self.new.ty self.new.piece }
         ensures same { (self.new.ty ≡ self.old.ty) × (self.new.tail ≡ self.old.tail) }
-        ensures lines { IsTrue R.tells → (ps : List NamedBytes) (xs : List SampleValue) → P.left pieces.old ps → Coming R.bytes self.old ps xs → Pulls R.bytes (P.left pieces.new) self.new xs line.new.items result }
+        ensures lines { IsTrue R.tells → (ps : List NamedBytes) (xs : List SampleValue) → P.left pieces.old ps → (c : Coming R.bytes self.old ps xs) → IsPlaced (behind last) query.from c.here
+            → Pulls R.bytes (P.left pieces.new) (behind last) query ps xs (steps.old + early_count query.from c.here) self.new line.new.items steps.new result }
         ensures event { (t : ℕ) → result ≡ Merged.Line t → IsSampleOf self.old.ty (record { t = t; line = line.new.items }) }
         ensures opens { IsTrue R.tells → (ps : List NamedBytes) → P.left pieces.old ps → OpensOn R.bytes (P.left pieces.new) self.old.piece self.new.piece ps result }
         ensures damaged { IsTrue R.tells → (ps : List NamedBytes) → P.left pieces.old ps → (name : Name) (at : ℕ) → result ≡ Merged.Damaged name at → IsDamaged self.old.ty (open_pieces R.bytes self.old.piece ++ ps) name at }
@@ -84,7 +92,9 @@ impl<R: ReadAt> Source<R> {
                     name,
                     len,
                     ..
-                } => match begin(self.alloc, self.ty, reader, name, len, line, steps) {
+                } => match open_at(
+                    self.alloc, self.ty, reader, name, len, query, last, line, steps,
+                ) {
                     Ok(piece) => self.piece = Some(piece),
                     Err(merged) => return merged,
                 },
@@ -102,7 +112,7 @@ impl<R: ReadAt> Source<R> {
         ensures ready { (t : ℕ) → result ≡ Merged.Line t → IsReady R.tells R.bytes self.new.ty self.new.piece }
         ensures closed { result ≡ Merged.End → self.new.piece ≡ None }
         ensures same { self.new ≡ record self.old { piece = self.new.piece } }
-        ensures lines { IsTrue R.tells → (xs : List SampleValue) → IsOpenAs R.bytes self.old.ty self.old.piece xs → ReadsOpen R.bytes self.old.ty self.new.piece xs line.new.items result }
+        ensures lines { IsTrue R.tells → (xs : List SampleValue) → IsOpenAs R.bytes self.old.piece xs → ReadsOpen R.bytes self.new.piece xs line.new.items result }
         ensures event { (t : ℕ) → result ≡ Merged.Line t → IsSampleOf self.old.ty (record { t = t; line = line.new.items }) }
         ensures stays { IsTrue R.tells → (t : ℕ) → result ≡ Merged.Line t → open_pieces R.bytes self.new.piece ≡ open_pieces R.bytes self.old.piece }
         ensures damaged { IsTrue R.tells → (name : Name) (at : ℕ) → result ≡ Merged.Damaged name at → IsDamaged self.old.ty (open_pieces R.bytes self.old.piece) name at }
@@ -110,6 +120,9 @@ impl<R: ReadAt> Source<R> {
         ensures never { result ≢ Merged.Spent }
         ensures grew { (t : ℕ) → result ≡ Merged.Line t → Grew R.faults self.old.piece self.new.piece }
         ensures smaller { (t : ℕ) → result ≡ Merged.Line t → unread_in self.new.piece < unread_in self.old.piece }
+        ensures counts { steps.old ≤ steps.new }
+        ensures one_step { steps.new ≤ steps.old + 1 }
+        ensures no_step { result ≡ Merged.End → steps.new ≡ steps.old }
     {
         let Some(piece) = &mut self.piece else {
             return Merged::End;
@@ -145,6 +158,46 @@ impl<R: ReadAt> Source<R> {
     }
 }
 
+// Opens a piece where its samples begin to count: at the last one that is earlier than the interval, or behind those that aren't later
+// than the last one taken.
+fn open_at<R: ReadAt, L: Ledger>(
+    alloc: Global,
+    ty: PayloadType,
+    reader: R,
+    name: FileName,
+    len: u64,
+    query: Query,
+    last: Option<u64>,
+    line: &mut Vec<u8>,
+    steps: &mut Steps<L>,
+) -> Result<OpenPiece<R>, Merged<R>>
+    requires bytes { IsTrue R.tells → len ≤ length (R.bytes reader) }
+    ensures ready { IfOk result (λ p. IsReady R.tells R.bytes ty (Some p)) }
+    ensures pieces { IsTrue R.tells → IfOk result (λ p. open_pieces R.bytes (Some p) ≡ record { name = name; bytes = take len (R.bytes reader) } ∷ []) }
+    ensures lines { IsTrue R.tells → (xs : List SampleValue) → IsReadAs ty (take len (R.bytes reader)) xs → IfOk result (λ p. BeginsAs R.bytes (behind last) query p xs) }
+    ensures small { IfOk result (λ p. unread_in (Some p) < 2 ^ 64) }
+    ensures damaged { IsTrue R.tells → (found : Name) (at : ℕ) → result ≡ Err (merged.Damaged found at) → (found ≡ name) × IsBadFor ty (take len (R.bytes reader)) at }
+    ensures failed { (failed : Option R) → result ≡ Err (merged.ReadFault failed) → HasFailedNow R.faults failed }
+    ensures failure { IfErr result IsFailure }
+    ensures counts { steps.old ≤ steps.new }
+    ensures steps { (d : ℕ) → len < 2 ^ d → steps.new ≤ steps.old + 4 * d + 5 }
+{
+    let mut piece = begin(alloc, ty, reader, name, len, line, steps)?;
+    match skip(
+        alloc,
+        &mut piece.walk,
+        &mut piece.reader,
+        len,
+        query,
+        last,
+        line,
+        steps,
+    ) {
+        Ok(()) => Ok(piece),
+        Err(err) => Err(refuse(piece, err)),
+    }
+}
+
 // Opens a piece: its first line is to be a header of the type.
 fn begin<R: ReadAt, L: Ledger>(
     alloc: Global,
@@ -158,11 +211,15 @@ fn begin<R: ReadAt, L: Ledger>(
     requires bytes { IsTrue R.tells → len ≤ length (R.bytes reader) }
     ensures ready { IfOk result (λ p. IsReady R.tells R.bytes ty (Some p)) }
     ensures pieces { IsTrue R.tells → IfOk result (λ p. open_pieces R.bytes (Some p) ≡ record { name = name; bytes = take len (R.bytes reader) } ∷ []) }
-    ensures lines { IsTrue R.tells → (xs : List SampleValue) → IsReadAs ty (take len (R.bytes reader)) xs → IfOk result (λ p. IsOpenAs R.bytes ty (Some p) xs) }
+    ensures begun { IsTrue R.tells → IfOk result (λ p. IsAtLine p.walk.place p.walk (R.bytes reader)) }
+    ensures same { IfOk result (λ p. (p.walk.len ≡ len) × (p.name ≡ name)) }
+    ensures bytes { IsTrue R.tells → IfOk result (λ p. R.bytes p.reader ≡ R.bytes reader) }
     ensures small { IfOk result (λ p. unread_in (Some p) < 2 ^ 64) }
     ensures damaged { IsTrue R.tells → (found : Name) (at : ℕ) → result ≡ Err (merged.Damaged found at) → (found ≡ name) × IsBadFor ty (take len (R.bytes reader)) at }
     ensures failed { (failed : Option R) → result ≡ Err (merged.ReadFault failed) → HasFailedNow R.faults failed }
     ensures failure { IfErr result IsFailure }
+    ensures counts { steps.old ≤ steps.new }
+    ensures one_step { steps.new ≤ steps.old + 1 }
 {
     let mut piece = OpenPiece {
         reader,
@@ -214,5 +271,21 @@ fn close<R: ReadAt>(piece: OpenPiece<R>, walked: Walked) -> Merged<R>
         Walked::Memory => Merged::Memory,
         Walked::Header => unreachable!(),
         Walked::Sample { .. } => unreachable!(),
+    }
+}
+
+// What a failed search is told as.
+fn refuse<R: ReadAt>(piece: OpenPiece<R>, err: SearchErr) -> Merged<R>
+    ensures { TellsAs piece err result }
+{
+    match err {
+        SearchErr::ReadFault => Merged::ReadFault {
+            failed: Some(piece.reader),
+        },
+        SearchErr::Damaged { at } => Merged::Damaged {
+            name: piece.name,
+            at,
+        },
+        SearchErr::Memory => Merged::Memory,
     }
 }

@@ -4,8 +4,9 @@ ghost use Rattle.stream_merge.specs.Merging.{IsGoing};
 
 use crate::{Merge, Merged, Opened, Pieces};
 use disk_model::{FileName, ReadAt, ReadFailed};
+use line_escape::escape;
 use pb_file::Steps;
-use pb_wire::PayloadType;
+use pb_wire::{PayloadType, put_varint};
 use series_model::{Query, Samples};
 use std::alloc::{AllocError, Global};
 use std::fmt::Write as _;
@@ -32,11 +33,11 @@ const S5: &[u8] = b"\x08\x05\x10\x00\x1D\x02\x00\x00\x00\x0A";
 
 const S9: &[u8] = b"\x08\x09\x10\x00\x1D\x03\x00\x00\x00\x0A";
 
-/// Bytes in memory, which don't tell themselves. Reads of a reader that fails fail.
+/// Bytes in memory, which don't tell themselves. Reads fail once so many bytes were read as are allowed.
 #[derive(Drop)]
 struct ListReader {
     bytes: Vec<u8>,
-    fails: bool,
+    allowed: usize,
     faults: u64,
 }
 
@@ -50,24 +51,27 @@ impl ReadAt for ListReader {
     ghost faults = { λ f. f.faults };
 
     fn read_at(&mut self, at: u64, buf: &mut [u8]) -> Result<usize, ReadFailed> {
-        if self.fails {
+        let at = self.bytes.len().min(at as usize);
+        let count = buf.len().min(self.bytes.len() - at);
+        if count > self.allowed {
             self.faults = self.faults.saturating_add(1);
             return Err(ReadFailed);
         }
-        let at = self.bytes.len().min(at as usize);
-        let count = buf.len().min(self.bytes.len() - at);
+        self.allowed -= count;
         buf[..count].copy_from_slice(&self.bytes[at..at + count]);
         Ok(count)
     }
 }
 
-/// Pieces in memory, opened one by one. The piece whose name has the store `failing` fails when it is read.
+/// Pieces in memory, opened one by one. Of each so many bytes may be read; the piece whose name has the store `failing` fails when it is
+/// read.
 #[derive(Drop)]
 struct ListPieces {
     alloc: Global,
     left: Vec<Vec<u8>>,
     opened: u8,
     failing: u8,
+    allowed: usize,
 }
 
 impl Pieces for ListPieces {
@@ -99,7 +103,11 @@ impl Pieces for ListPieces {
         Opened::Piece {
             reader: ListReader {
                 bytes,
-                fails: self.opened == self.failing,
+                allowed: if self.opened == self.failing {
+                    0
+                } else {
+                    self.allowed
+                },
                 faults: 0,
             },
             name: FileName {
@@ -135,6 +143,7 @@ fn pieces_of(alloc: Global, files: &[&[&[u8]]], failing: u8) -> Result<ListPiece
         left,
         opened: 0,
         failing,
+        allowed: usize::MAX,
     })
 }
 
@@ -196,7 +205,7 @@ fn told_by<R: ReadAt, P: Pieces<Reader = R>, L: Ledger>(
 #[test]
 fn lines_are_the_answer_over_all_pieces(rt: HostRuntime) -> Result<(), Fail> {
     let alloc = rt.alloc();
-    let table: [(&[&[&[u8]]], u64, u64, &str, u8); 10] = [
+    let table: [(&[&[&[u8]]], u64, u64, &str, u8); 14] = [
         (&[&[H, S1, S5, S9]], 2, 8, "1 5 end", 1),
         (&[&[H, S1, S5, S9]], 5, 9, "1 5 9 end", 1),
         // A move is half done: second 5 stands in both.
@@ -206,15 +215,21 @@ fn lines_are_the_answer_over_all_pieces(rt: HostRuntime) -> Result<(), Fail> {
         (&[&[H, S1], &[H, S5]], 20, 30, "5 end", 2),
         // The second piece stands behind the interval's end, and the third isn't opened.
         (&[&[H, S1], &[H, S5], &[H, S9]], 0, 3, "1 end", 2),
+        // The second piece goes on behind what the first has, wherever the interval begins.
+        (&[&[H, S1, S5, S9], &[H, S1, S5]], 0, 99, "1 5 9 end", 2),
+        (&[&[H, S1, S5], &[H, S1, S5, S9]], 6, 99, "5 9 end", 2),
+        // The interval lies before all, and behind all.
+        (&[&[H, S5, S9]], 0, 2, "end", 1),
+        (&[&[H, S1, S5, S9]], 20, 30, "9 end", 1),
         // No moment, but the sample before it.
         (&[&[H, S1, S5]], 4, 2, "1 end", 1),
         (&[], 0, 99, "end", 0),
-        // Behind second 5 the line of second 9 is cut short.
+        // Behind second 5 the line of second 9 is cut short, and looked at in the search.
         (
             &[&[H, S1, S5, b"\x08\x09"]],
             0,
             99,
-            "1 5 piece 1 damaged at 31",
+            "piece 1 damaged at 31",
             1,
         ),
         (&[&[H, S1], &[STRINGS]], 0, 99, "1 piece 2 damaged at 0", 2),
@@ -245,5 +260,39 @@ fn a_read_that_fails_gives_its_reader_back(rt: HostRuntime) -> Result<(), Fail> 
     let tail = Samples::from(Vec::new(alloc));
     let merge = Merge::new(alloc, query, PayloadType::ScalarInt, tail);
     assert_eq!(rt; told(alloc, merge, &mut pieces)?.as_str(), "1 fault true");
+    Ok(())
+}
+
+// Appends the line of a second of 2024.
+fn push_line(bytes: &mut Vec<u8>, event: &mut Vec<u8>, second: u64) -> Result<(), AllocError> {
+    event.clear();
+    event.push(0x08)?;
+    put_varint(event, second)?;
+    event.extend_from_slice(b"\x10\x00\x1D\x01\x00\x00\x00")?;
+    escape(event, bytes)?;
+    bytes.push(0x0A)?;
+    Ok(())
+}
+
+#[test]
+fn an_interval_of_a_large_file_is_found_by_search(rt: HostRuntime) -> Result<(), Fail> {
+    let alloc = rt.alloc();
+    let mut bytes = Vec::from_slice(alloc, H)?;
+    let mut event = Vec::new(alloc);
+    for second in 0..100_000 {
+        push_line(&mut bytes, &mut event, second)?;
+    }
+    assert!(rt; bytes.len() > 1_100_000);
+    let mut pieces = pieces_of(alloc, &[], 0)?;
+    pieces.left.push(bytes)?;
+    pieces.allowed = 100_000;
+    let query = Query {
+        from: START + 50_000 * SECOND,
+        to: START + 50_010 * SECOND,
+    };
+    let tail = Samples::from(Vec::new(alloc));
+    let merge = Merge::new(alloc, query, PayloadType::ScalarInt, tail);
+    let want = "49999 50000 50001 50002 50003 50004 50005 50006 50007 50008 50009 50010 end";
+    assert_eq!(rt; told(alloc, merge, &mut pieces)?.as_str(), want);
     Ok(())
 }

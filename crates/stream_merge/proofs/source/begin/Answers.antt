@@ -1,9 +1,18 @@
-use Rattle.std.proofs.Common.{◌≢◌, ℕ, None, inl, sym, ap, ◌∙◌, subst, take}
+use Rattle.std.proofs.Common.{◌≢◌, ℕ, None, arith, sym, ap, ◌∙◌, subst, take}
 use Rattle.pb_file.specs.Walk.{Walk}
 use Rattle.stream_merge.specs.Reading.{IsBadFor}
 use Rattle.stream_merge.proofs.Reading.{foreign_bad}
-use Rattle.stream_merge.proofs.Pulling.{begun_first, opens_as, closed_damaged, walk_bad, gives_now, err_damaged, err_same}
+use Rattle.stream_merge.proofs.Pulling.{at_header, begun_first, closed_damaged, walk_bad, gives_now, err_damaged, err_same}
 use Rattle.stream_merge.proofs.source.begin.Goals as goal
+
+pub returns-then-is_of_type-clause-begun : goal.returns-then-is_of_type-clause-begun
+returns-then-is_of_type-clause-begun g c tells =
+    let R = g.R.ReadAt in
+    let e = c.in-Header.ensures in
+    let going = ap (λ (v : Walk). v.stop) c.new.ensures.start in
+    let gives = gives_now c.new.result.stop _ going e.gives in
+    let w = e.walked tells None (c.new.ensures.walked (R.bytes c.args.reader)) in
+    at_header (R.bytes c.args.reader) c.next.new.line.items w.0 c.next.new.self w.1 (omega (arith, c.requires.bytes tells, ap (λ (v : Walk). v.len) gives.4, ap (λ (v : Walk). v.len) c.new.ensures.start))
 
 pub returns-then-is_of_type-clause-ready : goal.returns-then-is_of_type-clause-ready
 returns-then-is_of_type-clause-ready g c =
@@ -12,17 +21,10 @@ returns-then-is_of_type-clause-ready g c =
     let going = ap (λ (v : Walk). v.stop) c.new.ensures.start in
     let gives = gives_now c.new.result.stop _ going e.gives in
     begun_first R.tells R.bytes c.args.ty c.args.reader c.next.new.file c.args.name c.next.new.line.items c.args.len c.new.result c.next.new.self c.new.ensures.start gives
-    ((c.is_of_type.ensures gives.0 (ap (λ (v : Walk). v.info) gives.4)).0 c.if-is_of_type.true) e.within c.requires.bytes e.same (λ told. e.walked told None (c.new.ensures.walked (R.bytes c.args.reader)))
-
-pub returns-then-is_of_type-clause-lines : goal.returns-then-is_of_type-clause-lines
-returns-then-is_of_type-clause-lines g c tells xs read =
-    let R = g.R.ReadAt in
-    let e = c.in-Header.ensures in
-    let going = ap (λ (v : Walk). v.stop) c.new.ensures.start in
-    let gives = gives_now c.new.result.stop _ going e.gives in
+    ((c.is_of_type.ensures gives.0 (ap (λ (v : Walk). v.info) gives.4)).0 c.if-is_of_type.true) e.within c.requires.bytes e.same
+    (λ tells.
     let w = e.walked tells None (c.new.ensures.walked (R.bytes c.args.reader)) in
-    opens_as R.bytes c.args.ty c.args.reader c.next.new.file c.args.name c.next.new.line.items c.args.len w.0 c.next.new.self xs w.1
-    ((c.is_of_type.ensures w.0 w.1.read.1).0 c.if-is_of_type.true) (ap (λ (v : Walk). v.len) gives.4 ∙ ap (λ (v : Walk). v.len) c.new.ensures.start) (e.same tells) read
+    at_header (R.bytes c.args.reader) c.next.new.line.items w.0 c.next.new.self w.1 (omega (arith, c.requires.bytes tells, ap (λ (v : Walk). v.len) gives.4, ap (λ (v : Walk). v.len) c.new.ensures.start)))
 
 pub returns-else-is_of_type-clause-damaged : goal.returns-else-is_of_type-clause-damaged
 returns-else-is_of_type-clause-damaged g c tells found at is =
@@ -47,4 +49,4 @@ returns-in_default-clause-damaged g c tells found at is =
     let going = ap (λ (v : Walk). v.stop) c.new.ensures.start in
     let gives = gives_now c.new.result.stop _ going e.gives in
     let bad = closed_damaged (record { reader = c.next.new.file; name = c.args.name; walk = c.next.new.self }) c.next.result c.close.result found at c.close.ensures (err_same c.close.result _ is) in
-    (bad.1, inl (walk_bad None (R.bytes c.args.reader) c.next.new.line.items c.next.result at c.args.len c.new.result c.next.new.self bad.0 gives (ap (λ (v : Walk). v.len) c.new.ensures.start) (e.walked tells None (c.new.ensures.walked (R.bytes c.args.reader)))))
+    (bad.1, walk_bad c.args.ty (R.bytes c.args.reader) c.next.new.line.items c.next.result at c.args.len c.new.result c.next.new.self bad.0 gives (ap (λ (v : Walk). v.place) c.new.ensures.start) (ap (λ (v : Walk). v.len) c.new.ensures.start) (e.walked tells None (c.new.ensures.walked (R.bytes c.args.reader))))

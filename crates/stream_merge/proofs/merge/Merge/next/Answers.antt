@@ -1,15 +1,17 @@
-use Rattle.std.proofs.Common.{◌<◌, ◌⊎◌, ◌++◌, ◌∷◌, [], Some, inl, inr, refl, sym, ap, ◌∙◌, subst, arith}
+use Rattle.std.proofs.Common.{◌+◌, ◌<◌, ◌⊎◌, ◌++◌, ◌∷◌, [], Some, inl, inr, refl, sym, ap, ◌∙◌, subst, arith}
 use Rattle.std.proofs.lemmas.Bool.{cases_lt}
 use Rattle.series_model.specs.declared.sample.Sample.{Sample}
 use Rattle.series_model.specs.declared.sample.Query.{Query}
 use Rattle.pb_wire.specs.declared.payload.PayloadType.{PayloadType}
 use Rattle.pb_file.specs.Walk.{behind}
 use Rattle.stream_merge.specs.declared.source.Source.{Source}
+use Rattle.stream_merge.specs.declared.pieces.Merged.TheVariants.{Line, End}
 use Rattle.stream_merge.specs.Reading.{IsSampleOf}
+use Rattle.stream_merge.specs.Beginning.{early_count}
 use Rattle.stream_merge.specs.Source.{open_pieces, Grew, unread}
 use Rattle.stream_merge.specs.Merging.{IsKept, kept_of, kept_count}
 use Rattle.stream_merge.proofs.Coming.{opens_any}
-use Rattle.stream_merge.proofs.Giving.{due_answers, last_answers, gives_answers, gives_event, going_at, kept_now, none_is_kept, passes_join, passes_at, damaged_back, failed_since, since_through, since_more, answers_none, opens_none, still_at, step_skip, step_keep, early_at, rose_lower, count_le, due_count, kept_length, gives_count}
+use Rattle.stream_merge.proofs.Giving.{gives_first, gives_at, left_out, few_none, few_on, few_pulled, taken_on, due_answers, last_answers, gives_answers, gives_event, going_at, kept_now, none_is_kept, passes_join, passes_at, damaged_back, failed_since, since_through, since_more, answers_none, opens_none, step_skip, step_keep, early_at, rose_lower, count_le, due_count, kept_length, gives_count}
 use Rattle.stream_merge.proofs.Went.{goes_nowhere, goes_still, goes_joined, went_given, went_joined, gives_given, grew_same}
 use Rattle.stream_merge.proofs.Later.{given_later, next_low, kept_low, gives_later}
 use Rattle.stream_merge.proofs.merge.Merge.next.Goals as goal
@@ -34,9 +36,10 @@ returns-in-End-clause-lines g c tells ps xs is rest =
     let R = g.R.ReadAt in
     let m = c.samples.self in
     let e = c.give_kept.ensures in
-    let still = c.samples.invariant.lines tells ps xs is rest in
-    let pulled = c.in-End.ensures.lines tells still.pieces still.rest.coming still.left_is still.rest.comes in
-    last_answers R.bytes (g.P.Pieces.left c.pull.new.pieces) m c.give_kept.new.self c.pull.new.self still.rest.coming xs c.give_kept.new.line.items c.give_kept.result e.rest.1 e.rest.0 e.rest.2 e.none pulled.0 pulled.1 c.samples.invariant.early still.rest.are e.line e.end e.whole
+    let still = (c.samples.invariant.lines tells ps xs is rest).still in
+    let pulled = c.in-End.ensures.lines tells still.pieces still.rest.coming still.left_is still.rest.comes still.rest.placed in
+    last_answers R.bytes (g.P.Pieces.left c.pull.new.pieces) m c.give_kept.new.self c.pull.new.self [] xs c.give_kept.new.line.items c.give_kept.result e.rest.1 e.rest.0 e.rest.2 e.none refl pulled.still pulled.placed c.samples.invariant.early
+    (left_out m.source.ty m.query m.last m.kept m.kept_line.items xs still.rest.coming [] c.samples.invariant.going.kept pulled.same still.rest.are) e.line e.end e.whole
 
 pub returns-in-End-clause-opens : goal.returns-in-End-clause-opens
 returns-in-End-clause-opens g c tells ps is =
@@ -76,6 +79,14 @@ returns-in_default g c =
       faults = omega (arith, e.faults, inv.faults);
       count = omega (arith, e.count, inv.count);
       smaller = λ t is. absurd (none t is);
+      steps = λ tells ps xs is rest.
+          let m = c.samples.self in
+          let on = inv.lines tells ps xs is rest in
+          let still = on.still in
+          let left = P.left c.pull.new.pieces in
+          let used = c.samples.steps + early_count m.query.from still.rest.comes.here in
+          few_on R.bytes (P.left c.samples.pieces) left ps xs m c.args.self.now rest c.args.steps.now c.samples.steps c.pull.new.steps on
+          (few_pulled R.bytes left (behind m.last) m.query still.pieces still.rest.coming used c.pull.new.self c.pull.new.line.items c.pull.new.steps r (e.lines tells still.pieces still.rest.coming still.left_is still.rest.comes still.rest.placed));
     }
 
 pub samples-preserved-then-not-is_later : goal.samples-preserved-then-not-is_later
@@ -96,15 +107,19 @@ samples-preserved-then-not-is_later g c =
       early = inv.early;
       same = (inv.same.0, e.same.0 ∙ inv.same.1);
       lines = λ tells ps xs is rest.
-          let still = inv.lines tells ps xs is rest in
-          let pulled = e.lines tells still.pieces still.rest.coming still.left_is still.rest.comes in
+          let on = inv.lines tells ps xs is rest in
+          let still = on.still in
+          let room = c.args.steps.now + early_count c.args.self.now.query.from rest.comes.here in
+          let pulled = e.lines tells still.pieces still.rest.coming still.left_is still.rest.comes still.rest.placed in
           let x : Sample = record { t = t; line = c.pull.new.line.items } in
           let ks = kept_of m.kept m.kept_line.items in
           let low : t < behind m.last = elim (cases_lt t (behind m.last)) [
             | inl lt ↦ lt
             | inr ge ↦ absurd (let later = c.is_later.ensures.1 ge in let not = c.if-not-is_later.true in cc)
           ] in
-          still_at R.bytes left (record m { source = s }) s m.query m.last ks pulled.0 xs refl refl refl refl pulled.2 (step_skip m.query (behind m.last) x pulled.0 still.rest.coming xs ks pulled.1 low still.rest.are);
+          let all = left_out m.source.ty m.query m.last m.kept m.kept_line.items xs still.rest.coming (x ∷ pulled.rest) inv.going.kept pulled.same still.rest.are in
+          let taken = taken_on R.bytes (P.left c.samples.pieces) ps pulled.still.pieces xs m room c.samples.steps (c.pull.new.steps + early_count m.query.from pulled.still.coming.here) on (pulled.free (inl low)) in
+          gives_at R.bytes left ps room (record m { source = s }) s m.query m.last ks pulled.rest xs c.pull.new.steps refl refl refl refl pulled.still pulled.placed taken (step_skip m.query (behind m.last) x pulled.rest (x ∷ pulled.rest) xs ks refl low all);
       opens = λ tells ps is.
           let p = inv.opens tells ps is in
           passes_join R.bytes (P.left c.samples.pieces) left (open_pieces R.bytes first ++ ps) m.source.piece s.piece p (e.opens tells p.rest p.left_is);
@@ -123,10 +138,12 @@ returns-then-t-self-clause-lines g c tells ps xs is rest =
     let inv = c.samples.invariant in
     let e = c.give.ensures in
     let t = c.in-Line.t in
-    let still = inv.lines tells ps xs is rest in
-    let pulled = c.in-Line.ensures.lines tells still.pieces still.rest.coming still.left_is still.rest.comes in
+    let still = (inv.lines tells ps xs is rest).still in
+    let pulled = c.in-Line.ensures.lines tells still.pieces still.rest.coming still.left_is still.rest.comes still.rest.placed in
     let line = c.pull.new.line in
-    gives_answers R.bytes (g.P.Pieces.left c.pull.new.pieces) c.give.new.self m.kept m.kept_line.items c.pull.new.self m.query (behind m.last) t line.items c.give.new.line.items pulled.0 still.rest.coming xs c.give.result e.rest.1 e.rest.0 e.rest.2 pulled.1 pulled.2 (c.is_later.ensures.0 c.if-not-is_later.false) c.if-t-self.true inv.early still.rest.are e.gives e.swapped e.stays
+    let x : Sample = record { t = t; line = line.items } in
+    let all = left_out m.source.ty m.query m.last m.kept m.kept_line.items xs still.rest.coming (x ∷ pulled.rest) inv.going.kept pulled.same still.rest.are in
+    gives_answers R.bytes (g.P.Pieces.left c.pull.new.pieces) c.give.new.self m.kept m.kept_line.items c.pull.new.self m.query (behind m.last) t line.items c.give.new.line.items pulled.rest (x ∷ pulled.rest) xs c.give.result e.rest.1 e.rest.0 e.rest.2 refl pulled.still pulled.later (c.is_later.ensures.0 c.if-not-is_later.false) c.if-t-self.true inv.early all e.gives e.swapped e.stays
 
 pub returns-then-t-self-clause-event : goal.returns-then-t-self-clause-event
 returns-then-t-self-clause-event g c at is =
@@ -171,10 +188,14 @@ samples-preserved g c =
       early = early_at m₂.kept t m.query.from m₂.query.from k.some (ap (λ (v : Query). v.from) k.rest.0) c.if-t-self.false;
       same = (k.rest.0 ∙ inv.same.0, ap (λ (v : Source g.row.R.Denot). v.ty) k.rest.1 ∙ e.same.0 ∙ inv.same.1);
       lines = λ tells ps xs is rest.
-          let still = inv.lines tells ps xs is rest in
-          let pulled = e.lines tells still.pieces still.rest.coming still.left_is still.rest.comes in
-          still_at R.bytes left m₂ s m.query (Some t) (x ∷ []) pulled.0 xs k.rest.1 k.rest.0 k.rest.2 k.kept pulled.2
-          (step_keep m.query (behind m.last) m.kept m.kept_line.items x pulled.0 still.rest.coming xs pulled.1 (c.is_later.ensures.0 c.if-not-is_later.false) c.if-t-self.false inv.early still.rest.are);
+          let on = inv.lines tells ps xs is rest in
+          let still = on.still in
+          let room = c.args.steps.now + early_count c.args.self.now.query.from rest.comes.here in
+          let pulled = e.lines tells still.pieces still.rest.coming still.left_is still.rest.comes still.rest.placed in
+          let all = left_out m.source.ty m.query m.last m.kept m.kept_line.items xs still.rest.coming (x ∷ pulled.rest) inv.going.kept pulled.same still.rest.are in
+          let taken = taken_on R.bytes (P.left c.samples.pieces) ps pulled.still.pieces xs m room c.samples.steps (c.pull.new.steps + early_count m.query.from pulled.still.coming.here) on (pulled.free (inr c.if-t-self.false)) in
+          gives_at R.bytes left ps room m₂ s m.query (Some t) (x ∷ []) pulled.rest xs c.pull.new.steps k.rest.1 k.rest.0 k.rest.2 k.kept pulled.still pulled.later taken
+          (step_keep m.query (behind m.last) m.kept m.kept_line.items x pulled.rest (x ∷ pulled.rest) xs refl (c.is_later.ensures.0 c.if-not-is_later.false) c.if-t-self.false inv.early all);
       opens = λ tells ps is.
           let p = inv.opens tells ps is in
           passes_at R.bytes left (open_pieces R.bytes first ++ ps) s m₂ k.rest.1 (passes_join R.bytes (P.left c.samples.pieces) left (open_pieces R.bytes first ++ ps) m.source.piece s.piece p (e.opens tells p.rest p.left_is));
@@ -214,7 +235,7 @@ samples-init g c =
       going = c.requires.going;
       early = c.is_due.ensures.early (λ is. absurd (let no = c.if-is_due.false in cc));
       same = (refl, refl);
-      lines = λ tells ps xs is rest. record { pieces = ps; left_is = is; rest = rest };
+      lines = λ tells ps xs is rest. gives_first R.bytes (g.P.Pieces.left c.args.pieces.now) ps c.args.self.now xs c.args.steps.now is rest;
       opens = λ tells ps is. record { passed = []; rest = ps; left_is = is; are = refl };
       since = inr (grew_same R.faults first);
       faults = omega arith;
@@ -286,3 +307,32 @@ returns-then-t-self-clause-later g c at is =
     let e = c.give.ensures in
     let k = gives_later m.source.ty m.query.to m.last m.kept c.give.new.self.last c.give.new.self.kept m.kept_line.items c.in-Line.t at c.give.result inv.going.kept (c.is_later.ensures.0 c.if-not-is_later.false) e.rest.2 e.gives is in
     (omega (arith, k.0, inv.low), k.1)
+
+-- THE STEPS
+
+pub returns-then-is_due-clause-steps : goal.returns-then-is_due-clause-steps
+returns-then-is_due-clause-steps g c tells ps xs is rest = few_none (g.P.Pieces.left c.args.pieces.now) ps c.args.steps.now c.args.steps.now is (omega arith)
+
+pub returns-in-End-clause-steps : goal.returns-in-End-clause-steps
+returns-in-End-clause-steps g c tells ps xs is rest =
+    let R = g.R.ReadAt in
+    let P = g.P.Pieces in
+    let m = c.samples.self in
+    let on = c.samples.invariant.lines tells ps xs is rest in
+    let still = on.still in
+    let left = P.left c.pull.new.pieces in
+    let used = c.samples.steps + early_count m.query.from still.rest.comes.here in
+    few_on R.bytes (P.left c.samples.pieces) left ps xs m c.args.self.now rest c.args.steps.now c.samples.steps c.pull.new.steps on
+    (few_pulled R.bytes left (behind m.last) m.query still.pieces still.rest.coming used c.pull.new.self c.pull.new.line.items c.pull.new.steps End (c.in-End.ensures.lines tells still.pieces still.rest.coming still.left_is still.rest.comes still.rest.placed))
+
+pub returns-then-t-self-clause-steps : goal.returns-then-t-self-clause-steps
+returns-then-t-self-clause-steps g c tells ps xs is rest =
+    let R = g.R.ReadAt in
+    let P = g.P.Pieces in
+    let m = c.samples.self in
+    let on = c.samples.invariant.lines tells ps xs is rest in
+    let still = on.still in
+    let left = P.left c.pull.new.pieces in
+    let used = c.samples.steps + early_count m.query.from still.rest.comes.here in
+    few_on R.bytes (P.left c.samples.pieces) left ps xs m c.args.self.now rest c.args.steps.now c.samples.steps c.pull.new.steps on
+    (few_pulled R.bytes left (behind m.last) m.query still.pieces still.rest.coming used c.pull.new.self c.pull.new.line.items c.pull.new.steps (Line c.in-Line.t) (c.in-Line.ensures.lines tells still.pieces still.rest.coming still.left_is still.rest.comes still.rest.placed))

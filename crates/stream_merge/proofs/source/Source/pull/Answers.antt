@@ -1,11 +1,14 @@
-use Rattle.std.proofs.Common.{◌≡◌, ◌++◌, ◌∷◌, [], List, Some, None, inl, inr, refl, sym, ap, ◌∙◌, subst, take, arith}
+use Rattle.std.proofs.Common.{◌≡◌, ◌+◌, ◌++◌, ◌∷◌, [], List, Some, None, inl, inr, refl, sym, ap, ◌∙◌, subst, take, arith}
+use Rattle.std.proofs.lemmas.List.{length-take-le}
 use Rattle.series_model.specs.declared.sample.Sample.{Sample}
+use Rattle.pb_file.specs.Walk.{behind}
 use Rattle.pb_wire.specs.declared.payload.PayloadType.{PayloadType}
 use Rattle.stream_merge.specs.declared.source.Source.{Source}
 use Rattle.stream_merge.specs.Pieces.{NamedBytes, Faulted, OutOfActs, OutOfMemory}
 use Rattle.stream_merge.specs.Reading.{IsSampleOf, AreSamplesOf, IsDamaged}
-use Rattle.stream_merge.specs.Source.{open_pieces, IsReady, Coming, Pulls}
-use Rattle.stream_merge.proofs.Coming.{ended, opened, pulls_tail, pulls_open, passes_end, passes_opened, passes_none, passed_all, damaged_in, damaged_one, failed_open, failed_first, grew_since, opens_open, opens_any, given_ready, less_open, less_opened, tail_event, none_left, err_is}
+use Rattle.stream_merge.specs.Source.{open_pieces, IsReady, Pulls}
+use Rattle.stream_merge.specs.Beginning.{early_count}
+use Rattle.stream_merge.proofs.Coming.{proceeds_first, proceeds_at, proceeds_ended, proceeds_opened, fails_opened, fails_there, pulls_failed, pulls_tail, pulls_open, passes_end, passes_opened, passes_none, passed_all, damaged_in, damaged_one, failed_open, failed_first, grew_since, opens_open, opens_any, given_ready, less_open, less_opened, tail_event, none_left, err_is}
 use Rattle.stream_merge.proofs.Went.{goes_nowhere, goes_opened, goes_none, went_open, went_begun, went_tail, failure_of}
 use Rattle.stream_merge.proofs.source.Source.pull.Goals as goal
 
@@ -23,9 +26,13 @@ returns-in_default g c =
     record {
       ready = given_ready r (IsReady R.tells R.bytes new.ty new.piece) e.ready (λ is. absurd (c.in_default.not-End is));
       same = (ap (λ (x : Source g.row.R.Denot). x.ty) e.same ∙ inv.same.0, ap (λ (x : Source g.row.R.Denot). x.tail) e.same ∙ inv.same.1);
-      lines = λ tells ps xs is coming.
-          let N : Source g.row.R.Denot → Type 0 = λ x. Pulls R.bytes left x xs c.read_open.new.line.items r in
-          subst N (sym e.same) (pulls_open R.bytes left s new.piece xs c.read_open.new.line.items r (inv.lines tells ps xs is coming) (e.lines tells) c.in_default.not-End);
+      lines = λ tells ps xs is coming placed.
+          let n = behind c.args.last in
+          let q = c.args.query in
+          let room = c.args.steps.now + early_count q.from coming.here in
+          let line = c.read_open.new.line.items in
+          let N : Source g.row.R.Denot → Type 0 = λ x. Pulls R.bytes left n q ps xs room x line c.read_open.new.steps r in
+          subst N (sym e.same) (pulls_open R.bytes left n q ps xs room s new.piece c.pieces.steps c.read_open.new.steps line r (inv.lines tells ps xs is coming placed) (e.lines tells) e.one_step c.in_default.not-End);
       event = λ t is. let Q : PayloadType → Type 0 = λ ty. IsSampleOf ty (record { t = t; line = c.read_open.new.line.items }) in subst Q inv.same.0 (e.event t is);
       opens = λ tells ps is. opens_open R.bytes left first s.piece new.piece ps r (e.stays tells) c.in_default.not-End (inv.opens tells ps is);
       damaged = λ tells ps is name at bad.
@@ -58,12 +65,14 @@ pieces-preserved g c =
     record {
       ready = c.in-Ok.ensures.ready;
       same = (ap (λ (x : Source g.row.R.Denot). x.ty) e.same ∙ inv.same.0, ap (λ (x : Source g.row.R.Denot). x.tail) e.same ∙ inv.same.1, ap (λ (x : Source g.row.R.Denot). x.at) e.same ∙ inv.same.2);
-      lines = λ tells ps xs is coming.
-          let still = inv.lines tells ps xs is coming in
-          let over = o.opens tells still.pieces still.left_is in
-          let C : Source g.row.R.Denot → Type 0 = λ x. Coming R.bytes x still.pieces xs in
-          let at_end = subst C (sym e.same) (ended R.bytes s new.piece still.pieces xs none (e.lines tells) still.coming) in
-          record { pieces = over.rest; left_is = over.others; coming = opened R.bytes new p still.pieces over.rest n xs none over.first (c.in-Ok.ensures.lines tells) at_end };
+      lines = λ tells ps xs is coming placed.
+          let k = behind c.args.last in
+          let q = c.args.query in
+          let room = c.args.steps.now + early_count q.from coming.here in
+          let left = P.left c.pieces.pieces in
+          let a = proceeds_at R.bytes left k q ps xs room (record s { piece = new.piece }) new c.read_open.new.steps e.same (proceeds_ended R.bytes left k q ps xs room s new.piece c.pieces.steps c.read_open.new.steps none (e.lines tells) (e.no_step refl) (inv.lines tells ps xs is coming placed)) in
+          let over = o.opens tells a.still.pieces a.still.left_is in
+          proceeds_opened R.bytes left (P.left c.open_next.new.self) k q ps xs room new p n over.rest c.in-Piece.len c.read_open.new.steps c.open_at.new.steps none a over.first over.others (c.in-Ok.ensures.lines tells) (length-take-le c.in-Piece.len (R.bytes c.in-Piece.reader) (o.bytes tells)) c.in-Ok.ensures.steps;
       opens = λ tells ps is.
           let all = open_pieces R.bytes c.args.self.now.piece ++ ps in
           let passed = passes_end R.bytes (P.left c.pieces.pieces) all s.piece new.piece none (inv.opens tells ps is) in
@@ -90,29 +99,91 @@ returns-in-Err-clause-damaged g c tells ps is name at bad =
     let n : NamedBytes = record { name = c.in-Piece.name; bytes = take c.in-Piece.len (R.bytes c.in-Piece.reader) } in
     let passed = passes_end R.bytes (P.left c.pieces.pieces) all s.piece new.piece none (inv.opens tells ps is) in
     let over = c.in-Piece.ensures.opens tells passed.rest passed.left_is in
-    let found = c.begin.ensures.damaged tells name at (err_is c.begin.result c.in-Err.merged _ c.in-Err.is bad) in
+    let found = c.open_at.ensures.damaged tells name at (err_is c.open_at.result c.in-Err.merged _ c.in-Err.is bad) in
     let Q : PayloadType → Type 0 = λ ty. IsDamaged ty all name at in
     subst Q (ap (λ (x : Source g.row.R.Denot). x.ty) e.same ∙ inv.same.0) (damaged_in new.ty all passed.passed (n ∷ []) over.rest name at (passed_all R.bytes (P.left c.pieces.pieces) all new.piece none passed ∙ ap (λ (l : List NamedBytes). passed.passed ++ l) over.first) (damaged_one new.ty n name at found.0 found.1))
 
 pub returns-in-Err-clause-failed : goal.returns-in-Err-clause-failed
 returns-in-Err-clause-failed g c failed is =
     let R = g.R.ReadAt in
-    failed_first R.faults c.args.self.now.piece _ _ failed (omega (arith, c.in-Piece.ensures.count, c.pieces.invariant.count)) (c.begin.ensures.failed failed (err_is c.begin.result c.in-Err.merged _ c.in-Err.is is))
+    failed_first R.faults c.args.self.now.piece _ _ failed (omega (arith, c.in-Piece.ensures.count, c.pieces.invariant.count)) (c.open_at.ensures.failed failed (err_is c.open_at.result c.in-Err.merged _ c.in-Err.is is))
 
 pub returns-in-NoMore-clause-lines : goal.returns-in-NoMore-clause-lines
-returns-in-NoMore-clause-lines g c tells ps xs is coming =
+returns-in-NoMore-clause-lines g c tells ps xs is coming placed =
     let R = g.R.ReadAt in
     let P = g.P.Pieces in
     let e = c.in-End.ensures in
     let s = c.pieces.self in
     let new = c.read_open.new.self in
+    let k = behind c.args.last in
+    let q = c.args.query in
+    let room = c.args.steps.now + early_count q.from coming.here in
+    let left = P.left c.pieces.pieces in
+    let a = proceeds_at R.bytes left k q ps xs room (record s { piece = new.piece }) new c.read_open.new.steps e.same (proceeds_ended R.bytes left k q ps xs room s new.piece c.pieces.steps c.read_open.new.steps (e.closed refl) (e.lines tells) (e.no_step refl) (c.pieces.invariant.lines tells ps xs is coming placed)) in
     let last = c.read_tail.new.self in
     let none : new.piece ≡ None = e.closed refl in
-    let still = c.pieces.invariant.lines tells ps xs is coming in
-    let over = c.in-NoMore.ensures.opens tells still.pieces still.left_is in
-    let C : Source g.row.R.Denot → Type 0 = λ x. Coming R.bytes x still.pieces xs in
-    let at_end = subst C (sym e.same) (ended R.bytes s new.piece still.pieces xs none (e.lines tells) still.coming) in
-    pulls_tail R.bytes (P.left c.open_next.new.self) new last still.pieces xs c.read_tail.new.line.items c.read_tail.result none (ap (λ (x : Source g.row.R.Denot). x.piece) c.read_tail.ensures.same ∙ none) over.0 over.1 at_end c.read_tail.ensures.line c.read_tail.ensures.end
+    let over = c.in-NoMore.ensures.opens tells a.still.pieces a.still.left_is in
+    pulls_tail R.bytes left (P.left c.open_next.new.self) k q ps xs room new last c.read_open.new.steps c.read_tail.new.line.items c.read_tail.result a none (ap (λ (x : Source g.row.R.Denot). x.piece) c.read_tail.ensures.same ∙ none) over.0 over.1 c.read_tail.ensures.line c.read_tail.ensures.end
+
+pub returns-in-Err-clause-lines : goal.returns-in-Err-clause-lines
+returns-in-Err-clause-lines g c tells ps xs is coming placed =
+    let R = g.R.ReadAt in
+    let P = g.P.Pieces in
+    let e = c.in-End.ensures in
+    let s = c.pieces.self in
+    let new = c.read_open.new.self in
+    let k = behind c.args.last in
+    let q = c.args.query in
+    let room = c.args.steps.now + early_count q.from coming.here in
+    let left = P.left c.pieces.pieces in
+    let a = proceeds_at R.bytes left k q ps xs room (record s { piece = new.piece }) new c.read_open.new.steps e.same (proceeds_ended R.bytes left k q ps xs room s new.piece c.pieces.steps c.read_open.new.steps (e.closed refl) (e.lines tells) (e.no_step refl) (c.pieces.invariant.lines tells ps xs is coming placed)) in
+    let n : NamedBytes = record { name = c.in-Piece.name; bytes = take c.in-Piece.len (R.bytes c.in-Piece.reader) } in
+    let o = c.in-Piece.ensures in
+    let over = o.opens tells a.still.pieces a.still.left_is in
+    let few = fails_opened R.bytes left (P.left c.open_next.new.self) k q ps xs room new n over.rest c.in-Piece.len c.read_open.new.steps c.open_at.new.steps a over.first over.others (length-take-le c.in-Piece.len (R.bytes c.in-Piece.reader) (o.bytes tells)) c.open_at.ensures.steps in
+    pulls_failed R.bytes (P.left c.open_next.new.self) k q ps xs room new c.open_at.new.line.items c.open_at.new.steps c.in-Err.merged (failure_of c.open_at.result c.in-Err.merged c.in-Err.is c.open_at.ensures.failure) few
+
+pub returns-in-ReadFault-clause-lines : goal.returns-in-ReadFault-clause-lines
+returns-in-ReadFault-clause-lines g c tells ps xs is coming placed =
+    let R = g.R.ReadAt in
+    let P = g.P.Pieces in
+    let e = c.in-End.ensures in
+    let s = c.pieces.self in
+    let new = c.read_open.new.self in
+    let k = behind c.args.last in
+    let q = c.args.query in
+    let room = c.args.steps.now + early_count q.from coming.here in
+    let left = P.left c.pieces.pieces in
+    let a = proceeds_at R.bytes left k q ps xs room (record s { piece = new.piece }) new c.read_open.new.steps e.same (proceeds_ended R.bytes left k q ps xs room s new.piece c.pieces.steps c.read_open.new.steps (e.closed refl) (e.lines tells) (e.no_step refl) (c.pieces.invariant.lines tells ps xs is coming placed)) in
+    fails_there R.bytes left (P.left c.open_next.new.self) k q ps xs room new c.read_open.new.steps a (c.in-ReadFault.ensures.opens tells a.still.pieces a.still.left_is)
+
+pub returns-in-Spent-clause-lines : goal.returns-in-Spent-clause-lines
+returns-in-Spent-clause-lines g c tells ps xs is coming placed =
+    let R = g.R.ReadAt in
+    let P = g.P.Pieces in
+    let e = c.in-End.ensures in
+    let s = c.pieces.self in
+    let new = c.read_open.new.self in
+    let k = behind c.args.last in
+    let q = c.args.query in
+    let room = c.args.steps.now + early_count q.from coming.here in
+    let left = P.left c.pieces.pieces in
+    let a = proceeds_at R.bytes left k q ps xs room (record s { piece = new.piece }) new c.read_open.new.steps e.same (proceeds_ended R.bytes left k q ps xs room s new.piece c.pieces.steps c.read_open.new.steps (e.closed refl) (e.lines tells) (e.no_step refl) (c.pieces.invariant.lines tells ps xs is coming placed)) in
+    fails_there R.bytes left (P.left c.open_next.new.self) k q ps xs room new c.read_open.new.steps a (c.in-Spent.ensures.opens tells a.still.pieces a.still.left_is)
+
+pub returns-in-Memory-clause-lines : goal.returns-in-Memory-clause-lines
+returns-in-Memory-clause-lines g c tells ps xs is coming placed =
+    let R = g.R.ReadAt in
+    let P = g.P.Pieces in
+    let e = c.in-End.ensures in
+    let s = c.pieces.self in
+    let new = c.read_open.new.self in
+    let k = behind c.args.last in
+    let q = c.args.query in
+    let room = c.args.steps.now + early_count q.from coming.here in
+    let left = P.left c.pieces.pieces in
+    let a = proceeds_at R.bytes left k q ps xs room (record s { piece = new.piece }) new c.read_open.new.steps e.same (proceeds_ended R.bytes left k q ps xs room s new.piece c.pieces.steps c.read_open.new.steps (e.closed refl) (e.lines tells) (e.no_step refl) (c.pieces.invariant.lines tells ps xs is coming placed)) in
+    fails_there R.bytes left (P.left c.open_next.new.self) k q ps xs room new c.read_open.new.steps a (c.in-Memory.ensures.opens tells a.still.pieces a.still.left_is)
 
 pub returns-in-NoMore-clause-event : goal.returns-in-NoMore-clause-event
 returns-in-NoMore-clause-event g c t is =
@@ -148,11 +219,12 @@ returns-in-NoMore-clause-no_more g c is =
 pub pieces-init : goal.pieces-init
 pieces-init g c =
     let R = g.R.ReadAt in
+    let P = g.P.Pieces in
     let first = c.args.self.now.piece in
     record {
       ready = c.requires.ready;
       same = (refl, refl, refl);
-      lines = λ tells ps xs is coming. record { pieces = ps; left_is = is; coming = coming };
+      lines = λ tells ps xs is coming placed. proceeds_first R.bytes (P.left c.args.pieces.now) (behind c.args.last) c.args.query ps xs c.args.self.now c.args.steps.now is coming placed;
       opens = λ tells ps is. record { passed = []; rest = ps; left_is = is; are = refl };
       since = inr refl;
       faults = omega arith;
@@ -173,10 +245,10 @@ returns-in-Err-clause-went g c =
     let ty : new.ty ≡ c.args.self.now.ty = ap (λ (x : Source g.row.R.Denot). x.ty) c.in-End.ensures.same ∙ inv.same.0 in
     went_begun R.tells R.bytes P.opened P.failed g.met.P.Pieces.opened_on c.args.self.now.ty c.args.pieces.now c.pieces.pieces c.open_next.new.self c.args.self.now.piece s.piece new.piece n R.faults c.in-Err.merged inv.went c.in-Piece.ensures.leads
     (λ tells name at is.
-    let found = c.begin.ensures.damaged tells name at (err_is c.begin.result c.in-Err.merged _ c.in-Err.is is) in
+    let found = c.open_at.ensures.damaged tells name at (err_is c.open_at.result c.in-Err.merged _ c.in-Err.is is) in
     let Q : PayloadType → Type 0 = λ y. IsDamaged y (n ∷ []) name at in
     subst Q ty (damaged_one new.ty n name at found.0 found.1))
-    (λ failed is. c.begin.ensures.failed failed (err_is c.begin.result c.in-Err.merged _ c.in-Err.is is)) (failure_of c.begin.result c.in-Err.merged c.in-Err.is c.begin.ensures.failure)
+    (λ failed is. c.open_at.ensures.failed failed (err_is c.open_at.result c.in-Err.merged _ c.in-Err.is is)) (failure_of c.open_at.result c.in-Err.merged c.in-Err.is c.open_at.ensures.failure)
 
 pub returns-in-NoMore-clause-went : goal.returns-in-NoMore-clause-went
 returns-in-NoMore-clause-went g c =

@@ -1,11 +1,11 @@
-use Rattle.std.proofs.Common.{◌≡◌, Some, inl, refl, sym, ap, ◌∙◌, subst}
+use Rattle.std.proofs.Common.{◌≡◌, Some, refl, sym, ap, ◌∙◌, subst}
 use Rattle.std.proofs.lemmas.Option.{same_Some}
 use Rattle.pb_file.specs.declared.walk.Walked.{Walked}
 use Rattle.pb_file.specs.declared.walk.Walked.TheVariants as walked
-use Rattle.pb_file.specs.Walk.{Walks}
+use Rattle.pb_file.specs.Walk.{Gives}
+use Rattle.pb_file.specs.Skip.{GoesOnFrom}
 use Rattle.stream_merge.specs.declared.source.OpenPiece.{OpenPiece}
-use Rattle.stream_merge.proofs.Reading.{end_read}
-use Rattle.stream_merge.proofs.Pulling.{begun, goes_on, same_len, begun_on, line_read, closed_line, closed_spent, closed_end, closed_fault, closed_damaged, walk_bad, gives_now, reads_open, has_risen, open_damaged}
+use Rattle.stream_merge.proofs.Pulling.{begun, goes_on, same_len, begun_on, line_read, closed_line, closed_spent, closed_end, closed_fault, closed_damaged, no_line_left, read_bad, gives_now, reads_open, has_risen, open_damaged}
 use Rattle.stream_merge.proofs.source.Source.read_open.Goals as goal
 
 pub returns-in-Sample-clause-ready : goal.returns-in-Sample-clause-ready
@@ -14,7 +14,7 @@ returns-in-Sample-clause-ready g c t is =
     let p = c.in-Some.piece in
     let b = begun R.tells R.bytes c.args.self.now.ty c.args.self.now.piece p c.in-Some.is c.requires.ready in
     let e = c.in-Sample.ensures in
-    begun_on R.tells R.bytes c.args.self.now.ty p c.next-walked.new.file c.next-walked.new.self c.next-walked.new.line.items c.in-Sample.t b (gives_now p.walk.stop _ b.going e.gives) e.within e.same e.walked
+    begun_on R.tells R.bytes c.args.self.now.ty p c.next-walked.new.file c.next-walked.new.self c.next-walked.new.line.items c.in-Sample.t b (gives_now p.walk.stop _ b.going e.gives) e.within e.same e.skipped
 
 pub returns-in-Sample-clause-lines : goal.returns-in-Sample-clause-lines
 returns-in-Sample-clause-lines g c tells xs now =
@@ -23,7 +23,7 @@ returns-in-Sample-clause-lines g c tells xs now =
     let ty = c.args.self.now.ty in
     let b = begun R.tells R.bytes ty c.args.self.now.piece p c.in-Some.is c.requires.ready in
     let e = c.in-Sample.ensures in
-    line_read R.bytes ty p c.next-walked.new.file c.next-walked.new.self c.next-walked.new.line.items c.in-Sample.t xs (goes_on R.bytes ty c.args.self.now.piece p xs c.in-Some.is now) (same_len p.walk c.next-walked.new.self c.next-walked.new.line.items (walked.Sample c.in-Sample.t) (gives_now p.walk.stop _ b.going e.gives)) (e.same tells) (e.walked tells)
+    line_read R.bytes p c.next-walked.new.file c.next-walked.new.self c.next-walked.new.line.items c.in-Sample.t xs (goes_on R.bytes c.args.self.now.piece p xs c.in-Some.is now) (same_len p.walk c.next-walked.new.self c.next-walked.new.line.items (walked.Sample c.in-Sample.t) (gives_now p.walk.stop _ b.going e.gives)) (b.bytes_are tells) (e.same tells) (e.skipped tells)
 
 pub returns : goal.returns
 returns g c =
@@ -43,22 +43,27 @@ returns g c =
       ready = λ t is. absurd (closed_line q w r t c.close.ensures is);
       closed = λ is. c.take.ensures.after;
       same = refl;
-      lines = λ tells xs now. reads_open R.bytes ty c.take.new.self xs line r (λ t is. closed_line q w r t c.close.ensures is)
+      lines = λ tells xs now. reads_open R.bytes c.take.new.self xs line r (λ t is. closed_line q w r t c.close.ensures is)
           (λ is.
-          let at = goes_on R.bytes ty o p xs c.in-Some.is now in
-          let W : Walked → Type 0 = λ k. Walks (Some at.front) (R.bytes p.reader) line k c.next-walked.new.self in
-          end_read ty (R.bytes p.reader) line p.walk.len c.next-walked.new.self at.front xs (subst W (closed_end q w r c.close.ensures is) (e.walked tells (Some at.front) at.walked)) (same_len p.walk c.next-walked.new.self line w gives) at.type at.read);
+          let at = goes_on R.bytes o p xs c.in-Some.is now in
+          let W : Walked → Type 0 = λ k. GoesOnFrom at.at at.front (R.bytes p.reader) line k c.next-walked.new.self in
+          no_line_left R.bytes p c.next-walked.new.self line xs at (same_len p.walk c.next-walked.new.self line w gives) (subst W (closed_end q w r c.close.ensures is) (e.skipped tells at.at at.front at.skipped)));
       event = λ t is. absurd (closed_line q w r t c.close.ensures is);
       stays = λ tells t is. absurd (closed_line q w r t c.close.ensures is);
       damaged = λ tells name at is.
           let bad = closed_damaged q w r name at c.close.ensures is in
           let front = b.walked tells in
+          let W : Walked → Type 0 = λ k. GoesOnFrom front.at front.front (R.bytes p.reader) line k c.next-walked.new.self in
+          let G : Walked → Type 0 = λ k. Gives p.walk line k c.next-walked.new.self in
           open_damaged R.bytes ty o p name at c.in-Some.is (bad.1 ∙ ap (λ (x : OpenPiece g.row.R.Denot). x.name) taken)
-          (inl (walk_bad (Some front.0) (R.bytes p.reader) line w at p.walk.len p.walk c.next-walked.new.self bad.0 gives refl (e.walked tells (Some front.0) front.1)));
+          (read_bad ty (R.bytes p.reader) line p.walk c.next-walked.new.self b.info at front b.header b.type (subst G bad.0 gives) (subst W bad.0 (e.skipped tells front.at front.front front.skipped)));
       failed = λ failed is.
           let fault = closed_fault q w r failed c.close.ensures is in
           has_risen R.faults o p c.next-walked.new.file failed c.in-Some.is (fault.1 ∙ ap (λ (x : OpenPiece g.row.R.Denot). Some x.reader) taken) (e.cause fault.0);
       never = λ is. closed_spent q w r c.close.ensures is;
       grew = λ t is. absurd (closed_line q w r t c.close.ensures is);
       smaller = λ t is. absurd (closed_line q w r t c.close.ensures is);
+      counts = e.first_step;
+      one_step = e.one_step;
+      no_step = λ is. e.no_step (closed_end q w r c.close.ensures is);
     }
