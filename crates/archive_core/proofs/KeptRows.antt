@@ -35,7 +35,7 @@ memory_there rows kept ts rs are i low =
 
 -- NAMES
 
-same_bytes_is : (a b : List ℕ) → same_bytes a b ≡ true → a ≡ b
+pub same_bytes_is : (a b : List ℕ) → same_bytes a b ≡ true → a ≡ b
 same_bytes_is [] [] is = refl
 same_bytes_is [] (y ∷ ys) is = absurd (cc (is))
 same_bytes_is (x ∷ xs) [] is = absurd (cc (is))

@@ -9,3 +9,10 @@ pub mod Ticking
 pub mod Crashes
 pub mod Making
 pub mod Settled
+pub mod Changing
+pub mod Acting
+pub mod Switched
+pub mod Setting
+pub mod Opened
+pub mod Registered
+pub mod Entering

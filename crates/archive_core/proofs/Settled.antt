@@ -14,13 +14,14 @@ use Rattle.pv_catalog.specs.declared.row.Row.{Row}
 use Rattle.sampler.specs.Row.{SampledRow, after}
 use Rattle.series_model.specs.Sampling.{first_cell}
 use Rattle.three_stores.specs.Change.{Has, IsOpen, HasEither}
-use Rattle.three_stores.specs.Seen.{Seen, granularities}
+use Rattle.three_stores.specs.Seen.{Seen, IsSettled, granularities}
 use Rattle.three_stores.specs.Stores.{Stores}
-use Rattle.act_model.specs.Changes.{each, at, changed, made, Settles, no_doubt, as_not_made, as_made, without_held}
+use Rattle.act_model.specs.Changes.{each, at, changed, made, Retires, Settles, no_doubt, as_not_made, as_made, without_held}
 use Rattle.act_model.specs.Crash.{kept_of, kept}
 use Rattle.act_model.specs.Machine.{Machine, Change, AddsRow, SetsState, Appends, Publishes, Unlists}
 use Rattle.act_model.specs.Rows.{RowState, fresh_row, period_of}
 use Rattle.act_model.proofs.Rows.{Came, from_row, is_new, came, more_rows}
+use Rattle.act_model.specs.Sound.{IsSound}
 use Rattle.act_model.proofs.StepLaws.{settled_sound, settled_none}
 use Rattle.archive_core.specs.declared.memory.RowMemory.{RowMemory}
 use Rattle.archive_core.specs.declared.memory.Doubt.{Doubt}
@@ -30,7 +31,7 @@ use Rattle.archive_core.proofs.Making.{kept_to}
 use Rattle.archive_core.proofs.Standing.{each_to}
 use Rattle.archive_core.specs.Memory.{IsRowAt, AreRowsOf, cell_in, period_in, fresh_memory, sampling_by, cleared, IsCleared}
 use Rattle.archive_core.specs.Parts.{Parts}
-use Rattle.archive_core.specs.Stands.{Stands, Rests, IsReady, IsDoubtOf, AreDurable, HoldsDurable, with_doubted}
+use Rattle.archive_core.specs.Stands.{Stands, Rests, InDoubt, IsReady, IsDoubtOf, AreDurable, HoldsDurable}
 use Rattle.archive_core.proofs.Lists.{same_or_not, get_set_same, get_set_other}
 
 -- WHAT IS KEPT IN MEMORY ALONE
@@ -63,11 +64,11 @@ rows_of told s kept ts rs are durable = record {
   beyond = are.beyond;
 }
 
-sampling_period : (d : Method) → period_in (sampling_by d) ≡ period_of d
+pub sampling_period : (d : Method) → period_in (sampling_by d) ≡ period_of d
 sampling_period Monitor = refl
 sampling_period (Scan period) = refl
 
-sampling_cell : (d : Method) → first_cell ≡ cell_in (sampling_by d)
+pub sampling_cell : (d : Method) → first_cell ≡ cell_in (sampling_by d)
 sampling_cell Monitor = refl
 sampling_cell (Scan period) = refl
 
@@ -133,52 +134,54 @@ get_front (y ∷ xs) ys (suc i) x here = get_front xs ys i x here
 
 -- THE SETTLED ARCHIVE
 
-known_rows : (tells : Bool) (at : Seen) (before after : Stores) → IsOpen tells at before after → at.catalogue.rows ≡ before.rows
-known_rows tells at before after (inl has) = has.known.rows
-known_rows tells at before after (inr doubt) = doubt.known.rows
+-- the rows in memory are those from before a doubt
+pub open_rows : (tells : Bool) (at : Seen) (before : Stores) (m : Machine) → Has tells at before ⊎ InDoubt tells at before m → at.catalogue.rows ≡ before.rows
+open_rows tells at before m (inl has) = has.known.rows
+open_rows tells at before m (inr d) = d.doubts.known.rows
 
--- the archive after the settling: other stores and memory, and no doubt
-abbrev pub settled_parts : Parts → Seen → List RowMemory → Parts
-settled_parts p at kept = record { at = at; tails = p.tails; kept = kept; doubt = None; doors = p.doors }
+-- the archive after the settling: other stores, memory and tails, and no doubt
+abbrev pub settled_parts : Parts → Seen → List RowMemory → List TailState → Parts
+settled_parts p at kept tails = record { at = at; tails = tails; kept = kept; doubt = None; doors = p.doors }
+
+-- a change that an archive may doubt retires no file
+plain_change : (kept : List RowMemory) (rows : List RowState) (m : Machine) (c : Change) → IsReady kept rows (Some c) → Retires m c []
+plain_change kept rows m (AddsRow name about) ready = refl
+plain_change kept rows m (SetsState k to) ready = refl
+plain_change kept rows m (Appends batch) ready = refl
+plain_change kept rows m (Publishes i store copied) ready = absurd ready
+plain_change kept rows m (Unlists i store to) ready = absurd ready
 
 module _ (tells : Bool) (p : Parts) (m : Machine) (s : Stands tells p m) (new : Seen) (kept : List RowMemory) (same_g : granularities new.manifests ≡ granularities p.at.manifests) where
   -- what is left to show of the machine that the archive comes to
-  pub record Reaches (mid : Machine) (held : Stores) : Type 0 where
+  pub record Reaches (tails : List TailState) (mid : Machine) (held : Stores) : Type 0 where
     pub settles : Settles m mid
     pub has : Has tells new held
     pub told : mid.told ≡ (tells && held.stands)
     pub holds : HoldsDurable held mid
-    pub memory : AreKeptOf kept p.tails mid.rows
+    pub memory : AreKeptOf kept tails mid.rows
     pub rule : mid.rule ≡ m.rule
     pub limbo : mid.limbo ≡ []
     pub pins : mid.pins ≡ m.pins
     pub moves : mid.moves ≡ m.moves
     pub doors : mid.doors ≡ m.doors
 
-  rests : (mid : Machine) (held : Stores) → Reaches mid held → Rests tells (settled_parts p new kept) (record mid { faults = new.faults })
-  rests mid held r = record {
+  pub rests : (tails : List TailState) (mid : Machine) (held : Stores) → Reaches tails mid held → Rests tells (settled_parts p new kept tails) (record mid { faults = new.faults })
+  rests tails mid held r = record {
     stands = record {
       sound = settled_sound r.settles s.sound;
       plain = record { rule = ap (λ w. w.granularity) r.rule ∙ (s.plain.rule ∙ sym same_g); limbo = r.limbo; pins = r.pins ∙ s.plain.pins; moves = r.moves ∙ s.plain.moves };
       faults = refl;
       doors = r.doors ∙ s.doors;
-      rows = subst (λ (rows : List Row). AreRowsOf rows kept p.tails mid.rows) (sym r.has.known.rows) (rows_of mid.told held kept p.tails mid.rows r.memory r.holds);
+      rows = subst (λ (rows : List Row). AreRowsOf rows kept tails mid.rows) (sym r.has.known.rows) (rows_of mid.told held kept tails mid.rows r.memory r.holds);
       doubt = subst (λ (d : Option Change). IsDoubtOf None d) (sym none) tt;
       ready = subst (λ (d : Option Change). IsReady kept mid.rows d) (sym none) tt;
-      store = record { before = held; after = held; is_open = inl r.has; told = r.told; stand = refl; holds = r.holds; holds_after = again };
+      store = record { before = held; told = r.told; holds = r.holds; is_open = inl r.has };
     };
     settled = none;
-    held = held;
-    has = r.has;
-    told = r.told;
-    holds = r.holds;
   }
     where
       none : mid.doubt ≡ None
       none = settled_none r.settles
-
-      again : HoldsDurable held (with_doubted mid.doubt (record mid { faults = new.faults }))
-      again = subst (λ (d : Option Change). HoldsDurable held (with_doubted d (record mid { faults = new.faults }))) (sym none) r.holds
 
   doubt_state : (o : Option Doubt) (d : Option Change) → IsDoubtOf o d → (k : ℕ) (to : State) → o ≡ Some (kind.State k to) → d ≡ Some (SetsState k to)
   doubt_state None d doubt k to is = absurd (cc (is))
@@ -190,7 +193,7 @@ module _ (tells : Bool) (p : Parts) (m : Machine) (s : Stands tells p m) (new : 
   same_memory = kept_part p.at.catalogue.rows p.kept p.tails m.rows s.rows
 
   -- it was not made: no row has the doubted state
-  not_made : IsCleared s.store.before.rows p.doubt p.kept kept → Has tells new s.store.before → (mid : Machine) × Reaches mid s.store.before
+  not_made : IsCleared s.store.before.rows p.doubt p.kept kept → Has tells new s.store.before → (mid : Machine) × Reaches p.tails mid s.store.before
   not_made memory has = by_doubt m.doubt refl
     where
       unset : (k : ℕ) (to : State) → p.doubt ≡ Some (kind.State k to) → HasState s.store.before.rows k to → ⊥
@@ -206,19 +209,23 @@ module _ (tells : Bool) (p : Parts) (m : Machine) (s : Stands tells p m) (new : 
       stays : AreKeptOf kept p.tails m.rows
       stays = subst (λ (ks : List RowMemory). AreKeptOf ks p.tails m.rows) (sym same) same_memory
 
-      by_doubt : (d : Option Change) → m.doubt ≡ d → (mid : Machine) × Reaches mid s.store.before
+      by_doubt : (d : Option Change) → m.doubt ≡ d → (mid : Machine) × Reaches p.tails mid s.store.before
       by_doubt None is = (m, record { settles = no_doubt is; has = has; told = s.store.told; holds = s.store.holds; memory = stays; rule = refl; limbo = s.plain.limbo; pins = refl; moves = refl; doors = refl })
       by_doubt (Some c) is = (record m { doubt = None }, record { settles = as_not_made c is; has = has; told = s.store.told; holds = s.store.holds; memory = stays; rule = refl; limbo = s.plain.limbo; pins = refl; moves = refl; doors = refl })
 
-  told_after : m.told ≡ (tells && s.store.after.stands)
-  told_after = s.store.told ∙ ap (λ (b : Bool). tells && b) (sym s.store.stand)
+  told_after : (after : Stores) → after.stands ≡ s.store.before.stands → m.told ≡ (tells && after.stands)
+  told_after after stand = s.store.told ∙ ap (λ (b : Bool). tells && b) (sym stand)
 
   no_limbo : (rows : List RowState) → unlisted rows (m.limbo ++ []) ≡ []
   no_limbo rows = ap (λ (l : List FileState). unlisted rows (l ++ [])) s.plain.limbo
 
+  -- the machine with its doubted change made
+  abbrev pub with_change : Change → Machine
+  with_change c = record (made [] c m) { doubt = None }
+
   -- the doubted state was set
-  made_state : (k : ℕ) (to : State) → IsCleared s.store.after.rows p.doubt p.kept kept → Has tells new s.store.after → m.doubt ≡ Some (SetsState k to) → HoldsDurable s.store.after (made [] (SetsState k to) m) → IsReady p.kept m.rows (Some (SetsState k to)) → (mid : Machine) × Reaches mid s.store.after
-  made_state k to memory has is holds ready = by_own p.doubt refl (subst (λ (d : Option Change). IsDoubtOf p.doubt d) is s.doubt)
+  made_state : (k : ℕ) (to : State) → m.doubt ≡ Some (SetsState k to) → (after : Stores) → m.told ≡ (tells && after.stands) → HoldsDurable after (made [] (SetsState k to) m) → IsReady p.kept m.rows (Some (SetsState k to)) → IsCleared after.rows p.doubt p.kept kept → Has tells new after → Reaches p.tails (with_change (SetsState k to)) after
+  made_state k to is after told holds ready memory has = by_own p.doubt refl (subst (λ (d : Option Change). IsDoubtOf p.doubt d) is s.doubt)
     where
       at_row : IsRowAt p.at.catalogue.rows p.kept p.tails k ready.0
       at_row = s.rows.each k ready.0 ready.1
@@ -232,62 +239,104 @@ module _ (tells : Bool) (p : Parts) (m : Machine) (s : Stands tells p m) (new : 
       set_state : set_row.state ≡ to
       set_state = let test : (0 + k == k) ≡ true = grind (arith, nat_tests) in rw test refl
 
-      has_it : HasState s.store.after.rows k to
+      has_it : HasState after.rows k to
       has_it = let durable = holds.each k (kept_of set_row) (kept_to (made [] (SetsState k to) m).rows k set_row set_here) in record { row = durable.row; here = durable.here; is = sym durable.is.state ∙ set_state }
 
-      by_own : (o : Option Doubt) → p.doubt ≡ o → IsDoubtOf o (Some (SetsState k to)) → (mid : Machine) × Reaches mid s.store.after
+      by_own : (o : Option Doubt) → p.doubt ≡ o → IsDoubtOf o (Some (SetsState k to)) → Reaches p.tails (with_change (SetsState k to)) after
       by_own None own doubt = absurd doubt
       by_own (Some kind.Row) own doubt = absurd (let wrong = doubt.2 in cc (wrong))
       by_own (Some (kind.State row state)) own doubt =
           let named : kind.State row state ≡ kind.State k to = cc (doubt) in
           let set = memory.own k to (own ∙ ap (λ (w : Doubt). Some w) named) has_it at_row.memory at_row.there in
           let rows = kept_cleared m p.kept p.tails k to at_row.memory same_memory at_row.there in
-          (record (made [] (SetsState k to) m) { doubt = None }, record { settles = as_made (SetsState k to) [] is refl; has = has; told = told_after; holds = holds; memory = subst (λ (ks : List RowMemory). AreKeptOf ks p.tails (made [] (SetsState k to) m).rows) (sym set) rows; rule = refl; limbo = no_limbo (made [] (SetsState k to) m).rows; pins = refl; moves = refl; doors = refl })
+          record { settles = as_made (SetsState k to) [] is refl; has = has; told = told; holds = holds; memory = subst (λ (ks : List RowMemory). AreKeptOf ks p.tails (made [] (SetsState k to) m).rows) (sym set) rows; rule = refl; limbo = no_limbo (made [] (SetsState k to) m).rows; pins = refl; moves = refl; doors = refl }
+
+  -- the doubted row was added
+  made_row : (name : List ℕ) (about : About) → m.doubt ≡ Some (AddsRow name about) → (after : Stores) → m.told ≡ (tells && after.stands) → HoldsDurable after (made [] (AddsRow name about) m) → IsReady p.kept m.rows (Some (AddsRow name about)) → IsCleared after.rows p.doubt p.kept kept → Has tells new after → Reaches p.tails (with_change (AddsRow name about)) after
+  made_row name about is after told holds ready memory has =
+      let doubt : IsDoubtOf p.doubt (Some (AddsRow name about)) = subst (λ (d : Option Change). IsDoubtOf p.doubt d) is s.doubt in
+      let same : kept ≡ p.kept = memory.other (λ k to state has_it. let wrong = doubt_state p.doubt (Some (AddsRow name about)) doubt k to state in let plain : AddsRow name about ≡ SetsState k to = same_Some (AddsRow name about) (SetsState k to) wrong in cc (plain)) in
+      let own_rows = kept_added m p.kept p.tails name about same_memory ready in
+      record { settles = as_made (AddsRow name about) [] is refl; has = has; told = told; holds = holds; memory = subst (λ (ks : List RowMemory). AreKeptOf ks p.tails (made [] (AddsRow name about) m).rows) (sym same) own_rows; rule = refl; limbo = no_limbo (made [] (AddsRow name about) m).rows; pins = refl; moves = refl; doors = refl }
 
   -- it was made
-  made_so : IsCleared s.store.after.rows p.doubt p.kept kept → Has tells new s.store.after → (mid : Machine) × Reaches mid s.store.after
-  made_so memory has = by_doubt m.doubt refl s.store.holds_after s.ready p.doubt refl
-    where
-      no_state : (o : Option Doubt) → p.doubt ≡ o → ((k : ℕ) (to : State) → o ≡ Some (kind.State k to) → ⊥) → kept ≡ p.kept
-      no_state o is none = memory.other (λ k to state has_it. none k to (sym is ∙ state))
+  made_so : (c : Change) → m.doubt ≡ Some c → (after : Stores) → m.told ≡ (tells && after.stands) → HoldsDurable after (made [] c m) → IsReady p.kept m.rows (Some c) → IsCleared after.rows p.doubt p.kept kept → Has tells new after → Reaches p.tails (with_change c) after
+  made_so (AddsRow name about) is after told holds ready memory has = made_row name about is after told holds ready memory has
+  made_so (SetsState k to) is after told holds ready memory has = made_state k to is after told holds ready memory has
+  made_so (Appends batch) is after told holds ready memory has = absurd ready
+  made_so (Publishes i store copied) is after told holds ready memory has = absurd ready
+  made_so (Unlists i store to) is after told holds ready memory has = absurd ready
 
-      by_doubt : (d : Option Change) → m.doubt ≡ d → HoldsDurable s.store.after (with_doubted d m) → IsReady p.kept m.rows d → (o : Option Doubt) → p.doubt ≡ o → (mid : Machine) × Reaches mid s.store.after
-      by_doubt None is holds ready o own =
-          let doubt : IsDoubtOf p.doubt None = subst (λ (d : Option Change). IsDoubtOf p.doubt d) is s.doubt in
-          let same : kept ≡ p.kept = memory.other (λ k to state has_it. let wrong : ◌≡◌ {A = Option Change} None (Some (SetsState k to)) = doubt_state p.doubt None doubt k to state in cc (wrong)) in
-          (m, record { settles = no_doubt is; has = has; told = told_after; holds = holds; memory = subst (λ (ks : List RowMemory). AreKeptOf ks p.tails m.rows) (sym same) same_memory; rule = refl; limbo = s.plain.limbo; pins = refl; moves = refl; doors = refl })
-      by_doubt (Some (AddsRow name about)) is holds ready o own =
-          let doubt : IsDoubtOf p.doubt (Some (AddsRow name about)) = subst (λ (d : Option Change). IsDoubtOf p.doubt d) is s.doubt in
-          let same : kept ≡ p.kept = memory.other (λ k to state has_it. let wrong = doubt_state p.doubt (Some (AddsRow name about)) doubt k to state in let plain : AddsRow name about ≡ SetsState k to = same_Some (AddsRow name about) (SetsState k to) wrong in cc (plain)) in
-          let own_rows = kept_added m p.kept p.tails name about same_memory ready in
-          (record (made [] (AddsRow name about) m) { doubt = None }, record { settles = as_made (AddsRow name about) [] is refl; has = has; told = told_after; holds = holds; memory = subst (λ (ks : List RowMemory). AreKeptOf ks p.tails (made [] (AddsRow name about) m).rows) (sym same) own_rows; rule = refl; limbo = no_limbo (made [] (AddsRow name about) m).rows; pins = refl; moves = refl; doors = refl })
-      by_doubt (Some (SetsState k to)) is holds ready o own = made_state k to memory has is holds ready
-      by_doubt (Some (Appends batch)) is holds ready o own = absurd ready
-      by_doubt (Some (Publishes i store copied)) is holds ready o own = absurd ready
-      by_doubt (Some (Unlists i store to)) is holds ready o own = absurd ready
+  -- once the stores have what is after the doubted change, the archive stands for the machine with it
+  pub made_stands : (c : Change) → m.doubt ≡ Some c → (after : Stores) → m.told ≡ (tells && after.stands) → HoldsDurable after (made [] c m) → IsCleared new.catalogue.rows p.doubt p.kept kept → Has tells new after → Rests tells (settled_parts p new kept p.tails) (record (with_change c) { faults = new.faults })
+  made_stands c is after told holds memory has =
+      let ready : IsReady p.kept m.rows (Some c) = subst (λ (d : Option Change). IsReady p.kept m.rows d) is s.ready in
+      let rows = subst (λ (rows : List Row). IsCleared rows p.doubt p.kept kept) has.known.rows memory in
+      rests p.tails (with_change c) after (made_so c is after told holds ready rows has)
 
   -- once the stores have settled their doubt, so has the archive
-  pub settled_ends : IsCleared new.catalogue.rows p.doubt p.kept kept → HasEither tells new s.store.before s.store.after → (mid : Machine) × Settles m mid × Rests tells (settled_parts p new kept) (record mid { faults = new.faults })
-  settled_ends memory (inl has) =
-      let is = not_made (subst (λ (rows : List Row). IsCleared rows p.doubt p.kept kept) has.known.rows memory) has in
-      (is.0, is.1.settles, rests is.0 s.store.before is.1)
-  settled_ends memory (inr has) =
-      let is = made_so (subst (λ (rows : List Row). IsCleared rows p.doubt p.kept kept) has.known.rows memory) has in
-      (is.0, is.1.settles, rests is.0 s.store.after is.1)
+  pub settled_ends : IsCleared new.catalogue.rows p.doubt p.kept kept → ((before after : Stores) → IsOpen tells p.at before after → HasEither tells new before after) → (mid : Machine) × Settles m mid × Rests tells (settled_parts p new kept p.tails) (record mid { faults = new.faults })
+  settled_ends memory settled = by_open s.store.is_open
+    where
+      as_before : Has tells new s.store.before → (mid : Machine) × Settles m mid × Rests tells (settled_parts p new kept p.tails) (record mid { faults = new.faults })
+      as_before has =
+          let is = not_made (subst (λ (rows : List Row). IsCleared rows p.doubt p.kept kept) has.known.rows memory) has in
+          (is.0, is.1.settles, rests p.tails is.0 s.store.before is.1)
 
--- the doubt stands as it stood
-pub still_doubted : (tells : Bool) (p : Parts) (m : Machine) (new : Seen) (s : Stands tells p m) → IsOpen tells new s.store.before s.store.after → granularities new.manifests ≡ granularities p.at.manifests → Stands tells (record p { at = new }) (record m { faults = new.faults })
-still_doubted tells p m new s is_open same_g = record {
-  sound = s.sound;
+      by_open : Has tells p.at s.store.before ⊎ InDoubt tells p.at s.store.before m → (mid : Machine) × Settles m mid × Rests tells (settled_parts p new kept p.tails) (record mid { faults = new.faults })
+      by_open (inl was) = elim (settled s.store.before s.store.before (inl was)) [
+        | inl has ↦ as_before has
+        | inr has ↦ as_before has
+      ]
+      by_open (inr d) = elim (settled s.store.before d.after (inr d.doubts)) [
+        | inl has ↦ as_before has
+        | inr has ↦ (with_change d.change, as_made d.change [] d.is (plain_change p.kept m.rows m d.change (subst (λ (o : Option Change). IsReady p.kept m.rows o) d.is s.ready)), made_stands d.change d.is d.after (told_after d.after d.stand) d.holds memory has)
+      ]
+
+-- WHERE A DOUBT STANDS, OR NONE
+
+-- the archive stands for a machine with this doubt, where the stores are as much those of it
+pub doubt_stands : (tells : Bool) (p : Parts) (m : Machine) (s : Stands tells p m) (new : Seen) (kept : List RowMemory) (d : Option Doubt) (c : Option Change) → granularities new.manifests ≡ granularities p.at.manifests → IsSound (record m { doubt = c }) → AreRowsOf p.at.catalogue.rows kept p.tails m.rows → IsDoubtOf d c → IsReady kept m.rows c
+    → Has tells new s.store.before ⊎ InDoubt tells new s.store.before (record m { doubt = c; faults = new.faults }) → Stands tells (record { at = new; tails = p.tails; kept = kept; doubt = d; doors = p.doors }) (record m { doubt = c; faults = new.faults })
+doubt_stands tells p m s new kept d c same_g sound rows doubt ready is_open = record {
+  sound = sound;
   plain = record { rule = s.plain.rule ∙ sym same_g; limbo = s.plain.limbo; pins = s.plain.pins; moves = s.plain.moves };
   faults = refl;
   doors = s.doors;
-  rows = subst (λ (rows : List Row). AreRowsOf rows p.kept p.tails m.rows) (known_rows tells p.at s.store.before s.store.after s.store.is_open ∙ sym (known_rows tells new s.store.before s.store.after is_open)) s.rows;
-  doubt = s.doubt;
-  ready = s.ready;
-  store = record { before = s.store.before; after = s.store.after; is_open = is_open; told = s.store.told; stand = s.store.stand; holds = s.store.holds; holds_after = by_doubt m.doubt s.store.holds_after };
+  rows = subst (λ (rows : List Row). AreRowsOf rows kept p.tails m.rows) (open_rows tells p.at s.store.before m s.store.is_open ∙ sym (open_rows tells new s.store.before (record m { doubt = c; faults = new.faults }) is_open)) rows;
+  doubt = doubt;
+  ready = ready;
+  store = record { before = s.store.before; told = s.store.told; holds = s.store.holds; is_open = is_open };
 }
+
+-- the doubt stands as it stood, since the stores couldn't settle it
+pub still_doubted : (tells : Bool) (p : Parts) (m : Machine) (new : Seen) → Stands tells p m → (IsSettled p.at → ⊥) → ((before after : Stores) → IsOpen tells p.at before after → IsOpen tells new before after) → granularities new.manifests ≡ granularities p.at.manifests → Stands tells (record p { at = new }) (record m { faults = new.faults })
+still_doubted tells p m new s doubted still same_g = doubt_stands tells p m s new p.kept p.doubt m.doubt same_g s.sound s.rows s.doubt s.ready (by_open s.store.is_open)
   where
-    by_doubt : (c : Option Change) → AreDurable (with_doubted c m).told s.store.after (kept (with_doubted c m)) → AreDurable (with_doubted c (record m { faults = new.faults })).told s.store.after (kept (with_doubted c (record m { faults = new.faults })))
-    by_doubt None holds = holds
-    by_doubt (Some c) holds = holds
+    by_open : Has tells p.at s.store.before ⊎ InDoubt tells p.at s.store.before m → Has tells new s.store.before ⊎ InDoubt tells new s.store.before (record m { faults = new.faults })
+    by_open (inl has) = absurd (doubted has.settled)
+    by_open (inr d) = elim (still s.store.before d.after (inr d.doubts)) [
+      | inl has ↦ inl has
+      | inr doubts ↦ inr (record { change = d.change; is = d.is; after = d.after; doubts = doubts; stand = d.stand; holds = d.holds })
+    ]
+
+-- where nothing stands in doubt, the stores have what is durable
+pub rests_has : (tells : Bool) (p : Parts) (m : Machine) (r : Rests tells p m) → Has tells p.at r.stands.store.before
+rests_has tells p m r = by_open r.stands.store.is_open
+  where
+    by_open : Has tells p.at r.stands.store.before ⊎ InDoubt tells p.at r.stands.store.before m → Has tells p.at r.stands.store.before
+    by_open (inl has) = has
+    by_open (inr d) = absurd (let none = r.settled in let some = d.is in let both : ◌≡◌ {A = Option Change} None (Some d.change) = sym none ∙ some in cc (both))
+
+-- what the stores stand open between
+pub begun : (tells : Bool) (p : Parts) (m : Machine) → Stands tells p m → (before : Stores) × (after : Stores) × IsOpen tells p.at before after
+begun tells p m s = by_open s.store.is_open
+  where
+    by_open : Has tells p.at s.store.before ⊎ InDoubt tells p.at s.store.before m → (before : Stores) × (after : Stores) × IsOpen tells p.at before after
+    by_open (inl has) = (s.store.before, s.store.before, inl has)
+    by_open (inr d) = (s.store.before, d.after, inr d.doubts)
+
+-- where the machine doubts nothing, nor does the archive
+pub no_own : (o : Option Doubt) → IsDoubtOf o None → o ≡ None
+no_own None is = refl
+no_own (Some d) is = absurd is

@@ -1,5 +1,5 @@
 -- An archive stands for the next machine, where a row changes in memory.
-use Rattle.std.proofs.Common.{◌≡◌, ◌≢◌, ℕ, ◌+◌, ◌<◌, List, length, Bool, true, false, Option, Some, None, refl, sym, ◌∙◌, ap, subst, arith, [], ◌∷◌, zero, suc}
+use Rattle.std.proofs.Common.{◌≡◌, ◌≢◌, ◌⊎◌, inl, inr, ℕ, ◌+◌, ◌<◌, List, length, Bool, true, false, Option, Some, None, refl, sym, ◌∙◌, ap, subst, arith, [], ◌∷◌, zero, suc}
 use Rattle.std.specs.Prelude.{◌==◌, slice_get, slice_set}
 use Rattle.std.proofs.lemmas.Option.{same_Some, slice_get_within}
 use Rattle.append_buffer.specs.Tails.{TailState, tail_at}
@@ -7,33 +7,31 @@ use Rattle.pv_catalog.specs.declared.row.Row.{Row}
 use Rattle.act_model.specs.Rows.{RowState}
 use Rattle.act_model.specs.Machine.{Machine, Change, AddsRow, SetsState, Appends, Publishes, Unlists}
 use Rattle.act_model.specs.Changes.{each, at, with_rows}
-use Rattle.act_model.specs.Crash.{DurableRow, kept_of, kept}
+use Rattle.act_model.specs.Crash.{DurableRow, kept_of}
 use Rattle.act_model.specs.Sound.{IsSound}
 use Rattle.act_model.proofs.Rows.{length-each}
 use Rattle.archive_core.specs.declared.memory.RowMemory.{RowMemory}
 use Rattle.archive_core.specs.Memory.{IsRowOf}
 use Rattle.archive_core.specs.Parts.{Parts}
-use Rattle.archive_core.specs.Stands.{Stands, IsReady, IsBetween, AreDurable, with_doubted}
+use Rattle.archive_core.specs.Stands.{Stands, IsReady, InDoubt, IsBetween, AreDurable}
 use Rattle.archive_core.proofs.Lists.{get_set_other, set_same}
 use Rattle.archive_core.proofs.KeptRows.{rows_at, rows_spared}
 use Rattle.archive_core.proofs.Durable.{kept_each, kept_changed}
+use Rattle.three_stores.specs.Change.{Has}
 use Rattle.three_stores.specs.Seen.{Seen}
 
 -- the stores are as much those of the machine
 between_rows : (tells : Bool) (at : Seen) (m : Machine) (g : ℕ → RowState → RowState) → ((i : ℕ) (r : RowState) → kept_of (g i r) ≡ kept_of r) → IsBetween tells at m → IsBetween tells at (with_rows m g)
 between_rows tells at m g stays s = record {
   before = s.before;
-  after = s.after;
-  is_open = s.is_open;
   told = s.told;
-  stand = s.stand;
   holds = subst (λ (ds : List DurableRow). AreDurable m.told s.before ds) (sym (kept_each g 0 m.rows stays)) s.holds;
-  holds_after = by_doubt m.doubt s.holds_after;
+  is_open = by_open s.is_open;
 }
   where
-    by_doubt : (d : Option Change) → AreDurable (with_doubted d m).told s.after (kept (with_doubted d m)) → AreDurable (with_doubted d (with_rows m g)).told s.after (kept (with_doubted d (with_rows m g)))
-    by_doubt None holds = subst (λ (ds : List DurableRow). AreDurable m.told s.after ds) (sym (kept_each g 0 m.rows stays)) holds
-    by_doubt (Some c) holds = subst (λ (ds : List DurableRow). AreDurable m.told s.after ds) (sym (kept_changed m g c stays)) holds
+    by_open : Has tells at s.before ⊎ InDoubt tells at s.before m → Has tells at s.before ⊎ InDoubt tells at s.before (with_rows m g)
+    by_open (inl has) = inl has
+    by_open (inr d) = inr (record { change = d.change; is = d.is; after = d.after; doubts = d.doubts; stand = d.stand; holds = subst (λ (ds : List DurableRow). AreDurable m.told d.after ds) (sym (kept_changed m g d.change stays)) d.holds })
 
 at_stays : (k : ℕ) (f : RowState → RowState) → ((r : RowState) → kept_of (f r) ≡ kept_of r) → (i : ℕ) (r : RowState) → kept_of (at k f i r) ≡ kept_of r
 at_stays k f stays i r = by_test (i == k) refl
@@ -108,9 +106,9 @@ doors_stand tells p m doors d same s = record {
   rows = s.rows;
   doubt = s.doubt;
   ready = s.ready;
-  store = record { before = s.store.before; after = s.store.after; is_open = s.store.is_open; told = s.store.told; stand = s.store.stand; holds = s.store.holds; holds_after = by_doubt m.doubt s.store.holds_after };
+  store = record { before = s.store.before; told = s.store.told; holds = s.store.holds; is_open = by_open s.store.is_open };
 }
   where
-    by_doubt : (c : Option Change) → AreDurable (with_doubted c m).told s.store.after (kept (with_doubted c m)) → AreDurable (with_doubted c (record m { doors = d })).told s.store.after (kept (with_doubted c (record m { doors = d })))
-    by_doubt None holds = holds
-    by_doubt (Some c) holds = holds
+    by_open : Has tells p.at s.store.before ⊎ InDoubt tells p.at s.store.before m → Has tells p.at s.store.before ⊎ InDoubt tells p.at s.store.before (record m { doors = d })
+    by_open (inl has) = inl has
+    by_open (inr f) = inr (record { change = f.change; is = f.is; after = f.after; doubts = f.doubts; stand = f.stand; holds = f.holds })

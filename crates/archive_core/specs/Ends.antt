@@ -1,14 +1,21 @@
 -- What an act on an archive comes to: from each machine that the archive stood for the act is a step with this answer, to one that it
 -- stands for then. And what a crash between acts leaves.
-use Rattle.std.specs.Prelude.{◌≡◌, ℕ, List, Bool, Some}
-use Rattle.disk_model.specs.Files.{Files}
+use Rattle.std.specs.Prelude.{◌≡◌, ◌⊎◌, ◌≤◌, ℕ, List, [], Bool, Option, Some, Result, Ok, Err, IsTrue}
+use Rattle.disk_model.specs.Files.{Files, Rose}
+use Rattle.disk_model.specs.Past.{Passes}
+use Rattle.disk_model.specs.declared.disk.DiskErr.{DiskErr}
+use Rattle.disk_model.specs.declared.disk.DiskErr.TheVariants.{Fault, Memory}
 use Rattle.partition_names.specs.declared.granularity.Granularity.{Granularity}
+use Rattle.pv_catalog.specs.declared.error.RegisterErr.{RegisterErr}
+use Rattle.pv_catalog.specs.declared.error.RegisterErr.TheVariants as refusal
+use Rattle.three_stores.specs.Seen.{granularities}
 use Rattle.three_stores.specs.Stores.{Stores}
 use Rattle.three_stores.specs.Stored.{HoldsAll}
-use Rattle.act_model.specs.Machine.{Machine, find_row}
-use Rattle.act_model.specs.Changes.{Settles}
-use Rattle.act_model.specs.Crash.{LeftBetween}
+use Rattle.act_model.specs.Machine.{Machine, Change, find_row}
+use Rattle.act_model.specs.Changes.{made, Settles}
+use Rattle.act_model.specs.Crash.{LeftBetween, LeftWithin}
 use Rattle.act_model.specs.Reply.{Reply}
+use Rattle.act_model.specs.declared.acts.Answer.TheVariants as answer
 use Rattle.archive_core.specs.Parts.{Parts}
 use Rattle.archive_core.specs.Stands.{Stands, Rests, HoldsDurable}
 
@@ -35,3 +42,45 @@ HoldsMachine gs image m = (s : Stores) × HoldsAll gs image s × HoldsDurable s 
 -- the image holds what a crash between acts may leave
 abbrev pub LeavesBetween : List Granularity → Machine → Files → Type 0
 LeavesBetween gs m image = (left : Machine) × LeftBetween m left × HoldsMachine gs image left
+
+-- what is answered where the disk failed, or memory was wanting
+abbrev pub disk_reply : DiskErr → Reply
+disk_reply Fault = answer.DiskFault
+disk_reply Memory = answer.Memory
+
+-- what is answered where a name was registered under a number, or wasn't
+abbrev pub register_reply : Result ℕ RegisterErr → Reply
+register_reply (Ok row) = answer.Registered row
+register_reply (Err (refusal.NameTaken row)) = answer.NameTaken row
+register_reply (Err (refusal.KeyTaken row)) = answer.KeyTaken row
+register_reply (Err refusal.Full) = answer.CatalogueFull
+register_reply (Err (refusal.Disk e)) = disk_reply e
+
+-- HOW A CHANGE OF THE STORES ENDS, WHERE NOTHING STOOD IN DOUBT
+
+-- the archive stands for the machine with the change made, for that with the change in doubt, or for what it stood for
+abbrev pub ChangeEnds : {A : Type 0} → Bool → Change → Machine → Parts → Result A DiskErr → Type 0
+ChangeEnds {A} tells change m new (Ok a) = Stands tells new (record (made [] change m) { faults = new.at.faults })
+ChangeEnds {A} tells change m new (Err Fault) = Stands tells new (record m { doubt = Some change; faults = new.at.faults })
+ChangeEnds {A} tells change m new (Err Memory) = Stands tells new (record m { faults = new.at.faults })
+
+-- the image holds what is durable of the machine, or of that with the change made
+abbrev pub HoldsChanged : List Granularity → Change → Machine → Files → Type 0
+HoldsChanged gs change m image = HoldsMachine gs image m ⊎ HoldsMachine gs image (made [] change m)
+
+-- So it ends, and so a crash at any moment of it. A fault comes only where the disk's count rose.
+pub record ChangesTo {A : Type 0} (tells : Bool) (change : Change) (old : Parts) (m : Machine) (new : Parts) (result : Result A DiskErr) : Type 0 where
+  pub ends : ChangeEnds tells change m new result
+  pub any_moment : IsTrue tells → Passes (λ a image. HoldsChanged (granularities old.at.manifests) change m image) old.at.past new.at.past
+  pub faults : old.at.faults ≤ new.at.faults
+  pub cause : result ≡ Err Fault → Rose old.at.faults new.at.faults
+
+-- WHAT A CRASH WITHIN AN ACT LEAVES
+
+-- The image holds what a crash within the act may leave, which has these refusals and may make this change.
+abbrev pub LeavesWithin : (Machine → Option Reply) → (Machine → Option Change) → List Granularity → Machine → Files → Type 0
+LeavesWithin refuse change gs m image = (left : Machine) × LeftWithin refuse change m left × HoldsMachine gs image left
+
+-- so it is at every moment of the act, whatever the archive stood for
+abbrev pub LeavesByAct : Bool → (Machine → Option Reply) → (Machine → Option Change) → Parts → Parts → Type 0
+LeavesByAct tells refuse change old new = (m : Machine) → IsTrue tells → Stands tells old m → Passes (λ a image. LeavesWithin refuse change (granularities old.at.manifests) m image) old.at.past new.at.past

@@ -3,3 +3,5 @@ pub mod Parts
 pub mod Stands
 pub mod Ends
 pub mod Trying
+pub mod Switching
+pub mod Opening

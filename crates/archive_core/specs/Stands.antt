@@ -1,12 +1,12 @@
 -- The machine that an archive stands for. Its memory has the machine's rows, tails and cells, and its stores have the machine's durable
 -- part, or are in doubt between that and what the doubted change makes of it.
 use Rattle.std.specs.FinMap.{empty}
-use Rattle.std.specs.Prelude.{◌≡◌, ◌≢◌, ℕ, List, [], length, Bool, true, ◌&&◌, Option, Some, None, slice_get}
+use Rattle.std.specs.Prelude.{◌≡◌, ◌≢◌, ◌⊎◌, ℕ, List, [], length, Bool, true, ◌&&◌, Option, Some, None, slice_get}
 use Rattle.pv_catalog.specs.declared.row.Row.{Row}
 use Rattle.tier_store.specs.Held.{samples_of}
 use Rattle.three_stores.specs.Stores.{Stores}
 use Rattle.three_stores.specs.Seen.{Seen, granularities}
-use Rattle.three_stores.specs.Change.{Has, IsOpen}
+use Rattle.three_stores.specs.Change.{Has, Doubts}
 use Rattle.act_model.specs.Rows.{RowState}
 use Rattle.act_model.specs.Machine.{Machine, Change, AddsRow, SetsState, Appends, Publishes, Unlists}
 use Rattle.act_model.specs.Changes.{made}
@@ -46,11 +46,6 @@ HoldsDurable s m = AreDurable m.told s (kept m)
 
 -- THE DOUBT
 
--- the machine with its doubted change made, if there is one
-abbrev pub with_doubted : Option Change → Machine → Machine
-with_doubted None m = m
-with_doubted (Some change) m = made [] change m
-
 -- what the archive keeps of a doubted change tells which change it is
 abbrev pub IsDoubtOf : Option Doubt → Option Change → Type 0
 IsDoubtOf None None = Unit {0}
@@ -70,15 +65,22 @@ IsReady kept rows (Some (Unlists i store to)) = ⊥
 
 -- THE ARCHIVE
 
+-- A change of the stores stands in doubt, and it is the one that the machine doubts: once it is made they have what is durable of the
+-- machine with the change made.
+pub record InDoubt (tells : Bool) (at : Seen) (before : Stores) (m : Machine) : Type 0 where
+  pub change : Change
+  pub is : m.doubt ≡ Some change
+  pub after : Stores
+  pub doubts : Doubts tells at before after
+  pub stand : after.stands ≡ before.stands
+  pub holds : HoldsDurable after (made [] change m)
+
 -- the stores have what is durable of the machine, or are in doubt whether they have it with the doubted change
 pub record IsBetween (tells : Bool) (at : Seen) (m : Machine) : Type 0 where
   pub before : Stores
-  pub after : Stores
-  pub is_open : IsOpen tells at before after
   pub told : m.told ≡ (tells && before.stands)
-  pub stand : after.stands ≡ before.stands
   pub holds : HoldsDurable before m
-  pub holds_after : HoldsDurable after (with_doubted m.doubt m)
+  pub is_open : Has tells at before ⊎ InDoubt tells at before m
 
 -- what a machine has that no act of an archive without moves and pins changes
 pub record IsPlain (at : Seen) (m : Machine) : Type 0 where
@@ -98,11 +100,7 @@ pub record Stands (tells : Bool) (p : Parts) (m : Machine) : Type 0 where
   pub ready : IsReady p.kept m.rows m.doubt
   pub store : IsBetween tells p.at m
 
--- Nothing stands in doubt: the stores have what is durable of the machine.
+-- nothing stands in doubt, so the stores have what is durable of the machine
 pub record Rests (tells : Bool) (p : Parts) (m : Machine) : Type 0 where
   pub stands : Stands tells p m
   pub settled : m.doubt ≡ None
-  pub held : Stores
-  pub has : Has tells p.at held
-  pub told : m.told ≡ (tells && held.stands)
-  pub holds : HoldsDurable held m

@@ -3,7 +3,7 @@ ghost use Rattle.std.specs.Prelude.{◌≡◌, ◌↔◌, IsTrue, OnOk, OnErr};
 ghost use Rattle.pv_catalog.specs.Catalogue.{HasState};
 ghost use Rattle.tier_store.specs.Ends.{end_of_disk};
 ghost use Rattle.three_stores.specs.Change.{OnlyReads};
-ghost use Rattle.three_stores.specs.Seen.{seen};
+ghost use Rattle.three_stores.specs.Seen.{seen, granularities};
 ghost use Rattle.act_model.specs.Machine.{Machine};
 ghost use Rattle.archive_core.specs.Ends.{SettlesTo, StandsStill};
 ghost use Rattle.archive_core.specs.Memory.{cleared, IsCleared};
@@ -17,7 +17,7 @@ use event_types::State;
 use pv_catalog::Row;
 
 // Whether the row of this number has the state.
-fn has_state(rows: &[Row], row: u32, to: State) -> bool
+pub(crate) fn has_state(rows: &[Row], row: u32, to: State) -> bool
     ensures { IsTrue result ↔ HasState rows.now row to }
 {
     match rows.get(row as usize) {
@@ -27,7 +27,7 @@ fn has_state(rows: &[Row], row: u32, to: State) -> bool
 }
 
 // Gives up what a sampled row holds.
-fn clear(memory: &mut RowMemory)
+pub(crate) fn clear(memory: &mut RowMemory)
     ensures { memory.new ≡ cleared memory.old }
 {
     if let Some(scan) = &mut memory.scan {
@@ -56,6 +56,7 @@ impl<D: Disk> Archive<D> {
         requires stands { (m : Machine) × Stands D.tells (parts D.Disk self.old) m }
         ensures settled { OnOk result (SettlesTo D.tells (parts D.Disk self.old) (parts D.Disk self.new)) }
         ensures still { OnErr result (StandsStill D.tells (parts D.Disk self.old) (parts D.Disk self.new)) }
+        ensures granularity { granularities self.new.store.manifests.items ≡ granularities self.old.store.manifests.items }
         ensures reads { OnlyReads D.tells (seen D.Disk self.old.store) (seen D.Disk self.new.store) (end_of_disk result) }
     {
         self.store.review()?;

@@ -1,0 +1,106 @@
+-- An act that settles a doubt first and then changes the stores: how it ends, and what a crash within it leaves.
+use Rattle.std.proofs.Common.{◌≡◌, inl, inr, ℕ, ◌≤◌, List, [], Bool, Option, Some, None, Result, Ok, Err, refl, sym, ◌∙◌, subst, arith}
+use Rattle.std.specs.Prelude.{IsTrue}
+use Rattle.disk_model.specs.Files.{Files, Rose}
+use Rattle.disk_model.specs.Past.{MayLeave, Passes}
+use Rattle.disk_model.specs.declared.disk.DiskErr.{DiskErr}
+use Rattle.disk_model.specs.declared.disk.DiskErr.TheVariants.{Fault, Memory}
+use Rattle.disk_model.proofs.Passing.{passes_none, passes_then, passes_weaker}
+use Rattle.partition_names.specs.declared.granularity.Granularity.{Granularity}
+use Rattle.tier_store.proofs.Acting.{rose_after}
+use Rattle.three_stores.specs.Seen.{granularities}
+use Rattle.act_model.specs.Changes.{made}
+use Rattle.act_model.specs.Crash.{before_it, settled_there, with_change}
+use Rattle.act_model.specs.Machine.{Machine, Change}
+use Rattle.act_model.specs.Outcome.{Acts, all_go, refused_at_once, refused, runs, faults_first, faults_within, wants_memory, wants_memory_settled}
+use Rattle.act_model.specs.Reply.{Reply}
+use Rattle.archive_core.specs.Ends.{Steps, SettlesTo, StandsStill, LeavesBetween, HoldsChanged, ChangesTo, LeavesWithin, LeavesByAct, disk_reply}
+use Rattle.archive_core.specs.Parts.{Parts}
+use Rattle.archive_core.specs.Stands.{Stands, Rests}
+use Rattle.archive_core.proofs.Crashes.{crash_leaves}
+
+module _ (tells : Bool) (refuse : Machine → Option Reply) (run : Machine → Reply → Machine → Type 0) (change : Machine → Option Change) (refuses : (m : Machine) (f : ℕ) → refuse (record m { faults = f }) ≡ refuse m) (changes : (m : Machine) (f : ℕ) → change (record m { faults = f }) ≡ change m)
+    (goes : (m : Machine) (f : ℕ) (answer : Reply) (new : Machine) → run (record m { faults = f }) answer new → run m answer new) (p : Parts) where
+  abbrev pub ActEnds : Reply → Parts → Type 0
+  ActEnds answer q = Steps tells (Acts refuse run change all_go) p answer q
+
+  -- no refusal applies to what the archive stands for
+  abbrev pub Passed : Parts → Type 0
+  Passed q = (m : Machine) → Stands tells q m → refuse m ≡ None
+
+  pub refused_first : (answer : Reply) → ((m : Machine) → Stands tells p m → refuse m ≡ Some answer) → ActEnds answer p
+  refused_first answer why = λ m s. (m, refused_at_once answer (why m s), s)
+
+  -- the doubt couldn't be settled
+  pub cut_ends : (q : Parts) (e : DiskErr) → Passed p → StandsStill tells p q → p.at.faults ≤ q.at.faults → (e ≡ Fault → Rose p.at.faults q.at.faults) → ActEnds (disk_reply e) q
+  cut_ends q Fault pass still more rose = λ m s.
+      let rises : Rose m.faults q.at.faults = rw s.faults (rose refl) in
+      (record m { faults = q.at.faults }, faults_first (pass m s) refl rises, still m s)
+  cut_ends q Memory pass still more rose = λ m s.
+      let was : m.faults ≡ p.at.faults = s.faults in
+      (record m { faults = q.at.faults }, wants_memory refl (omega (arith, was, more)), still m s)
+
+  module _ (q : Parts) (pass : Passed p) (settles : SettlesTo tells p q) (more : p.at.faults ≤ q.at.faults) where
+    pub refused_then : (answer : Reply) → ((m : Machine) → Stands tells q m → refuse m ≡ Some answer) → ActEnds answer q
+    refused_then answer why = λ m s.
+        let mid = settles m s in
+        let was : m.faults ≡ p.at.faults = s.faults in
+        (record mid.0 { faults = q.at.faults }, refused answer (pass m s) mid.1 (sym (refuses mid.0 q.at.faults) ∙ why (record mid.0 { faults = q.at.faults }) mid.2.stands) refl (omega (arith, was, more)), mid.2.stands)
+
+    module _ (passed : Passed q) (new : Parts) (c : Change) where
+      pub done_ends : {A : Type 0} (a : A) (answer : Reply) → ((m : Machine) → Rests tells q m → ChangesTo tells c q m new (Ok a)) → ((m : Machine) → Stands tells q m → run m answer (record (made [] c m) { faults = new.at.faults })) → ActEnds answer new
+      done_ends {A} a answer ends ran = λ m s.
+          let mid = settles m s in
+          let n : Machine = record mid.0 { faults = q.at.faults } in
+          let end = ends n mid.2 in
+          let was : m.faults ≡ p.at.faults = s.faults in
+          let later = end.faults in
+          (record (made [] c n) { faults = new.at.faults }, runs answer (pass m s) mid.1 (sym (refuses mid.0 q.at.faults) ∙ passed n mid.2.stands) (goes mid.0 q.at.faults answer (record (made [] c n) { faults = new.at.faults }) (ran n mid.2.stands)) (omega (arith, was, more, later)), end.ends)
+
+      module _ (own : (m : Machine) → Stands tells q m → change m ≡ Some c) where
+        pub failed_ends : {A : Type 0} (e : DiskErr) → ((m : Machine) → Rests tells q m → ChangesTo {A = A} tells c q m new (Err e)) → ActEnds (disk_reply e) new
+        failed_ends {A} Fault ends = λ m s.
+            let mid = settles m s in
+            let n : Machine = record mid.0 { faults = q.at.faults } in
+            let end = ends n mid.2 in
+            let rises : Rose m.faults new.at.faults = rw s.faults (rose_after p.at.faults q.at.faults new.at.faults more (end.cause refl)) in
+            (record n { doubt = Some c; faults = new.at.faults }, faults_within c (pass m s) mid.1 (sym (refuses mid.0 q.at.faults) ∙ passed n mid.2.stands) (sym (changes mid.0 q.at.faults) ∙ own n mid.2.stands) refl rises, end.ends)
+        failed_ends {A} Memory ends = λ m s.
+            let mid = settles m s in
+            let n : Machine = record mid.0 { faults = q.at.faults } in
+            let end = ends n mid.2 in
+            let was : m.faults ≡ p.at.faults = s.faults in
+            let later = end.faults in
+            (record n { faults = new.at.faults }, wants_memory_settled (pass m s) mid.1 refl (omega (arith, was, more, later)), end.ends)
+
+-- WHAT A CRASH LEAVES
+
+module _ (tells : Bool) (refuse : Machine → Option Reply) (change : Machine → Option Change) (refuses : (m : Machine) (f : ℕ) → refuse (record m { faults = f }) ≡ refuse m) (changes : (m : Machine) (f : ℕ) → change (record m { faults = f }) ≡ change m) (p : Parts) where
+  abbrev Within : Machine → Files → Type 0
+  Within m image = LeavesWithin refuse change (granularities p.at.manifests) m image
+
+  between : (m : Machine) (image : Files) → LeavesBetween (granularities p.at.manifests) m image → Within m image
+  between m image (left, is, holds) = (left, before_it is, holds)
+
+  -- nothing was done
+  pub crash_none : LeavesByAct tells refuse change p p
+  crash_none = λ m told s. passes_none (λ a image. Within m image) p.at.past (λ image left. between m image (crash_leaves tells p m image told s left))
+
+  -- the settling reads alone
+  pub crash_settling : (q : Parts) → (IsTrue tells → Passes (λ a b. b ≡ a) p.at.past q.at.past) → LeavesByAct tells refuse change p q
+  crash_settling q reads = λ m told s. passes_weaker (λ a b. b ≡ a) (λ a image. Within m image) p.at.past q.at.past (reads told)
+      (λ a b left is. between m b (crash_leaves tells p m b told s (subst (λ (f : Files). MayLeave p.at.past f) (sym is) left)))
+
+  -- and then the change is made
+  pub crash_changing : {A : Type 0} (q new : Parts) (c : Change) (r : Result A DiskErr) → (IsTrue tells → Passes (λ a b. b ≡ a) p.at.past q.at.past) → granularities q.at.manifests ≡ granularities p.at.manifests → SettlesTo tells p q → ((m : Machine) → Stands tells q m → refuse m ≡ None) → ((m : Machine) → Stands tells q m → change m ≡ Some c)
+      → ((m : Machine) → Rests tells q m → ChangesTo tells c q m new r) → LeavesByAct tells refuse change p new
+  crash_changing {A} q new c r reads same_g settles passed own ends = λ m told s.
+      let mid = settles m s in
+      let n : Machine = record mid.0 { faults = q.at.faults } in
+      let second = subst (λ (gs : List Granularity). Passes (λ a image. HoldsChanged gs c n image) q.at.past new.at.past) same_g ((ends n mid.2).any_moment told) in
+      let none : refuse mid.0 ≡ None = sym (refuses mid.0 q.at.faults) ∙ passed n mid.2.stands in
+      let one : change mid.0 ≡ Some c = sym (changes mid.0 q.at.faults) ∙ own n mid.2.stands in
+      passes_then (λ a image. Within m image) (λ a image. HoldsChanged (granularities p.at.manifests) c n image) p.at.past q.at.past new.at.past (crash_settling q reads m told s) second (λ a b image was within left holds. elim holds [
+        | inl same ↦ (mid.0, settled_there mid.1, same)
+        | inr with_it ↦ (made [] c mid.0, with_change c mid.1 none one, with_it)
+      ])

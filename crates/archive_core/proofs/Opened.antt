@@ -1,0 +1,306 @@
+-- The machine of an archive that was just opened.
+use Rattle.std.proofs.Common.{◌≡◌, inl, ℕ, zero, suc, ◌+◌, ◌-◌, ◌≤◌, ◌<◌, ◌^◌, List, [], ◌∷◌, length, Bool, true, false, cond, Some, None, max, min, refl, sym, ◌∙◌, ap, subst, arith}
+use Rattle.std.specs.Prelude.{◌==◌, ◌&&◌, slice_get, map, filter, nat_eq, All, IsTrue}
+use Rattle.std.specs.FinMap.{FinMap, get, empty, get-empty}
+use Rattle.std.specs.List.{flat_map}
+use Rattle.std.specs.Ordering.{nat_cmp}
+use Rattle.std.proofs.lemmas.List.Elements.{All-head, All-tail, All-filter}
+use Rattle.std.proofs.lemmas.Option.{same_Some}
+use Rattle.series_model.specs.Sampling.{first_cell}
+use Rattle.series_model.specs.Series.{end_of, end_from, over, IsRising}
+use Rattle.series_model.specs.declared.sample.Sample.{Sample}
+use Rattle.series_model.proofs.OverLemmas.{end_of-over}
+use Rattle.series_model.proofs.RisingLists.{end_from-append}
+use Rattle.partition_names.specs.declared.granularity.Granularity.{Granularity}
+use Rattle.partition_names.specs.declared.part.Part.{Part}
+use Rattle.partition_names.specs.Part.{HoldsMoment}
+use Rattle.partition_names.proofs.PartLemmas.{within}
+use Rattle.pv_name.specs.Key.{key_of}
+use Rattle.pv_catalog.specs.Rows.{AreRows, HasKey}
+use Rattle.pv_catalog.specs.declared.row.Row.{Row}
+use Rattle.store_manifest.specs.Manifest.{ManifestState}
+use Rattle.store_manifest.specs.declared.entry.Entry.{Entry}
+use Rattle.tier_store.specs.Held.{Filed, IsFiled, entry_of, samples_of}
+use Rattle.three_stores.specs.Change.{Has}
+use Rattle.three_stores.specs.Seen.{Seen, granularities}
+use Rattle.three_stores.specs.Stores.{Stores, list_at}
+use Rattle.three_stores.proofs.Places.{manifest_at}
+use Rattle.three_stores.proofs.Rising.{row_rises}
+use Rattle.act_model.specs.Crash.{DurableRow, kept_of, kept}
+use Rattle.act_model.specs.Machine.{Machine, PinState, MoveState, held_bytes}
+use Rattle.act_model.specs.NextLife.{opened_row, opened}
+use Rattle.act_model.specs.Rows.{RowState, durable}
+use Rattle.act_model.specs.Rule.{Rule}
+use Rattle.act_model.specs.Sound.{RowSound, IsSound}
+use Rattle.archive_core.specs.declared.memory.RowMemory.{RowMemory}
+use Rattle.archive_core.specs.Memory.{AreRowsOf, IsRowOf}
+use Rattle.archive_core.specs.Opening.{listed_from, listed_end, entries_at, end_at, memory_of, IsOpened}
+use Rattle.append_buffer.specs.Tails.{TailState}
+use Rattle.archive_core.specs.Stands.{Rests, IsDurable, HoldsDurable}
+use Rattle.archive_core.proofs.Settled.{sampling_cell, sampling_period}
+
+-- WHERE A STORE'S LIST ENDS
+
+-- a list that isn't empty ends where it ends, whatever comes before
+any_start : (n : ℕ) (xs : List Sample) (first : Sample) (others : List Sample) → xs ≡ first ∷ others → end_from n xs ≡ end_of xs
+any_start n xs first others is = ap (end_from n) is ∙ sym (ap (end_from 0) is)
+
+-- it ends behind its last entry
+pub last_end : (n : ℕ) (es : List Entry) (e : Entry) (k : ℕ) → slice_get es k ≡ Some e → k + 1 ≡ length es → listed_from n es ≡ e.last + 1
+last_end n [] e k here is = absurd (omega (arith, is))
+last_end n (x ∷ []) e zero here is = ap (λ (y : Entry). y.last + 1) (same_Some x e here)
+last_end n (x ∷ []) e (suc k) here is = absurd (omega (arith, is))
+last_end n (x ∷ y ∷ es) e zero here is = absurd (omega (arith, is))
+last_end n (x ∷ y ∷ es) e (suc k) here is = last_end (x.last + 1) (y ∷ es) e k here (omega (arith, is))
+
+files_end : (g : Granularity) (rows : List Row) (n : ℕ) (fs : List Filed) → All (IsFiled g rows) fs → end_from n (flat_map (λ (f : Filed). f.samples) fs) ≡ listed_from n (map entry_of fs)
+files_end g rows n [] filed = refl
+files_end g rows n (f ∷ fs) filed =
+    let is = All-head (IsFiled g rows) f fs filed in
+    let own : end_from n f.samples ≡ f.entry.last + 1 = any_start n f.samples is.first is.others is.some ∙ sym is.to in
+    end_from-append n f.samples (flat_map (λ (h : Filed). h.samples) fs)
+    ∙ (ap (λ (k : ℕ). end_from k (flat_map (λ (h : Filed). h.samples) fs)) own ∙ files_end g rows (f.entry.last + 1) fs (All-tail (IsFiled g rows) f fs filed))
+
+own_entries : (i : ℕ) (files : List Filed) → map entry_of (filter (λ (f : Filed). nat_eq f.entry.series i) files) ≡ filter (λ (e : Entry). e.series == i) (map entry_of files)
+own_entries i [] = refl
+own_entries i (f ∷ files) = by_test (nat_eq f.entry.series i) refl (own_entries i files)
+  where
+    by_test : (b : Bool) → nat_eq f.entry.series i ≡ b → map entry_of (filter (λ (f : Filed). nat_eq f.entry.series i) files) ≡ filter (λ (e : Entry). e.series == i) (map entry_of files)
+        → map entry_of (cond b (f ∷ filter (λ (f : Filed). nat_eq f.entry.series i) files) (filter (λ (f : Filed). nat_eq f.entry.series i) files)) ≡ filter (λ (e : Entry). e.series == i) (f.entry ∷ map entry_of files)
+    by_test true is rest = let same : (f.entry.series == i) ≡ true = is in rw same (ap (λ (es : List Entry). f.entry ∷ es) rest)
+    by_test false is rest = let same : (f.entry.series == i) ≡ false = is in rw same rest
+
+inside_end : (n : ℕ) (p : Part) (xs : List Sample) → n ≤ p.end → All (λ (s : Sample). HoldsMoment p s.t) xs → end_from n xs ≤ p.end
+inside_end n p [] low inside = low
+inside_end n p (x ∷ xs) low inside =
+    let here : HoldsMoment p x.t = All-head (λ (s : Sample). HoldsMoment p s.t) x xs inside in
+    let under = here.1 in
+    inside_end (x.t + 1) p xs (omega (arith, under)) (All-tail (λ (s : Sample). HoldsMoment p s.t) x xs inside)
+
+few_end : (g : Granularity) (rows : List Row) (n : ℕ) (fs : List Filed) → n ≤ 2 ^ 64 - 1 → All (IsFiled g rows) fs → listed_from n (map entry_of fs) ≤ 2 ^ 64 - 1
+few_end g rows n [] low filed = low
+few_end g rows n (f ∷ fs) low filed =
+    let is = All-head (IsFiled g rows) f fs filed in
+    let range = (within g f.entry.part is.part).2 in
+    let end : end_of f.samples ≤ f.entry.part.end = inside_end 0 f.entry.part f.samples (omega arith) is.inside in
+    let to : f.entry.last + 1 ≡ end_of f.samples = is.to in
+    few_end g rows (f.entry.last + 1) fs (omega (arith, range, end, to)) (All-tail (IsFiled g rows) f fs filed)
+
+-- of one store: where its samples of a row end, and that they rise
+place_end : (at : Seen) (held : Stores) → (tells : Bool) → Has tells at held → IsTrue held.stands → (place i : ℕ) → place < 3 → end_at at.manifests place i ≡ end_of (samples_of i (list_at place held))
+place_end at held tells has stands place i low =
+    let three = has.known.three in
+    let m = manifest_at at.manifests place (omega (arith, low, three)) in
+    let known = has.known.each place m.0 m.1 in
+    let files = list_at place held in
+    let filed = known.valid.filed.filed stands in
+    let own = All-filter (λ (f : Filed). nat_eq f.entry.series i) (IsFiled m.0.granularity held.rows) files filed in
+    let here = m.1 in
+    let listed : entries_at at.manifests place i ≡ map entry_of (filter (λ (f : Filed). nat_eq f.entry.series i) files) = rw here (ap (filter (λ (e : Entry). e.series == i)) known.entries ∙ sym (own_entries i files)) in
+    let few : listed_end (map entry_of (filter (λ (f : Filed). nat_eq f.entry.series i) files)) ≤ 2 ^ 64 - 1 = few_end m.0.granularity held.rows 0 (filter (λ (f : Filed). nat_eq f.entry.series i) files) (omega arith) own in
+    let least : min (listed_end (map entry_of (filter (λ (f : Filed). nat_eq f.entry.series i) files))) (2 ^ 64 - 1) ≡ listed_end (map entry_of (filter (λ (f : Filed). nat_eq f.entry.series i) files)) = omega (arith, few) in
+    ap (λ (es : List Entry). min (listed_end es) (2 ^ 64 - 1)) listed ∙ (least ∙ sym (files_end m.0.granularity held.rows 0 (filter (λ (f : Filed). nat_eq f.entry.series i) files) own))
+
+place_rises : (at : Seen) (held : Stores) → (tells : Bool) → Has tells at held → IsTrue held.stands → (place i : ℕ) → place < 3 → IsRising (samples_of i (list_at place held))
+place_rises at held tells has stands place i low =
+    let three = has.known.three in
+    let m = manifest_at at.manifests place (omega (arith, low, three)) in
+    let known = has.known.each place m.0 m.1 in
+    row_rises m.0.granularity held.rows i (list_at place held) (known.valid.filed.filed stands) known.valid.apart
+
+-- THE ROWS
+
+-- what a store lists of a row, where that is told
+abbrev listed : Bool → ℕ → List Filed → List Sample
+listed true i files = samples_of i files
+listed false i files = []
+
+abbrev row_of : Bool → List ManifestState → Stores → ℕ → Row → RowState
+row_of told ms held i row = record { name = row.name; about = row.about; state = row.state; next = (memory_of ms row).next; tail = []; cell = first_cell; short = listed told i held.short; medium = listed told i held.medium; long = listed told i held.long }
+
+abbrev rows_from : Bool → List ManifestState → Stores → ℕ → List Row → List RowState
+rows_from told ms held k [] = []
+rows_from told ms held k (row ∷ rows) = row_of told ms held k row ∷ rows_from told ms held (k + 1) rows
+
+get_from : (told : Bool) (ms : List ManifestState) (held : Stores) (k : ℕ) (rows : List Row) (i : ℕ) (r : RowState) → slice_get (rows_from told ms held k rows) i ≡ Some r → (row : Row) × (slice_get rows i ≡ Some row) × (r ≡ row_of told ms held (k + i) row)
+get_from told ms held k [] i r here = absurd (cc (here))
+get_from told ms held k (row ∷ rows) zero r here = let plain : k ≡ k + 0 = omega arith in (row, refl, sym (same_Some (row_of told ms held k row) r here) ∙ ap (λ (n : ℕ). row_of told ms held n row) plain)
+get_from told ms held k (row ∷ rows) (suc i) r here =
+    let rest = get_from told ms held (k + 1) rows i r here in
+    let next : (k + 1) + i ≡ k + suc i = omega arith in
+    (rest.0, rest.1, rest.2 ∙ ap (λ (n : ℕ). row_of told ms held n rest.0) next)
+
+length_from : (told : Bool) (ms : List ManifestState) (held : Stores) (k : ℕ) (rows : List Row) → length (rows_from told ms held k rows) ≡ length rows
+length_from told ms held k [] = refl
+length_from told ms held k (row ∷ rows) = ap suc (length_from told ms held (k + 1) rows)
+
+none_held : (told : Bool) (ms : List ManifestState) (held : Stores) (k : ℕ) (rows : List Row) → held_bytes (rows_from told ms held k rows) ≡ 0
+none_held told ms held k [] = refl
+none_held told ms held k (row ∷ rows) = let rest = none_held told ms held (k + 1) rows in omega (arith, rest)
+
+get_map : (f : Row → RowMemory) (rows : List Row) (i : ℕ) (row : Row) → slice_get rows i ≡ Some row → slice_get (map f rows) i ≡ Some (f row)
+get_map f [] i row here = absurd (cc (here))
+get_map f (x ∷ rows) zero row here = ap (λ (w : Row). Some (f w)) (same_Some x row here)
+get_map f (x ∷ rows) (suc i) row here = get_map f rows i row here
+
+abbrev no_pins : FinMap nat_cmp PinState
+no_pins = empty
+
+abbrev no_moves : FinMap nat_cmp MoveState
+no_moves = empty
+
+no_pin : (n : ℕ) (pin : PinState) → get no_pins n ≡ Some pin → ⊥
+no_pin n pin here = let none : get no_pins n ≡ None = get-empty nat_cmp n in let bad = sym none ∙ here in absurd (cc (bad))
+
+no_move : (n : ℕ) (move : MoveState) → get no_moves n ≡ Some move → ⊥
+no_move n move here = let none : get no_moves n ≡ None = get-empty nat_cmp n in let bad = sym none ∙ here in absurd (cc (bad))
+
+both_true : (a b : Bool) → (a && b) ≡ true → IsTrue b
+both_true true true is = refl
+both_true true false is = absurd (cc (is))
+both_true false b is = absurd (cc (is))
+
+module _ (tells : Bool) (at : Seen) (held : Stores) (has : Has tells at held) (are : AreRows at.catalogue.rows) (rule : Rule) (doors : ℕ) (same_g : rule.granularity ≡ granularities at.manifests) where
+  abbrev ms : List ManifestState
+  ms = at.manifests
+
+  abbrev rows : List Row
+  rows = at.catalogue.rows
+
+  -- where the stores stand, what was durable of the row ends where the memory says
+  row_end : (i : ℕ) (row : Row) → IsTrue held.stands → slice_get rows i ≡ Some row → end_of (durable (row_of true ms held i row)) ≡ (memory_of ms row).next
+  row_end i row stands here =
+      let id : row.id ≡ i = are.ids i row here in
+      let short = place_end at held tells has stands 0 i (omega arith) in
+      let medium = place_end at held tells has stands 1 i (omega arith) in
+      let long = place_end at held tells has stands 2 i (omega arith) in
+      let deep : end_of (over (samples_of i held.long) (samples_of i held.medium)) ≡ max (end_of (samples_of i held.long)) (end_of (samples_of i held.medium)) = end_of-over (samples_of i held.long) (samples_of i held.medium) (place_rises at held tells has stands 1 i (omega arith)) in
+      let all : end_of (durable (row_of true ms held i row)) ≡ max (end_of (over (samples_of i held.long) (samples_of i held.medium))) (end_of (samples_of i held.short)) = end_of-over (over (samples_of i held.long) (samples_of i held.medium)) (samples_of i held.short) (place_rises at held tells has stands 0 i (omega arith)) in
+      let next : (memory_of ms row).next ≡ max (max (end_at ms 2 i) (end_at ms 1 i)) (end_at ms 0 i) = ap (λ (n : ℕ). max (max (end_at ms 2 n) (end_at ms 1 n)) (end_at ms 0 n)) id in
+      cc (short, medium, long, deep, all, next)
+
+  row_sound : (told : Bool) (i : ℕ) (row : Row) → (told ≡ true → IsTrue held.stands) → slice_get rows i ≡ Some row → RowSound told (row_of told ms held i row)
+  row_sound true i row stands here =
+      let end = row_end i row (stands refl) here in
+      record {
+        short = place_rises at held tells has (stands refl) 0 i (omega arith);
+        medium = place_rises at held tells has (stands refl) 1 i (omega arith);
+        long = place_rises at held tells has (stands refl) 2 i (omega arith);
+        later = tt;
+        next = omega (arith, end);
+        exact = λ told. sym end;
+      }
+  row_sound false i row stands here = record { short = tt; medium = tt; long = tt; later = tt; next = omega arith; exact = λ told. absurd (cc (told)) }
+
+  abbrev machine : Bool → Machine
+  machine told = record { rule = rule; rows = rows_from told ms held 0 rows; limbo = []; pins = no_pins; moves = no_moves; doubt = None; doors = doors; faults = at.faults; told = told }
+
+  -- the row of this number
+  get_row : (told : Bool) (i : ℕ) (r : RowState) → slice_get (rows_from told ms held 0 rows) i ≡ Some r → (row : Row) × (slice_get rows i ≡ Some row) × (r ≡ row_of told ms held i row)
+  get_row told i r here =
+      let from = get_from told ms held 0 rows i r here in
+      let plain : 0 + i ≡ i = omega arith in
+      (from.0, from.1, from.2 ∙ ap (λ (n : ℕ). row_of told ms held n from.0) plain)
+
+  has_key : (told : Bool) (i : ℕ) (r : RowState) (key : List ℕ) → slice_get (rows_from told ms held 0 rows) i ≡ Some r → key_of r.name ≡ key → HasKey rows i key
+  has_key told i r key here is =
+      let from = get_row told i r here in
+      record { row = from.0; here = from.1; is = ap (λ (w : RowState). key_of w.name) (sym from.2) ∙ is }
+
+  sound : (told : Bool) → (told ≡ true → IsTrue held.stands) → IsSound (machine told)
+  sound told stands = record {
+    few = let same = length_from told ms held 0 rows in let few = are.few in omega (arith, same, few);
+    keys = λ i j a b here there same. are.one_key i j (key_of b.name) (has_key told i a (key_of b.name) here same) (has_key told j b (key_of b.name) there refl);
+    each_row = λ i r here. let from = get_row told i r here in subst (λ (w : RowState). RowSound told w) (sym from.2) (row_sound told i from.0 stands from.1);
+    lines = λ i r here. let from = get_row told i r here in rw from.2 (record { tail = tt; held = tt });
+    intake = let none = none_held told ms held 0 rows in omega (arith, none);
+    doubted = λ c is. absurd (cc (is));
+    each_move = λ n move here. absurd (no_move n move here);
+    one_move = λ n k move other here there same. absurd (no_move n move here);
+    each_file = tt;
+    each_unlisted = tt;
+    places = λ t. tt;
+    pinned = λ t n pin here. absurd (no_pin n pin here);
+  }
+
+  memory : (told : Bool) → AreRowsOf rows (map (memory_of ms) rows) [] (rows_from told ms held 0 rows)
+  memory told = record {
+    count = length_from told ms held 0 rows;
+    each = λ i r here.
+        let from = get_row told i r here in
+        record { row = from.0; memory = memory_of ms from.0; here = from.1; there = get_map (memory_of ms) rows i from.0 from.1; is = subst (λ (w : RowState). IsRowOf [] i from.0 (memory_of ms from.0) w) (sym from.2) (record { name = refl; about = refl; state = refl; next = refl; cell = sampling_cell from.0.about.method; period = sampling_period from.0.about.method; tail = refl }) };
+    beyond = λ i high. refl;
+  }
+
+  kept_from : (told : Bool) (k : ℕ) (rs : List Row) (i : ℕ) (d : DurableRow) → slice_get (map kept_of (rows_from told ms held k rs)) i ≡ Some d → (row : Row) × (slice_get rs i ≡ Some row) × (d ≡ kept_of (row_of told ms held (k + i) row))
+  kept_from told k [] i d here = absurd (cc (here))
+  kept_from told k (row ∷ rs) zero d here = let plain : k ≡ k + 0 = omega arith in (row, refl, sym (same_Some (kept_of (row_of told ms held k row)) d here) ∙ ap (λ (n : ℕ). kept_of (row_of told ms held n row)) plain)
+  kept_from told k (row ∷ rs) (suc i) d here =
+      let rest = kept_from told (k + 1) rs i d here in
+      let next : (k + 1) + i ≡ k + suc i = omega arith in
+      (rest.0, rest.1, rest.2 ∙ ap (λ (n : ℕ). kept_of (row_of told ms held n rest.0)) next)
+
+  length_kept : (told : Bool) (k : ℕ) (rs : List Row) → length (map kept_of (rows_from told ms held k rs)) ≡ length rs
+  length_kept told k [] = refl
+  length_kept told k (row ∷ rs) = ap suc (length_kept told (k + 1) rs)
+
+  own_durable : (told : Bool) (i : ℕ) (row : Row) → IsDurable told held i row (kept_of (row_of told ms held i row))
+  own_durable true i row = record { name = refl; about = refl; state = refl; short = λ t. refl; medium = λ t. refl; long = λ t. refl }
+  own_durable false i row = record { name = refl; about = refl; state = refl; short = λ t. absurd (cc (t)); medium = λ t. absurd (cc (t)); long = λ t. absurd (cc (t)) }
+
+  holds : (told : Bool) → HoldsDurable held (machine told)
+  holds told = record {
+    count = length_kept told 0 rows ∙ ap length has.known.rows;
+    each = λ i d here.
+        let from = kept_from told 0 rows i d here in
+        let plain : 0 + i ≡ i = omega arith in
+        let own : d ≡ kept_of (row_of told ms held i from.0) = from.2 ∙ ap (λ (n : ℕ). kept_of (row_of told ms held n from.0)) plain in
+        record { row = from.0; here = ap (λ (rs : List Row). slice_get rs i) (sym has.known.rows) ∙ from.1; is = subst (λ (w : DurableRow). IsDurable told held i from.0 w) (sym own) (own_durable told i from.0) };
+  }
+
+  -- where it is told, each row is as it is opened
+  rows_fresh : (k : ℕ) (rs : List Row) → IsTrue held.stands → ((i : ℕ) (row : Row) → slice_get rs i ≡ Some row → slice_get rows (k + i) ≡ Some row) → rows_from true ms held k rs ≡ map opened_row (map kept_of (rows_from true ms held k rs))
+  rows_fresh k [] stands there = refl
+  rows_fresh k (row ∷ rs) stands there =
+      let plain : k + 0 ≡ k = omega arith in
+      let here : slice_get rows k ≡ Some row = ap (slice_get rows) (sym plain) ∙ there 0 row refl in
+      let end = row_end k row stands here in
+      let head : row_of true ms held k row ≡ opened_row (kept_of (row_of true ms held k row)) = ap (λ (n : ℕ). record (row_of true ms held k row) { next = n }) (sym end) in
+      let tail = rows_fresh (k + 1) rs stands (λ i r got. let next : (k + 1) + i ≡ k + suc i = omega arith in ap (slice_get rows) next ∙ there (suc i) r got) in
+      cc (head, tail)
+
+  fresh : (told : Bool) → (told ≡ true → IsTrue held.stands) → told ≡ true → machine told ≡ opened rule true doors at.faults (kept (machine told))
+  fresh true stands is = ap (λ (rs : List RowState). record (machine true) { rows = rs }) (rows_fresh 0 rows (stands refl) (λ i row here. let plain : 0 + i ≡ i = omega arith in ap (slice_get rows) plain ∙ here))
+  fresh false stands is = absurd (cc (is))
+
+  pub opened_rests : (m : Machine) × IsOpened rule m × HoldsDurable held m × Rests tells (record { at = at; tails = []; kept = map (memory_of ms) rows; doubt = None; doors = doors }) m × (m.doors ≡ doors)
+  opened_rests =
+      let told = tells && held.stands in
+      let stands : told ≡ true → IsTrue held.stands = both_true tells held.stands in (
+        machine told,
+        record { of_rule = refl; fresh = fresh told stands },
+        holds told,
+        record {
+          stands = record {
+            sound = sound told stands;
+            plain = record { rule = same_g; limbo = refl; pins = refl; moves = refl };
+            faults = refl;
+            doors = refl;
+            rows = memory told;
+            doubt = tt;
+            ready = tt;
+            store = record { before = held; told = refl; holds = holds told; is_open = inl has };
+          };
+          settled = refl;
+        },
+        refl,
+      )
+
+  -- by what is in memory then
+  pub opened_as : (tails : List TailState) (kept : List RowMemory) → tails ≡ [] → kept ≡ map (memory_of ms) rows
+      → (m : Machine) × IsOpened rule m × HoldsDurable held m × Rests tells (record { at = at; tails = tails; kept = kept; doubt = None; doors = doors }) m × (m.doors ≡ doors)
+  opened_as tails kept none is =
+      let r = opened_rests in
+      let empty_tails : Rests tells (record { at = at; tails = tails; kept = map (memory_of ms) rows; doubt = None; doors = doors }) r.0 =
+      subst (λ (t : List TailState). Rests tells (record { at = at; tails = t; kept = map (memory_of ms) rows; doubt = None; doors = doors }) r.0) (sym none) r.3 in
+      (r.0, r.1, r.2, subst (λ (k : List RowMemory). Rests tells (record { at = at; tails = tails; kept = k; doubt = None; doors = doors }) r.0) (sym is) empty_tails, r.4)

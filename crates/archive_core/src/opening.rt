@@ -1,0 +1,105 @@
+// An archive is opened on stores, and gives them back.
+ghost use Rattle.std.specs.Prelude.{◌≡◌, ◌≤◌, ◌+◌, ◌==◌, ◌^◌, ◌-◌, ℕ, length, map, filter, min, IfOk, IfErr};
+ghost use Rattle.pv_catalog.specs.Rows.{AreRows};
+ghost use Rattle.three_stores.specs.Change.{Has};
+ghost use Rattle.three_stores.specs.Seen.{seen};
+ghost use Rattle.three_stores.specs.Stores.{Stores};
+ghost use Rattle.archive_core.specs.Opening.{listed_end, end_at, memory_of, OpensAs};
+ghost use Rattle.archive_core.specs.Memory.{sampling_by};
+ghost use Rattle.archive_core.specs.Parts.{parts};
+
+use crate::Archive;
+use crate::memory::RowMemory;
+use append_buffer::Intake;
+use disk_model::Disk;
+use event_types::Method;
+use pv_catalog::Row;
+use sampler::Scan;
+use std::alloc::{AllocError, Global};
+use store_manifest::Entry;
+use three_stores::TierStore;
+
+// The first moment later than all that a row's entries in a store list, 0 where they list nothing.
+fn end_of(entries: &[Entry]) -> u64
+    ensures { result ≡ min (listed_end entries.now) (2 ^ 64 - 1) }
+{
+    match entries.last() {
+        Some(entry) => entry.last.saturating_add(1),
+        None => 0,
+    }
+}
+
+fn end_in<D: Disk>(store: &TierStore<D>, number: u8, row: u32) -> u64
+    requires first { 1 ≤ number }
+    requires last { number ≤ length store.now.manifests.items }
+    ensures { (place : ℕ) → number ≡ place + 1 → result ≡ end_at store.now.manifests.items place row }
+{
+    end_of(store.manifest(number).entries(row))
+}
+
+// What is kept of the sampling of a row that was just registered, or opened again.
+pub(crate) fn sampling(method: &Method) -> Option<Scan>
+    ensures { result ≡ sampling_by method.now }
+{
+    match method {
+        Method::Monitor => None,
+        Method::Scan { period } => Some(Scan::new(*period)),
+    }
+}
+
+fn open_row<D: Disk>(store: &TierStore<D>, row: &Row) -> RowMemory
+    requires three { length store.now.manifests.items ≡ 3 }
+    ensures { result ≡ memory_of store.now.manifests.items row.now }
+{
+    let short = end_in(store, 1, row.id);
+    let medium = end_in(store, 2, row.id);
+    let long = end_in(store, 3, row.id);
+    RowMemory {
+        next: long.max(medium).max(short),
+        scan: sampling(&row.about.method),
+    }
+}
+
+// What is kept of each row, as it is opened.
+fn open_rows<D: Disk>(alloc: Global, store: &TierStore<D>) -> Result<Vec<RowMemory>, AllocError>
+    requires three { length store.now.manifests.items ≡ 3 }
+    ensures rows { IfOk result (λ rows. rows.items ≡ map (memory_of store.now.manifests.items) store.now.catalogue.rows) }
+    ensures are { AreRows store.now.catalogue.rows }
+{
+    let mut rows = Vec::new(alloc);
+    for row in store.catalogue().rows() {
+        rows.push(open_row(store, row))?;
+    }
+    Ok(rows)
+}
+
+impl<D: Disk> Archive<D> {
+    /// The archive of stores that no change stands in doubt of, with so many doors. All that is durable is accepted, and nothing else.
+    ///
+    /// `Err` comes for want of memory alone, and gives the stores back.
+    pub fn of(alloc: Global, store: TierStore<D>, doors: u32) -> Result<Archive<D>, TierStore<D>>
+        requires settled { (held : Stores) × Has D.tells (seen D.Disk store) held }
+        ensures opened { IfOk result (λ archive. OpensAs D.tells (seen D.Disk store) doors (parts D.Disk archive)) }
+        ensures store { IfOk result (λ archive. archive.store ≡ store) }
+        ensures back { IfErr result (λ given. given ≡ store) }
+    {
+        match open_rows(alloc, &store) {
+            Ok(rows) => Ok(Archive {
+                alloc,
+                store,
+                intake: Intake::new(alloc),
+                rows,
+                doubt: None,
+                doors: u64::from(doors),
+            }),
+            Err(_) => Err(store),
+        }
+    }
+
+    /// The stores, given back. What the intake holds is given up. It takes no memory.
+    pub fn into_store(self) -> TierStore<D>
+        ensures { result ≡ self.store }
+    {
+        self.store
+    }
+}
