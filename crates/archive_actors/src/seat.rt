@@ -37,7 +37,7 @@ where
 }
 
 /// One turn, which may wait for those of others. The act and its answer are the last that the seat then knows, and of what it came to know
-/// nothing else is under its number. `Spent` comes exactly where the room has had all its acts, 2^63 - 1, and nothing was made then.
+/// nothing else is under its number. `Spent` comes only where the room has had all its acts, 2^63 - 1, and nothing was made then.
 pub fn take_turn<X: Applies + Send>(
     rt: &impl Wait,
     seat: &mut Seat<X>,
