@@ -1,13 +1,14 @@
 -- What stays told of what is behind a sink.
-use Rattle.std.proofs.Common.{◌≡◌, ℕ, ◌*◌, ◌≤◌, Bool, true, false, ◌&&◌, List, [], ◌∷◌, ◌++◌, Option, Some, None, inl, inr, length, take, drop, refl, sym, ap, ◌∙◌, arith, append_assoc, rules}
-use Rattle.std.specs.Prelude.{if◌then◌else◌, IfSome, OnOk, Result, Ok, Err}
+use Rattle.std.proofs.Common.{◌≡◌, ℕ, ◌+◌, ◌*◌, ◌≤◌, Bool, true, false, ◌&&◌, List, [], ◌∷◌, ◌++◌, Option, Some, None, inl, inr, length, take, drop, refl, sym, ap, ◌∙◌, arith, append_assoc, rules}
+use Rattle.std.specs.Prelude.{if◌then◌else◌, nat_le, not, ◌||◌, IfSome, OnOk, Result, Ok, Err}
 use Rattle.std.specs.Cmp.Lexicographic.{bytes_decides}
 use Rattle.std.specs.Io.KnownBytes.{Keeps, Appends, WriteAppends, append_known}
 use Rattle.std.proofs.KnownBytes.{append_known-moved, Keeps-trans}
 use Rattle.std.proofs.lemmas.List.{append-nil, take_at, drop_at, length-append}
 use Rattle.std.specs.Option.{option_map}
+use Rattle.std.proofs.lemmas.Bool.Decides.{nat_tests}
 use Rattle.http_front.specs.Chunks.{chunk_of, last_chunk, rest_chunk, full_in, chunked}
-use Rattle.http_front.specs.Behind.{known, tells, in_chunks, as_it_is, behind, coded, is_full, has_got, stands, text_of, written_behind, whole_of, ended, told_of, HasFront, EndsBody}
+use Rattle.http_front.specs.Behind.{known, tells, in_chunks, as_it_is, behind, coded, is_full, has_got, has_kept, stands, text_of, written_behind, whole_of, ended, told_of, HasFront, EndsBody}
 use Rattle.edge_io.specs.declared.stream.Failed.{Failed}
 use Rattle.http_front.specs.Sends.{Sends}
 use Rattle.http_front.proofs.Chunking.{chunked_joined, chunked_short, full_behind}
@@ -52,21 +53,51 @@ full_of taken h = let e = h in search rules
 is_full_of : (taken : List ℕ) → length taken ≡ 8192 * full_in taken → is_full taken ≡ true
 is_full_of taken h = let e = h in search rules
 
+-- the link has no less than before
+has_kept_more : (start a b : Option (List ℕ)) (out : List ℕ) → Appends a b out → has_kept start a ≡ true → has_kept start b ≡ true
+has_kept_more None a b out p h = refl
+has_kept_more (Some f) None b out p h = cc
+has_kept_more (Some f) (Some xs) None out p h = absurd p
+has_kept_more (Some f) (Some xs) (Some ys) out p h =
+    let long : length ys ≡ length xs + length out = ap length p ∙ length-append xs out in
+    grind (arith, nat_tests)
+
+kept_all : (f : List ℕ) → nat_le (length f) (length f) ≡ true
+kept_all f = grind (arith, nat_tests)
+
+kept_long : (f xs : List ℕ) → nat_le (length f) (length xs) ≡ true → length f ≤ length xs
+kept_long f xs h = grind (arith, nat_tests)
+
+-- what a sink that stands has
+pub record Stood (start now : Option (List ℕ)) (chunks : Bool) (taken going : List ℕ) : Type 0 where
+  pub got : has_got start (append_known now going) (coded chunks taken) ≡ true
+  pub kept : has_kept start now ≡ true
+  pub full : (not chunks || is_full taken) ≡ true
+
+pub stood : (start now : Option (List ℕ)) (chunks : Bool) (taken going : List ℕ) → stands start now chunks taken going ≡ true → Stood start now chunks taken going
+stood start now chunks taken going h =
+    let first = both (has_got start (append_known now going) (coded chunks taken)) (has_kept start now && (not chunks || is_full taken)) h in
+    let rest = both (has_kept start now) (not chunks || is_full taken) first.1 in
+    record { got = first.0; kept = rest.0; full = rest.1 }
+
+stands_so : (start now : Option (List ℕ)) (chunks : Bool) (taken going : List ℕ) → Stood start now chunks taken going → stands start now chunks taken going ≡ true
+stands_so start now chunks taken going s = and_both _ _ s.got (and_both _ _ s.kept s.full)
+
 pub flushed : (start a b : Option (List ℕ)) (name : ℕ) (chunks : Bool) (taken held p q : List ℕ) → Sends a b p q
     → Keeps (written_behind start a name chunks taken held p) (written_behind start b name chunks taken held q)
 flushed start a b name chunks taken held p q sends =
     keeps_if (stands start a chunks taken p) (stands start b chunks taken q) _ _ (λ h.
-    let parts = both (has_got start (append_known a p) (coded chunks taken)) _ h in
-    (and_both _ _ (has_got_sent start a b (coded chunks taken) p q sends parts.0) parts.1, refl))
+    let s = stood start a chunks taken p h in
+    (stands_so start b chunks taken q (record { got = has_got_sent start a b (coded chunks taken) p q sends s.got; kept = has_kept_more start a b sends.0 sends.2 s.kept; full = s.full }), refl))
 
 pub chunk_closed : (start a : Option (List ℕ)) (name : ℕ) (taken held : List ℕ) → length held ≡ 8192
     → Keeps (written_behind start a name true taken held []) (written_behind start a name true (taken ++ held) [] (chunk_of held))
 chunk_closed start a name taken held long =
     keeps_if (stands start a true taken []) (stands start a true (taken ++ held) (chunk_of held)) _ _ (λ h.
-    let parts = both (has_got start (append_known a []) (coded true taken)) _ h in
-    let full = full_of taken parts.1 in
-    let more = has_got_more start a [] (coded true taken) (chunk_of held) parts.0 in
-    (and_both _ _ (rw (full_behind taken held full long) more) (is_full_of (taken ++ held) (omega (arith, full, long, length-append taken held))), ap (λ (u : List ℕ). in_chunks name start u) (append-nil (taken ++ held))))
+    let s = stood start a true taken [] h in
+    let full = full_of taken s.full in
+    let more = has_got_more start a [] (coded true taken) (chunk_of held) s.got in
+    (and_both _ _ (rw (full_behind taken held full long) more) (and_both _ _ s.kept (is_full_of (taken ++ held) (omega (arith, full, long, length-append taken held)))), ap (λ (u : List ℕ). in_chunks name start u) (append-nil (taken ++ held))))
 
 ended_if : (s t : Bool) (x y : List ℕ) → (s ≡ true → (t ≡ true) × (y ≡ ended x)) → Keeps (option_map ended (if s then Some x else None)) (if t then Some y else None)
 ended_if false t x y h = tt
@@ -79,11 +110,11 @@ pub body_closed : (start a : Option (List ℕ)) (name : ℕ) (taken held : List 
     → Keeps (option_map ended (written_behind start a name true taken held [])) (written_behind start a name false (chunked (taken ++ held)) [] (rest_chunk held ++ last_chunk))
 body_closed start a name taken held short =
     ended_if (stands start a true taken []) (stands start a false (chunked (taken ++ held)) (rest_chunk held ++ last_chunk)) _ _ (λ h.
-    let parts = both (has_got start (append_known a []) (coded true taken)) _ h in
-    let more = has_got_more start a [] (coded true taken) (rest_chunk held ++ last_chunk) parts.0 in
+    let s = stood start a true taken [] h in
+    let more = has_got_more start a [] (coded true taken) (rest_chunk held ++ last_chunk) s.got in
     let whole : chunked (taken ++ held) ≡ coded true taken ++ (rest_chunk held ++ last_chunk) =
-    chunked_joined taken held (full_of taken parts.1) ∙ ap (λ (u : List ℕ). coded true taken ++ u) (chunked_short held short) in
-    (and_both _ _ (rw whole more) refl, ap (λ (u : List ℕ). 0 ∷ name ∷ tells start ∷ 0 ∷ u) (sym (whole_begun (known start) (taken ++ held)))))
+    chunked_joined taken held (full_of taken s.full) ∙ ap (λ (u : List ℕ). coded true taken ++ u) (chunked_short held short) in
+    (and_both _ _ (rw whole more) (and_both _ _ s.kept refl), ap (λ (u : List ℕ). 0 ∷ name ∷ tells start ∷ length (known start) ∷ u) (sym (whole_begun (known start) (taken ++ held)))))
 
 pub gathered : (start a : Option (List ℕ)) (name : ℕ) (taken held p bs : List ℕ)
     → Appends (written_behind start a name true taken held p) (written_behind start a name true taken (held ++ bs) p) bs
@@ -103,8 +134,8 @@ pub passed : (start a b : Option (List ℕ)) (name : ℕ) (taken held bs : List 
     → Appends (written_behind start a name false taken held []) (written_behind start b name false (taken ++ bs) held []) bs
 passed start a b name taken held bs appends =
     appends_if (stands start a false taken []) (stands start b false (taken ++ bs) []) _ _ bs (λ h.
-    let parts = both (has_got start (append_known a []) taken) _ h in
-    (and_both _ _ (has_got_passed start a b taken bs appends parts.0) refl, ap (λ (u : List ℕ). 0 ∷ name ∷ tells start ∷ 0 ∷ u) (sym (append_assoc (known start) taken bs))))
+    let s = stood start a false taken [] h in
+    (and_both _ _ (has_got_passed start a b taken bs appends s.got) (and_both _ _ (has_kept_more start a b bs appends s.kept) refl), ap (λ (u : List ℕ). 0 ∷ name ∷ tells start ∷ length (known start) ∷ u) (sym (append_assoc (known start) taken bs))))
 
 -- a text that goes out as it is has no other end
 pub plain_ended : (start a : Option (List ℕ)) (name : ℕ) (taken held p : List ℕ) → Keeps (option_map ended (written_behind start a name false taken held p)) (written_behind start a name false taken held p)
@@ -113,40 +144,46 @@ plain_ended start a name taken held p = ended_if (stands start a false taken p) 
 pub begun : (start : Option (List ℕ)) (name : ℕ) (chunks : Bool) → written_behind start start name chunks [] [] [] ≡ Some (behind chunks name start [])
 begun None name true = refl
 begun None name false = refl
-begun (Some f) name true = let e = (bytes_decides (f ++ []) (f ++ [])).1 refl in rw e refl
-begun (Some f) name false = let e = (bytes_decides (f ++ []) (f ++ [])).1 refl in rw e refl
+begun (Some f) name true = let e = (bytes_decides (f ++ []) (f ++ [])).1 refl in rw (e, kept_all f) refl
+begun (Some f) name false = let e = (bytes_decides (f ++ []) (f ++ [])).1 refl in rw (e, kept_all f) refl
 
 if_some : (s : Bool) (x : List ℕ) (P : List ℕ → Type 0) → (s ≡ true → P x) → IfSome (if s then Some x else None) P
 if_some false x P h = tt
 if_some true x P h = h refl
 
 front_at : (start now : Option (List ℕ)) (name : ℕ) (chunks : Bool) (taken held p : List ℕ) → has_got start (append_known now p) (coded chunks taken) ≡ true
-    → (chunks ≡ true → length taken ≡ 8192 * full_in taken) → HasFront (behind chunks name start (text_of chunks taken held)) now
-front_at None now name true taken held p h full = λ e. absurd (omega (arith, e))
-front_at None now name false taken held p h full = λ e. absurd (omega (arith, e))
-front_at (Some f) None name chunks taken held p h full = cc
-front_at (Some f) (Some xs) name true taken held p h full = λ e more.
-    let is : xs ++ p ≡ f ++ coded true taken = (bytes_decides (xs ++ p) (f ++ coded true taken)).0 h in
-    let text = taken ++ held in
-    let rest = chunked (held ++ more) in (
-      p ++ rest,
-      ap (λ (u : List ℕ). take (length f) u ++ chunked (drop (length f) u)) (append_assoc f text more)
-          ∙ whole_begun f (text ++ more)
-          ∙ ap (λ (u : List ℕ). f ++ chunked u) (append_assoc taken held more)
-          ∙ ap (λ (u : List ℕ). f ++ u) (chunked_joined taken (held ++ more) (full refl))
-          ∙ sym (append_assoc f (coded true taken) rest)
-          ∙ ap (λ (u : List ℕ). u ++ rest) (sym is)
-          ∙ append_assoc xs p rest,
-    )
-front_at (Some f) (Some xs) name false taken held p h full = λ e more.
-    let is : xs ++ p ≡ f ++ taken = (bytes_decides (xs ++ p) (f ++ taken)).0 h in
-    (p ++ more, ap (λ (u : List ℕ). u ++ more) (sym is) ∙ append_assoc xs p more)
+    → has_kept start now ≡ true → (chunks ≡ true → length taken ≡ 8192 * full_in taken) → HasFront (behind chunks name start (text_of chunks taken held)) now
+front_at None now name true taken held p h kept full = λ e. absurd (omega (arith, e))
+front_at None now name false taken held p h kept full = λ e. absurd (omega (arith, e))
+front_at (Some f) None name chunks taken held p h kept full = cc
+front_at (Some f) (Some xs) name true taken held p h kept full = λ e. (
+  kept_long f xs kept,
+  λ more.
+      let is : xs ++ p ≡ f ++ coded true taken = (bytes_decides (xs ++ p) (f ++ coded true taken)).0 h in
+      let text = taken ++ held in
+      let rest = chunked (held ++ more) in (
+        p ++ rest,
+        ap (λ (u : List ℕ). take (length f) u ++ chunked (drop (length f) u)) (append_assoc f text more)
+            ∙ whole_begun f (text ++ more)
+            ∙ ap (λ (u : List ℕ). f ++ chunked u) (append_assoc taken held more)
+            ∙ ap (λ (u : List ℕ). f ++ u) (chunked_joined taken (held ++ more) (full refl))
+            ∙ sym (append_assoc f (coded true taken) rest)
+            ∙ ap (λ (u : List ℕ). u ++ rest) (sym is)
+            ∙ append_assoc xs p rest,
+      ),
+)
+front_at (Some f) (Some xs) name false taken held p h kept full = λ e. (
+  kept_long f xs kept,
+  λ more.
+      let is : xs ++ p ≡ f ++ taken = (bytes_decides (xs ++ p) (f ++ taken)).0 h in
+      (p ++ more, ap (λ (u : List ℕ). u ++ more) (sym is) ∙ append_assoc xs p more),
+)
 
 pub has_front : (start now : Option (List ℕ)) (name : ℕ) (chunks : Bool) (taken held p : List ℕ) → IfSome (written_behind start now name chunks taken held p) (λ told. HasFront told now)
 has_front start now name chunks taken held p =
     if_some (stands start now chunks taken p) (behind chunks name start (text_of chunks taken held)) (λ told. HasFront told now) (λ h.
-    let parts = both (has_got start (append_known now p) (coded chunks taken)) _ h in
-    front_at start now name chunks taken held p parts.0 (λ e. let full = rw e at parts.1 in full_of taken full))
+    let s = stood start now chunks taken p h in
+    front_at start now name chunks taken held p s.got s.kept (λ e. let full = rw e at s.full in full_of taken full))
 
 out_of : (start now : Option (List ℕ)) (name : ℕ) (taken told : List ℕ) → has_got start (append_known now []) taken ≡ true → as_it_is name start taken ≡ ended told → told_of told ≡ 1 → now ≡ Some (whole_of told)
 out_of start now name taken [] got is one = absurd (omega (arith, one))
@@ -168,7 +205,7 @@ all_out start now name taken held told is one =
       | true ↦ λ e.
           let some = rw e at is in
           let same : as_it_is name start taken ≡ ended told = cc (some) in
-          out_of start now name taken told (both (has_got start (append_known now []) taken) _ e).0 same one
+          out_of start now name taken told (stood start now false taken [] e).got same one
     ] refl
 
 kept_is : (y : List ℕ) (o : Option (List ℕ)) → Keeps (Some y) o → o ≡ Some y

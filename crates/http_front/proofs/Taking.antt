@@ -8,7 +8,7 @@ use Rattle.edge_io.specs.declared.stream.Failed.{Failed}
 use Rattle.http_front.specs.Chunks.{full_chunks, full_in}
 use Rattle.http_front.specs.Behind.{known, in_chunks, as_it_is, coded, has_got, stands, written_behind, told_of, mode_of, room_of, sent_of, Takes}
 use Rattle.http_front.proofs.Chunking.{full_joined}
-use Rattle.http_front.proofs.Standing.{both, full_of}
+use Rattle.http_front.proofs.Standing.{full_of, stood}
 
 takes_if : (w : Option (List ℕ)) (s t : Bool) (x y : List ℕ) (now : Option (List ℕ)) (most n : ℕ) → Keeps w (if s then Some x else None)
     → (s ≡ true → mode_of x ≡ 1 → n ≡ min most (room_of x)) → (t ≡ true → told_of y ≡ 1 → now ≡ Some (sent_of y)) → Takes w (if t then Some y else None) now most (Ok n)
@@ -38,7 +38,7 @@ pub plain_takes : (w start a first now : Option (List ℕ)) (name other : ℕ) (
 plain_takes w start a first now name other taken held p more rest most (Ok n) kept =
     takes_if w (stands start a false taken p) (stands first now false more []) (as_it_is name start taken) (as_it_is other first more) now most n kept
     (λ h one. absurd (omega (arith, one)))
-    (λ h one. plain_sent first now other more (both (has_got first (append_known now []) more) _ h).0 one)
+    (λ h one. plain_sent first now other more (stood first now false more [] h).got one)
 plain_takes w start a first now name other taken held p more rest most (Err e) kept = err_takes w (written_behind first now other false more rest []) now most e
 
 -- CHUNKS
@@ -75,8 +75,7 @@ chunk_sent (Some f) (Some xs) name taken held got full some short one =
 pub chunk_takes : (w start now : Option (List ℕ)) (name : ℕ) (taken held piece : List ℕ) (most n : ℕ) → Keeps w (written_behind start now name true taken held []) → length held < 8192
     → n ≡ min most (8192 - length held) → length piece ≡ n → 0 < n → Takes w (written_behind start now name true taken (held ++ piece) []) now most (Ok n)
 chunk_takes w start now name taken held piece most n kept short is long some =
-    let got = has_got start (append_known now []) (coded true taken) in
     let joined = length-append held piece in
     takes_if w (stands start now true taken []) (stands start now true taken []) (in_chunks name start (taken ++ held)) (in_chunks name start (taken ++ (held ++ piece))) now most n kept
-    (λ h one. chunk_room start name taken held most n (full_of taken (both got _ h).1) short is)
-    (λ h one. chunk_sent start now name taken (held ++ piece) (both got _ h).0 (full_of taken (both got _ h).1) (omega (arith, joined, long, some)) (omega (arith, joined, long, is, short)) one)
+    (λ h one. chunk_room start name taken held most n (full_of taken (stood start now true taken [] h).full) short is)
+    (λ h one. chunk_sent start now name taken (held ++ piece) (stood start now true taken [] h).got (full_of taken (stood start now true taken [] h).full) (omega (arith, joined, long, some)) (omega (arith, joined, long, is, short)) one)

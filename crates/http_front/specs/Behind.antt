@@ -1,7 +1,7 @@
 -- What is behind a sink of a body: the link, and the text that goes to it. The list that tells it has five parts, of which a write keeps
 -- the first four: 1 while the text goes out in chunks, and 0 where it goes out as it is; the name of the reference to the link; 1 where
 -- the link tells what it has, and else 0; how many bytes the link had before the body; and those bytes, and then the body.
-use Rattle.std.specs.Prelude.{◌≡◌, ◌⊎◌, ℕ, Result, Ok, Err, IsSomeAnd, ◌*◌, ◌-◌, ◌/◌, ◌%◌, min, ◌==◌, ◌&&◌, ◌||◌, not, Bool, true, false, List, [], ◌∷◌, ◌++◌, Option, Some, None, length, take, drop, bytes_eq, if◌then◌else◌, ⊤}
+use Rattle.std.specs.Prelude.{◌≡◌, ◌⊎◌, ℕ, ◌≤◌, nat_le, Result, Ok, Err, IsSomeAnd, ◌*◌, ◌-◌, ◌/◌, ◌%◌, min, ◌==◌, ◌&&◌, ◌||◌, not, Bool, true, false, List, [], ◌∷◌, ◌++◌, Option, Some, None, length, take, drop, bytes_eq, if◌then◌else◌, ⊤}
 use Rattle.std.specs.Io.KnownBytes.{append_known}
 use Rattle.edge_io.specs.declared.stream.Failed.{Failed}
 use Rattle.http_front.specs.Chunks.{full_chunks, full_in, chunked}
@@ -21,7 +21,7 @@ in_chunks name start body = 1 ∷ name ∷ tells start ∷ length (known start) 
 
 -- The same of a text that goes out as it is.
 abbrev pub as_it_is : ℕ → Option (List ℕ) → List ℕ → List ℕ
-as_it_is name start text = 0 ∷ name ∷ tells start ∷ 0 ∷ (known start ++ text)
+as_it_is name start text = 0 ∷ name ∷ tells start ∷ length (known start) ∷ (known start ++ text)
 
 abbrev pub behind : Bool → ℕ → Option (List ℕ) → List ℕ → List ℕ
 behind true name start body = in_chunks name start body
@@ -42,9 +42,15 @@ has_got None now text = true
 has_got (Some xs) None text = false
 has_got (Some xs) (Some ys) text = bytes_eq ys (xs ++ text)
 
+-- The link has no less than it had, where it told that.
+abbrev pub has_kept : Option (List ℕ) → Option (List ℕ) → Bool
+has_kept None now = true
+has_kept (Some xs) None = false
+has_kept (Some xs) (Some ys) = nat_le (length xs) (length ys)
+
 -- A sink whose link had `start` and has `now` has sent what it took, in chunks those that are full, but for what is on its way.
 abbrev pub stands : Option (List ℕ) → Option (List ℕ) → Bool → List ℕ → List ℕ → Bool
-stands start now chunks taken going = has_got start (append_known now going) (coded chunks taken) && (not chunks || is_full taken)
+stands start now chunks taken going = has_got start (append_known now going) (coded chunks taken) && (has_kept start now && (not chunks || is_full taken))
 
 -- in chunks, what is held for the next chunk is taken too
 abbrev pub text_of : Bool → List ℕ → List ℕ → List ℕ
@@ -63,13 +69,18 @@ whole_of text = []
 
 -- the same once the body has ended: what follows goes out as it is
 abbrev pub ended : List ℕ → List ℕ
-ended (mode ∷ name ∷ told ∷ before ∷ text) = 0 ∷ name ∷ told ∷ 0 ∷ whole_of (mode ∷ name ∷ told ∷ before ∷ text)
+ended (mode ∷ name ∷ told ∷ before ∷ text) = 0 ∷ name ∷ told ∷ before ∷ whole_of (mode ∷ name ∷ told ∷ before ∷ text)
 ended text = text
 
 -- whether the link tells what it has
 abbrev pub told_of : List ℕ → ℕ
 told_of (mode ∷ name ∷ told ∷ more) = told
 told_of text = 0
+
+-- how many bytes the link had before the body
+abbrev pub before_of : List ℕ → ℕ
+before_of (mode ∷ name ∷ told ∷ before ∷ text) = before
+before_of text = 0
 
 -- the body of a text in chunks, as far as it has come
 abbrev pub body_of : List ℕ → List ℕ
@@ -103,6 +114,6 @@ EndsBody None new now result = ⊤
 EndsBody (Some told) new now (Ok done) = (new ≡ Some (ended told)) × (told_of told ≡ 1 → now ≡ Some (whole_of told))
 EndsBody (Some told) new now (Err e) = (new ≡ Some told) ⊎ (new ≡ Some (ended told))
 
--- Whatever follows of the body, the link has a front of what it will have.
+-- The link has no less than it had before the body, and whatever follows of the body, a front of what it will have.
 abbrev pub HasFront : List ℕ → Option (List ℕ) → Type 0
-HasFront told now = told_of told ≡ 1 → IsSomeAnd now (λ xs. (more : List ℕ) → (rest : List ℕ) × (whole_of (told ++ more) ≡ xs ++ rest))
+HasFront told now = told_of told ≡ 1 → IsSomeAnd now (λ xs. (before_of told ≤ length xs) × ((more : List ℕ) → (rest : List ℕ) × (whole_of (told ++ more) ≡ xs ++ rest)))

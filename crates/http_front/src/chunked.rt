@@ -157,7 +157,16 @@ impl<'a, K: Sink> ChunkedSink<'a, K> {
         Ok(count)
     }
 
-    /// Whatever follows of the body, the link has a front of what it will have in the end.
+    /// Gives the link back, as it is: what of the body hasn't gone out is given up.
+    pub fn into_link(self) -> &'a mut K
+        ensures same_reference { result.ghost_name ≡ self.entry.link.ghost_name }
+        ensures link { result.now ≡ self.entry.link.now }
+    {
+        let ChunkedSink { link, .. } = self;
+        link
+    }
+
+    /// Whatever follows of the body, the link has a front of what it will have in the end, and no less than it had before the body.
     pub fn has_front(&self)
         ensures { IfSome (⟦<ChunkedSink<'a, K> as Sink>⟧.written self.now) (λ told. HasFront told (K.written self.now.link.now)) }
     {}

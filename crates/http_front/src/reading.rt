@@ -38,6 +38,7 @@ pub fn read_request<S: Source>(alloc: Global, source: &mut S) -> Result<Request,
     ensures memory { IsErrOf result HttpErr.Memory → (source.new ≡ source.old) ⊎ TookHead (S.left source.old) (S.left source.new) }
     ensures faults { S.read_faults source.old ≤ S.read_faults source.new }
     ensures failed { IsErrOf result HttpErr.SourceFault → Rose (S.read_faults source.old) (S.read_faults source.new) }
+    ensures beside { S.beside source.new ≡ S.beside source.old }
 {
     let Ok(mut fields) = vec![in alloc; EMPTY_HEADER_SPAN; MOST_FIELDS] else {
         return Err(HttpErr::Memory);
@@ -61,6 +62,7 @@ fn read_into<S: Source>(
     ensures memory { IsErrOf result HttpErr.Memory → TookHead (S.left source.old) (S.left source.new) }
     ensures faults { S.read_faults source.old ≤ S.read_faults source.new }
     ensures failed { IsErrOf result HttpErr.SourceFault → Rose (S.read_faults source.old) (S.read_faults source.new) }
+    ensures beside { S.beside source.new ≡ S.beside source.old }
 {
     let mut len = 0;
     'reads: loop {
@@ -145,6 +147,7 @@ fn read_behind<S: Source>(bytes: &mut [u8], len: usize, source: &mut S) -> Resul
     ensures read { ReadsBehind bytes.old bytes.new len (S.left source.old) (S.left source.new) result }
     ensures faults { S.read_faults source.old ≤ S.read_faults source.new }
     ensures failed { OnErr result (Rose (S.read_faults source.old) (S.read_faults source.new)) }
+    ensures beside { S.beside source.new ≡ S.beside source.old }
 {
     source.read(&mut bytes[len..])
 }

@@ -47,6 +47,15 @@ impl<'a, K: Sink> JsonOut<'a, K> {
             message: Vec::new(alloc),
         }
     }
+
+    /// Gives the sink back, as it is: what is gathered for it and didn't go out is given up.
+    pub fn into_sink(self) -> &'a mut K
+        ensures same_reference { result.ghost_name ≡ self.entry.sink.ghost_name }
+        ensures sink { result.now ≡ self.entry.sink.now }
+    {
+        let JsonOut { sink, .. } = self;
+        sink
+    }
 }
 
 impl<'a, K: Sink> Out for JsonOut<'a, K> {

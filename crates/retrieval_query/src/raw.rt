@@ -39,6 +39,15 @@ impl<'a, K: Sink> RawOut<'a, K> {
             head: None,
         }
     }
+
+    /// Gives the sink back, as it is: what is gathered for it and didn't go out is given up.
+    pub fn into_sink(self) -> &'a mut K
+        ensures same_reference { result.ghost_name ≡ self.entry.sink.ghost_name }
+        ensures sink { result.now ≡ self.entry.sink.now }
+    {
+        let RawOut { sink, .. } = self;
+        sink
+    }
 }
 
 impl<'a, K: Sink> Out for RawOut<'a, K> {

@@ -1,4 +1,4 @@
-use Rattle.std.proofs.Common.{◌+◌, take, sym, ◌∙◌, subst, arith, rules}
+use Rattle.std.proofs.Common.{◌+◌, take, refl, sym, ◌∙◌, subst, arith, rules}
 use Rattle.std.specs.List.{slice_range}
 use Rattle.std.specs.Io.KnownBytes.{IsAtEnd}
 use Rattle.std.proofs.KnownBytes.{Consumes-nil}
@@ -41,6 +41,7 @@ reads-init g c = record {
   waits = waits_first;
   taken = Consumes-nil (g.S.Source.left c.args.source.now);
   faults = omega arith;
+  beside = refl;
 }
 
 pub reads-preserved : goal.reads-preserved
@@ -57,4 +58,5 @@ reads-preserved g c =
       waits = waits_on c.due_after-due.result (take c.reads.len c.reads.bytes) read.0 all c.contains-is_line.result read.1 c.reads.invariant.waits c.in-None.ensures.none (λ e. (due.nothing e).0) (λ none. subst HasNoLine same (no_line_from (slice_range c.read_behind.new.bytes c.reads.len (c.reads.len + c.in-Ok.more)) (sym c.contains-is_line.ensures.value ∙ none)));
       taken = taken_more (left c.args.source.now) (left c.reads.source) (left c.read_behind.new.source) c.reads.bytes c.read_behind.new.bytes read.0 c.reads.len c.in-Ok.more c.reads.invariant.taken read.1 read.2;
       faults = search rules;
+      beside = c.in-Ok.ensures.beside ∙ c.reads.invariant.beside;
     }

@@ -10,6 +10,7 @@ invariant-reads g l = record {
   waits : Waits (take l.len l.bytes);
   taken : Consumes (g.S.Source.left l.initial.source) (g.S.Source.left l.source) (take l.len l.bytes);
   faults : g.S.Source.read_faults l.initial.source ≤ g.S.Source.read_faults l.source;
+  beside : g.S.Source.beside l.source ≡ g.S.Source.beside l.initial.source;
 }
 
 abbrev pub decreases-reads : goal.decreases-reads

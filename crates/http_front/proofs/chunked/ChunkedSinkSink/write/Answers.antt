@@ -1,7 +1,7 @@
 use Rattle.std.proofs.Common.{◌≡◌, false, length, take, drop, ◌∙◌, arith, rules}
 use Rattle.std.proofs.lemmas.List.{length-take}
 use Rattle.std.proofs.KnownBytes.{Keeps-trans}
-use Rattle.http_front.proofs.Standing.{gathered, kept_appends}
+use Rattle.http_front.proofs.Standing.{gathered, kept_appends, kept_writes}
 use Rattle.http_front.proofs.Taking.{plain_takes, chunk_takes}
 use Rattle.http_front.proofs.chunked.ChunkedSinkSink.write.Goals as goal
 
@@ -14,6 +14,9 @@ returns-clause-bytes g c =
     let kept = rw chunks at both in
     let piece = take c.gather.result c.args.bytes.now in
     rw (chunks, c.gather.ensures.items) (kept_appends _ _ _ piece kept (gathered (written s.start.value) (written s.link.now) s.link.ghost_name s.taken.bytes s.held.items (drop s.from s.room.items) piece))
+
+pub returns-then-not-self-clause-bytes : goal.returns-then-not-self-clause-bytes
+returns-then-not-self-clause-bytes g c = kept_writes _ _ _ c.pass.result c.args.bytes.now c.in_ok-flush.ensures.kept c.pass.ensures.bytes
 
 pub returns-then-not-self-clause-same_reference : goal.returns-then-not-self-clause-same_reference
 returns-then-not-self-clause-same_reference g c = c.pass.ensures.same_reference ∙ c.in_ok-flush.ensures.same_reference
