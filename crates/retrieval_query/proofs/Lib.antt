@@ -4,5 +4,6 @@ pub mod Given
 pub mod Behind
 pub mod Pinning
 pub mod Whole
+pub mod Answered
 pub mod Years
 pub mod Sending

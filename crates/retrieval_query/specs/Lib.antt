@@ -8,3 +8,4 @@ pub mod Openings
 pub mod Held
 pub mod Giving
 pub mod Retrieving
+pub mod Pinning

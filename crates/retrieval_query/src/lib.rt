@@ -1,7 +1,8 @@
 //! Retrievals, and the raw text of an answer: samples of one variable by years, each year's behind a header line, in the PB file format.
 //!
 //! [`retrieve`] pins a variable through any actor, opens the pin's pieces one by one, merges them and the tail, and writes the answer to any
-//! output. Then it gives the pin up.
+//! output. Then it gives the pin up. Who has something to do once the pin is answered calls its two halves, [`pin_variable`] and
+//! [`read_pinned`].
 //!
 //! [`RawOut`] is such an output: `RawOut::new` over any sink, then the calls of `act_model::Out`: `begin` once, `sample` for each sample,
 //! `finish` at the end. An empty line stands between two years. An answer without samples is one header line, of the year of the
@@ -23,8 +24,10 @@ mod put;
 mod raw;
 mod retrieval;
 mod retrieved;
+mod variable;
 mod year;
 
 pub use raw::RawOut;
-pub use retrieval::retrieve;
+pub use retrieval::{give_up_pin, read_pinned, retrieve};
 pub use retrieved::Retrieved;
+pub use variable::{PinErr, PinnedVariable, pin_variable};

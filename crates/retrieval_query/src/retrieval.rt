@@ -16,15 +16,17 @@ ghost use Rattle.stream_merge.specs.Merging.{IsGoing, Rest};
 ghost use Rattle.stream_merge.specs.Over.{over_all};
 ghost use Rattle.retrieval_query.specs.Giving.{Gives, GivesBy, GivesSome};
 ghost use Rattle.retrieval_query.specs.Openings.{FailsOf, Holds, LeftOf, OpensOf};
+ghost use Rattle.retrieval_query.specs.Pinning.{AnswersPinned, GivesUp, IsHeld};
 ghost use Rattle.retrieval_query.specs.Retrieving.{NotPinned, IsPinned, ReadsPinned, EndsPinned, WritesSome, Writes, WritesAnswer, ReadsHeaders};
 
 use crate::give::give_answer;
 use crate::pinned::PinPieces;
 use crate::retrieved::Retrieved;
-use act_model::{Actor, Out, Pinned, Spent, Unpinned, ask_pin, ask_unpin};
+use crate::variable::{PinnedVariable, pin_variable};
+use act_model::{Actor, Out, Spent, Unpinned, ask_unpin};
 use disk_model::ReadAt;
 use event_types::About;
-use series_model::{Blob, Query, Samples};
+use series_model::{Query, Samples};
 use std::alloc::Global;
 use std::marker::Brand;
 use std::sync::ledger::{Blank, Ledger};
@@ -49,38 +51,59 @@ pub fn retrieve<A: Actor, O: Out>(
     ensures faults { O.faults out.old ≤ O.faults out.new }
     ensures stands { (n : Machine) × A.stands actor.new n }
 {
-    let Ok(asked) = Vec::from_slice(alloc, name) else {
-        return Retrieved::Memory;
-    };
-    match ask_pin(actor, Blob::from(asked), query) {
-        Ok(
-            Pinned::Pinned {
-                pin,
-                name,
-                about,
-                pieces,
-                tail,
-            },
-        ) => read_pinned(
-            alloc,
-            actor,
-            pin,
-            name.bytes(),
-            &about,
-            pieces,
-            tail,
-            query,
-            out,
-        ),
-        Ok(Pinned::NoSuchVariable) => Retrieved::NoSuchVariable,
-        Ok(Pinned::DiskFault) => Retrieved::ReadFault { failed: None },
-        Ok(Pinned::Memory) => Retrieved::Memory,
-        Err(Spent) => Retrieved::Spent,
+    match pin_variable(alloc, actor, name, query) {
+        Ok(variable) => read_pinned(alloc, actor, variable, query, out),
+        Err(why) => Retrieved::from(why),
     }
 }
 
+/// Writes the answer of a pinned variable to an output, and gives its pin up, at every answer, unless no act is left for that.
+///
+/// It opens the pin's pieces one by one, in order, and reads them outside every act. At `Finished` the whole text was written, and at
+/// every other answer a front of it.
+pub fn read_pinned<A: Actor, O: Out>(
+    alloc: Global,
+    actor: &mut A,
+    variable: PinnedVariable,
+    query: Query,
+    out: &mut O,
+) -> Retrieved<A::Reader>
+    requires held { IsHeld A.number A.stands actor.old variable }
+    ensures answers { AnswersPinned A.number A.between A.is_spent A.stands A.Reader.tells A.Reader.faults O.finished O.broke (Rose (O.faults out.old) (O.faults out.new)) actor.old variable query out.old result actor.new out.new }
+    ensures faults { O.faults out.old ≤ O.faults out.new }
+    ensures stands { (n : Machine) × A.stands actor.new n }
+{
+    let PinnedVariable {
+        pin,
+        name,
+        about,
+        pieces,
+        tail,
+    } = variable;
+    read_pieces(
+        alloc,
+        actor,
+        pin,
+        name.bytes(),
+        &about,
+        pieces,
+        tail,
+        query,
+        out,
+    )
+}
+
+/// Gives the pin of a variable up whose answer isn't read, unless no act is left for that.
+pub fn give_up_pin<A: Actor>(actor: &mut A, variable: PinnedVariable)
+    requires held { IsHeld A.number A.stands actor.old variable }
+    ensures gives_up { GivesUp A.number A.between A.is_spent actor.old variable.pin actor.new }
+    ensures stands { (n : Machine) × A.stands actor.new n }
+{
+    let _unpinned = give_up(actor, variable.pin);
+}
+
 // Writes the answer over a pin's pieces and the tail, and gives the pin up.
-fn read_pinned<A: Actor, O: Out>(
+fn read_pieces<A: Actor, O: Out>(
     alloc: Global,
     actor: &mut A,
     pin: u32,
@@ -196,6 +219,7 @@ fn give_up<A: Actor>(actor: &mut A, pin: u32) -> Result<(), Spent>
     requires holds { (next left : ℕ) × Holds A.number A.stands actor.old pin next left }
     ensures made { OnOk result (MadeOne A.number A.between actor.old (Act.Unpin pin) told.Unpinned actor.new) }
     ensures spent { OnErr result (Made A.number A.between actor.old [] actor.new × A.is_spent actor.new) }
+    ensures stands { (n : Machine) × A.stands actor.new n }
 {
     match ask_unpin(actor, pin)? {
         Unpinned::Unpinned => Ok(()),

@@ -2,6 +2,7 @@
 ghost use Rattle.std.specs.Prelude.{◌≡◌, ℕ};
 ghost use Rattle.retrieval_query.specs.Giving.{retrieved_by, IsToldAs};
 
+use crate::variable::PinErr;
 use act_model::OutErr;
 use disk_model::{FileName, ReadAt};
 use stream_merge::Merged;
@@ -32,6 +33,21 @@ impl<R: ReadAt> From<OutErr> for Retrieved<R> {
         match err {
             OutErr::SinkFault => Retrieved::SinkFault,
             OutErr::Memory => Retrieved::Memory,
+        }
+    }
+}
+
+impl<R: ReadAt> From<PinErr> for Retrieved<R> {
+    ghost use Rattle.retrieval_query.specs.Pinning.{ended_by};
+
+    ghost from_gives = { λ why end. end ≡ ended_by why };
+
+    fn from(why: PinErr) -> Retrieved<R> {
+        match why {
+            PinErr::NoSuchVariable => Retrieved::NoSuchVariable,
+            PinErr::DiskFault => Retrieved::ReadFault { failed: None },
+            PinErr::Spent => Retrieved::Spent,
+            PinErr::Memory => Retrieved::Memory,
         }
     }
 }

@@ -1,4 +1,4 @@
-use Rattle.retrieval_query.proofs.retrieval.read_pinned.Given as goal
+use Rattle.retrieval_query.proofs.retrieval.read_pieces.Given as goal
 
 -- the counter is of a ledger of its own
 abbrev pub ghosts-give_pinned : goal.ghosts-give_pinned
