@@ -2,6 +2,7 @@
 use Rattle.std.specs.Prelude.{ℕ, List, ◌++◌, codes, length, true, Some}
 use Rattle.http_front.specs.declared.reply.Head.{Head}
 use Rattle.http_front.specs.Reply.{head_text}
+use Rattle.admin_commands.specs.declared.refusal.Refusal.{Refusal}
 use Rattle.admin_commands.specs.declared.reply.WebReply.{WebReply}
 use Rattle.admin_commands.specs.declared.reply.WebReply.TheVariants.{Success, Refused}
 use Rattle.admin_commands.specs.Refusals.{row_of, refusal_text}
@@ -24,3 +25,7 @@ head_of status body = record { status = status; json = true; length = Some (leng
 
 abbrev pub reply_text : WebReply → List ℕ
 reply_text reply = head_text (head_of (status_of reply) (body_of reply)) ++ body_of reply
+
+-- the whole reply of a request that is refused
+abbrev pub refused_reply : Refusal → List ℕ
+refused_reply refusal = reply_text (Refused refusal)
