@@ -1,5 +1,6 @@
 // The opening of a disk, from its journals to its listed files.
-ghost use Rattle.std.specs.Prelude.{◌≡◌, ◌≢◌, ◌≤◌, ◌<◌, ◌+◌, ℕ, List, All, IfOk, IfErr, IsOk, IsTrue, Err, length};
+ghost use Rattle.std.specs.FinMap as map;
+ghost use Rattle.std.specs.Prelude.{◌≡◌, ◌≢◌, ◌≤◌, ◌<◌, ◌+◌, [], ℕ, List, All, IfOk, IfErr, IsOk, IsTrue, Err, length};
 ghost use Rattle.disk_model.specs.Files.{Name, Rose};
 ghost use Rattle.disk_model.specs.Past.{Passes};
 ghost use Rattle.disk_model.specs.declared.disk.DiskErr.TheVariants.{Fault};
@@ -27,8 +28,8 @@ use std::alloc::Global;
 use store_manifest::Manifest;
 use three_stores::TierStore;
 
-/// Opens a disk as three stores, in the configured granularities. What the disk's image holds is what the stores hold. It needs
-/// that no journal of the disk was opened, and no listed file beyond its listed length.
+/// Opens a disk as three stores, in the configured granularities. What the disk's image holds is what the stores hold, with no pin and
+/// nothing in limbo. It needs that no journal of the disk was opened, and no listed file beyond its listed length.
 ///
 /// The first that is wrong is told, in this order: the catalogue; the manifests of stores 1 to 3, each with its granularity; an entry of
 /// no row; the listed files, store by store and in the order of series and time. Of files it looks only at lengths. `DiskFault` comes only
@@ -46,6 +47,7 @@ pub fn reopen<D: Disk>(
     ensures has { IfOk result (λ s. (held : Stores) × Has D.tells (seen D.Disk s) held) }
     ensures said { IsTrue D.tells → IfOk result (λ s. let now = seen D.Disk s in AreSaid (stores_of config.now) (D.files disk) now.catalogue.rows (lists_of now.manifests)) }
     ensures ready { IfOk result (λ s. let now = seen D.Disk s in IsReady (stores_of config.now) now.catalogue now.manifests) }
+    ensures fresh { IfOk result (λ s. (s.limbo.items ≡ []) × (s.pinned ≡ map.empty)) }
 
     ensures whole { IsTrue D.tells → IsOk result → IsWhole (stores_of config.now) (D.files disk) }
     ensures damaged { IsTrue D.tells → (d : D) (name : Name) (at : ℕ) → result ≡ Err (Damaged d name at) → IsDamaged (stores_of config.now) (D.files disk) name at }

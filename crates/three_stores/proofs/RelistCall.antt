@@ -20,7 +20,7 @@ use Rattle.tier_store.specs.Three.{Anything, Beside}
 use Rattle.tier_store.specs.Writing.{IsStoredAs, IsDoubtedAs}
 use Rattle.three_stores.specs.Stores.{Stores, tier, with_list}
 use Rattle.three_stores.specs.Seen.{Seen, seen_on}
-use Rattle.three_stores.specs.Change.{Has, CanList, Changes, relisting}
+use Rattle.three_stores.specs.Change.{Has, CanList, Call, Changes, relisting}
 use Rattle.three_stores.proofs.Beside.{OnStore}
 use Rattle.three_stores.proofs.FlushCall.{list_unsure, stored_as, on_store}
 use Rattle.three_stores.proofs.OnePlace.{place_done, place_cut}
@@ -73,19 +73,32 @@ module _ {S : Type 0} (files_of : S → Files) (opened_of : S → Name → ℕ) 
     at_moment : IsTrue tells → (held : Stores) (has : Has tells before held) → Passes (HoldsEither m.granularity (tier i held) (holding i held (files held has))) (past_of d) (past_of after)
     at_moment told held has = moment told c.journal shelf (tier i held) (holding i held (files held has)) (can_relist held has told)
 
+    -- by whatever call lists these files
+    module _ (call : Call (Unit {0}) ⊥) (by : (held : Stores) (has : Has tells before held) → call.by held (with_list i (files held has) held)) (says : (held : Stores) (has : Has tells before held) → call.says tt held (with_list i (files held has) held)) where
+      pub call_done : made.entries ≡ all_changed m.entries changes → made.journal.sound ≡ true
+          → (IsTrue tells → (catalogue : JournalState) (s : Shelf) (held next : Held) → Can catalogue s held next → IsStoredAs catalogue made s (files_of after) (opened_of after) (past_of after) next)
+          → Changes tells call before behind (Done tt)
+      call_done entries sound stored =
+          place_done files_of opened_of past_of faults_of tells c ms i m made here d after same_g beside faults call files by valid at_moment tt says sound (λ held has. entries ∙ lists held has)
+          (λ told held has. (stored told c.journal shelf (tier i held) (holding i held (files held has)) (can_relist held has told)).stored.tier)
+
+      pub call_cut : made.entries ≡ m.entries → (made.journal.sound ≡ false → made.next ≡ all_changed m.entries changes)
+          → (IsTrue tells → (catalogue : JournalState) (s : Shelf) (held next : Held) → Can catalogue s held next → made.journal.sound ≡ true → IsStoredAs catalogue made s (files_of after) (opened_of after) (past_of after) held)
+          → (IsTrue tells → (catalogue : JournalState) (s : Shelf) (held next : Held) → Can catalogue s held next → made.journal.sound ≡ false → IsDoubtedAs catalogue made s (files_of after) (opened_of after) (past_of after) held next)
+          → (e : DiskErr) (end : End (Unit {0}) ⊥) → end ≡ end_of_error e → (e ≡ Memory → made.journal ≡ m.journal) → (e ≡ Fault → Rose (faults_of d) (faults_of after)) → Changes tells call before behind end
+      call_cut unchanged next unmade in_doubt e end is memory cause =
+          place_cut files_of opened_of past_of faults_of tells c ms i m made here d after same_g beside faults call files by valid at_moment unchanged (λ held has unsound. next unsound ∙ lists held has)
+          (λ told held has sound. (unmade told c.journal shelf (tier i held) (holding i held (files held has)) (can_relist held has told) sound).stored.tier)
+          (λ told held has unsound. list_unsure c.journal made shelf (files_of after) (opened_of after) (past_of after) (tier i held) (holding i held (files held has)) (in_doubt told c.journal shelf (tier i held) (holding i held (files held has)) (can_relist held has told) unsound) unsound)
+          e end is memory cause
+
     pub relist_done : made.entries ≡ all_changed m.entries changes → made.journal.sound ≡ true
         → (IsTrue tells → (catalogue : JournalState) (s : Shelf) (held next : Held) → Can catalogue s held next → IsStoredAs catalogue made s (files_of after) (opened_of after) (past_of after) next)
         → Changes tells (relisting i tells before changes) before behind (Done tt)
-    relist_done entries sound stored =
-        place_done files_of opened_of past_of faults_of tells c ms i m made here d after same_g beside faults (relisting i tells before changes) files (λ held has. (files held has, (can held has).1, refl)) valid at_moment tt (λ held has. tt) sound (λ held has. entries ∙ lists held has)
-        (λ told held has. (stored told c.journal shelf (tier i held) (holding i held (files held has)) (can_relist held has told)).stored.tier)
+    relist_done = call_done (relisting i tells before changes) (λ held has. (files held has, (can held has).1, refl)) (λ held has. tt)
 
     pub relist_cut : made.entries ≡ m.entries → (made.journal.sound ≡ false → made.next ≡ all_changed m.entries changes)
         → (IsTrue tells → (catalogue : JournalState) (s : Shelf) (held next : Held) → Can catalogue s held next → made.journal.sound ≡ true → IsStoredAs catalogue made s (files_of after) (opened_of after) (past_of after) held)
         → (IsTrue tells → (catalogue : JournalState) (s : Shelf) (held next : Held) → Can catalogue s held next → made.journal.sound ≡ false → IsDoubtedAs catalogue made s (files_of after) (opened_of after) (past_of after) held next)
         → (e : DiskErr) (end : End (Unit {0}) ⊥) → end ≡ end_of_error e → (e ≡ Memory → made.journal ≡ m.journal) → (e ≡ Fault → Rose (faults_of d) (faults_of after)) → Changes tells (relisting i tells before changes) before behind end
-    relist_cut unchanged next unmade in_doubt e end is memory cause =
-        place_cut files_of opened_of past_of faults_of tells c ms i m made here d after same_g beside faults (relisting i tells before changes) files (λ held has. (files held has, (can held has).1, refl)) valid at_moment unchanged (λ held has unsound. next unsound ∙ lists held has)
-        (λ told held has sound. (unmade told c.journal shelf (tier i held) (holding i held (files held has)) (can_relist held has told) sound).stored.tier)
-        (λ told held has unsound. list_unsure c.journal made shelf (files_of after) (opened_of after) (past_of after) (tier i held) (holding i held (files held has)) (in_doubt told c.journal shelf (tier i held) (holding i held (files held has)) (can_relist held has told) unsound) unsound)
-        e end is memory cause
+    relist_cut = call_cut (relisting i tells before changes) (λ held has. (files held has, (can held has).1, refl)) (λ held has. tt)

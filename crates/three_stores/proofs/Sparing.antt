@@ -1,13 +1,13 @@
 -- The stores stay while files are removed that they don't list, and so do pinned pieces.
-use Rattle.std.proofs.Common.{true, false, cond, ◌≡◌, inl, inr, Bool, ℕ, zero, suc, ◌≤◌, ◌+◌, ◌++◌, List, [], ◌∷◌, length, map, get_or, Some, refl, sym, ◌∙◌, ap, subst, arith}
+use Rattle.std.proofs.Common.{◌≡◌, inl, inr, Bool, ℕ, zero, suc, ◌≤◌, ◌+◌, ◌++◌, List, [], ◌∷◌, length, map, get_or, None, Some, refl, sym, ◌∙◌, ap, subst, arith}
 use Rattle.std.specs.Prelude.{All, Contains, IsTrue, slice_get}
 use Rattle.std.specs.FinMap.{FinMap}
 use Rattle.std.specs.Ordering.{nat_cmp}
-use Rattle.std.proofs.lemmas.List.Elements.{All-contains, Contains-get_or, Contains-append_left, All-append}
+use Rattle.std.proofs.lemmas.List.Elements.{All-contains, Contains-get_or, Contains-append_left}
 use Rattle.std.proofs.lemmas.Option.{same_Some}
 use Rattle.disk_model.specs.Files.{Name, Content, Files, Rose}
-use Rattle.disk_model.specs.Past.{Past, Passes}
-use Rattle.disk_model.proofs.Passing.{passes_weaker}
+use Rattle.disk_model.specs.Past.{Past, Passes, Only}
+use Rattle.disk_model.proofs.Passing.{passes_then, passes_weaker}
 use Rattle.gate_journal.specs.Journal.{JournalState}
 use Rattle.gate_journal.specs.Kept.{Says}
 use Rattle.partition_names.specs.declared.granularity.Granularity.{Granularity}
@@ -32,12 +32,12 @@ use Rattle.three_stores.specs.declared.store.TierStore.{TierStore}
 use Rattle.disk_model.specs.declared.disk.Disk.{Ghosts}
 use Rattle.three_stores.specs.Change.{IsKnown, Has, HoldsBy, EndsFrom, Changes}
 use Rattle.three_stores.specs.Pinned.{SeenAll, beside, IsHeldTo, IsNoShorter, IsThereTo, KeepsShown, PinsStand}
-use Rattle.three_stores.specs.Limbo.{IsOfPlace, LimboStands, IsListedName, IsPinnedFile, IsNeeded, StayUnlisted, Spares, staying}
+use Rattle.three_stores.specs.Limbo.{IsOfPlace, LimboStands, IsListedName, IsPinnedFile, IsNeeded, IsKeptName, IsSwept, StayUnlisted, StayNeeded, LeaveListed, AreGone, AreFree, Spares, SparesKept, LeavesKept, staying}
 use Rattle.three_stores.specs.declared.limbo.Retired.{Retired}
 use Rattle.three_stores.proofs.Left.{has_left}
 use Rattle.three_stores.proofs.Showing.{shown, fronts_same}
 use Rattle.three_stores.proofs.Places.{manifest_of}
-use Rattle.three_stores.proofs.Staying.{stay_cases, stay_from}
+use Rattle.three_stores.proofs.Staying.{stay_by, stay_cases, stay_from}
 
 module _ (Spared : Name → Type 0) (journals : (n : Name) → n.0 ≡ 0 → Spared n) where
   abbrev Step : Files → Files → Type 0
@@ -105,15 +105,6 @@ more_shown tells old new more same limbo = subst (λ (all : SeenAll). KeepsShown
   front = was.front;
 })
 
--- or not
-pub appended_shown : (tells : Bool) (old new : SeenAll) (more : List Retired) (b : Bool) → new.stores ≡ old.stores → new.limbo ≡ cond b (old.limbo ++ more) old.limbo → KeepsShown tells old new
-appended_shown tells old new more true same limbo = more_shown tells old new more same limbo
-appended_shown tells old new more false same limbo = subst (λ (all : SeenAll). KeepsShown tells old all) (λ i. beside (sym same i) (sym limbo i)) (λ name bytes was. was)
-
-pub appended_stands : (at : Seen) (limbo new more : List Retired) (b : Bool) → new ≡ cond b (limbo ++ more) limbo → LimboStands at limbo → LimboStands at more → LimboStands at new
-appended_stands at limbo new more true is stands also = subst (LimboStands at) (sym is) (All-append (IsOfPlace at) limbo more stands also)
-appended_stands at limbo new more false is stands also = subst (LimboStands at) (sym is) stands
-
 -- stores of these parts
 pub seen_new : {D R : Type 0} (disk : Ghosts D R) (store : TierStore D R) (catalogue : CatalogueState) (manifests : List ManifestState) (d : D) → store.catalogue ≡ catalogue → store.manifests.items ≡ manifests → store.disk ≡ d → seen disk store ≡ seen_on disk.files disk.opened disk.past disk.faults catalogue manifests d
 seen_new {D} {R} disk store catalogue manifests d rows lists is i = seen_on disk.files disk.opened disk.past disk.faults (rows i) (lists i) (is i)
@@ -143,8 +134,8 @@ module _ (tells : Bool) (at : Seen) (pins : FinMap nat_cmp PinOf) (copied : List
   abbrev Spared : Name → Type 0
   Spared n = (r : Retired) → Contains retired r → r.name ≡ n → IsNeeded pins copied n
 
-  abbrev new : Seen
-  new = after_disk at files opened past faults
+  abbrev swept : Seen
+  swept = after_disk at files opened past faults
 
   journals : (n : Name) → n.0 ≡ 0 → Spared n
   journals n zero_store r within is =
@@ -158,7 +149,7 @@ module _ (tells : Bool) (at : Seen) (pins : FinMap nat_cmp PinOf) (copied : List
       let listed = listed_name at held k m f known here (Contains-get_or (list_at k held) j d lt) in
       absurd ((stay_from (λ x. IsListedName at x.name → ⊥) (λ x. IsListedName at x.name) limbo retired r unlisted within).1 (subst (IsListedName at) (sym is) listed))
 
-  pub has_swept : (held : Stores) → Has tells at held → Has tells new held
+  pub has_swept : (held : Stores) → Has tells at held → Has tells swept held
   has_swept held has = record {
     known = record { three = has.known.three; rows = has.known.rows; each = has.known.each };
     settled = record { catalogue = has.settled.catalogue; manifests = has.settled.manifests };
@@ -176,32 +167,46 @@ module _ (tells : Bool) (at : Seen) (pins : FinMap nat_cmp PinOf) (copied : List
       inl (λ k g here. let m = manifest_of at.manifests k g here in holds_spared Spared journals g (tier k held) a c (listed_spared held k m.0 has.known m.1) step (was k g here)))
 
   -- whatever it answers
-  pub swept_changes : {A : Type 0} (end : End A ⊥) → at.faults ≤ faults → (IsFailed end → Rose at.faults faults) → Changes tells staying at new end
+  pub swept_changes : {A : Type 0} (end : End A ⊥) → at.faults ≤ faults → (IsFailed end → Rose at.faults faults) → Changes tells staying at swept end
   swept_changes {A} end more cause = record {
     ends = λ held has. go end held (has_swept held has);
     any_moment = λ told held has. swept_holds held has told;
     costs = record { granularity = refl; faults = more; cause = cause };
   }
     where
-      go : (end : End A ⊥) (held : Stores) → Has tells new held → EndsFrom tells staying new held end
+      go : (end : End A ⊥) (held : Stores) → Has tells swept held → EndsFrom tells staying swept held end
       go (Done a) held has = (held, refl, tt, has)
       go (Refused e) held has = absurd e
       go Failed held has = inl has
       go Spent held has = has
 
-  -- PINS
+  -- WHAT IS KEPT
 
-  slice_contains : (xs : List PinnedFile) (i : ℕ) (x : PinnedFile) → slice_get xs i ≡ Some x → Contains (map piece_file xs) x.name
-  slice_contains [] i x is = absurd (cc (is))
-  slice_contains (y ∷ xs) zero x is = (zero, omega arith, ap piece_file (same_Some y x is))
-  slice_contains (y ∷ xs) (suc i) x is =
-      let rest = slice_contains xs i x is in (suc rest.0, omega (arith, rest.1), rest.2)
+  abbrev Unlisted : Retired → Type 0
+  Unlisted x = IsListedName at x.name → ⊥
 
-  held_still : (name : Name) (len : ℕ) → IsHeldTo at name len → IsHeldTo new name len
+  abbrev Listed : Retired → Type 0
+  Listed x = IsListedName at x.name
+
+  listed_before : (n : Name) → IsListedName swept n → IsListedName at n
+  listed_before n l = record { place = l.place; manifest = l.manifest; here = l.here; entry = l.entry; within = l.within; named = l.named }
+
+  listed_now : (n : Name) → IsListedName at n → IsListedName swept n
+  listed_now n l = record { place = l.place; manifest = l.manifest; here = l.here; entry = l.entry; within = l.within; named = l.named }
+
+  -- one that is kept and isn't listed is needed
+  kept_needed : (n : Name) (r : Retired) → Contains retired r → r.name ≡ n → IsKeptName swept pins copied n → IsNeeded pins copied n
+  kept_needed n r within is (inl listed) = absurd ((stay_from Unlisted Listed limbo retired r unlisted within).1 (subst (IsListedName at) (sym is) (listed_before n listed)))
+  kept_needed n r within is (inr needed) = needed
+
+  spares_kept : (a c : Files) → Spares pins copied retired a c → SparesKept swept pins copied limbo a c
+  spares_kept a c spares n kept = spares n (λ r within is. kept_needed n r within is (kept r (stay_from Unlisted Listed limbo retired r unlisted within).0 is))
+
+  held_still : (name : Name) (len : ℕ) → IsHeldTo at name len → IsHeldTo swept name len
   held_still name len h = record { place = h.place; manifest = h.manifest; here = h.here; listed = h.listed; in_doubt = h.in_doubt; rows_in_doubt = h.rows_in_doubt }
 
   -- one that is listed again
-  listed_again : (held : Stores) (name : Name) (len : ℕ) → Has tells at held → IsNoShorter at name len → IsListedName at name → IsHeldTo new name len
+  listed_again : (held : Stores) (name : Name) (len : ℕ) → Has tells at held → IsNoShorter at name len → IsListedName at name → IsHeldTo swept name len
   listed_again held name len has short l = record {
     place = l.place;
     manifest = l.manifest;
@@ -211,32 +216,93 @@ module _ (tells : Bool) (at : Seen) (pins : FinMap nat_cmp PinOf) (copied : List
     rows_in_doubt = λ unsound. absurd (cc (unsound, has.settled.catalogue));
   }
 
-  pub pins_swept : (held : Stores) (left : List Retired) → Has tells at held → ((r : Retired) → Contains retired r → IsNeeded pins copied r.name → Contains left r) → PinsStand tells (beside at limbo) pins → PinsStand tells (beside new left) pins
-  pins_swept held left has stays stand n i pin piece here there =
-      let was = stand n i pin piece here there in
-      record {
-        bytes = was.bytes;
-        len = was.len;
-        shown = record {
-          held = there_still (length was.bytes) was.shown.held;
-          some = was.shown.some;
-          front = λ told. subst (Begins was.bytes) (sym (same told piece.name (λ r within is. inl pinned))) (was.shown.front told);
-        };
-      }
-    where
-      pinned : IsPinnedFile pins piece.name
-      pinned = record { number = n; pin = pin; stands = here; names = slice_contains pin.pieces i piece there }
+  there_kept : (held : Stores) (left : List Retired) (name : Name) (len : ℕ) → Has tells at held → ((r : Retired) → Contains retired r → IsNeeded pins copied r.name → Contains left r) → IsKeptName swept pins copied name → IsThereTo (beside at limbo) name len → IsThereTo (beside swept left) name len
+  there_kept held left name len has stays kept (inl h) = inl (held_still name len h)
+  there_kept held left name len has stays kept (inr r) = elim (stay_cases Unlisted Listed limbo retired r.file unlisted r.within) [
+    | inl within ↦ inr (record {
+      file = r.file;
+      within = stays r.file within (subst (IsNeeded pins copied) (sym r.named) (kept_needed name r.file within r.named kept));
+      named = r.named;
+      longer = r.longer;
+      numbered = r.numbered;
+      no_shorter = record { listed = r.no_shorter.listed; in_doubt = r.no_shorter.in_doubt; rows_in_doubt = r.no_shorter.rows_in_doubt };
+    })
+    | inr listed ↦ inl (listed_again held name len has r.no_shorter (subst (IsListedName at) r.named listed))
+  ]
 
-      there_still : (len : ℕ) → IsThereTo (beside at limbo) piece.name len → IsThereTo (beside new left) piece.name len
-      there_still len (inl h) = inl (held_still piece.name len h)
-      there_still len (inr r) = elim (stay_cases (λ x. IsListedName at x.name → ⊥) (λ x. IsListedName at x.name) limbo retired r.file unlisted r.within) [
-        | inl in_retired ↦ inr (record {
-          file = r.file;
-          within = stays r.file in_retired (subst (IsNeeded pins copied) (sym r.named) (inl pinned));
-          named = r.named;
-          longer = r.longer;
-          numbered = r.numbered;
-          no_shorter = record { listed = r.no_shorter.listed; in_doubt = r.no_shorter.in_doubt; rows_in_doubt = r.no_shorter.rows_in_doubt };
-        })
-        | inr listed ↦ inl (listed_again held piece.name len has r.no_shorter (subst (IsListedName at) r.named listed))
+  pub swept_leaves : (held : Stores) (left : List Retired) → Has tells at held → ((r : Retired) → Contains retired r → IsNeeded pins copied r.name → Contains left r) → LeavesKept tells pins copied (beside at limbo) (beside swept left)
+  swept_leaves held left has stays = record {
+    shown = λ name bytes kept was. record {
+      held = there_kept held left name (length bytes) has stays kept was.held;
+      some = was.some;
+      front = λ told. subst (Begins bytes) (sym (same told name (λ r within is. kept_needed name r within is kept))) (was.front told);
+    };
+    files = λ told. spares_kept at.files files (same told);
+    any_moment = λ told. passes_weaker (Spares pins copied retired) (SparesKept swept pins copied limbo) at.past past (passes told) (λ a c left step. spares_kept a c step);
+  }
+
+  -- WHAT LEAVES LIMBO
+
+  nothing_known : (xs : List Retired) → All (λ (r : Retired). Unit {0}) xs
+  nothing_known xs k d lt = tt
+
+  pub swept_files : (left : List Retired) (files : ℕ) → StayNeeded pins copied retired left → files + length left ≡ length retired → IsSwept swept pins copied limbo left files
+  swept_files left files needed count = record {
+    retired = retired;
+    unlisted = stay_by Unlisted Listed (λ x. IsListedName swept x.name → ⊥) (λ x. IsListedName swept x.name) (λ r. Unit {0}) (λ r known not_listed listed. not_listed (listed_before r.name listed)) (λ r known listed. listed_now r.name listed) limbo retired (nothing_known limbo) unlisted;
+    needed = needed;
+    count = count;
+  }
+
+  pub leave_listed : LeaveListed swept limbo retired
+  leave_listed = stay_by Unlisted Listed (λ x. Unit {0}) (λ x. IsListedName swept x.name) (λ r. Unit {0}) (λ r known not_listed. tt) (λ r known listed. listed_now r.name listed) limbo retired (nothing_known limbo) unlisted
+
+  pub are_gone : AreFree pins copied (λ n. Only past n None) retired → AreGone swept pins copied limbo
+  are_gone free k d lt unneeded =
+      let r : Retired = get_or limbo k d in
+      elim (stay_cases Unlisted Listed limbo retired r unlisted (Contains-get_or limbo k d lt)) [
+        | inl within ↦ All-contains (λ (x : Retired). (IsNeeded pins copied x.name → ⊥) → Only past x.name None) retired r free within unneeded.1
+        | inr listed ↦ absurd (unneeded.0 (listed_now r.name listed))
       ]
+
+  pub still_stands : (left : List Retired) → ((r : Retired) → Contains left r → Contains retired r) → LimboStands swept left
+  still_stands left among k d lt =
+      let r : Retired = get_or left k d in
+      let of = All-contains (IsOfPlace at) limbo r stands (stay_from Unlisted Listed limbo retired r unlisted (among r (Contains-get_or left k d lt))).0 in
+      record { place = of.place; granularity = of.granularity; here = of.here; row = of.row; stands = of.stands; part = of.part; named = of.named }
+
+-- what is pinned is kept
+slice_contains : (xs : List PinnedFile) (i : ℕ) (x : PinnedFile) → slice_get xs i ≡ Some x → Contains (map piece_file xs) x.name
+slice_contains [] i x is = absurd (cc (is))
+slice_contains (y ∷ xs) zero x is = (zero, omega arith, ap piece_file (same_Some y x is))
+slice_contains (y ∷ xs) (suc i) x is =
+    let rest = slice_contains xs i x is in (suc rest.0, omega (arith, rest.1), rest.2)
+
+pub pins_kept : (tells : Bool) (pins : FinMap nat_cmp PinOf) (copied : List Name) (old new : SeenAll) → LeavesKept tells pins copied old new → PinsStand tells old pins → PinsStand tells new pins
+pins_kept tells pins copied old new leaves stand n i pin piece here there =
+    let was = stand n i pin piece here there in
+    let pinned : IsPinnedFile pins piece.name = record { number = n; pin = pin; stands = here; names = slice_contains pin.pieces i piece there } in
+    record { bytes = was.bytes; len = was.len; shown = leaves.shown piece.name was.bytes (inr (inl pinned)) was.shown }
+
+-- THE SETTLING BEFORE IT
+
+-- a call that only read and kept what is shown
+pub reads_leave : (tells : Bool) (pins : FinMap nat_cmp PinOf) (copied : List Name) (old mid : SeenAll) → KeepsShown tells old mid → (IsTrue tells → mid.stores.files ≡ old.stores.files) → (IsTrue tells → Passes (λ a b. b ≡ a) old.stores.past mid.stores.past) → LeavesKept tells pins copied old mid
+reads_leave tells pins copied old mid shown same passes = record {
+  shown = λ name bytes kept was. shown name bytes was;
+  files = λ told n kept. ap (λ (f : Files). f n) (same told);
+  any_moment = λ told. passes_weaker (λ a b. b ≡ a) (SparesKept mid.stores pins copied old.limbo) old.stores.past mid.stores.past (passes told) (λ a c left step n kept. ap (λ (f : Files). f n) step);
+}
+
+pub reads_then : (tells : Bool) (pins : FinMap nat_cmp PinOf) (copied : List Name) (old mid new : SeenAll) → mid.limbo ≡ old.limbo → KeepsShown tells old mid → (IsTrue tells → mid.stores.files ≡ old.stores.files) → (IsTrue tells → Passes (λ a b. b ≡ a) old.stores.past mid.stores.past) → LeavesKept tells pins copied mid new → LeavesKept tells pins copied old new
+reads_then tells pins copied old mid new limbo shown same passes leaves = record {
+  shown = λ name bytes kept was. leaves.shown name bytes kept (shown name bytes was);
+  files = λ told n kept. leaves.files told n (λ r within is. kept r (from r within) is) ∙ ap (λ (f : Files). f n) (same told);
+  any_moment = λ told.
+      passes_then (SparesKept new.stores pins copied old.limbo) (SparesKept new.stores pins copied mid.limbo) old.stores.past mid.stores.past new.stores.past
+      (passes_weaker (λ a b. b ≡ a) (SparesKept new.stores pins copied old.limbo) old.stores.past mid.stores.past (passes told) (λ a b left step n kept. ap (λ (f : Files). f n) step)) (leaves.any_moment told)
+      (λ a b c was one now two n kept. two n (λ r within is. kept r (from r within) is) ∙ one n kept);
+}
+  where
+    from : (r : Retired) → Contains mid.limbo r → Contains old.limbo r
+    from r within = subst (λ (l : List Retired). Contains l r) limbo within

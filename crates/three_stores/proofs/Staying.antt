@@ -1,7 +1,7 @@
 -- What stays of limbo, and what the removal of files leaves of the stores.
-use Rattle.std.proofs.Common.{◌≡◌, ◌≢◌, ◌⊎◌, inl, inr, Bool, true, false, cond, ◌||◌, nat_eq, ℕ, zero, suc, ◌<◌, ◌≤◌, ◌+◌, List, [], ◌∷◌, length, map, take, get_or, Some, None, refl, sym, ◌∙◌, ap, subst, arith}
+use Rattle.std.proofs.Common.{◌≡◌, ◌≢◌, ◌⊎◌, inl, inr, Bool, true, false, cond, ◌||◌, nat_eq, ℕ, zero, suc, ◌<◌, ◌+◌, List, [], ◌∷◌, length, map, take, get_or, Some, None, refl, sym, ◌∙◌, ap, subst, arith}
 use Rattle.std.specs.Prelude.{All, Contains, slice_get, IsTrue}
-use Rattle.std.specs.FinMap.{FinMap, get}
+use Rattle.std.specs.FinMap.{FinMap}
 use Rattle.std.specs.Ordering.{nat_cmp}
 use Rattle.std.specs.List.{list_any, filter, slice_index_or}
 use Rattle.std.proofs.lemmas.Bool.Decides.{Decides-eqb, nat_tests}
@@ -13,7 +13,7 @@ use Rattle.std.specs.Prelude.{◌==◌, ◌↔◌, not}
 use Rattle.store_manifest.specs.declared.entry.Entry.{Entry}
 use Rattle.std.proofs.lemmas.List.Elements.{All-contains, All-head, All-tail, All-more}
 use Rattle.disk_model.specs.Files.{Name, Content, Files, At, HasFile, size_of}
-use Rattle.disk_model.specs.Past.{Past, Passes}
+use Rattle.disk_model.specs.Past.{Past, Passes, Only}
 use Rattle.disk_model.proofs.Passing.{passes_then, passes_weaker, passes_none}
 use Rattle.partition_names.specs.declared.granularity.Granularity.{Granularity}
 use Rattle.pinned_pieces.specs.Pieces.{PinOf, named, Agree}
@@ -22,29 +22,20 @@ use Rattle.pin_table.specs.Pinned.{PinState, IsPinned}
 use Rattle.store_manifest.specs.Manifest.{ManifestState}
 use Rattle.tier_store.specs.Held.{Filed, IsListed, file_of, filed_at}
 use Rattle.tier_store.specs.Stored.{KeysDiffer}
-use Rattle.std.specs.Prelude.{Option}
-use Rattle.std.proofs.lemmas.Option.{same_Some}
 use Rattle.tier_store.proofs.Names.{same_place, same_file, name_cases}
 use Rattle.tier_store.proofs.There.{contains_map}
-use Rattle.store_manifest.specs.Entries.{Place}
+use Rattle.store_manifest.specs.Entries.{Place, is_place, is_listed}
+use Rattle.store_manifest.specs.Entries.{place as entry_place}
 use Rattle.pv_catalog.specs.Rows.{KeepsRows}
 use Rattle.tier_store.proofs.Growing.{file_grows}
 use Rattle.three_stores.specs.Stores.{Stores, list_at}
 use Rattle.three_stores.specs.Seen.{Seen, granularities}
 use Rattle.three_stores.specs.Change.{IsKnown}
-use Rattle.three_stores.specs.Limbo.{IsOfPlace, LimboStands, ListsPlace, IsListedName, IsPinnedFile, IsNeeded, Stay, StayUnlisted, Spares}
+use Rattle.three_stores.specs.Limbo.{IsOfPlace, LimboStands, ListsPlace, IsListedName, IsPinnedFile, IsNeeded, Stay, StayUnlisted, Spares, Elsewhere, AreFree}
 use Rattle.three_stores.specs.declared.limbo.Retired.{Retired}
 use Rattle.three_stores.proofs.Places.{manifest_of, one_manifest}
 
 -- WHAT STAYS
-
-pub stay_filter : (test : Retired → Bool) (P Q : Retired → Type 0) → ((r : Retired) → (test r ≡ true → P r) × (test r ≡ false → Q r)) → (xs ys : List Retired) → ys ≡ filter test xs → Stay P Q xs ys
-stay_filter test P Q says [] ys is = is
-stay_filter test P Q says (x ∷ xs) ys is = go (stay_filter test P Q says xs) (test x) refl is
-  where
-    go : ((zs : List Retired) → zs ≡ filter test xs → Stay P Q xs zs) → (b : Bool) → test x ≡ b → ys ≡ cond b (x ∷ filter test xs) (filter test xs) → Stay P Q (x ∷ xs) ys
-    go rest true t is = inl (filter test xs, (says x).0 t, is, rest (filter test xs) refl)
-    go rest false t is = inr ((says x).1 t, rest ys is)
 
 pub stay_by : (P Q P₂ Q₂ T : Retired → Type 0) → ((r : Retired) → T r → P r → P₂ r) → ((r : Retired) → T r → Q r → Q₂ r) → (xs ys : List Retired) → All T xs → Stay P Q xs ys → Stay P₂ Q₂ xs ys
 stay_by P Q P₂ Q₂ T to to₂ [] ys all is = is
@@ -176,34 +167,32 @@ any_to P test (x ∷ es) e (suc k, lt, is) p t = go (any_to P test es e (k, omeg
     go rest true = or_rest rest (test x)
     go rest false = rest
 
-pub lists_any : (ms : List ManifestState) (r : Retired) (place : ℕ) (m : ManifestState) (es : List Entry) (b : Bool) → r.name.0 ≡ place + 1 → slice_get ms place ≡ Some m → es ≡ filter (λ e. e.series == r.entry.series) m.entries → b ≡ list_any (λ e. e.part.start == r.entry.part.start) es → IsTrue b ↔ ListsPlace ms r
+place_start : (e : Entry) (s t : ℕ) → is_place (entry_place e) (s, t) ≡ true → e.part.start ≡ t
+place_start e s t is = grind (arith, nat_tests)
+
+place_is : (e : Entry) (s t : ℕ) → e.series ≡ s → e.part.start ≡ t → is_place (entry_place e) (s, t) ≡ true
+place_is e s t series start = grind (arith, nat_tests)
+
+-- a file's entries in its manifest, and whether one of them is of its partition
+pub lists_any : (ms : List ManifestState) (r : Retired) (place : ℕ) (m : ManifestState) (es : List Entry) (b : Bool) → r.name.0 ≡ place + 1 → slice_get ms place ≡ Some m → es ≡ filter (λ e. e.series == r.entry.series) m.entries → b ≡ is_listed es (r.entry.series, r.entry.part.start) → IsTrue b ↔ ListsPlace ms r
 lists_any ms r place m es b store here are is = (to, from)
   where
-    whole : b ≡ list_any (λ (e : Entry). e.part.start == r.entry.part.start) (filter (λ (e : Entry). e.series == r.entry.series) m.entries)
-    whole = is ∙ ap (λ (l : List Entry). list_any (λ (e : Entry). e.part.start == r.entry.part.start) l) are
+    whole : b ≡ list_any (λ e. is_place (entry_place e) (r.entry.series, r.entry.part.start)) (filter (λ (e : Entry). e.series == r.entry.series) m.entries)
+    whole = is ∙ ap (λ (l : List Entry). is_listed l (r.entry.series, r.entry.part.start)) are
 
     to : IsTrue b → ListsPlace ms r
     to is_so =
-        let f = any_from (λ e. e.series == r.entry.series) (λ e. e.part.start == r.entry.part.start) m.entries (sym whole ∙ is_so) in
-        record { place = place; manifest = m; store = store; here = here; entry = f.0; within = f.1; series = (Decides-eqb f.0.series r.entry.series).0 f.2; start = (Decides-eqb f.0.part.start r.entry.part.start).0 f.3 }
+        let f = any_from (λ e. e.series == r.entry.series) (λ e. is_place (entry_place e) (r.entry.series, r.entry.part.start)) m.entries (sym whole ∙ is_so) in
+        record { place = place; manifest = m; store = store; here = here; entry = f.0; within = f.1; series = (Decides-eqb f.0.series r.entry.series).0 f.2; start = place_start f.0 r.entry.series r.entry.part.start f.3 }
 
     from : ListsPlace ms r → IsTrue b
     from l =
         let number = l.store in
         let same : l.place ≡ place = omega (arith, number, store) in
         let own : l.manifest ≡ m = one_manifest ms place l.place m l.manifest same here l.here in
-        whole ∙ any_to (λ e. e.series == r.entry.series) (λ e. e.part.start == r.entry.part.start) m.entries l.entry (subst (λ (x : ManifestState). Contains x.entries l.entry) own l.within) ((Decides-eqb l.entry.series r.entry.series).1 l.series) ((Decides-eqb l.entry.part.start r.entry.part.start).1 l.start)
+        whole ∙ any_to (λ e. e.series == r.entry.series) (λ e. is_place (entry_place e) (r.entry.series, r.entry.part.start)) m.entries l.entry (subst (λ (x : ManifestState). Contains x.entries l.entry) own l.within) ((Decides-eqb l.entry.series r.entry.series).1 l.series) (place_is l.entry r.entry.series r.entry.part.start l.series l.start)
 
 -- PINS
-
-pub pinned_to : (table : FinMap nat_cmp PinState) (pins : FinMap nat_cmp PinOf) (name : Name) → Agree table pins → IsPinned table name → IsPinnedFile pins name
-pinned_to table pins name agree p = go (get pins p.number) refl (sym (agree p.number) ∙ p.stands)
-  where
-    go : (found : Option PinOf) → get pins p.number ≡ found → named found ≡ Some p.pin → IsPinnedFile pins name
-    go None here is = absurd (cc (is))
-    go (Some pin) here is =
-        let same : ◌≡◌ {A = PinState} (record { owner = pin.owner; files = map piece_file pin.pieces }) p.pin = same_Some _ p.pin is in
-        record { number = p.number; pin = pin; stands = here; names = subst (λ (x : PinState). Contains x.files name) (sym same) p.names }
 
 pub pinned_from : (table : FinMap nat_cmp PinState) (pins : FinMap nat_cmp PinOf) (name : Name) → Agree table pins → IsPinnedFile pins name → IsPinned table name
 pinned_from table pins name agree p = record { number = p.number; pin = record { owner = p.pin.owner; files = map piece_file p.pin.pieces }; stands = agree p.number ∙ ap named p.stands; names = p.names }
@@ -219,9 +208,6 @@ spares_none pins copied limbo past = passes_none (Spares pins copied limbo) past
 -- one that isn't needed is removed, or not
 pub one_spared : (pins : FinMap nat_cmp PinOf) (copied : List Name) (limbo : List Retired) (r : Retired) (a b : Files) → Contains limbo r → (IsNeeded pins copied r.name → ⊥) → ((n : Name) → n ≢ r.name → b n ≡ a n) → Spares pins copied limbo a b
 one_spared pins copied limbo r a b within free elsewhere n other = elsewhere n (λ is. free (subst (IsNeeded pins copied) is (other r within (sym is))))
-
-pub one_passes : (pins : FinMap nat_cmp PinOf) (copied : List Name) (limbo : List Retired) (r : Retired) (R : Content → Content → Type 0) (old new : Past) → Contains limbo r → (IsNeeded pins copied r.name → ⊥) → Passes (At r.name R) old new → Passes (Spares pins copied limbo) old new
-one_passes pins copied limbo r R old new within free passes = passes_weaker (At r.name R) (Spares pins copied limbo) old new passes (λ a c was step. one_spared pins copied limbo r a c within free step.elsewhere)
 
 -- LIMBO STANDS
 
@@ -243,12 +229,12 @@ limbo_kept old new limbo keeps same stands j r lt = of_place (get_or limbo j r) 
 
 -- NAMES
 
-same_name : (a b : Name) → is_same a b ≡ true → a ≡ b
+pub same_name : (a b : Name) → is_same a b ≡ true → a ≡ b
 same_name a b same =
     let store : a.0 ≡ b.0 = (Decides-eqb a.0 b.0).0 (grind (arith, nat_tests)) in
     let path : a.1 ≡ b.1 = (bytes_eq-Decides a.1 b.1).0 (grind (arith, nat_tests)) in λ i. (store i, path i)
 
-own_name : (a : Name) → is_same a a ≡ true
+pub own_name : (a : Name) → is_same a a ≡ true
 own_name a =
     let store : nat_eq a.0 a.0 ≡ true = (Decides-eqb a.0 a.0).1 refl in
     let path : bytes_eq a.1 a.1 ≡ true = (bytes_eq-Decides a.1 a.1).1 refl in grind (arith, nat_tests)
@@ -262,24 +248,15 @@ among_is names name any =
 pub is_among : (names : List Name) (name : Name) → Contains names name → list_any (λ other. is_same other name) names ≡ true
 is_among names name found = list_any-from_Any (λ other. is_same other name) names (found.0, name, found.1, found.2, own_name name)
 
-not_both : (b : Bool) → not b ≡ true → b ≡ true → ⊥
+pub not_both : (b : Bool) → not b ≡ true → b ≡ true → ⊥
 not_both true t is = absurd (cc (t))
 not_both false t is = absurd (cc (is))
 
-not_false : (b : Bool) → not b ≡ false → b ≡ true
+pub not_false : (b : Bool) → not b ≡ false → b ≡ true
 not_false true t = refl
 not_false false t = absurd (cc (t))
 
--- those of other names stay
-pub stay_apart : (gone : List Name) (xs ys : List Retired) → ys ≡ filter (λ r. not (list_any (λ other. is_same other r.name) gone)) xs → Stay (λ r. Contains gone r.name → ⊥) (λ r. Contains gone r.name) xs ys
-stay_apart gone = stay_filter (λ r. not (list_any (λ other. is_same other r.name) gone)) (λ r. Contains gone r.name → ⊥) (λ r. Contains gone r.name)
-    (λ r. (λ t within. not_both (list_any (λ other. is_same other r.name) gone) t (is_among gone r.name within), λ t. among_is gone r.name (not_false (list_any (λ other. is_same other r.name) gone) t)))
-
 -- CALLS
-
--- every other name is as it was
-abbrev pub Elsewhere : Name → Files → Files → Type 0
-Elsewhere name a b = (n : Name) → n ≢ name → b n ≡ a n
 
 pub reads_elsewhere : (name : Name) (old new : Past) → Passes (λ a b. b ≡ a) old new → Passes (Elsewhere name) old new
 reads_elsewhere name old new passes = passes_weaker (λ a b. b ≡ a) (Elsewhere name) old new passes (λ a c left same n apart. ap (λ (f : Files). f n) same)
@@ -299,16 +276,19 @@ size_there files name size is = go (files name) refl is
 pub elsewhere_passes : (pins : FinMap nat_cmp PinOf) (copied : List Name) (limbo : List Retired) (r : Retired) (old new : Past) → Contains limbo r → (IsNeeded pins copied r.name → ⊥) → Passes (Elsewhere r.name) old new → Passes (Spares pins copied limbo) old new
 elsewhere_passes pins copied limbo r old new within free passes = passes_weaker (Elsewhere r.name) (Spares pins copied limbo) old new passes (λ a c was step. one_spared pins copied limbo r a c within free step)
 
--- of those so far each that isn't needed has gone
-abbrev pub AreGone : FinMap nat_cmp PinOf → List Name → Files → List Retired → Type 0
-AreGone pins copied files rs = All (λ (r : Retired). (IsNeeded pins copied r.name → ⊥) → files r.name ≡ None) rs
+-- one more is needed, or this is true of its name
+pub free_needed : (pins : FinMap nat_cmp PinOf) (copied : List Name) (P : Name → Type 0) (rs : List Retired) (i : ℕ) (r : Retired) → i < length rs → r ≡ get_or rs i r → IsNeeded pins copied r.name → AreFree pins copied P (take i rs) → AreFree pins copied P (take (i + 1) rs)
+free_needed pins copied P rs i r low is needed free = All-more (λ (x : Retired). (IsNeeded pins copied x.name → ⊥) → P x.name) rs i r low free (subst (λ (x : Retired). (IsNeeded pins copied x.name → ⊥) → P x.name) is (λ not_needed. absurd (not_needed needed)))
 
-pub gone_needed : (pins : FinMap nat_cmp PinOf) (copied : List Name) (files : Files) (rs : List Retired) (i : ℕ) (r : Retired) → i < length rs → r ≡ get_or rs i r → IsNeeded pins copied r.name → AreGone pins copied files (take i rs) → AreGone pins copied files (take (i + 1) rs)
-gone_needed pins copied files rs i r low is needed gone = All-more (λ (x : Retired). (IsNeeded pins copied x.name → ⊥) → files x.name ≡ None) rs i r low gone (subst (λ (x : Retired). (IsNeeded pins copied x.name → ⊥) → files x.name ≡ None) is (λ free. absurd (free needed)))
+pub free_more : (pins : FinMap nat_cmp PinOf) (copied : List Name) (P Q : Name → Type 0) (rs : List Retired) (i : ℕ) (r : Retired) → i < length rs → r ≡ get_or rs i r → ((n : Name) → P n → Q n) → Q r.name → AreFree pins copied P (take i rs) → AreFree pins copied Q (take (i + 1) rs)
+free_more pins copied P Q rs i r low is still here free =
+    All-more (λ (x : Retired). (IsNeeded pins copied x.name → ⊥) → Q x.name) rs i r low (λ k d lt not_needed. still (get_or (take i rs) k d).name (free k d lt not_needed)) (subst (λ (x : Retired). (IsNeeded pins copied x.name → ⊥) → Q x.name) is (λ not_needed. here))
 
-pub gone_removed : (pins : FinMap nat_cmp PinOf) (copied : List Name) (files later : Files) (rs : List Retired) (i : ℕ) (r : Retired) → i < length rs → r ≡ get_or rs i r → later r.name ≡ None → ((n : Name) → n ≢ r.name → later n ≡ files n) → AreGone pins copied files (take i rs) → AreGone pins copied later (take (i + 1) rs)
-gone_removed pins copied files later rs i r low is none elsewhere gone =
-    All-more (λ (x : Retired). (IsNeeded pins copied x.name → ⊥) → later x.name ≡ None) rs i r low (λ k d lt free. still (get_or (take i rs) k d) (gone k d lt free)) (subst (λ (x : Retired). (IsNeeded pins copied x.name → ⊥) → later x.name ≡ None) is (λ free. none))
-  where
-    still : (x : Retired) → files x.name ≡ None → later x.name ≡ None
-    still x was = elim (name_cases x.name r.name) [ inl same ↦ ap later same ∙ none | inr apart ↦ elsewhere x.name apart ∙ was ]
+-- a name that has no file has none once another is removed
+pub none_still : (name : Name) (files later : Files) → later name ≡ None → Elsewhere name files later → (n : Name) → files n ≡ None → later n ≡ None
+none_still name files later none elsewhere n was = elim (name_cases n name) [ inl same ↦ ap later same ∙ none | inr apart ↦ elsewhere n apart ∙ was ]
+
+-- what a crash leaves of a name it leaves while calls only read
+pub only_read : (content : Name → Content) (old new : Past) → Passes (λ a b. b ≡ a) old new → (n : Name) → Only old n (content n) → Only new n (content n)
+only_read content old new passes n only image left =
+    let come = passes.each new.now image passes.later (omega arith) left in ap (λ (f : Files). f n) come.2 ∙ only come.0 come.1

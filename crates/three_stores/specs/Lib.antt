@@ -1,8 +1,11 @@
 pub mod Change
+pub mod Counting
+pub mod Details
 pub mod Limbo
 pub mod Opening
 pub mod Pinned
 pub mod Pinning
+pub mod Retiring
 pub mod Seen
 pub mod Settling
 pub mod Stored

@@ -1,8 +1,9 @@
 -- Files in limbo, and which of them a sweep removes.
 use Rattle.std.specs.FinMap.{FinMap, get}
 use Rattle.std.specs.Ordering.{nat_cmp}
-use Rattle.std.specs.Prelude.{◌≡◌, ◌⊎◌, ◌+◌, ℕ, List, [], ◌∷◌, All, Contains, length, map, Some, slice_get}
+use Rattle.std.specs.Prelude.{◌≡◌, ◌≢◌, ◌⊎◌, ◌≤◌, ◌+◌, ℕ, Bool, List, [], ◌∷◌, All, Contains, IsTrue, length, map, None, Some, slice_get}
 use Rattle.disk_model.specs.Files.{Name, Files}
+use Rattle.disk_model.specs.Past.{Past, Passes, Only}
 use Rattle.partition_names.specs.declared.granularity.Granularity.{Granularity}
 use Rattle.partition_names.specs.Part.{IsPart}
 use Rattle.pinned_pieces.specs.Pieces.{PinOf}
@@ -12,6 +13,7 @@ use Rattle.store_manifest.specs.Manifest.{ManifestState}
 use Rattle.store_manifest.specs.declared.entry.Entry.{Entry}
 use Rattle.tier_store.specs.Held.{file_of}
 use Rattle.three_stores.specs.Change.{Call}
+use Rattle.three_stores.specs.Pinned.{SeenAll, Shows}
 use Rattle.three_stores.specs.Seen.{Seen, granularities}
 use Rattle.three_stores.specs.declared.limbo.Retired.{Retired}
 
@@ -59,6 +61,14 @@ pub record IsPinnedFile (pins : FinMap nat_cmp PinOf) (name : Name) : Type 0 whe
 abbrev pub IsNeeded : FinMap nat_cmp PinOf → List Name → Name → Type 0
 IsNeeded pins copied name = IsPinnedFile pins name ⊎ Contains copied name
 
+-- one that is neither listed nor needed
+abbrev pub IsUnneeded : Seen → FinMap nat_cmp PinOf → List Name → Name → Type 0
+IsUnneeded at pins copied name = (IsListedName at name → ⊥) × (IsNeeded pins copied name → ⊥)
+
+-- one that is listed or needed
+abbrev pub IsKeptName : Seen → FinMap nat_cmp PinOf → List Name → Name → Type 0
+IsKeptName at pins copied name = IsListedName at name ⊎ IsNeeded pins copied name
+
 -- of the files those of which the first is true stay, in their order; of those that go the other is true
 abbrev pub Stay : (Retired → Type 0) → (Retired → Type 0) → List Retired → List Retired → Type 0
 Stay P Q [] left = left ≡ []
@@ -79,17 +89,44 @@ pub record IsSwept (at : Seen) (pins : FinMap nat_cmp PinOf) (copied : List Name
   pub needed : StayNeeded pins copied retired left
   pub count : files + length left ≡ length retired
 
--- one that is neither listed nor needed
-abbrev pub IsUnneeded : Seen → FinMap nat_cmp PinOf → List Name → Name → Type 0
-IsUnneeded at pins copied name = (IsListedName at name → ⊥) × (IsNeeded pins copied name → ⊥)
+-- each file of limbo that left it is listed
+abbrev pub LeaveListed : Seen → List Retired → List Retired → Type 0
+LeaveListed at = Stay (λ r. Unit {0}) (λ r. IsListedName at r.name)
 
--- one that is listed or needed
-abbrev pub IsKeptName : Seen → FinMap nat_cmp PinOf → List Name → Name → Type 0
-IsKeptName at pins copied name = IsListedName at name ⊎ IsNeeded pins copied name
+-- what is in limbo of these, and isn't listed or needed, is no file any more, and no crash brings it back
+abbrev pub AreGone : Seen → FinMap nat_cmp PinOf → List Name → List Retired → Type 0
+AreGone at pins copied limbo = All (λ (r : Retired). IsUnneeded at pins copied r.name → Only at.past r.name None) limbo
 
--- whatever isn't in limbo, and what a pin names or a move has copied into, has what it had
+-- whatever isn't in limbo, and what is listed or needed, has what it had
+abbrev pub SparesKept : Seen → FinMap nat_cmp PinOf → List Name → List Retired → Files → Files → Type 0
+SparesKept at pins copied limbo old new = (n : Name) → ((r : Retired) → Contains limbo r → r.name ≡ n → IsKeptName at pins copied n) → new n ≡ old n
+
+-- Whatever is listed or needed in the end, and was shown, is shown still; and all names but those of other files in limbo have what they had, as
+-- reads give them and as a crash at any moment leaves them.
+pub record LeavesKept (tells : Bool) (pins : FinMap nat_cmp PinOf) (copied : List Name) (old new : SeenAll) : Type 0 where
+  pub shown : (name : Name) (bytes : List ℕ) → IsKeptName new.stores pins copied name → Shows tells old name bytes → Shows tells new name bytes
+  pub files : IsTrue tells → SparesKept new.stores pins copied old.limbo old.stores.files new.stores.files
+  pub any_moment : IsTrue tells → Passes (SparesKept new.stores pins copied old.limbo) old.stores.past new.stores.past
+
+-- THE REMOVAL
+
+-- every other name is as it was
+abbrev pub Elsewhere : Name → Files → Files → Type 0
+Elsewhere name old new = (n : Name) → n ≢ name → new n ≡ old n
+
+-- whatever isn't among the files, and what a pin names or a move has copied into, has what it had
 abbrev pub Spares : FinMap nat_cmp PinOf → List Name → List Retired → Files → Files → Type 0
 Spares pins copied limbo old new = (n : Name) → ((r : Retired) → Contains limbo r → r.name ≡ n → IsNeeded pins copied n) → new n ≡ old n
+
+-- Reads and a crash at any moment spare all others and those that are needed, and no name is opened further.
+pub record Removes (pins : FinMap nat_cmp PinOf) (copied : List Name) (limbo : List Retired) (files later : Files) (opened after : Name → ℕ) (old new : Past) : Type 0 where
+  pub any_moment : Passes (Spares pins copied limbo) old new
+  pub spares : Spares pins copied limbo files later
+  pub fewer : (n : Name) → after n ≤ opened n
+
+-- of the files this is true of the name of each that isn't needed
+abbrev pub AreFree : FinMap nat_cmp PinOf → List Name → (Name → Type 0) → List Retired → Type 0
+AreFree pins copied P limbo = All (λ (r : Retired). (IsNeeded pins copied r.name → ⊥) → P r.name) limbo
 
 -- the stores stay as they are
 abbrev pub staying : {A : Type 0} → Call A ⊥

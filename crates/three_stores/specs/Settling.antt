@@ -23,3 +23,21 @@ pub record Settles {A E : Type 0} (tells : Bool) (says : A → Stores → Type 0
   pub keeps : KeepsRows old.catalogue.rows new.catalogue.rows
   pub granularity : granularities new.manifests ≡ granularities old.manifests
   pub reads : OnlyReads tells old new end
+
+-- What an answer says is true of what is held. Want of memory and a failure of the disk say nothing.
+abbrev pub ReadsOf : {A E : Type 0} → (A → Stores → Type 0) → End A E → Stores → Type 0
+ReadsOf {A} {E} says (Done a) held = says a held
+ReadsOf {A} {E} says (Refused e) held = ⊥
+ReadsOf {A} {E} says Failed held = Unit {0}
+ReadsOf {A} {E} says Spent held = Unit {0}
+
+-- Such a call reads files too, once the doubt is settled. It ends before that, and the doubt stands as it stood, or it has settled it, and
+-- then answers of what it found, or the disk failed, or memory was wanting. The disk is only read.
+pub record SettlesAndReads {A E : Type 0} (tells : Bool) (says : A → Stores → Type 0) (old new : Seen) (end : End A E) : Type 0 where
+  pub ends : (before after : Stores) → IsOpen tells old before after
+      → (IsCut end × IsOpen tells new before after) ⊎ ((held : Stores) × IsEither before after held × Has tells new held × ReadsOf says end held)
+  pub settled : (held : Stores) → Has tells old held → Has tells new held × ReadsOf says end held
+  pub nothing : IsSettled old → (new.catalogue ≡ old.catalogue) × (new.manifests ≡ old.manifests)
+  pub keeps : KeepsRows old.catalogue.rows new.catalogue.rows
+  pub granularity : granularities new.manifests ≡ granularities old.manifests
+  pub reads : OnlyReads tells old new end

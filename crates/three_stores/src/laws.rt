@@ -1,6 +1,6 @@
 //! What follows from holding, for all images and stores.
 ghost use Rattle.std.specs.Prelude.{◌≡◌, ◌⊎◌, ℕ, List, map, length, slice_get, Some, true, false, All, IsTrue};
-ghost use Rattle.disk_model.specs.Files.{Files};
+ghost use Rattle.disk_model.specs.Files.{Files, Name};
 ghost use Rattle.disk_model.specs.Past.{MayLeave};
 ghost use Rattle.partition_names.specs.declared.granularity.Granularity.{Granularity};
 ghost use Rattle.pv_catalog.specs.Catalogue.{CatalogueState};
@@ -17,7 +17,7 @@ ghost use Rattle.std.specs.FinMap.{FinMap, empty, remove};
 ghost use Rattle.std.specs.Ordering.{nat_cmp};
 ghost use Rattle.pinned_pieces.specs.Pieces.{PinOf};
 ghost use Rattle.pv_catalog.specs.Rows.{KeepsRows};
-ghost use Rattle.three_stores.specs.Limbo.{LimboStands};
+ghost use Rattle.three_stores.specs.Limbo.{LimboStands, LeavesKept};
 ghost use Rattle.three_stores.specs.Pinned.{beside, PinsStand, KeepsShown};
 ghost use Rattle.three_stores.specs.declared.limbo.Retired.{Retired};
 ghost use Rattle.three_stores.specs.Change.{IsKnown, Has, IsOpen, Flushes, CanList};
@@ -59,12 +59,14 @@ pub fn listed_files_may_be_dropped<D: Disk>()
         → CanList i D.tells (seen_on D.files D.opened D.past D.faults catalogue ms disk) (map drop_of parts) held (without_all (list_at i held) parts) }
 {}
 
-/// Pieces of pins stand as they were pinned: with no pin, after a call that keeps what is shown, and after the
-/// end of a pin.
+/// Pieces of pins stand as they were pinned: with no pin, after a call that keeps what is shown, after a sweep, and after the end of a pin.
 pub fn pins_stand<D: Disk>()
     ensures none { (disk : D) (catalogue : CatalogueState) (ms : List ManifestState) (limbo : List Retired) → PinsStand D.tells (beside (seen_on D.files D.opened D.past D.faults catalogue ms disk) limbo) empty }
     ensures kept { (old new : D) (catalogue later : CatalogueState) (ms ns : List ManifestState) (limbo left : List Retired) (pins : FinMap nat_cmp PinOf)
         → KeepsShown D.tells (beside (seen_on D.files D.opened D.past D.faults catalogue ms old) limbo) (beside (seen_on D.files D.opened D.past D.faults later ns new) left)
+        → PinsStand D.tells (beside (seen_on D.files D.opened D.past D.faults catalogue ms old) limbo) pins → PinsStand D.tells (beside (seen_on D.files D.opened D.past D.faults later ns new) left) pins }
+    ensures swept { (old new : D) (catalogue later : CatalogueState) (ms ns : List ManifestState) (limbo left : List Retired) (pins : FinMap nat_cmp PinOf) (copied : List Name)
+        → LeavesKept D.tells pins copied (beside (seen_on D.files D.opened D.past D.faults catalogue ms old) limbo) (beside (seen_on D.files D.opened D.past D.faults later ns new) left)
         → PinsStand D.tells (beside (seen_on D.files D.opened D.past D.faults catalogue ms old) limbo) pins → PinsStand D.tells (beside (seen_on D.files D.opened D.past D.faults later ns new) left) pins }
     ensures fewer { (disk : D) (catalogue : CatalogueState) (ms : List ManifestState) (limbo : List Retired) (pins : FinMap nat_cmp PinOf) (n : ℕ)
         → PinsStand D.tells (beside (seen_on D.files D.opened D.past D.faults catalogue ms disk) limbo) pins → PinsStand D.tells (beside (seen_on D.files D.opened D.past D.faults catalogue ms disk) limbo) (remove pins n) }

@@ -10,13 +10,19 @@
 //! most one of the four journals, the catalogue and the three manifests, is in doubt at a time.
 //!
 //! A reader pins the files of a row that its query needs (`TierStore::pin`), opens them one after another, and gives the pin up. What is
-//! pinned opens as it was, whatever has become of the files.
+//! pinned opens as it was, whatever has become of the files. `TierStore::retire` takes the oldest files of a row from a list; those that
+//! are pinned stay on the disk, in limbo, until `TierStore::sweep` finds that nothing needs them.
+//!
+//! `TierStore::details` tells of a row: what the catalogue has of it, how many files each store lists, and how many of its samples are
+//! durable. While a move is half done two stores list the same samples; the file that a later store's samples reach into is then read.
 //!
 //! Stores whose listed files somebody else damaged may be used as any others, as long as each is there and no shorter than it is
 //! listed. What is held then doesn't stand (`Stores.stands`): nothing is promised of its samples, but no call writes below a listed
 //! length, and each can be made again.
 #![tactic(auto)]
 
+mod counting;
+mod details;
 pub mod laws;
 mod limbo;
 mod opening;
@@ -24,9 +30,14 @@ mod opening_pieces;
 mod pinning;
 mod registry;
 mod relisting;
+mod removing;
+mod retirement;
 mod retiring;
 mod settling;
 mod store;
+mod sweeping;
+mod tallying;
 
 pub use limbo::Retired;
+pub use retirement::RetireEnd;
 pub use store::TierStore;

@@ -1,6 +1,13 @@
-// Retired files that are still on the disk.
+// Retired files that are still on the disk, and which of them a store lists again.
+ghost use Rattle.std.specs.Prelude.{◌≡◌, ◌≤◌, ℕ, true, false, nat_lt, length};
+ghost use Rattle.std.specs.List.Sorted.{IsPartitionPoint};
+ghost use Rattle.store_manifest.specs.Entries.{InOrder, is_listed};
+ghost use Rattle.store_manifest.specs.Listing.{OfSeries};
+ghost use Rattle.three_stores.specs.Limbo.{ListsPlace, Stay};
+ghost use Rattle.three_stores.specs.Seen.{AtEach};
+
 use disk_model::FileName;
-use store_manifest::Entry;
+use store_manifest::{Entry, Manifest};
 
 /// A file that a retirement has taken from its store's list, or that a retirement in doubt would take: it stays on the disk while a pin
 /// names it, and until it is swept.
@@ -10,4 +17,43 @@ pub struct Retired {
     pub name: FileName,
     /// What was listed of it.
     pub entry: Entry,
+}
+
+// Takes from limbo what its store lists again.
+pub(crate) fn leave_listed(manifests: &[Manifest], limbo: &mut Vec<Retired>)
+    ensures { AtEach manifests.now (λ i m. InOrder m.entries) → Stay (λ r. ListsPlace manifests.now r → ⊥) (ListsPlace manifests.now) limbo.old.items limbo.new.items }
+{
+    limbo.retain(|file| is_unlisted(manifests, file));
+}
+
+// Whether the manifest of a file's store lists none of its row and partition.
+fn is_unlisted(manifests: &[Manifest], file: &Retired) -> bool
+    ensures unlisted { AtEach manifests.now (λ i m. InOrder m.entries) → result ≡ true → ListsPlace manifests.now file.now → ⊥ }
+    ensures listed { AtEach manifests.now (λ i m. InOrder m.entries) → result ≡ false → ListsPlace manifests.now file.now }
+{
+    let store = usize::from(file.name.store);
+    if store == 0 || store > manifests.len() {
+        return true;
+    }
+    let entries = manifests[store - 1].entries(file.entry.series);
+    !begins_at(entries, file.entry.part.start)
+}
+
+// Whether the partition of one of a series' entries begins at this moment.
+fn begins_at(entries: &[Entry], start: u64) -> bool
+    ensures { (series : ℕ) → OfSeries series entries.now → result ≡ is_listed entries.now (series, start) }
+{
+    let at = front(entries, start);
+    if at >= entries.len() {
+        return false;
+    }
+    entries[at].part.start == start
+}
+
+// How many of a series' partitions begin before this moment.
+fn front(entries: &[Entry], start: u64) -> usize
+    ensures within { result ≤ length entries.now }
+    ensures point { (series : ℕ) → OfSeries series entries.now → IsPartitionPoint (λ e. nat_lt e.part.start start ≡ true) (λ e. nat_lt e.part.start start ≡ false) entries.now result }
+{
+    entries.partition_point(|entry| entry.part.start < start)
 }

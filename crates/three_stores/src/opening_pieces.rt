@@ -33,8 +33,8 @@ impl<D: Disk> TierStore<D> {
         requires begun { (before : Stores) × (after : Stores) × IsOpen D.tells (seen D.Disk self.old) before after }
         requires stand { PinsStand D.tells (seen_all D.Disk self.old) self.old.pinned }
 
-        ensures refused { (e : PinErrValue) → asked who (get self.old.pinned pin) ≡ Err e → result ≡ Ok (refusal e) }
-        ensures no_piece { (p : PinOf) → asked who (get self.old.pinned pin) ≡ Ok p → slice_get p.pieces i ≡ None → result ≡ Ok (NoPiece (length p.pieces)) }
+        ensures refused { (e : PinErrValue) → asked who (get self.old.pinned pin) ≡ Err e → (result ≡ Ok (refusal e)) × (self.new ≡ self.old) }
+        ensures no_piece { (p : PinOf) → asked who (get self.old.pinned pin) ≡ Ok p → slice_get p.pieces i ≡ None → (result ≡ Ok (NoPiece (length p.pieces))) × (self.new ≡ self.old) }
         ensures piece { (p : PinOf) (piece : Piece) → asked who (get self.old.pinned pin) ≡ Ok p → slice_get p.pieces i ≡ Some piece
             → IsOpened D.tells D.Reader.tells D.Reader.bytes D.Reader.faults (seen_all D.Disk self.old) piece (answer_of result) }
         ensures kept { (before after : Stores) → IsOpen D.tells (seen D.Disk self.old) before after → IsOpen D.tells (seen D.Disk self.new) before after }
@@ -61,16 +61,16 @@ impl<D: Disk> TierStore<D> {
     }
     /// Opens piece `i` of an owner's own pin: the reader has the bytes that were pinned, whatever has become of the file since. A change
     /// that stands in doubt stays in doubt. `NoPin`, `NotYours` and `NoPiece` come exactly where no pin has the number, where it is
-    /// another's, and where the pin has no such piece, in this order. It needs that the pieces stand as they were pinned, which each
-    /// call keeps so.
+    /// another's, and where the pin has no such piece, in this order, and then the disk isn't called. It needs that the pieces stand as they
+    /// were pinned, which each call keeps so.
     ///
     /// `DiskFault` comes only where the disk's count of faults rose in the call.
     pub fn open_piece(&mut self, who: u64, pin: u32, i: u32) -> Answer<D::Reader>
         requires begun { (before : Stores) × (after : Stores) × IsOpen D.tells (seen D.Disk self.old) before after }
         requires stand { PinsStand D.tells (seen_all D.Disk self.old) self.old.pinned }
 
-        ensures refused { (e : PinErrValue) → asked who (get self.old.pinned pin) ≡ Err e → result ≡ refusal e }
-        ensures no_piece { (p : PinOf) → asked who (get self.old.pinned pin) ≡ Ok p → slice_get p.pieces i ≡ None → result ≡ NoPiece (length p.pieces) }
+        ensures refused { (e : PinErrValue) → asked who (get self.old.pinned pin) ≡ Err e → (result ≡ refusal e) × (self.new ≡ self.old) }
+        ensures no_piece { (p : PinOf) → asked who (get self.old.pinned pin) ≡ Ok p → slice_get p.pieces i ≡ None → (result ≡ NoPiece (length p.pieces)) × (self.new ≡ self.old) }
         ensures piece { (p : PinOf) (piece : Piece) → asked who (get self.old.pinned pin) ≡ Ok p → slice_get p.pieces i ≡ Some piece
             → IsOpened D.tells D.Reader.tells D.Reader.bytes D.Reader.faults (seen_all D.Disk self.old) piece result }
         ensures kept { (before after : Stores) → IsOpen D.tells (seen D.Disk self.old) before after → IsOpen D.tells (seen D.Disk self.new) before after }

@@ -40,7 +40,7 @@ fn chosen(alloc: Global, manifests: &[Manifest], row: u32, from: u64) -> Result<
 }
 
 // The same of another value.
-fn copied(about: &About) -> Result<About, AllocError>
+pub(crate) fn copied(about: &About) -> Result<About, AllocError>
     ensures { IfOk result (λ copy. copy ≡ about.now) }
 {
     about.clone()

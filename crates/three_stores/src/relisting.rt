@@ -1,4 +1,4 @@
-// One commit at one place that lists other files: how a publication and a retirement end.
+// One commit at one place that lists other files: how a publication ends.
 ghost use Rattle.std.specs.Prelude.{◌≡◌, ◌≤◌, ◌<◌, length, List, Some, slice_get};
 ghost use Rattle.store_manifest.specs.Batches.{batch_of};
 ghost use Rattle.store_manifest.specs.Entries.{AllCanFollow};

@@ -1,7 +1,10 @@
-use Rattle.std.proofs.Common.{ap, sym, subst}
-use Rattle.three_stores.specs.Opening.{IsOpened}
+use Rattle.std.proofs.Common.{ap, sym, ◌∙◌, subst}
+use Rattle.three_stores.specs.Opening.{IsOpened, answer_of}
 use Rattle.three_stores.proofs.Sparing.{same_shown}
 use Rattle.three_stores.proofs.store.TierStore.open_piece.Goals as goal
+
+pub returns-clause-refused : goal.returns-clause-refused
+returns-clause-refused g c e is = let read = c.read_piece.ensures.refused e is in (c.told.ensures ∙ ap answer_of read.0, read.1)
 
 pub returns-clause-piece : goal.returns-clause-piece
 returns-clause-piece g c p piece granted here = subst (IsOpened g.D.Disk.tells g.D.Reader.ReadAt.tells g.D.Reader.ReadAt.bytes g.D.Reader.ReadAt.faults _ piece) (sym c.told.ensures) (c.read_piece.ensures.piece p piece granted here)

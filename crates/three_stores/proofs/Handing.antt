@@ -1,0 +1,116 @@
+-- Files that leave a list: in limbo, and from there from the disk.
+use Rattle.std.proofs.Common.{◌≡◌, ◌⊎◌, inl, inr, Bool, true, false, ◌==◌, filter, ℕ, ◌<◌, ◌≤◌, ◌+◌, ◌++◌, List, [], ◌∷◌, length, get_or, Some, refl, sym, ◌∙◌, subst, arith}
+use Rattle.std.specs.Prelude.{All, Contains, slice_get}
+use Rattle.std.specs.FinMap.{FinMap}
+use Rattle.std.specs.Ordering.{nat_cmp}
+use Rattle.std.specs.List.{list_any}
+use Rattle.std.proofs.lemmas.List.Elements.{All-contains, All-filter, All-head, All-tail, All-take, Contains-get_or}
+use Rattle.std.proofs.lemmas.List.Folds.{Any-from_list_any, list_any-from_Any}
+use Rattle.disk_model.specs.Files.{Name, Files}
+use Rattle.disk_model.specs.Past.{Past}
+use Rattle.disk_model.specs.Record.{is_same}
+use Rattle.disk_model.proofs.Passing.{passes_weaker}
+use Rattle.pin_table.specs.Pinned.{PinState, IsPinned}
+use Rattle.pinned_pieces.specs.Pieces.{PinOf, Agree}
+use Rattle.store_manifest.specs.Manifest.{ManifestState}
+use Rattle.store_manifest.specs.declared.entry.Entry.{Entry}
+use Rattle.tier_store.specs.Held.{file_of}
+use Rattle.three_stores.specs.Change.{Has}
+use Rattle.three_stores.specs.Limbo.{IsListedName, IsNeeded, Stay, StayUnlisted, LeaveListed, Spares, Removes}
+use Rattle.three_stores.specs.Pinned.{Shows, beside, KeepsShown}
+use Rattle.three_stores.specs.Retiring.{IsFree, Leaves, oldest_entries}
+use Rattle.three_stores.specs.Seen.{Seen}
+use Rattle.three_stores.specs.Stores.{Stores}
+use Rattle.three_stores.specs.declared.limbo.Retired.{Retired}
+use Rattle.three_stores.proofs.Staying.{same_name, own_name, pinned_from, stay_by, stay_cases, stay_from}
+use Rattle.three_stores.proofs.Sparing.{more_shown}
+use Rattle.three_stores.proofs.There.{row_listed}
+
+-- NAMES
+
+leaves_from : (files : List Retired) (name : Name) → list_any (λ (r : Retired). is_same r.name name) files ≡ true → Leaves files name
+leaves_from files name any =
+    let found = Any-from_list_any (λ (r : Retired). is_same r.name name) files any in
+    (found.1, (found.0, found.2, found.3), same_name found.1.name name found.4)
+
+leaves_to : (files : List Retired) (name : Name) → Leaves files name → list_any (λ (r : Retired). is_same r.name name) files ≡ true
+leaves_to files name l = list_any-from_Any (λ (r : Retired). is_same r.name name) files (l.1.0, l.0, l.1.1, l.1.2, subst (λ (n : Name). is_same l.0.name n ≡ true) l.2 (own_name l.0.name))
+
+-- one that doesn't leave isn't free
+pub stays_there : (pins : FinMap nat_cmp PinOf) (files : List Retired) (name : Name) (b : Bool) → b ≡ list_any (λ (r : Retired). is_same r.name name) files → b ≡ false → IsFree pins files name → ⊥
+stays_there pins files name b is t free = let yes : b ≡ true = is ∙ leaves_to files name free.leaves in cc (yes, t)
+
+-- one that leaves is free where no pin names it
+pub free_leaves : (table : FinMap nat_cmp PinState) (pins : FinMap nat_cmp PinOf) (files : List Retired) (name : Name) (b p : Bool) → b ≡ list_any (λ (r : Retired). is_same r.name name) files → b ≡ true → Agree table pins → (IsPinned table name → p ≡ true) → p ≡ false → IsFree pins files name
+free_leaves table pins files name b p is t agree says none = record {
+  leaves = leaves_from files name (sym is ∙ t);
+  free = λ pinned. let yes : p ≡ true = says (pinned_from table pins name agree pinned) in absurd (cc (yes, none));
+}
+
+-- LISTS
+
+pub all_stay : (P Q : Retired → Type 0) (xs : List Retired) → All P xs → Stay P Q xs xs
+all_stay P Q [] all = refl
+all_stay P Q (x ∷ xs) all = inl (xs, All-head P x xs all, refl, all_stay P Q xs (All-tail P x xs all))
+
+pub spares_more : (pins : FinMap nat_cmp PinOf) (copied : List Name) (files limbo : List Retired) → All (Contains limbo) files → (a b : Files) → Spares pins copied files a b → Spares pins copied limbo a b
+spares_more pins copied files limbo among a b spares n other = spares n (λ r within is. other r (All-contains (Contains limbo) files r among within) is)
+
+pub removes_more : (pins : FinMap nat_cmp PinOf) (copied : List Name) (files limbo : List Retired) (was later : Files) (opened after : Name → ℕ) (old new : Past) → All (Contains limbo) files → Removes pins copied files was later opened after old new → Removes pins copied limbo was later opened after old new
+removes_more pins copied files limbo was later opened after old new among removes = record {
+  any_moment = passes_weaker (Spares pins copied files) (Spares pins copied limbo) old new removes.any_moment (λ a c left step. spares_more pins copied files limbo among a c step);
+  spares = spares_more pins copied files limbo among was later removes.spares;
+  fewer = removes.fewer;
+}
+
+no_name : (name : Name) → Contains [] name → ⊥
+no_name name (k, lt, is) = omega (arith, lt)
+
+-- what a pin names is in limbo still
+pub pinned_stays : (pins : FinMap nat_cmp PinOf) (files limbo left : List Retired) → Stay (λ r. IsFree pins files r.name → ⊥) (λ r. IsFree pins files r.name) limbo left → (x : Retired) → Contains limbo x → IsNeeded pins [] x.name → Contains left x
+pinned_stays pins files limbo left stay x within needed = elim (stay_cases (λ r. IsFree pins files r.name → ⊥) (λ r. IsFree pins files r.name) limbo left x stay within) [
+  | inl here ↦ here
+  | inr free ↦ elim needed [ inl pinned ↦ absurd (free.free pinned) | inr copied ↦ absurd (no_name x.name copied) ]
+]
+
+pub none_more : (pins : FinMap nat_cmp PinOf) (files limbo left : List Retired) → Stay (λ r. IsFree pins files r.name → ⊥) (λ r. IsFree pins files r.name) limbo left → (x : Retired) → Contains left x → Contains limbo x
+none_more pins files limbo left stay x within = (stay_from (λ r. IsFree pins files r.name → ⊥) (λ r. IsFree pins files r.name) limbo left x stay within).0
+
+-- ENTERING
+
+-- what is listed leaves limbo: it is shown by its list
+pub unlisted_shown : (tells : Bool) (at : Seen) (limbo kept : List Retired) (held : Stores) → Has tells at held → StayUnlisted at limbo kept → KeepsShown tells (beside at limbo) (beside at kept)
+unlisted_shown tells at limbo kept held has stay name bytes was = record {
+  held = elim was.held [
+    | inl h ↦ inl h
+    | inr r ↦ elim (stay_cases (λ x. IsListedName at x.name → ⊥) (λ x. IsListedName at x.name) limbo kept r.file stay r.within) [
+      | inl within ↦ inr (record { file = r.file; within = within; named = r.named; longer = r.longer; numbered = r.numbered; no_shorter = r.no_shorter })
+      | inr l ↦
+          let is : file_of (l.place + 1, at.catalogue.rows) l.entry ≡ name = l.named ∙ r.named in
+          inl (record {
+            place = l.place;
+            manifest = l.manifest;
+            here = l.here;
+            listed = record { entry = l.entry; within = l.within; named = is; longer = All-contains (λ (e : Entry). file_of (l.place + 1, at.catalogue.rows) e ≡ name → length bytes ≤ e.len) l.manifest.entries l.entry (r.no_shorter.listed l.place l.manifest l.here) l.within is };
+            in_doubt = λ unsound. absurd (cc (unsound, has.settled.manifests l.place l.manifest l.here));
+            rows_in_doubt = λ unsound. absurd (cc (unsound, has.settled.catalogue));
+          })
+    ]
+  ];
+  some = was.some;
+  front = was.front;
+}
+
+-- then others come into it
+pub entered_shown : (tells : Bool) (at : Seen) (limbo kept more new : List Retired) (held : Stores) → Has tells at held → StayUnlisted at limbo kept → (new ≡ kept ++ more) ⊎ (new ≡ kept) → KeepsShown tells (beside at limbo) (beside at new)
+entered_shown tells at limbo kept more new held has stay (inl is) name bytes was = more_shown tells (beside at kept) (beside at new) more refl is name bytes (unlisted_shown tells at limbo kept held has stay name bytes was)
+entered_shown tells at limbo kept more new held has stay (inr is) name bytes was = subst (λ (l : List Retired). Shows tells (beside at l) name bytes) (sym is) (unlisted_shown tells at limbo kept held has stay name bytes was)
+
+pub leave_by_list : (at : Seen) (limbo kept : List Retired) → StayUnlisted at limbo kept → LeaveListed at limbo kept
+leave_by_list at limbo kept stay = stay_by (λ x. IsListedName at x.name → ⊥) (λ x. IsListedName at x.name) (λ x. Unit {0}) (λ x. IsListedName at x.name) (λ r. Unit {0}) (λ r known not_listed. tt) (λ r known listed. listed) limbo kept (λ k d lt. tt) stay
+
+-- each entry of a series is of a row
+pub entries_rows : (tells : Bool) (at : Seen) (held : Stores) (i : ℕ) (m : ManifestState) (row n : ℕ) → Has tells at held → slice_get at.manifests i ≡ Some m → All (λ (e : Entry). e.series < length at.catalogue.rows) (oldest_entries row n m.entries)
+entries_rows tells at held i m row n has here =
+    All-take (λ (e : Entry). e.series < length at.catalogue.rows) n (filter (λ (e : Entry). e.series == row) m.entries)
+    (All-filter (λ (e : Entry). e.series == row) (λ (e : Entry). e.series < length at.catalogue.rows) m.entries (λ k d lt. row_listed tells at held (i + 1) (get_or m.entries k d) has (record { place = i; manifest = m; is = refl; here = here; listed = Contains-get_or m.entries k d lt })))

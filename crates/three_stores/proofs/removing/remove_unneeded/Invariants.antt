@@ -1,0 +1,12 @@
+use Rattle.std.proofs.Common.{◌≡◌, ◌≤◌, None, take}
+use Rattle.std.specs.Prelude.{IsTrue}
+use Rattle.three_stores.specs.Limbo.{Removes, AreFree}
+use Rattle.three_stores.proofs.removing.remove_unneeded.Given as goal
+
+-- of the files so far each that isn't needed is gone
+abbrev pub invariant-loop-file : goal.invariant-loop-file
+invariant-loop-file g l = record {
+  removes : IsTrue g.D.Disk.tells → Removes l.pinned l.copied l.files (g.D.Disk.files l.fn.disk) (g.D.Disk.files l.disk) (g.D.Disk.opened l.fn.disk) (g.D.Disk.opened l.disk) (g.D.Disk.past l.fn.disk) (g.D.Disk.past l.disk);
+  gone : IsTrue g.D.Disk.tells → AreFree l.pinned l.copied (λ n. g.D.Disk.files l.disk n ≡ None) (take l.file-index l.files);
+  faults : g.D.Disk.faults l.fn.disk ≤ g.D.Disk.faults l.disk;
+}

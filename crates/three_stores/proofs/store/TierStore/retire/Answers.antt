@@ -1,0 +1,84 @@
+use Rattle.std.proofs.Common.{Err, Result, List, [], ◌∙◌, ap, subst, sym}
+use Rattle.std.specs.Prelude.{OnErr}
+use Rattle.std.specs.FinMap.{FinMap}
+use Rattle.std.specs.Ordering.{nat_cmp}
+use Rattle.std.proofs.lemmas.Result.{err_from_is_err_and}
+use Rattle.disk_model.specs.declared.disk.DiskErr.{DiskErr}
+use Rattle.pinned_pieces.specs.Pieces.{PinOf}
+use Rattle.pv_catalog.specs.Catalogue.{CatalogueState}
+use Rattle.pv_catalog.specs.Rows.{KeepsRows}
+use Rattle.tier_store.specs.Ends.{end_of_disk}
+use Rattle.three_stores.specs.Change.{Changes}
+use Rattle.three_stores.specs.Limbo.{LimboStands, IsKeptName}
+use Rattle.three_stores.specs.Retiring.{retiring, Enter, Remain, StayOrListed}
+use Rattle.three_stores.specs.Seen.{seen_on}
+use Rattle.three_stores.specs.declared.limbo.Retired.{Retired}
+use Rattle.three_stores.specs.declared.retirement.RetireEnd.{RetireEnd}
+use Rattle.three_stores.proofs.Acting.{has_one, cut_acts, then_acts}
+use Rattle.three_stores.proofs.Leaving.{all_still}
+use Rattle.three_stores.proofs.Staying.{limbo_kept}
+use Rattle.three_stores.proofs.store.TierStore.retire.Goals as goal
+
+pub retire_settled-requires-clause-has : goal.retire_settled-requires-clause-has
+retire_settled-requires-clause-has g c = let was = c.requires.begun in has_one g.D.Disk.tells _ was.0 was.1 (c.in_ok-review.ensures.settled was.0 was.1 was.2)
+
+pub retire_settled-requires-clause-stands : goal.retire_settled-requires-clause-stands
+retire_settled-requires-clause-stands g c =
+    let disk = g.D.Disk in
+    let old = c.args.self.now in
+    let mid = c.review.new.self in
+    let before = seen_on disk.files disk.opened disk.past disk.faults old.catalogue old.manifests.items old.disk in
+    let between = seen_on disk.files disk.opened disk.past disk.faults mid.catalogue mid.manifests.items mid.disk in
+    subst (λ (l : List Retired). LimboStands between l) (sym (ap (λ l. l.items) c.review.ensures.limbo)) (limbo_kept before between old.limbo.items c.review.ensures.keeps c.review.ensures.granularity c.requires.stands)
+
+pub returns-in_err-review-clause-acts : goal.returns-in_err-review-clause-acts
+returns-in_err-review-clause-acts g c =
+    let p = err_from_is_err_and c.from_residual.result c.from_residual.ensures.1 in
+    cut_acts g.D.Disk.tells _ _ _ c.review.result c.in_err-review.field-0.0 _ c.in_err-review.was (ap (λ (r : Result RetireEnd DiskErr). end_of_disk r) (p.1 ∙ ap (λ (x : DiskErr). Err x) p.2)) (λ settled. (tt, (c.review.ensures.nothing settled).0)) c.in_err-review.ensures.still c.review.ensures.granularity c.review.ensures.reads
+
+pub returns-in_err-review-clause-failed : goal.returns-in_err-review-clause-failed
+returns-in_err-review-clause-failed g c =
+    let p = err_from_is_err_and c.from_residual.result c.from_residual.ensures.1 in
+    rw p.1 (all_still _ c.args.self.now.limbo.items c.review.new.self.limbo.items (ap (λ l. l.items) c.review.ensures.limbo))
+
+pub returns-in_err-review-clause-shown : goal.returns-in_err-review-clause-shown
+returns-in_err-review-clause-shown g c name bytes kept was = c.review.ensures.shown name bytes was
+
+pub returns-in_err-review-clause-stands : goal.returns-in_err-review-clause-stands
+returns-in_err-review-clause-stands g c =
+    let disk = g.D.Disk in
+    let old = c.args.self.now in
+    let mid = c.review.new.self in
+    let before = seen_on disk.files disk.opened disk.past disk.faults old.catalogue old.manifests.items old.disk in
+    let between = seen_on disk.files disk.opened disk.past disk.faults mid.catalogue mid.manifests.items mid.disk in
+    subst (λ (l : List Retired). LimboStands between l) (sym (ap (λ l. l.items) c.review.ensures.limbo)) (limbo_kept before between old.limbo.items c.review.ensures.keeps c.review.ensures.granularity c.requires.stands)
+
+pub returns-clause-acts : goal.returns-clause-acts
+returns-clause-acts g c =
+    let disk = g.D.Disk in
+    let old = c.args.self.now in
+    let mid = c.review.new.self in
+    let new = c.retire_settled.new.self in
+    let between = seen_on disk.files disk.opened disk.past disk.faults mid.catalogue mid.manifests.items mid.disk in
+    let after = seen_on disk.files disk.opened disk.past disk.faults new.catalogue new.manifests.items new.disk in
+    let end = end_of_disk c.retire_settled.result in
+    then_acts disk.tells (retiring c.args.place c.args.row c.args.published.now (Remain disk.tells after old.pinned old.limbo.items new.limbo.items) (Enter after old.limbo.items new.limbo.items)) _ _ _ (end_of_disk c.review.result) _ c.in_ok-review.ensures.settled (λ held has. rw (c.review.ensures.nothing has.settled).1 has) c.review.ensures.granularity c.review.ensures.reads
+    (subst (λ (l : List Retired). Changes disk.tells (retiring c.args.place c.args.row c.args.published.now (Remain disk.tells after old.pinned l new.limbo.items) (Enter after l new.limbo.items)) between after end) (ap (λ l. l.items) c.review.ensures.limbo)
+    (subst (λ (p : FinMap nat_cmp PinOf). Changes disk.tells (retiring c.args.place c.args.row c.args.published.now (Remain disk.tells after p mid.limbo.items new.limbo.items) (Enter after mid.limbo.items new.limbo.items)) between after end) c.review.ensures.pins c.retire_settled.ensures.changes))
+
+pub returns-clause-failed : goal.returns-clause-failed
+returns-clause-failed g c =
+    let disk = g.D.Disk in
+    let new = c.retire_settled.new.self in
+    let after = seen_on disk.files disk.opened disk.past disk.faults new.catalogue new.manifests.items new.disk in
+    subst (λ (l : List Retired). OnErr c.retire_settled.result (StayOrListed after l new.limbo.items)) (ap (λ l. l.items) c.review.ensures.limbo) c.retire_settled.ensures.failed
+
+pub returns-clause-shown : goal.returns-clause-shown
+returns-clause-shown g c name bytes kept was =
+    let disk = g.D.Disk in
+    let new = c.retire_settled.new.self in
+    let after = seen_on disk.files disk.opened disk.past disk.faults new.catalogue new.manifests.items new.disk in
+    c.retire_settled.ensures.shown name bytes (subst (λ (p : FinMap nat_cmp PinOf). IsKeptName after p [] name) (sym c.review.ensures.pins) kept) (c.review.ensures.shown name bytes was)
+
+pub returns-clause-keeps : goal.returns-clause-keeps
+returns-clause-keeps g c = subst (λ (s : CatalogueState). KeepsRows c.args.self.now.catalogue.rows s.rows) (sym c.retire_settled.ensures.same.0) c.review.ensures.keeps

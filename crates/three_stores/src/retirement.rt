@@ -1,0 +1,134 @@
+// The retirement: the oldest files of a row leave a store's list.
+//
+// They go to limbo first, so that what is pinned is there whatever comes of the commit. Those that no pin names are removed behind it.
+ghost use Rattle.std.specs.Prelude.{◌≡◌, ◌≤◌, ◌<◌, ◌+◌, ℕ, Ok, Some, None, OnErr, Contains, length, map, slice_get};
+ghost use Rattle.pv_catalog.specs.Rows.{KeepsRows};
+ghost use Rattle.store_manifest.specs.Manifest.{ManifestState};
+ghost use Rattle.tier_store.specs.Ends.{end_of_disk};
+ghost use Rattle.tier_store.specs.Held.{Filed};
+ghost use Rattle.three_stores.specs.Stores.{Stores};
+ghost use Rattle.three_stores.specs.Seen.{seen};
+ghost use Rattle.three_stores.specs.Change.{Has, IsOpen, Changes, Acts};
+ghost use Rattle.three_stores.specs.Limbo.{LimboStands};
+ghost use Rattle.three_stores.specs.Pinned.{seen_all, KeepsShown};
+ghost use Rattle.three_stores.specs.Retiring.{oldest, oldest_entries, drop_entry, retired_of, dropping, retiring, HasGrown, HasNotGrown, Enter, Remain, ShowsKept, StayOrListed};
+ghost use Rattle.three_stores.specs.declared.retirement.RetireEnd.TheVariants.{Again};
+
+use crate::TierStore;
+use crate::retiring::oldest;
+use disk_model::{Disk, DiskErr};
+use store_manifest::{Change, Entry};
+use tier_store::relist;
+
+/// How a retirement ended.
+#[derive(Clone, Copy, Debug, PartialEq, Eq)]
+pub enum RetireEnd {
+    /// The store lists the files no more. Those that a pin names are in limbo, and the others are removed.
+    Retired,
+    /// The store lists the files no more, but the disk failed before all were removed that no pin names: all of them are in limbo.
+    Unremoved,
+    /// A file is listed at `len` bytes, of which `copied` were published. Nothing has changed.
+    Again { len: u64, copied: u64 },
+}
+
+// The first entry that is listed longer than it was published: its length, and the published one.
+fn grown(now: &[Entry], published: &[u64]) -> Option<(u64, u64)>
+    requires { length now.now ≤ length published.now }
+    ensures grown { (len copied : ℕ) → result ≡ Some (len, copied) → HasGrown published.now now.now len copied }
+    ensures none { result ≡ None → (k : ℕ) → HasNotGrown published.now now.now k }
+{
+    for (i, entry) in now.iter().enumerate() {
+        if entry.len > published[i] {
+            return Some((entry.len, published[i]));
+        }
+    }
+    None
+}
+
+impl<D: Disk> TierStore<D> {
+    // Drops the oldest entries of a row at a place in one commit, where no change stands in doubt and their files are in limbo.
+    fn drop_oldest(
+        &mut self,
+        place: usize,
+        row: u32,
+        n: usize,
+        drops: &[Change],
+    ) -> Result<(), DiskErr>
+        requires within { place < length self.old.manifests.items }
+        requires few { length drops.now ≤ 65_536 }
+        requires has { (held : Stores) × Has D.tells (seen D.Disk self.old) held }
+        requires drops { (m : ManifestState) → slice_get self.old.manifests.items place ≡ Some m → drops.now ≡ map drop_entry (oldest_entries row n m.entries) }
+        requires handed { (held : Stores) (f : Filed) → Has D.tells (seen D.Disk self.old) held → Contains (oldest place row n held) f → Contains self.old.limbo.items (retired_of (place + 1, self.old.catalogue.rows) f.entry) }
+
+        ensures changes { Changes D.tells (dropping place row n) (seen D.Disk self.old) (seen D.Disk self.new) (end_of_disk result) }
+        ensures shown { KeepsShown D.tells (seen_all D.Disk self.old) (seen_all D.Disk self.new) }
+        ensures catalogue { self.new.catalogue ≡ self.old.catalogue }
+        ensures pins { self.new.pinned ≡ self.old.pinned }
+        ensures limbo { self.new.limbo ≡ self.old.limbo }
+    {
+        relist(&mut self.disk, &mut self.manifests[place], drops)?;
+        Ok(())
+    }
+
+    // Retires where no change stands in doubt.
+    fn retire_settled(
+        &mut self,
+        place: usize,
+        row: u32,
+        published: &[u64],
+    ) -> Result<RetireEnd, DiskErr>
+        requires within { place < 2 }
+        requires few { length published.now ≤ 65_536 }
+        requires has { (held : Stores) × Has D.tells (seen D.Disk self.old) held }
+        requires stands { LimboStands (seen D.Disk self.old) self.old.limbo.items }
+
+        ensures changes { Changes D.tells (retiring place row published.now (Remain D.tells (seen D.Disk self.new) self.old.pinned self.old.limbo.items self.new.limbo.items) (Enter (seen D.Disk self.new) self.old.limbo.items self.new.limbo.items)) (seen D.Disk self.old) (seen D.Disk self.new) (end_of_disk result) }
+        ensures shown { ShowsKept D.tells self.old.pinned (seen_all D.Disk self.old) (seen_all D.Disk self.new) }
+        ensures again { (len copied : ℕ) → result ≡ Ok (Again len copied) → self.new.limbo ≡ self.old.limbo }
+        ensures failed { OnErr result (StayOrListed (seen D.Disk self.new) self.old.limbo.items self.new.limbo.items) }
+        ensures stands { LimboStands (seen D.Disk self.new) self.new.limbo.items }
+        ensures same { (self.new.catalogue ≡ self.old.catalogue) × (self.new.pinned ≡ self.old.pinned) }
+    {
+        let n = published.len();
+        let entries = oldest(self.manifests[place].entries(row), n);
+        if let Some((len, copied)) = grown(entries, published) {
+            return Ok(RetireEnd::Again { len, copied });
+        }
+        let leaving = self.hand_over(place, row, n)?;
+        self.drop_oldest(place, row, n, &leaving.drops)?;
+        Ok(self.remove_handed(&leaving.files))
+    }
+
+    /// Takes the oldest files of a row, as many as lengths are given, from the list at a place, which is a store's number less one: of
+    /// store 1 or 2. `published` has how much of each the next store lists, oldest first. A change that stands in doubt is settled first.
+    /// `Again` comes exactly where a file is listed longer than it was published, the first of these, and nothing has changed then.
+    ///
+    /// Else the files go to limbo, one commit drops them from the list, and those are removed for good that no pin names; these leave
+    /// limbo. A crash at any moment leaves what was held, or that without the files. What is pinned stays as it is, whatever is answered.
+    ///
+    /// After `Unremoved`, which is told where the disk failed or wanted memory behind the commit, all the files are in limbo, for a sweep.
+    /// After `Fault`, which comes only where the disk's count of faults rose in the call, it may not be known whether the commit was
+    /// made; the next call that changes the stores finds out. After `Memory` what was held is still held.
+    pub fn retire(
+        &mut self,
+        place: usize,
+        row: u32,
+        published: &[u64],
+    ) -> Result<RetireEnd, DiskErr>
+        requires within { place < 2 }
+        requires few { length published.now ≤ 65_536 }
+        requires begun { (before : Stores) × (after : Stores) × IsOpen D.tells (seen D.Disk self.old) before after }
+        requires stands { LimboStands (seen D.Disk self.old) self.old.limbo.items }
+
+        ensures acts { Acts D.tells (retiring place row published.now (Remain D.tells (seen D.Disk self.new) self.old.pinned self.old.limbo.items self.new.limbo.items) (Enter (seen D.Disk self.new) self.old.limbo.items self.new.limbo.items)) (seen D.Disk self.old) (seen D.Disk self.new) (end_of_disk result) }
+        ensures again { (len copied : ℕ) → result ≡ Ok (Again len copied) → self.new.limbo ≡ self.old.limbo }
+        ensures failed { OnErr result (StayOrListed (seen D.Disk self.new) self.old.limbo.items self.new.limbo.items) }
+        ensures shown { ShowsKept D.tells self.old.pinned (seen_all D.Disk self.old) (seen_all D.Disk self.new) }
+        ensures stands { LimboStands (seen D.Disk self.new) self.new.limbo.items }
+        ensures keeps { KeepsRows self.old.catalogue.rows self.new.catalogue.rows }
+        ensures pins { self.new.pinned ≡ self.old.pinned }
+    {
+        self.review()?;
+        self.retire_settled(place, row, published)
+    }
+}

@@ -1,0 +1,59 @@
+// The sweep: retired files that nothing needs any more are removed, and leave limbo.
+ghost use Rattle.std.specs.Prelude.{◌≡◌, IfOk, OnOk, OnErr, IsTrue};
+ghost use Rattle.pv_catalog.specs.Rows.{KeepsRows};
+ghost use Rattle.tier_store.specs.Ends.{end_of_disk};
+ghost use Rattle.three_stores.specs.Stores.{Stores};
+ghost use Rattle.three_stores.specs.Seen.{seen, IsSettled};
+ghost use Rattle.three_stores.specs.Change.{Has, IsOpen, Changes, Acts};
+ghost use Rattle.three_stores.specs.Pinned.{seen_all};
+ghost use Rattle.three_stores.specs.Limbo.{LimboStands, IsSwept, LeaveListed, AreGone, LeavesKept, staying};
+
+use crate::TierStore;
+use crate::limbo::leave_listed;
+use crate::removing::clear_limbo;
+use disk_model::{Disk, DiskErr, FileName};
+
+impl<D: Disk> TierStore<D> {
+    // Sweeps where no change stands in doubt.
+    fn sweep_settled(&mut self, copied: &[FileName]) -> Result<u64, DiskErr>
+        requires has { (held : Stores) × Has D.tells (seen D.Disk self.old) held }
+        requires stands { LimboStands (seen D.Disk self.old) self.old.limbo.items }
+
+        ensures changes { Changes D.tells staying (seen D.Disk self.old) (seen D.Disk self.new) (end_of_disk result) }
+        ensures swept { IfOk result (IsSwept (seen D.Disk self.new) self.old.pinned copied.now self.old.limbo.items self.new.limbo.items) }
+        ensures gone { IsTrue D.tells → OnOk result (AreGone (seen D.Disk self.new) self.old.pinned copied.now self.old.limbo.items) }
+        ensures failed { OnErr result (LeaveListed (seen D.Disk self.new) self.old.limbo.items self.new.limbo.items) }
+        ensures leaves { LeavesKept D.tells self.old.pinned copied.now (seen_all D.Disk self.old) (seen_all D.Disk self.new) }
+        ensures stands { LimboStands (seen D.Disk self.new) self.new.limbo.items }
+        ensures same { (self.new.catalogue ≡ self.old.catalogue) × (self.new.manifests ≡ self.old.manifests) × (self.new.pinned ≡ self.old.pinned) }
+    {
+        leave_listed(&self.manifests, &mut self.limbo);
+        clear_limbo(&mut self.disk, &mut self.limbo, &self.pinned, copied)
+    }
+
+    /// Removes the files of limbo that nothing needs any more, and answers how many these are. `copied` names the files into which running
+    /// moves have copied. A change that stands in doubt is settled first. Then a file that its store lists again leaves limbo, uncounted; and
+    /// of the others those leave it, and are removed for good, that no pin names and into which no running move has copied. What is listed,
+    /// pinned or copied into stays as it is, at every moment of the call.
+    ///
+    /// After `Fault`, which comes only where the disk's count of faults rose in the call, and after `Memory`, which only the disk answers,
+    /// each file that no store lists is in limbo still. Some of them may be removed already; a later sweep counts these too. Where no
+    /// change stood in doubt before the call, none does then.
+    pub fn sweep(&mut self, copied: &[FileName]) -> Result<u64, DiskErr>
+        requires begun { (before : Stores) × (after : Stores) × IsOpen D.tells (seen D.Disk self.old) before after }
+        requires stands { LimboStands (seen D.Disk self.old) self.old.limbo.items }
+
+        ensures acts { Acts D.tells staying (seen D.Disk self.old) (seen D.Disk self.new) (end_of_disk result) }
+        ensures swept { IfOk result (IsSwept (seen D.Disk self.new) self.old.pinned copied.now self.old.limbo.items self.new.limbo.items) }
+        ensures gone { IsTrue D.tells → OnOk result (AreGone (seen D.Disk self.new) self.old.pinned copied.now self.old.limbo.items) }
+        ensures failed { OnErr result (LeaveListed (seen D.Disk self.new) self.old.limbo.items self.new.limbo.items) }
+        ensures leaves { LeavesKept D.tells self.old.pinned copied.now (seen_all D.Disk self.old) (seen_all D.Disk self.new) }
+        ensures stands { LimboStands (seen D.Disk self.new) self.new.limbo.items }
+        ensures keeps { KeepsRows self.old.catalogue.rows self.new.catalogue.rows }
+        ensures pins { self.new.pinned ≡ self.old.pinned }
+        ensures nothing { IsSettled (seen D.Disk self.old) → (self.new.catalogue ≡ self.old.catalogue) × (self.new.manifests ≡ self.old.manifests) }
+    {
+        self.review()?;
+        self.sweep_settled(copied)
+    }
+}
