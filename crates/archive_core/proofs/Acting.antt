@@ -14,8 +14,10 @@ use Rattle.act_model.specs.Crash.{before_it, settled_there, with_change}
 use Rattle.act_model.specs.Machine.{Machine, Change}
 use Rattle.act_model.specs.Outcome.{Acts, all_go, refused_at_once, refused, runs, faults_first, faults_within, wants_memory, wants_memory_settled}
 use Rattle.act_model.specs.Reply.{Reply}
+use Rattle.act_model.specs.declared.acts.Answer.TheVariants as answer
 use Rattle.archive_core.specs.Ends.{Steps, SettlesTo, StandsStill, LeavesBetween, HoldsChanged, ChangesTo, LeavesWithin, LeavesByAct, disk_reply}
 use Rattle.archive_core.specs.Parts.{Parts}
+use Rattle.archive_core.specs.Pinning.{PinEnds}
 use Rattle.archive_core.specs.Stands.{Stands, Rests}
 use Rattle.archive_core.proofs.Crashes.{crash_leaves}
 
@@ -47,15 +49,35 @@ module _ (tells : Bool) (refuse : Machine → Option Reply) (run : Machine → R
         let was : m.faults ≡ p.at.faults = s.faults in
         (record mid.0 { faults = q.at.faults }, refused answer (pass m s) mid.1 (sym (refuses mid.0 q.at.faults) ∙ why (record mid.0 { faults = q.at.faults }) mid.2.stands) refl (omega (arith, was, more)), mid.2.stands)
 
+    -- it has run and made no change, or memory was wanting
+    pub ran_ends : Passed q → (new : Parts) (answer : Reply) → p.at.faults ≤ new.at.faults → ((m : Machine) → Rests tells q m → PinEnds tells run m answer new) → ActEnds answer new
+    ran_ends passed new answer later ends = λ m s.
+        let mid = settles m s in
+        let n : Machine = record mid.0 { faults = q.at.faults } in
+        let was : m.faults ≡ p.at.faults = s.faults in
+        let free = sym (refuses mid.0 q.at.faults) ∙ passed n mid.2.stands in
+        elim (ends n mid.2) [
+          | inl spent ↦ (n, subst (λ (a : Reply). Acts refuse run change all_go m a n) (sym spent.0) (wants_memory_settled (pass m s) mid.1 refl (omega (arith, was, more))), spent.1)
+          | inr ran ↦ (let now : ran.0.faults ≡ new.at.faults = ran.2.faults in (ran.0, runs answer (pass m s) mid.1 free (goes mid.0 q.at.faults answer ran.0 ran.1) (omega (arith, was, later, now)), ran.2))
+        ]
+
+    -- there was no memory for it
+    pub spent_ends : ((m : Machine) → Rests tells q m → Stands tells q m) → ActEnds answer.Memory q
+    spent_ends stands = λ m s.
+        let mid = settles m s in
+        let n : Machine = record mid.0 { faults = q.at.faults } in
+        let was : m.faults ≡ p.at.faults = s.faults in
+        (n, wants_memory_settled (pass m s) mid.1 refl (omega (arith, was, more)), stands n mid.2)
+
     module _ (passed : Passed q) (new : Parts) (c : Change) where
-      pub done_ends : {A : Type 0} (a : A) (answer : Reply) → ((m : Machine) → Rests tells q m → ChangesTo tells c q m new (Ok a)) → ((m : Machine) → Stands tells q m → run m answer (record (made [] c m) { faults = new.at.faults })) → ActEnds answer new
+      pub done_ends : {A : Type 0} (a : A) (answer : Reply) → ((m : Machine) → Rests tells q m → ChangesTo tells c q m new (Ok a)) → ((m : Machine) → Rests tells q m → run m answer (record (made [] c m) { faults = new.at.faults })) → ActEnds answer new
       done_ends {A} a answer ends ran = λ m s.
           let mid = settles m s in
           let n : Machine = record mid.0 { faults = q.at.faults } in
           let end = ends n mid.2 in
           let was : m.faults ≡ p.at.faults = s.faults in
           let later = end.faults in
-          (record (made [] c n) { faults = new.at.faults }, runs answer (pass m s) mid.1 (sym (refuses mid.0 q.at.faults) ∙ passed n mid.2.stands) (goes mid.0 q.at.faults answer (record (made [] c n) { faults = new.at.faults }) (ran n mid.2.stands)) (omega (arith, was, more, later)), end.ends)
+          (record (made [] c n) { faults = new.at.faults }, runs answer (pass m s) mid.1 (sym (refuses mid.0 q.at.faults) ∙ passed n mid.2.stands) (goes mid.0 q.at.faults answer (record (made [] c n) { faults = new.at.faults }) (ran n mid.2)) (omega (arith, was, more, later)), end.ends)
 
       module _ (own : (m : Machine) → Stands tells q m → change m ≡ Some c) where
         pub failed_ends : {A : Type 0} (e : DiskErr) → ((m : Machine) → Rests tells q m → ChangesTo {A = A} tells c q m new (Err e)) → ActEnds (disk_reply e) new

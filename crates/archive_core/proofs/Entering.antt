@@ -69,7 +69,7 @@ module _ (tells : Bool) (name : List ℕ) (about : About) (p : Parts) where
     module _ (free_then : IsFree q) (new : Parts) where
       pub register_done : (row : ℕ) → row ≡ length q.at.catalogue.rows → ((m : Machine) → Rests tells q m → ChangesTo tells (AddsRow name about) q m new (Ok row)) → RegisterEnds (register_reply (Ok row)) new
       register_done row number ends = done_ends tells refuse run change (counted name) (λ m f. refl) (λ m f answer new ran. ran) p q (passed p free) settles more (passed q free_then) new (AddsRow name about) row (register_reply (Ok row)) ends
-          (λ m s. (ap (λ (n : ℕ). Registered n) (number ∙ sym s.rows.count), refl))
+          (λ m r. (ap (λ (n : ℕ). Registered n) (number ∙ sym r.stands.rows.count), refl))
 
       pub register_failed : (e : DiskErr) → ((m : Machine) → Rests tells q m → ChangesTo {A = ℕ} tells (AddsRow name about) q m new (Err e)) → RegisterEnds (register_reply (Err (Disk e))) new
       register_failed e ends = failed_ends tells refuse run change (counted name) (λ m f. refl) (λ m f answer new ran. ran) p q (passed p free) settles more (passed q free_then) new (AddsRow name about) (owned q) e ends

@@ -24,7 +24,7 @@ drop_least {A} (suc n) (x ∷ xs) =
     let less : min (suc n) (length (x ∷ xs)) ≡ suc (min n (length xs)) = omega arith in
     ap (λ k. drop k (x ∷ xs)) less ∙ drop_least n xs
 
-take_whole : {A : Type 0} (n : ℕ) (xs : List A) → length xs ≤ n → take n xs ≡ xs
+pub take_whole : {A : Type 0} (n : ℕ) (xs : List A) → length xs ≤ n → take n xs ≡ xs
 take_whole {A} n [] low = take_none n
 take_whole {A} zero (x ∷ xs) low = absurd (omega (arith, low))
 take_whole {A} (suc n) (x ∷ xs) low = ap (λ ys. x ∷ ys) (take_whole n xs (omega (arith, low)))

@@ -1,21 +1,26 @@
 -- The rows in memory beside the machine's.
-use Rattle.std.proofs.Common.{◌≡◌, ◌≢◌, ◌⊎◌, inl, inr, ℕ, zero, suc, ◌<◌, ◌≤◌, ◌+◌, List, [], ◌∷◌, length, take, drop, Option, Some, None, Bool, true, false, refl, sym, ◌∙◌, ap, subst, arith}
-use Rattle.std.specs.Prelude.{◌==◌, ◌&&◌, slice_get, slice_set, map, IfSome, nat_lt, if◌then◌else◌}
+use Rattle.std.proofs.Common.{◌≡◌, ◌≢◌, ◌⊎◌, inl, inr, ℕ, zero, suc, ◌<◌, ◌≤◌, ◌+◌, List, [], ◌∷◌, length, take, drop, max, cond, Option, Some, None, Bool, true, false, refl, sym, ◌∙◌, ap, subst, arith}
+use Rattle.std.specs.Prelude.{◌==◌, ◌&&◌, slice_get, slice_set, map, IfSome, nat_le, nat_lt, if◌then◌else◌}
 use Rattle.std.proofs.lemmas.Bool.Decides.{nat_tests}
 use Rattle.std.proofs.lemmas.Option.{same_Some, slice_get_within}
 use Rattle.append_buffer.specs.Tails.{TailState, tail_at}
 use Rattle.append_buffer.specs.Tails as tails
+use Rattle.event_types.specs.declared.about.Method.{Method}
+use Rattle.event_types.specs.declared.about.Method.TheVariants.{Monitor, Scan}
+use Rattle.series_model.specs.Sampling.{first_cell}
+use Rattle.series_model.specs.declared.batch.RowSamples.{RowSamples}
 use Rattle.series_model.specs.declared.sample.Sample.{Sample}
 use Rattle.pv_catalog.specs.declared.row.Row.{Row}
 use Rattle.pv_catalog.specs.Rows.{HasName}
-use Rattle.act_model.specs.Rows.{RowState, size_of}
+use Rattle.act_model.specs.Flush.{batch_from, batch_of}
+use Rattle.act_model.specs.Rows.{RowState, size_of, is_empty, period_of}
 use Rattle.act_model.specs.Machine.{Machine, place, find_row, same_bytes, held_bytes}
 use Rattle.act_model.specs.Changes.{each, at}
 use Rattle.act_model.specs.Names.{NamesStep, names_from}
 use Rattle.act_model.specs.declared.acts.Answer.TheVariants.{NamesAre}
 use Rattle.act_model.proofs.Rows.{each_get, length-each}
 use Rattle.archive_core.specs.declared.memory.RowMemory.{RowMemory}
-use Rattle.archive_core.specs.Memory.{IsRowOf, IsRowAt, AreRowsOf}
+use Rattle.archive_core.specs.Memory.{IsRowOf, IsRowAt, AreRowsOf, cell_in, period_in, sampling_by}
 use Rattle.archive_core.proofs.Lists.{same_or_not, get_set_same, get_set_other, element}
 
 -- a row of the catalogue has its row of the machine
@@ -32,6 +37,16 @@ memory_there rows kept ts rs are i low =
     let r = element rs i low in
     let is = are.each i r.0 r.1 in
     slice_get_within kept i is.memory is.there
+
+-- SAMPLING
+
+pub sampling_period : (d : Method) → period_in (sampling_by d) ≡ period_of d
+sampling_period Monitor = refl
+sampling_period (Scan period) = refl
+
+pub sampling_cell : (d : Method) → first_cell ≡ cell_in (sampling_by d)
+sampling_cell Monitor = refl
+sampling_cell (Scan period) = refl
 
 -- NAMES
 
@@ -138,6 +153,47 @@ same_held (t ∷ ts) (u ∷ us) same =
 pub held_is : (rows : List Row) (kept : List RowMemory) (ts : List TailState) (rs : List RowState) → AreRowsOf rows kept ts rs → held_bytes rs ≡ tails.held_bytes ts
 held_is rows kept ts rs are = held_of rs ts (λ i r here. (are.each i r here).is.tail) are.beyond
 
+-- what a batch has of rows from one on that has this tail
+abbrev parts_from : ℕ → List RowState → ℕ → ℕ → List Sample → List RowSamples
+parts_from limit rs k taken xs = cond (nat_le limit taken) [] (cond (is_empty xs) (batch_from limit rs (k + 1) taken) (record { row = k; samples = xs } ∷ batch_from limit rs (k + 1) (taken + size_of xs)))
+
+parts_same : (limit : ℕ) (rs : List RowState) (ts : List TailState) (k taken : ℕ) (xs : List Sample) → ((n : ℕ) → tails.batch_from limit ts (k + 1) n ≡ batch_from limit rs (k + 1) n)
+    → cond (nat_le limit taken) [] (cond (tails.is_empty xs) (tails.batch_from limit ts (k + 1) taken) (record { row = k; samples = xs } ∷ tails.batch_from limit ts (k + 1) (taken + tails.size_of xs))) ≡ parts_from limit rs k taken xs
+parts_same limit rs ts k taken [] rest = ap (λ (parts : List RowSamples). cond (nat_le limit taken) [] parts) (rest taken)
+parts_same limit rs ts k taken (x ∷ xs) rest =
+    let size : taken + tails.size_of (x ∷ xs) ≡ taken + size_of (x ∷ xs) = ap (λ n. taken + n) (sym (size_same (x ∷ xs))) in
+    ap (λ (parts : List RowSamples). cond (nat_le limit taken) [] (record { row = k; samples = x ∷ xs } ∷ parts)) (rest (taken + tails.size_of (x ∷ xs)) ∙ ap (λ n. batch_from limit rs (k + 1) n) size)
+
+-- the tails in memory make the batch that the machine's rows make
+batch_from_same : (limit : ℕ) (rs : List RowState) (ts : List TailState) (k taken : ℕ) → ((i : ℕ) (r : RowState) → slice_get rs i ≡ Some r → r.tail ≡ (tail_at ts i).samples) → ((i : ℕ) → length rs ≤ i → (tail_at ts i).samples ≡ [])
+    → tails.batch_from limit ts k taken ≡ batch_from limit rs k taken
+batch_from_same limit [] [] k taken same beyond = refl
+batch_from_same limit [] (t ∷ ts) k taken same beyond =
+    let none : t.samples ≡ [] = beyond 0 (omega arith) in
+    let rest : tails.batch_from limit ts (k + 1) taken ≡ [] = batch_from_same limit [] ts (k + 1) taken (λ i r here. absurd (cc (here))) (λ i high. beyond (suc i) (omega arith)) in
+    rw none (by_test (nat_le limit taken) (tails.batch_from limit ts (k + 1) taken) rest)
+  where
+    by_test : (b : Bool) (parts : List RowSamples) → parts ≡ [] → cond b [] parts ≡ []
+    by_test true parts is = refl
+    by_test false parts is = is
+batch_from_same limit (r ∷ rs) [] k taken same beyond =
+    let none : r.tail ≡ [] = same 0 r refl in
+    let rest : [] ≡ batch_from limit rs (k + 1) taken = batch_from_same limit rs [] (k + 1) taken (λ i q here. same (suc i) q here) (λ i high. refl) in
+    rw none (by_test (nat_le limit taken) (batch_from limit rs (k + 1) taken) rest)
+  where
+    by_test : (b : Bool) (parts : List RowSamples) → [] ≡ parts → [] ≡ cond b [] parts
+    by_test true parts is = refl
+    by_test false parts is = is
+batch_from_same limit (r ∷ rs) (t ∷ ts) k taken same beyond =
+    let rest : (n : ℕ) → tails.batch_from limit ts (k + 1) n ≡ batch_from limit rs (k + 1) n = λ n. batch_from_same limit rs ts (k + 1) n (λ i q here. same (suc i) q here) (λ i high. beyond (suc i) (omega (arith, high))) in
+    parts_same limit rs ts k taken t.samples rest ∙ ap (parts_from limit rs k taken) (sym (same 0 r refl))
+
+-- what a flush takes of the tails in memory is what the machine's flush takes
+pub batch_is : (limit : ℕ) (rows : List Row) (kept : List RowMemory) (ts : List TailState) (m : Machine) → 1 ≤ limit → AreRowsOf rows kept ts m.rows → tails.batch_of limit ts ≡ batch_of limit m
+batch_is limit rows kept ts m some are =
+    let most : max limit 1 ≡ limit = omega (arith, some) in
+    ap (λ n. tails.batch_from n ts 0 0) most ∙ batch_from_same limit m.rows ts 0 0 (λ i r here. (are.each i r here).is.tail) are.beyond
+
 -- the names of the rows, in order
 pub names_are : (rows : List Row) (kept : List RowMemory) (ts : List TailState) (rs : List RowState) → AreRowsOf rows kept ts rs → map (λ (r : RowState). r.name) rs ≡ map (λ (row : Row). row.name) rows
 names_are rows kept ts rs are = go rs rows are.count (λ i r here. let is = are.each i r here in (is.row, is.here, is.is.name))
@@ -153,6 +209,16 @@ names_are rows kept ts rs are = go rs rows are.count (λ i r here. let is = are.
         cc (head, rest)
 
 -- ONE ROW CHANGES
+
+-- a row is changed by its number
+pub each_to : (f : ℕ → RowState → RowState) (j : ℕ) (rows : List RowState) (k : ℕ) (r : RowState) → slice_get rows k ≡ Some r → slice_get (each f j rows) k ≡ Some (f (j + k) r)
+each_to f j [] k r here = absurd (cc (here))
+each_to f j (q ∷ rows) zero r here =
+    let plain : j ≡ j + 0 = omega arith in
+    ap (λ (n : ℕ). Some (f n q)) plain ∙ ap (λ (w : RowState). Some (f (j + 0) w)) (same_Some q r here)
+each_to f j (q ∷ rows) (suc k) r here =
+    let next : (j + 1) + k ≡ j + suc k = omega arith in
+    each_to f (j + 1) rows k r here ∙ ap (λ (n : ℕ). Some (f n r)) next
 
 other_tail : (ts new : List TailState) (i : ℕ) (row : Row) (kept : RowMemory) (r : RowState) → (tail_at new i).samples ≡ (tail_at ts i).samples → IsRowOf ts i row kept r → IsRowOf new i row kept r
 other_tail ts new i row kept r same is = record { name = is.name; about = is.about; state = is.state; next = is.next; cell = is.cell; period = is.period; tail = is.tail ∙ sym same }

@@ -1,5 +1,5 @@
 -- Lists with one element set.
-use Rattle.std.proofs.Common.{◌≡◌, ◌≢◌, ◌⊎◌, inl, inr, ℕ, zero, suc, ◌<◌, List, [], ◌∷◌, length, get_or, Some, refl, sym, ◌∙◌, ap, arith}
+use Rattle.std.proofs.Common.{◌≡◌, ◌≢◌, ◌⊎◌, inl, inr, ℕ, zero, suc, ◌<◌, List, [], ◌∷◌, ◌++◌, length, get_or, Some, refl, sym, ◌∙◌, ap, arith}
 use Rattle.std.specs.Prelude.{slice_get, slice_set}
 use Rattle.std.proofs.lemmas.Option.{same_Some, slice_get-get_or}
 
@@ -43,3 +43,9 @@ set_same {A} (y ∷ xs) (suc i) x here = ap (λ (l : List A). y ∷ l) (set_same
 -- what is read at a place of the same list
 pub read_in : {A : Type 0} (xs ys : List A) (i : ℕ) (x : A) → ys ≡ xs → x ≡ get_or ys i x → i < length xs → slice_get xs i ≡ Some x
 read_in {A} xs ys i x same is low = read_at xs i x (is ∙ ap (λ (l : List A). get_or l i x) same) low
+
+-- what stands in the front of a list
+pub get_front : {A : Type 0} (xs ys : List A) (i : ℕ) (x : A) → slice_get xs i ≡ Some x → slice_get (xs ++ ys) i ≡ Some x
+get_front {A} [] ys i x here = absurd (cc (here))
+get_front {A} (y ∷ xs) ys zero x here = here
+get_front {A} (y ∷ xs) ys (suc i) x here = get_front xs ys i x here

@@ -23,16 +23,18 @@ use Rattle.tier_store.specs.Held.{Filed, IsListed, samples_of}
 use Rattle.three_stores.specs.Change.{IsKnown, Registers, Switches, Flushes}
 use Rattle.three_stores.specs.Stores.{Stores, list_at, with_rows}
 use Rattle.three_stores.proofs.Places.{manifest_at}
-use Rattle.act_model.specs.Changes.{changed, added, made, of_row}
-use Rattle.act_model.specs.Crash.{DurableRow, kept_of}
+use Rattle.act_model.specs.Changes.{each, changed, added, made, of_row}
+use Rattle.act_model.specs.Crash.{DurableRow, kept_of, kept}
 use Rattle.act_model.specs.Flush.{batch_of}
 use Rattle.act_model.specs.Machine.{Machine, Change, AddsRow, SetsState, Appends}
 use Rattle.act_model.specs.Rows.{RowState, durable, fresh_row}
-use Rattle.act_model.specs.Sound.{IsSound}
+use Rattle.act_model.specs.Sound.{IsSound, MayMake}
 use Rattle.act_model.proofs.Puts.{put_plain}
 use Rattle.act_model.proofs.RowActs.{flush_may}
 use Rattle.act_model.proofs.Rows.{Came, from_row, is_new, came, more_rows}
 use Rattle.archive_core.specs.Stands.{IsDurableAt, HoldsDurable}
+use Rattle.archive_core.proofs.Durable.{kept_each}
+use Rattle.archive_core.proofs.Lists.{get_front}
 
 kept_from : (rs : List RowState) (i : ℕ) (d : DurableRow) → slice_get (map kept_of rs) i ≡ Some d → (r : RowState) × (slice_get rs i ≡ Some r) × (kept_of r ≡ d)
 kept_from [] i d here = absurd (cc (here))
@@ -75,11 +77,6 @@ known_none catalogue ms s known i low =
     let three = known.three in
     let m = manifest_at ms i (omega (arith, low, three)) in
     samples_none m.0.granularity s.rows (list_at i s) (known.each i m.0 m.1).valid.filed.listed
-
-get_front : (xs ys : List Row) (i : ℕ) (x : Row) → slice_get xs i ≡ Some x → slice_get (xs ++ ys) i ≡ Some x
-get_front [] ys i x here = absurd (cc (here))
-get_front (y ∷ xs) ys zero x here = here
-get_front (y ∷ xs) ys (suc i) x here = get_front xs ys i x here
 
 get_last : (xs : List Row) (x : Row) → slice_get (xs ++ x ∷ []) (length xs) ≡ Some x
 get_last [] x = refl
@@ -155,22 +152,33 @@ batch_behind (p ∷ batch) i xs later = by_test (nat_eq p.row i) later (λ ys h.
         ap (λ w. with_batch i w batch) plain ∙ (more (xs ++ p.samples) rest ∙ append_assoc xs p.samples (of_row i batch))
     by_test false later more = more xs later
 
--- what a flush takes of a row is later than all that store 1 lists of it
-taken_later : (limit : ℕ) (m : Machine) (i : ℕ) (r : RowState) → IsSound m → slice_get m.rows i ≡ Some r → RisesFrom (end_of r.short) (of_row i (batch_of limit m))
-taken_later limit m i r sound here =
+-- what a batch takes of the front of a row's tail is later than all that store 1 lists of the row
+pub taken_later : (m : Machine) (batch : List RowSamples) (i : ℕ) (r : RowState) → IsSound m → MayMake m.rule m.told m.rows m.limbo (Appends batch) → slice_get m.rows i ≡ Some r → RisesFrom (end_of r.short) (of_row i batch)
+taken_later m batch i r sound may_make here =
     let row = sound.each_row i r here in
-    let may = flush_may limit m i r here in
-    let later : RisesFrom (end_of (durable r)) (of_row i (batch_of limit m) ++ may.0) = subst (λ (xs : List Sample). RisesFrom (end_of (durable r)) xs) may.1 row.later in
-    let front = RisesFrom-front (end_of (durable r)) (of_row i (batch_of limit m)) may.0 later in
+    let may : (rest : List Sample) × (r.tail ≡ of_row i batch ++ rest) = may_make i r here in
+    let later : RisesFrom (end_of (durable r)) (of_row i batch ++ may.0) = subst (λ (xs : List Sample). RisesFrom (end_of (durable r)) xs) may.1 row.later in
+    let front = RisesFrom-front (end_of (durable r)) (of_row i batch) may.0 later in
     let end = end_of-over (over r.long r.medium) r.short row.short in
-    RisesFrom-lower (end_of r.short) (end_of (durable r)) (of_row i (batch_of limit m)) front (omega (arith, end))
+    RisesFrom-lower (end_of r.short) (end_of (durable r)) (of_row i batch) front (omega (arith, end))
 
-pub flush_holds : (limit : ℕ) (old new : Stores) (m : Machine) → IsSound m → m.limbo ≡ [] → (m.told ≡ true → IsTrue old.stands) → Flushes (batch_of limit m) old new → HoldsDurable old m → HoldsDurable new (made [] (Appends (batch_of limit m)) m)
-flush_holds limit old new m sound none stands flushes holds = durable_made m (Appends (batch_of limit m)) new
+-- what store 1 lists of a row once the batch is appended
+pub short_with : (m : Machine) (batch : List RowSamples) (i : ℕ) (r : RowState) → m.told ≡ true → m.limbo ≡ [] → (changed m.told m.limbo (Appends batch) i r).short ≡ r.short ++ of_row i batch
+short_with m batch i r told none = rw (told, none) (put_plain (of_row i batch) r.short)
+
+-- so far each row's samples in store 1 go where the batch was appended
+pub samples_with : (batch : List RowSamples) (old new : Stores) (m : Machine) → IsSound m → MayMake m.rule m.told m.rows m.limbo (Appends batch) → (m.told ≡ true → IsTrue old.stands) → Flushes batch old new → HoldsDurable old m → m.told ≡ true
+    → (i : ℕ) (r : RowState) → slice_get m.rows i ≡ Some r → samples_of i new.short ≡ samples_of i old.short ++ of_row i batch
+samples_with batch old new m sound may stands flushes holds told i r here =
+    let was : r.short ≡ samples_of i old.short = (holds.each i (kept_of r) (kept_to m.rows i r here)).is.short told in
+    flushes.flushed.samples (stands told) i ∙ batch_behind batch i (samples_of i old.short) (subst (λ (xs : List Sample). RisesFrom (end_of xs) (of_row i batch)) was (taken_later m batch i r sound may here))
+
+pub batch_holds : (batch : List RowSamples) (old new : Stores) (m : Machine) → IsSound m → MayMake m.rule m.told m.rows m.limbo (Appends batch) → m.limbo ≡ [] → (m.told ≡ true → IsTrue old.stands) → Flushes batch old new → HoldsDurable old m → HoldsDurable new (made [] (Appends batch) m)
+batch_holds batch old new m sound may none stands flushes holds = durable_made m (Appends batch) new
     (let count = count_of old m holds in let same = ap (λ (s : Stores). length s.rows) flushes.same in omega (arith, count, same))
     (λ i r here. by_row i r here (holds.each i (kept_of r) (kept_to m.rows i r here))) (λ j r here. absurd (cc (here)))
   where
-    by_row : (i : ℕ) (r : RowState) → slice_get m.rows i ≡ Some r → IsDurableAt m.told old i (kept_of r) → IsDurableAt m.told new i (kept_of (changed m.told m.limbo (Appends (batch_of limit m)) i r))
+    by_row : (i : ℕ) (r : RowState) → slice_get m.rows i ≡ Some r → IsDurableAt m.told old i (kept_of r) → IsDurableAt m.told new i (kept_of (changed m.told m.limbo (Appends batch) i r))
     by_row i r here at = record {
       row = at.row;
       here = ap (λ (s : Stores). slice_get s.rows i) flushes.same ∙ at.here;
@@ -178,13 +186,25 @@ flush_holds limit old new m sound none stands flushes holds = durable_made m (Ap
         name = at.is.name;
         about = at.is.about;
         state = at.is.state;
-        short = λ told.
-            let plain : (changed m.told m.limbo (Appends (batch_of limit m)) i r).short ≡ r.short ++ of_row i (batch_of limit m) = rw (told, none) (put_plain (of_row i (batch_of limit m)) r.short) in
-            let later = taken_later limit m i r sound here in
-            let was : r.short ≡ samples_of i old.short = at.is.short told in
-            let now : samples_of i new.short ≡ samples_of i old.short ++ of_row i (batch_of limit m) = flushes.flushed.samples (stands told) i ∙ batch_behind (batch_of limit m) i (samples_of i old.short) (subst (λ (xs : List Sample). RisesFrom (end_of xs) (of_row i (batch_of limit m))) was later) in
-            plain ∙ (ap (λ (xs : List Sample). xs ++ of_row i (batch_of limit m)) was ∙ sym now);
+        short = λ told. short_with m batch i r told none ∙ (ap (λ (xs : List Sample). xs ++ of_row i batch) (at.is.short told) ∙ sym (samples_with batch old new m sound may stands flushes holds told i r here));
         medium = λ told. at.is.medium told ∙ sym (ap (λ (s : Stores). samples_of i s.medium) flushes.same);
         long = λ told. at.is.long told ∙ sym (ap (λ (s : Stores). samples_of i s.long) flushes.same);
       };
     }
+
+pub flush_holds : (limit : ℕ) (old new : Stores) (m : Machine) → IsSound m → m.limbo ≡ [] → (m.told ≡ true → IsTrue old.stands) → Flushes (batch_of limit m) old new → HoldsDurable old m → HoldsDurable new (made [] (Appends (batch_of limit m)) m)
+flush_holds limit old new m sound none stands flushes holds = batch_holds (batch_of limit m) old new m sound (flush_may limit m) none stands flushes holds
+
+-- what is durable stays where an untold machine appends a batch, or any machine one of nothing
+pub kept_untold : (m : Machine) (batch : List RowSamples) → m.told ≡ false → kept (made [] (Appends batch) m) ≡ kept m
+kept_untold m batch untold = ap (map kept_of) (append-nil (each (changed m.told m.limbo (Appends batch)) 0 m.rows)) ∙ kept_each (changed m.told m.limbo (Appends batch)) 0 m.rows (λ i r. stays i r)
+  where
+    stays : (i : ℕ) (r : RowState) → kept_of (changed m.told m.limbo (Appends batch) i r) ≡ kept_of r
+    stays i r = rw untold refl
+
+pub kept_empty : (m : Machine) → kept (made [] (Appends []) m) ≡ kept m
+kept_empty m = ap (map kept_of) (append-nil (each (changed m.told m.limbo (Appends [])) 0 m.rows)) ∙ kept_each (changed m.told m.limbo (Appends [])) 0 m.rows (λ i r. stays m.told i r)
+  where
+    stays : (told : Bool) (i : ℕ) (r : RowState) → kept_of (changed told m.limbo (Appends []) i r) ≡ kept_of r
+    stays true i r = refl
+    stays false i r = refl

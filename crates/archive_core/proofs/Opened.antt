@@ -1,31 +1,25 @@
 -- The machine of an archive that was just opened.
-use Rattle.std.proofs.Common.{◌≡◌, inl, ℕ, zero, suc, ◌+◌, ◌-◌, ◌≤◌, ◌<◌, ◌^◌, List, [], ◌∷◌, length, Bool, true, false, cond, Some, None, max, min, refl, sym, ◌∙◌, ap, subst, arith}
-use Rattle.std.specs.Prelude.{◌==◌, ◌&&◌, slice_get, map, filter, nat_eq, All, IsTrue}
+use Rattle.std.proofs.Common.{◌≡◌, inl, ℕ, zero, suc, ◌+◌, List, [], ◌∷◌, length, Bool, true, false, Some, None, max, refl, sym, ◌∙◌, ap, subst, arith}
+use Rattle.std.specs.Prelude.{◌&&◌, slice_get, map, IsTrue}
 use Rattle.std.specs.FinMap.{FinMap, get, empty, get-empty}
-use Rattle.std.specs.List.{flat_map}
 use Rattle.std.specs.Ordering.{nat_cmp}
-use Rattle.std.proofs.lemmas.List.Elements.{All-head, All-tail, All-filter}
 use Rattle.std.proofs.lemmas.Option.{same_Some}
 use Rattle.series_model.specs.Sampling.{first_cell}
-use Rattle.series_model.specs.Series.{end_of, end_from, over, IsRising}
+use Rattle.series_model.specs.Series.{end_of, over}
 use Rattle.series_model.specs.declared.sample.Sample.{Sample}
 use Rattle.series_model.proofs.OverLemmas.{end_of-over}
-use Rattle.series_model.proofs.RisingLists.{end_from-append}
-use Rattle.partition_names.specs.declared.granularity.Granularity.{Granularity}
-use Rattle.partition_names.specs.declared.part.Part.{Part}
-use Rattle.partition_names.specs.Part.{HoldsMoment}
-use Rattle.partition_names.proofs.PartLemmas.{within}
 use Rattle.pv_name.specs.Key.{key_of}
 use Rattle.pv_catalog.specs.Rows.{AreRows, HasKey}
 use Rattle.pv_catalog.specs.declared.row.Row.{Row}
 use Rattle.store_manifest.specs.Manifest.{ManifestState}
-use Rattle.store_manifest.specs.declared.entry.Entry.{Entry}
-use Rattle.tier_store.specs.Held.{Filed, IsFiled, entry_of, samples_of}
+use Rattle.tier_store.specs.Held.{Filed, samples_of}
+use Rattle.pinned_pieces.specs.Pieces.{PinOf}
 use Rattle.three_stores.specs.Change.{Has}
+use Rattle.three_stores.specs.Pinned.{beside}
+use Rattle.three_stores.proofs.OpeningPieces.{stand_none}
 use Rattle.three_stores.specs.Seen.{Seen, granularities}
-use Rattle.three_stores.specs.Stores.{Stores, list_at}
-use Rattle.three_stores.proofs.Places.{manifest_at}
-use Rattle.three_stores.proofs.Rising.{row_rises}
+use Rattle.three_stores.specs.Stores.{Stores}
+use Rattle.three_stores.specs.declared.limbo.Retired.{Retired}
 use Rattle.act_model.specs.Crash.{DurableRow, kept_of, kept}
 use Rattle.act_model.specs.Machine.{Machine, PinState, MoveState, held_bytes}
 use Rattle.act_model.specs.NextLife.{opened_row, opened}
@@ -34,79 +28,12 @@ use Rattle.act_model.specs.Rule.{Rule}
 use Rattle.act_model.specs.Sound.{RowSound, IsSound}
 use Rattle.archive_core.specs.declared.memory.RowMemory.{RowMemory}
 use Rattle.archive_core.specs.Memory.{AreRowsOf, IsRowOf}
-use Rattle.archive_core.specs.Opening.{listed_from, listed_end, entries_at, end_at, memory_of, IsOpened}
+use Rattle.archive_core.specs.Pins.{ArePinsOf}
+use Rattle.archive_core.specs.Opening.{end_at, memory_of, IsOpened}
 use Rattle.append_buffer.specs.Tails.{TailState}
-use Rattle.archive_core.specs.Stands.{Rests, IsDurable, HoldsDurable}
-use Rattle.archive_core.proofs.Settled.{sampling_cell, sampling_period}
-
--- WHERE A STORE'S LIST ENDS
-
--- a list that isn't empty ends where it ends, whatever comes before
-any_start : (n : ℕ) (xs : List Sample) (first : Sample) (others : List Sample) → xs ≡ first ∷ others → end_from n xs ≡ end_of xs
-any_start n xs first others is = ap (end_from n) is ∙ sym (ap (end_from 0) is)
-
--- it ends behind its last entry
-pub last_end : (n : ℕ) (es : List Entry) (e : Entry) (k : ℕ) → slice_get es k ≡ Some e → k + 1 ≡ length es → listed_from n es ≡ e.last + 1
-last_end n [] e k here is = absurd (omega (arith, is))
-last_end n (x ∷ []) e zero here is = ap (λ (y : Entry). y.last + 1) (same_Some x e here)
-last_end n (x ∷ []) e (suc k) here is = absurd (omega (arith, is))
-last_end n (x ∷ y ∷ es) e zero here is = absurd (omega (arith, is))
-last_end n (x ∷ y ∷ es) e (suc k) here is = last_end (x.last + 1) (y ∷ es) e k here (omega (arith, is))
-
-files_end : (g : Granularity) (rows : List Row) (n : ℕ) (fs : List Filed) → All (IsFiled g rows) fs → end_from n (flat_map (λ (f : Filed). f.samples) fs) ≡ listed_from n (map entry_of fs)
-files_end g rows n [] filed = refl
-files_end g rows n (f ∷ fs) filed =
-    let is = All-head (IsFiled g rows) f fs filed in
-    let own : end_from n f.samples ≡ f.entry.last + 1 = any_start n f.samples is.first is.others is.some ∙ sym is.to in
-    end_from-append n f.samples (flat_map (λ (h : Filed). h.samples) fs)
-    ∙ (ap (λ (k : ℕ). end_from k (flat_map (λ (h : Filed). h.samples) fs)) own ∙ files_end g rows (f.entry.last + 1) fs (All-tail (IsFiled g rows) f fs filed))
-
-own_entries : (i : ℕ) (files : List Filed) → map entry_of (filter (λ (f : Filed). nat_eq f.entry.series i) files) ≡ filter (λ (e : Entry). e.series == i) (map entry_of files)
-own_entries i [] = refl
-own_entries i (f ∷ files) = by_test (nat_eq f.entry.series i) refl (own_entries i files)
-  where
-    by_test : (b : Bool) → nat_eq f.entry.series i ≡ b → map entry_of (filter (λ (f : Filed). nat_eq f.entry.series i) files) ≡ filter (λ (e : Entry). e.series == i) (map entry_of files)
-        → map entry_of (cond b (f ∷ filter (λ (f : Filed). nat_eq f.entry.series i) files) (filter (λ (f : Filed). nat_eq f.entry.series i) files)) ≡ filter (λ (e : Entry). e.series == i) (f.entry ∷ map entry_of files)
-    by_test true is rest = let same : (f.entry.series == i) ≡ true = is in rw same (ap (λ (es : List Entry). f.entry ∷ es) rest)
-    by_test false is rest = let same : (f.entry.series == i) ≡ false = is in rw same rest
-
-inside_end : (n : ℕ) (p : Part) (xs : List Sample) → n ≤ p.end → All (λ (s : Sample). HoldsMoment p s.t) xs → end_from n xs ≤ p.end
-inside_end n p [] low inside = low
-inside_end n p (x ∷ xs) low inside =
-    let here : HoldsMoment p x.t = All-head (λ (s : Sample). HoldsMoment p s.t) x xs inside in
-    let under = here.1 in
-    inside_end (x.t + 1) p xs (omega (arith, under)) (All-tail (λ (s : Sample). HoldsMoment p s.t) x xs inside)
-
-few_end : (g : Granularity) (rows : List Row) (n : ℕ) (fs : List Filed) → n ≤ 2 ^ 64 - 1 → All (IsFiled g rows) fs → listed_from n (map entry_of fs) ≤ 2 ^ 64 - 1
-few_end g rows n [] low filed = low
-few_end g rows n (f ∷ fs) low filed =
-    let is = All-head (IsFiled g rows) f fs filed in
-    let range = (within g f.entry.part is.part).2 in
-    let end : end_of f.samples ≤ f.entry.part.end = inside_end 0 f.entry.part f.samples (omega arith) is.inside in
-    let to : f.entry.last + 1 ≡ end_of f.samples = is.to in
-    few_end g rows (f.entry.last + 1) fs (omega (arith, range, end, to)) (All-tail (IsFiled g rows) f fs filed)
-
--- of one store: where its samples of a row end, and that they rise
-place_end : (at : Seen) (held : Stores) → (tells : Bool) → Has tells at held → IsTrue held.stands → (place i : ℕ) → place < 3 → end_at at.manifests place i ≡ end_of (samples_of i (list_at place held))
-place_end at held tells has stands place i low =
-    let three = has.known.three in
-    let m = manifest_at at.manifests place (omega (arith, low, three)) in
-    let known = has.known.each place m.0 m.1 in
-    let files = list_at place held in
-    let filed = known.valid.filed.filed stands in
-    let own = All-filter (λ (f : Filed). nat_eq f.entry.series i) (IsFiled m.0.granularity held.rows) files filed in
-    let here = m.1 in
-    let listed : entries_at at.manifests place i ≡ map entry_of (filter (λ (f : Filed). nat_eq f.entry.series i) files) = rw here (ap (filter (λ (e : Entry). e.series == i)) known.entries ∙ sym (own_entries i files)) in
-    let few : listed_end (map entry_of (filter (λ (f : Filed). nat_eq f.entry.series i) files)) ≤ 2 ^ 64 - 1 = few_end m.0.granularity held.rows 0 (filter (λ (f : Filed). nat_eq f.entry.series i) files) (omega arith) own in
-    let least : min (listed_end (map entry_of (filter (λ (f : Filed). nat_eq f.entry.series i) files))) (2 ^ 64 - 1) ≡ listed_end (map entry_of (filter (λ (f : Filed). nat_eq f.entry.series i) files)) = omega (arith, few) in
-    ap (λ (es : List Entry). min (listed_end es) (2 ^ 64 - 1)) listed ∙ (least ∙ sym (files_end m.0.granularity held.rows 0 (filter (λ (f : Filed). nat_eq f.entry.series i) files) own))
-
-place_rises : (at : Seen) (held : Stores) → (tells : Bool) → Has tells at held → IsTrue held.stands → (place i : ℕ) → place < 3 → IsRising (samples_of i (list_at place held))
-place_rises at held tells has stands place i low =
-    let three = has.known.three in
-    let m = manifest_at at.manifests place (omega (arith, low, three)) in
-    let known = has.known.each place m.0 m.1 in
-    row_rises m.0.granularity held.rows i (list_at place held) (known.valid.filed.filed stands) known.valid.apart
+use Rattle.archive_core.specs.Stands.{Rests, TellsHeaders, IsDurable, HoldsDurable}
+use Rattle.archive_core.proofs.KeptRows.{sampling_cell, sampling_period}
+use Rattle.archive_core.proofs.ListEnds.{place_end, place_rises}
 
 -- THE ROWS
 
@@ -146,6 +73,9 @@ get_map f (x ∷ rows) (suc i) row here = get_map f rows i row here
 abbrev no_pins : FinMap nat_cmp PinState
 no_pins = empty
 
+abbrev no_own_pins : FinMap nat_cmp PinOf
+no_own_pins = empty
+
 abbrev no_moves : FinMap nat_cmp MoveState
 no_moves = empty
 
@@ -160,7 +90,7 @@ both_true true true is = refl
 both_true true false is = absurd (cc (is))
 both_true false b is = absurd (cc (is))
 
-module _ (tells : Bool) (at : Seen) (held : Stores) (has : Has tells at held) (are : AreRows at.catalogue.rows) (rule : Rule) (doors : ℕ) (same_g : rule.granularity ≡ granularities at.manifests) where
+module _ (tells : Bool) (at : Seen) (held : Stores) (has : Has tells at held) (are : AreRows at.catalogue.rows) (rule : Rule) (doors : ℕ) (same_g : rule.granularity ≡ granularities at.manifests) (headers : TellsHeaders rule) where
   abbrev ms : List ManifestState
   ms = at.manifests
 
@@ -273,7 +203,11 @@ module _ (tells : Bool) (at : Seen) (held : Stores) (has : Has tells at held) (a
   fresh true stands is = ap (λ (rs : List RowState). record (machine true) { rows = rs }) (rows_fresh 0 rows (stands refl) (λ i row here. let plain : 0 + i ≡ i = omega arith in ap (slice_get rows) plain ∙ here))
   fresh false stands is = absurd (cc (is))
 
-  pub opened_rests : (m : Machine) × IsOpened rule m × HoldsDurable held m × Rests tells (record { at = at; tails = []; kept = map (memory_of ms) rows; doubt = None; doors = doors }) m × (m.doors ≡ doors)
+  -- nothing is pinned
+  empty_pins : (told : Bool) → ArePinsOf tells (beside at []) told (rows_from told ms held 0 rows) no_pins no_own_pins
+  empty_pins told = record { none = λ n none. get-empty nat_cmp n; each = λ n pin here. absurd (no_pin n pin here); stand = stand_none tells (beside at []) }
+
+  pub opened_rests : (m : Machine) × IsOpened rule m × HoldsDurable held m × Rests tells (record { at = at; limbo = []; pinned = no_own_pins; tails = []; kept = map (memory_of ms) rows; doubt = None; doors = doors }) m × (m.doors ≡ doors)
   opened_rests =
       let told = tells && held.stands in
       let stands : told ≡ true → IsTrue held.stands = both_true tells held.stands in (
@@ -283,7 +217,8 @@ module _ (tells : Bool) (at : Seen) (held : Stores) (has : Has tells at held) (a
         record {
           stands = record {
             sound = sound told stands;
-            plain = record { rule = same_g; limbo = refl; pins = refl; moves = refl };
+            plain = record { rule = same_g; headers = headers; limbo = refl; none_retired = refl; moves = refl };
+            pins = empty_pins told;
             faults = refl;
             doors = refl;
             rows = memory told;
@@ -297,10 +232,14 @@ module _ (tells : Bool) (at : Seen) (held : Stores) (has : Has tells at held) (a
       )
 
   -- by what is in memory then
-  pub opened_as : (tails : List TailState) (kept : List RowMemory) → tails ≡ [] → kept ≡ map (memory_of ms) rows
-      → (m : Machine) × IsOpened rule m × HoldsDurable held m × Rests tells (record { at = at; tails = tails; kept = kept; doubt = None; doors = doors }) m × (m.doors ≡ doors)
-  opened_as tails kept none is =
+  pub opened_as : (limbo : List Retired) (pinned : FinMap nat_cmp PinOf) (tails : List TailState) (kept : List RowMemory) → limbo ≡ [] → pinned ≡ empty → tails ≡ [] → kept ≡ map (memory_of ms) rows
+      → (m : Machine) × IsOpened rule m × HoldsDurable held m × Rests tells (record { at = at; limbo = limbo; pinned = pinned; tails = tails; kept = kept; doubt = None; doors = doors }) m × (m.doors ≡ doors)
+  opened_as limbo pinned tails kept none_retired none_pinned none is =
       let r = opened_rests in
-      let empty_tails : Rests tells (record { at = at; tails = tails; kept = map (memory_of ms) rows; doubt = None; doors = doors }) r.0 =
-      subst (λ (t : List TailState). Rests tells (record { at = at; tails = t; kept = map (memory_of ms) rows; doubt = None; doors = doors }) r.0) (sym none) r.3 in
-      (r.0, r.1, r.2, subst (λ (k : List RowMemory). Rests tells (record { at = at; tails = tails; kept = k; doubt = None; doors = doors }) r.0) (sym is) empty_tails, r.4)
+      let unpinned : Rests tells (record { at = at; limbo = []; pinned = pinned; tails = []; kept = map (memory_of ms) rows; doubt = None; doors = doors }) r.0 =
+      subst (λ (q : FinMap nat_cmp PinOf). Rests tells (record { at = at; limbo = []; pinned = q; tails = []; kept = map (memory_of ms) rows; doubt = None; doors = doors }) r.0) (sym none_pinned) r.3 in
+      let empty_limbo : Rests tells (record { at = at; limbo = limbo; pinned = pinned; tails = []; kept = map (memory_of ms) rows; doubt = None; doors = doors }) r.0 =
+      subst (λ (l : List Retired). Rests tells (record { at = at; limbo = l; pinned = pinned; tails = []; kept = map (memory_of ms) rows; doubt = None; doors = doors }) r.0) (sym none_retired) unpinned in
+      let empty_tails : Rests tells (record { at = at; limbo = limbo; pinned = pinned; tails = tails; kept = map (memory_of ms) rows; doubt = None; doors = doors }) r.0 =
+      subst (λ (t : List TailState). Rests tells (record { at = at; limbo = limbo; pinned = pinned; tails = t; kept = map (memory_of ms) rows; doubt = None; doors = doors }) r.0) (sym none) empty_limbo in
+      (r.0, r.1, r.2, subst (λ (k : List RowMemory). Rests tells (record { at = at; limbo = limbo; pinned = pinned; tails = tails; kept = k; doubt = None; doors = doors }) r.0) (sym is) empty_tails, r.4)

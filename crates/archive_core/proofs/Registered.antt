@@ -15,6 +15,7 @@ use Rattle.pv_catalog.specs.declared.error.RegisterErr.TheVariants.{NameTaken, K
 use Rattle.pv_catalog.specs.declared.row.Row.{Row}
 use Rattle.tier_store.specs.Ends.{Done, Refused, Failed, Spent}
 use Rattle.three_stores.specs.Change.{Acts, Has, EndsFrom, registering}
+use Rattle.three_stores.specs.Pinned.{beside, KeepsShown}
 use Rattle.three_stores.specs.Seen.{Seen, granularities}
 use Rattle.three_stores.specs.Stores.{Stores}
 use Rattle.three_stores.proofs.Left.{has_left}
@@ -81,7 +82,7 @@ module _ (tells : Bool) (p : Parts) (m : Machine) (s : Stands tells p m) (name :
   same_key : (i : ℕ) (r : RowState) → slice_get m.rows i ≡ Some r → key_of r.name ≡ key_of name → (j : ℕ) (q : RowState) → slice_get m.rows j ≡ Some q → key_of q.name ≡ key_of name → j ≡ i
   same_key i r here is j q got own = s.sound.keys j i q r got here (own ∙ sym is)
 
-  find_some : (i : ℕ) → HasName rows i name → find_row m name ≡ Some i
+  pub find_some : (i : ℕ) → HasName rows i name → find_row m name ≡ Some i
   find_some i has =
       let r = name_there i has in
       unique_place (λ (q : RowState). same_bytes q.name name) m.rows i r.0 r.1 (ap (λ (n : List ℕ). same_bytes n name) r.2 ∙ same_bytes_self name)
@@ -206,12 +207,12 @@ module _ (tells : Bool) (p : Parts) (m : Machine) (r : Rests tells p m) (name : 
   stand : (after : Stores) → (registering name about).by r.stands.store.before after → after.stands ≡ r.stands.store.before.stands
   stand after by = ap (λ (s : Stores). s.stands) by.1
 
-  doubting : (new : Seen) → granularities new.manifests ≡ granularities p.at.manifests → Has tells new r.stands.store.before ⊎ InDoubt tells new r.stands.store.before (record m { doubt = Some change; faults = new.faults })
+  doubting : (new : Seen) → granularities new.manifests ≡ granularities p.at.manifests → KeepsShown tells (beside p.at p.limbo) (beside new p.limbo) → Has tells new r.stands.store.before ⊎ InDoubt tells new r.stands.store.before (record m { doubt = Some change; faults = new.faults })
       → Stands tells (record p { at = new; kept = more_kept; doubt = Some kind.Row }) (record m { doubt = Some change; faults = new.faults })
-  doubting new same_g is_open =
+  doubting new same_g shown is_open =
       let s = r.stands in
       let sound = with_doubt m.rule m.told m.rows m.limbo m.pins m.moves m.doubt change s.sound (register_may name m (free_as tells p m s name free), tt) in
-      doubt_stands tells p m s new more_kept (Some kind.Row) (Some change) same_g sound more_rows (name, about, refl) fresh_there is_open
+      doubt_stands tells p m s new more_kept (Some kind.Row) (Some change) same_g shown sound more_rows (name, about, refl) fresh_there is_open
 
   -- nothing stands in doubt: of the machine's doubt
   undoubted : (kept : List RowMemory) → IsReady kept m.rows m.doubt
@@ -221,10 +222,10 @@ module _ (tells : Bool) (p : Parts) (m : Machine) (r : Rests tells p m) (name : 
   unclear rows = record { other = λ none. refl; own = λ k state is. absurd (cc (is)) }
 
   abbrev parts_with : Seen → Option Doubt → Parts
-  parts_with new d = record { at = new; tails = p.tails; kept = more_kept; doubt = d; doors = p.doors }
+  parts_with new d = record { at = new; limbo = p.limbo; pinned = p.pinned; tails = p.tails; kept = more_kept; doubt = d; doors = p.doors }
 
-  pub row_done : (new : Seen) (id : ℕ) → Acts tells (registering name about) p.at new (Done id) → ChangesTo tells change p m (record p { at = new; kept = more_kept }) (Ok id) × (id ≡ length p.at.catalogue.rows)
-  row_done new id acts = (
+  pub row_done : (new : Seen) → KeepsShown tells (beside p.at p.limbo) (beside new p.limbo) → (id : ℕ) → Acts tells (registering name about) p.at new (Done id) → ChangesTo tells change p m (record p { at = new; kept = more_kept }) (Ok id) × (id ≡ length p.at.catalogue.rows)
+  row_done new shown id acts = (
     record {
       ends = own_doubt;
       any_moment = call_passes tells (registering name about) change p m r durable new (Done id) acts;
@@ -242,8 +243,8 @@ module _ (tells : Bool) (p : Parts) (m : Machine) (r : Rests tells p m) (name : 
 
       stands : Stands tells (parts_with new None) (record (made [] change m) { doubt = None; faults = new.faults })
       stands =
-          let was = doubting p.at refl (inl (rests_has tells p m r)) in
-          (made_stands tells (record p { kept = more_kept; doubt = Some kind.Row }) (record m { doubt = Some change; faults = p.at.faults }) was new more_kept acts.costs.granularity change refl end.0 (r.stands.store.told ∙ ap (λ (b : Bool). tells && b) (sym (stand end.0 end.1))) (durable end.0 end.1) (unclear new.catalogue.rows) end.3).stands
+          let was = doubting p.at refl (λ name bytes s. s) (inl (rests_has tells p m r)) in
+          (made_stands tells (record p { kept = more_kept; doubt = Some kind.Row }) (record m { doubt = Some change; faults = p.at.faults }) was new more_kept acts.costs.granularity shown p.tails change refl end.0 (r.stands.store.told ∙ ap (λ (b : Bool). tells && b) (sym (stand end.0 end.1))) (durable end.0 end.1) (unclear new.catalogue.rows) refl end.3).stands
 
       machines : Stands tells (parts_with new None) (record (made [] change m) { faults = new.faults })
       machines = subst (λ (o : Option Change). Stands tells (parts_with new None) (record (made [] change m) { doubt = o; faults = new.faults })) (sym r.settled) stands
@@ -251,19 +252,19 @@ module _ (tells : Bool) (p : Parts) (m : Machine) (r : Rests tells p m) (name : 
       own_doubt : Stands tells (parts_with new p.doubt) (record (made [] change m) { faults = new.faults })
       own_doubt = subst (λ (d : Option Doubt). Stands tells (parts_with new d) (record (made [] change m) { faults = new.faults })) (sym (no_own p.doubt (subst (λ (o : Option Change). IsDoubtOf p.doubt o) r.settled r.stands.doubt))) machines
 
-  pub row_failed : (new : Seen) → Acts tells (registering name about) p.at new Failed → ChangesTo {A = ℕ} tells change p m (record p { at = new; kept = more_kept; doubt = Some kind.Row }) (Err Fault)
-  row_failed new acts = record {
-    ends = doubting new acts.costs.granularity (call_failed tells (registering name about) change p m r durable new stand (acts.settled r.stands.store.before (rests_has tells p m r)));
+  pub row_failed : (new : Seen) → KeepsShown tells (beside p.at p.limbo) (beside new p.limbo) → Acts tells (registering name about) p.at new Failed → ChangesTo {A = ℕ} tells change p m (record p { at = new; kept = more_kept; doubt = Some kind.Row }) (Err Fault)
+  row_failed new shown acts = record {
+    ends = doubting new acts.costs.granularity shown (call_failed tells (registering name about) change p m r durable new stand (acts.settled r.stands.store.before (rests_has tells p m r)));
     any_moment = call_passes tells (registering name about) change p m r durable new Failed acts;
     faults = acts.costs.faults;
     cause = λ is. acts.costs.cause tt;
   }
 
-  pub row_spent : (new : Seen) → Acts tells (registering name about) p.at new Spent → ChangesTo {A = ℕ} tells change p m (record p { at = new; kept = more_kept }) (Err Memory)
-  row_spent new acts =
+  pub row_spent : (new : Seen) → KeepsShown tells (beside p.at p.limbo) (beside new p.limbo) → Acts tells (registering name about) p.at new Spent → ChangesTo {A = ℕ} tells change p m (record p { at = new; kept = more_kept }) (Err Memory)
+  row_spent new shown acts =
       let s = r.stands in
       record {
-        ends = doubt_stands tells p m s new more_kept p.doubt m.doubt acts.costs.granularity s.sound more_rows s.doubt (undoubted more_kept) (inl (acts.settled s.store.before (rests_has tells p m r)));
+        ends = doubt_stands tells p m s new more_kept p.doubt m.doubt acts.costs.granularity shown s.sound more_rows s.doubt (undoubted more_kept) (inl (acts.settled s.store.before (rests_has tells p m r)));
         any_moment = call_passes tells (registering name about) change p m r durable new Spent acts;
         faults = acts.costs.faults;
         cause = λ is. absurd (cc (is));
@@ -275,7 +276,7 @@ module _ (tells : Bool) (p : Parts) (m : Machine) (r : Rests tells p m) (name : 
       let s = r.stands in
       let cut = subst (λ (ks : List RowMemory). AreRowsOf p.at.catalogue.rows ks p.tails m.rows) (append-nil (take (length p.at.catalogue.rows) p.kept)) (rows_cut p.at.catalogue.rows p.kept [] p.tails m.rows s.rows) in
       record {
-        ends = doubt_stands tells p m s p.at (take (length p.at.catalogue.rows) p.kept) p.doubt m.doubt refl s.sound cut s.doubt (undoubted (take (length p.at.catalogue.rows) p.kept)) (inl (rests_has tells p m r));
+        ends = doubt_stands tells p m s p.at (take (length p.at.catalogue.rows) p.kept) p.doubt m.doubt refl (λ name bytes s. s) s.sound cut s.doubt (undoubted (take (length p.at.catalogue.rows) p.kept)) (inl (rests_has tells p m r));
         any_moment = λ told. passes_none (λ a image. HoldsChanged (granularities p.at.manifests) change m image) p.at.past (λ image left. inl (s.store.before, has_left tells p.at s.store.before (rests_has tells p m r) told image left, s.store.holds));
         faults = omega arith;
         cause = λ is. absurd (cc (is));

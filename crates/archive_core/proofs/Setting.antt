@@ -71,7 +71,7 @@ module _ (tells : Bool) (switch : Switch) (name : List ℕ) (p : Parts) where
     module _ (j : ℕ) (can_then : CanSet q j) (new : Parts) where
       pub set_done : (a : Unit {0}) → ((m : Machine) → Rests tells q m → ChangesTo tells (SetsState j (to_of switch)) q m new (Ok a)) → SetEnds (switch_reply switch (Ok a)) new
       set_done a ends = done_ends tells refuse run change (counted (wrong_of switch) name) (λ m f. refl) (λ m f answer new ran. ran) p q (passed p i can) settles more (passed q j can_then) new (SetsState j (to_of switch)) a (switch_reply switch (Ok a)) ends
-          (λ m s. (refl, (j, found_row tells q m name (Some j) s can_then.0, refl)))
+          (λ m r. (refl, (j, found_row tells q m name (Some j) r.stands can_then.0, refl)))
 
       pub set_failed : (e : DiskErr) → ((m : Machine) → Rests tells q m → ChangesTo {A = Unit {0}} tells (SetsState j (to_of switch)) q m new (Err e)) → SetEnds (switch_reply switch (Err (unset.Disk e))) new
       set_failed e ends = failed_ends tells refuse run change (counted (wrong_of switch) name) (λ m f. refl) (λ m f answer new ran. ran) p q (passed p i can) settles more (passed q j can_then) new (SetsState j (to_of switch)) (owned q j can_then) e ends

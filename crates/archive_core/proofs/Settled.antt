@@ -1,38 +1,49 @@
 -- The archive once a doubt is settled.
 use Rattle.std.proofs.Common.{◌≡◌, ◌≢◌, ◌⊎◌, inl, inr, ℕ, zero, suc, ◌+◌, ◌≤◌, List, [], ◌∷◌, ◌++◌, length, Bool, true, false, Option, Some, None, refl, sym, ◌∙◌, ap, subst, arith}
+use Rattle.std.specs.FinMap.{FinMap}
+use Rattle.std.specs.List.{AllByRecursion}
+use Rattle.std.specs.Ordering.{nat_cmp}
 use Rattle.std.specs.Prelude.{◌==◌, ◌&&◌, slice_get, slice_set, map}
 use Rattle.std.proofs.lemmas.Bool.Decides.{nat_tests}
 use Rattle.std.proofs.lemmas.List.{length-map}
 use Rattle.std.proofs.lemmas.Option.{same_Some}
 use Rattle.append_buffer.specs.Tails.{TailState, tail_at}
 use Rattle.event_types.specs.declared.about.About.{About}
-use Rattle.event_types.specs.declared.about.Method.{Method}
-use Rattle.event_types.specs.declared.about.Method.TheVariants.{Monitor, Scan}
 use Rattle.event_types.specs.declared.about.State.{State}
 use Rattle.pv_catalog.specs.Catalogue.{HasState}
 use Rattle.pv_catalog.specs.declared.row.Row.{Row}
 use Rattle.sampler.specs.Row.{SampledRow, after}
 use Rattle.series_model.specs.Sampling.{first_cell}
+use Rattle.series_model.specs.Series.{end_of, since, IsRising}
+use Rattle.series_model.specs.declared.batch.RowSamples.{RowSamples}
+use Rattle.series_model.specs.declared.sample.Sample.{Sample}
+use Rattle.series_model.proofs.RisingLists.{RisesFrom-lower}
 use Rattle.three_stores.specs.Change.{Has, IsOpen, HasEither}
+use Rattle.three_stores.specs.Pinned.{beside, KeepsShown}
 use Rattle.three_stores.specs.Seen.{Seen, IsSettled, granularities}
 use Rattle.three_stores.specs.Stores.{Stores}
-use Rattle.act_model.specs.Changes.{each, at, changed, made, Retires, Settles, no_doubt, as_not_made, as_made, without_held}
+use Rattle.act_model.specs.Changes.{each, at, changed, made, of_row, Settles, no_doubt, as_not_made, as_made, without_held}
 use Rattle.act_model.specs.Crash.{kept_of, kept}
-use Rattle.act_model.specs.Machine.{Machine, Change, AddsRow, SetsState, Appends, Publishes, Unlists}
+use Rattle.act_model.specs.Machine.{Machine, PinState, Change, AddsRow, SetsState, Appends, Publishes, Unlists}
 use Rattle.act_model.specs.Rows.{RowState, fresh_row, period_of}
 use Rattle.act_model.proofs.Rows.{Came, from_row, is_new, came, more_rows}
-use Rattle.act_model.specs.Sound.{IsSound}
+use Rattle.act_model.specs.Rule.{Rule}
+use Rattle.act_model.specs.Sound.{IsSound, MayMake}
 use Rattle.act_model.proofs.StepLaws.{settled_sound, settled_none}
 use Rattle.archive_core.specs.declared.memory.RowMemory.{RowMemory}
 use Rattle.archive_core.specs.declared.memory.Doubt.{Doubt}
 use Rattle.archive_core.specs.declared.memory.Doubt.TheVariants as kind
 use Rattle.act_model.specs.Limbo.{FileState, unlisted}
-use Rattle.archive_core.proofs.Making.{kept_to}
-use Rattle.archive_core.proofs.Standing.{each_to}
-use Rattle.archive_core.specs.Memory.{IsRowAt, AreRowsOf, cell_in, period_in, fresh_memory, sampling_by, cleared, IsCleared}
+use Rattle.archive_core.proofs.Batches.{none_beyond, lists_or_not, holds_with, holds_without}
+use Rattle.archive_core.proofs.KeptRows.{sampling_period, sampling_cell, each_to}
+use Rattle.archive_core.proofs.Making.{kept_to, taken_later}
+use Rattle.archive_core.proofs.PinTies.{KeepsNames, names_stay, names_made, state_name, pins_stay}
+use Rattle.archive_core.specs.Flushing.{GivesUp, ListsBatch, IsTrimmed}
+use Rattle.archive_core.specs.Memory.{IsRowAt, AreRowsOf, cell_in, period_in, fresh_memory, cleared, IsCleared}
 use Rattle.archive_core.specs.Parts.{Parts}
-use Rattle.archive_core.specs.Stands.{Stands, Rests, InDoubt, IsReady, IsDoubtOf, AreDurable, HoldsDurable}
-use Rattle.archive_core.proofs.Lists.{same_or_not, get_set_same, get_set_other}
+use Rattle.archive_core.specs.Pins.{ArePinsOf}
+use Rattle.archive_core.specs.Stands.{Stands, Rests, TellsHeaders, InDoubt, IsPartOf, IsReady, IsDoubtOf, AreDurable, HoldsDurable}
+use Rattle.archive_core.proofs.Lists.{same_or_not, get_set_same, get_set_other, get_front}
 
 -- WHAT IS KEPT IN MEMORY ALONE
 
@@ -63,14 +74,6 @@ rows_of told s kept ts rs are durable = record {
       record { row = new.row; memory = old.0; here = new.here; there = old.1; is = record { name = new.is.name; about = new.is.about; state = new.is.state; next = old.2.next; cell = old.2.cell; period = old.2.period; tail = old.2.tail } };
   beyond = are.beyond;
 }
-
-pub sampling_period : (d : Method) → period_in (sampling_by d) ≡ period_of d
-sampling_period Monitor = refl
-sampling_period (Scan period) = refl
-
-pub sampling_cell : (d : Method) → first_cell ≡ cell_in (sampling_by d)
-sampling_cell Monitor = refl
-sampling_cell (Scan period) = refl
 
 -- a row was added, whose memory was there
 kept_added : (m : Machine) (kept : List RowMemory) (ts : List TailState) (name : List ℕ) (about : About) → AreKeptOf kept ts m.rows → slice_get kept (length m.rows) ≡ Some (fresh_memory about) → AreKeptOf kept ts (made [] (AddsRow name about) m).rows
@@ -127,10 +130,31 @@ kept_cleared m kept ts k to memory are there = record {
     by_row i r (from_row was here made_is) = subst (λ (q : RowState). (own : RowMemory) × (slice_get (slice_set kept k (cleared memory)) i ≡ Some own) × IsKeptOf ts i own q) (sym made_is) (by_place i was here (same_or_not i k))
     by_row i r (is_new j at_is here) = absurd (cc (here))
 
-get_front : (xs ys : List RowState) (i : ℕ) (x : RowState) → slice_get xs i ≡ Some x → slice_get (xs ++ ys) i ≡ Some x
-get_front [] ys i x here = absurd (cc (here))
-get_front (y ∷ xs) ys zero x here = here
-get_front (y ∷ xs) ys (suc i) x here = get_front xs ys i x here
+-- what each row has of a batch that is given up rises in time
+kept_flushed : (m : Machine) (kept : List RowMemory) (old new : List TailState) (batch : List RowSamples) → AreKeptOf kept old m.rows → AllByRecursion (IsPartOf (length m.rows)) batch → ((i : ℕ) (r : RowState) → slice_get m.rows i ≡ Some r → IsRising (of_row i batch)) → GivesUp batch old new → AreKeptOf kept new (made [] (Appends batch) m).rows
+kept_flushed m kept old new batch are all rising gives = record {
+  each = λ i r here. by_row i r (came m.told m.limbo (Appends batch) m.rows i r here);
+  beyond = λ i high.
+      let more = more_rows m.told m.limbo (Appends batch) m.rows in
+      let above : length m.rows ≤ i = omega (arith, high, more) in
+      let none = none_beyond (length m.rows) batch i all above in
+      gives i (subst (λ (xs : List Sample). IsRising xs) (sym none) tt) ∙ ap (λ (xs : List Sample). since (end_of (of_row i batch)) xs) (are.beyond i above);
+}
+  where
+    by_row : (i : ℕ) (r : RowState) → Came m.told m.limbo (Appends batch) m.rows i r → (memory : RowMemory) × (slice_get kept i ≡ Some memory) × IsKeptOf new i memory r
+    by_row i r (from_row was here made_is) =
+        let own = are.each i was here in
+        let tail : since (end_of (of_row i batch)) was.tail ≡ (tail_at new i).samples = ap (λ (xs : List Sample). since (end_of (of_row i batch)) xs) own.2.tail ∙ sym (gives i (rising i was here)) in
+        subst (λ (q : RowState). (memory : RowMemory) × (slice_get kept i ≡ Some memory) × IsKeptOf new i memory q) (sym made_is) (own.0, own.1, record { next = own.2.next; cell = own.2.cell; period = own.2.period; tail = tail })
+    by_row i r (is_new j at_is here) = absurd (cc (here))
+
+-- what a change that was made does to the tails
+abbrev pub Takes : Change → List TailState → List TailState → Type 0
+Takes (AddsRow name about) old new = new ≡ old
+Takes (SetsState k to) old new = new ≡ old
+Takes (Appends batch) old new = GivesUp batch old new
+Takes (Publishes i store copied) old new = new ≡ old
+Takes (Unlists i store to) old new = new ≡ old
 
 -- THE SETTLED ARCHIVE
 
@@ -141,22 +165,16 @@ open_rows tells at before m (inr d) = d.doubts.known.rows
 
 -- the archive after the settling: other stores, memory and tails, and no doubt
 abbrev pub settled_parts : Parts → Seen → List RowMemory → List TailState → Parts
-settled_parts p at kept tails = record { at = at; tails = tails; kept = kept; doubt = None; doors = p.doors }
+settled_parts p at kept tails = record { at = at; limbo = p.limbo; pinned = p.pinned; tails = tails; kept = kept; doubt = None; doors = p.doors }
 
--- a change that an archive may doubt retires no file
-plain_change : (kept : List RowMemory) (rows : List RowState) (m : Machine) (c : Change) → IsReady kept rows (Some c) → Retires m c []
-plain_change kept rows m (AddsRow name about) ready = refl
-plain_change kept rows m (SetsState k to) ready = refl
-plain_change kept rows m (Appends batch) ready = refl
-plain_change kept rows m (Publishes i store copied) ready = absurd ready
-plain_change kept rows m (Unlists i store to) ready = absurd ready
-
-module _ (tells : Bool) (p : Parts) (m : Machine) (s : Stands tells p m) (new : Seen) (kept : List RowMemory) (same_g : granularities new.manifests ≡ granularities p.at.manifests) where
+module _ (tells : Bool) (p : Parts) (m : Machine) (s : Stands tells p m) (new : Seen) (kept : List RowMemory) (same_g : granularities new.manifests ≡ granularities p.at.manifests) (shown : KeepsShown tells (beside p.at p.limbo) (beside new p.limbo)) where
   -- what is left to show of the machine that the archive comes to
   pub record Reaches (tails : List TailState) (mid : Machine) (held : Stores) : Type 0 where
     pub settles : Settles m mid
     pub has : Has tells new held
     pub told : mid.told ≡ (tells && held.stands)
+    pub same_told : mid.told ≡ m.told
+    pub names : KeepsNames m.rows mid.rows
     pub holds : HoldsDurable held mid
     pub memory : AreKeptOf kept tails mid.rows
     pub rule : mid.rule ≡ m.rule
@@ -169,7 +187,8 @@ module _ (tells : Bool) (p : Parts) (m : Machine) (s : Stands tells p m) (new : 
   rests tails mid held r = record {
     stands = record {
       sound = settled_sound r.settles s.sound;
-      plain = record { rule = ap (λ w. w.granularity) r.rule ∙ (s.plain.rule ∙ sym same_g); limbo = r.limbo; pins = r.pins ∙ s.plain.pins; moves = r.moves ∙ s.plain.moves };
+      plain = record { rule = ap (λ w. w.granularity) r.rule ∙ (s.plain.rule ∙ sym same_g); headers = subst (λ (rule : Rule). TellsHeaders rule) (sym r.rule) s.plain.headers; limbo = r.limbo; none_retired = s.plain.none_retired; moves = r.moves ∙ s.plain.moves };
+      pins = own_pins;
       faults = refl;
       doors = r.doors ∙ s.doors;
       rows = subst (λ (rows : List Row). AreRowsOf rows kept tails mid.rows) (sym r.has.known.rows) (rows_of mid.told held kept tails mid.rows r.memory r.holds);
@@ -183,18 +202,38 @@ module _ (tells : Bool) (p : Parts) (m : Machine) (s : Stands tells p m) (new : 
       none : mid.doubt ≡ None
       none = settled_none r.settles
 
+      own_pins : ArePinsOf tells (beside new p.limbo) mid.told mid.rows mid.pins p.pinned
+      own_pins =
+          let stay = pins_stay tells (beside p.at p.limbo) (beside new p.limbo) m.told m.rows mid.rows m.pins p.pinned shown r.names s.pins in
+          let told_ones = subst (λ (t : Bool). ArePinsOf tells (beside new p.limbo) t mid.rows m.pins p.pinned) (sym r.same_told) stay in
+          subst (λ (pins : FinMap nat_cmp PinState). ArePinsOf tells (beside new p.limbo) mid.told mid.rows pins p.pinned) (sym r.pins) told_ones
+
   doubt_state : (o : Option Doubt) (d : Option Change) → IsDoubtOf o d → (k : ℕ) (to : State) → o ≡ Some (kind.State k to) → d ≡ Some (SetsState k to)
   doubt_state None d doubt k to is = absurd (cc (is))
   doubt_state (Some kind.Row) d doubt k to is = absurd (cc (is))
   doubt_state (Some (kind.State row state)) None doubt k to is = absurd doubt
+  doubt_state (Some (kind.Flush batch)) d doubt k to is = absurd (cc (is))
   doubt_state (Some (kind.State row state)) (Some c) doubt k to is = let own : kind.State row state ≡ kind.State k to = same_Some (kind.State row state) (kind.State k to) is in cc (own, doubt)
+
+  doubt_flush : (o : Option Doubt) (d : Option Change) → IsDoubtOf o d → (batch : List RowSamples) → o ≡ Some (kind.Flush batch) → d ≡ Some (Appends batch)
+  doubt_flush None d doubt batch is = absurd (cc (is))
+  doubt_flush (Some kind.Row) d doubt batch is = absurd (cc (is))
+  doubt_flush (Some (kind.State row state)) d doubt batch is = absurd (cc (is))
+  doubt_flush (Some (kind.Flush own)) None doubt batch is = absurd doubt
+  doubt_flush (Some (kind.Flush own)) (Some c) doubt batch is = let same : kind.Flush own ≡ kind.Flush batch = same_Some (kind.Flush own) (kind.Flush batch) is in cc (same, doubt)
+
+  flush_doubt : (o : Option Doubt) (batch : List RowSamples) → IsDoubtOf o (Some (Appends batch)) → o ≡ Some (kind.Flush batch)
+  flush_doubt None batch doubt = absurd doubt
+  flush_doubt (Some kind.Row) batch doubt = absurd (let wrong = doubt.2 in cc (wrong))
+  flush_doubt (Some (kind.State row state)) batch doubt = absurd (cc (doubt))
+  flush_doubt (Some (kind.Flush own)) batch doubt = cc (doubt)
 
   same_memory : AreKeptOf p.kept p.tails m.rows
   same_memory = kept_part p.at.catalogue.rows p.kept p.tails m.rows s.rows
 
   -- it was not made: no row has the doubted state
-  not_made : IsCleared s.store.before.rows p.doubt p.kept kept → Has tells new s.store.before → (mid : Machine) × Reaches p.tails mid s.store.before
-  not_made memory has = by_doubt m.doubt refl
+  not_made : (tails : List TailState) → tails ≡ p.tails → IsCleared s.store.before.rows p.doubt p.kept kept → Has tells new s.store.before → (mid : Machine) × Reaches tails mid s.store.before
+  not_made tails same_tails memory has = by_doubt m.doubt refl
     where
       unset : (k : ℕ) (to : State) → p.doubt ≡ Some (kind.State k to) → HasState s.store.before.rows k to → ⊥
       unset k to is has_it =
@@ -206,12 +245,12 @@ module _ (tells : Bool) (p : Parts) (m : Machine) (s : Stands tells p m) (new : 
       same : kept ≡ p.kept
       same = memory.other unset
 
-      stays : AreKeptOf kept p.tails m.rows
-      stays = subst (λ (ks : List RowMemory). AreKeptOf ks p.tails m.rows) (sym same) same_memory
+      stays : AreKeptOf kept tails m.rows
+      stays = subst (λ (ts : List TailState). AreKeptOf kept ts m.rows) (sym same_tails) (subst (λ (ks : List RowMemory). AreKeptOf ks p.tails m.rows) (sym same) same_memory)
 
-      by_doubt : (d : Option Change) → m.doubt ≡ d → (mid : Machine) × Reaches p.tails mid s.store.before
-      by_doubt None is = (m, record { settles = no_doubt is; has = has; told = s.store.told; holds = s.store.holds; memory = stays; rule = refl; limbo = s.plain.limbo; pins = refl; moves = refl; doors = refl })
-      by_doubt (Some c) is = (record m { doubt = None }, record { settles = as_not_made c is; has = has; told = s.store.told; holds = s.store.holds; memory = stays; rule = refl; limbo = s.plain.limbo; pins = refl; moves = refl; doors = refl })
+      by_doubt : (d : Option Change) → m.doubt ≡ d → (mid : Machine) × Reaches tails mid s.store.before
+      by_doubt None is = (m, record { settles = no_doubt is; has = has; told = s.store.told; same_told = refl; names = names_stay m.rows; holds = s.store.holds; memory = stays; rule = refl; limbo = s.plain.limbo; pins = refl; moves = refl; doors = refl })
+      by_doubt (Some c) is = (record m { doubt = None }, record { settles = as_not_made c is; has = has; told = s.store.told; same_told = refl; names = names_stay m.rows; holds = s.store.holds; memory = stays; rule = refl; limbo = s.plain.limbo; pins = refl; moves = refl; doors = refl })
 
   told_after : (after : Stores) → after.stands ≡ s.store.before.stands → m.told ≡ (tells && after.stands)
   told_after after stand = s.store.told ∙ ap (λ (b : Bool). tells && b) (sym stand)
@@ -245,11 +284,12 @@ module _ (tells : Bool) (p : Parts) (m : Machine) (s : Stands tells p m) (new : 
       by_own : (o : Option Doubt) → p.doubt ≡ o → IsDoubtOf o (Some (SetsState k to)) → Reaches p.tails (with_change (SetsState k to)) after
       by_own None own doubt = absurd doubt
       by_own (Some kind.Row) own doubt = absurd (let wrong = doubt.2 in cc (wrong))
+      by_own (Some (kind.Flush batch)) own doubt = absurd (cc (doubt))
       by_own (Some (kind.State row state)) own doubt =
           let named : kind.State row state ≡ kind.State k to = cc (doubt) in
           let set = memory.own k to (own ∙ ap (λ (w : Doubt). Some w) named) has_it at_row.memory at_row.there in
           let rows = kept_cleared m p.kept p.tails k to at_row.memory same_memory at_row.there in
-          record { settles = as_made (SetsState k to) [] is refl; has = has; told = told; holds = holds; memory = subst (λ (ks : List RowMemory). AreKeptOf ks p.tails (made [] (SetsState k to) m).rows) (sym set) rows; rule = refl; limbo = no_limbo (made [] (SetsState k to) m).rows; pins = refl; moves = refl; doors = refl }
+          record { settles = as_made (SetsState k to) [] is refl; has = has; told = told; same_told = refl; names = names_made m (SetsState k to) (state_name m k to); holds = holds; memory = subst (λ (ks : List RowMemory). AreKeptOf ks p.tails (made [] (SetsState k to) m).rows) (sym set) rows; rule = refl; limbo = no_limbo (made [] (SetsState k to) m).rows; pins = refl; moves = refl; doors = refl }
 
   -- the doubted row was added
   made_row : (name : List ℕ) (about : About) → m.doubt ≡ Some (AddsRow name about) → (after : Stores) → m.told ≡ (tells && after.stands) → HoldsDurable after (made [] (AddsRow name about) m) → IsReady p.kept m.rows (Some (AddsRow name about)) → IsCleared after.rows p.doubt p.kept kept → Has tells new after → Reaches p.tails (with_change (AddsRow name about)) after
@@ -257,50 +297,141 @@ module _ (tells : Bool) (p : Parts) (m : Machine) (s : Stands tells p m) (new : 
       let doubt : IsDoubtOf p.doubt (Some (AddsRow name about)) = subst (λ (d : Option Change). IsDoubtOf p.doubt d) is s.doubt in
       let same : kept ≡ p.kept = memory.other (λ k to state has_it. let wrong = doubt_state p.doubt (Some (AddsRow name about)) doubt k to state in let plain : AddsRow name about ≡ SetsState k to = same_Some (AddsRow name about) (SetsState k to) wrong in cc (plain)) in
       let own_rows = kept_added m p.kept p.tails name about same_memory ready in
-      record { settles = as_made (AddsRow name about) [] is refl; has = has; told = told; holds = holds; memory = subst (λ (ks : List RowMemory). AreKeptOf ks p.tails (made [] (AddsRow name about) m).rows) (sym same) own_rows; rule = refl; limbo = no_limbo (made [] (AddsRow name about) m).rows; pins = refl; moves = refl; doors = refl }
+      record { settles = as_made (AddsRow name about) [] is refl; has = has; told = told; same_told = refl; names = names_made m (AddsRow name about) (λ i r. refl); holds = holds; memory = subst (λ (ks : List RowMemory). AreKeptOf ks p.tails (made [] (AddsRow name about) m).rows) (sym same) own_rows; rule = refl; limbo = no_limbo (made [] (AddsRow name about) m).rows; pins = refl; moves = refl; doors = refl }
+
+  -- the doubted batch was appended
+  made_batch : (batch : List RowSamples) → m.doubt ≡ Some (Appends batch) → (after : Stores) → m.told ≡ (tells && after.stands) → HoldsDurable after (made [] (Appends batch) m) → kept ≡ p.kept → (tails : List TailState) → GivesUp batch p.tails tails → Has tells new after → Reaches tails (with_change (Appends batch)) after
+  made_batch batch is after told holds same tails gives has =
+      let ready : AllByRecursion (IsPartOf (length m.rows)) batch = subst (λ (d : Option Change). IsReady p.kept m.rows d) is s.ready in
+      let may = (s.sound.doubted (Appends batch) is).0 in
+      let own_rows = kept_flushed m p.kept p.tails tails batch same_memory ready (λ i r here. RisesFrom-lower 0 (end_of r.short) (of_row i batch) (taken_later m batch i r s.sound may here) (omega arith)) gives in
+      record { settles = as_made (Appends batch) [] is refl; has = has; told = told; same_told = refl; names = names_made m (Appends batch) (λ i r. refl); holds = holds; memory = subst (λ (ks : List RowMemory). AreKeptOf ks tails (made [] (Appends batch) m).rows) (sym same) own_rows; rule = refl; limbo = no_limbo (made [] (Appends batch) m).rows; pins = refl; moves = refl; doors = refl }
+
+  -- a doubted batch leaves what is kept of rows
+  same_kept : (rows : List Row) (batch : List RowSamples) → m.doubt ≡ Some (Appends batch) → IsCleared rows p.doubt p.kept kept → kept ≡ p.kept
+  same_kept rows batch is memory = memory.other (λ k to state has_it.
+      let own : ◌≡◌ {A = Option Change} (Some (Appends batch)) (Some (SetsState k to)) = sym is ∙ doubt_state p.doubt m.doubt s.doubt k to state in
+      cc (own))
 
   -- it was made
-  made_so : (c : Change) → m.doubt ≡ Some c → (after : Stores) → m.told ≡ (tells && after.stands) → HoldsDurable after (made [] c m) → IsReady p.kept m.rows (Some c) → IsCleared after.rows p.doubt p.kept kept → Has tells new after → Reaches p.tails (with_change c) after
-  made_so (AddsRow name about) is after told holds ready memory has = made_row name about is after told holds ready memory has
-  made_so (SetsState k to) is after told holds ready memory has = made_state k to is after told holds ready memory has
-  made_so (Appends batch) is after told holds ready memory has = absurd ready
-  made_so (Publishes i store copied) is after told holds ready memory has = absurd ready
-  made_so (Unlists i store to) is after told holds ready memory has = absurd ready
+  made_so : (c : Change) → m.doubt ≡ Some c → (after : Stores) → m.told ≡ (tells && after.stands) → HoldsDurable after (made [] c m) → IsReady p.kept m.rows (Some c) → IsCleared after.rows p.doubt p.kept kept → (tails : List TailState) → Takes c p.tails tails → Has tells new after → Reaches tails (with_change c) after
+  made_so (AddsRow name about) is after told holds ready memory tails same has = subst (λ (ts : List TailState). Reaches ts (with_change (AddsRow name about)) after) (sym same) (made_row name about is after told holds ready memory has)
+  made_so (SetsState k to) is after told holds ready memory tails same has = subst (λ (ts : List TailState). Reaches ts (with_change (SetsState k to)) after) (sym same) (made_state k to is after told holds ready memory has)
+  made_so (Appends batch) is after told holds ready memory tails gives has = made_batch batch is after told holds (same_kept after.rows batch is memory) tails gives has
+  made_so (Publishes i store copied) is after told holds ready memory tails same has = absurd ready
+  made_so (Unlists i store to) is after told holds ready memory tails same has = absurd ready
 
   -- once the stores have what is after the doubted change, the archive stands for the machine with it
-  pub made_stands : (c : Change) → m.doubt ≡ Some c → (after : Stores) → m.told ≡ (tells && after.stands) → HoldsDurable after (made [] c m) → IsCleared new.catalogue.rows p.doubt p.kept kept → Has tells new after → Rests tells (settled_parts p new kept p.tails) (record (with_change c) { faults = new.faults })
-  made_stands c is after told holds memory has =
+  pub made_stands : (tails : List TailState) (c : Change) → m.doubt ≡ Some c → (after : Stores) → m.told ≡ (tells && after.stands) → HoldsDurable after (made [] c m) → IsCleared new.catalogue.rows p.doubt p.kept kept → Takes c p.tails tails → Has tells new after → Rests tells (settled_parts p new kept tails) (record (with_change c) { faults = new.faults })
+  made_stands tails c is after told holds memory takes has =
       let ready : IsReady p.kept m.rows (Some c) = subst (λ (d : Option Change). IsReady p.kept m.rows d) is s.ready in
       let rows = subst (λ (rows : List Row). IsCleared rows p.doubt p.kept kept) has.known.rows memory in
-      rests p.tails (with_change c) after (made_so c is after told holds ready rows has)
+      rests tails (with_change c) after (made_so c is after told holds ready rows tails takes has)
 
-  -- once the stores have settled their doubt, so has the archive
-  pub settled_ends : IsCleared new.catalogue.rows p.doubt p.kept kept → ((before after : Stores) → IsOpen tells p.at before after → HasEither tells new before after) → (mid : Machine) × Settles m mid × Rests tells (settled_parts p new kept p.tails) (record mid { faults = new.faults })
-  settled_ends memory settled = by_open s.store.is_open
-    where
-      as_before : Has tells new s.store.before → (mid : Machine) × Settles m mid × Rests tells (settled_parts p new kept p.tails) (record mid { faults = new.faults })
-      as_before has =
-          let is = not_made (subst (λ (rows : List Row). IsCleared rows p.doubt p.kept kept) has.known.rows memory) has in
-          (is.0, is.1.settles, rests p.tails is.0 s.store.before is.1)
+  module _ (tails : List TailState) (memory : IsCleared new.catalogue.rows p.doubt p.kept kept) (trims : IsTrimmed new.manifests p.doubt p.tails tails) where
+    -- what the archive comes to once its doubt is settled
+    abbrev Ends : Type 0
+    Ends = (mid : Machine) × Settles m mid × Rests tells (settled_parts p new kept tails) (record mid { faults = new.faults })
 
-      by_open : Has tells p.at s.store.before ⊎ InDoubt tells p.at s.store.before m → (mid : Machine) × Settles m mid × Rests tells (settled_parts p new kept p.tails) (record mid { faults = new.faults })
-      by_open (inl was) = elim (settled s.store.before s.store.before (inl was)) [
-        | inl has ↦ as_before has
-        | inr has ↦ as_before has
-      ]
-      by_open (inr d) = elim (settled s.store.before d.after (inr d.doubts)) [
-        | inl has ↦ as_before has
-        | inr has ↦ (with_change d.change, as_made d.change [] d.is (plain_change p.kept m.rows m d.change (subst (λ (o : Option Change). IsReady p.kept m.rows o) d.is s.ready)), made_stands d.change d.is d.after (told_after d.after d.stand) d.holds memory has)
-      ]
+    -- the doubted change is no flush
+    abbrev IsNoFlush : Type 0
+    IsNoFlush = (batch : List RowSamples) → m.doubt ≡ Some (Appends batch) → ⊥
+
+    other_change : (d : Option Change) → m.doubt ≡ d → ((batch : List RowSamples) → d ≡ Some (Appends batch) → ⊥) → IsNoFlush
+    other_change d is apart = λ batch flush. apart batch (sym is ∙ flush)
+
+    same_tails : IsNoFlush → tails ≡ p.tails
+    same_tails no_flush = trims.other (λ batch is lists. no_flush batch (doubt_flush p.doubt m.doubt s.doubt batch is))
+
+    -- A flush stood in doubt: store 1 tells whether it was made.
+    flush_ends : (batch : List RowSamples) → m.doubt ≡ Some (Appends batch) → (held : Stores) → Has tells new held → m.told ≡ (tells && held.stands) → HoldsDurable held m ⊎ HoldsDurable held (made [] (Appends batch) m) → Ends
+    flush_ends batch is held has told holds = elim (lists_or_not new.manifests batch) [
+      | inl lists ↦ (
+        with_change (Appends batch),
+        as_made (Appends batch) [] is refl,
+        rests tails (with_change (Appends batch)) held (made_batch batch is held told (holds_with tells new m s.sound s.plain.limbo held has told batch may ready lists holds) same tails (trims.own batch own lists) has),
+      )
+      | inr lacks ↦ (
+        record m { doubt = None },
+        as_not_made (Appends batch) is,
+        rests tails (record m { doubt = None }) held
+            (record { settles = as_not_made (Appends batch) is; has = has; told = told; same_told = refl; names = names_stay m.rows; holds = holds_without tells new m s.sound s.plain.limbo held has told batch may ready lacks holds; memory = stays lacks; rule = refl; limbo = s.plain.limbo; pins = refl; moves = refl; doors = refl }),
+      )
+    ]
+      where
+        own : p.doubt ≡ Some (kind.Flush batch)
+        own = flush_doubt p.doubt batch (subst (λ (d : Option Change). IsDoubtOf p.doubt d) is s.doubt)
+
+        same : kept ≡ p.kept
+        same = same_kept new.catalogue.rows batch is memory
+
+        may : MayMake m.rule m.told m.rows m.limbo (Appends batch)
+        may = (s.sound.doubted (Appends batch) is).0
+
+        ready : AllByRecursion (IsPartOf (length m.rows)) batch
+        ready = subst (λ (d : Option Change). IsReady p.kept m.rows d) is s.ready
+
+        stays : (ListsBatch new.manifests batch → ⊥) → AreKeptOf kept tails m.rows
+        stays lacks =
+            let same_ones : tails ≡ p.tails = trims.other (λ other named lists.
+            let one : kind.Flush batch ≡ kind.Flush other = same_Some (kind.Flush batch) (kind.Flush other) (sym own ∙ named) in
+            let its : other ≡ batch = cc (one) in
+            lacks (subst (λ (b : List RowSamples). ListsBatch new.manifests b) its lists)) in
+            subst (λ (ts : List TailState). AreKeptOf kept ts m.rows) (sym same_ones) (subst (λ (ks : List RowMemory). AreKeptOf ks p.tails m.rows) (sym same) same_memory)
+
+    plain_before : IsNoFlush → Has tells new s.store.before → Ends
+    plain_before no_flush has =
+        let is = not_made tails (same_tails no_flush) (subst (λ (rows : List Row). IsCleared rows p.doubt p.kept kept) has.known.rows memory) has in
+        (is.0, is.1.settles, rests tails is.0 s.store.before is.1)
+
+    -- the stores have what was before the doubted change
+    as_before : (d : Option Change) → m.doubt ≡ d → Has tells new s.store.before → Ends
+    as_before (Some (Appends batch)) is has = flush_ends batch is s.store.before has s.store.told (inl s.store.holds)
+    as_before None is has = plain_before (other_change None is (λ batch wrong. cc (wrong))) has
+    as_before (Some (AddsRow name about)) is has = plain_before (other_change (Some (AddsRow name about)) is (λ batch wrong. cc (wrong))) has
+    as_before (Some (SetsState k to)) is has = plain_before (other_change (Some (SetsState k to)) is (λ batch wrong. cc (wrong))) has
+    as_before (Some (Publishes i store copied)) is has = plain_before (other_change (Some (Publishes i store copied)) is (λ batch wrong. cc (wrong))) has
+    as_before (Some (Unlists i store to)) is has = plain_before (other_change (Some (Unlists i store to)) is (λ batch wrong. cc (wrong))) has
+
+    -- they have what is after it
+    as_after : (c : Change) → m.doubt ≡ Some c → (after : Stores) → m.told ≡ (tells && after.stands) → HoldsDurable after (made [] c m) → IsReady p.kept m.rows (Some c) → Has tells new after → Ends
+    as_after (Appends batch) is after told holds ready has = flush_ends batch is after has told (inr holds)
+    as_after (AddsRow name about) is after told holds ready has = (
+      with_change (AddsRow name about),
+      as_made (AddsRow name about) [] is refl,
+      made_stands tails (AddsRow name about) is after told holds memory (same_tails (other_change (Some (AddsRow name about)) is (λ batch wrong. cc (wrong)))) has,
+    )
+    as_after (SetsState k to) is after told holds ready has = (
+      with_change (SetsState k to),
+      as_made (SetsState k to) [] is refl,
+      made_stands tails (SetsState k to) is after told holds memory (same_tails (other_change (Some (SetsState k to)) is (λ batch wrong. cc (wrong)))) has,
+    )
+    as_after (Publishes i store copied) is after told holds ready has = absurd ready
+    as_after (Unlists i store to) is after told holds ready has = absurd ready
+
+    -- once the stores have settled their doubt, so has the archive
+    pub settled_ends : ((before after : Stores) → IsOpen tells p.at before after → HasEither tells new before after) → Ends
+    settled_ends settled = by_open s.store.is_open
+      where
+        by_open : Has tells p.at s.store.before ⊎ InDoubt tells p.at s.store.before m → Ends
+        by_open (inl was) = elim (settled s.store.before s.store.before (inl was)) [
+          | inl has ↦ as_before m.doubt refl has
+          | inr has ↦ as_before m.doubt refl has
+        ]
+        by_open (inr d) = elim (settled s.store.before d.after (inr d.doubts)) [
+          | inl has ↦ as_before m.doubt refl has
+          | inr has ↦ as_after d.change d.is d.after (told_after d.after d.stand) d.holds (subst (λ (o : Option Change). IsReady p.kept m.rows o) d.is s.ready) has
+        ]
 
 -- WHERE A DOUBT STANDS, OR NONE
 
 -- the archive stands for a machine with this doubt, where the stores are as much those of it
-pub doubt_stands : (tells : Bool) (p : Parts) (m : Machine) (s : Stands tells p m) (new : Seen) (kept : List RowMemory) (d : Option Doubt) (c : Option Change) → granularities new.manifests ≡ granularities p.at.manifests → IsSound (record m { doubt = c }) → AreRowsOf p.at.catalogue.rows kept p.tails m.rows → IsDoubtOf d c → IsReady kept m.rows c
-    → Has tells new s.store.before ⊎ InDoubt tells new s.store.before (record m { doubt = c; faults = new.faults }) → Stands tells (record { at = new; tails = p.tails; kept = kept; doubt = d; doors = p.doors }) (record m { doubt = c; faults = new.faults })
-doubt_stands tells p m s new kept d c same_g sound rows doubt ready is_open = record {
+pub doubt_stands : (tells : Bool) (p : Parts) (m : Machine) (s : Stands tells p m) (new : Seen) (kept : List RowMemory) (d : Option Doubt) (c : Option Change) → granularities new.manifests ≡ granularities p.at.manifests → KeepsShown tells (beside p.at p.limbo) (beside new p.limbo) → IsSound (record m { doubt = c }) → AreRowsOf p.at.catalogue.rows kept p.tails m.rows → IsDoubtOf d c → IsReady kept m.rows c
+    → Has tells new s.store.before ⊎ InDoubt tells new s.store.before (record m { doubt = c; faults = new.faults }) → Stands tells (record { at = new; limbo = p.limbo; pinned = p.pinned; tails = p.tails; kept = kept; doubt = d; doors = p.doors }) (record m { doubt = c; faults = new.faults })
+doubt_stands tells p m s new kept d c same_g shown sound rows doubt ready is_open = record {
   sound = sound;
-  plain = record { rule = s.plain.rule ∙ sym same_g; limbo = s.plain.limbo; pins = s.plain.pins; moves = s.plain.moves };
+  plain = record { rule = s.plain.rule ∙ sym same_g; headers = s.plain.headers; limbo = s.plain.limbo; none_retired = s.plain.none_retired; moves = s.plain.moves };
+  pins = pins_stay tells (beside p.at p.limbo) (beside new p.limbo) m.told m.rows m.rows m.pins p.pinned shown (names_stay m.rows) s.pins;
   faults = refl;
   doors = s.doors;
   rows = subst (λ (rows : List Row). AreRowsOf rows kept p.tails m.rows) (open_rows tells p.at s.store.before m s.store.is_open ∙ sym (open_rows tells new s.store.before (record m { doubt = c; faults = new.faults }) is_open)) rows;
@@ -310,8 +441,8 @@ doubt_stands tells p m s new kept d c same_g sound rows doubt ready is_open = re
 }
 
 -- the doubt stands as it stood, since the stores couldn't settle it
-pub still_doubted : (tells : Bool) (p : Parts) (m : Machine) (new : Seen) → Stands tells p m → (IsSettled p.at → ⊥) → ((before after : Stores) → IsOpen tells p.at before after → IsOpen tells new before after) → granularities new.manifests ≡ granularities p.at.manifests → Stands tells (record p { at = new }) (record m { faults = new.faults })
-still_doubted tells p m new s doubted still same_g = doubt_stands tells p m s new p.kept p.doubt m.doubt same_g s.sound s.rows s.doubt s.ready (by_open s.store.is_open)
+pub still_doubted : (tells : Bool) (p : Parts) (m : Machine) (new : Seen) → Stands tells p m → (IsSettled p.at → ⊥) → ((before after : Stores) → IsOpen tells p.at before after → IsOpen tells new before after) → granularities new.manifests ≡ granularities p.at.manifests → KeepsShown tells (beside p.at p.limbo) (beside new p.limbo) → Stands tells (record p { at = new }) (record m { faults = new.faults })
+still_doubted tells p m new s doubted still same_g shown = doubt_stands tells p m s new p.kept p.doubt m.doubt same_g shown s.sound s.rows s.doubt s.ready (by_open s.store.is_open)
   where
     by_open : Has tells p.at s.store.before ⊎ InDoubt tells p.at s.store.before m → Has tells new s.store.before ⊎ InDoubt tells new s.store.before (record m { faults = new.faults })
     by_open (inl has) = absurd (doubted has.settled)

@@ -1,11 +1,15 @@
 -- An archive stands for the next machine, where a row changes in memory.
-use Rattle.std.proofs.Common.{◌≡◌, ◌≢◌, ◌⊎◌, inl, inr, ℕ, ◌+◌, ◌<◌, List, length, Bool, true, false, Option, Some, None, refl, sym, ◌∙◌, ap, subst, arith, [], ◌∷◌, zero, suc}
+use Rattle.std.proofs.Common.{◌≡◌, ◌≢◌, ◌⊎◌, inl, inr, ℕ, ◌+◌, ◌<◌, List, length, Bool, true, false, Option, Some, None, refl, sym, ◌∙◌, ap, subst, arith}
+use Rattle.std.specs.FinMap.{FinMap}
+use Rattle.std.specs.List.{AllByRecursion}
+use Rattle.std.specs.Ordering.{nat_cmp}
 use Rattle.std.specs.Prelude.{◌==◌, slice_get, slice_set}
-use Rattle.std.proofs.lemmas.Option.{same_Some, slice_get_within}
+use Rattle.std.proofs.lemmas.Option.{slice_get_within}
 use Rattle.append_buffer.specs.Tails.{TailState, tail_at}
 use Rattle.pv_catalog.specs.declared.row.Row.{Row}
 use Rattle.act_model.specs.Rows.{RowState}
-use Rattle.act_model.specs.Machine.{Machine, Change, AddsRow, SetsState, Appends, Publishes, Unlists}
+use Rattle.pinned_pieces.specs.Pieces.{PinOf}
+use Rattle.act_model.specs.Machine.{Machine, PinState, Change, AddsRow, SetsState, Appends, Publishes, Unlists}
 use Rattle.act_model.specs.Changes.{each, at, with_rows}
 use Rattle.act_model.specs.Crash.{DurableRow, kept_of}
 use Rattle.act_model.specs.Sound.{IsSound}
@@ -13,10 +17,13 @@ use Rattle.act_model.proofs.Rows.{length-each}
 use Rattle.archive_core.specs.declared.memory.RowMemory.{RowMemory}
 use Rattle.archive_core.specs.Memory.{IsRowOf}
 use Rattle.archive_core.specs.Parts.{Parts}
-use Rattle.archive_core.specs.Stands.{Stands, IsReady, InDoubt, IsBetween, AreDurable}
+use Rattle.archive_core.specs.Pins.{ArePinsOf}
+use Rattle.archive_core.specs.Stands.{Stands, IsPartOf, IsReady, InDoubt, IsBetween, AreDurable}
 use Rattle.archive_core.proofs.Lists.{get_set_other, set_same}
-use Rattle.archive_core.proofs.KeptRows.{rows_at, rows_spared}
+use Rattle.archive_core.proofs.KeptRows.{each_to, rows_at, rows_spared}
 use Rattle.archive_core.proofs.Durable.{kept_each, kept_changed}
+use Rattle.archive_core.proofs.PinTies.{pins_stay, names_at}
+use Rattle.three_stores.specs.Pinned.{beside}
 use Rattle.three_stores.specs.Change.{Has}
 use Rattle.three_stores.specs.Seen.{Seen}
 
@@ -40,16 +47,6 @@ at_stays k f stays i r = by_test (i == k) refl
     by_test true is = rw is (stays r)
     by_test false is = rw is refl
 
--- a row is changed by its number
-pub each_to : (f : ℕ → RowState → RowState) (j : ℕ) (rows : List RowState) (k : ℕ) (r : RowState) → slice_get rows k ≡ Some r → slice_get (each f j rows) k ≡ Some (f (j + k) r)
-each_to f j [] k r here = absurd (cc (here))
-each_to f j (q ∷ rows) zero r here =
-    let plain : j ≡ j + 0 = omega arith in
-    ap (λ (n : ℕ). Some (f n q)) plain ∙ ap (λ (w : RowState). Some (f (j + 0) w)) (same_Some q r here)
-each_to f j (q ∷ rows) (suc k) r here =
-    let next : (j + 1) + k ≡ j + suc k = omega arith in
-    each_to f (j + 1) rows k r here ∙ ap (λ (n : ℕ). Some (f n r)) next
-
 still_ready : (kept : List RowMemory) (rows : List RowState) (i : ℕ) (f : RowState → RowState) (memory : RowMemory) → i < length rows → ((r : RowState) → kept_of (f r) ≡ kept_of r) → (d : Option Change) → IsReady kept rows d → IsReady (slice_set kept i memory) (each (at i f) 0 rows) d
 still_ready kept rows i f memory low stays None ready = tt
 still_ready kept rows i f memory low stays (Some (AddsRow name about)) ready =
@@ -57,7 +54,7 @@ still_ready kept rows i f memory low stays (Some (AddsRow name about)) ready =
 still_ready kept rows i f memory low stays (Some (SetsState k state)) ready =
     let same : (at i f (0 + k) ready.0).state ≡ ready.0.state = ap (λ (d : DurableRow). d.state) (at_stays i f stays (0 + k) ready.0) in
     (at i f (0 + k) ready.0, each_to (at i f) 0 rows k ready.0 ready.1, λ is. ready.2 (sym same ∙ is))
-still_ready kept rows i f memory low stays (Some (Appends batch)) ready = ready
+still_ready kept rows i f memory low stays (Some (Appends batch)) ready = subst (λ (n : ℕ). AllByRecursion (IsPartOf n) batch) (sym (length-each (at i f) 0 rows)) ready
 still_ready kept rows i f memory low stays (Some (Publishes k store copied)) ready = ready
 still_ready kept rows i f memory low stays (Some (Unlists k store to)) ready = ready
 
@@ -67,7 +64,8 @@ pub row_stands : (tells : Bool) (p : Parts) (m : Machine) → Stands tells p m �
     → ((q : RowState) → kept_of (f q) ≡ kept_of q) → IsSound (with_rows m (at i f)) → Stands tells (record p { kept = slice_set p.kept i memory; tails = new }) (with_rows m (at i f))
 row_stands tells p m s i f memory new row r here there is others stays sound = record {
   sound = sound;
-  plain = record { rule = s.plain.rule; limbo = s.plain.limbo; pins = s.plain.pins; moves = s.plain.moves };
+  plain = record { rule = s.plain.rule; headers = s.plain.headers; limbo = s.plain.limbo; none_retired = s.plain.none_retired; moves = s.plain.moves };
+  pins = pins_stay tells (beside p.at p.limbo) (beside p.at p.limbo) m.told m.rows (each (at i f) 0 m.rows) m.pins p.pinned (λ name bytes shown. shown) (names_at i f m.rows stays) s.pins;
   faults = s.faults;
   doors = s.doors;
   rows = rows_at p.at.catalogue.rows p.kept p.tails new m.rows s.rows i f memory row r here there is others;
@@ -81,6 +79,7 @@ pub spared_stands : (tells : Bool) (p : Parts) (m : Machine) (new : List TailSta
 spared_stands tells p m new s same = record {
   sound = s.sound;
   plain = s.plain;
+  pins = s.pins;
   faults = s.faults;
   doors = s.doors;
   rows = rows_spared p.at.catalogue.rows p.kept p.tails new m.rows s.rows same;
@@ -100,7 +99,8 @@ still_stands tells p m new s same i memory set here is =
 pub doors_stand : (tells : Bool) (p : Parts) (m : Machine) (doors d : ℕ) → d ≡ doors → Stands tells p m → Stands tells (record p { doors = doors }) (record m { doors = d })
 doors_stand tells p m doors d same s = record {
   sound = s.sound;
-  plain = record { rule = s.plain.rule; limbo = s.plain.limbo; pins = s.plain.pins; moves = s.plain.moves };
+  plain = record { rule = s.plain.rule; headers = s.plain.headers; limbo = s.plain.limbo; none_retired = s.plain.none_retired; moves = s.plain.moves };
+  pins = s.pins;
   faults = s.faults;
   doors = same;
   rows = s.rows;
@@ -110,5 +110,23 @@ doors_stand tells p m doors d same s = record {
 }
   where
     by_open : Has tells p.at s.store.before ⊎ InDoubt tells p.at s.store.before m → Has tells p.at s.store.before ⊎ InDoubt tells p.at s.store.before (record m { doors = d })
+    by_open (inl has) = inl has
+    by_open (inr f) = inr (record { change = f.change; is = f.is; after = f.after; doubts = f.doubts; stand = f.stand; holds = f.holds })
+
+-- and so they are of one with other pins
+pub pins_stand : (tells : Bool) (p : Parts) (m : Machine) (pins : FinMap nat_cmp PinState) (pinned : FinMap nat_cmp PinOf) → ArePinsOf tells (beside p.at p.limbo) m.told m.rows pins pinned → IsSound (record m { pins = pins }) → Stands tells p m → Stands tells (record p { pinned = pinned }) (record m { pins = pins })
+pins_stand tells p m pins pinned are sound s = record {
+  sound = sound;
+  plain = record { rule = s.plain.rule; headers = s.plain.headers; limbo = s.plain.limbo; none_retired = s.plain.none_retired; moves = s.plain.moves };
+  pins = are;
+  faults = s.faults;
+  doors = s.doors;
+  rows = s.rows;
+  doubt = s.doubt;
+  ready = s.ready;
+  store = record { before = s.store.before; told = s.store.told; holds = s.store.holds; is_open = by_open s.store.is_open };
+}
+  where
+    by_open : Has tells p.at s.store.before ⊎ InDoubt tells p.at s.store.before m → Has tells p.at s.store.before ⊎ InDoubt tells p.at s.store.before (record m { pins = pins })
     by_open (inl has) = inl has
     by_open (inr f) = inr (record { change = f.change; is = f.is; after = f.after; doubts = f.doubts; stand = f.stand; holds = f.holds })

@@ -1,7 +1,11 @@
 pub mod Memory
 pub mod Parts
+pub mod Pins
 pub mod Stands
 pub mod Ends
 pub mod Trying
 pub mod Switching
 pub mod Opening
+pub mod Flushing
+pub mod Pinning
+pub mod Sweeping

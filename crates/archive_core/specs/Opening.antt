@@ -13,7 +13,7 @@ use Rattle.act_model.specs.Rule.{Rule}
 use Rattle.archive_core.specs.declared.memory.RowMemory.{RowMemory}
 use Rattle.archive_core.specs.Memory.{sampling_by}
 use Rattle.archive_core.specs.Parts.{Parts}
-use Rattle.archive_core.specs.Stands.{Rests, HoldsDurable}
+use Rattle.archive_core.specs.Stands.{Rests, TellsHeaders, HoldsDurable}
 
 -- the first moment later than the last that the entries list, or n where they list nothing
 abbrev pub listed_from : ℕ → List Entry → ℕ
@@ -49,5 +49,5 @@ pub record IsOpened (rule : Rule) (m : Machine) : Type 0 where
 -- whatever the stores had, the archive stands for a machine that is opened on it
 abbrev pub OpensAs : Bool → Seen → ℕ → Parts → Type 0
 OpensAs tells at doors p =
-    (held : Stores) (rule : Rule) → Has tells at held → rule.granularity ≡ granularities at.manifests
+    (held : Stores) (rule : Rule) → Has tells at held → rule.granularity ≡ granularities at.manifests → TellsHeaders rule
     → (m : Machine) × IsOpened rule m × HoldsDurable held m × Rests tells p m × (m.doors ≡ doors)

@@ -1,22 +1,30 @@
 -- The machine that an archive stands for. Its memory has the machine's rows, tails and cells, and its stores have the machine's durable
 -- part, or are in doubt between that and what the doubted change makes of it.
 use Rattle.std.specs.FinMap.{empty}
-use Rattle.std.specs.Prelude.{◌≡◌, ◌≢◌, ◌⊎◌, ℕ, List, [], length, Bool, true, ◌&&◌, Option, Some, None, slice_get}
+use Rattle.std.specs.List.{AllByRecursion}
+use Rattle.std.specs.Prelude.{◌≡◌, ◌≢◌, ◌⊎◌, ◌<◌, ℕ, List, [], length, Bool, true, false, ◌&&◌, Option, Some, None, Ok, slice_get}
+use Rattle.payload_info.specs.Info.{info_of}
+use Rattle.payload_info.specs.declared.info.PayloadInfo.{PayloadInfo}
 use Rattle.pv_catalog.specs.declared.row.Row.{Row}
+use Rattle.series_model.specs.declared.batch.RowSamples.{RowSamples}
 use Rattle.tier_store.specs.Held.{samples_of}
 use Rattle.three_stores.specs.Stores.{Stores}
 use Rattle.three_stores.specs.Seen.{Seen, granularities}
 use Rattle.three_stores.specs.Change.{Has, Doubts}
-use Rattle.act_model.specs.Rows.{RowState}
+use Rattle.three_stores.specs.Pinned.{beside}
+use Rattle.three_stores.specs.declared.limbo.Retired.{Retired}
+use Rattle.act_model.specs.Rows.{RowState, is_empty}
 use Rattle.act_model.specs.Machine.{Machine, Change, AddsRow, SetsState, Appends, Publishes, Unlists}
 use Rattle.act_model.specs.Changes.{made}
 use Rattle.act_model.specs.Crash.{DurableRow, kept}
+use Rattle.act_model.specs.Rule.{Rule}
 use Rattle.act_model.specs.Sound.{IsSound}
 use Rattle.archive_core.specs.declared.memory.RowMemory.{RowMemory}
 use Rattle.archive_core.specs.declared.memory.Doubt.{Doubt}
 use Rattle.archive_core.specs.declared.memory.Doubt.TheVariants as doubt
 use Rattle.archive_core.specs.Memory.{AreRowsOf, fresh_memory}
 use Rattle.archive_core.specs.Parts.{Parts}
+use Rattle.archive_core.specs.Pins.{ArePinsOf}
 
 -- WHAT STORES HOLD OF A MACHINE
 
@@ -53,13 +61,19 @@ IsDoubtOf None (Some change) = ⊥
 IsDoubtOf (Some kept) None = ⊥
 IsDoubtOf (Some doubt.Row) (Some change) = (name : List ℕ) × (about : _) × (change ≡ AddsRow name about)
 IsDoubtOf (Some (doubt.State row to)) (Some change) = change ≡ SetsState row to
+IsDoubtOf (Some (doubt.Flush batch)) (Some change) = change ≡ Appends batch
 
--- A doubted row's memory is there already. A doubted state is another than the row has.
+-- a part of a batch is of one of so many rows, and has samples
+pub record IsPartOf (count : ℕ) (part : RowSamples) : Type 0 where
+  pub here : part.row < count
+  pub some : is_empty part.samples ≡ false
+
+-- A doubted row's memory is there already. A doubted state is another than the row has. A doubted batch is of rows that are there.
 abbrev pub IsReady : List RowMemory → List RowState → Option Change → Type 0
 IsReady kept rows None = Unit {0}
 IsReady kept rows (Some (AddsRow name about)) = slice_get kept (length rows) ≡ Some (fresh_memory about)
 IsReady kept rows (Some (SetsState i state)) = (r : RowState) × (slice_get rows i ≡ Some r) × (r.state ≢ state)
-IsReady kept rows (Some (Appends batch)) = ⊥
+IsReady kept rows (Some (Appends batch)) = AllByRecursion (IsPartOf (length rows)) batch
 IsReady kept rows (Some (Publishes i store copied)) = ⊥
 IsReady kept rows (Some (Unlists i store to)) = ⊥
 
@@ -82,17 +96,23 @@ pub record IsBetween (tells : Bool) (at : Seen) (m : Machine) : Type 0 where
   pub holds : HoldsDurable before m
   pub is_open : Has tells at before ⊎ InDoubt tells at before m
 
--- what a machine has that no act of an archive without moves and pins changes
-pub record IsPlain (at : Seen) (m : Machine) : Type 0 where
+-- the rule tells each header by its type and its year
+abbrev pub TellsHeaders : Rule → Type 0
+TellsHeaders rule = (message : List ℕ) (info : PayloadInfo) → info_of message ≡ Ok info → rule.header message ≡ Some (record { ty = info.ty; year = info.year })
+
+-- what a machine and its archive have that no act of an archive without moves changes
+pub record IsPlain (at : Seen) (retired : List Retired) (m : Machine) : Type 0 where
   pub rule : m.rule.granularity ≡ granularities at.manifests
+  pub headers : TellsHeaders m.rule
   pub limbo : m.limbo ≡ []
-  pub pins : m.pins ≡ empty
+  pub none_retired : retired ≡ []
   pub moves : m.moves ≡ empty
 
 -- the archive stands for the machine
 pub record Stands (tells : Bool) (p : Parts) (m : Machine) : Type 0 where
   pub sound : IsSound m
-  pub plain : IsPlain p.at m
+  pub plain : IsPlain p.at p.limbo m
+  pub pins : ArePinsOf tells (beside p.at p.limbo) m.told m.rows m.pins p.pinned
   pub faults : m.faults ≡ p.at.faults
   pub doors : m.doors ≡ p.doors
   pub rows : AreRowsOf p.at.catalogue.rows p.kept p.tails m.rows

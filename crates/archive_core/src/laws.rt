@@ -1,15 +1,19 @@
 //! What follows from standing for a machine, and what the stores' changes are to it.
 ghost use Rattle.std.specs.Prelude.{◌≡◌, ℕ, List, Option, IsTrue, [], true};
+ghost use Rattle.std.specs.FinMap.{FinMap};
+ghost use Rattle.std.specs.Ordering.{nat_cmp};
 ghost use Rattle.append_buffer.specs.Tails.{TailState};
 ghost use Rattle.disk_model.specs.Files.{Files};
 ghost use Rattle.disk_model.specs.Past.{MayLeave};
 ghost use Rattle.event_types.specs.declared.about.About.{About};
 ghost use Rattle.event_types.specs.declared.about.State.{State};
+ghost use Rattle.pinned_pieces.specs.Pieces.{PinOf};
 ghost use Rattle.pv_catalog.specs.Catalogue.{CatalogueState};
 ghost use Rattle.store_manifest.specs.Manifest.{ManifestState};
 ghost use Rattle.three_stores.specs.Change.{IsKnown, Registers, Switches, Flushes};
 ghost use Rattle.three_stores.specs.Seen.{seen_on, granularities};
 ghost use Rattle.three_stores.specs.Stores.{Stores};
+ghost use Rattle.three_stores.specs.declared.limbo.Retired.{Retired};
 ghost use Rattle.act_model.specs.Changes.{made};
 ghost use Rattle.act_model.specs.Flush.{batch_of};
 ghost use Rattle.act_model.specs.Machine.{Machine, AddsRow, SetsState, Appends};
@@ -24,8 +28,8 @@ use disk_model::Disk;
 /// Whatever a crash between acts leaves of an archive's disk holds what is durable of a machine that it stood for, or that with the
 /// change that stood in doubt.
 pub fn a_crash_leaves_what_is_durable<D: Disk>()
-    ensures { (disk : D) (catalogue : CatalogueState) (ms : List ManifestState) (tails : List TailState) (kept : List RowMemory) (doubt : Option Doubt) (doors : ℕ) (m : Machine) (image : Files)
-        → IsTrue D.tells → Stands D.tells (record { at = seen_on D.files D.opened D.past D.faults catalogue ms disk; tails = tails; kept = kept; doubt = doubt; doors = doors }) m → MayLeave (D.past disk) image → LeavesBetween (granularities ms) m image }
+    ensures { (disk : D) (catalogue : CatalogueState) (ms : List ManifestState) (limbo : List Retired) (pinned : FinMap nat_cmp PinOf) (tails : List TailState) (kept : List RowMemory) (doubt : Option Doubt) (doors : ℕ) (m : Machine) (image : Files)
+        → IsTrue D.tells → Stands D.tells (record { at = seen_on D.files D.opened D.past D.faults catalogue ms disk; limbo = limbo; pinned = pinned; tails = tails; kept = kept; doubt = doubt; doors = doors }) m → MayLeave (D.past disk) image → LeavesBetween (granularities ms) m image }
 {}
 
 /// What the stores make of a change is what the machine makes of it: where they held what is durable of a machine, they hold what is

@@ -1,6 +1,7 @@
 // What is kept in memory of each row, and of a change that stands in doubt.
 use event_types::State;
 use sampler::Scan;
+use series_model::Batch;
 
 /// What is kept of a row beside the catalogue and its tail.
 #[derive(Debug, Drop)]
@@ -18,4 +19,6 @@ pub enum Doubt {
     Row,
     /// A row's state was set.
     State { row: u32, to: State },
+    /// A batch was flushed, which the intake still holds.
+    Flush(Batch),
 }

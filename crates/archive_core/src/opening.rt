@@ -1,5 +1,6 @@
 // An archive is opened on stores, and gives them back.
-ghost use Rattle.std.specs.Prelude.{◌≡◌, ◌≤◌, ◌+◌, ◌==◌, ◌^◌, ◌-◌, ℕ, length, map, filter, min, IfOk, IfErr};
+ghost use Rattle.std.specs.FinMap as map;
+ghost use Rattle.std.specs.Prelude.{◌≡◌, ◌≤◌, ◌+◌, ◌==◌, ◌^◌, ◌-◌, [], ℕ, length, map, filter, min, IfOk, IfErr};
 ghost use Rattle.pv_catalog.specs.Rows.{AreRows};
 ghost use Rattle.three_stores.specs.Change.{Has};
 ghost use Rattle.three_stores.specs.Seen.{seen};
@@ -29,7 +30,8 @@ fn end_of(entries: &[Entry]) -> u64
     }
 }
 
-fn end_in<D: Disk>(store: &TierStore<D>, number: u8, row: u32) -> u64
+// That of the store of this number.
+pub(crate) fn end_in<D: Disk>(store: &TierStore<D>, number: u8, row: u32) -> u64
     requires first { 1 ≤ number }
     requires last { number ≤ length store.now.manifests.items }
     ensures { (place : ℕ) → number ≡ place + 1 → result ≡ end_at store.now.manifests.items place row }
@@ -74,11 +76,13 @@ fn open_rows<D: Disk>(alloc: Global, store: &TierStore<D>) -> Result<Vec<RowMemo
 }
 
 impl<D: Disk> Archive<D> {
-    /// The archive of stores that no change stands in doubt of, with so many doors. All that is durable is accepted, and nothing else.
+    /// The archive of stores that no change stands in doubt of and that have no pin and no file in limbo, with so many doors. All that is durable is accepted, and nothing else.
     ///
     /// `Err` comes for want of memory alone, and gives the stores back.
     pub fn of(alloc: Global, store: TierStore<D>, doors: u32) -> Result<Archive<D>, TierStore<D>>
         requires settled { (held : Stores) × Has D.tells (seen D.Disk store) held }
+        requires limbo { store.limbo.items ≡ [] }
+        requires pins { store.pinned ≡ map.empty }
         ensures opened { IfOk result (λ archive. OpensAs D.tells (seen D.Disk store) doors (parts D.Disk archive)) }
         ensures store { IfOk result (λ archive. archive.store ≡ store) }
         ensures back { IfErr result (λ given. given ≡ store) }

@@ -11,6 +11,7 @@ ghost use Rattle.archive_core.specs.Parts.{parts};
 ghost use Rattle.archive_core.specs.Stands.{Stands};
 
 use crate::Archive;
+use crate::flushing::trim_flushed;
 use crate::memory::{Doubt, RowMemory};
 use disk_model::{Disk, DiskErr};
 use event_types::State;
@@ -61,6 +62,7 @@ impl<D: Disk> Archive<D> {
     {
         self.store.review()?;
         clear_set(self.store.catalogue().rows(), &mut self.rows, &self.doubt);
+        trim_flushed(&self.store, &mut self.intake, &self.doubt);
         self.doubt = None;
         Ok(())
     }

@@ -4,6 +4,7 @@ ghost use Rattle.event_types.specs.declared.about.State.{State};
 ghost use Rattle.pv_catalog.specs.Catalogue.{HasState};
 ghost use Rattle.tier_store.specs.Ends.{end_of_switch};
 ghost use Rattle.three_stores.specs.Change.{Has, Acts};
+ghost use Rattle.three_stores.specs.Pinned.{seen_all, KeepsShown};
 ghost use Rattle.three_stores.specs.Seen.{seen};
 ghost use Rattle.three_stores.specs.Stores.{Stores};
 ghost use Rattle.act_model.specs.Asks.{paused_reply, resumed_reply};
@@ -91,7 +92,10 @@ fn row_to_switch(catalogue: &Catalogue, name: &[u8], switch: Switch) -> Result<u
 fn switch_in<D: Disk>(store: &mut TierStore<D>, row: u32, switch: Switch) -> Result<(), StateErr>
     requires row { row < length store.old.catalogue.rows }
     requires has { (held : Stores) × Has D.tells (seen D.Disk store.old) held }
-    ensures { Acts D.tells (switching switch row) (seen D.Disk store.old) (seen D.Disk store.new) (end_of_switch result) }
+    ensures acts { Acts D.tells (switching switch row) (seen D.Disk store.old) (seen D.Disk store.new) (end_of_switch result) }
+    ensures limbo { store.new.limbo ≡ store.old.limbo }
+    ensures pins { store.new.pinned ≡ store.old.pinned }
+    ensures shown { KeepsShown D.tells (seen_all D.Disk store.old) (seen_all D.Disk store.new) }
 {
     match switch {
         Switch::Pause => store.pause(row),

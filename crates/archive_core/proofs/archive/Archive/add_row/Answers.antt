@@ -1,4 +1,4 @@
-use Rattle.std.proofs.Common.{◌≡◌, ℕ, Bool, List, [], ◌∷◌, ◌++◌, length, take, Some, Result, Ok, Err, sym, ◌∙◌, ap, subst}
+use Rattle.std.proofs.Common.{refl, ◌≡◌, ℕ, Bool, List, [], ◌∷◌, ◌++◌, length, take, Some, Result, Ok, Err, sym, ◌∙◌, ap, subst}
 use Rattle.std.proofs.lemmas.Result.{err_from_is_err_and}
 use Rattle.disk_model.specs.declared.disk.DiskErr.{DiskErr}
 use Rattle.disk_model.specs.declared.disk.DiskErr.TheVariants.{Fault, Memory}
@@ -15,6 +15,7 @@ use Rattle.archive_core.specs.declared.memory.RowMemory.{RowMemory}
 use Rattle.archive_core.specs.Ends.{ChangesTo}
 use Rattle.archive_core.specs.Memory.{fresh_memory}
 use Rattle.archive_core.specs.Parts.{parts}
+use Rattle.archive_core.proofs.Changing.{keeps_pins, with_pins}
 use Rattle.archive_core.proofs.Registered.{row_done, row_failed, row_spent, row_unkept, row_unrefused}
 use Rattle.archive_core.proofs.archive.Archive.add_row.Goals as goal
 
@@ -59,16 +60,21 @@ returns-in-Ok-clause-changes g c m r =
     let p = parts g.D.Disk c.args.self.now in
     let old = c.args.self.now.rows.items in
     let new = seen g.D.Disk c.register.new.self in
+    let keeps = keeps_pins g.D.Disk.tells p new c.register.new.self.limbo.items c.register.new.self.pinned (ap (λ l. l.items) c.register.ensures.limbo) c.register.ensures.pins c.register.ensures.shown in
     let rows = c.rows-count.ensures.value ∙ ap (λ x. x.rows) c.catalogue.ensures in
     let kept = c.in_ok-add_memory.ensures.ok ∙ ap (λ (rs : List Row). take (length rs) old ++ fresh_memory c.args.about.now ∷ []) rows in
     let acts = told g.D.Disk.tells c.args.name.now c.args.about.now _ _ c.register.result (Ok c.in-Ok.row) c.in-Ok.is c.register.ensures.acts in
-    subst (λ (k : List RowMemory). ChangesTo {A = ℕ} g.D.Disk.tells (AddsRow c.args.name.now c.args.about.now) p m (record p { at = new; kept = k }) (Ok c.in-Ok.row)) (sym kept)
-    ((row_done g.D.Disk.tells p m r c.args.name.now c.args.about.now c.requires.free new c.in-Ok.row acts).0)
+    subst (λ (k : List RowMemory). ChangesTo {A = ℕ} g.D.Disk.tells (AddsRow c.args.name.now c.args.about.now) p m (record p { at = new; limbo = c.register.new.self.limbo.items; pinned = c.register.new.self.pinned; kept = k }) (Ok c.in-Ok.row)) (sym kept)
+    (with_pins {A = ℕ} g.D.Disk.tells (AddsRow c.args.name.now c.args.about.now) p m (record p { at = new; kept = take (length c.args.self.now.store.catalogue.rows) old ++ fresh_memory c.args.about.now ∷ [] }) new c.register.new.self.limbo.items c.register.new.self.pinned (Ok c.in-Ok.row) keeps refl refl
+    ((row_done g.D.Disk.tells p m r c.args.name.now c.args.about.now c.requires.free new keeps.shown c.in-Ok.row acts).0))
 
 pub returns-in-Ok-clause-number : goal.returns-in-Ok-clause-number
 returns-in-Ok-clause-number g c =
     let was = c.requires.rests in
-    (row_done g.D.Disk.tells (parts g.D.Disk c.args.self.now) was.0 was.1 c.args.name.now c.args.about.now c.requires.free (seen g.D.Disk c.register.new.self) c.in-Ok.row
+    let p = parts g.D.Disk c.args.self.now in
+    let new = seen g.D.Disk c.register.new.self in
+    let keeps = keeps_pins g.D.Disk.tells p new c.register.new.self.limbo.items c.register.new.self.pinned (ap (λ l. l.items) c.register.ensures.limbo) c.register.ensures.pins c.register.ensures.shown in
+    (row_done g.D.Disk.tells p was.0 was.1 c.args.name.now c.args.about.now c.requires.free new keeps.shown c.in-Ok.row
     (told g.D.Disk.tells c.args.name.now c.args.about.now _ _ c.register.result (Ok c.in-Ok.row) c.in-Ok.is c.register.ensures.acts)).1
 
 pub returns-in-Err-Disk-Fault-clause-changes : goal.returns-in-Err-Disk-Fault-clause-changes
@@ -76,19 +82,23 @@ returns-in-Err-Disk-Fault-clause-changes g c m r =
     let p = parts g.D.Disk c.args.self.now in
     let old = c.args.self.now.rows.items in
     let new = seen g.D.Disk c.register.new.self in
+    let keeps = keeps_pins g.D.Disk.tells p new c.register.new.self.limbo.items c.register.new.self.pinned (ap (λ l. l.items) c.register.ensures.limbo) c.register.ensures.pins c.register.ensures.shown in
     let rows = c.rows-count.ensures.value ∙ ap (λ x. x.rows) c.catalogue.ensures in
     let kept = c.in_ok-add_memory.ensures.ok ∙ ap (λ (rs : List Row). take (length rs) old ++ fresh_memory c.args.about.now ∷ []) rows in
     let acts = told g.D.Disk.tells c.args.name.now c.args.about.now _ _ c.register.result (Err (Disk Fault)) (c.in-Err-Disk-Fault.is ∙ ap (λ (x : RegisterErr). Err x) (c.in-Err-Disk-Fault.field-0-is ∙ ap (λ (d : DiskErr). Disk d) c.in-Err-Disk-Fault.field-0-0-is)) c.register.ensures.acts in
-    subst (λ (k : List RowMemory). ChangesTo {A = ℕ} g.D.Disk.tells (AddsRow c.args.name.now c.args.about.now) p m (record p { at = new; kept = k; doubt = Some kind.Row }) (Err Fault)) (sym kept)
-    (row_failed g.D.Disk.tells p m r c.args.name.now c.args.about.now c.requires.free new acts)
+    subst (λ (k : List RowMemory). ChangesTo {A = ℕ} g.D.Disk.tells (AddsRow c.args.name.now c.args.about.now) p m (record p { at = new; limbo = c.register.new.self.limbo.items; pinned = c.register.new.self.pinned; kept = k; doubt = Some kind.Row }) (Err Fault)) (sym kept)
+    (with_pins {A = ℕ} g.D.Disk.tells (AddsRow c.args.name.now c.args.about.now) p m (record p { at = new; kept = take (length c.args.self.now.store.catalogue.rows) old ++ fresh_memory c.args.about.now ∷ []; doubt = Some kind.Row }) new c.register.new.self.limbo.items c.register.new.self.pinned (Err Fault) keeps refl refl
+    (row_failed g.D.Disk.tells p m r c.args.name.now c.args.about.now c.requires.free new keeps.shown acts))
 
 pub returns-in-Err-Disk-Memory-clause-changes : goal.returns-in-Err-Disk-Memory-clause-changes
 returns-in-Err-Disk-Memory-clause-changes g c m r =
     let p = parts g.D.Disk c.args.self.now in
     let old = c.args.self.now.rows.items in
     let new = seen g.D.Disk c.register.new.self in
+    let keeps = keeps_pins g.D.Disk.tells p new c.register.new.self.limbo.items c.register.new.self.pinned (ap (λ l. l.items) c.register.ensures.limbo) c.register.ensures.pins c.register.ensures.shown in
     let rows = c.rows-count.ensures.value ∙ ap (λ x. x.rows) c.catalogue.ensures in
     let kept = c.in_ok-add_memory.ensures.ok ∙ ap (λ (rs : List Row). take (length rs) old ++ fresh_memory c.args.about.now ∷ []) rows in
     let acts = told g.D.Disk.tells c.args.name.now c.args.about.now _ _ c.register.result (Err (Disk Memory)) (c.in-Err-Disk-Memory.is ∙ ap (λ (x : RegisterErr). Err x) (c.in-Err-Disk-Memory.field-0-is ∙ ap (λ (d : DiskErr). Disk d) c.in-Err-Disk-Memory.field-0-0-is)) c.register.ensures.acts in
-    subst (λ (k : List RowMemory). ChangesTo {A = ℕ} g.D.Disk.tells (AddsRow c.args.name.now c.args.about.now) p m (record p { at = new; kept = k }) (Err Memory)) (sym kept)
-    (row_spent g.D.Disk.tells p m r c.args.name.now c.args.about.now c.requires.free new acts)
+    subst (λ (k : List RowMemory). ChangesTo {A = ℕ} g.D.Disk.tells (AddsRow c.args.name.now c.args.about.now) p m (record p { at = new; limbo = c.register.new.self.limbo.items; pinned = c.register.new.self.pinned; kept = k }) (Err Memory)) (sym kept)
+    (with_pins {A = ℕ} g.D.Disk.tells (AddsRow c.args.name.now c.args.about.now) p m (record p { at = new; kept = take (length c.args.self.now.store.catalogue.rows) old ++ fresh_memory c.args.about.now ∷ [] }) new c.register.new.self.limbo.items c.register.new.self.pinned (Err Memory) keeps refl refl
+    (row_spent g.D.Disk.tells p m r c.args.name.now c.args.about.now c.requires.free new keeps.shown acts))

@@ -3,6 +3,6 @@ use Rattle.archive_core.proofs.Opened.{opened_as}
 use Rattle.archive_core.proofs.archive.Archive.of.Goals as goal
 
 pub returns-in-Ok-clause-opened : goal.returns-in-Ok-clause-opened
-returns-in-Ok-clause-opened g c held rule has same =
-    let r = opened_as g.D.Disk.tells _ held has c.in-Ok.ensures.are rule c.from.result same c.new.result c.in-Ok.rows.items c.new.ensures c.in-Ok.ensures.rows in
+returns-in-Ok-clause-opened g c held rule has same headers =
+    let r = opened_as g.D.Disk.tells _ held has c.in-Ok.ensures.are rule c.from.result same headers c.args.store.limbo.items c.args.store.pinned c.new.result c.in-Ok.rows.items c.requires.limbo c.requires.pins c.new.ensures c.in-Ok.ensures.rows in
     (r.0, r.1, r.2, r.3, r.4 ∙ c.from.ensures)

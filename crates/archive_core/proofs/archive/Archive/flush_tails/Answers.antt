@@ -1,0 +1,34 @@
+use Rattle.std.proofs.Common.{◌≡◌, ℕ, true, Result, Err, IfOk, sym, ◌∙◌, ap, subst}
+use Rattle.std.proofs.lemmas.Result.{err_from_is_err_and}
+use Rattle.disk_model.specs.declared.disk.DiskErr.{DiskErr}
+use Rattle.append_buffer.specs.Tails.{batch_of}
+use Rattle.act_model.specs.Flush.{count_in}
+use Rattle.act_model.specs.Machine.{Machine}
+use Rattle.archive_core.specs.Parts.{parts}
+use Rattle.archive_core.specs.Stands.{Rests}
+use Rattle.archive_core.proofs.FlushAct.{flush_told, flush_cut, flush_ends, crash_flush, crash_flush_cut}
+use Rattle.archive_core.proofs.archive.Archive.flush_tails.Goals as goal
+
+pub returns-in_err-settle-clause-step : goal.returns-in_err-settle-clause-step
+returns-in_err-settle-clause-step g c =
+    let p = err_from_is_err_and c.from_residual.result c.from_residual.ensures.1 in
+    let old = parts g.D.Disk c.args.self.now in
+    let new = parts g.D.Disk c.settle.new.self in
+    flush_told g.D.Disk.tells c.args.limit old new (Err c.in_err-settle.field-0.0) c.from_residual.result (sym (p.1 ∙ ap (λ (e : DiskErr). Err e) p.2))
+    (flush_cut g.D.Disk.tells c.args.limit c.requires.limit old new c.settle.result c.in_err-settle.field-0.0 c.in_err-settle.was c.in_err-settle.ensures.still c.settle.ensures.reads)
+
+pub returns-in_err-settle-clause-crash : goal.returns-in_err-settle-clause-crash
+returns-in_err-settle-clause-crash g c = crash_flush_cut g.D.Disk.tells c.args.limit c.requires.limit (parts g.D.Disk c.args.self.now) (parts g.D.Disk c.settle.new.self) c.settle.ensures.reads.any_moment
+
+pub flush_settled-requires-clause-rests : goal.flush_settled-requires-clause-rests
+flush_settled-requires-clause-rests g c =
+    let was = c.requires.stands in
+    let then = c.in_ok-settle.ensures.settled was.0 was.1 in
+    (record then.0 { faults = (parts g.D.Disk c.settle.new.self).at.faults }, then.2)
+
+pub returns-clause-step : goal.returns-clause-step
+returns-clause-step g c = flush_ends g.D.Disk.tells c.args.limit c.requires.limit (parts g.D.Disk c.args.self.now) (parts g.D.Disk c.settle.new.self) c.in_ok-settle.ensures.settled c.settle.ensures.reads.faults (parts g.D.Disk c.flush_settled.new.self) c.flush_settled.result c.flush_settled.ensures.changes
+    (λ samples is. subst (λ (x : Result ℕ DiskErr). IfOk x (λ n. (m : Machine) → Rests g.D.Disk.tells (parts g.D.Disk c.settle.new.self) m → m.told ≡ true → n ≡ count_in (batch_of c.args.limit c.settle.new.self.intake))) is c.flush_settled.ensures.count)
+
+pub returns-clause-crash : goal.returns-clause-crash
+returns-clause-crash g c = crash_flush g.D.Disk.tells c.args.limit c.requires.limit (parts g.D.Disk c.args.self.now) (parts g.D.Disk c.settle.new.self) c.in_ok-settle.ensures.settled c.settle.ensures.reads.faults (parts g.D.Disk c.flush_settled.new.self) c.flush_settled.result c.settle.ensures.reads.any_moment c.settle.ensures.granularity c.flush_settled.ensures.changes

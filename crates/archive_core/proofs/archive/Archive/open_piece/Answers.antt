@@ -1,0 +1,41 @@
+use Rattle.std.proofs.Common.{refl, ap}
+use Rattle.std.specs.FinMap.{get}
+use Rattle.pinned_pieces.specs.Pieces.{asked}
+use Rattle.three_stores.specs.Pinned.{seen_all}
+use Rattle.three_stores.specs.Seen.{seen}
+use Rattle.act_model.specs.Step.{refuse_by, change_by}
+use Rattle.act_model.specs.declared.acts.Act.TheVariants.{OpenPiece}
+use Rattle.archive_core.specs.Parts.{parts}
+use Rattle.archive_core.proofs.Acting.{crash_settling}
+use Rattle.archive_core.proofs.Changing.{keeps_pins}
+use Rattle.archive_core.proofs.Opens.{is_opening, open_ends}
+use Rattle.archive_core.proofs.Settled.{begun}
+use Rattle.archive_core.proofs.archive.Archive.open_piece.Goals as goal
+
+pub open_piece-requires : goal.open_piece-requires
+open_piece-requires g c =
+    let was = c.requires.stands in
+    record { begun = begun g.D.Disk.tells (parts g.D.Disk c.args.self.now) was.0 was.1; stand = was.1.pins.stand }
+
+pub opened-requires : goal.opened-requires
+opened-requires g c =
+    let call = c.open_piece.ensures in
+    record {
+      given = is_opening g.row.D-Reader.Denot g.D.Disk.tells g.D.Reader.ReadAt.tells g.D.Reader.ReadAt.bytes g.D.Reader.ReadAt.faults (seen_all g.D.Disk c.args.self.now.store) (asked c.args.who (get c.args.self.now.store.pinned c.args.pin)) c.args.i c.open_piece.result
+          (λ e is. (call.refused e is).0) (λ own is none. (call.no_piece own is none).0) call.piece;
+    }
+
+pub returns-clause-step : goal.returns-clause-step
+returns-clause-step g c = λ m s.
+    let call = c.open_piece.ensures in
+    let same = call.same in
+    let p = parts g.D.Disk c.args.self.now in
+    let new = seen g.D.Disk c.open_piece.new.self in
+    let keeps = keeps_pins g.D.Disk.tells p new c.open_piece.new.self.limbo.items c.open_piece.new.self.pinned (ap (λ l. l.items) same.3) same.2 call.shown in
+    let ends = open_ends g.row.D-Reader.Denot g.D.Disk.tells g.D.Reader.ReadAt.tells g.D.Reader.ReadAt.bytes g.D.Reader.ReadAt.faults g.met.D.Disk.readers p c.args.who c.args.pin c.args.i c.open_piece.result new
+    (λ e is. let told = call.refused e is in (told.0, ap (λ store. seen g.D.Disk store) told.1)) (λ own is none. let told = call.no_piece own is none in (told.0, ap (λ store. seen g.D.Disk store) told.1)) call.piece
+    call.kept same.0 (ap (λ l. l.items) same.1) keeps.shown call.reads.faults call.reads.cause m s in
+    rw (c.opened.ensures, same.2, same.3) ends
+
+pub returns-clause-crash : goal.returns-clause-crash
+returns-clause-crash g c = crash_settling g.D.Disk.tells (refuse_by (OpenPiece c.args.pin c.args.i)) (change_by (OpenPiece c.args.pin c.args.i)) (λ m f. refl) (λ m f. refl) (parts g.D.Disk c.args.self.now) (record (parts g.D.Disk c.args.self.now) { at = seen g.D.Disk c.open_piece.new.self }) c.open_piece.ensures.reads.any_moment

@@ -1,0 +1,51 @@
+use Rattle.std.proofs.Common.{ℕ, Err, Result, refl, sym, ◌∙◌, ap, subst}
+use Rattle.std.proofs.lemmas.Result.{err_from_is_err_and}
+use Rattle.disk_model.specs.declared.disk.DiskErr.{DiskErr}
+use Rattle.three_stores.specs.Seen.{seen}
+use Rattle.archive_core.specs.Ends.{Steps}
+use Rattle.archive_core.specs.Parts.{parts}
+use Rattle.archive_core.specs.Sweeping.{sweep_reply}
+use Rattle.act_model.specs.Sweep.{SweepStep}
+use Rattle.archive_core.proofs.Settled.{begun}
+use Rattle.archive_core.proofs.SweepAct.{none_there, sweep_cut, sweep_ends, crash_sweep, crash_sweep_cut}
+use Rattle.archive_core.proofs.archive.Archive.sweep_stores.Goals as goal
+
+pub returns-in_err-settle-clause-step : goal.returns-in_err-settle-clause-step
+returns-in_err-settle-clause-step g c =
+    let e = err_from_is_err_and c.from_residual.result c.from_residual.ensures.1 in
+    let old = parts g.D.Disk c.args.self.now in
+    let new = parts g.D.Disk c.settle.new.self in
+    subst (λ (r : Result ℕ DiskErr). Steps g.D.Disk.tells SweepStep old (sweep_reply r) new) (sym (e.1 ∙ ap (λ (d : DiskErr). Err d) e.2))
+    (sweep_cut g.D.Disk.tells old new c.settle.result c.in_err-settle.field-0.0 c.in_err-settle.was c.in_err-settle.ensures.still c.settle.ensures.reads)
+
+pub returns-in_err-settle-clause-crash : goal.returns-in_err-settle-clause-crash
+returns-in_err-settle-clause-crash g c = crash_sweep_cut g.D.Disk.tells (parts g.D.Disk c.args.self.now) (parts g.D.Disk c.settle.new.self) c.settle.ensures.reads.any_moment
+
+pub sweep-requires-clause-begun : goal.sweep-requires-clause-begun
+sweep-requires-clause-begun g c =
+    let was = c.requires.stands in
+    let then = c.in_ok-settle.ensures.settled was.0 was.1 in
+    begun g.D.Disk.tells (parts g.D.Disk c.settle.new.self) (record then.0 { faults = (parts g.D.Disk c.settle.new.self).at.faults }) then.2.stands
+
+pub sweep-requires-clause-stands : goal.sweep-requires-clause-stands
+sweep-requires-clause-stands g c =
+    let was = c.requires.stands in
+    let then = c.in_ok-settle.ensures.settled was.0 was.1 in
+    none_there (seen g.D.Disk c.settle.new.self.store) c.settle.new.self.store.limbo.items then.2.stands.plain.none_retired
+
+pub returns-clause-step : goal.returns-clause-step
+returns-clause-step g c =
+    let q = parts g.D.Disk c.settle.new.self in
+    let call = c.sweep.ensures in
+    let new = record q { at = seen g.D.Disk c.sweep.new.self; limbo = c.sweep.new.self.limbo.items; pinned = c.sweep.new.self.pinned } in
+    sweep_ends g.D.Disk.tells (parts g.D.Disk c.args.self.now) q c.in_ok-settle.ensures.settled c.settle.ensures.reads.faults new _ refl c.sweep.result
+    (record { acts = call.acts; swept = call.swept; failed = call.failed; leaves = call.leaves; pins = call.pins; nothing = λ settled. (let same = call.nothing settled in (same.0, ap (λ l. l.items) same.1)) })
+
+pub returns-clause-crash : goal.returns-clause-crash
+returns-clause-crash g c =
+    let q = parts g.D.Disk c.settle.new.self in
+    let call = c.sweep.ensures in
+    let new = record q { at = seen g.D.Disk c.sweep.new.self; limbo = c.sweep.new.self.limbo.items; pinned = c.sweep.new.self.pinned } in
+    crash_sweep g.D.Disk.tells (parts g.D.Disk c.args.self.now) q c.in_ok-settle.ensures.settled c.settle.ensures.reads.faults new _ refl c.sweep.result
+    (record { acts = call.acts; swept = call.swept; failed = call.failed; leaves = call.leaves; pins = call.pins; nothing = λ settled. (let same = call.nothing settled in (same.0, ap (λ l. l.items) same.1)) })
+    c.settle.ensures.reads.any_moment c.settle.ensures.granularity

@@ -1,0 +1,139 @@
+// Flushing: what is accepted becomes durable, and the intake gives it up.
+ghost use Rattle.std.specs.Prelude.{◌≡◌, ◌≤◌, ◌∷◌, ◌↔◌, [], ℕ, length, true, IfOk, IsTrue};
+ghost use Rattle.append_buffer.specs.Tails.{tail_at, batch_of};
+ghost use Rattle.series_model.specs.Series.{end_of, since};
+ghost use Rattle.act_model.specs.Asks.{flushed_reply};
+ghost use Rattle.act_model.specs.Changes.{of_row};
+ghost use Rattle.act_model.specs.Flush.{FlushStep, count_in};
+ghost use Rattle.act_model.specs.Machine.{Machine, Appends};
+ghost use Rattle.act_model.specs.Step.{refuse_by, change_by};
+ghost use Rattle.act_model.specs.declared.acts.Act.TheVariants.{Flush as FlushAct};
+ghost use Rattle.archive_core.specs.Ends.{Steps, LeavesByAct, ChangesTo};
+ghost use Rattle.archive_core.specs.Flushing.{GivesUp, ListsBatch, IsTrimmed, flush_reply};
+ghost use Rattle.archive_core.specs.Opening.{end_at};
+ghost use Rattle.archive_core.specs.Parts.{parts};
+ghost use Rattle.archive_core.specs.Stands.{Stands, Rests};
+
+use crate::Archive;
+use crate::memory::Doubt;
+use crate::opening::end_in;
+use act_model::Flushed;
+use append_buffer::Intake;
+use disk_model::{Disk, DiskErr};
+use series_model::{Batch, RowSamples};
+use three_stores::TierStore;
+
+// Gives up what the intake holds of one row of a batch.
+fn give_up_row(intake: &mut Intake, part: &RowSamples)
+    ensures { (i : ℕ) → (tail_at intake.new i).samples ≡ since (end_of (of_row i (part.now ∷ []))) (tail_at intake.old i).samples }
+{
+    let Some(last) = part.samples.items().last() else {
+        return;
+    };
+    intake.trim(part.row, last.t);
+}
+
+// Gives up what the intake holds of a batch.
+fn give_up(intake: &mut Intake, batch: &Batch)
+    ensures { GivesUp batch.now intake.old intake.new }
+{
+    let parts = batch.parts();
+    for part in parts {
+        give_up_row(intake, part);
+    }
+}
+
+// Whether store 1 lists all that a batch has of this row.
+fn lists_row<D: Disk>(store: &TierStore<D>, part: &RowSamples) -> bool
+    requires three { length store.now.manifests.items ≡ 3 }
+    ensures { IsTrue result ↔ (end_of part.now.samples ≤ end_at store.now.manifests.items 0 part.now.row) }
+{
+    match part.samples.items().last() {
+        Some(last) => last.t < end_in(store, 1, part.row),
+        None => true,
+    }
+}
+
+// Whether store 1 lists a batch, by the batch's first row.
+fn lists_batch<D: Disk>(store: &TierStore<D>, batch: &Batch) -> bool
+    requires three { length store.now.manifests.items ≡ 3 }
+    ensures { IsTrue result ↔ ListsBatch store.now.manifests.items batch.now }
+{
+    match batch.parts().first() {
+        Some(part) => lists_row(store, part),
+        None => true,
+    }
+}
+
+// Takes in a doubted flush, where store 1 lists its batch.
+pub(crate) fn trim_flushed<D: Disk>(
+    store: &TierStore<D>,
+    intake: &mut Intake,
+    doubt: &Option<Doubt>,
+)
+    requires three { length store.now.manifests.items ≡ 3 }
+    ensures { IsTrimmed store.now.manifests.items doubt.now intake.old intake.new }
+{
+    let Some(Doubt::Flush(batch)) = doubt else {
+        return;
+    };
+    if lists_batch(store, batch) {
+        give_up(intake, batch);
+    }
+}
+
+impl<D: Disk> Archive<D> {
+    // Flushes where nothing stands in doubt. The memory for the batch is taken before.
+    fn flush_settled(&mut self, limit: u64) -> Result<u64, DiskErr>
+        requires limit { 1 ≤ limit }
+        requires rests { (m : Machine) × Rests D.tells (parts D.Disk self.old) m }
+        ensures changes { (m : Machine) → Rests D.tells (parts D.Disk self.old) m → ChangesTo D.tells (Appends (batch_of limit self.old.intake)) (parts D.Disk self.old) m (parts D.Disk self.new) result }
+        ensures count { IfOk result (λ samples. (m : Machine) → Rests D.tells (parts D.Disk self.old) m → m.told ≡ true → samples ≡ count_in (batch_of limit self.old.intake)) }
+    {
+        let batch = self.intake.batch(limit)?;
+        match self.store.flush(&batch) {
+            Ok(samples) => {
+                give_up(&mut self.intake, &batch);
+                Ok(samples)
+            }
+            Err(DiskErr::Fault) => {
+                self.doubt = Some(Doubt::Flush(batch));
+                Err(DiskErr::Fault)
+            }
+            Err(DiskErr::Memory) => Err(DiskErr::Memory),
+        }
+    }
+
+    fn flush_tails(&mut self, limit: u64) -> Result<u64, DiskErr>
+        requires limit { 1 ≤ limit }
+        requires stands { (m : Machine) × Stands D.tells (parts D.Disk self.old) m }
+        ensures step { Steps D.tells (FlushStep limit) (parts D.Disk self.old) (flush_reply (parts D.Disk self.new) result) (parts D.Disk self.new) }
+        ensures crash { LeavesByAct D.tells (refuse_by (FlushAct limit)) (change_by (FlushAct limit)) (parts D.Disk self.old) (parts D.Disk self.new) }
+    {
+        self.settle()?;
+        self.flush_settled(limit)
+    }
+
+    /// Makes accepted samples durable: whole tails, in the order of rows, go to store 1 until they have `limit` bytes, and at least one
+    /// where any is held; each line is counted with its newline. It answers how many samples these are, how many bytes the intake still
+    /// holds, and how many doors are open. A change that stands in doubt is settled first.
+    ///
+    /// `DiskFault` comes only where the disk's count of faults rose in the call. The intake gives nothing up then: whether the samples are
+    /// durable may stand in doubt, and the next act that settles it finds out.
+    pub fn flush(&mut self, limit: u64) -> Flushed
+        requires limit { 1 ≤ limit }
+        requires stands { (m : Machine) × Stands D.tells (parts D.Disk self.old) m }
+        ensures step { Steps D.tells (FlushStep limit) (parts D.Disk self.old) (flushed_reply result) (parts D.Disk self.new) }
+        ensures crash { LeavesByAct D.tells (refuse_by (FlushAct limit)) (change_by (FlushAct limit)) (parts D.Disk self.old) (parts D.Disk self.new) }
+    {
+        match self.flush_tails(limit) {
+            Ok(samples) => Flushed::Flushed {
+                samples,
+                left: self.intake.held(),
+                doors: self.doors,
+            },
+            Err(DiskErr::Fault) => Flushed::DiskFault,
+            Err(DiskErr::Memory) => Flushed::Memory,
+        }
+    }
+}

@@ -1,0 +1,49 @@
+// Sweeping: files that were retired, and that nothing needs any more, are removed.
+ghost use Rattle.std.specs.Prelude.{◌≡◌};
+ghost use Rattle.act_model.specs.Asks.{swept_reply};
+ghost use Rattle.act_model.specs.Machine.{Machine};
+ghost use Rattle.act_model.specs.Step.{refuse_by, change_by};
+ghost use Rattle.act_model.specs.Sweep.{SweepStep};
+ghost use Rattle.act_model.specs.declared.acts.Act.TheVariants.{Sweep as SweepAct};
+ghost use Rattle.archive_core.specs.Ends.{Steps, LeavesByAct};
+ghost use Rattle.archive_core.specs.Parts.{parts};
+ghost use Rattle.archive_core.specs.Stands.{Stands};
+ghost use Rattle.archive_core.specs.Sweeping.{sweep_reply};
+
+use crate::Archive;
+use act_model::Swept;
+use disk_model::{Disk, DiskErr};
+
+// What one is answered who sweeps, as the act's own answer.
+fn swept(done: Result<u64, DiskErr>) -> Swept
+    ensures { swept_reply result ≡ sweep_reply done }
+{
+    match done {
+        Ok(files) => Swept::Swept { files },
+        Err(DiskErr::Fault) => Swept::DiskFault,
+        Err(DiskErr::Memory) => Swept::Memory,
+    }
+}
+
+impl<D: Disk> Archive<D> {
+    // Sweeps the stores. No move has copied into any of their files, since there are no moves yet.
+    fn sweep_stores(&mut self) -> Result<u64, DiskErr>
+        requires stands { (m : Machine) × Stands D.tells (parts D.Disk self.old) m }
+        ensures step { Steps D.tells SweepStep (parts D.Disk self.old) (sweep_reply result) (parts D.Disk self.new) }
+        ensures crash { LeavesByAct D.tells (refuse_by SweepAct) (change_by SweepAct) (parts D.Disk self.old) (parts D.Disk self.new) }
+    {
+        self.settle()?;
+        self.store.sweep(&[])
+    }
+
+    /// Removes the files that were retired and that nothing needs any more, and answers how many these are. As long as an archive has no
+    /// moves it retires nothing, so there are none. A change that stands in doubt is settled first. `DiskFault` comes only where the disk's
+    /// count of faults rose in the call, and `Memory` only from the disk.
+    pub fn sweep(&mut self) -> Swept
+        requires stands { (m : Machine) × Stands D.tells (parts D.Disk self.old) m }
+        ensures step { Steps D.tells SweepStep (parts D.Disk self.old) (swept_reply result) (parts D.Disk self.new) }
+        ensures crash { LeavesByAct D.tells (refuse_by SweepAct) (change_by SweepAct) (parts D.Disk self.old) (parts D.Disk self.new) }
+    {
+        swept(self.sweep_stores())
+    }
+}
