@@ -8,7 +8,7 @@
 //! move is running. With an hour's partitions of series 0 and 1, five of each ended, hold 5 and gather 3, it answers series 0 with three
 //! parts; while that move runs series 1 with three; and while both run the number of series 0's move.
 //!
-//! The tests of moves are in a crate of their own.
+//! The tests are in `archive_tests`.
 #![tactic(auto)]
 
 mod parts;

@@ -1,0 +1,32 @@
+use Rattle.std.proofs.Common.{List, [], None, Some, Option, refl, sym, subst, ap}
+use Rattle.std.specs.Prelude.{Result, Ok, Err}
+use Rattle.payload_info.specs.Info.{info_of}
+use Rattle.payload_info.specs.declared.info.PayloadInfo.{PayloadInfo}
+use Rattle.disk_model.specs.Disk.{DiskRecord}
+use Rattle.disk_model.specs.Record.{files_of, opened_of}
+use Rattle.partition_names.specs.declared.granularity.Granularity.{Granularity}
+use Rattle.act_model.specs.Rule.{Rule, Header}
+use Rattle.three_stores.specs.Seen.{granularities}
+use Rattle.three_reopen.specs.Reopen.{IsUnopened}
+use Rattle.archive_tests.proofs.script.opened.Goals as goal
+
+-- what a header says whose fields are these
+head_of : {E : Type 0} → Result PayloadInfo E → Option Header
+head_of (Ok info) = Some (record { ty = info.ty; year = info.year })
+head_of (Err e) = None
+
+-- a rule with the granularities of the stores that tells headers as PB files have them
+abbrev rule_of : List Granularity → Rule
+rule_of gs = record { granularity = gs; hold = []; gather = []; header = λ line. head_of (info_of line) }
+
+pub returns-in-Ok-of-clause-stands : goal.returns-in-Ok-of-clause-stands
+unfolding head_of
+returns-in-Ok-of-clause-stands c =
+    let has = c.in-Ok.ensures.has in
+    let archive = c.in-Ok-of.ensures.opened has.0 (rule_of (granularities c.in-Ok.store.manifests.items)) has.1 refl (λ message info is. ap head_of is) in
+    (archive.0, archive.3.stands)
+
+pub returns-clause-failed : goal.returns-clause-failed
+returns-clause-failed c =
+    let P : DiskRecord → Type 0 = λ disk. IsUnopened (files_of disk.calls) (opened_of disk.calls) in
+    subst P (sym c.in_ok-disk-in-Err.ensures) (c.in-Err.ensures.reopens refl).unopened

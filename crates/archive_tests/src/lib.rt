@@ -1,0 +1,17 @@
+//! The tests of an archive: acts on one, pins of its stores, and which of its partitions move.
+//!
+//! They stand apart from the crates that they test, since a crate with tests of its own is proved twice.
+#![tactic(auto)]
+
+#[cfg(test)]
+mod acting;
+#[cfg(test)]
+mod flushing;
+#[cfg(test)]
+mod moves;
+#[cfg(test)]
+mod pinning;
+#[cfg(test)]
+mod pins;
+#[cfg(test)]
+mod script;

@@ -1,0 +1,280 @@
+// Scripts: acts that are asked of an archive on a disk in memory, and what each is answered.
+ghost use Rattle.std.specs.Prelude.{◌≡◌, IfErr, IfOk, OnOk, true};
+ghost use Rattle.disk_model.specs.Record.{files_of, opened_of};
+ghost use Rattle.act_model.specs.Event.{IsEvent};
+ghost use Rattle.act_model.specs.Machine.{Machine};
+ghost use Rattle.archive_core.specs.Parts.{parts};
+ghost use Rattle.archive_core.specs.Stands.{Stands};
+ghost use Rattle.three_reopen.specs.Reopen.{IsUnopened, disk_in};
+
+use archive_core::Archive;
+use disk_model::{Disk, MemDisk};
+use etl_rules::Config;
+use event_types::{About, Method, PayloadType};
+use pb_lines::sample_of;
+use pv_name::PvName;
+use series_model::{Blob, Pairs, Reason, Sample};
+use std::alloc::Global;
+use std::test::Fail;
+use three_reopen::{ReopenErr, reopen};
+
+/// What is asked. All rows are of SCALAR_INT.
+#[derive(Clone, Copy)]
+pub(crate) enum Ask<'a> {
+    /// A row of this name.
+    Register(&'a [u8], Method),
+    Pause(&'a [u8]),
+    Resume(&'a [u8]),
+    /// To the row of this name a line of 2024, at a moment.
+    Offer(&'a [u8], &'a [u8], u64),
+    /// Of the row of this number, at a moment.
+    Tick(u32, u64),
+    /// Whole tails of so many bytes, at least 1.
+    Flush(u64),
+    DoorDone,
+}
+
+/// What is answered.
+#[derive(Clone, Copy, Debug, PartialEq, Eq)]
+pub(crate) enum Told {
+    Registered(u32),
+    NameTaken(u32),
+    KeyTaken(u32),
+    CatalogueFull,
+    NoSuchVariable,
+    NotRunning,
+    NotPaused,
+    Done,
+    Dropped(Reason),
+    IntakeFull(u64),
+    Kept,
+    Held,
+    NoRow,
+    TickNone,
+    NotDue(u64),
+    TickKept(u64),
+    Flushed { samples: u64, left: u64 },
+    Doors(u64),
+    DiskFault,
+    Memory,
+}
+
+fn told_of_register(answer: act_model::Registered) -> Told {
+    match answer {
+        act_model::Registered::Registered { row } => Told::Registered(row),
+        act_model::Registered::NameTaken { row } => Told::NameTaken(row),
+        act_model::Registered::KeyTaken { row } => Told::KeyTaken(row),
+        act_model::Registered::CatalogueFull => Told::CatalogueFull,
+        act_model::Registered::DiskFault => Told::DiskFault,
+        act_model::Registered::Memory => Told::Memory,
+    }
+}
+
+fn told_of_pause(answer: act_model::Paused) -> Told {
+    match answer {
+        act_model::Paused::NoSuchVariable => Told::NoSuchVariable,
+        act_model::Paused::NotRunning => Told::NotRunning,
+        act_model::Paused::Done => Told::Done,
+        act_model::Paused::DiskFault => Told::DiskFault,
+        act_model::Paused::Memory => Told::Memory,
+    }
+}
+
+fn told_of_resume(answer: act_model::Resumed) -> Told {
+    match answer {
+        act_model::Resumed::NoSuchVariable => Told::NoSuchVariable,
+        act_model::Resumed::NotPaused => Told::NotPaused,
+        act_model::Resumed::Done => Told::Done,
+        act_model::Resumed::DiskFault => Told::DiskFault,
+        act_model::Resumed::Memory => Told::Memory,
+    }
+}
+
+fn told_of_offer(answer: act_model::Offered) -> Told {
+    match answer {
+        act_model::Offered::Dropped(reason) => Told::Dropped(reason),
+        act_model::Offered::IntakeFull { held } => Told::IntakeFull(held),
+        act_model::Offered::Kept => Told::Kept,
+        act_model::Offered::Held => Told::Held,
+        act_model::Offered::Memory => Told::Memory,
+    }
+}
+
+fn told_of_tick(answer: act_model::Ticked) -> Told {
+    match answer {
+        act_model::Ticked::NoRow => Told::NoRow,
+        act_model::Ticked::TickNone => Told::TickNone,
+        act_model::Ticked::NotDue { due } => Told::NotDue(due),
+        act_model::Ticked::Dropped(reason) => Told::Dropped(reason),
+        act_model::Ticked::IntakeFull { held } => Told::IntakeFull(held),
+        act_model::Ticked::TickKept { t } => Told::TickKept(t),
+        act_model::Ticked::Memory => Told::Memory,
+    }
+}
+
+fn told_of_flush(answer: act_model::Flushed) -> Told {
+    match answer {
+        act_model::Flushed::DiskFault => Told::DiskFault,
+        act_model::Flushed::Flushed { samples, left, .. } => Told::Flushed { samples, left },
+        act_model::Flushed::Memory => Told::Memory,
+    }
+}
+
+/// What is kept of a variable that is sampled so.
+pub(crate) fn about(alloc: Global, method: Method) -> About {
+    About {
+        ty: PayloadType::ScalarInt,
+        method,
+        count: None,
+        headers: Pairs::from(Vec::new(alloc)),
+    }
+}
+
+// The sample of a line of 2024.
+fn sample(alloc: Global, line: &[u8]) -> Result<Sample, Fail>
+    ensures { IfOk result (λ s. IsEvent PayloadType.ScalarInt s) }
+{
+    if line.contains(&b'\n') {
+        return Err("two lines".into());
+    }
+    let mut work = Vec::new(alloc);
+    let t = sample_of(PayloadType::ScalarInt, 2024, line, &mut work)?;
+    let line = Blob::from(line.to_vec(alloc)?);
+    Ok(Sample { t, line })
+}
+
+/// What one act is answered.
+pub(crate) fn asked(
+    alloc: Global,
+    archive: &mut Archive<MemDisk>,
+    ask: Ask<'_>,
+) -> Result<Told, Fail>
+    requires { (m : Machine) × Stands true (parts ⟦<MemDisk as Disk>⟧ archive.old) m }
+    ensures { OnOk result ((m : Machine) × Stands true (parts ⟦<MemDisk as Disk>⟧ archive.new) m) }
+{
+    match ask {
+        Ask::Register(name, method) => {
+            let name = PvName::new(alloc, name)?;
+            let about = about(alloc, method);
+            Ok(told_of_register(archive.register(&name, &about)))
+        }
+        Ask::Pause(name) => Ok(told_of_pause(archive.pause(name))),
+        Ask::Resume(name) => Ok(told_of_resume(archive.resume(name))),
+        Ask::Offer(name, line, now) => {
+            let sample = sample(alloc, line)?;
+            let answer = archive.offer(name, PayloadType::ScalarInt, sample, now);
+            Ok(told_of_offer(answer))
+        }
+        Ask::Tick(row, now) => Ok(told_of_tick(archive.tick(row, now))),
+        Ask::Flush(limit) => Ok(told_of_flush(archive.flush(limit.max(1)))),
+        Ask::DoorDone => Ok(Told::Doors(archive.door_done().doors)),
+    }
+}
+
+// What is told of a change that is asked for once more after a fault: where it had been made, what is told of one that is made now.
+fn as_made(told: Told) -> Told {
+    match told {
+        Told::NameTaken(row) => Told::Registered(row),
+        Told::NotRunning | Told::NotPaused => Told::Done,
+        other => other,
+    }
+}
+
+// What one act is answered; after a fault, where `again` says so, what it is answered once more.
+fn asked_again(
+    alloc: Global,
+    archive: &mut Archive<MemDisk>,
+    ask: Ask<'_>,
+    again: bool,
+) -> Result<Told, Fail>
+    requires { (m : Machine) × Stands true (parts ⟦<MemDisk as Disk>⟧ archive.old) m }
+    ensures { OnOk result ((m : Machine) × Stands true (parts ⟦<MemDisk as Disk>⟧ archive.new) m) }
+{
+    let told = asked(alloc, archive, ask)?;
+    if !again || told != Told::DiskFault {
+        return Ok(told);
+    }
+    let told = asked(alloc, archive, ask)?;
+    Ok(as_made(told))
+}
+
+// Whether an answer is the script's. Where acts are asked for once more after a fault, a flush may take other tails than the script's: the
+// first had been made then.
+fn is_wanted(told: Told, want: Told, again: bool) -> bool {
+    match (told, want) {
+        (Told::Flushed { .. }, Told::Flushed { .. }) if again => true,
+        _ => told == want,
+    }
+}
+
+// Whether it is told that a change was made.
+fn is_made(told: Told) -> bool {
+    matches!(
+        told,
+        Told::Registered(_) | Told::Done | Told::Flushed { .. }
+    )
+}
+
+/// How a script ended.
+#[derive(Drop)]
+pub(crate) struct Ended {
+    /// How many changes were told to be made.
+    pub(crate) made: u64,
+    /// The first answer that isn't the script's, which ended it.
+    pub(crate) other: Option<Told>,
+    pub(crate) disk: MemDisk,
+}
+
+/// Asks acts of an archive as long as each is answered as the script has it.
+pub(crate) fn run(
+    alloc: Global,
+    mut archive: Archive<MemDisk>,
+    script: &[(Ask<'_>, Told)],
+    again: bool,
+) -> Result<Ended, Fail>
+    requires { (m : Machine) × Stands true (parts ⟦<MemDisk as Disk>⟧ archive) m }
+{
+    let mut made = 0u64;
+    let mut other = None;
+    for (ask, want) in script {
+        let told = asked_again(alloc, &mut archive, *ask, again)?;
+        if !is_wanted(told, *want, again) {
+            other = Some(told);
+            break;
+        }
+        made = made.saturating_add(u64::from(is_made(told)));
+    }
+    let disk = archive.into_store().into_disk();
+    Ok(Ended { made, other, disk })
+}
+
+/// An archive with two doors on a disk, or the disk, where it failed.
+pub(crate) fn opened(
+    alloc: Global,
+    disk: MemDisk,
+) -> Result<Result<Archive<MemDisk>, MemDisk>, Fail>
+    requires { IsUnopened (files_of disk.calls) (opened_of disk.calls) }
+    ensures stands { IfOk result (λ r. IfOk r (λ archive. (m : Machine) × Stands true (parts ⟦<MemDisk as Disk>⟧ archive) m)) }
+    ensures failed { IfOk result (λ r. IfErr r (λ disk. IsUnopened (files_of disk.calls) (opened_of disk.calls))) }
+{
+    match reopen(alloc, disk, &Config::shipped()) {
+        Ok(store) => match Archive::of(alloc, store, 2) {
+            Ok(archive) => Ok(Ok(archive)),
+            Err(_) => Err("want of memory".into()),
+        },
+        Err(e) => {
+            let disk = failed(e)?;
+            Ok(Err(disk))
+        }
+    }
+}
+
+// The disk that wasn't opened, for it failed.
+fn failed(e: ReopenErr<MemDisk>) -> Result<MemDisk, Fail>
+    ensures { IfOk result (λ disk. disk ≡ disk_in e) }
+{
+    match e {
+        ReopenErr::DiskFault(disk) => Ok(disk),
+        _ => Err("it isn't opened".into()),
+    }
+}
