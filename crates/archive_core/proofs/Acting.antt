@@ -9,15 +9,14 @@ use Rattle.disk_model.proofs.Passing.{passes_none, passes_then, passes_weaker}
 use Rattle.partition_names.specs.declared.granularity.Granularity.{Granularity}
 use Rattle.tier_store.proofs.Acting.{rose_after}
 use Rattle.three_stores.specs.Seen.{granularities}
-use Rattle.act_model.specs.Changes.{made}
+use Rattle.act_model.specs.Changes.{made, Settles}
 use Rattle.act_model.specs.Crash.{before_it, settled_there, with_change}
 use Rattle.act_model.specs.Machine.{Machine, Change}
-use Rattle.act_model.specs.Outcome.{Acts, all_go, refused_at_once, refused, runs, faults_first, faults_within, wants_memory, wants_memory_settled}
+use Rattle.act_model.specs.Outcome.{Acts, all_go, refused_at_once, refused, runs, faults_first, faults_between, faults_within, wants_memory, wants_memory_settled}
 use Rattle.act_model.specs.Reply.{Reply}
 use Rattle.act_model.specs.declared.acts.Answer.TheVariants as answer
-use Rattle.archive_core.specs.Ends.{Steps, SettlesTo, StandsStill, LeavesBetween, HoldsChanged, ChangesTo, LeavesWithin, LeavesByAct, disk_reply}
+use Rattle.archive_core.specs.Ends.{AskEnds, is_spent, is_failed, is_answered, Steps, SettlesTo, StandsStill, LeavesBetween, HoldsChanged, ChangesTo, LeavesWithin, LeavesByAct, disk_reply}
 use Rattle.archive_core.specs.Parts.{Parts}
-use Rattle.archive_core.specs.Pinning.{PinEnds}
 use Rattle.archive_core.specs.Stands.{Stands, Rests}
 use Rattle.archive_core.proofs.Crashes.{crash_leaves}
 
@@ -49,17 +48,24 @@ module _ (tells : Bool) (refuse : Machine → Option Reply) (run : Machine → R
         let was : m.faults ≡ p.at.faults = s.faults in
         (record mid.0 { faults = q.at.faults }, refused answer (pass m s) mid.1 (sym (refuses mid.0 q.at.faults) ∙ why (record mid.0 { faults = q.at.faults }) mid.2.stands) refl (omega (arith, was, more)), mid.2.stands)
 
-    -- it has run and made no change, or memory was wanting
-    pub ran_ends : Passed q → (new : Parts) (answer : Reply) → p.at.faults ≤ new.at.faults → ((m : Machine) → Rests tells q m → PinEnds tells run m answer new) → ActEnds answer new
-    ran_ends passed new answer later ends = λ m s.
+    -- it was asked: it is answered, the disk failed, or memory was wanting
+    pub asked_ends : Passed q → (new : Parts) (answer : Reply) → p.at.faults ≤ new.at.faults → ((m : Machine) → Rests tells q m → AskEnds tells run q m new answer) → ActEnds answer new
+    asked_ends passed new answer later ends = λ m s.
         let mid = settles m s in
         let n : Machine = record mid.0 { faults = q.at.faults } in
-        let was : m.faults ≡ p.at.faults = s.faults in
-        let free = sym (refuses mid.0 q.at.faults) ∙ passed n mid.2.stands in
-        elim (ends n mid.2) [
-          | inl spent ↦ (n, subst (λ (a : Reply). Acts refuse run change all_go m a n) (sym spent.0) (wants_memory_settled (pass m s) mid.1 refl (omega (arith, was, more))), spent.1)
-          | inr ran ↦ (let now : ran.0.faults ≡ new.at.faults = ran.2.faults in (ran.0, runs answer (pass m s) mid.1 free (goes mid.0 q.at.faults answer ran.0 ran.1) (omega (arith, was, later, now)), ran.2))
-        ]
+        by_end m s mid.0 mid.1 (sym (refuses mid.0 q.at.faults) ∙ passed n mid.2.stands) answer (ends n mid.2)
+      where
+        by_end : (m : Machine) → Stands tells p m → (mid : Machine) → Settles m mid → refuse mid ≡ None → (given : Reply) → AskEnds tells run q (record mid { faults = q.at.faults }) new given → (n : Machine) × Acts refuse run change all_go m given n × Stands tells new n
+        by_end m s mid settled free _ (is_spent stands) =
+            let was : m.faults ≡ p.at.faults = s.faults in
+            (record mid { faults = new.at.faults }, wants_memory_settled (pass m s) settled refl (omega (arith, was, later)), stands)
+        by_end m s mid settled free _ (is_failed stands rose) =
+            let rises : Rose m.faults new.at.faults = rw s.faults (rose_after p.at.faults q.at.faults new.at.faults more rose) in
+            (record mid { faults = new.at.faults }, faults_between (pass m s) settled refl rises, stands)
+        by_end m s mid settled free given (is_answered n ran stands) =
+            let was : m.faults ≡ p.at.faults = s.faults in
+            let now : n.faults ≡ new.at.faults = stands.faults in
+            (n, runs given (pass m s) settled free (goes mid q.at.faults given n ran) (omega (arith, was, later, now)), stands)
 
     -- there was no memory for it
     pub spent_ends : ((m : Machine) → Rests tells q m → Stands tells q m) → ActEnds answer.Memory q

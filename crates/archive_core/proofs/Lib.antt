@@ -30,4 +30,13 @@ pub mod PinActs
 pub mod Opens
 pub mod PinAct
 pub mod Asking
+pub mod PartLists
+pub mod DetailsAct
 pub mod SweepAct
+pub mod LimboTying
+pub mod LimboLists
+pub mod LimboMade
+pub mod LimboEnters
+pub mod SameNames
+pub mod LimboPinned
+pub mod LimboSwept

@@ -115,7 +115,7 @@ deeper_first i deep other (f ∷ fs) hs low = (one hs, deeper_first i deep other
     one (h ∷ hs) = (inl low, one hs)
 
 module _ (tells : Bool) (at : Seen) (m : Machine) (held : Stores) (has : Has tells at held) (holds : HoldsDurable held m) (gran : m.rule.granularity ≡ granularities at.manifests) (heads : TellsHeaders m.rule) (told : m.told ≡ true) (stands : IsTrue held.stands) (i : ℕ) (r : RowState) (here : slice_get m.rows i ≡ Some r) where
-  tier_is : (store : Store) → tier r store ≡ samples_of i (list_at (index_of store) held)
+  pub tier_is : (store : Store) → tier r store ≡ samples_of i (list_at (index_of store) held)
   tier_is Short = (holds.each i (kept_of r) (kept_to m.rows i r here)).is.short told
   tier_is Medium = (holds.each i (kept_of r) (kept_to m.rows i r here)).is.medium told
   tier_is Long = (holds.each i (kept_of r) (kept_to m.rows i r here)).is.long told
@@ -131,7 +131,7 @@ module _ (tells : Bool) (at : Seen) (m : Machine) (held : Stores) (has : Has tel
     pub own : AllByRecursion (λ (f : Filed). f.entry.series ≡ i) (of_row i (list_at (index_of store) held))
     pub apart : AreApart (of_row i (list_at (index_of store) held))
 
-  own_files : (store : Store) → OwnFiles store
+  pub own_files : (store : Store) → OwnFiles store
   own_files store =
       let three = has.known.three in
       let low = index_low store in

@@ -19,7 +19,7 @@ use Rattle.series_model.specs.declared.sample.Sample.{Sample}
 use Rattle.series_model.specs.Retrieval.{answer as answer_to}
 use Rattle.series_model.specs.Series.{end_of, over, IsRising}
 use Rattle.series_model.proofs.RisingLists.{RisesFrom-lower}
-use Rattle.tier_store.specs.Ends.{IsCut}
+use Rattle.tier_store.specs.Ends.{End, IsCut}
 use Rattle.three_stores.specs.Change.{Has}
 use Rattle.three_stores.specs.Opening.{end_of_answer}
 use Rattle.three_stores.specs.Pinned.{beside, KeepsShown, PinsStand}
@@ -36,9 +36,11 @@ use Rattle.act_model.specs.Reply.{Reply, reply_of}
 use Rattle.act_model.specs.Rows.{RowState, Short, durable, accepted}
 use Rattle.act_model.proofs.PinActs.{pins_sound}
 use Rattle.archive_core.specs.Parts.{Parts}
-use Rattle.archive_core.specs.Pinning.{IsPinning, PinEnds}
+use Rattle.archive_core.specs.Ends.{AskEnds, is_spent, is_answered}
+use Rattle.archive_core.specs.Pinning.{IsPinning}
 use Rattle.archive_core.specs.Pins.{IsPinOf}
 use Rattle.archive_core.specs.Stands.{Stands, Rests}
+use Rattle.archive_core.proofs.Asking.{end_kind}
 use Rattle.archive_core.proofs.Batches.{told_stands}
 use Rattle.archive_core.proofs.Changing.{rests_again}
 use Rattle.archive_core.proofs.KeptRows.{row_at}
@@ -52,45 +54,13 @@ use Rattle.archive_core.proofs.Standing.{pins_stand}
 
 -- what an answer says is so, or memory was wanting
 says_kind : {R : Type 0} (says : Answer R → Stores → Type 0) (held : Stores) (given : Answer R) → SaysOf says (end_of_answer given) held → (given ≡ answer.Memory) ⊎ says given held
-says_kind {R} says held (answer.Piece x0 x1 x2 x3) is = inr is
-says_kind {R} says held answer.DiskFault is = absurd is
-says_kind {R} says held answer.Memory is = inl refl
-says_kind {R} says held (answer.NameTaken x0) is = inr is
-says_kind {R} says held (answer.KeyTaken x0) is = inr is
-says_kind {R} says held answer.CatalogueFull is = inr is
-says_kind {R} says held (answer.Registered x0) is = inr is
-says_kind {R} says held answer.NoSuchVariable is = inr is
-says_kind {R} says held answer.NotRunning is = inr is
-says_kind {R} says held answer.NotPaused is = inr is
-says_kind {R} says held answer.Done is = inr is
-says_kind {R} says held (answer.Dropped x0) is = inr is
-says_kind {R} says held (answer.IntakeFull x0) is = inr is
-says_kind {R} says held answer.Kept is = inr is
-says_kind {R} says held answer.Held is = inr is
-says_kind {R} says held answer.NoRow is = inr is
-says_kind {R} says held answer.TickNone is = inr is
-says_kind {R} says held (answer.NotDue x0) is = inr is
-says_kind {R} says held (answer.TickKept x0) is = inr is
-says_kind {R} says held (answer.Flushed x0 x1 x2) is = inr is
-says_kind {R} says held (answer.Begun x0 x1 x2) is = inr is
-says_kind {R} says held (answer.Busy x0) is = inr is
-says_kind {R} says held (answer.Nothing x0) is = inr is
-says_kind {R} says held answer.NoMove is = inr is
-says_kind {R} says held (answer.Damaged x0 x1) is = inr is
-says_kind {R} says held answer.Copying is = inr is
-says_kind {R} says held answer.Copied is = inr is
-says_kind {R} says held answer.Published is = inr is
-says_kind {R} says held (answer.Retired x0) is = inr is
-says_kind {R} says held (answer.Again x0 x1) is = inr is
-says_kind {R} says held (answer.Swept x0) is = inr is
-says_kind {R} says held (answer.Pinned x0 x1 x2 x3 x4) is = inr is
-says_kind {R} says held answer.NoPin is = inr is
-says_kind {R} says held (answer.NotYours x0) is = inr is
-says_kind {R} says held (answer.NoPiece x0) is = inr is
-says_kind {R} says held answer.Unpinned is = inr is
-says_kind {R} says held (answer.NamesAre x0 x1) is = inr is
-says_kind {R} says held (answer.Described x0) is = inr is
-says_kind {R} says held (answer.DoorsLeft x0) is = inr is
+says_kind {R} says held given is = elim (end_kind given) [
+  | inl fault ↦ absurd (subst (λ (x : Answer R). SaysOf says (end_of_answer x) held) fault is)
+  | inr others ↦ elim others [
+    | inl spent ↦ inl spent
+    | inr done ↦ inr (subst (λ (end : End (Answer R) ⊥). SaysOf says end held) done is)
+  ]
+]
 
 filter_few : (test : Listed → Bool) (xs : List Listed) → length (filter test xs) ≤ length xs
 filter_few test [] = omega arith
@@ -114,7 +84,7 @@ module _ (R : Type 0) (tells reader_tells : Bool) (bytes : R → List ℕ) (faul
   then = record p { at = new; pinned = pinned }
 
   abbrev Ends : Answer R → Type 0
-  Ends given = PinEnds tells (Pins who name query) m (reply_of reader_tells bytes faults given) then
+  Ends given = AskEnds tells (Pins who name query) p m then (reply_of reader_tells bytes faults given)
 
   has_new : Has tells new held
   has_new = (settles.settled held (rests_has tells p m r)).0
@@ -159,7 +129,7 @@ module _ (R : Type 0) (tells reader_tells : Bool) (bytes : R → List ℕ) (faul
         let stand_now = subst (λ (x : FinMap nat_cmp PinOf). PinsStand tells (beside new p.limbo) x) q.made (stand r.stands.pins.stand) in
         let are = more_pins tells (beside new p.limbo) m.told m.rows m.pins p.pinned pin state own stay is stand_now in
         let stands = pins_stand tells (record p { at = new }) (record m { faults = new.faults }) (insert m.pins pin state) (insert p.pinned pin own) are (pins_sound r.stands.sound made) read in
-        inr (n, subst (λ (reply : Reply). Pins who name query m reply n) same made, subst (λ (x : FinMap nat_cmp PinOf). Stands tells (record p { at = new; pinned = x }) n) (sym q.made) stands)
+        is_answered n (subst (λ (reply : Reply). Pins who name query m reply n) same made) (subst (λ (x : FinMap nat_cmp PinOf). Stands tells (record p { at = new; pinned = x }) n) (sym q.made) stands)
       where
         by_pin : (o : Option PinState) → get m.pins pin ≡ o → get m.pins pin ≡ None
         by_pin None is = is
@@ -222,9 +192,7 @@ module _ (R : Type 0) (tells reader_tells : Bool) (bytes : R → List ℕ) (faul
     | inl spent ↦ (
         let cut : IsCut (end_of_answer result) = subst (λ (given : Answer R). IsCut (end_of_answer given)) (sym spent) tt in
         let same = unchanged cut in
-        let nothing = (settles.nothing (rests_has tells p m r).settled).2 in
-        let back : Stands tells (record p { at = new }) m = subst (λ (f : ℕ). Stands tells (record p { at = new }) (record m { faults = f })) (nothing ∙ sym r.stands.faults) read in
-        subst (λ (given : Answer R). Ends given) (sym spent) (inl (refl, subst (λ (x : FinMap nat_cmp PinOf). Stands tells (record p { at = new; pinned = x }) m) (sym same) back))
+        subst (λ (given : Answer R). Ends given) (sym spent) (is_spent (subst (λ (x : FinMap nat_cmp PinOf). Stands tells (record p { at = new; pinned = x }) (record m { faults = new.faults })) (sym same) read))
         )
     | inr says ↦ by_says result held says refl
   ]

@@ -67,7 +67,7 @@ lines_same : (xs : List Sample) → lines_of xs ≡ lines.lines_of xs
 lines_same [] = refl
 lines_same (x ∷ xs) = ap (λ (rest : List ℕ). x.line ++ (10 ∷ rest)) (lines_same xs)
 
-bytes_same : (i : ℕ) (p : Placed) → bytes_of (state_of i p) ≡ held.bytes_of p.file
+pub bytes_same : (i : ℕ) (p : Placed) → bytes_of (state_of i p) ≡ held.bytes_of p.file
 bytes_same i p = ap (λ (rest : List ℕ). p.file.head ++ (10 ∷ rest)) (lines_same p.file.samples)
 
 -- two fronts of one file, equally long, are the same

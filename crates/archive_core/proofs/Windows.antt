@@ -1,12 +1,13 @@
 -- The file of a partition is the window of what its store lists of the row.
-use Rattle.std.proofs.Common.{◌≡◌, ℕ, ◌+◌, ◌<◌, ◌≤◌, List, [], ◌∷◌, ◌++◌, Bool, true, false, cond, refl, ◌∙◌, ap, arith, append-nil}
+use Rattle.std.proofs.Common.{◌≡◌, ◌≢◌, ◌⊎◌, inl, inr, ℕ, ◌+◌, ◌<◌, ◌≤◌, List, [], ◌∷◌, ◌++◌, Bool, true, false, cond, refl, ◌∙◌, ap, arith, append-nil}
 use Rattle.std.specs.List.{AllByRecursion, flat_map}
 use Rattle.std.specs.Prelude.{All, nat_lt}
+use Rattle.std.proofs.lemmas.Bool.{cases_lt}
 use Rattle.std.proofs.lemmas.Bool.Decides.{nat_tests}
 use Rattle.std.proofs.lemmas.List.Elements.{All-head, All-tail}
 use Rattle.partition_names.specs.declared.granularity.Granularity.{Granularity}
 use Rattle.partition_names.specs.declared.part.Part.{Part}
-use Rattle.partition_names.specs.Part.{HoldsMoment}
+use Rattle.partition_names.specs.Part.{IsPart, HoldsMoment}
 use Rattle.partition_names.proofs.PartLemmas.{within}
 use Rattle.pv_catalog.specs.declared.row.Row.{Row}
 use Rattle.series_model.specs.declared.sample.Sample.{Sample}
@@ -120,3 +121,35 @@ windows g rows (f ∷ fs) filed apart = (window_first g rows f fs is others apar
     later : (hs : List Filed) → All (IsFiled g rows) hs → AllByRecursion (λ (h : Filed). f.entry.part.end ≤ h.entry.part.start) hs → AllByRecursion (λ (h : Filed). window h.entry.part (all_in fs) ≡ h.samples) hs → AllByRecursion (λ (h : Filed). window h.entry.part (f.samples ++ all_in fs) ≡ h.samples) hs
     later [] filed_hs behind so_far = tt
     later (h ∷ hs) filed_hs behind so_far = (window_later g rows f h (all_in fs) is (All-head (IsFiled g rows) h hs filed_hs) behind.0 ∙ so_far.0, later hs (All-tail (IsFiled g rows) h hs filed_hs) behind.1 so_far.1)
+
+-- a file has no sample of another partition
+pub window_apart : (g : Granularity) (rows : List Row) (f : Filed) (p : Part) → IsFiled g rows f → IsPart g p → f.entry.part.start ≢ p.start → window p f.samples ≡ []
+window_apart g rows f p is part apart = by_side (cases_lt f.entry.part.start p.start)
+  where
+    own : RisesFrom f.entry.part.start f.samples
+    own = rises_inside f.entry.part.start f.entry.part f.samples (omega arith) is.file.rising is.inside
+
+    wide : f.entry.part.start < f.entry.part.end
+    wide = (within g f.entry.part is.part).1
+
+    ends : end_from f.entry.part.start f.samples ≤ f.entry.part.end
+    ends = ends_inside f.entry.part.start f.entry.part f.samples (omega (arith, wide)) is.inside
+
+    lower : p.start ≤ f.entry.part.start → p.start < f.entry.part.start
+    lower le = elim (cases_lt p.start f.entry.part.start) [
+      | inl lt ↦ lt
+      | inr ge ↦ absurd (apart (omega (arith, le, ge)))
+    ]
+
+    by_side : (f.entry.part.start < p.start) ⊎ (p.start ≤ f.entry.part.start) → window p f.samples ≡ []
+    by_side (inl before_it) =
+        let behind : f.entry.part.end ≤ p.start = parts_apart g f.entry.part p is.part part before_it in
+        let some = (within g p part).1 in
+        ap (since p.start) (before_whole p.end f.entry.part.start f.samples own (omega (arith, ends, behind, some))) ∙ since_none p.start f.entry.part.start f.samples own (omega (arith, ends, behind))
+    by_side (inr not_before) =
+        let later : p.start < f.entry.part.start = lower not_before in
+        let behind : p.end ≤ f.entry.part.start = parts_apart g p f.entry.part part is.part later in
+        ap (since p.start) (before_none p.end f.entry.part.start f.samples own behind)
+
+pub window-append : (p : Part) (xs ys : List Sample) → window p (xs ++ ys) ≡ window p xs ++ window p ys
+window-append p xs ys = ap (since p.start) (before-append p.end xs ys) ∙ since-append p.start (before p.end xs) (before p.end ys)

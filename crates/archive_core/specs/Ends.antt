@@ -75,6 +75,15 @@ pub record ChangesTo {A : Type 0} (tells : Bool) (change : Change) (old : Parts)
   pub faults : old.at.faults ≤ new.at.faults
   pub cause : result ≡ Err Fault → Rose old.at.faults new.at.faults
 
+-- HOW AN ACT ENDS THAT ONLY ASKS THE STORES, WHERE NOTHING STOOD IN DOUBT
+
+-- Memory was wanting, or the disk failed, and but for the count of faults the archive stands for what it stood for; or it is answered as
+-- the machine answers.
+pub data AskEnds (tells : Bool) (Runs : Machine → Reply → Machine → Type 0) (old : Parts) (m : Machine) (new : Parts) : Reply → Type 0 where
+  is_spent : Stands tells new (record m { faults = new.at.faults }) → AskEnds tells Runs old m new answer.Memory
+  is_failed : Stands tells new (record m { faults = new.at.faults }) → Rose old.at.faults new.at.faults → AskEnds tells Runs old m new answer.DiskFault
+  is_answered : {reply : Reply} (n : Machine) → Runs m reply n → Stands tells new n → AskEnds tells Runs old m new reply
+
 -- WHAT A CRASH WITHIN AN ACT LEAVES
 
 -- The image holds what a crash within the act may leave, which has these refusals and may make this change.

@@ -8,4 +8,6 @@ pub mod Switching
 pub mod Opening
 pub mod Flushing
 pub mod Pinning
+pub mod Describing
 pub mod Sweeping
+pub mod LimboTies

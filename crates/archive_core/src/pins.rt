@@ -13,17 +13,18 @@ ghost use Rattle.act_model.specs.Reply.{reply_of};
 ghost use Rattle.act_model.specs.Step.{refuse_by, change_by};
 ghost use Rattle.act_model.specs.Unpin.{Unpins};
 ghost use Rattle.act_model.specs.declared.acts.Act.TheVariants.{OpenPiece as OpenPieceAct, Pin as PinAct};
-ghost use Rattle.archive_core.specs.Ends.{Steps, LeavesByAct};
+ghost use Rattle.archive_core.specs.Ends.{AskEnds, Steps, LeavesByAct};
 ghost use Rattle.archive_core.specs.Parts.{parts};
-ghost use Rattle.archive_core.specs.Pinning.{IsPinning, PinEnds};
+ghost use Rattle.archive_core.specs.Pinning.{IsPinning};
 ghost use Rattle.archive_core.specs.Pins.{IsOpening};
 ghost use Rattle.archive_core.specs.Stands.{Stands, Rests};
 
 use crate::Archive;
+use crate::answering::{answered, copied};
 use act_model::{Answer, PieceOpened, Pinned, Unpinned};
 use disk_model::{Disk, DiskErr, ReadAt};
-use series_model::{Query, Sample, Samples};
-use std::alloc::{AllocError, Global};
+use series_model::Query;
+use std::alloc::AllocError;
 
 // What the stores answer one who gives up a pin, as the act's own answer.
 fn unpinned<R: ReadAt>(answer: Answer<R>) -> Unpinned
@@ -61,24 +62,6 @@ fn opened<R: ReadAt>(answer: Answer<R>) -> PieceOpened<R>
         },
         Answer::Memory => PieceOpened::Memory,
         _ => unreachable!(),
-    }
-}
-
-// The same samples again.
-fn copied(alloc: Global, samples: &[Sample]) -> Result<Samples, AllocError>
-    ensures { IfOk result (λ copy. copy ≡ samples.now) }
-{
-    Ok(Samples::from(samples.to_vec(alloc)?))
-}
-
-// What is answered after a call of the disk.
-fn answered<R: ReadAt>(done: Result<Answer<R>, DiskErr>) -> Answer<R>
-    ensures { result ≡ answer_of done }
-{
-    match done {
-        Ok(answer) => answer,
-        Err(DiskErr::Fault) => Answer::DiskFault,
-        Err(DiskErr::Memory) => Answer::Memory,
     }
 }
 
@@ -120,7 +103,7 @@ impl<D: Disk> Archive<D> {
         requires rests { (m : Machine) × Rests D.tells (parts D.Disk self.old) m }
         requires named { HasName self.old.store.catalogue.rows row name.now }
         ensures pins { (m : Machine) → Rests D.tells (parts D.Disk self.old) m
-            → IfOk result (λ answer. PinEnds D.tells (Pins who name.now query) m (reply_of D.Reader.tells D.Reader.bytes D.Reader.faults answer) (parts D.Disk self.new)) }
+            → IfOk result (λ answer. AskEnds D.tells (Pins who name.now query) (parts D.Disk self.old) m (parts D.Disk self.new) (reply_of D.Reader.tells D.Reader.bytes D.Reader.faults answer)) }
         ensures answers { IfOk result IsPinning }
         ensures spent { OnErr result (self.new ≡ self.old) }
         ensures faults { D.faults self.old.store.disk ≤ D.faults self.new.store.disk }

@@ -1,4 +1,4 @@
-// Pins of an archive with a row of which some samples are in a file and one is in the tail.
+// Pins and details of an archive with a row of which some samples are in a file and one is in the tail.
 ghost use Rattle.std.specs.Prelude.{true, OnOk};
 ghost use Rattle.act_model.specs.Machine.{Machine};
 ghost use Rattle.archive_core.specs.Parts.{parts};
@@ -8,7 +8,7 @@ use crate::acting::{S0, S2, S4, T0, T2, T4};
 use crate::pins::{piece_told, put_bytes};
 use crate::script::{Ask, asked, opened};
 use PinAsk::*;
-use act_model::{PieceOpened, Pinned, Unpinned};
+use act_model::{DetailsTold, PieceOpened, Pinned, Unpinned};
 use archive_core::Archive;
 use disk_model::{Disk, MemDisk, MemFile};
 use event_types::Method::Monitor;
@@ -27,6 +27,8 @@ enum PinAsk<'a> {
     OpenPiece(u64, u32, u32),
     // By this owner, the pin of this number.
     Unpin(u64, u32),
+    // Of the row of this name.
+    Details(&'a [u8]),
 }
 
 // A tail as text: the moment and the line of each sample.
@@ -78,6 +80,22 @@ fn told_of_unpin(alloc: Global, answer: Unpinned) -> Result<String, Fail> {
     }
 }
 
+// How many samples are durable of those that are accepted, the moments of the first and the last, and how many files each store lists.
+fn told_of_details(alloc: Global, answer: DetailsTold) -> Result<String, Fail> {
+    match answer {
+        DetailsTold::NoSuchVariable => Ok(format!(in alloc; "no such variable")?),
+        DetailsTold::Described(told) => {
+            let (durable, accepted) = (told.durable, told.accepted);
+            let (first, last) = (told.first, told.last);
+            let [short, medium, long] = told.files;
+            Ok(format!(in alloc;
+                "{durable} of {accepted}, {first:?} to {last:?}, {short} {medium} {long}"
+            )?)
+        }
+        DetailsTold::DiskFault | DetailsTold::Memory => Err("no details".into()),
+    }
+}
+
 // What one act is answered, as text.
 fn told(alloc: Global, archive: &mut Archive<MemDisk>, ask: PinAsk<'_>) -> Result<String, Fail>
     requires { (m : Machine) × Stands true (parts ⟦<MemDisk as Disk>⟧ archive.old) m }
@@ -94,6 +112,7 @@ fn told(alloc: Global, archive: &mut Archive<MemDisk>, ask: PinAsk<'_>) -> Resul
         }
         OpenPiece(who, pin, i) => told_of_piece(alloc, archive.open_piece(who, pin, i)),
         Unpin(who, pin) => told_of_unpin(alloc, archive.unpin(who, pin)),
+        Details(name) => told_of_details(alloc, archive.details(name)),
     }
 }
 
@@ -135,6 +154,10 @@ fn a_pin_has_what_is_flushed_and_the_tail_and_a_flush_leaves_its_bytes(
         (Act(Ask::Flush(1)), "Flushed { samples: 2, left: 0 }"),
         (Act(Ask::Offer(b"A:B", S4, T4)), "Kept"),
         (
+            Details(b"A:B"),
+            "2 of 3, Some(1704067200000000000) to Some(1704067204000000000), 1 0 0",
+        ),
+        (
             Pin(0, b"A:B", T0),
             "pin 0 of 1, then 1704067204000000000 08 04 10 00 1d 04 00 00 00",
         ),
@@ -150,7 +173,12 @@ fn a_pin_has_what_is_flushed_and_the_tail_and_a_flush_leaves_its_bytes(
         (OpenPiece(0, 0, 0), "no pin"),
         (Unpin(0, 0), "no pin"),
         (OpenPiece(1, 1, 0), THREE),
+        (
+            Details(b"A:B"),
+            "3 of 3, Some(1704067200000000000) to Some(1704067204000000000), 1 0 0",
+        ),
         (Pin(0, b"C:D", T0), "no such variable"),
+        (Details(b"C:D"), "no such variable"),
     ];
     let disk = MemDisk::new(alloc, &[], None)?;
     let Ok(archive) = opened(alloc, disk)? else {

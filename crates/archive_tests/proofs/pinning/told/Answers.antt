@@ -14,3 +14,6 @@ returns-in-OpenPiece c = let next = c.open_piece.ensures.step c.requires.0 c.req
 
 pub returns-in-Unpin : goal.returns-in-Unpin
 returns-in-Unpin c = let next = c.unpin.ensures.step c.requires.0 c.requires.1 in on_ok_anyway c.told_of_unpin.result (next.0, next.2)
+
+pub returns-in-Details : goal.returns-in-Details
+returns-in-Details c = let next = c.details.ensures.step c.requires.0 c.requires.1 in on_ok_anyway c.told_of_details.result (next.0, next.2)

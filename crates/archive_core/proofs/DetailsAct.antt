@@ -1,0 +1,170 @@
+-- The act that tells details: what the stores tell is what the machine tells.
+use Rattle.std.proofs.Common.{◌≡◌, inl, inr, ℕ, List, ◌++◌, length, Bool, true, Some, refl, sym, ◌∙◌, ap, subst, arith}
+use Rattle.std.specs.Prelude.{IsTrue, slice_get, slice_index}
+use Rattle.std.proofs.lemmas.List.{length-map}
+use Rattle.std.proofs.lemmas.Option.{same_Some}
+use Rattle.append_buffer.specs.Tails.{tail_at}
+use Rattle.event_types.specs.declared.about.About.{About}
+use Rattle.event_types.specs.declared.about.State.{State}
+use Rattle.partition_names.specs.declared.part.Part.{Part}
+use Rattle.pv_catalog.specs.Rows.{HasName}
+use Rattle.pv_catalog.specs.declared.row.Row.{Row}
+use Rattle.series_model.specs.Series.{end_of, over}
+use Rattle.series_model.specs.declared.sample.Sample.{Sample}
+use Rattle.series_model.proofs.RisingLists.{since_all}
+use Rattle.tier_store.specs.Ends.{End, IsFailed}
+use Rattle.tier_store.specs.Held.{Filed}
+use Rattle.tier_store.specs.Plan.{of_row}
+use Rattle.three_stores.specs.Change.{Has}
+use Rattle.three_stores.specs.Details.{AreCounted, IsDescribed, SaysDescribed, none_has, is_described}
+use Rattle.three_stores.specs.Opening.{end_of_answer}
+use Rattle.three_stores.specs.Pinned.{beside, KeepsShown}
+use Rattle.three_stores.specs.Pinning.{HasNoName}
+use Rattle.three_stores.specs.Seen.{Seen, granularities}
+use Rattle.three_stores.specs.Settling.{SettlesAndReads, ReadsOf}
+use Rattle.three_stores.specs.Stores.{Stores, list_at, samples_in}
+use Rattle.act_model.specs.declared.acts.Answer.{Answer}
+use Rattle.act_model.specs.declared.acts.Answer.TheVariants as answer
+use Rattle.act_model.specs.declared.details.Details.{Details}
+use Rattle.act_model.specs.Details.{Describes, IsDetails, first_time, last_time}
+use Rattle.act_model.specs.Machine.{Machine, find_row}
+use Rattle.act_model.specs.Parts.{AreParts}
+use Rattle.act_model.specs.Reply.{Reply, reply_of}
+use Rattle.act_model.specs.Rows.{RowState, Store, Short, Medium, Long, durable, accepted, tier}
+use Rattle.act_model.specs.Rule.{index_of}
+use Rattle.archive_core.specs.Describing.{IsDescribing}
+use Rattle.archive_core.specs.Ends.{AskEnds, is_spent, is_failed, is_answered}
+use Rattle.archive_core.specs.Parts.{Parts}
+use Rattle.archive_core.specs.Stands.{Stands, Rests}
+use Rattle.archive_core.proofs.Asking.{end_kind}
+use Rattle.archive_core.proofs.Batches.{told_stands}
+use Rattle.archive_core.proofs.Changing.{rests_again}
+use Rattle.archive_core.proofs.KeptRows.{row_at}
+use Rattle.archive_core.proofs.Opens.{told_tells}
+use Rattle.archive_core.proofs.PartLists.{parts_of, row_parts}
+use Rattle.archive_core.proofs.Pieces.{durable_is}
+use Rattle.archive_core.proofs.Registered.{find_some}
+use Rattle.archive_core.proofs.Settled.{rests_has, open_rows}
+
+module _ (R : Type 0) (tells reader_tells : Bool) (bytes : R → List ℕ) (faults : R → ℕ) (p : Parts) (m : Machine) (r : Rests tells p m) (i : ℕ) (name : List ℕ) (named : HasName p.at.catalogue.rows i name) (result : Answer R) (new : Seen)
+    (settles : SettlesAndReads tells (SaysDescribed tells name (tail_at p.tails i).samples) p.at new (end_of_answer result)) (shown : KeepsShown tells (beside p.at p.limbo) (beside new p.limbo)) where
+  abbrev held : Stores
+  held = r.stands.store.before
+
+  abbrev tail : List Sample
+  tail = (tail_at p.tails i).samples
+
+  abbrev n : Machine
+  n = record m { faults = new.faults }
+
+  abbrev Ends : Answer R → Type 0
+  Ends given = AskEnds tells (Describes name) p m (record p { at = new }) (reply_of reader_tells bytes faults given)
+
+  has_new : Has tells new held
+  has_new = (settles.settled held (rests_has tells p m r)).0
+
+  -- the archive stands for the machine as it did
+  read : Stands tells (record p { at = new }) n
+  read = rests_again tells p m r new settles.granularity shown has_new
+
+  same_rows : p.at.catalogue.rows ≡ held.rows
+  same_rows = open_rows tells p.at held m r.stands.store.is_open
+
+  module _ (k : ℕ) (d : Details) (has : HasName held.rows k name) (is : IsDescribed tells held k tail d) where
+    known : HasName p.at.catalogue.rows k name
+    known = subst (λ (rows : List Row). HasName rows k name) (sym same_rows) has
+
+    found : find_row m name ≡ Some k
+    found = find_some tells p m r.stands name k known
+
+    same_row : i ≡ k
+    same_row = same_Some i k (sym (find_some tells p m r.stands name i named) ∙ found)
+
+    row : (row : RowState) × (slice_get m.rows k ≡ Some row) × ((d.name ≡ row.name) × (d.about ≡ row.about) × (d.state ≡ row.state)) × (row.tail ≡ tail)
+    row =
+        let at = row_at p.at.catalogue.rows p.kept p.tails m.rows r.stands.rows k known.row known.here in
+        let one : is.row ≡ known.row = same_Some is.row known.row (sym is.here ∙ (ap (λ (rows : List Row). slice_get rows k) (sym same_rows) ∙ known.here)) in
+        let names = is.known.0 ∙ (ap (λ (x : Row). x.name) one ∙ sym at.4.name) in
+        let abouts = is.known.1 ∙ (ap (λ (x : Row). x.about) one ∙ sym at.4.about) in
+        let states = is.known.2 ∙ (ap (λ (x : Row). x.state) one ∙ sym at.4.state) in
+        (at.0, at.1, (names, abouts, states), at.4.tail ∙ ap (λ (j : ℕ). (tail_at p.tails j).samples) (sym same_row))
+
+    -- of a told machine all is told that the machine tells
+    details : m.told ≡ true → IsDetails m.rule row.0 d
+    details on = record {
+      accepted_is = counted.accepted_is ∙ ap length (sym accepted_same);
+      durable_is = counted.durable_is ∙ ap length (sym durable_same);
+      first = counted.first ∙ ap first_time (sym accepted_same);
+      last = counted.last ∙ ap last_time (sym accepted_same);
+      files = λ store. (parts_of (files_in store), row_parts tells new m held has_new r.stands.store.holds gran r.stands.plain.headers on stands k row.0 row.1 store, count store);
+    }
+      where
+        stands : IsTrue held.stands
+        stands = told_stands tells m.told held.stands r.stands.store.told on
+
+        gran : m.rule.granularity ≡ granularities new.manifests
+        gran = r.stands.plain.rule ∙ sym settles.granularity
+
+        counted : AreCounted (samples_in k held) tail d
+        counted = is.counted (told_tells tells m.told held.stands r.stands.store.told on) stands
+
+        durable_same : durable row.0 ≡ samples_in k held
+        durable_same = durable_is tells new m held has_new r.stands.store.holds gran r.stands.plain.headers on stands k row.0 row.1
+
+        -- the tail is later than all that is durable
+        accepted_same : accepted row.0 ≡ samples_in k held ++ tail
+        accepted_same =
+            let later = (r.stands.sound.each_row k row.0 row.1).later in
+            ap (λ (xs : List Sample). durable row.0 ++ xs) (since_all (end_of (durable row.0)) (end_of (durable row.0)) row.0.tail later (omega arith)) ∙ (ap (λ (xs : List Sample). xs ++ row.0.tail) durable_same ∙ ap (λ (xs : List Sample). samples_in k held ++ xs) row.3)
+
+        files_in : Store → List Filed
+        files_in store = of_row k (list_at (index_of store) held)
+
+        counts : (store : Store) → slice_index d.files (index_of store) ≡ length (files_in store)
+        counts Short = is.short
+        counts Medium = is.medium
+        counts Long = is.long
+
+        count : (store : Store) → slice_index d.files (index_of store) ≡ length (parts_of (files_in store))
+        count store = counts store ∙ sym (length-map (files_in store) (λ (f : Filed). f.entry.part))
+
+    told : Ends (answer.Described d)
+    told = is_answered n (record { i = k; row = row.0; details = d; found = found; here = row.1; known = row.2; told = details; answered = refl; same = refl }) read
+
+  -- what the stores say
+  by_says : (given : Answer R) (s : Stores) → SaysDescribed tells name tail given s → s ≡ held → Ends given
+  by_says _ _ (none_has {held = s} none) same = absurd (none i (subst (λ (rows : List Row). HasName rows i name) (same_rows ∙ sym (ap (λ (x : Stores). x.rows) same)) named))
+  by_says _ _ (is_described {held = s} k d has is) same = moved s same k d has is
+    where
+      moved : (s : Stores) → s ≡ held → (k : ℕ) (d : Details) → HasName s.rows k name → IsDescribed tells s k tail d → Ends (answer.Described d)
+      moved s same k d has is = (subst (λ (x : Stores). (k : ℕ) (d : Details) → HasName x.rows k name → IsDescribed tells x k tail d → Ends (answer.Described d)) (sym same) told) k d has is
+
+  pub details_end : Ends result
+  details_end = elim (end_kind result) [
+    | inl fault ↦ (
+        let failed : IsFailed (end_of_answer result) = subst (λ (given : Answer R). IsFailed (end_of_answer given)) (sym fault) tt in
+        subst (λ (given : Answer R). Ends given) (sym fault) (is_failed read (settles.reads.cause failed))
+        )
+    | inr others ↦ elim others [
+      | inl spent ↦ subst (λ (given : Answer R). Ends given) (sym spent) (is_spent read)
+      | inr done ↦ by_says result held (subst (λ (end : End (Answer R) ⊥). ReadsOf (SaysDescribed tells name tail) end held) done (settles.settled held (rests_has tells p m r)).1) refl
+    ]
+  ]
+
+  -- it is answered as one who asks for details is
+  pub details_answer : IsDescribing result
+  details_answer = elim (end_kind result) [
+    | inl fault ↦ subst (λ (given : Answer R). IsDescribing given) (sym fault) tt
+    | inr others ↦ elim others [
+      | inl spent ↦ subst (λ (given : Answer R). IsDescribing given) (sym spent) tt
+      | inr done ↦ of_says result held (subst (λ (end : End (Answer R) ⊥). ReadsOf (SaysDescribed tells name tail) end held) done (settles.settled held (rests_has tells p m r)).1)
+    ]
+  ]
+    where
+      of_says : (given : Answer R) (s : Stores) → SaysDescribed tells name tail given s → IsDescribing given
+      of_says _ _ (none_has none) = tt
+      of_says _ _ (is_described k d has is) = tt
+
+-- the count of faults is nothing to what is told
+pub describes_goes : (name : List ℕ) (m : Machine) (f : ℕ) (given : Reply) (new : Machine) → Describes name (record m { faults = f }) given new → Describes name m given new
+describes_goes name m f given new is = record { i = is.i; row = is.row; details = is.details; found = is.found; here = is.here; known = is.known; told = is.told; answered = is.answered; same = is.same }
