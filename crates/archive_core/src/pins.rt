@@ -26,7 +26,7 @@ use disk_model::{Disk, DiskErr, ReadAt};
 use series_model::Query;
 use std::alloc::AllocError;
 
-// What the stores answer one who gives up a pin, as the act's own answer.
+// The stores' answer to the end of a pin, in the act's own type.
 fn unpinned<R: ReadAt>(answer: Answer<R>) -> Unpinned
     requires given { (asked : Result PinOf PinErr) × (answer ≡ given_up asked) }
     ensures { unpinned_reply result ≡ reply_of R.tells R.bytes R.faults answer }
@@ -39,7 +39,7 @@ fn unpinned<R: ReadAt>(answer: Answer<R>) -> Unpinned
     }
 }
 
-// What the stores answer one who opens a piece, as the act's own answer.
+// The stores' answer to the opening of a piece, in the act's own type.
 fn opened<R: ReadAt>(answer: Answer<R>) -> PieceOpened<R>
     requires given { IsOpening answer }
     ensures { piece_opened_reply R.tells R.bytes R.faults result ≡ reply_of R.tells R.bytes R.faults answer }
@@ -65,7 +65,7 @@ fn opened<R: ReadAt>(answer: Answer<R>) -> PieceOpened<R>
     }
 }
 
-// What one is answered who asks for a pin, as the act's own answer.
+// The stores' answer to a pin, in the act's own type.
 fn pinned<R: ReadAt>(answer: Answer<R>) -> Pinned
     requires given { IsPinning answer }
     ensures { pinned_reply result ≡ reply_of R.tells R.bytes R.faults answer }

@@ -14,7 +14,7 @@ use crate::Archive;
 use act_model::Swept;
 use disk_model::{Disk, DiskErr};
 
-// What one is answered who sweeps, as the act's own answer.
+// The stores' answer to a sweep, in the act's own type.
 fn swept(done: Result<u64, DiskErr>) -> Swept
     ensures { swept_reply result ≡ sweep_reply done }
 {

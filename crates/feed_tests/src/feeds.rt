@@ -1,12 +1,16 @@
 //! What a feed's peer is told, and how feeds and `ingest` end.
-use crate::one_row::OneRow;
 use edge_io::{ListClock, MemLink, MemSource};
+use event_types::Method;
 use feed_session::{Fed, feed, ingest};
+use one_row_archive::OneRow;
 use pb_lines::{ChunkFault, LineFault};
 use std::alloc::{AllocError, Global};
 use std::process::Abort;
 use std::sync::Wait;
 use std::test::Fail;
+
+// No act fails.
+const NONE: u64 = u64::MAX;
 
 // An hour behind the first moment of 2024.
 const NOW: u64 = 1_704_070_800_000_000_000;
@@ -17,9 +21,10 @@ struct Case {
     bytes: &'static [u8],
     told: &'static [u8],
     end: Fed,
-    scanned: bool,
+    method: Method,
     acts: u64,
-    failing_flush: u64,
+    // How many acts are left behind the one that fails.
+    failing: u64,
     room: usize,
     failing_reads: &'static [u64],
     failing_writes: &'static [u64],
@@ -30,9 +35,9 @@ fn over(bytes: &'static [u8], told: &'static [u8], end: Fed) -> Case {
         bytes,
         told,
         end,
-        scanned: false,
+        method: Method::Monitor,
         acts: 100,
-        failing_flush: 0,
+        failing: NONE,
         room: 1000,
         failing_reads: &[],
         failing_writes: &[],
@@ -89,16 +94,18 @@ fn table() -> [Case; 20] {
         over(b"", b"refused 1 E13\n", NO_HEADER),
         over(LATE, b"ok 1 0 0\nrefused 4 E35\n", TORN),
         Case {
-            scanned: true,
+            method: Method::Scan {
+                period: 1_000_000_000,
+            },
             ..over(TWO, b"ok 0 1 0\nok 0 2 0\ndurable 0\n", fed(0, 3, 0))
         },
         // the flush fails
         Case {
-            failing_flush: 1,
+            failing: 98,
             ..over(ONE, b"ok 1 0 0\nfault disk\n", Fed::DiskFault)
         },
         Case {
-            failing_flush: 1,
+            failing: 99,
             ..over(BAD, b"fault disk\n", Fed::DiskFault)
         },
         // no act is left
@@ -168,7 +175,7 @@ fn same(told: &[u8], wanted: &[u8]) -> bool {
 
 // How a feed ends, and what is told of it.
 fn answer_to(rt: &impl Wait, alloc: Global, case: &Case) -> Result<(Fed, Vec<u8>), AllocError> {
-    let mut actor = OneRow::new(case.scanned, case.acts, case.failing_flush);
+    let mut actor = OneRow::new(alloc, Some(case.method), case.acts, case.failing)?;
     let mut link = MemLink::new(
         alloc,
         case.bytes,
@@ -181,20 +188,24 @@ fn answer_to(rt: &impl Wait, alloc: Global, case: &Case) -> Result<(Fed, Vec<u8>
     Ok((end, Vec::from_slice(alloc, link.written())?))
 }
 
+// A header that names nothing asks for no row, and every other one for its own, which is there already.
 #[test]
-fn a_header_that_names_nothing_asks_for_no_row(rt: HostRuntime) -> Result<(), Fail> {
+fn an_ingest_asks_for_a_row_at_each_header(rt: HostRuntime) -> Result<(), Fail> {
     let alloc = rt.alloc();
-    let table: [(&[u8], u64, &[u64], Fed); 7] = [
+    let table: [(&[u8], u64, &[u64], Fed); 10] = [
         (UNNAMED, 2, &[], fed(0, 0, 1)),
         (UNNAMED, 1, &[], Fed::Spent),
-        (ONE, 100, &[], Fed::Spent),
-        (BAD, 100, &[], Fed::Spent),
+        (ONE, 3, &[], fed(1, 0, 0)),
+        (ONE, 2, &[], Fed::Spent),
+        (ONE, 0, &[], Fed::Spent),
+        (BAD, 2, &[], BAD_ESCAPE),
+        (BAD, 1, &[], Fed::Spent),
         (b"", 1, &[], NO_HEADER),
         (b"", 0, &[], Fed::Spent),
         (UNNAMED, 100, &[1], Fed::PeerFault),
     ];
     for (bytes, acts, failing, wanted) in table {
-        let mut actor = OneRow::new(false, acts, 0);
+        let mut actor = OneRow::new(alloc, Some(Method::Monitor), acts, NONE)?;
         let mut source = MemSource::new(alloc, bytes, failing)?;
         let mut clock = clock(alloc)?;
         let end = ingest(&rt, alloc, &mut actor, &mut source, &mut clock);
@@ -209,7 +220,7 @@ fn a_full_intake_is_flushed(rt: HostRuntime) -> Result<(), Fail> {
     let alloc = rt.alloc();
     let bytes = long_lines(alloc)?;
     for (acts, wanted) in [(8, fed(5, 0, 0)), (7, Fed::Spent), (5, Fed::Spent)] {
-        let mut actor = OneRow::new(false, acts, 0);
+        let mut actor = OneRow::new(alloc, Some(Method::Monitor), acts, NONE)?;
         let mut link = MemLink::new(alloc, &bytes, 1000, &[], &[])?;
         let mut clock = clock(alloc)?;
         let end = feed(&rt, alloc, &mut actor, &mut link, &mut clock);

@@ -5,4 +5,3 @@
 
 #[cfg(test)]
 mod feeds;
-pub mod one_row;

@@ -38,7 +38,7 @@ pub(crate) fn give_body<A: Actor, K: Sink>(
     end
 }
 
-// Writes the text of the answer to a sink of a body, which keeps its link.
+// Writes the text of the answer as the body's. It says that the body still writes to the same link, which `give_text` can't of any sink.
 fn give_in_chunks<'a, A: Actor, K: Sink>(
     alloc: Global,
     actor: &mut A,

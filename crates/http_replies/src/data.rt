@@ -20,9 +20,9 @@ use std::alloc::Global;
 /// Writes the answer of a variable as the reply to a request of HTTP/1.0 or HTTP/1.1, by its minor version: pins the variable, writes the
 /// head, reads the pin's pieces and writes the text as it comes, gives the pin up, and ends the body.
 ///
-/// At `Finished` the link has the whole reply. Where no pin was made it has the refusal that says why, but where a write of that failed or
-/// memory ran out. At every other answer it has a front of the reply, and nothing where memory
-/// ran out for the head.
+/// At `Finished` the link has the whole reply. Where no pin was made it has the refusal that says why, a front of that where a write
+/// failed, and nothing where memory ran out. At every other answer it has a front of the reply, and nothing where memory ran out for the
+/// head.
 pub fn reply_with_data<A: Actor, K: Sink>(
     alloc: Global,
     actor: &mut A,

@@ -3,6 +3,5 @@
 //! They stand apart from the crate that they test, since a crate with tests of its own is proved twice.
 #![tactic(auto)]
 
-pub mod one_row;
 #[cfg(test)]
 mod replies;

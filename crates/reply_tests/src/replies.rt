@@ -2,14 +2,14 @@
 ghost use Rattle.std.specs.Prelude.{IfSome, IfOk};
 ghost use Rattle.act_model.specs.Event.{IsEvent};
 ghost use Rattle.act_model.specs.Machine.{Machine};
-ghost use Rattle.reply_tests.specs.OneRow.{Stands};
+ghost use Rattle.one_row_archive.specs.OneRow.{Stands};
 
-use crate::one_row::OneRow;
 use act_model::ask_offer;
 use disk_model::MemFile;
 use edge_io::MemLink;
-use event_types::PayloadType;
+use event_types::{Method, PayloadType};
 use http_replies::{Replied, reply_to_request};
+use one_row_archive::OneRow;
 use pb_lines::sample_of;
 use series_model::Blob;
 use std::alloc::{AllocError, Global};
@@ -222,7 +222,7 @@ fn an_archive_is_managed(rt: HostRuntime) -> Result<(), Fail> {
             "{\"status\":\"ok\",\"flushed\":0}",
         ),
     ];
-    let mut actor = OneRow::new(rt.alloc(), false, ACTS, NONE)?;
+    let mut actor = OneRow::new(rt.alloc(), None, ACTS, NONE)?;
     for row in &table {
         expect_row(&rt, rt.alloc(), &mut actor, "finished", row)?;
     }
@@ -295,7 +295,7 @@ fn bytes_that_ask_for_nothing_are_refused(rt: HostRuntime) -> Result<(), Fail> {
         ),
     ];
     for (bytes, status, length, body) in &table {
-        let mut actor = OneRow::new(rt.alloc(), true, 0, NONE)?;
+        let mut actor = OneRow::new(rt.alloc(), Some(Method::Monitor), 0, NONE)?;
         let wanted = reply(rt.alloc(), status, length, body)?;
         expect(
             &rt,
@@ -321,7 +321,7 @@ fn a_head_that_is_too_long_is_refused(rt: HostRuntime) -> Result<(), Fail> {
         "17",
         "{\"status\":\"E28\"}",
     )?;
-    let mut actor = OneRow::new(rt.alloc(), true, 0, NONE)?;
+    let mut actor = OneRow::new(rt.alloc(), Some(Method::Monitor), 0, NONE)?;
     expect(&rt, rt.alloc(), &mut actor, &bytes, "refused", &wanted)
 }
 
@@ -384,7 +384,7 @@ fn a_fault_of_the_disk_is_told(rt: HostRuntime) -> Result<(), Fail> {
         ),
     ];
     for (end, row) in &table {
-        let mut actor = OneRow::new(rt.alloc(), true, ACTS, ACTS - 1)?;
+        let mut actor = OneRow::new(rt.alloc(), Some(Method::Monitor), ACTS, ACTS - 1)?;
         expect_row(&rt, rt.alloc(), &mut actor, end, row)?;
     }
     Ok(())
@@ -449,7 +449,7 @@ fn spent_acts_are_told(rt: HostRuntime) -> Result<(), Fail> {
         ),
     ];
     for row in &table {
-        let mut actor = OneRow::new(rt.alloc(), true, 0, NONE)?;
+        let mut actor = OneRow::new(rt.alloc(), Some(Method::Monitor), 0, NONE)?;
         expect_row(&rt, rt.alloc(), &mut actor, "spent", row)?;
     }
     Ok(())
@@ -459,7 +459,7 @@ fn spent_acts_are_told(rt: HostRuntime) -> Result<(), Fail> {
 fn archive(alloc: Global, acts: u64) -> Result<OneRow, AllocError>
     ensures { IfOk result (λ a. (m : Machine) × Stands a m) }
 {
-    let mut actor = OneRow::new(alloc, true, acts, NONE)?;
+    let mut actor = OneRow::new(alloc, Some(Method::Monitor), acts, NONE)?;
     let mut work = Vec::new(alloc);
     offer(alloc, &mut actor, SAMPLES[0], &mut work)?;
     offer(alloc, &mut actor, SAMPLES[1], &mut work)?;

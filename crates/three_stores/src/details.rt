@@ -144,8 +144,8 @@ impl<D: Disk> TierStore<D> {
         self.describe_named(name, tail)
     }
 
-    /// Tells of a variable: its name, its about and its state, how many files each store lists of it, how many samples of it are durable
-    /// and how many are accepted, and the moments of the first and the last of these. `tail` stands for the accepted samples that no store
+    /// Tells of a variable: its name, what else the catalogue has of it, its state, how many files each store lists of it, how many of its
+    /// samples are durable and how many are accepted, and the moments of the first and the last of these. `tail` stands for the accepted samples that no store
     /// lists yet, which are behind all that is durable.
     ///
     /// By the entries alone the samples that two stores list, as while a move is half done, would count twice; so the file of an earlier

@@ -108,7 +108,8 @@ fn drops(alloc: Global, entries: &[Entry]) -> Result<Vec<Change>, AllocError>
 }
 
 impl<D: Disk> TierStore<D> {
-    // Puts the oldest files of a row at a place into limbo, from which what is listed has gone, and answers what is to be dropped.
+    // Takes from limbo what a store lists again, puts the oldest files of a row at a place behind the rest, and answers these files and the
+    // changes that drop them from their list.
     pub(crate) fn hand_over(
         &mut self,
         place: usize,

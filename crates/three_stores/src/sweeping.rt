@@ -32,9 +32,9 @@ impl<D: Disk> TierStore<D> {
     }
 
     /// Removes the files of limbo that nothing needs any more, and answers how many these are. `copied` names the files into which running
-    /// moves have copied. A change that stands in doubt is settled first. Then a file that its store lists again leaves limbo, uncounted; and
-    /// of the others those leave it, and are removed for good, that no pin names and into which no running move has copied. What is listed,
-    /// pinned or copied into stays as it is, at every moment of the call.
+    /// moves have copied. A change that stands in doubt is settled first. Then two kinds of files leave limbo: those that their store lists
+    /// again, which aren't counted, and those that no pin names and into which no running move has copied, which are removed for good. What
+    /// is listed, pinned or copied into stays as it is, at every moment of the call.
     ///
     /// After `Fault`, which comes only where the disk's count of faults rose in the call, and after `Memory`, which only the disk answers,
     /// each file that no store lists is in limbo still. Some of them may be removed already; a later sweep counts these too. Where no

@@ -26,7 +26,7 @@ pub(crate) struct Tally {
     pub(crate) last: Option<u64>,
 }
 
-// There is no sample.
+// The tally of no samples.
 pub(crate) fn none() -> Tally
     ensures { IsTally [] result }
 {

@@ -1,5 +1,5 @@
 use Rattle.act_model.specs.Machine.{Machine}
-use Rattle.reply_tests.specs.OneRow.{Stands}
+use Rattle.one_row_archive.specs.OneRow.{Stands}
 use Rattle.reply_tests.proofs.replies.an_archive_is_managed.Given as goal
 
 -- the archive stands for a state
