@@ -13,6 +13,7 @@ pub mod Ticking
 pub mod Crashes
 pub mod Making
 pub mod ListEnds
+pub mod MoveChoice
 pub mod Batches
 pub mod Counts
 pub mod Trimming

@@ -33,7 +33,7 @@ last_end n (x ∷ []) e (suc k) here is = absurd (omega (arith, is))
 last_end n (x ∷ y ∷ es) e zero here is = absurd (omega (arith, is))
 last_end n (x ∷ y ∷ es) e (suc k) here is = last_end (x.last + 1) (y ∷ es) e k here (omega (arith, is))
 
-files_end : (g : Granularity) (rows : List Row) (n : ℕ) (fs : List Filed) → All (IsFiled g rows) fs → end_from n (flat_map (λ (f : Filed). f.samples) fs) ≡ listed_from n (map entry_of fs)
+pub files_end : (g : Granularity) (rows : List Row) (n : ℕ) (fs : List Filed) → All (IsFiled g rows) fs → end_from n (flat_map (λ (f : Filed). f.samples) fs) ≡ listed_from n (map entry_of fs)
 files_end g rows n [] filed = refl
 files_end g rows n (f ∷ fs) filed =
     let is = All-head (IsFiled g rows) f fs filed in
@@ -41,7 +41,7 @@ files_end g rows n (f ∷ fs) filed =
     end_from-append n f.samples (flat_map (λ (h : Filed). h.samples) fs)
     ∙ (ap (λ (k : ℕ). end_from k (flat_map (λ (h : Filed). h.samples) fs)) own ∙ files_end g rows (f.entry.last + 1) fs (All-tail (IsFiled g rows) f fs filed))
 
-own_entries : (i : ℕ) (files : List Filed) → map entry_of (filter (λ (f : Filed). nat_eq f.entry.series i) files) ≡ filter (λ (e : Entry). e.series == i) (map entry_of files)
+pub own_entries : (i : ℕ) (files : List Filed) → map entry_of (filter (λ (f : Filed). nat_eq f.entry.series i) files) ≡ filter (λ (e : Entry). e.series == i) (map entry_of files)
 own_entries i [] = refl
 own_entries i (f ∷ files) = by_test (nat_eq f.entry.series i) refl (own_entries i files)
   where

@@ -51,7 +51,7 @@ order_both : (xs ys : List FileState) → InOrder xs → InOrder ys → AllByRec
 order_both [] ys one two across = two
 order_both (x ∷ xs) ys one two across = (all_both (ComesBefore x) xs ys one.0 across.0, order_both xs ys one.1 two across.1)
 
-rise_filter : (test : Filed → Bool) (xs : List Filed) → PlacesRise xs → PlacesRise (filter test xs)
+pub rise_filter : (test : Filed → Bool) (xs : List Filed) → PlacesRise xs → PlacesRise (filter test xs)
 rise_filter test [] rise = tt
 rise_filter test (x ∷ xs) rise = by_test (test x) (rise_filter test xs rise.1)
   where

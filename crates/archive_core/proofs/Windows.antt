@@ -53,7 +53,7 @@ rises_inside : (n : ℕ) (p : Part) (xs : List Sample) → n ≤ p.start → IsR
 rises_inside n p [] low rising inside = tt
 rises_inside n p (x ∷ xs) low rising inside = let here : Inside p x = All-head (Inside p) x xs inside in let from = here.0 in (omega (arith, from, low), rising.1)
 
-ends_inside : (n : ℕ) (p : Part) (xs : List Sample) → n ≤ p.end → All (Inside p) xs → end_from n xs ≤ p.end
+pub ends_inside : (n : ℕ) (p : Part) (xs : List Sample) → n ≤ p.end → All (Inside p) xs → end_from n xs ≤ p.end
 ends_inside n p [] low inside = low
 ends_inside n p (x ∷ xs) low inside = let here : Inside p x = All-head (Inside p) x xs inside in let under = here.1 in ends_inside (x.t + 1) p xs (omega (arith, under)) (All-tail (Inside p) x xs inside)
 

@@ -11,3 +11,4 @@ pub mod Pinning
 pub mod Describing
 pub mod Sweeping
 pub mod LimboTies
+pub mod MoveChoice

@@ -1,5 +1,5 @@
 //! What follows from standing for a machine, and what the stores' changes are to it.
-ghost use Rattle.std.specs.Prelude.{◌≡◌, ℕ, List, Option, IsTrue, [], true};
+ghost use Rattle.std.specs.Prelude.{◌≡◌, ◌≢◌, ℕ, List, Option, Some, IsTrue, [], true, slice_get};
 ghost use Rattle.std.specs.FinMap.{FinMap};
 ghost use Rattle.std.specs.Ordering.{nat_cmp};
 ghost use Rattle.append_buffer.specs.Tails.{TailState};
@@ -7,9 +7,11 @@ ghost use Rattle.disk_model.specs.Files.{Files};
 ghost use Rattle.disk_model.specs.Past.{MayLeave};
 ghost use Rattle.event_types.specs.declared.about.About.{About};
 ghost use Rattle.event_types.specs.declared.about.State.{State};
+ghost use Rattle.move_choice.specs.declared.series.ToMove.{ToMove};
 ghost use Rattle.pinned_pieces.specs.Pieces.{PinOf};
 ghost use Rattle.pv_catalog.specs.Catalogue.{CatalogueState};
 ghost use Rattle.store_manifest.specs.Manifest.{ManifestState};
+ghost use Rattle.three_stores.specs.Beginning.{IsChoice};
 ghost use Rattle.three_stores.specs.Change.{IsKnown, Registers, Switches, Flushes};
 ghost use Rattle.three_stores.specs.Seen.{seen_on, granularities};
 ghost use Rattle.three_stores.specs.Stores.{Stores};
@@ -17,10 +19,15 @@ ghost use Rattle.three_stores.specs.declared.limbo.Retired.{Retired};
 ghost use Rattle.act_model.specs.Changes.{made};
 ghost use Rattle.act_model.specs.Flush.{batch_of};
 ghost use Rattle.act_model.specs.Machine.{Machine, AddsRow, SetsState, Appends};
+ghost use Rattle.act_model.specs.MoveBegin.{parts_of};
+ghost use Rattle.act_model.specs.Parts.{AreParts};
+ghost use Rattle.act_model.specs.Rows.{RowState, Store, Long, tier};
+ghost use Rattle.act_model.specs.Rule.{index_of};
 ghost use Rattle.act_model.specs.Sound.{IsSound};
 ghost use Rattle.archive_core.specs.declared.memory.Doubt.{Doubt};
 ghost use Rattle.archive_core.specs.declared.memory.RowMemory.{RowMemory};
 ghost use Rattle.archive_core.specs.Ends.{LeavesBetween};
+ghost use Rattle.archive_core.specs.MoveChoice.{HaveDurable, AreNumbers, GoesOnBy, file_parts, move_rule, parts_to_move, row_files};
 ghost use Rattle.archive_core.specs.Stands.{Stands, HoldsDurable};
 
 use disk_model::Disk;
@@ -38,4 +45,14 @@ pub fn changes_are_the_machines()
     ensures register { (catalogue : CatalogueState) (ms : List ManifestState) (name : List ℕ) (about : About) (old new : Stores) (m : Machine) → IsKnown catalogue ms old → Registers name about old new → HoldsDurable old m → HoldsDurable new (made [] (AddsRow name about) m) }
     ensures switch { (row : ℕ) (from to : State) (old new : Stores) (m : Machine) → Switches row from to old new → HoldsDurable old m → HoldsDurable new (made [] (SetsState row to) m) }
     ensures flush { (limit : ℕ) (old new : Stores) (m : Machine) → IsSound m → m.limbo ≡ [] → (m.told ≡ true → IsTrue old.stands) → Flushes (batch_of limit m) old new → HoldsDurable old m → HoldsDurable new (made [] (Appends (batch_of limit m)) m) }
+{}
+
+/// A move that is chosen by what the stores list is the one that the machine chooses by its samples: the partitions of a row's listed files
+/// are those of its samples, as many of them are to move, and the machine goes on as chosen.
+pub fn moves_are_the_machines()
+    ensures parts { (catalogue : CatalogueState) (ms : List ManifestState) (s : Stores) (m : Machine) (i : ℕ) (row : RowState) (store : Store) → HaveDurable catalogue ms s m → m.told ≡ true → slice_get m.rows i ≡ Some row → AreParts m.rule store (tier row store) (file_parts (row_files s store i)) }
+    ensures number { (catalogue : CatalogueState) (ms : List ManifestState) (s : Stores) (m : Machine) (i : ℕ) (row : RowState) (store : Store) (now : ℕ) → HaveDurable catalogue ms s m → m.told ≡ true → slice_get m.rows i ≡ Some row → store ≢ Long
+        → parts_to_move m s store now i ≡ parts_of m.rule store now row (file_parts (row_files s store i)) }
+    ensures steps { (catalogue : CatalogueState) (ms : List ManifestState) (s : Stores) (m : Machine) (store : Store) (now : ℕ) (running : ℕ → Option ℕ) (choice : ToMove) → HaveDurable catalogue ms s m → AreNumbers m running → store ≢ Long
+        → IsChoice (move_rule m.rule store now) (index_of store) running s choice → GoesOnBy m s store now choice }
 {}

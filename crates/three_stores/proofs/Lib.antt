@@ -1,4 +1,5 @@
 pub mod Acting
+pub mod Beginning
 pub mod Beside
 pub mod CountingLines
 pub mod CountingPieces

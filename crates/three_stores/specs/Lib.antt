@@ -1,3 +1,4 @@
+pub mod Beginning
 pub mod Change
 pub mod Counting
 pub mod Details

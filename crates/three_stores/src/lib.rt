@@ -16,6 +16,9 @@
 //! `TierStore::details` tells of a row: what the catalogue has of it, how many files each store lists, and how many of its samples are
 //! durable. While a move is half done two stores list the same samples; the file that a later store's samples reach into is then read.
 //!
+//! `TierStore::begin_move` chooses which row's oldest files are to go on to the next store, by what both list, and begins that move. Which moves
+//! run is its caller's to keep: the stores don't know them.
+//!
 //! Stores whose listed files somebody else damaged may be used as any others, as long as each is there and no shorter than it is
 //! listed. What is held then doesn't stand (`Stores.stands`): nothing is promised of its samples, but no call writes below a listed
 //! length, and each can be made again.
@@ -25,6 +28,7 @@ mod counting;
 mod details;
 pub mod laws;
 mod limbo;
+mod moving;
 mod opening;
 mod opening_pieces;
 mod pinning;
@@ -39,5 +43,6 @@ mod sweeping;
 mod tallying;
 
 pub use limbo::Retired;
+pub use moving::MoveBegun;
 pub use retirement::RetireEnd;
 pub use store::TierStore;

@@ -1,0 +1,370 @@
+-- The choice of a move by what the stores list of a row is the machine's, by its samples.
+use Rattle.std.proofs.Common.{◌≡◌, ◌≢◌, inl, inr, ℕ, zero, suc, ◌+◌, ◌-◌, ◌<◌, ◌≤◌, List, [], ◌∷◌, ◌++◌, length, map, take, min, max, Bool, true, false, cond, Some, None, refl, sym, ◌∙◌, ap, subst, arith}
+use Rattle.std.specs.FinMap.{get}
+use Rattle.std.specs.List.{AllByRecursion, flat_map}
+use Rattle.std.specs.Prelude.{Option, All, IsSome, count_by, filter, nat_eq, nat_le, slice_get, slice_index}
+use Rattle.std.proofs.lemmas.Bool.Decides.{nat_tests}
+use Rattle.std.proofs.lemmas.List.{length-map}
+use Rattle.std.proofs.lemmas.List.Elements.{All-head, All-tail, All-filter}
+use Rattle.std.proofs.lemmas.List.Sums.{sum_by-cons}
+use Rattle.std.proofs.lemmas.Option.{slice_get_within}
+use Rattle.etl_rules.specs.Choosing.{ripe}
+use Rattle.move_choice.specs.Parts.{parts_of as choice_parts, covered, end_of as end_of_part, is_covered}
+use Rattle.move_choice.specs.Series.{of_series, IsPassed as IsPassedBy}
+use Rattle.move_choice.specs.declared.series.ToMove.{ToMove}
+use Rattle.move_choice.specs.declared.series.ToMove.TheVariants.{Begin, Running, Nothing}
+use Rattle.partition_names.specs.declared.granularity.Granularity.{Granularity}
+use Rattle.partition_names.specs.declared.part.Part.{Part}
+use Rattle.partition_names.specs.Part.{HoldsMoment}
+use Rattle.partition_names.proofs.PartLemmas.{within}
+use Rattle.pv_catalog.specs.Catalogue.{CatalogueState}
+use Rattle.pv_catalog.specs.declared.row.Row.{Row}
+use Rattle.series_model.specs.declared.sample.Sample.{Sample}
+use Rattle.series_model.specs.Series.{end_of, end_from, RisesFrom}
+use Rattle.series_model.proofs.RisingLists.{end_from-ge}
+use Rattle.store_manifest.specs.Manifest.{ManifestState}
+use Rattle.store_manifest.specs.declared.entry.Entry.{Entry}
+use Rattle.tier_store.specs.Held.{Filed, IsFiled, entry_of, samples_of}
+use Rattle.tier_store.specs.Plan.{of_row}
+use Rattle.three_stores.specs.Beginning.{IsChoice}
+use Rattle.three_stores.specs.Stores.{Stores, list_at}
+use Rattle.three_stores.proofs.Beginning.{parts_listed}
+use Rattle.three_stores.proofs.Places.{manifest_at, granularity_at}
+use Rattle.three_stores.proofs.Rising.{own_series}
+use Rattle.act_model.specs.Crash.{kept_of}
+use Rattle.act_model.specs.Machine.{Machine, MoveState}
+use Rattle.act_model.specs.MoveBegin.{HasMove, HasNoMove, IsFree, IsMoving, IsPassed, begins, all_run, none_to_make, chosen, front_length, parts_of}
+use Rattle.act_model.specs.Parts.{PartsFrom, AreParts}
+use Rattle.act_model.specs.Rows.{RowState, Store, Short, Medium, Long, next_store, tier, window, is_empty}
+use Rattle.act_model.specs.Rule.{Rule, IsPartition, index_of}
+use Rattle.archive_core.specs.MoveChoice.{HaveDurable, AreNumbers, GoesOnBy, ends_from, file_parts, move_end, move_rule, parts_to_move, row_files}
+use Rattle.archive_core.proofs.ListEnds.{files_end, last_end, own_entries}
+use Rattle.archive_core.proofs.Lists.{element}
+use Rattle.archive_core.proofs.Making.{kept_to}
+use Rattle.archive_core.proofs.Pieces.{index_low, rise_filter}
+use Rattle.archive_core.proofs.Windows.{AreApart, all_in, ends_inside, row_apart, windows}
+
+abbrev part_of : Filed → Part
+part_of f = f.entry.part
+
+-- THE PARTITIONS OF A ROW'S FILES
+
+parts_rise : (g : Granularity) (rows : List Row) (n : ℕ) (xs : List Sample) (fs : List Filed) → All (IsFiled g rows) fs → AreApart fs → AllByRecursion (λ (f : Filed). n ≤ f.entry.part.start) fs → AllByRecursion (λ (f : Filed). window f.entry.part xs ≡ f.samples) fs → PartsFrom n xs (map part_of fs)
+parts_rise g rows n xs [] filed apart low cuts = tt
+parts_rise g rows n xs (f ∷ fs) filed apart low cuts = (low.0, (within g f.entry.part is.part).1, some, parts_rise g rows f.entry.part.end xs fs (All-tail (IsFiled g rows) f fs filed) apart.1 apart.0 cuts.1)
+  where
+    is : IsFiled g rows f
+    is = All-head (IsFiled g rows) f fs filed
+
+    some : is_empty (window f.entry.part xs) ≡ true → ⊥
+    some empty = let none : true ≡ false = sym empty ∙ (ap is_empty cuts.0 ∙ ap is_empty is.some) in cc (none)
+
+each_partition : (rule : Rule) (store : Store) (g : Granularity) (rows : List Row) → slice_get rule.granularity (index_of store) ≡ Some g → (fs : List Filed) → All (IsFiled g rows) fs → AllByRecursion (IsPartition rule store) (map part_of fs)
+each_partition rule store g rows of_store [] filed = tt
+each_partition rule store g rows of_store (f ∷ fs) filed = (record { unit = g; of_store = of_store; is = (All-head (IsFiled g rows) f fs filed).part }, each_partition rule store g rows of_store fs (All-tail (IsFiled g rows) f fs filed))
+
+windows_join : (xs : List Sample) (fs : List Filed) → AllByRecursion (λ (f : Filed). window f.entry.part xs ≡ f.samples) fs → flat_map (λ p. window p xs) (map part_of fs) ≡ all_in fs
+windows_join xs [] cuts = refl
+windows_join xs (f ∷ fs) cuts = ap (λ (ys : List Sample). ys ++ flat_map (λ p. window p xs) (map part_of fs)) cuts.0 ∙ ap (λ (ys : List Sample). f.samples ++ ys) (windows_join xs fs cuts.1)
+
+from_zero : (fs : List Filed) → AllByRecursion (λ (f : Filed). 0 ≤ f.entry.part.start) fs
+from_zero [] = tt
+from_zero (f ∷ fs) = (omega arith, from_zero fs)
+
+-- the partitions of the files of one row are those of its samples
+pub files_are_parts : (rule : Rule) (store : Store) (g : Granularity) (rows : List Row) → slice_get rule.granularity (index_of store) ≡ Some g → (fs : List Filed) → All (IsFiled g rows) fs → AreApart fs → AllByRecursion (λ (f : Filed). window f.entry.part (all_in fs) ≡ f.samples) fs → AreParts rule store (all_in fs) (map part_of fs)
+files_are_parts rule store g rows of_store fs filed apart cuts = record {
+  rise = parts_rise g rows 0 (all_in fs) fs filed apart (from_zero fs) cuts;
+  each_one = each_partition rule store g rows of_store fs filed;
+  all = sym (windows_join (all_in fs) fs cuts);
+}
+
+-- COUNTS OF A FRONT
+
+-- behind a file that doesn't pass none does
+abbrev PassFirst : (Filed → Bool) → List Filed → Type 0
+PassFirst p [] = Unit {0}
+PassFirst p (f ∷ fs) = (p f ≡ false → AllByRecursion (λ (h : Filed). p h ≡ false) fs) × PassFirst p fs
+
+none_pass : (p : Filed → Bool) (fs : List Filed) → AllByRecursion (λ (h : Filed). p h ≡ false) fs → count_by p fs ≡ 0
+none_pass p [] none = refl
+none_pass p (f ∷ fs) none =
+    let more : count_by p (f ∷ fs) ≡ 0 + count_by p fs = sum_by-cons (λ (h : Filed). cond (p h) 1 0) f fs ∙ ap (λ (b : Bool). cond b 1 0 + count_by p fs) none.0 in
+    let rest = none_pass p fs none.1 in
+    omega (arith, more, rest)
+
+-- so those that pass are a front
+front_count : (q : Part → Bool) (p : Filed → Bool) (fs : List Filed) → AllByRecursion (λ (f : Filed). q f.entry.part ≡ p f) fs → PassFirst p fs → count_by p fs ≡ front_length q (map part_of fs)
+front_count q p [] same first = refl
+front_count q p (f ∷ fs) same first = by_test (p f) refl (front_count q p fs same.1 first.1)
+  where
+    step : count_by p (f ∷ fs) ≡ cond (p f) 1 0 + count_by p fs
+    step = sum_by-cons (λ (h : Filed). cond (p h) 1 0) f fs
+
+    by_test : (b : Bool) → p f ≡ b → count_by p fs ≡ front_length q (map part_of fs) → count_by p (f ∷ fs) ≡ front_length q (f.entry.part ∷ map part_of fs)
+    by_test true is rest =
+        let more : count_by p (f ∷ fs) ≡ 1 + count_by p fs = step ∙ ap (λ (b : Bool). cond b 1 0 + count_by p fs) is in
+        let front : front_length q (f.entry.part ∷ map part_of fs) ≡ front_length q (map part_of fs) + 1 = ap (λ (b : Bool). cond b (front_length q (map part_of fs) + 1) 0) (same.0 ∙ is) in
+        omega (arith, more, front, rest)
+    by_test false is rest =
+        let more : count_by p (f ∷ fs) ≡ 0 + count_by p fs = step ∙ ap (λ (b : Bool). cond b 1 0 + count_by p fs) is in
+        let front : front_length q (f.entry.part ∷ map part_of fs) ≡ 0 = ap (λ (b : Bool). cond b (front_length q (map part_of fs) + 1) 0) (same.0 ∙ is) in
+        let none : count_by p fs ≡ 0 = none_pass p fs (first.0 is) in
+        omega (arith, more, front, none)
+
+count_map : {A B : Type 0} (k : A → B) (p : B → Bool) (xs : List A) → count_by p (map k xs) ≡ count_by (λ x. p (k x)) xs
+count_map {A} {B} k p [] = refl
+count_map {A} {B} k p (x ∷ xs) = sum_by-cons (λ y. cond (p y) 1 0) (k x) (map k xs) ∙ (ap (λ (n : ℕ). cond (p (k x)) 1 0 + n) (count_map k p xs) ∙ sym (sum_by-cons (λ y. cond (p (k y)) 1 0) x xs))
+
+-- THOSE THAT HAVE ENDED
+
+test_later : (a b n : ℕ) → a < b → nat_le a n ≡ false → nat_le b n ≡ false
+test_later a b n lt fails = grind (arith, nat_tests)
+
+same_test : (q : Part → Bool) (fs : List Filed) → AllByRecursion (λ (f : Filed). q f.entry.part ≡ q f.entry.part) fs
+same_test q [] = tt
+same_test q (f ∷ fs) = (refl, same_test q fs)
+
+ended_first : (g : Granularity) (rows : List Row) (now : ℕ) (fs : List Filed) → All (IsFiled g rows) fs → AreApart fs → PassFirst (λ (f : Filed). nat_le f.entry.part.end now) fs
+ended_first g rows now [] filed apart = tt
+ended_first g rows now (f ∷ fs) filed apart = (λ fails. later fails fs (All-tail (IsFiled g rows) f fs filed) apart.0, ended_first g rows now fs (All-tail (IsFiled g rows) f fs filed) apart.1)
+  where
+    later : nat_le f.entry.part.end now ≡ false → (hs : List Filed) → All (IsFiled g rows) hs → AllByRecursion (λ (h : Filed). f.entry.part.end ≤ h.entry.part.start) hs → AllByRecursion (λ (h : Filed). nat_le h.entry.part.end now ≡ false) hs
+    later fails [] filed behind = tt
+    later fails (h ∷ hs) filed behind =
+        let wide = (within g h.entry.part (All-head (IsFiled g rows) h hs filed).part).1 in
+        let start = behind.0 in
+        (test_later f.entry.part.end h.entry.part.end now (omega (arith, wide, start)) fails, later fails hs (All-tail (IsFiled g rows) h hs filed) behind.1)
+
+ripe_is : (g : Granularity) (rows : List Row) (now : ℕ) (fs : List Filed) → All (IsFiled g rows) fs → AreApart fs → ripe now (map end_of_part (map entry_of fs)) ≡ front_length (λ p. nat_le p.end now) (map part_of fs)
+ripe_is g rows now fs filed apart =
+    count_map end_of_part (λ (at : ℕ). nat_le at now) (map entry_of fs)
+    ∙ (count_map entry_of (λ (e : Entry). nat_le e.part.end now) fs
+    ∙ front_count (λ (p : Part). nat_le p.end now) (λ (f : Filed). nat_le f.entry.part.end now) fs (same_test (λ (p : Part). nat_le p.end now) fs) (ended_first g rows now fs filed apart))
+
+-- THOSE THAT ARE COVERED
+
+-- a file's last sample is in its partition
+last_inside : (g : Granularity) (rows : List Row) (f : Filed) → IsFiled g rows f → HoldsMoment f.entry.part f.entry.last
+last_inside g rows f is =
+    let p = f.entry.part in
+    let end : end_of f.samples ≤ p.end = ends_inside 0 p f.samples (omega arith) is.inside in
+    let rises : RisesFrom 0 (is.first ∷ is.others) = subst (RisesFrom 0) is.some is.file.rising in
+    let inside : HoldsMoment p is.first.t = All-head (λ (s : Sample). HoldsMoment p s.t) is.first is.others (subst (All (λ (s : Sample). HoldsMoment p s.t)) is.some is.inside) in
+    let more : is.first.t + 1 ≤ end_from (is.first.t + 1) is.others = end_from-ge (is.first.t + 1) is.others rises.1 in
+    let same : end_of f.samples ≡ end_from (is.first.t + 1) is.others = ap (end_from 0) is.some in
+    let to : f.entry.last + 1 ≡ end_of f.samples = is.to in
+    let from = inside.0 in
+    (omega (arith, more, same, to, from), omega (arith, end, to))
+
+covered_first : (g : Granularity) (rows : List Row) (o : Option Entry) (fs : List Filed) → All (IsFiled g rows) fs → AreApart fs → PassFirst (λ (f : Filed). is_covered o f.entry) fs
+covered_first g rows o [] filed apart = tt
+covered_first g rows o (f ∷ fs) filed apart = (λ fails. later o fails fs (All-tail (IsFiled g rows) f fs filed) apart.0, covered_first g rows o fs (All-tail (IsFiled g rows) f fs filed) apart.1)
+  where
+    is : IsFiled g rows f
+    is = All-head (IsFiled g rows) f fs filed
+
+    later : (o : Option Entry) → is_covered o f.entry ≡ false → (hs : List Filed) → All (IsFiled g rows) hs → AllByRecursion (λ (h : Filed). f.entry.part.end ≤ h.entry.part.start) hs → AllByRecursion (λ (h : Filed). is_covered o h.entry ≡ false) hs
+    later o fails [] filed behind = tt
+    later None fails (h ∷ hs) filed behind = (refl, later None fails hs (All-tail (IsFiled g rows) h hs filed) behind.1)
+    later (Some e) fails (h ∷ hs) filed behind =
+        let own = last_inside g rows f is in
+        let other = last_inside g rows h (All-head (IsFiled g rows) h hs filed) in
+        let start = behind.0 in
+        (test_later f.entry.last h.entry.last e.last (omega (arith, own, other, start)) fails, later (Some e) fails hs (All-tail (IsFiled g rows) h hs filed) behind.1)
+
+-- what is behind the last entry
+abbrev IsEnd : Option Entry → ℕ → Type 0
+IsEnd None n = n ≡ 0
+IsEnd (Some e) n = n ≡ e.last + 1
+
+test_more : (a b : ℕ) → nat_le (a + 1) (b + 1) ≡ nat_le a b
+test_more a b = by_test (nat_le a b) refl
+  where
+    by_test : (t : Bool) → nat_le a b ≡ t → nat_le (a + 1) (b + 1) ≡ nat_le a b
+    by_test true is = grind (arith, nat_tests)
+    by_test false is = grind (arith, nat_tests)
+
+test_none : (a : ℕ) → nat_le (a + 1) 0 ≡ false
+test_none a = grind (arith, nat_tests)
+
+covered_test : (o : Option Entry) (n : ℕ) (f : Filed) → IsEnd o n → f.entry.last + 1 ≡ end_of f.samples → nat_le (end_of f.samples) n ≡ is_covered o f.entry
+covered_test None n f is to = (λ k. nat_le (sym to k) (is k)) ∙ test_none f.entry.last
+covered_test (Some e) n f is to = (λ k. nat_le (sym to k) (is k)) ∙ test_more f.entry.last e.last
+
+covered_tests : (g : Granularity) (rows : List Row) (o : Option Entry) (n : ℕ) (xs : List Sample) (fs : List Filed) → IsEnd o n → All (IsFiled g rows) fs → AllByRecursion (λ (f : Filed). window f.entry.part xs ≡ f.samples) fs → AllByRecursion (λ (f : Filed). nat_le (end_of (window f.entry.part xs)) n ≡ is_covered o f.entry) fs
+covered_tests g rows o n xs [] is filed cuts = tt
+covered_tests g rows o n xs (f ∷ fs) is filed cuts =
+    (ap (λ (ys : List Sample). nat_le (end_of ys) n) cuts.0 ∙ covered_test o n f is (All-head (IsFiled g rows) f fs filed).to, covered_tests g rows o n xs fs is (All-tail (IsFiled g rows) f fs filed) cuts.1)
+
+covered_is : (g : Granularity) (rows : List Row) (destination : List Entry) (xs ys : List Sample) (fs : List Filed) → IsEnd (slice_get destination (length destination - 1)) (end_of ys) → All (IsFiled g rows) fs → AreApart fs → AllByRecursion (λ (f : Filed). window f.entry.part xs ≡ f.samples) fs
+    → covered (map entry_of fs) destination ≡ front_length (λ p. nat_le (end_of (window p xs)) (end_of ys)) (map part_of fs)
+covered_is g rows destination xs ys fs is filed apart cuts =
+    let o = slice_get destination (length destination - 1) in
+    count_map entry_of (is_covered o) fs
+    ∙ front_count (λ (p : Part). nat_le (end_of (window p xs)) (end_of ys)) (λ (f : Filed). is_covered o f.entry) fs (covered_tests g rows o (end_of ys) xs fs is filed cuts) (covered_first g rows o fs filed apart)
+
+-- THE LAST PART OF A MOVE
+
+record Split (fs : List Filed) (n k : ℕ) : Type 0 where
+  pub before_it : List Part
+  pub after_it : List Part
+  pub part : Part
+  pub are : map part_of fs ≡ before_it ++ part ∷ after_it
+  pub number : n ≡ length before_it + 1
+  pub end : ends_from k (take n (map entry_of fs)) ≡ part.end
+
+split_at : (fs : List Filed) (n k : ℕ) → 1 ≤ n → n ≤ length fs → Split fs n k
+split_at fs zero k some low = absurd (omega (arith, some))
+split_at [] (suc n) k some low = absurd (omega (arith, low))
+split_at (f ∷ fs) (suc zero) k some low = record { before_it = []; after_it = map part_of fs; part = f.entry.part; are = refl; number = refl; end = refl }
+split_at (f ∷ fs) (suc (suc n)) k some low =
+    let rest = split_at fs (suc n) f.entry.part.end (omega arith) (omega (arith, low)) in
+    let number = rest.number in
+    record {
+      before_it = f.entry.part ∷ rest.before_it;
+      after_it = rest.after_it;
+      part = rest.part;
+      are = ap (λ (ps : List Part). f.entry.part ∷ ps) rest.are;
+      number = omega (arith, number);
+      end = rest.end;
+    }
+
+-- WHERE THE NEXT STORE'S LIST ENDS
+
+end_is : (g : Granularity) (rows : List Row) (ds : List Filed) → All (IsFiled g rows) ds → IsEnd (slice_get (map entry_of ds) (length (map entry_of ds) - 1)) (end_of (all_in ds))
+end_is g rows [] filed = refl
+end_is g rows (d ∷ ds) filed =
+    let es = map entry_of (d ∷ ds) in
+    let e = element es (length es - 1) (omega arith) in
+    subst (λ (o : Option Entry). IsEnd o (end_of (all_in (d ∷ ds)))) (sym e.1) (files_end g rows 0 (d ∷ ds) filed ∙ last_end 0 es e.0 (length es - 1) e.1 (omega arith))
+
+-- the next store's list is at the next place
+next_list : (store : Store) (s : Stores) → store ≢ Long → list_at (index_of store + 1) s ≡ list_at (index_of (next_store store)) s
+next_list Short s apart = refl
+next_list Medium s apart = refl
+next_list Long s apart = absurd (apart refl)
+
+-- THE FILES OF A ROW
+
+-- they are of the store's partitions, each ends before the next one starts, and together they have what the machine's store lists
+record RowFiles (rule : Rule) (s : Stores) (store : Store) (i : ℕ) (row : RowState) : Type 0 where
+  pub unit : Granularity
+  pub of_store : slice_get rule.granularity (index_of store) ≡ Some unit
+  pub filed : All (IsFiled unit s.rows) (row_files s store i)
+  pub apart : AreApart (row_files s store i)
+  pub samples : tier row store ≡ all_in (row_files s store i)
+
+module _ (catalogue : CatalogueState) (ms : List ManifestState) (s : Stores) (m : Machine) (have : HaveDurable catalogue ms s m) (told : m.told ≡ true) (i : ℕ) (row : RowState) (here : slice_get m.rows i ≡ Some row) where
+  tier_held : (store : Store) → tier row store ≡ samples_of i (list_at (index_of store) s)
+  tier_held Short = (have.holds.each i (kept_of row) (kept_to m.rows i row here)).is.short told
+  tier_held Medium = (have.holds.each i (kept_of row) (kept_to m.rows i row here)).is.medium told
+  tier_held Long = (have.holds.each i (kept_of row) (kept_to m.rows i row here)).is.long told
+
+  files_held : (store : Store) → RowFiles m.rule s store i row
+  files_held store =
+      let three = have.known.three in
+      let low = index_low store in
+      let n = manifest_at ms (index_of store) (omega (arith, low, three)) in
+      let known = have.known.each (index_of store) n.0 n.1 in
+      let files = list_at (index_of store) s in
+      let own : Filed → Bool = λ f. nat_eq f.entry.series i in
+      let filed = All-filter own (IsFiled n.0.granularity s.rows) files (known.valid.filed.filed (have.stands told)) in
+      record {
+        unit = n.0.granularity;
+        of_store = ap (λ (gs : List Granularity). slice_get gs (index_of store)) have.rule ∙ granularity_at ms (index_of store) n.0 n.1;
+        filed = filed;
+        apart = row_apart n.0.granularity s.rows i (of_row i files) filed (rise_filter own files known.valid.apart) (own_series i files);
+        samples = tier_held store;
+      }
+
+  cut : (store : Store) → AllByRecursion (λ (f : Filed). window f.entry.part (all_in (row_files s store i)) ≡ f.samples) (row_files s store i)
+  cut store = let is = files_held store in windows is.unit s.rows (row_files s store i) is.filed is.apart
+
+  -- their partitions are the machine's
+  pub parts_are : (store : Store) → AreParts m.rule store (tier row store) (file_parts (row_files s store i))
+  parts_are store =
+      let is = files_held store in
+      subst (λ (xs : List Sample). AreParts m.rule store xs (file_parts (row_files s store i))) (sym is.samples)
+      (files_are_parts m.rule store is.unit s.rows is.of_store (row_files s store i) is.filed is.apart (cut store))
+
+  own_listed : (store : Store) → of_series i (map entry_of (list_at (index_of store) s)) ≡ map entry_of (row_files s store i)
+  own_listed store = sym (own_entries i (list_at (index_of store) s))
+
+  next_listed : (store : Store) → store ≢ Long → of_series i (map entry_of (list_at (index_of store + 1) s)) ≡ map entry_of (row_files s (next_store store) i)
+  next_listed store apart = ap (λ (fs : List Filed). of_series i (map entry_of fs)) (next_list store s apart) ∙ own_listed (next_store store)
+
+  -- as many of them move as of the machine's
+  pub number_is : (store : Store) (now : ℕ) → store ≢ Long → parts_to_move m s store now i ≡ parts_of m.rule store now row (file_parts (row_files s store i))
+  number_is store now apart =
+      let is = files_held store in
+      let next = files_held (next_store store) in
+      let fs = row_files s store i in
+      let ds = row_files s (next_store store) i in
+      let rule = move_rule m.rule store now in
+      let end = subst (λ (xs : List Sample). IsEnd (slice_get (map entry_of ds) (length (map entry_of ds) - 1)) (end_of xs)) (sym next.samples) (end_is next.unit s.rows ds next.filed) in
+      let cuts = subst (λ (xs : List Sample). AllByRecursion (λ (f : Filed). window f.entry.part xs ≡ f.samples) fs) (sym is.samples) (cut store) in
+      let ripe_parts = ripe_is is.unit s.rows now fs is.filed is.apart in
+      let covered_parts = covered_is is.unit s.rows (map entry_of ds) (tier row store) (tier row (next_store store)) fs end is.filed is.apart cuts in
+      (λ k. choice_parts rule (own_listed store k) (next_listed store apart k))
+      ∙ (λ k. min 65536 (max (chosen (slice_index m.rule.hold (index_of store)) (slice_index m.rule.gather (index_of store)) (ripe_parts k)) (covered_parts k)))
+
+  -- THE MACHINE'S CHOICE OF THE ROW
+
+  pub has_move : (store : Store) (now n : ℕ) → store ≢ Long → n ≡ parts_to_move m s store now i → 1 ≤ n → HasMove m.rule store now row n (move_end s store i n)
+  has_move store now n apart is some =
+      let fs = row_files s store i in
+      let es = map entry_of (list_at (index_of store) s) in
+      let low : parts_to_move m s store now i ≤ length (of_series i es) = parts_listed (move_rule m.rule store now) es (map entry_of (list_at (index_of store + 1) s)) i in
+      let long : length (of_series i es) ≡ length fs = ap length (own_listed store) ∙ length-map fs entry_of in
+      let split = split_at fs n 0 some (omega (arith, low, long, is)) in
+      let end : move_end s store i n ≡ split.part.end = ap (λ (xs : List Entry). ends_from 0 (take n xs)) (own_listed store) ∙ split.end in
+      record {
+        parts = file_parts fs;
+        are = parts_are store;
+        number = is ∙ number_is store now apart;
+        last = (split.before_it, split.after_it, split.part, split.are, split.number, end);
+      }
+
+  pub has_no_move : (store : Store) (now : ℕ) → store ≢ Long → parts_to_move m s store now i ≡ 0 → HasNoMove m.rule store now row
+  has_no_move store now apart none = record { parts = file_parts (row_files s store i); are = parts_are store; none = sym (number_is store now apart) ∙ none }
+
+-- THE MACHINE'S STEP
+
+module _ (catalogue : CatalogueState) (ms : List ManifestState) (s : Stores) (m : Machine) (have : HaveDurable catalogue ms s m) (store : Store) (now : ℕ) (apart : store ≢ Long) (running : ℕ → Option ℕ) (numbers : AreNumbers m running) where
+  count_is : length m.rows ≡ length s.rows
+  count_is = sym (length-map m.rows kept_of) ∙ have.holds.count
+
+  row_held : (i : ℕ) (row : RowState) → slice_get m.rows i ≡ Some row → i < length s.rows
+  row_held i row here = let low = slice_get_within m.rows i row here in let same = count_is in omega (arith, low, same)
+
+  is_free : (i : ℕ) → running i ≡ None → IsFree m i
+  is_free i none n move here same = none_runs (running i) none (subst (λ (k : ℕ). IsSome (running k)) same (numbers.all n move here))
+    where
+      none_runs : (o : Option ℕ) → o ≡ None → IsSome o → ⊥
+      none_runs None is some = absurd (cc (some))
+      none_runs (Some n) is some = absurd (cc (is))
+
+  moving : (i : ℕ) → IsSome (running i) → (n : ℕ) × IsMoving m i n
+  moving i some = go (running i) refl some
+    where
+      go : (o : Option ℕ) → running i ≡ o → IsSome o → (n : ℕ) × IsMoving m i n
+      go None is some = absurd (cc (some))
+      go (Some n) is some = (n, numbers.runs i n is)
+
+  passed : m.told ≡ true → (i : ℕ) → IsPassedBy (parts_to_move m s store now) running i → IsPassed m store now i
+  passed told i (inl none) row here = inl (has_no_move catalogue ms s m have told i row here store now apart none)
+  passed told i (inr some) row here = inr (moving i some)
+
+  -- as it is chosen, so the machine goes on
+  pub goes_on : (choice : ToMove) → IsChoice (move_rule m.rule store now) (index_of store) running s choice → GoesOnBy m s store now choice
+  goes_on (Begin i n) (free, number) = λ k new gap same.
+      let low = free.within in
+      let many = count_is in
+      begins k i n (move_end s store i n) apart (omega (arith, low, many)) (is_free i free.none_runs) gap
+      (λ told row here. has_move catalogue ms s m have told i row here store now n apart number (let some = free.some in omega (arith, some, number)))
+      (λ told j lt. passed told j (free.least j lt)) same
+  goes_on (Running k) all = λ new same.
+      all_run k all.series (numbers.runs all.series k all.runs) (λ told j row here. passed told j (all.all j (row_held j row here)) row here)
+      (λ told j lt row here. has_no_move catalogue ms s m have told j row here store now apart (all.least j lt)) same
+  goes_on Nothing none = λ new same. none_to_make (λ told j row here. has_no_move catalogue ms s m have told j row here store now apart (none j (row_held j row here))) same
