@@ -26,7 +26,7 @@ use Rattle.etl_mover.specs.Lists.{Unmade, published, Stands, Relists, Knows}
 -- WHAT IS LISTED
 
 -- the entries of all files, with those of the pending ones set
-entries_with : (files fs : List Filed) → all_changed (map entry_of files) (map set_entry (map entry_of fs)) ≡ map entry_of (put_all files fs)
+pub entries_with : (files fs : List Filed) → all_changed (map entry_of files) (map set_entry (map entry_of fs)) ≡ map entry_of (put_all files fs)
 entries_with files [] = refl
 entries_with files (f ∷ fs) = ap (λ (es : List Entry). all_changed es (map set_entry (map entry_of fs))) (sym (map-put f files)) ∙ entries_with (put filed_at f files) fs
 

@@ -29,6 +29,7 @@ keeps_itself name n a b same = record {
 pub reads_leave : (name : Name) (at : Option ℕ) (files later : Files) (opened after : Name → ℕ) (old new : Past) → ((n : ℕ) → at ≡ Some n → IsLongUnopened n name files opened) → OnlyReads files later opened after old new → LeavesFile name at files later opened after old new
 reads_leave name at files later opened after old new room reads = record {
   any_moment = passes_weaker (λ a b. b ≡ a) (At name (Keeps (start_of at))) old new reads.any_moment (λ a c left same. keeps_itself name (start_of at) a c same);
+  front = (keeps_itself name (start_of at) files later reads.same).here;
   long = λ n is. let was = room n is in record { bytes = was.bytes; file = ap (λ (f : Files). f name) reads.same ∙ was.file; holds = was.holds.1 };
   elsewhere = λ n apart. ap (λ (f : Files). f n) reads.same;
   fewer = same_opened opened after reads.same_opened;
@@ -38,6 +39,7 @@ reads_leave name at files later opened after old new room reads = record {
 pub reads_then_leave : (name : Name) (at : Option ℕ) (files mid later : Files) (opened between after : Name → ℕ) (old now new : Past) → OnlyReads files mid opened between old now → LeavesFile name at mid later between after now new → LeavesFile name at files later opened after old new
 reads_then_leave name at files mid later opened between after old now new reads leaves = record {
   any_moment = keeps_more name (start_of at) old now new (passes_weaker (λ a b. b ≡ a) (At name (Keeps (start_of at))) old now reads.any_moment (λ a c left same. keeps_itself name (start_of at) a c same)) leaves.any_moment;
+  front = λ front some low begins. leaves.front front some low (subst (λ (f : Files). Begins front (f name)) (sym reads.same) begins);
   long = leaves.long;
   elsewhere = λ n apart. leaves.elsewhere n apart ∙ ap (λ (f : Files). f n) reads.same;
   fewer = λ n. let same = ap (λ (o : Name → ℕ). o n) reads.same_opened in omega (arith, leaves.fewer n, same);

@@ -4,8 +4,8 @@ use Rattle.std.proofs.lemmas.List.{length-append, length-take}
 use Rattle.disk_model.specs.Files.{Name, Content, Files, HasFile, At, Overwritten, Torn, Cut}
 use Rattle.disk_model.specs.Past.{Past, Passes, Only}
 use Rattle.store_files.specs.Fronts.{Keeps}
-use Rattle.store_files.proofs.Stays.{keeps_more}
-use Rattle.tier_store.proofs.Appending.{appended, cut_of}
+use Rattle.store_files.proofs.Stays.{keeps_more, torn_keeps}
+use Rattle.tier_store.proofs.Appending.{appended, cut_kept, cut_of, written_keeps}
 use Rattle.tier_store.proofs.Names.{name_cases}
 use Rattle.etl_mover.specs.Writing.{WritesFile, LeavesFile}
 
@@ -21,15 +21,18 @@ same_opened opened after same n = let is : after n ≡ opened n = ap (λ (o : Na
 -- a file that was cut, or wasn't
 pub record IsCutTo (name : Name) (len : ℕ) (files later : Files) : Type 0 where
   pub long : HasFile later name (λ b. len ≤ length b)
+  pub front : Keeps len (files name) (later name)
   pub elsewhere : (n : Name) → n ≢ name → later n ≡ files n
 
 pub cut_to : (name : Name) (len : ℕ) (files later : Files) → HasFile files name (λ b. len ≤ length b) → (later ≡ files) ⊎ At name (Cut len) files later → IsCutTo name len files later
 cut_to name len files later was (inl same) = record {
   long = record { bytes = was.bytes; file = ap (λ (f : Files). f name) same ∙ was.file; holds = was.holds };
+  front = (cut_kept name len files later (inl same)).here;
   elsewhere = λ n apart. ap (λ (f : Files). f n) same;
 }
 cut_to name len files later was (inr cut) = record {
   long = record { bytes = take len was.bytes; file = cut_of len was.bytes (files name) (later name) was.file cut.here; holds = omega (arith, length-take len was.bytes, was.holds) };
+  front = (cut_kept name len files later (inr cut)).here;
   elsewhere = cut.elsewhere;
 }
 
@@ -64,16 +67,18 @@ written_long name len bytes mid later was step = go (mid name) (later name) refl
 pub settled_leaves : (name : Name) (len : ℕ) (files later : Files) (opened after : Name → ℕ) (old new : Past) → IsCutTo name len files later → Passes (At name (Keeps len)) old new → after ≡ opened → LeavesFile name (Some len) files later opened after old new
 settled_leaves name len files later opened after old new cut passes same = record {
   any_moment = passes;
+  front = cut.front;
   long = λ n is. let at : len ≡ n = cc (is) in subst (λ (k : ℕ). HasFile later name (λ b. k ≤ length b)) at cut.long;
   elsewhere = cut.elsewhere;
   fewer = same_opened opened after same;
 }
 
 -- a cut, and then a write behind it, whatever that answers
-pub appended_leaves : (name : Name) (len : ℕ) (files mid later : Files) (opened after_mid after : Name → ℕ) (old now new : Past) → IsCutTo name len files mid → HasFile later name (λ b. len ≤ length b) → ((n : Name) → n ≢ name → later n ≡ mid n) → Passes (At name (Keeps len)) old now → Passes (At name (Keeps len)) now new → after_mid ≡ opened → after ≡ after_mid
+pub appended_leaves : (name : Name) (len : ℕ) (files mid later : Files) (opened after_mid after : Name → ℕ) (old now new : Past) → IsCutTo name len files mid → Keeps len (mid name) (later name) → HasFile later name (λ b. len ≤ length b) → ((n : Name) → n ≢ name → later n ≡ mid n) → Passes (At name (Keeps len)) old now → Passes (At name (Keeps len)) now new → after_mid ≡ opened → after ≡ after_mid
     → LeavesFile name (Some len) files later opened after old new
-appended_leaves name len files mid later opened after_mid after old now new cut long others first second same same₂ = record {
+appended_leaves name len files mid later opened after_mid after old now new cut front long others first second same same₂ = record {
   any_moment = keeps_more name len old now new first second;
+  front = λ bytes some low begins. front bytes some low (cut.front bytes some low begins);
   long = λ n is. let at : len ≡ n = cc (is) in subst (λ (k : ℕ). HasFile later name (λ b. k ≤ length b)) at long;
   elsewhere = λ n apart. others n apart ∙ cut.elsewhere n apart;
   fewer = same_opened opened after (same₂ ∙ same);
@@ -82,12 +87,12 @@ appended_leaves name len files mid later opened after_mid after old now new cut 
 pub torn_leaves : (name : Name) (len n : ℕ) (files mid later : Files) (opened after_mid after : Name → ℕ) (old now new : Past) → IsCutTo name len files mid → At name (Torn len n) mid later → Passes (At name (Keeps len)) old now → Passes (At name (Keeps len)) now new → after_mid ≡ opened → after ≡ after_mid
     → LeavesFile name (Some len) files later opened after old new
 torn_leaves name len n files mid later opened after_mid after old now new cut torn first second same same₂ =
-    appended_leaves name len files mid later opened after_mid after old now new cut (torn_long name len len n mid later cut.long torn) torn.elsewhere first second same same₂
+    appended_leaves name len files mid later opened after_mid after old now new cut (torn_keeps len n (mid name) (later name) torn.here) (torn_long name len len n mid later cut.long torn) torn.elsewhere first second same same₂
 
 pub written_leaves : (name : Name) (len : ℕ) (bytes : List ℕ) (files mid later : Files) (opened after_mid after : Name → ℕ) (old now new : Past) → IsCutTo name len files mid → At name (Overwritten len bytes) mid later → Passes (At name (Keeps len)) old now → Passes (At name (Keeps len)) now new → after_mid ≡ opened → after ≡ after_mid
     → LeavesFile name (Some len) files later opened after old new
 written_leaves name len bytes files mid later opened after_mid after old now new cut written first second same same₂ =
-    appended_leaves name len files mid later opened after_mid after old now new cut (written_long name len bytes mid later cut.long written) written.elsewhere first second same same₂
+    appended_leaves name len files mid later opened after_mid after old now new cut (written_keeps len bytes (mid name) (later name) written.here) (written_long name len bytes mid later cut.long written) written.elsewhere first second same same₂
 
 pub written_grows : (name : Name) (len : ℕ) (bytes : List ℕ) (files mid later : Files) (after : Name → ℕ) (new : Past) → HasFile files name (λ b. len ≤ length b) → At name (Cut len) files mid → At name (Overwritten len bytes) mid later → Only new name (later name) → WritesFile name (Some len) bytes files later after new
 written_grows name len bytes files mid later after new was cut written durable = record {
@@ -106,6 +111,7 @@ written_grows name len bytes files mid later after new was cut written durable =
 pub made_leaves : (name : Name) (files later : Files) (opened after : Name → ℕ) (old new : Past) → At name (Keeps 0) files later → Passes (At name (Keeps 0)) old new → after name ≤ opened name → ((n : Name) → n ≢ name → after n ≡ opened n) → LeavesFile name None files later opened after old new
 made_leaves name files later opened after old new kept passes low same = record {
   any_moment = passes;
+  front = kept.here;
   long = λ n is. absurd (cc (is));
   elsewhere = kept.elsewhere;
   fewer = all_names name opened after same low;

@@ -15,6 +15,7 @@ pub record WritesFile (name : Name) (at : Option ℕ) (bytes : List ℕ) (files 
 -- whatever it answers, a crash at any moment and reads give each front up to the place where the bytes go, and every other name as it was
 pub record LeavesFile (name : Name) (at : Option ℕ) (files later : Files) (opened after : Name → ℕ) (old new : Past) : Type 0 where
   pub any_moment : Passes (At name (Keeps (start_of at))) old new
+  pub front : Keeps (start_of at) (files name) (later name)
   pub long : (len : ℕ) → at ≡ Some len → HasFile later name (λ b. len ≤ length b)
   pub elsewhere : (n : Name) → n ≢ name → later n ≡ files n
   pub fewer : (n : Name) → after n ≤ opened n

@@ -36,8 +36,8 @@ fn behind(entry: Entry) -> Start
 }
 
 impl Move {
-    // The last entry of the series that the destination lists or is to list.
-    fn last(&self) -> Option<Entry>
+    /// The last entry of the series that the destination lists or is to list; `None` where there is none.
+    pub fn last(&self) -> Option<Entry>
         ensures { result ≡ last_of self.now.pending self.now.listed }
     {
         match self.pending.last() {

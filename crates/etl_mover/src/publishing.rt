@@ -1,11 +1,13 @@
 // The publication: one commit lists what was copied.
 ghost use Rattle.std.specs.Prelude.{◌≡◌, ◌≢◌, ◌≤◌, ℕ, map, true, IfOk, OnOk, OnErr, IsErrOf, IsTrue};
-ghost use Rattle.disk_model.specs.Files.{Name, Rose};
+ghost use Rattle.disk_model.specs.Files.{At, Name, Rose};
+ghost use Rattle.disk_model.specs.Past.{Passes};
 ghost use Rattle.gate_journal.specs.Journal.{JournalState};
 ghost use Rattle.partition_names.specs.declared.granularity.Granularity.{Granularity};
 ghost use Rattle.store_manifest.specs.Entries.{all_changed};
 ghost use Rattle.tier_store.specs.Held.{Held, Shelf};
 ghost use Rattle.tier_store.specs.Ahead.{HasCopied};
+ghost use Rattle.tier_store.specs.Three.{Anything};
 ghost use Rattle.etl_mover.specs.Move.{IsMove, IsAhead, IsCopied, set_entry};
 ghost use Rattle.etl_mover.specs.Lists.{Relists, Commits, published};
 ghost use Rattle.etl_mover.specs.declared.moving.Stage.TheVariants.{Published};
@@ -46,8 +48,9 @@ impl Move {
         ensures commits { Commits dest.old dest.new (all_changed dest.old.entries (map set_entry self.old.pending)) (published result dest.new.journal.sound) }
         ensures stage { OnOk result (self.new ≡ record self.old { stage = Published }) }
         ensures unchanged { OnErr result (self.new ≡ self.old) }
-        ensures memory { IsErrOf result DiskErr.Memory → dest.new.journal.sound ≡ true }
+        ensures memory { IsErrOf result DiskErr.Memory → dest.new.journal ≡ dest.old.journal }
         ensures elsewhere { IsTrue D.tells → (n : Name) → n ≢ dest.old.journal.name → D.files disk.new n ≡ D.files disk.old n }
+        ensures frame { IsTrue D.tells → Passes (At dest.old.journal.name Anything) (D.past disk.old) (D.past disk.new) }
         ensures opened { IsTrue D.tells → D.opened disk.new ≡ D.opened disk.old }
         ensures faults { D.faults disk.old ≤ D.faults disk.new }
         ensures cause { IsErrOf result DiskErr.Fault → Rose (D.faults disk.old) (D.faults disk.new) }

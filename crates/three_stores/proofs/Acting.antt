@@ -12,6 +12,7 @@ use Rattle.tier_store.proofs.Acting.{rose_after}
 use Rattle.three_stores.specs.Stores.{Stores}
 use Rattle.three_stores.specs.Seen.{Seen, IsSettled, granularities}
 use Rattle.three_stores.specs.Stored.{HoldsAll}
+use Rattle.three_stores.specs.Given.{ChangesGiven, ActsGiven}
 use Rattle.three_stores.specs.Change.{Has, HasEither, IsOpen, IsEither, Comes, HoldsBy, HoldsChange, Call, EndsFrom, OnlyReads, Changes, Acts}
 use Rattle.three_stores.proofs.Left.{has_left, open_left}
 
@@ -34,12 +35,17 @@ then_holds gs By old mid new before after held either first second = passes_then
     go c (inr made) = inr (made.0, record { from = held; either = either; by = made.1 }, made.2)
 
 -- one of the two is there
-settled_one : (tells : Bool) (s : Seen) (before after : Stores) → HasEither tells s before after → (held : Stores) × IsEither before after held × Has tells s held
+pub settled_one : (tells : Bool) (s : Seen) (before after : Stores) → HasEither tells s before after → (held : Stores) × IsEither before after held × Has tells s held
 settled_one tells s before after (inl has) = (before, inl refl, has)
 settled_one tells s before after (inr has) = (after, inr refl, has)
 
 pub has_one : (tells : Bool) (s : Seen) (before after : Stores) → HasEither tells s before after → (held : Stores) × Has tells s held
 has_one tells s before after settled = let held = settled_one tells s before after settled in (held.0, held.2)
+
+-- and what is true of both is true of it
+pub is_one : (Is : Stores → Type 0) (before after held : Stores) → IsEither before after held → Is before → Is after → Is held
+is_one Is before after held (inl is) given given_too = subst Is (sym is) given
+is_one Is before after held (inr is) given given_too = subst Is (sym is) given_too
 
 -- a call on the disk that only read it
 pub only_reads : {B : Type 0} (tells : Bool) (old new : Seen) (r : Result B DiskErr) → (IsTrue tells → new.files ≡ old.files) → (IsTrue tells → Passes (λ a b. b ≡ a) old.past new.past) → old.faults ≤ new.faults → (r ≡ Err Fault → Rose old.faults new.faults) → OnlyReads tells old new (end_of_disk r)
@@ -60,43 +66,57 @@ nothing_read {A} {E} tells s end not_failed = record {
 }
 
 -- the settling failed, so something stood in doubt
-pub cut_acts : {A B E : Type 0} (tells : Bool) (call : Call A E) (old new : Seen) (r : Result B DiskErr) (e : DiskErr) (end : End A E) → r ≡ Err e → end ≡ end_of_error e → (IsSettled old → (a : B) × (r ≡ Ok a)) → ((before after : Stores) → IsOpen tells old before after → IsOpen tells new before after)
-    → granularities new.manifests ≡ granularities old.manifests → OnlyReads tells old new (end_of_disk r) → Acts tells call old new end
-cut_acts {A} {B} {E} tells call old new r e end failed is fine still same_g reads = subst (λ (x : End A E). Acts tells call old new x) (sym is) (go e (subst (λ (x : Result B DiskErr). OnlyReads tells old new (end_of_disk x)) failed reads))
+pub cut_given : {A B E : Type 0} (Is : Stores → Type 0) (tells : Bool) (call : Call A E) (old new : Seen) (r : Result B DiskErr) (e : DiskErr) (end : End A E) → r ≡ Err e → end ≡ end_of_error e → (IsSettled old → (a : B) × (r ≡ Ok a)) → ((before after : Stores) → IsOpen tells old before after → IsOpen tells new before after)
+    → granularities new.manifests ≡ granularities old.manifests → OnlyReads tells old new (end_of_disk r) → ActsGiven Is tells call old new end
+cut_given {A} {B} {E} Is tells call old new r e end failed is fine still same_g reads = subst (λ (x : End A E). ActsGiven Is tells call old new x) (sym is) (go e (subst (λ (x : Result B DiskErr). OnlyReads tells old new (end_of_disk x)) failed reads))
   where
     doubted : IsSettled old → ⊥
     doubted settled = let ok = fine settled in let both : ◌≡◌ {A = Result B DiskErr} (Ok ok.0) (Err e) = sym ok.1 ∙ failed in cc (both)
 
-    go : (e : DiskErr) → OnlyReads tells old new (end_of_disk {A = B} (Err e)) → Acts tells call old new (end_of_error {A = A} {E = E} e)
+    go : (e : DiskErr) → OnlyReads tells old new (end_of_disk {A = B} (Err e)) → ActsGiven Is tells call old new (end_of_error {A = A} {E = E} e)
     go Fault reads = record {
-      ends = λ before after was. inl (tt, still before after was);
-      settled = λ held has. absurd (doubted has.settled);
-      any_moment = λ told before after was. settling_holds tells call.by old new.past before after was told (reads.any_moment told);
+      ends = λ before after was given given_too. inl (tt, still before after was);
+      settled = λ held has given. absurd (doubted has.settled);
+      any_moment = λ told before after was given given_too. settling_holds tells call.by old new.past before after was told (reads.any_moment told);
       costs = record { granularity = same_g; faults = reads.faults; cause = reads.cause };
     }
     go Memory reads = record {
-      ends = λ before after was. inl (tt, still before after was);
-      settled = λ held has. absurd (doubted has.settled);
-      any_moment = λ told before after was. settling_holds tells call.by old new.past before after was told (reads.any_moment told);
+      ends = λ before after was given given_too. inl (tt, still before after was);
+      settled = λ held has given. absurd (doubted has.settled);
+      any_moment = λ told before after was given given_too. settling_holds tells call.by old new.past before after was told (reads.any_moment told);
       costs = record { granularity = same_g; faults = reads.faults; cause = λ failed. absurd failed };
     }
 
--- the doubt was settled, and then the call did its own
-pub then_acts : {A B E F : Type 0} (tells : Bool) (call : Call A E) (old mid new : Seen) (settling : End B F) (end : End A E) → ((before after : Stores) → IsOpen tells old before after → HasEither tells mid before after)
-    → ((held : Stores) → Has tells old held → Has tells mid held) → granularities mid.manifests ≡ granularities old.manifests → OnlyReads tells old mid settling → Changes tells call mid new end → Acts tells call old new end
-then_acts {A} {B} {E} {F} tells call old mid new settling end settled nothing same_g reads change = record {
-  ends = λ before after was. let held = settled_one tells mid before after (settled before after was) in inr (held.0, held.1, change.ends held.0 held.2);
-  settled = λ held has. change.ends held (nothing held has);
-  any_moment = λ told before after was.
+-- the doubt was settled, and then the call did its own; what was true of the stores is so still behind the settling
+pub then_given : {A B E F : Type 0} (Is Then : Stores → Type 0) (tells : Bool) (call : Call A E) (old mid new : Seen) (settling : End B F) (end : End A E) → ((held : Stores) → Is held → Then held) → ((before after : Stores) → IsOpen tells old before after → HasEither tells mid before after)
+    → ((held : Stores) → Has tells old held → Has tells mid held) → granularities mid.manifests ≡ granularities old.manifests → OnlyReads tells old mid settling → ChangesGiven Then tells call mid new end → ActsGiven Is tells call old new end
+then_given {A} {B} {E} {F} Is Then tells call old mid new settling end stays settled nothing same_g reads change = record {
+  ends = λ before after was given given_too. let held = settled_one tells mid before after (settled before after was) in inr (held.0, held.1, change.ends held.0 held.2 (stays held.0 (is_one Is before after held.0 held.1 given given_too)));
+  settled = λ held has given. change.ends held (nothing held has) (stays held given);
+  any_moment = λ told before after was given given_too.
       let held = settled_one tells mid before after (settled before after was) in
       then_holds (granularities old.manifests) call.by old.past mid.past new.past before after held.0 held.1 (settling_holds tells call.by old mid.past before after was told (reads.any_moment told))
-      (subst (λ (gs : List Granularity). Passes (HoldsBy gs call.by held.0) mid.past new.past) same_g (change.any_moment told held.0 held.2));
+      (subst (λ (gs : List Granularity). Passes (HoldsBy gs call.by held.0) mid.past new.past) same_g (change.any_moment told held.0 held.2 (stays held.0 (is_one Is before after held.0 held.1 given given_too))));
   costs = record {
     granularity = change.costs.granularity ∙ same_g;
     faults = let more = reads.faults in let later = change.costs.faults in omega (arith, more, later);
     cause = λ failed. rose_after old.faults mid.faults new.faults reads.faults (change.costs.cause failed);
   };
 }
+
+-- and so it is with all stores
+every_act : {A E : Type 0} (tells : Bool) (call : Call A E) (old new : Seen) (end : End A E) → ActsGiven (λ (s : Stores). Unit {0}) tells call old new end → Acts tells call old new end
+every_act {A} {E} tells call old new end acts = record { ends = λ before after was. acts.ends before after was tt tt; settled = λ held has. acts.settled held has tt; any_moment = λ told before after was. acts.any_moment told before after was tt tt; costs = acts.costs }
+
+pub cut_acts : {A B E : Type 0} (tells : Bool) (call : Call A E) (old new : Seen) (r : Result B DiskErr) (e : DiskErr) (end : End A E) → r ≡ Err e → end ≡ end_of_error e → (IsSettled old → (a : B) × (r ≡ Ok a)) → ((before after : Stores) → IsOpen tells old before after → IsOpen tells new before after)
+    → granularities new.manifests ≡ granularities old.manifests → OnlyReads tells old new (end_of_disk r) → Acts tells call old new end
+cut_acts {A} {B} {E} tells call old new r e end failed is fine still same_g reads = every_act tells call old new end (cut_given (λ (s : Stores). Unit {0}) tells call old new r e end failed is fine still same_g reads)
+
+pub then_acts : {A B E F : Type 0} (tells : Bool) (call : Call A E) (old mid new : Seen) (settling : End B F) (end : End A E) → ((before after : Stores) → IsOpen tells old before after → HasEither tells mid before after)
+    → ((held : Stores) → Has tells old held → Has tells mid held) → granularities mid.manifests ≡ granularities old.manifests → OnlyReads tells old mid settling → Changes tells call mid new end → Acts tells call old new end
+then_acts {A} {B} {E} {F} tells call old mid new settling end settled nothing same_g reads change = every_act tells call old new end
+    (then_given (λ (s : Stores). Unit {0}) (λ (s : Stores). Unit {0}) tells call old mid new settling end (λ held given. given) settled nothing same_g reads
+    (record { ends = λ held has given. change.ends held has; any_moment = λ told held has given. change.any_moment told held has; costs = change.costs }))
 
 -- nothing was done
 pub nothing_changes : {A E : Type 0} (tells : Bool) (call : Call A E) (s : Seen) (end : End A E) → ((held : Stores) → Has tells s held → EndsFrom tells call s held end) → (IsFailed end → ⊥) → Changes tells call s s end

@@ -33,11 +33,11 @@ pub begins_counting : (ty : PayloadType) (year : ℤ) (bytes : List ℕ) (n : �
 begins_counting ty year bytes n = record { samples = []; rest = bytes; are = tt; begin = refl; long = refl; counted = refl }
 
 -- the bytes behind those that were counted
-rest_is : (ty : PayloadType) (year : ℤ) (bytes : List ℕ) (n len count : ℕ) (is : IsCounting ty year bytes n len count) → drop len bytes ≡ is.rest
+pub rest_is : (ty : PayloadType) (year : ℤ) (bytes : List ℕ) (n len count : ℕ) (is : IsCounting ty year bytes n len count) → drop len bytes ≡ is.rest
 rest_is ty year bytes n len count is = ap (λ (l : List ℕ). drop len l) is.begin ∙ (ap (λ (k : ℕ). drop k (lines_of is.samples ++ is.rest)) is.long ∙ drop-append_seam (lines_of is.samples) is.rest)
 
 -- a line and its newline stand at the front
-line_at : (rest : List ℕ) (end : ℕ) → end < length rest → get_or rest end 0 ≡ 10 → rest ≡ take end rest ++ 10 ∷ drop (suc end) rest
+pub line_at : (rest : List ℕ) (end : ℕ) → end < length rest → get_or rest end 0 ≡ 10 → rest ≡ take end rest ++ 10 ∷ drop (suc end) rest
 line_at rest end within ten = sym (take-append-drop end rest) ∙ (ap (λ (l : List ℕ). take end rest ++ l) (drop-cons rest end 0 within) ∙ ap (λ (x : ℕ). take end rest ++ x ∷ drop (suc end) rest) ten)
 
 -- one sample more is counted, or not

@@ -11,35 +11,37 @@ use Rattle.series_model.specs.declared.sample.Sample.{Sample}
 use Rattle.series_model.specs.Series.{since}
 use Rattle.series_model.proofs.RisingLists.{since-append}
 use Rattle.pb_lines.specs.File.{AreSamples, lines_of}
-use Rattle.pb_lines.proofs.FileLines.{all_rest, one_run}
+use Rattle.pb_lines.proofs.FileLines.{all_rest, lines_of-append, one_run}
 use Rattle.pb_lines.specs.File.{IsFile, IsSample}
 use Rattle.three_stores.specs.Counting.{CountsLines, HasLines, ReadsDisk}
+use Rattle.three_stores.proofs.CountingLines.{IsCounting}
 
 -- The lines of the first of the samples were counted, and those of the others stand from here to the end.
-pub record IsBetween (files : Files) (name : Name) (at end : ℕ) (ty : PayloadType) (year : ℤ) (n : ℕ) (samples : List Sample) (count : ℕ) : Type 0 where
+pub record IsBetween (files : Files) (name : Name) (from at end : ℕ) (ty : PayloadType) (year : ℤ) (n : ℕ) (samples : List Sample) (count : ℕ) : Type 0 where
   pub done : List Sample
   pub left : List Sample
   pub split : samples ≡ done ++ left
   pub here : HasLines files name at end ty year left
   pub counted : count ≡ length (since n done)
+  pub place : at ≡ from + length (lines_of done)
 
-pub starts_between : (files : Files) (name : Name) (from end : ℕ) (ty : PayloadType) (year : ℤ) (n : ℕ) (samples : List Sample) → HasLines files name from end ty year samples → IsBetween files name from end ty year n samples 0
-starts_between files name from end ty year n samples has = record { done = []; left = samples; split = refl; here = has; counted = refl }
+pub starts_between : (files : Files) (name : Name) (from end : ℕ) (ty : PayloadType) (year : ℤ) (n : ℕ) (samples : List Sample) → HasLines files name from end ty year samples → IsBetween files name from from end ty year n samples 0
+starts_between files name from end ty year n samples has = record { done = []; left = samples; split = refl; here = has; counted = refl; place = omega arith }
 
 no_lines : (xs : List Sample) (u : List ℕ) → lines_of xs ++ u ≡ [] → xs ≡ []
 no_lines [] u is = refl
 no_lines (x ∷ xs) u is = absurd (omega (arith, simp (length-append) at (ap length is)))
 
-no_length : (xs : List Sample) → length (lines_of xs) ≡ 0 → xs ≡ []
+pub no_length : (xs : List Sample) → length (lines_of xs) ≡ 0 → xs ≡ []
 no_length [] is = refl
 no_length (x ∷ xs) is = absurd (omega (arith, is, length-append x.line (10 ∷ lines_of xs)))
 
 -- what is counted of a piece are the first of the samples
-record IsFront (ys samples : List Sample) : Type 0 where
+pub record IsFront (ys samples : List Sample) : Type 0 where
   pub more : List Sample
   pub are : ys ≡ samples ++ more
 
-front_of : (ty : PayloadType) (year : ℤ) (ys zs : List Sample) (rest behind : List ℕ) → AreSamples ty year ys → AreSamples ty year zs → lines_of zs ++ (rest ++ behind) ≡ lines_of ys → IsFront ys zs
+pub front_of : (ty : PayloadType) (year : ℤ) (ys zs : List Sample) (rest behind : List ℕ) → AreSamples ty year ys → AreSamples ty year zs → lines_of zs ++ (rest ++ behind) ≡ lines_of ys → IsFront ys zs
 front_of ty year ys zs rest behind are are₂ is =
     elim (one_run ty year zs ys (rest ++ behind) [] are₂ are (is ∙ sym (append-nil (lines_of ys)))) [
       | inl on ↦ record { more = on.more; are = on.list }
@@ -52,14 +54,14 @@ front_of ty year ys zs rest behind are are₂ is =
 abbrev pub IsPiece : Files → Name → ℕ → ℕ → List ℕ → Type 0
 IsPiece files name at w bytes = (b : List ℕ) → files name ≡ Some b → bytes ≡ take w (drop at b)
 
-piece_of : (files : Files) (name : Name) (at end w : ℕ) (ty : PayloadType) (year : ℤ) (left : List Sample) (bytes : List ℕ) → HasLines files name at end ty year left → w ≤ end - at → IsPiece files name at w bytes → bytes ≡ take w (lines_of left)
+pub piece_of : (files : Files) (name : Name) (at end w : ℕ) (ty : PayloadType) (year : ℤ) (left : List Sample) (bytes : List ℕ) → HasLines files name at end ty year left → w ≤ end - at → IsPiece files name at w bytes → bytes ≡ take w (lines_of left)
 piece_of files name at end w ty year left bytes has within is =
     let b = has.lines.bytes in
     is b has.lines.file ∙ (sym (take-take w (end - at) (drop at b) within) ∙ ap (take w) has.lines.holds)
 
-pub goes_on : (files : Files) (name : Name) (at end w : ℕ) (ty : PayloadType) (year : ℤ) (n : ℕ) (samples : List Sample) (count len more : ℕ) (bytes : List ℕ) → IsBetween files name at end ty year n samples count → w ≤ end - at → IsPiece files name at w bytes → len ≤ end - at
-    → CountsLines ty year bytes n len more → IsBetween files name (at + len) end ty year n samples (count + more)
-goes_on files name at end w ty year n samples count len more bytes is within piece low counts =
+pub goes_on : (files : Files) (name : Name) (from at end w : ℕ) (ty : PayloadType) (year : ℤ) (n : ℕ) (samples : List Sample) (count len more : ℕ) (bytes : List ℕ) → IsBetween files name from at end ty year n samples count → w ≤ end - at → IsPiece files name at w bytes → len ≤ end - at
+    → IsCounting ty year bytes n len more → IsBetween files name from (at + len) end ty year n samples (count + more)
+goes_on files name from at end w ty year n samples count len more bytes is within piece low counts =
     let b = is.here.lines.bytes in
     let zs = counts.samples in
     let all : lines_of zs ++ (counts.rest ++ drop w (lines_of is.left)) ≡ lines_of is.left =
@@ -67,7 +69,7 @@ goes_on files name at end w ty year n samples count len more bytes is within pie
     ∙ (ap (λ (l : List ℕ). l ++ drop w (lines_of is.left)) (sym counts.begin ∙ piece_of files name at end w ty year is.left bytes is.here within piece)
     ∙ take-append-drop w (lines_of is.left)) in
     let front = front_of ty year is.left zs counts.rest (drop w (lines_of is.left)) is.here.are counts.are all in
-    let two : lines_of is.left ≡ lines_of zs ++ lines_of front.more = ap lines_of front.are ∙ lines_split zs front.more in
+    let two : lines_of is.left ≡ lines_of zs ++ lines_of front.more = ap lines_of front.are ∙ lines_of-append zs front.more in
     record {
       done = is.done ++ zs;
       left = front.more;
@@ -86,28 +88,29 @@ goes_on files name at end w ty year n samples count len more bytes is within pie
         };
       };
       counted = ap (λ (k : ℕ). k + more) is.counted ∙ (ap (λ (k : ℕ). length (since n is.done) + k) counts.counted ∙ (sym (length-append (since n is.done) (since n zs)) ∙ ap length (sym (since-append n is.done zs))));
+      place = let all = ap length (lines_of-append is.done zs) in omega (arith, is.place, counts.long, all, length-append (lines_of is.done) (lines_of zs));
     }
-  where
-    lines_split : (xs ys : List Sample) → lines_of (xs ++ ys) ≡ lines_of xs ++ lines_of ys
-    lines_split [] ys = refl
-    lines_split (x ∷ xs) ys = ap (λ (l : List ℕ). x.line ++ 10 ∷ l) (lines_split xs ys) ∙ sym (append_assoc x.line (10 ∷ lines_of xs) (lines_of ys))
+
+-- lines that were counted up to the last one
+pub as_counting : (ty : PayloadType) (year : ℤ) (bytes : List ℕ) (n len count : ℕ) → CountsLines ty year bytes n len count → IsCounting ty year bytes n len count
+as_counting ty year bytes n len count counts = record { samples = counts.samples; rest = counts.rest; are = counts.are; begin = counts.begin; long = counts.long; counted = counts.counted }
 
 -- nothing is left
-all_counted : (files : Files) (name : Name) (at end : ℕ) (ty : PayloadType) (year : ℤ) (n : ℕ) (samples : List Sample) (count : ℕ) (is : IsBetween files name at end ty year n samples count) → is.left ≡ [] → count ≡ length (since n samples)
-all_counted files name at end ty year n samples count is none =
+all_counted : (files : Files) (name : Name) (from at end : ℕ) (ty : PayloadType) (year : ℤ) (n : ℕ) (samples : List Sample) (count : ℕ) (is : IsBetween files name from at end ty year n samples count) → is.left ≡ [] → count ≡ length (since n samples)
+all_counted files name from at end ty year n samples count is none =
     let whole : samples ≡ is.done = is.split ∙ (ap (λ (l : List Sample). is.done ++ l) none ∙ append-nil is.done) in
     is.counted ∙ ap (λ (l : List Sample). length (since n l)) (sym whole)
 
-pub at_end : (files : Files) (name : Name) (at end : ℕ) (ty : PayloadType) (year : ℤ) (n : ℕ) (samples : List Sample) (count : ℕ) → IsBetween files name at end ty year n samples count → end ≤ at → count ≡ length (since n samples)
-at_end files name at end ty year n samples count is past =
+pub at_end : (files : Files) (name : Name) (from at end : ℕ) (ty : PayloadType) (year : ℤ) (n : ℕ) (samples : List Sample) (count : ℕ) → IsBetween files name from at end ty year n samples count → end ≤ at → count ≡ length (since n samples)
+at_end files name from at end ty year n samples count is past =
     let b = is.here.lines.bytes in
     let long = ap length is.here.lines.holds in
-    all_counted files name at end ty year n samples count is (no_length is.left (omega (arith, long, length-take (end - at) (drop at b), past)))
+    all_counted files name from at end ty year n samples count is (no_length is.left (omega (arith, long, length-take (end - at) (drop at b), past)))
 
 -- a piece of all that is left has no line
-pub none_left : (files : Files) (name : Name) (at end w : ℕ) (ty : PayloadType) (year : ℤ) (n : ℕ) (samples : List Sample) (count len more : ℕ) (bytes : List ℕ) → IsBetween files name at end ty year n samples count → w ≡ end - at → IsPiece files name at w bytes → len ≡ 0
+pub none_left : (files : Files) (name : Name) (from at end w : ℕ) (ty : PayloadType) (year : ℤ) (n : ℕ) (samples : List Sample) (count len more : ℕ) (bytes : List ℕ) → IsBetween files name from at end ty year n samples count → w ≡ end - at → IsPiece files name at w bytes → len ≡ 0
     → CountsLines ty year bytes n len more → count ≡ length (since n samples)
-none_left files name at end w ty year n samples count len more bytes is all piece zero counts = all_counted files name at end ty year n samples count is (by_first is.left refl)
+none_left files name from at end w ty year n samples count len more bytes is all piece zero counts = all_counted files name from at end ty year n samples count is (by_first is.left refl)
   where
     b : List ℕ
     b = is.here.lines.bytes

@@ -35,7 +35,7 @@ use Rattle.three_stores.proofs.Showing.{ListsTo, Spares, known_to, has_held, dou
 
 -- LISTS
 
-contains_filter : (test : Filed → Bool) (xs : List Filed) (f : Filed) → Contains xs f → test f ≡ true → Contains (filter test xs) f
+pub contains_filter : (test : Filed → Bool) (xs : List Filed) (f : Filed) → Contains xs f → test f ≡ true → Contains (filter test xs) f
 contains_filter test [] f (k, lt, is) passes = absurd (omega (arith, lt))
 contains_filter test (x ∷ xs) f (zero, lt, is) passes = subst (λ (b : Bool). Contains (cond b (x ∷ filter test xs) (filter test xs)) f) (sym (ap test is ∙ passes)) (zero, omega arith, is)
 contains_filter test (x ∷ xs) f (suc k, lt, is) passes = go (test x) (contains_filter test xs f (k, omega (arith, lt), is) passes)
@@ -44,7 +44,7 @@ contains_filter test (x ∷ xs) f (suc k, lt, is) passes = go (test x) (contains
     go true there = Contains-append_right (x ∷ []) (filter test xs) f there
     go false there = there
 
-from_filter : (test : Filed → Bool) (xs : List Filed) (f : Filed) → Contains (filter test xs) f → Contains xs f
+pub from_filter : (test : Filed → Bool) (xs : List Filed) (f : Filed) → Contains (filter test xs) f → Contains xs f
 from_filter test [] f there = there
 from_filter test (x ∷ xs) f there = go (test x) there (from_filter test xs f)
   where
@@ -63,7 +63,7 @@ pub from_oldest : (i row n : ℕ) (s : Stores) (f : Filed) → Contains (oldest 
 from_oldest i row n s f there = from_filter (λ x. nat_eq x.entry.series row) (list_at i s) f (from_take n (of_row row (list_at i s)) f there)
 
 -- files of one place are one
-one_file : (files : List Filed) (f h : Filed) → PlacesRise files → Contains files f → Contains files h → filed_at h ≡ filed_at f → h ≡ f
+pub one_file : (files : List Filed) (f h : Filed) → PlacesRise files → Contains files f → Contains files h → filed_at h ≡ filed_at f → h ≡ f
 one_file files f h rise in_f in_h same =
     let mine = All-contains (λ (x : Filed). file_at (filed_at x) files ≡ Some x) files f (found files rise) in_f in
     let theirs = All-contains (λ (x : Filed). file_at (filed_at x) files ≡ Some x) files h (found files rise) in_h in
@@ -120,14 +120,14 @@ entry_in (x ∷ xs) f (suc k, lt, is) = let rest = entry_in xs f (k, omega (arit
 -- NAMES
 
 -- of these files each that has the name is this long
-abbrev Longer : ℕ → List Row → Name → ℕ → Filed → Type 0
+abbrev pub Longer : ℕ → List Row → Name → ℕ → Filed → Type 0
 Longer k rows name len f = file_of (k + 1, rows) f.entry ≡ name → len ≤ f.entry.len
 
-by_files : (k : ℕ) (rows : List Row) (files : List Filed) (name : Name) (len : ℕ) → NoneShorter ((k + 1, rows), map entry_of files) name len → All (Longer k rows name len) files
+pub by_files : (k : ℕ) (rows : List Row) (files : List Filed) (name : Name) (len : ℕ) → NoneShorter ((k + 1, rows), map entry_of files) name len → All (Longer k rows name len) files
 by_files k rows files name len short j d lt =
     All-contains (λ (e : Entry). file_of (k + 1, rows) e ≡ name → len ≤ e.len) (map entry_of files) (get_or files j d).entry short (entry_in files (get_or files j d) (Contains-get_or files j d lt))
 
-to_files : (k : ℕ) (rows : List Row) (files : List Filed) (name : Name) (len : ℕ) → All (Longer k rows name len) files → NoneShorter ((k + 1, rows), map entry_of files) name len
+pub to_files : (k : ℕ) (rows : List Row) (files : List Filed) (name : Name) (len : ℕ) → All (Longer k rows name len) files → NoneShorter ((k + 1, rows), map entry_of files) name len
 to_files k rows files name len all = All-map (λ (e : Entry). file_of (k + 1, rows) e ≡ name → len ≤ e.len) entry_of files all
 
 -- the stores without the files

@@ -408,7 +408,7 @@ switches_on row from to held made by =
     let rows : made.rows ≡ switched row to held.rows = ap (λ (s : Stores). s.rows) by.1 in
     (by.1 ∙ ap (with_rows held) (sym rows), subst (KeepsRows held.rows) (sym rows) (keeps_switched row to held.rows))
 
-still_itself : (l : Listing) → ListsStill l l
+pub still_itself : (l : Listing) → ListsStill l l
 still_itself l k d lt = record { entry = get_or l.1 k d; within = Contains-get_or l.1 k d lt; named = refl; longer = omega arith }
 
 pub flushes_on : (batch : List RowSamples) (held made : Stores) → Flushes batch held made → GoesOn held made

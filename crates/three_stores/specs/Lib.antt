@@ -1,8 +1,12 @@
 pub mod Beginning
 pub mod Change
+pub mod Copied
 pub mod Counting
 pub mod Details
+pub mod Finding
+pub mod Given
 pub mod Limbo
+pub mod Moving
 pub mod Opening
 pub mod Pinned
 pub mod Pinning

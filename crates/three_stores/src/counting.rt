@@ -22,7 +22,7 @@ use store_manifest::Entry;
 const NEWLINE: u8 = b'\n';
 
 // As many bytes as are read at once, but for a line that is longer.
-const PIECE: u64 = 65_536;
+pub(crate) const PIECE: u64 = 65_536;
 
 // Whole lines at the front of bytes: how many bytes they take, and how many of their samples are later than a moment.
 #[derive(Clone, Copy)]
@@ -32,7 +32,7 @@ struct Counted {
 }
 
 // Reads bytes of a file from a place on, at most so many.
-fn read<D: Disk>(
+pub(crate) fn read<D: Disk>(
     alloc: Global,
     disk: &mut D,
     name: &FileName,
@@ -53,7 +53,7 @@ fn read<D: Disk>(
 }
 
 // How many bytes stand before the first newline.
-fn line_len(bytes: &[u8]) -> usize
+pub(crate) fn line_len(bytes: &[u8]) -> usize
     ensures bound { result ≤ length bytes.now }
     ensures line { HasNoNewline (take result bytes.now) }
     ensures stop { result < length bytes.now → slice_index bytes.now result ≡ 10 }
@@ -62,7 +62,7 @@ fn line_len(bytes: &[u8]) -> usize
 }
 
 // The header that a file's first line is, with its newline. `None` where it is none.
-fn header_of(
+pub(crate) fn header_of(
     alloc: Global,
     head: &[u8],
     work: &mut Vec<u8>,

@@ -10,6 +10,7 @@ ghost use Rattle.three_stores.specs.Seen.{seen};
 ghost use Rattle.three_stores.specs.Change.{Has, IsOpen};
 ghost use Rattle.three_stores.specs.Counting.{ReadsDisk, behind};
 ghost use Rattle.three_stores.specs.Details.{AreCounted, IsDescribed, IsTally, SaysDescribed};
+ghost use Rattle.three_stores.specs.Moving.{LeavesLater};
 ghost use Rattle.three_stores.specs.Opening.{answer_of, end_of_answer};
 ghost use Rattle.three_stores.specs.Pinned.{seen_all, KeepsShown};
 ghost use Rattle.three_stores.specs.Pinning.{HasNoName, entries_of};
@@ -137,6 +138,7 @@ impl<D: Disk> TierStore<D> {
 
         ensures settles { SettlesAndReads D.tells (SaysDescribed D.tells name.now tail.now) (seen D.Disk self.old) (seen D.Disk self.new) (end_of_answer (answer_of result)) }
         ensures shown { KeepsShown D.tells (seen_all D.Disk self.old) (seen_all D.Disk self.new) }
+        ensures leaves { LeavesLater D.tells (seen_all D.Disk self.old) (seen_all D.Disk self.new) }
         ensures pins { self.new.pinned ≡ self.old.pinned }
         ensures limbo { self.new.limbo ≡ self.old.limbo }
     {
@@ -161,6 +163,7 @@ impl<D: Disk> TierStore<D> {
         ensures settles { (i : ℕ) → HasName self.old.catalogue.rows i name.now
             → SettlesAndReads D.tells (SaysDescribed D.tells name.now tail.now) (seen D.Disk self.old) (seen D.Disk self.new) (end_of_answer result) }
         ensures shown { KeepsShown D.tells (seen_all D.Disk self.old) (seen_all D.Disk self.new) }
+        ensures leaves { LeavesLater D.tells (seen_all D.Disk self.old) (seen_all D.Disk self.new) }
         ensures pins { self.new.pinned ≡ self.old.pinned }
         ensures limbo { self.new.limbo ≡ self.old.limbo }
     {

@@ -1,23 +1,33 @@
 //! What follows from holding, for all images and stores.
-ghost use Rattle.std.specs.Prelude.{◌≡◌, ◌⊎◌, ℕ, List, map, length, slice_get, Some, true, false, All, IsTrue};
+ghost use Rattle.std.specs.Prelude.{◌≡◌, ◌⊎◌, ◌<◌, ◌+◌, ℕ, List, [], map, length, slice_get, take, None, Some, true, false, All, Contains, IsTrue};
 ghost use Rattle.disk_model.specs.Files.{Files, Name};
 ghost use Rattle.disk_model.specs.Past.{MayLeave};
+ghost use Rattle.etl_mover.specs.Copying.{last_of};
+ghost use Rattle.etl_mover.specs.Move.{HasBegun, IsMove, MoveState, StillLists};
+ghost use Rattle.etl_mover.specs.Step.{GoesTo, Takes, between};
 ghost use Rattle.partition_names.specs.declared.granularity.Granularity.{Granularity};
 ghost use Rattle.pv_catalog.specs.Catalogue.{CatalogueState};
+ghost use Rattle.pv_catalog.specs.declared.row.Row.{Row};
 ghost use Rattle.series_model.specs.Series.{IsRising};
 ghost use Rattle.series_model.specs.declared.batch.RowSamples.{RowSamples};
 ghost use Rattle.store_manifest.specs.Manifest.{ManifestState};
+ghost use Rattle.store_manifest.specs.declared.entry.Entry.{Entry};
 ghost use Rattle.tier_store.specs.Ahead.{drop_of, without_all};
-ghost use Rattle.tier_store.specs.Flush.{with_batch};
-ghost use Rattle.tier_store.specs.Held.{Filed};
-ghost use Rattle.three_stores.specs.Stores.{Stores, list_at, samples_in};
+ghost use Rattle.tier_store.specs.Flush.{put_all, with_batch};
+ghost use Rattle.tier_store.specs.Held.{Filed, Held, entry_of};
+ghost use Rattle.tier_store.specs.Plan.{IsLastOf};
+ghost use Rattle.tier_store.specs.Stored.{AreHeld};
+ghost use Rattle.three_stores.specs.Stores.{Stores, list_at, samples_in, with_list};
 ghost use Rattle.three_stores.specs.Seen.{seen_on, AtEach, granularities};
 ghost use Rattle.three_stores.specs.Stored.{HoldsAll};
 ghost use Rattle.std.specs.FinMap.{FinMap, empty, remove};
 ghost use Rattle.std.specs.Ordering.{nat_cmp};
 ghost use Rattle.pinned_pieces.specs.Pieces.{PinOf};
 ghost use Rattle.pv_catalog.specs.Rows.{KeepsRows};
+ghost use Rattle.three_stores.specs.Copied.{IsPartFile, WritesNext, end_after};
+ghost use Rattle.three_stores.specs.Finding.{SplitsAt};
 ghost use Rattle.three_stores.specs.Limbo.{LimboStands, LeavesKept};
+ghost use Rattle.three_stores.specs.Moving.{GoesBeside, LeavesNames, RunsBeside, names_of};
 ghost use Rattle.three_stores.specs.Pinned.{beside, PinsStand, KeepsShown};
 ghost use Rattle.three_stores.specs.declared.limbo.Retired.{Retired};
 ghost use Rattle.three_stores.specs.Change.{IsKnown, Has, IsOpen, Flushes, CanList};
@@ -76,4 +86,39 @@ pub fn pins_stand<D: Disk>()
 pub fn limbo_stands<D: Disk>()
     ensures { (old new : D) (catalogue later : CatalogueState) (ms ns : List ManifestState) (limbo : List Retired) → KeepsRows catalogue.rows later.rows → granularities ns ≡ granularities ms
         → LimboStands (seen_on D.files D.opened D.past D.faults catalogue ms old) limbo → LimboStands (seen_on D.files D.opened D.past D.faults later ns new) limbo }
+{}
+
+/// A move that has begun runs beside what is held, and has written nothing. It runs beside the stores still after a call that leaves the names of
+/// its files, the destination's list of its row, and the partitions that the source lists of it, which may be followed by others; and once
+/// its files are listed, where all its parts are copied. A call that leaves names leaves fewer of them too.
+pub fn a_move_runs_beside<D: Disk>()
+    ensures begun { (disk : D) (catalogue : CatalogueState) (ms : List ManifestState) (limbo : List Retired) (held : Stores) (i from : ℕ) (source dest : ManifestState) (row : Row) (n : ℕ) (move : MoveState)
+        → Has D.tells (seen_on D.files D.opened D.past D.faults catalogue ms disk) held → i ≡ from + 1 → slice_get ms from ≡ Some source → slice_get ms i ≡ Some dest → slice_get held.rows move.series ≡ Some row
+        → HasBegun source dest move.series row.name n move → IsMove source.granularity move → StillLists move source
+        → RunsBeside i D.tells (beside (seen_on D.files D.opened D.past D.faults catalogue ms disk) limbo) move [] held }
+    ensures fewer { (old new : D) (catalogue later : CatalogueState) (ms ns : List ManifestState) (limbo left : List Retired) (names more : List Name) → ((n : Name) → Contains names n → Contains more n)
+        → LeavesNames more D.tells (beside (seen_on D.files D.opened D.past D.faults catalogue ms old) limbo) (beside (seen_on D.files D.opened D.past D.faults later ns new) left)
+        → LeavesNames names D.tells (beside (seen_on D.files D.opened D.past D.faults catalogue ms old) limbo) (beside (seen_on D.files D.opened D.past D.faults later ns new) left) }
+    ensures stays { (old new : D) (catalogue later : CatalogueState) (ms ns : List ManifestState) (limbo left : List Retired) (i : ℕ) (move : MoveState) (files : List Filed) (held made : Stores)
+        → granularities ns ≡ granularities ms → GoesBeside i move.series held made
+        → LeavesNames (names_of (i + 1, held.rows) files) D.tells (beside (seen_on D.files D.opened D.past D.faults catalogue ms old) limbo) (beside (seen_on D.files D.opened D.past D.faults later ns new) left)
+        → RunsBeside i D.tells (beside (seen_on D.files D.opened D.past D.faults catalogue ms old) limbo) move files held
+        → RunsBeside i D.tells (beside (seen_on D.files D.opened D.past D.faults later ns new) left) move files made }
+    ensures listed { (old new : D) (catalogue later : CatalogueState) (ms ns : List ManifestState) (limbo left : List Retired) (i : ℕ) (move : MoveState) (files : List Filed) (held : Stores)
+        → granularities ns ≡ granularities ms → i < 3 → move.at ≡ length move.parts
+        → LeavesNames (names_of (i + 1, held.rows) files) D.tells (beside (seen_on D.files D.opened D.past D.faults catalogue ms old) limbo) (beside (seen_on D.files D.opened D.past D.faults later ns new) left)
+        → RunsBeside i D.tells (beside (seen_on D.files D.opened D.past D.faults catalogue ms old) limbo) move files held
+        → RunsBeside i D.tells (beside (seen_on D.files D.opened D.past D.faults later ns new) left) move files (with_list i (put_all (list_at i held) files) held) }
+{}
+
+/// A step of copying takes the next samples of a part's file, where it goes on with the first one that is later than all that is listed of the row
+/// and is to be. Behind the samples of the last file of the row, or in one that is made anew where no file was in limbo, they make a file of
+/// the row, where the files that are ahead stand.
+pub fn a_copy_writes_the_next_samples()
+    ensures { (fine : Granularity) (move : MoveState) (base : Held) (part : Entry) (start : _) (file : Filed) (bytes lines : List ℕ) (from most : ℕ) (entry : Entry)
+        → GoesTo move None part start → IsMove fine move → AreHeld move.granularity base → IsTrue base.stands → IsLastOf (map entry_of base.files) move.series (last_of move.pending move.listed)
+        → IsPartFile fine base.rows move part bytes file
+        → (split : SplitsAt file.samples (end_after (last_of move.pending move.listed)) part.head_len from) → from < file.entry.len
+        → Takes (take part.head_len bytes) (between from file.entry.len bytes) most lines start.entry entry
+        → WritesNext move.granularity base start.at (take part.head_len bytes) lines entry split.back }
 {}

@@ -13,6 +13,9 @@
 //! pinned opens as it was, whatever has become of the files. `TierStore::retire` takes the oldest files of a row from a list; those that
 //! are pinned stay on the disk, in limbo, until `TierStore::sweep` finds that nothing needs them.
 //!
+//! A running move writes its files to the next store ahead of what that lists, and the stores don't know it: what it has written stands
+//! beside them (`RunsBeside`) while calls leave those files. `TierStore::publish` lists them.
+//!
 //! `TierStore::details` tells of a row: what the catalogue has of it, how many files each store lists, and how many of its samples are
 //! durable. While a move is half done two stores list the same samples; the file that a later store's samples reach into is then read.
 //!
@@ -26,12 +29,14 @@
 
 mod counting;
 mod details;
+mod finding;
 pub mod laws;
 mod limbo;
 mod moving;
 mod opening;
 mod opening_pieces;
 mod pinning;
+mod publication;
 mod registry;
 mod relisting;
 mod removing;
@@ -42,6 +47,7 @@ mod store;
 mod sweeping;
 mod tallying;
 
+pub use finding::LaterLines;
 pub use limbo::Retired;
 pub use moving::MoveBegun;
 pub use retirement::RetireEnd;

@@ -10,6 +10,7 @@ ghost use Rattle.three_stores.specs.Stores.{Stores};
 ghost use Rattle.three_stores.specs.Seen.{seen};
 ghost use Rattle.three_stores.specs.Change.{IsOpen};
 ghost use Rattle.three_stores.specs.Opening.{answer_of, end_of_answer};
+ghost use Rattle.three_stores.specs.Moving.{LeavesLater};
 ghost use Rattle.three_stores.specs.Pinned.{seen_all, PinsStand, KeepsShown};
 ghost use Rattle.three_stores.specs.Pinning.{HasNoName, PinsOf, SaysPinned, listed_in, has_bytes, piece_of};
 ghost use Rattle.three_stores.specs.Settling.{Settles};
@@ -158,6 +159,7 @@ impl<D: Disk> TierStore<D> {
         ensures settles { Settles D.tells (SaysPinned who name.now query tail self.old.pinned self.new.pinned) (seen D.Disk self.old) (seen D.Disk self.new) (end_of_answer (answer_of result)) }
         ensures unchanged { IsCut (end_of_answer (answer_of result)) → self.new.pinned ≡ self.old.pinned }
         ensures shown { KeepsShown D.tells (seen_all D.Disk self.old) (seen_all D.Disk self.new) }
+        ensures leaves { LeavesLater D.tells (seen_all D.Disk self.old) (seen_all D.Disk self.new) }
         ensures limbo { self.new.limbo ≡ self.old.limbo }
         ensures stand { PinsStand D.tells (seen_all D.Disk self.old) self.old.pinned → PinsStand D.tells (seen_all D.Disk self.new) self.new.pinned }
     {
@@ -181,6 +183,7 @@ impl<D: Disk> TierStore<D> {
             → Settles D.tells (SaysPinned who name.now query tail self.old.pinned self.new.pinned) (seen D.Disk self.old) (seen D.Disk self.new) (end_of_answer result) }
         ensures unchanged { IsCut (end_of_answer result) → self.new.pinned ≡ self.old.pinned }
         ensures shown { KeepsShown D.tells (seen_all D.Disk self.old) (seen_all D.Disk self.new) }
+        ensures leaves { LeavesLater D.tells (seen_all D.Disk self.old) (seen_all D.Disk self.new) }
         ensures limbo { self.new.limbo ≡ self.old.limbo }
         ensures stand { PinsStand D.tells (seen_all D.Disk self.old) self.old.pinned → PinsStand D.tells (seen_all D.Disk self.new) self.new.pinned }
     {

@@ -6,6 +6,7 @@ ghost use Rattle.tier_store.specs.Ends.{end_of_disk};
 ghost use Rattle.three_stores.specs.Stores.{Stores};
 ghost use Rattle.three_stores.specs.Seen.{seen, AtEach, IsSettled, granularities};
 ghost use Rattle.three_stores.specs.Change.{IsOpen, HasEither, OnlyReads};
+ghost use Rattle.three_stores.specs.Moving.{LeavesLater};
 ghost use Rattle.three_stores.specs.Pinned.{seen_all, KeepsShown};
 
 use crate::TierStore;
@@ -32,6 +33,7 @@ impl<D: Disk> TierStore<D> {
         ensures pins { self.new.pinned ≡ self.old.pinned }
         ensures limbo { self.new.limbo ≡ self.old.limbo }
         ensures reads { OnlyReads D.tells (seen D.Disk self.old) (seen D.Disk self.new) (end_of_disk result) }
+        ensures leaves { LeavesLater D.tells (seen_all D.Disk self.old) (seen_all D.Disk self.new) }
     {
         self.catalogue.review(&mut self.disk)?;
         Ok(())
@@ -49,6 +51,7 @@ impl<D: Disk> TierStore<D> {
         ensures limbo { self.new.limbo ≡ self.old.limbo }
         ensures granularity { granularities self.new.manifests.items ≡ granularities self.old.manifests.items }
         ensures reads { OnlyReads D.tells (seen D.Disk self.old) (seen D.Disk self.new) (end_of_disk result) }
+        ensures leaves { LeavesLater D.tells (seen_all D.Disk self.old) (seen_all D.Disk self.new) }
     {
         self.manifests[i].review(&mut self.disk)?;
         Ok(())
@@ -71,6 +74,7 @@ impl<D: Disk> TierStore<D> {
         ensures limbo { self.new.limbo ≡ self.old.limbo }
         ensures nothing { IsSettled (seen D.Disk self.old) → (result ≡ Ok tt) × (self.new ≡ self.old) }
         ensures reads { OnlyReads D.tells (seen D.Disk self.old) (seen D.Disk self.new) (end_of_disk result) }
+        ensures leaves { LeavesLater D.tells (seen_all D.Disk self.old) (seen_all D.Disk self.new) }
     {
         if !self.catalogue.is_sound() {
             return self.settle_rows();

@@ -6,6 +6,7 @@ ghost use Rattle.tier_store.specs.Ends.{end_of_disk};
 ghost use Rattle.three_stores.specs.Stores.{Stores};
 ghost use Rattle.three_stores.specs.Seen.{seen};
 ghost use Rattle.three_stores.specs.Change.{Has, IsOpen, Changes, Acts, flushing};
+ghost use Rattle.three_stores.specs.Moving.{LeavesLater};
 ghost use Rattle.three_stores.specs.Pinned.{seen_all, NoneOf, KeepsShown};
 ghost use Rattle.std.specs.FinMap as map;
 
@@ -92,6 +93,7 @@ impl<D: Disk> TierStore<D> {
         ensures changes { Changes D.tells (flushing batch.now) (seen D.Disk self.old) (seen D.Disk self.new) (end_of_disk result) }
         ensures catalogue { self.new.catalogue ≡ self.old.catalogue }
         ensures shown { KeepsShown D.tells (seen_all D.Disk self.old) (seen_all D.Disk self.new) }
+        ensures leaves { LeavesLater D.tells (seen_all D.Disk self.old) (seen_all D.Disk self.new) }
         ensures pins { self.new.pinned ≡ self.old.pinned }
         ensures limbo { self.new.limbo ≡ self.old.limbo }
     {
@@ -127,6 +129,7 @@ impl<D: Disk> TierStore<D> {
         ensures keeps { KeepsRows self.old.catalogue.rows self.new.catalogue.rows }
         ensures settled { IsTrue self.old.catalogue.journal.sound → self.new.catalogue ≡ self.old.catalogue }
         ensures shown { KeepsShown D.tells (seen_all D.Disk self.old) (seen_all D.Disk self.new) }
+        ensures leaves { LeavesLater D.tells (seen_all D.Disk self.old) (seen_all D.Disk self.new) }
         ensures pins { self.new.pinned ≡ self.old.pinned }
         ensures limbo { self.new.limbo ≡ self.old.limbo }
     {

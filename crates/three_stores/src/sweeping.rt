@@ -1,10 +1,12 @@
 // The sweep: retired files that nothing needs any more are removed, and leave limbo.
-ghost use Rattle.std.specs.Prelude.{◌≡◌, IfOk, OnOk, OnErr, IsTrue};
+ghost use Rattle.std.specs.Prelude.{◌≡◌, ◌≤◌, All, IfOk, OnOk, OnErr, IsTrue};
+ghost use Rattle.disk_model.specs.Files.{Name};
 ghost use Rattle.pv_catalog.specs.Rows.{KeepsRows};
 ghost use Rattle.tier_store.specs.Ends.{end_of_disk};
 ghost use Rattle.three_stores.specs.Stores.{Stores};
 ghost use Rattle.three_stores.specs.Seen.{seen, IsSettled};
 ghost use Rattle.three_stores.specs.Change.{Has, IsOpen, Changes, Acts};
+ghost use Rattle.three_stores.specs.Moving.{LeavesNames};
 ghost use Rattle.three_stores.specs.Pinned.{seen_all};
 ghost use Rattle.three_stores.specs.Limbo.{LimboStands, IsSwept, LeaveListed, AreGone, LeavesKept, staying};
 
@@ -24,6 +26,7 @@ impl<D: Disk> TierStore<D> {
         ensures gone { IsTrue D.tells → OnOk result (AreGone (seen D.Disk self.new) self.old.pinned copied.now self.old.limbo.items) }
         ensures failed { OnErr result (LeaveListed (seen D.Disk self.new) self.old.limbo.items self.new.limbo.items) }
         ensures leaves { LeavesKept D.tells self.old.pinned copied.now (seen_all D.Disk self.old) (seen_all D.Disk self.new) }
+        ensures copied { LeavesNames copied.now D.tells (seen_all D.Disk self.old) (seen_all D.Disk self.new) }
         ensures stands { LimboStands (seen D.Disk self.new) self.new.limbo.items }
         ensures same { (self.new.catalogue ≡ self.old.catalogue) × (self.new.manifests ≡ self.old.manifests) × (self.new.pinned ≡ self.old.pinned) }
     {
@@ -48,6 +51,7 @@ impl<D: Disk> TierStore<D> {
         ensures gone { IsTrue D.tells → OnOk result (AreGone (seen D.Disk self.new) self.old.pinned copied.now self.old.limbo.items) }
         ensures failed { OnErr result (LeaveListed (seen D.Disk self.new) self.old.limbo.items self.new.limbo.items) }
         ensures leaves { LeavesKept D.tells self.old.pinned copied.now (seen_all D.Disk self.old) (seen_all D.Disk self.new) }
+        ensures copied { All (λ (n : Name). 2 ≤ n.0) copied.now → LeavesNames copied.now D.tells (seen_all D.Disk self.old) (seen_all D.Disk self.new) }
         ensures stands { LimboStands (seen D.Disk self.new) self.new.limbo.items }
         ensures keeps { KeepsRows self.old.catalogue.rows self.new.catalogue.rows }
         ensures pins { self.new.pinned ≡ self.old.pinned }

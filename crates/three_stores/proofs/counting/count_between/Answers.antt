@@ -1,7 +1,7 @@
 use Rattle.std.proofs.Common.{◌≤◌, ◌-◌, ◌+◌, ℕ, List, length, ◌∙◌, ap, subst, arith}
 use Rattle.disk_model.specs.Files.{Files}
 use Rattle.three_stores.specs.Counting.{CountsLines}
-use Rattle.three_stores.proofs.CountingPieces.{IsPiece, goes_on, at_end, none_left, then_reads}
+use Rattle.three_stores.proofs.CountingPieces.{IsPiece, as_counting, goes_on, at_end, none_left, then_reads}
 use Rattle.three_stores.proofs.counting.count_between.Goals as goal
 use Rattle.three_stores.proofs.counting.count_between.Goals.{then-counted-eq0+else-want-rest, else-counted-eq0}
 
@@ -15,11 +15,11 @@ returns-then-want-rest-clause-count g c tells samples has =
     let same = (c.loop-at.invariant.reads tells).same in
     let piece : IsPiece files name at c.min.result bytes = λ b is. c.in_ok-bytes.ensures.bytes tells b (ap (λ (f : Files). f name) same ∙ is) in
     let counts = subst (λ (l : List ℕ). CountsLines c.args.ty c.args.year.now.year l (c.args.last + 1) counted.len counted.count) c.deref.ensures.value c.in_ok-counted.ensures.counts in
-    none_left files name at c.args.end c.min.result c.args.ty c.args.year.now.year (c.args.last + 1) samples c.loop-at.count counted.len counted.count bytes (c.loop-at.invariant.between tells samples has) (omega (arith, c.min.ensures, c.if-want-rest.true)) piece c.if-counted-eq0.true counts
+    none_left files name c.args.from at c.args.end c.min.result c.args.ty c.args.year.now.year (c.args.last + 1) samples c.loop-at.count counted.len counted.count bytes (c.loop-at.invariant.between tells samples has) (omega (arith, c.min.ensures, c.if-want-rest.true)) piece c.if-counted-eq0.true counts
 
 pub returns-clause-count : goal.returns-clause-count
 returns-clause-count g c tells samples has =
-    at_end (g.D.Disk.files c.args.disk.now) c.args.name.now c.loop-at.at c.args.end c.args.ty c.args.year.now.year (c.args.last + 1) samples c.loop-at.count (c.loop-at.invariant.between tells samples has) (omega (arith, c.loop-at-test.false))
+    at_end (g.D.Disk.files c.args.disk.now) c.args.name.now c.args.from c.loop-at.at c.args.end c.args.ty c.args.year.now.year (c.args.last + 1) samples c.loop-at.count (c.loop-at.invariant.between tells samples has) (omega (arith, c.loop-at-test.false))
 
 pub loop-at-preserved : goal.loop-at-preserved
 loop-at-preserved g c =
@@ -41,7 +41,7 @@ loop-at-preserved g c =
           let same = (c.loop-at.invariant.reads tells).same in
           let piece : IsPiece files name at c.min.result bytes = λ b is. c.in_ok-bytes.ensures.bytes tells b (ap (λ (f : Files). f name) same ∙ is) in
           let counts = subst (λ (l : List ℕ). CountsLines c.args.ty c.args.year.now.year l (c.args.last + 1) counted.len counted.count) c.deref.ensures.value c.in_ok-counted.ensures.counts in
-          goes_on files name at c.args.end c.min.result c.args.ty c.args.year.now.year (c.args.last + 1) samples c.loop-at.count counted.len counted.count bytes (c.loop-at.invariant.between tells samples has) within piece low counts;
+          goes_on files name c.args.from at c.args.end c.min.result c.args.ty c.args.year.now.year (c.args.last + 1) samples c.loop-at.count counted.len counted.count bytes (c.loop-at.invariant.between tells samples has) within piece low (as_counting c.args.ty c.args.year.now.year bytes (c.args.last + 1) counted.len counted.count counts);
       reads = λ tells. then_reads _ _ _ _ _ _ _ _ _ (c.loop-at.invariant.reads tells) (c.in_ok-bytes.ensures.reads tells);
       faults = omega (arith, c.loop-at.invariant.faults, c.in_ok-bytes.ensures.faults);
     }

@@ -2,7 +2,9 @@ use Rattle.std.proofs.Common.{◌≡◌, List, length, get_or, map, Bool, Result
 use Rattle.std.specs.Prelude.{All}
 use Rattle.std.proofs.lemmas.Result.{err_from_is_err_and}
 use Rattle.std.proofs.lemmas.List.{length-map}
+use Rattle.disk_model.specs.Files.{At}
 use Rattle.disk_model.specs.declared.disk.DiskErr.{DiskErr}
+use Rattle.disk_model.proofs.Passing.{passes_none}
 use Rattle.partition_names.specs.declared.granularity.Granularity.{Granularity}
 use Rattle.partition_names.specs.Part.{IsPart}
 use Rattle.store_manifest.specs.declared.entry.Entry.{Entry}
@@ -10,6 +12,7 @@ use Rattle.store_manifest.specs.declared.entry.Change.{Change}
 use Rattle.store_manifest.specs.Entries.{AllCanFollow, all_changed}
 use Rattle.store_manifest.proofs.Written.{batch_length}
 use Rattle.tier_store.specs.Ahead.{CanRelist}
+use Rattle.tier_store.specs.Three.{Anything}
 use Rattle.etl_mover.specs.Move.{set_entry}
 use Rattle.etl_mover.specs.Lists.{Relists, Knows, published}
 use Rattle.etl_mover.proofs.Listing.{may_publish, sets_follow, nothing_listed, failed_listing, failed_knows}
@@ -54,6 +57,9 @@ returns-in_err-changes-clause-commits g c =
       name = refl;
       knows = subst (λ (r : Result Unit DiskErr). Knows m m next (published r m.journal.sound)) (sym p.1) (subst (λ (b : Bool). Knows m m next (published (Err p.0) b)) (sym c.requires.sound) (refl, c.requires.sound));
     }
+
+pub returns-in_err-changes-clause-frame : goal.returns-in_err-changes-clause-frame
+returns-in_err-changes-clause-frame g c tells = passes_none (At c.args.dest.now.journal.name Anything) (g.D.Disk.past c.args.disk.now) (λ a left. record { here = tt; elsewhere = λ n apart. refl })
 
 pub returns-in_err-relist-clause-relists : goal.returns-in_err-relist-clause-relists
 returns-in_err-relist-clause-relists g c tells catalogue shelf held ahead has is =

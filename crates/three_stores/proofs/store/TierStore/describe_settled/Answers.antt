@@ -11,6 +11,7 @@ use Rattle.three_stores.proofs.PinsMore.{err_end}
 use Rattle.three_stores.proofs.ReadsThen.{described_cause, has_read, says_described, settles_reads, then_reads_files}
 use Rattle.three_stores.proofs.Settled.{cut_settles, same_seen}
 use Rattle.three_stores.proofs.Sparing.{same_shown}
+use Rattle.three_stores.proofs.LeavingNames.{leaves_then, read_leaves}
 use Rattle.three_stores.proofs.store.TierStore.describe_settled.Goals as goal
 
 pub describe_named-requires : goal.describe_named-requires
@@ -59,3 +60,9 @@ returns-clause-shown g c =
     let same = c.describe_named.ensures.same in
     let still : KeepsShown g.D.Disk.tells _ _ = same_shown g.D.Disk.tells _ _ same.0 (ap (λ v. v.items) same.1) (ap (λ v. v.items) same.3) (λ told. (c.describe_named.ensures.reads told).same) in
     λ name bytes shows. still name bytes (c.review.ensures.shown name bytes shows)
+
+pub returns-clause-leaves : goal.returns-clause-leaves
+returns-clause-leaves g c =
+    let says = c.describe_named.ensures in
+    leaves_then g.D.Disk.tells _ _ _ c.review.ensures.leaves
+    (read_leaves g.D.Disk.tells _ _ (ap (λ v. v.items) says.same.3) (λ told. (says.reads told).same) (λ told. (says.reads told).same_opened) (λ told. (says.reads told).any_moment))

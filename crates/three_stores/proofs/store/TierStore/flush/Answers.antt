@@ -6,6 +6,7 @@ use Rattle.three_stores.specs.Change.{flushing}
 use Rattle.three_stores.specs.Pinned.{NoneOf}
 use Rattle.tier_store.proofs.BatchCalls.{can_still}
 use Rattle.three_stores.proofs.Acting.{has_one, cut_acts, then_acts}
+use Rattle.three_stores.proofs.LeavingNames.{leaves_then}
 use Rattle.three_stores.proofs.store.TierStore.flush.Goals as goal
 
 pub flush_batch-requires-clause-can : goal.flush_batch-requires-clause-can
@@ -27,3 +28,6 @@ returns-clause-acts g c = then_acts g.D.Disk.tells (flushing c.args.batch.now) _
 
 pub returns-clause-shown : goal.returns-clause-shown
 returns-clause-shown g c name bytes was = c.flush_batch.ensures.shown name bytes (c.review.ensures.shown name bytes was)
+
+pub returns-clause-leaves : goal.returns-clause-leaves
+returns-clause-leaves g c = leaves_then g.D.Disk.tells _ _ _ c.review.ensures.leaves c.flush_batch.ensures.leaves

@@ -1,6 +1,7 @@
 use Rattle.std.proofs.Common.{◌≡◌, Err, Result, ℕ, ◌<◌, List, length, refl, ◌∙◌, ap, sym, subst}
 use Rattle.std.specs.Prelude.{All}
 use Rattle.std.proofs.lemmas.Result.{err_from_is_err_and}
+use Rattle.disk_model.specs.Files.{Name}
 use Rattle.disk_model.specs.declared.disk.DiskErr.{DiskErr}
 use Rattle.partition_names.specs.Part.{IsPart}
 use Rattle.store_manifest.specs.Manifest.{ManifestState}
@@ -12,6 +13,7 @@ use Rattle.three_stores.specs.Seen.{seen_on}
 use Rattle.three_stores.specs.Change.{Changes, flushing}
 use Rattle.three_stores.proofs.Acting.{nothing_changes}
 use Rattle.three_stores.proofs.FlushCall.{planned, to, is_stored, on_store, flush_done, flush_cut}
+use Rattle.three_stores.proofs.LeavingNames.{first_leaves, nothing_leaves}
 use Rattle.three_stores.proofs.Places.{manifest_here, one_manifest, first_of_three}
 use Rattle.three_stores.proofs.Showing.{flush_shown}
 use Rattle.three_stores.proofs.store.TierStore.flush_batch.Goals as goal
@@ -102,3 +104,24 @@ returns-clause-shown g c =
     let ms = c.args.self.now.manifests.items in
     let low = first_of_three ms c.requires.has.1.known.three in
     flush_shown g.D.Disk.tells c.args.batch.now (flushing c.args.batch.now) _ _ _ refl c.requires.none_retired c.requires.has (λ held made by. by) (returns-clause-changes g c) _ c.rows-rows.ensures.value c.index_mut.result.now (manifest_here ms 0 c.index_mut.result.now c.index_mut.ensures.value low) c.flush_pieces.ensures.listed c.flush_pieces.ensures.elsewhere
+
+pub returns-in_err-plan-clause-leaves : goal.returns-in_err-plan-clause-leaves
+returns-in_err-plan-clause-leaves g c = nothing_leaves g.D.Disk.tells _
+
+pub returns-in_err-flush_pieces-clause-leaves : goal.returns-in_err-flush_pieces-clause-leaves
+returns-in_err-flush_pieces-clause-leaves g c =
+    let ms = c.args.self.now.manifests.items in
+    let says = c.flush_pieces.ensures in
+    let was = c.requires.has.1 in
+    let m = c.index_mut.result.now in
+    let here = manifest_here ms 0 m c.index_mut.ensures.value (first_of_three ms was.known.three) in
+    first_leaves g.D.Disk.tells _ _ m.journal.name refl (λ tells. ap (λ (n : Name). n.0) ((was.disk tells).each 0 m here).named) says.elsewhere says.no_more says.frame
+
+pub returns-clause-leaves : goal.returns-clause-leaves
+returns-clause-leaves g c =
+    let ms = c.args.self.now.manifests.items in
+    let says = c.flush_pieces.ensures in
+    let was = c.requires.has.1 in
+    let m = c.index_mut.result.now in
+    let here = manifest_here ms 0 m c.index_mut.ensures.value (first_of_three ms was.known.three) in
+    first_leaves g.D.Disk.tells _ _ m.journal.name refl (λ tells. ap (λ (n : Name). n.0) ((was.disk tells).each 0 m here).named) says.elsewhere says.no_more says.frame

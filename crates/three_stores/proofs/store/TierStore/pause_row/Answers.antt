@@ -1,9 +1,11 @@
-use Rattle.std.proofs.Common.{refl}
+use Rattle.std.proofs.Common.{ap, refl}
+use Rattle.disk_model.specs.Files.{Name}
 use Rattle.event_types.specs.declared.about.State.TheVariants.{Running, Paused}
 use Rattle.tier_store.specs.Ends.{end_of_switch}
 use Rattle.three_stores.specs.Change.{pausing}
 use Rattle.three_stores.proofs.RowCalls.{pause_changes}
 use Rattle.three_stores.proofs.Showing.{rows_shown, rows_keep, switches_on}
+use Rattle.three_stores.proofs.LeavingNames.{commit_leaves}
 use Rattle.three_stores.proofs.store.TierStore.pause_row.Goals as goal
 
 pub returns-clause-changes : goal.returns-clause-changes
@@ -18,3 +20,8 @@ returns-clause-shown g c = rows_shown g.D.Disk.tells (pausing c.args.row) _ _ (e
 
 pub returns-clause-keeps : goal.returns-clause-keeps
 returns-clause-keeps g c = rows_keep g.D.Disk.tells (pausing c.args.row) _ _ (end_of_switch c.pause.result) c.requires.has (switches_on c.args.row Running Paused) (returns-clause-changes g c)
+
+pub returns-clause-leaves : goal.returns-clause-leaves
+returns-clause-leaves g c =
+    let says = c.pause.ensures in
+    commit_leaves g.D.Disk.tells _ _ c.args.self.now.catalogue.journal.name _ refl (λ tells. ap (λ (n : Name). n.0) (c.requires.has.1.disk tells).rows.named) says.elsewhere says.opened says.any_moment

@@ -1,5 +1,12 @@
+use Rattle.three_stores.proofs.LeavingNames.{nothing_leaves}
 use Rattle.three_stores.proofs.PinsMore.{no_name}
 use Rattle.three_stores.proofs.store.TierStore.pin.Goals as goal
 
 pub returns-in_default-clause-settles : goal.returns-in_default-clause-settles
 returns-in_default-clause-settles g c i has = absurd (no_name c.args.self.now.catalogue.rows c.args.name.now i c.find.result c.in_default.is c.find.ensures.only has)
+
+pub returns-in_default-clause-leaves : goal.returns-in_default-clause-leaves
+returns-in_default-clause-leaves g c = nothing_leaves g.D.Disk.tells _
+
+pub returns-clause-leaves : goal.returns-clause-leaves
+returns-clause-leaves g c = c.pin_settled.ensures.leaves

@@ -9,6 +9,7 @@ use Rattle.three_stores.proofs.Acting.{has_one}
 use Rattle.three_stores.proofs.OpeningPieces.{stand_kept}
 use Rattle.three_stores.proofs.PinsMore.{err_end, not_failed, same_pins, says_from, stands}
 use Rattle.three_stores.proofs.Settled.{cut_settles, same_all, same_seen, then_settles}
+use Rattle.three_stores.proofs.LeavingNames.{leaves_then, same_disk}
 use Rattle.three_stores.proofs.store.TierStore.pin_settled.Goals as goal
 
 pub pin_named-requires : goal.pin_named-requires
@@ -82,3 +83,12 @@ returns-clause-shown g c =
     subst (λ (s : SeenAll). KeepsShown disk.tells (beside before old.limbo.items) s)
     (same_all at _ mid.limbo.items new.limbo.items (same_seen disk.files disk.opened disk.past disk.faults mid.catalogue new.catalogue mid.manifests.items new.manifests.items mid.disk new.disk same.0 (ap (λ m. m.items) same.1) same.2) (ap (λ l. l.items) c.pin_named.ensures.limbo))
     c.review.ensures.shown
+
+pub returns-clause-leaves : goal.returns-clause-leaves
+returns-clause-leaves g c =
+    let disk = g.D.Disk in
+    let mid = c.review.new.self in
+    let new = c.pin_named.new.self in
+    let same = c.pin_named.ensures.same in
+    leaves_then disk.tells _ _ _ c.review.ensures.leaves
+    (same_disk disk.files disk.opened disk.past disk.faults disk.tells mid.catalogue new.catalogue mid.manifests.items new.manifests.items mid.limbo.items new.limbo.items mid.disk new.disk same.2 (ap (λ v. v.items) c.pin_named.ensures.limbo))

@@ -5,6 +5,7 @@ use Rattle.pv_catalog.specs.declared.error.RegisterErr.{RegisterErr}
 use Rattle.tier_store.specs.Ends.{end_of_disk, end_of_register}
 use Rattle.three_stores.specs.Change.{registering}
 use Rattle.three_stores.proofs.Acting.{has_one, cut_acts, then_acts}
+use Rattle.three_stores.proofs.LeavingNames.{leaves_then}
 use Rattle.three_stores.proofs.store.TierStore.register.Goals as goal
 
 pub register_row-requires : goal.register_row-requires
@@ -24,3 +25,6 @@ returns-clause-exactly g c settled e refuses =
 
 pub returns-clause-shown : goal.returns-clause-shown
 returns-clause-shown g c name bytes was = c.register_row.ensures.shown name bytes (c.review.ensures.shown name bytes was)
+
+pub returns-clause-leaves : goal.returns-clause-leaves
+returns-clause-leaves g c = leaves_then g.D.Disk.tells _ _ _ c.review.ensures.leaves c.register_row.ensures.leaves

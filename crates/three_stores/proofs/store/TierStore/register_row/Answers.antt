@@ -1,8 +1,10 @@
-use Rattle.std.proofs.Common.{refl}
+use Rattle.std.proofs.Common.{ap, refl}
+use Rattle.disk_model.specs.Files.{Name}
 use Rattle.tier_store.specs.Ends.{end_of_register}
 use Rattle.three_stores.specs.Change.{registering}
 use Rattle.three_stores.proofs.RowCalls.{register_changes}
 use Rattle.three_stores.proofs.Showing.{rows_shown, rows_keep, registers_on}
+use Rattle.three_stores.proofs.LeavingNames.{commit_leaves}
 use Rattle.three_stores.proofs.store.TierStore.register_row.Goals as goal
 
 pub returns-clause-changes : goal.returns-clause-changes
@@ -17,3 +19,8 @@ returns-clause-shown g c = rows_shown g.D.Disk.tells (registering c.args.name.no
 
 pub returns-clause-keeps : goal.returns-clause-keeps
 returns-clause-keeps g c = rows_keep g.D.Disk.tells (registering c.args.name.now c.args.about.now) _ _ (end_of_register c.register.result) c.requires.has (registers_on c.args.name.now c.args.about.now) (returns-clause-changes g c)
+
+pub returns-clause-leaves : goal.returns-clause-leaves
+returns-clause-leaves g c =
+    let says = c.register.ensures in
+    commit_leaves g.D.Disk.tells _ _ c.args.self.now.catalogue.journal.name _ refl (λ tells. ap (λ (n : Name). n.0) (c.requires.has.1.disk tells).rows.named) says.elsewhere says.opened says.any_moment

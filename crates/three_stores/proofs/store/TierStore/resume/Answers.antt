@@ -5,6 +5,7 @@ use Rattle.tier_store.specs.Ends.{end_of_disk, end_of_switch}
 use Rattle.three_stores.specs.Change.{resuming}
 use Rattle.tier_store.proofs.BatchCalls.{still_within}
 use Rattle.three_stores.proofs.Acting.{has_one, cut_acts, then_acts}
+use Rattle.three_stores.proofs.LeavingNames.{leaves_then}
 use Rattle.three_stores.proofs.store.TierStore.resume.Goals as goal
 
 pub resume_row-requires-clause-row : goal.resume_row-requires-clause-row
@@ -23,3 +24,6 @@ returns-clause-acts g c = then_acts g.D.Disk.tells (resuming c.args.row) _ _ _ (
 
 pub returns-clause-shown : goal.returns-clause-shown
 returns-clause-shown g c name bytes was = c.resume_row.ensures.shown name bytes (c.review.ensures.shown name bytes was)
+
+pub returns-clause-leaves : goal.returns-clause-leaves
+returns-clause-leaves g c = leaves_then g.D.Disk.tells _ _ _ c.review.ensures.leaves c.resume_row.ensures.leaves

@@ -4,6 +4,7 @@ use Rattle.pv_catalog.specs.Rows.{KeepsRows}
 use Rattle.pv_catalog.proofs.Standing.{keeps_same}
 use Rattle.three_stores.proofs.Places.{none_doubted}
 use Rattle.three_stores.proofs.Showing.{review_shown}
+use Rattle.three_stores.proofs.LeavingNames.{nothing_leaves}
 use Rattle.three_stores.proofs.store.TierStore.review.Goals as goal
 
 pub returns-in-Some-clause-nothing : goal.returns-in-Some-clause-nothing
@@ -17,3 +18,12 @@ returns-in-Some-clause-keeps g c = subst (λ (s : CatalogueState). KeepsRows c.a
 
 pub returns-in-Some-clause-shown : goal.returns-in-Some-clause-shown
 returns-in-Some-clause-shown g c = review_shown g.D.Disk.tells _ _ c.settle_list.result (ap (λ v. v.items) c.settle_list.ensures.limbo) c.requires.begun c.settle_list.ensures.settled c.settle_list.ensures.still c.settle_list.ensures.reads.files
+
+pub returns-then-not-is_sound-clause-leaves : goal.returns-then-not-is_sound-clause-leaves
+returns-then-not-is_sound-clause-leaves g c = c.settle_rows.ensures.leaves
+
+pub returns-in-Some-clause-leaves : goal.returns-in-Some-clause-leaves
+returns-in-Some-clause-leaves g c = c.settle_list.ensures.leaves
+
+pub returns-in-None-clause-leaves : goal.returns-in-None-clause-leaves
+returns-in-None-clause-leaves g c = nothing_leaves g.D.Disk.tells _

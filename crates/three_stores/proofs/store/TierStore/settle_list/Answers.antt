@@ -1,4 +1,4 @@
-use Rattle.std.proofs.Common.{◌≡◌, Err, sym, subst, ◌∙◌, ap, List}
+use Rattle.std.proofs.Common.{◌≡◌, Err, refl, sym, subst, ◌∙◌, ap, List}
 use Rattle.std.specs.Prelude.{slice_set}
 use Rattle.std.proofs.lemmas.Result.{err_from_is_err_and}
 use Rattle.disk_model.specs.declared.disk.DiskErr.{DiskErr}
@@ -9,6 +9,7 @@ use Rattle.three_stores.specs.Change.{IsOpen}
 use Rattle.three_stores.proofs.Acting.{only_reads}
 use Rattle.three_stores.proofs.Places.{same_granularities, set_same, manifest_here}
 use Rattle.three_stores.proofs.Doubting.{open_read, list_settled, list_in_doubt}
+use Rattle.three_stores.proofs.LeavingNames.{read_leaves}
 use Rattle.three_stores.proofs.store.TierStore.settle_list.Goals as goal
 
 pub review-requires-clause-unsound : goal.review-requires-clause-unsound
@@ -50,3 +51,9 @@ returns-in_err-review-clause-reads g c =
     let p = err_from_is_err_and c.from_residual.result c.from_residual.ensures.1 in
     only_reads g.D.Disk.tells _ _ c.from_residual.result c.review.ensures.same c.review.ensures.any_moment c.review.ensures.faults
     (λ is. c.review.ensures.cause (c.in_err-review.was ∙ sym (p.1 ∙ ap (λ (x : DiskErr). Err x) p.2) ∙ is))
+
+pub returns-clause-leaves : goal.returns-clause-leaves
+returns-clause-leaves g c = read_leaves g.D.Disk.tells _ _ refl c.review.ensures.same c.review.ensures.opened c.review.ensures.any_moment
+
+pub returns-in_err-review-clause-leaves : goal.returns-in_err-review-clause-leaves
+returns-in_err-review-clause-leaves g c = read_leaves g.D.Disk.tells _ _ refl c.review.ensures.same c.review.ensures.opened c.review.ensures.any_moment

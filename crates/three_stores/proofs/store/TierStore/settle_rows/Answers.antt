@@ -1,4 +1,4 @@
-use Rattle.std.proofs.Common.{Err, sym, subst, ◌∙◌, ap}
+use Rattle.std.proofs.Common.{Err, refl, sym, subst, ◌∙◌, ap}
 use Rattle.std.proofs.lemmas.Result.{err_from_is_err_and}
 use Rattle.disk_model.specs.declared.disk.DiskErr.{DiskErr}
 use Rattle.pv_catalog.specs.Catalogue.{CatalogueState}
@@ -7,6 +7,7 @@ use Rattle.three_stores.specs.Change.{IsOpen}
 use Rattle.three_stores.proofs.Acting.{only_reads}
 use Rattle.tier_store.proofs.Doubting.{quiet}
 use Rattle.three_stores.proofs.Doubting.{open_read, rows_settled, rows_in_doubt}
+use Rattle.three_stores.proofs.LeavingNames.{read_leaves}
 use Rattle.three_stores.proofs.store.TierStore.settle_rows.Goals as goal
 
 pub review-requires-clause-doubt : goal.review-requires-clause-doubt
@@ -33,3 +34,9 @@ returns-in_err-review-clause-reads g c =
     let p = err_from_is_err_and c.from_residual.result c.from_residual.ensures.1 in
     only_reads g.D.Disk.tells _ _ c.from_residual.result c.review.ensures.same c.review.ensures.any_moment c.review.ensures.faults
     (λ is. c.review.ensures.cause (c.in_err-review.was ∙ sym (p.1 ∙ ap (λ (x : DiskErr). Err x) p.2) ∙ is))
+
+pub returns-clause-leaves : goal.returns-clause-leaves
+returns-clause-leaves g c = read_leaves g.D.Disk.tells _ _ refl c.review.ensures.same c.review.ensures.opened c.review.ensures.any_moment
+
+pub returns-in_err-review-clause-leaves : goal.returns-in_err-review-clause-leaves
+returns-in_err-review-clause-leaves g c = read_leaves g.D.Disk.tells _ _ refl c.review.ensures.same c.review.ensures.opened c.review.ensures.any_moment

@@ -16,6 +16,7 @@ use Rattle.three_stores.proofs.Acting.{has_one, cut_acts, then_acts}
 use Rattle.three_stores.proofs.Staying.{limbo_kept}
 use Rattle.three_stores.proofs.Sparing.{reads_leave, reads_then}
 use Rattle.three_stores.proofs.Removals.{none_left}
+use Rattle.three_stores.proofs.LeavingNames.{names_then}
 use Rattle.three_stores.proofs.store.TierStore.sweep.Goals as goal
 
 pub sweep_settled-requires-clause-has : goal.sweep_settled-requires-clause-has
@@ -103,3 +104,9 @@ returns-clause-nothing g c settled =
     let same = (c.review.ensures.nothing settled).1 in
     let stays = c.sweep_settled.ensures.same in
     (stays.0 ∙ ap (λ s. s.catalogue) same, stays.1 ∙ ap (λ s. s.manifests) same)
+
+pub returns-in_err-review-clause-copied : goal.returns-in_err-review-clause-copied
+returns-in_err-review-clause-copied g c later = c.review.ensures.leaves c.args.copied.now later
+
+pub returns-clause-copied : goal.returns-clause-copied
+returns-clause-copied g c later = names_then c.args.copied.now g.D.Disk.tells _ _ _ (c.review.ensures.leaves c.args.copied.now later) c.sweep_settled.ensures.copied

@@ -4,9 +4,10 @@ use Rattle.store_manifest.specs.Manifest.{ManifestState}
 use Rattle.tier_store.specs.Ends.{end_of_disk}
 use Rattle.three_stores.specs.Seen.{AtEach, seen_on}
 use Rattle.three_stores.specs.Limbo.{ListsPlace, Stay, LeaveListed}
-use Rattle.three_stores.proofs.Staying.{stay_unlisted}
+use Rattle.three_stores.proofs.Staying.{stay_from, stay_unlisted}
 use Rattle.three_stores.proofs.Sparing.{swept_changes, swept_leaves, swept_files, leave_listed, are_gone, still_stands}
 use Rattle.three_stores.proofs.Removals.{lists_in_order, on_ok, on_err, if_ok, disk_failed, needed_stays, none_came}
+use Rattle.three_stores.proofs.LeavingNames.{removal_leaves}
 use Rattle.three_stores.proofs.store.TierStore.sweep_settled.Goals as goal
 
 pub returns-clause-changes : goal.returns-clause-changes
@@ -94,3 +95,17 @@ returns-clause-stands g c =
     let unlisted = stay_unlisted at held.0 self.limbo.items retired held.1.known c.requires.stands (known (lists_in_order self.catalogue self.manifests.items held.0 held.1.known)) in
     still_stands disk.tells at self.pinned c.args.copied.now self.limbo.items retired c.requires.stands unlisted (disk.files new) (disk.opened new) (disk.past new) (disk.faults new) (λ tells. (c.clear_limbo.ensures.removes tells).any_moment) (λ tells. (c.clear_limbo.ensures.removes tells).spares) (λ tells. (c.clear_limbo.ensures.removes tells).fewer)
     left (none_came r self.pinned c.args.copied.now retired left c.clear_limbo.ensures.needed (on_err r _ _ (λ same. ap (λ l. l.items) same) c.clear_limbo.ensures.unchanged))
+
+pub returns-clause-copied : goal.returns-clause-copied
+returns-clause-copied g c =
+    let self = c.args.self.now in
+    let disk = g.D.Disk in
+    let at = seen_on disk.files disk.opened disk.past disk.faults self.catalogue self.manifests.items self.disk in
+    let held = c.requires.has in
+    let retired = c.leave_listed.new.limbo.items in
+    let left = c.clear_limbo.new.limbo.items in
+    let known = subst (λ (ms : List ManifestState). AtEach ms (λ i m. InOrder m.entries) → Stay (λ r. ListsPlace ms r → ⊥) (ListsPlace ms) self.limbo.items retired) c.deref.ensures.value c.leave_listed.ensures in
+    let stay = known (lists_in_order self.catalogue self.manifests.items held.0 held.1.known) in
+    removal_leaves disk.tells _ _ self.pinned c.args.copied.now retired
+    (λ r there. (stay_from (λ x. ListsPlace self.manifests.items x → ⊥) (ListsPlace self.manifests.items) self.limbo.items retired r stay (none_came c.clear_limbo.result self.pinned c.args.copied.now retired left c.clear_limbo.ensures.needed (on_err c.clear_limbo.result _ _ (λ same. ap (λ l. l.items) same) c.clear_limbo.ensures.unchanged) r there)).0)
+    c.clear_limbo.ensures.removes
