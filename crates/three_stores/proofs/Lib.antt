@@ -16,6 +16,7 @@ pub mod Handing
 pub mod Holding
 pub mod LeavingNames
 pub mod Leaving
+pub mod ListedTallies
 pub mod Left
 pub mod MovedFiles
 pub mod OnePlace

@@ -15,3 +15,4 @@ pub mod Seen
 pub mod Settling
 pub mod Stored
 pub mod Stores
+pub mod Tallying

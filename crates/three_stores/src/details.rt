@@ -4,10 +4,10 @@ ghost use Rattle.act_model.specs.Details.{first_time, last_time};
 ghost use Rattle.act_model.specs.declared.acts.Answer.TheVariants.{NoSuchVariable};
 ghost use Rattle.disk_model.specs.Files.{Rose};
 ghost use Rattle.pv_catalog.specs.Rows.{HasName};
-ghost use Rattle.tier_store.specs.Ends.{IsCut};
+ghost use Rattle.tier_store.specs.Ends.{IsCut, end_of_disk};
 ghost use Rattle.three_stores.specs.Stores.{Stores, samples_in};
 ghost use Rattle.three_stores.specs.Seen.{seen};
-ghost use Rattle.three_stores.specs.Change.{Has, IsOpen};
+ghost use Rattle.three_stores.specs.Change.{Has, IsOpen, OnlyReads};
 ghost use Rattle.three_stores.specs.Counting.{ReadsDisk, behind};
 ghost use Rattle.three_stores.specs.Details.{AreCounted, IsDescribed, IsTally, SaysDescribed};
 ghost use Rattle.three_stores.specs.Moving.{LeavesLater};
@@ -15,6 +15,7 @@ ghost use Rattle.three_stores.specs.Opening.{answer_of, end_of_answer};
 ghost use Rattle.three_stores.specs.Pinned.{seen_all, KeepsShown};
 ghost use Rattle.three_stores.specs.Pinning.{HasNoName, entries_of};
 ghost use Rattle.three_stores.specs.Settling.{SettlesAndReads};
+ghost use Rattle.three_stores.specs.Tallying.{RiseFrom, entries_in, listed_count};
 
 use crate::TierStore;
 use crate::opening_pieces::told;
@@ -55,12 +56,13 @@ fn own_entries(manifests: &[Manifest], i: usize, row: u32) -> &[Entry]
 
 impl<D: Disk> TierStore<D> {
     // How many samples are held of a row, by its files in the order in which they are read.
-    fn tally(&mut self, row: u32) -> Result<Tally, DiskErr>
+    fn tally_row(&mut self, row: u32) -> Result<Tally, DiskErr>
         requires row { row < length self.old.catalogue.rows }
         requires three { length self.old.manifests.items ≡ 3 }
         requires has { (held : Stores) × Has D.tells (seen D.Disk self.old) held }
 
         ensures tally { IsTrue D.tells → (held : Stores) → Has D.tells (seen D.Disk self.old) held → IsTrue held.stands → IfOk result (IsTally (samples_in row held)) }
+        ensures listed { RiseFrom 0 (entries_in row self.old.manifests.items) → IfOk result (λ t. t.count ≡ listed_count (entries_in row self.old.manifests.items)) }
         ensures same { (self.new.catalogue ≡ self.old.catalogue) × (self.new.manifests ≡ self.old.manifests) × (self.new.pinned ≡ self.old.pinned) × (self.new.limbo ≡ self.old.limbo) }
         ensures reads { IsTrue D.tells → ReadsDisk (D.files self.old.disk) (D.files self.new.disk) (D.opened self.old.disk) (D.opened self.new.disk) (D.past self.old.disk) (D.past self.new.disk) }
         ensures faults { D.faults self.old.disk ≤ D.faults self.new.disk }
@@ -76,6 +78,28 @@ impl<D: Disk> TierStore<D> {
         add_files(alloc, disk, 1, rows, short, tally)
     }
 
+    /// How many samples the three stores hold of a row, a sample that two of them list counted once, and the moments of the first and of the
+    /// last. It needs that no change stands in doubt.
+    ///
+    /// The file of an earlier store is read that a later store's samples reach into; all others count by their entries. Where by these each
+    /// file of the row begins behind those that are read before it, no file is read, and the number is the one that they say. Else nothing
+    /// is said of it where the disk doesn't tell its files, or somebody has damaged listed ones.
+    ///
+    /// `Fault` comes only where the disk's count of faults rose in the call. `Memory` comes also where no `u64` has the number.
+    pub fn tally(&mut self, row: u32) -> Result<Tally, DiskErr>
+        requires row { row < length self.old.catalogue.rows }
+        requires has { (held : Stores) × Has D.tells (seen D.Disk self.old) held }
+
+        ensures tally { IsTrue D.tells → (held : Stores) → Has D.tells (seen D.Disk self.old) held → IsTrue held.stands → IfOk result (IsTally (samples_in row held)) }
+        ensures listed { RiseFrom 0 (entries_in row self.old.manifests.items) → IfOk result (λ t. t.count ≡ listed_count (entries_in row self.old.manifests.items)) }
+        ensures kept { (held : Stores) → Has D.tells (seen D.Disk self.old) held → Has D.tells (seen D.Disk self.new) held }
+        ensures same { (self.new.catalogue ≡ self.old.catalogue) × (self.new.manifests ≡ self.old.manifests) × (self.new.pinned ≡ self.old.pinned) × (self.new.limbo ≡ self.old.limbo) }
+        ensures shown { KeepsShown D.tells (seen_all D.Disk self.old) (seen_all D.Disk self.new) }
+        ensures reads { OnlyReads D.tells (seen D.Disk self.old) (seen D.Disk self.new) (end_of_disk result) }
+    {
+        self.tally_row(row)
+    }
+
     // What is told of a row.
     fn describe(&mut self, row: u32, tail: &Samples) -> Result<Details, DiskErr>
         requires row { row < length self.old.catalogue.rows }
@@ -88,7 +112,7 @@ impl<D: Disk> TierStore<D> {
         ensures faults { D.faults self.old.disk ≤ D.faults self.new.disk }
         ensures cause { IsErrOf result DiskErr.Fault → Rose (D.faults self.old.disk) (D.faults self.new.disk) }
     {
-        let durable = self.tally(row)?;
+        let durable = self.tally_row(row)?;
         let tail = tail.items();
         let Some(accepted) = durable.count.checked_add(tail.len() as u64) else {
             return Err(DiskErr::Memory);

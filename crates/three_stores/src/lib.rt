@@ -18,6 +18,7 @@
 //!
 //! `TierStore::details` tells of a row: what the catalogue has of it, how many files each store lists, and how many of its samples are
 //! durable. While a move is half done two stores list the same samples; the file that a later store's samples reach into is then read.
+//! `TierStore::tally` counts them alone.
 //!
 //! `TierStore::begin_move` chooses which row's oldest files are to go on to the next store, by what both list, and begins that move. Which moves
 //! run is its caller's to keep: the stores don't know them.
@@ -52,3 +53,4 @@ pub use limbo::Retired;
 pub use moving::MoveBegun;
 pub use retirement::RetireEnd;
 pub use store::TierStore;
+pub use tallying::Tally;

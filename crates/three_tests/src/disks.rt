@@ -1,5 +1,5 @@
-// Worked disks, each with what opening tells of it.
-use crate::telling::opened;
+// Worked disks, each with what opening tells of it, or what it reports.
+use crate::telling::{opened, reported};
 use disk_model::{Disk, FileName, MemDisk};
 use std::alloc::{AllocError, Global};
 use std::test::Fail;
@@ -112,22 +112,22 @@ fn put_file(
     put(alloc, disk, store, path, bytes)
 }
 
-// What a disk opens as that has these journals, the last bytes of the catalogue's file cut off, and in stores 1 to 3 the first files of
-// 2012, of these lengths.
-fn opening(
+// A disk that has these journals, the last bytes of the catalogue's file cut off, and in stores 1 to 3 the first files of 2012, of these
+// lengths.
+fn disk_of(
     alloc: Global,
     catalogue: &[u8],
     cut: usize,
     manifests: [&[u8]; 3],
     lengths: [Option<usize>; 3],
-) -> Result<String, Fail> {
+) -> Result<MemDisk, Fail> {
     let mut disk = MemDisk::new(alloc, &[], None)?;
     put_journals(alloc, &mut disk, catalogue, cut, manifests)?;
     let [hour, day, year] = lengths;
     put_file(alloc, &mut disk, 1, b"A/B:2012_01_01_00.pb", hour)?;
     put_file(alloc, &mut disk, 2, b"A/B:2012_01_01.pb", day)?;
     put_file(alloc, &mut disk, 3, b"A/B:2012.pb", year)?;
-    opened(alloc, &disk, 0)
+    Ok(disk)
 }
 
 #[test]
@@ -187,7 +187,37 @@ fn the_first_that_is_wrong_is_told(rt: HostRuntime) -> Result<(), Fail> {
         ),
     ];
     for (catalogue, cut, manifests, lengths, want) in table {
-        let found = opening(alloc, catalogue, cut, manifests, lengths)?;
+        let disk = disk_of(alloc, catalogue, cut, manifests, lengths)?;
+        let found = opened(alloc, &disk, 0)?;
+        assert_eq!(rt; found.as_str(), want);
+    }
+    Ok(())
+}
+
+#[test]
+fn rows_and_files_are_reported(rt: HostRuntime) -> Result<(), Fail> {
+    let alloc = rt.alloc();
+    // The batches of the manifests, the lengths of the files, and what is reported of row 0.
+    let table: [([&[u8]; 3], [Option<usize>; 3], &str); 3] = [
+        (
+            [b"H", b"D", b"Y"],
+            [None, None, None],
+            "A:B SCALAR_DOUBLE running samples 0 files 0 0 0\nall good",
+        ),
+        (
+            [b"HN", b"D", b"YN"],
+            [Some(5000), None, Some(4660)],
+            "A:B SCALAR_DOUBLE running samples 300 files 1 0 1\n1 A/B:2012_01_01_00.pb damaged 0\n3 A/B:2012.pb damaged 0\n1/A/B:2012_01_01_00.pb at 0",
+        ),
+        (
+            [b"H", b"DN", b"YN"],
+            [None, Some(4660), Some(4660)],
+            "A:B SCALAR_DOUBLE running samples 300 files 0 1 1\n2 A/B:2012_01_01.pb damaged 0\n3 A/B:2012.pb damaged 0\n2/A/B:2012_01_01.pb at 0",
+        ),
+    ];
+    for (manifests, lengths, want) in table {
+        let disk = disk_of(alloc, b"R", 0, manifests, lengths)?;
+        let found = reported(alloc, &disk)?;
         assert_eq!(rt; found.as_str(), want);
     }
     Ok(())

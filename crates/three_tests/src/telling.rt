@@ -1,13 +1,15 @@
-// What is told of a disk that is opened: its rows and what its stores list, or why it isn't opened.
+// What is told of a disk that is opened: its rows and what its stores list, or why it isn't opened; and what the stores report.
 ghost use Rattle.std.specs.Prelude.{◌≡◌, ◌≤◌, length};
 
 use disk_model::MemDisk;
+use edge_io::MemSink;
 use etl_rules::Config;
 use std::alloc::Global;
 use std::fmt::Write as _;
 use std::str;
 use std::test::Fail;
 use three_reopen::{ReopenErr, reopen};
+use three_reports::{check, status};
 use three_stores::TierStore;
 
 // Each file that a store lists of a row: how many samples it has, and the first and the last moment.
@@ -55,4 +57,25 @@ pub(crate) fn opened(alloc: Global, disk: &MemDisk, choice: u64) -> Result<Strin
             Ok(format!(in alloc; "{kept:?} for {asked:?}")?)
         }
     }
+}
+
+// What a disk reports once it is opened: a line for each row, one for each listed file, and the first damaged file, if there is one.
+pub(crate) fn reported(alloc: Global, disk: &MemDisk) -> Result<String, Fail> {
+    let image = disk.crash(alloc, 0)?;
+    let Ok(mut stores) = reopen(alloc, image, &Config::shipped()) else {
+        return Err("it isn't opened".into());
+    };
+    let mut sink = MemSink::new(alloc, 2000, &[])?;
+    let Ok(()) = status(alloc, &mut stores, &mut sink) else {
+        return Err("no status".into());
+    };
+    let Ok(damage) = check(alloc, &mut stores, &mut sink) else {
+        return Err("no check".into());
+    };
+    let text = str::from_utf8(sink.bytes())?;
+    let Some(damage) = damage else {
+        return Ok(format!(in alloc; "{text}all good")?);
+    };
+    let path = str::from_utf8(&damage.name.path)?;
+    Ok(format!(in alloc; "{text}{}/{path} at {}", damage.name.store, damage.at)?)
 }

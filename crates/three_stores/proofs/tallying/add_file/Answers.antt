@@ -1,4 +1,4 @@
-use Rattle.std.proofs.Common.{◌≡◌, ◌+◌, ℕ, max, Option, Some, None, sym, ◌∙◌, ap}
+use Rattle.std.proofs.Common.{◌≡◌, ◌+◌, ℕ, max, Option, Some, None, sym, ◌∙◌, ap, arith}
 use Rattle.store_manifest.specs.declared.entry.Entry.{Entry}
 use Rattle.three_stores.specs.Counting.{behind}
 use Rattle.three_stores.proofs.Tallies.{tally_more}
@@ -19,3 +19,9 @@ returns-clause-tally g c tells h f samples same is was =
       | in-None w ↦ w.first-is ∙ ap (λ (e : Entry). e.first) (sym same)
     ])
     (c.later.ensures ∙ ap (λ (n : ℕ). max (behind t.last) (n + 1)) (sym last))
+
+pub returns-clause-listed : goal.returns-clause-listed
+returns-clause-listed g c low =
+    let more = c.in_ok-more.ensures.listed low in
+    let sum = c.in-Some.ensures.1 in
+    (omega (arith, more, sum), c.later.ensures)

@@ -36,3 +36,13 @@ returns-clause-count g c tells h f same is =
     let head = ap (λ (e : Entry). e.head_len) (sym same) ∙ is.filed.head_len in
     let at : behind c.args.last ≡ c.in-Some.last + 1 = ap behind c.in-Some.is in
     subst (λ (n : ℕ). IfOk c.count_later.result (λ k. k ≡ length (since n f.samples))) (sym at) (c.count_later.ensures.count tells f.head is.filed.info f.samples named head)
+
+pub returns-then-entry-last-clause-listed : goal.returns-then-entry-last-clause-listed
+returns-then-entry-last-clause-listed g c low =
+    let at : behind c.args.last ≡ c.in-Some.last + 1 = ap behind c.in-Some.is in
+    absurd (omega (arith, at, low, c.if-last-entry.false))
+
+pub returns-clause-listed : goal.returns-clause-listed
+returns-clause-listed g c low =
+    let at : behind c.args.last ≡ c.in-Some.last + 1 = ap behind c.in-Some.is in
+    absurd (omega (arith, at, low, c.if-last-entry.false))

@@ -1,0 +1,5 @@
+pub mod Check
+pub mod Keeping
+pub mod Listing
+pub mod Status
+pub mod Telling
