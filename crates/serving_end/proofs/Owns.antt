@@ -8,7 +8,8 @@ use Rattle.std.proofs.lemmas.List.Elements.{recursion_from_All}
 use Rattle.act_model.specs.declared.acts.Act.{Act}
 use Rattle.act_model.specs.declared.acts.Act.TheVariants.{Register, Pause, Resume, Offer, Tick, Flush, MoveBegin, MoveStep, Sweep, Pin, OpenPiece, Unpin, Names, Details, Doors, DoorDone}
 use Rattle.act_model.specs.History.{Entry, Done, done_of, mine}
-use Rattle.serving_end.specs.Rounds.{is_of_link, IsShift}
+use Rattle.act_model.specs.Roles.{is_of_link}
+use Rattle.serving_end.specs.Rounds.{IsShift}
 use Rattle.act_model.proofs.Histories.{mine-append}
 
 mine_other : (who : ℕ) (e : Entry) (es : List Entry) → (e.who == who) ≡ false → mine who (e ∷ es) ≡ mine who es

@@ -14,7 +14,8 @@ use Rattle.act_model.specs.MoveBegin.{none_to_make}
 use Rattle.act_model.specs.Sound.{IsSound}
 use Rattle.act_model.specs.Step.{Step}
 use Rattle.act_model.specs.History.{Entry, Done, Runs, own, mine}
-use Rattle.serving_end.specs.Rounds.{is_of_link, IsShift, no_round, IsOfStore, EndsStore, no_move, at_its_begin}
+use Rattle.act_model.specs.Roles.{is_of_link}
+use Rattle.serving_end.specs.Rounds.{IsShift, no_round, IsOfStore, EndsStore, no_move, at_its_begin}
 use Rattle.serving_end.specs.declared.ends.FlushEnd.TheVariants.{LeavesNone}
 use Rattle.serving_end.specs.declared.ends.MoverEnd.TheVariants.{Rests}
 use Rattle.serving_end.specs.End.{Served, MayEndSo}

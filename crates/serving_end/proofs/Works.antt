@@ -6,7 +6,8 @@ use Rattle.act_model.specs.declared.acts.Act.{Act}
 use Rattle.act_model.specs.declared.acts.Act.TheVariants.{Doors, DoorDone}
 use Rattle.act_model.specs.declared.acts.Answer.TheVariants.{NoRow}
 use Rattle.act_model.specs.History.{Entry, Done, own}
-use Rattle.serving_end.specs.Rounds.{is_of_link, AllAre, IsShift, IsTick, AreTicks, EndsAtNoRow}
+use Rattle.act_model.specs.Roles.{is_of_link, AllAre}
+use Rattle.serving_end.specs.Rounds.{IsShift, IsTick, AreTicks, EndsAtNoRow}
 
 -- ONE MORE ACT
 

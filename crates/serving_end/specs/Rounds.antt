@@ -1,38 +1,16 @@
 -- What workers, the flusher and the mover do, each as the list of its own acts with their answers.
-use Rattle.std.specs.Prelude.{◌≡◌, ◌⊎◌, ℕ, ◌+◌, ◌≤◌, List, [], ◌∷◌, ◌++◌, length, Bool, true, false, All, Contains}
+use Rattle.std.specs.Prelude.{◌≡◌, ◌⊎◌, ℕ, ◌+◌, ◌≤◌, List, [], ◌∷◌, ◌++◌, length, All, Contains}
 use Rattle.disk_model.specs.declared.name.FileName.{FileName}
 use Rattle.act_model.specs.declared.acts.Act.{Act}
-use Rattle.act_model.specs.declared.acts.Act.TheVariants.{Register, Pause, Resume, Offer, Tick, Flush, MoveBegin, MoveStep, Sweep, Pin, OpenPiece, Unpin, Names, Details, Doors, DoorDone}
+use Rattle.act_model.specs.declared.acts.Act.TheVariants.{Tick, Flush, MoveBegin, MoveStep, Sweep, Doors, DoorDone}
 use Rattle.act_model.specs.declared.acts.Answer.TheVariants.{NoRow, Flushed, Begun, Busy, Nothing, NoMove, Damaged, Copying, Copied, Published, Retired, Again, DoorsLeft, DiskFault, Memory}
 use Rattle.act_model.specs.Reply.{Reply}
 use Rattle.act_model.specs.History.{Done}
+use Rattle.act_model.specs.Roles.{is_of_link, AllAre}
 use Rattle.serving_end.specs.declared.ends.FlushEnd.{FlushEnd}
 use Rattle.serving_end.specs.declared.ends.FlushEnd.TheVariants.{LeavesNone, FailsToWrite, LacksMemory}
 use Rattle.serving_end.specs.declared.ends.MoverEnd.{MoverEnd}
 use Rattle.serving_end.specs.declared.ends.MoverEnd.TheVariants.{Rests, MeetsFault, MeetsNoMemory}
-
--- the acts that a link's session may make
-abbrev pub is_of_link : Act → Bool
-is_of_link (Register name about) = true
-is_of_link (Pause name) = true
-is_of_link (Resume name) = true
-is_of_link (Offer name ty t line now) = true
-is_of_link (Tick row now) = false
-is_of_link (Flush limit) = true
-is_of_link (MoveBegin store now) = false
-is_of_link (MoveStep m) = false
-is_of_link Sweep = false
-is_of_link (Pin name query) = true
-is_of_link (OpenPiece pin i) = true
-is_of_link (Unpin pin) = true
-is_of_link (Names from most) = true
-is_of_link (Details name) = true
-is_of_link Doors = false
-is_of_link DoorDone = false
-
--- all acts are such
-abbrev pub AllAre : (Act → Bool) → List Done → Type 0
-AllAre is_own ds = All (λ d. is_own d.act ≡ true) ds
 
 -- A WORKER
 

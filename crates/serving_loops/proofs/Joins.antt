@@ -1,18 +1,14 @@
 -- How what an actor did in one call goes on from what it did before.
-use Rattle.std.proofs.Common.{◌≡◌, ◌≢◌, ℕ, ◌+◌, ◌≤◌, List, [], ◌∷◌, ◌++◌, length, Bool, true, false, Option, Some, None, refl, ap, sym, ◌∙◌, arith, subst, inl, inr, append_assoc}
-use Rattle.std.specs.Prelude.{Contains}
+use Rattle.std.proofs.Common.{◌≡◌, ℕ, ◌+◌, List, [], ◌∷◌, ◌++◌, length, Bool, true, false, Option, Some, None, refl, ap, sym, ◌∙◌, arith, subst, inl}
 use Rattle.std.proofs.lemmas.List.{length-append}
-use Rattle.std.proofs.lemmas.List.Elements.{All-push}
-use Rattle.act_model.specs.declared.acts.Act.TheVariants.{Doors, Tick, Flush, MoveStep}
+use Rattle.act_model.specs.declared.acts.Act.TheVariants.{Doors, Tick, Flush}
 use Rattle.act_model.specs.History.{Entry, Done}
 use Rattle.act_model.proofs.Histories.{made_joined}
 use Rattle.serving_end.specs.declared.ends.FlushEnd.{FlushEnd}
-use Rattle.serving_end.specs.Rounds.{IsTick, AreTicks, IsFlushRound, IsLastFlush, AreRounds, one_more, GoesOn, IsMove}
+use Rattle.serving_end.specs.Rounds.{IsTick, AreTicks, IsFlushRound}
 use Rattle.serving_end.proofs.Works.{ticks_more, ticks_end}
 use Rattle.serving_loops.specs.Does.{Does, Anything, AsksDoors}
-use Rattle.serving_loops.specs.Flushes.{TicksRow, TicksAll, EndsFlush, FlushesAll, IsRoundSo}
-use Rattle.serving_loops.specs.declared.moves.Moved.{Moved}
-use Rattle.serving_loops.specs.Moves.{StepsSo, MovesSo}
+use Rattle.serving_loops.specs.Flushes.{TicksRow, TicksAll, FlushesAll, IsRoundSo}
 
 module _ {A : Type 0} (number : A → ℕ) (between : A → List Entry → A → Type 0)
     (joined : (a b c : A) (xs ys : List Entry) → between a xs b → between b ys c → between a (xs ++ ys) c)
@@ -23,6 +19,10 @@ module _ {A : Type 0} (number : A → ℕ) (between : A → List Entry → A →
   -- any acts after any
   pub join_any : (P : List Done → Type 0) (a b c : A) → Does number between a P b → Does number between b Anything c → Does number between a Anything c
   join_any P a b c p q = join P Anything Anything (λ xs ys p q. tt) a b c p q
+
+-- the same acts, said otherwise
+pub does_as : {A : Type 0} (number : A → ℕ) (between : A → List Entry → A → Type 0) (P Q : List Done → Type 0) → ((ds : List Done) → P ds → Q ds) → (a b : A) → Does number between a P b → Does number between a Q b
+does_as number between P Q go a b p = (p.0, p.1, go p.0 p.2)
 
 -- nothing yet
 pub does_none : {A : Type 0} (number : A → ℕ) (between : A → List Entry → A → Type 0) → ((a : A) → between a [] a) → (P : List Done → Type 0) → P [] → (a : A) → Does number between a P a

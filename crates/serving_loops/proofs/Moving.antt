@@ -1,75 +1,197 @@
 -- Moves, stores and rounds of the mover, put together of what was done in them.
-use Rattle.std.proofs.Common.{◌≡◌, ℕ, ◌+◌, List, [], ◌∷◌, ◌++◌, length, Bool, true, false, Option, Some, None, refl, ap, sym, ◌∙◌, arith, subst, inl, inr, append_assoc}
+use Rattle.std.proofs.Common.{◌≡◌, ◌≢◌, ℕ, ◌+◌, ◌-◌, ◌^◌, List, [], ◌∷◌, ◌++◌, Bool, true, false, Option, Some, None, Ok, Err, IfOk, OnErr, min, refl, ap, sym, ◌∙◌, arith, subst, inl, inr, append_assoc, append-nil}
 use Rattle.std.specs.Prelude.{◌⊎◌, All, Contains}
-use Rattle.std.proofs.lemmas.List.Elements.{All-push, All-nil, Contains-push, Contains-append_left, Contains-append_right}
+use Rattle.std.proofs.lemmas.List.Sums.{sum_by-append}
+use Rattle.std.proofs.lemmas.List.Elements.{All-push, All-head, All-tail, Contains-push, Contains-append_left, Contains-append_right}
 use Rattle.act_model.specs.declared.acts.Act.TheVariants.{Doors, MoveBegin, MoveStep, Sweep}
-use Rattle.act_model.specs.declared.acts.Answer.TheVariants.{Nothing, DoorsLeft}
+use Rattle.act_model.specs.declared.acts.Answer.TheVariants.{Nothing, DoorsLeft, Begun, Busy}
 use Rattle.act_model.specs.Reply.{Reply}
-use Rattle.act_model.specs.History.{Done}
+use Rattle.act_model.specs.History.{Entry, Done}
 use Rattle.serving_end.specs.declared.ends.MoverEnd.{MoverEnd}
 use Rattle.serving_end.specs.declared.ends.MoverEnd.TheVariants.{Rests, MeetsFault, MeetsNoMemory}
-use Rattle.serving_end.specs.Rounds.{IsFault, IsMemory, GoesOn, IsOver, IsMove, BeginsMove, AreMoves, no_move, one_more_move, CutsMove, EndsMoves, at_its_begin, at_a_step, IsOfStore, EndsStore, IsMoveRound, HasNothing, MeetsShut, EndsSo}
-use Rattle.serving_loops.specs.declared.moves.Begun.{Begun}
+use Rattle.serving_end.specs.Rounds.{IsFault, IsMemory, GoesOn, IsOver, IsMove, BeginsMove, AreMoves, no_move, one_more_move, CutsMove, EndsMoves, at_its_begin, at_a_step, IsOfStore, EndsStore, IsMoveRound}
 use Rattle.serving_loops.specs.declared.moves.Begun.TheVariants as begun
-use Rattle.serving_loops.specs.declared.moves.Moved.{Moved}
-use Rattle.serving_loops.specs.declared.moves.Moved.TheVariants as moved
-use Rattle.serving_loops.specs.Does.{AsksDoors}
-use Rattle.serving_loops.specs.Moves.{BegunSo, BeginsSo, EndedSo, StepsSo, MovesSo, EndsStoreSo, StoreSo, SweptSo, SweepsSo, fault_of, first_of, met_in, end_of_round, EndsRoundSo, IsMoverRoundSo}
+use Rattle.serving_loops.specs.declared.moves.MoveErr.{MoveErr}
+use Rattle.serving_loops.specs.declared.moves.MoveErr.TheVariants as err
+use Rattle.serving_loops.specs.declared.moves.OneMove.TheVariants as one
+use Rattle.serving_loops.specs.declared.moves.StoreMoved.{StoreMoved}
+use Rattle.serving_loops.specs.Does.{Does, Anything, AsksDoors}
+use Rattle.serving_loops.proofs.Joins.{does_as}
+use Rattle.serving_loops.specs.Moves.{parts_in, retired_by, shown, StoppedBy, IsStepOn, AreStepsOn, IsBegun, none_begun, one_begun, BeginsSo, StepsSo, MovesSo, OneMoveSo, StoreMovesSo, IsSwept, end_met, EndsStoreSo, StoreSo, SweptSo, SweepsSo, fault_of, first_of, met_in, end_of_round, EndsRoundSo, IsMoverRoundSo}
+
+-- partitions that were retired by acts and then by others
+retired-append : (xs ys : List Done) → retired_by (xs ++ ys) ≡ retired_by xs + retired_by ys
+retired-append xs ys = sum_by-append (λ (d : Done). parts_in d.answer) xs ys
 
 -- A MOVE
 
--- a step after which the move goes on
-abbrev pub IsStepOn : ℕ → Done → Type 0
-IsStepOn m d = (d.act ≡ MoveStep m) × GoesOn d.answer
+pub step_on : (m : ℕ) (xs ys : List Done) → AreStepsOn m xs → StepsSo m (Ok None) ys → AreStepsOn m (xs ++ ys)
+step_on m xs ys p q = subst (λ w. AreStepsOn m (xs ++ w)) (sym q.1) (All-push (IsStepOn m) xs q.0 p (q.2, q.3))
 
-abbrev pub StepsOn : ℕ → List Done → Type 0
-StepsOn m ds = All (IsStepOn m) ds
+-- such a step retires nothing
+on_none : (reply : Reply) → GoesOn reply → parts_in reply ≡ 0
+on_none reply (inl is) = ap parts_in is
+on_none reply (inr (inl is)) = ap parts_in is
+on_none reply (inr (inr is)) = ap parts_in is
 
-pub step_on : (m : ℕ) (xs ys : List Done) → StepsOn m xs → StepsSo m None ys → StepsOn m (xs ++ ys)
-step_on m xs ys p q = subst (λ w. StepsOn m (xs ++ w)) (sym q.1) (All-push (IsStepOn m) xs q.0 p (q.2, q.3))
+steps_none : (m : ℕ) (ds : List Done) → AreStepsOn m ds → retired_by ds ≡ 0
+steps_none m [] all = refl
+steps_none m (d ∷ ds) all =
+    let one = on_none d.answer (All-head (IsStepOn m) d ds all).1 in
+    let more = steps_none m ds (All-tail (IsStepOn m) d ds all) in
+    let whole = retired-append (d ∷ []) ds in
+    omega arith
 
-pub step_ends : (m : ℕ) (end : Moved) (xs ys : List Done) → StepsOn m xs → StepsSo m (Some end) ys → MovesSo m end (xs ++ ys)
-step_ends m end xs ys p q = record { front = xs; last = q.0; is = ap (λ (w : List Done). xs ++ w) q.1; goes = p; act = q.2; such = q.3 }
+retired_push : (xs : List Done) (d : Done) → retired_by (xs ++ d ∷ []) ≡ retired_by xs + parts_in d.answer
+retired_push xs d = let both = retired-append xs (d ∷ []) in omega arith
+
+step_last : (Such : Reply → Type 0) (m : ℕ) (xs ys : List Done) (d : Done) → AreStepsOn m xs → ys ≡ d ∷ [] → d.act ≡ MoveStep m → Such d.answer → IsMove Such m (xs ++ ys)
+step_last Such m xs ys d p is act such = record { front = xs; last = d; is = ap (λ (w : List Done). xs ++ w) is; goes = p; act = act; such = such }
+
+pub step_ends : (m parts : ℕ) (xs ys : List Done) → AreStepsOn m xs → StepsSo m (Ok (Some parts)) ys → MovesSo m (Ok parts) (xs ++ ys)
+step_ends m parts xs ys p q = (
+  step_last IsOver m xs ys q.0 p q.1 q.2 q.3.0,
+  (let none = steps_none m xs p in
+      let push = retired_push xs q.0 in
+      let same = ap (λ (w : List Done). retired_by (xs ++ w)) q.1 in
+      let told = q.3.1 in
+      omega arith),
+)
+
+pub step_stops : (m : ℕ) (why : MoveErr) (xs ys : List Done) → AreStepsOn m xs → StepsSo m (Err why) ys → MovesSo m (Err why) (xs ++ ys)
+step_stops m err.DiskFault xs ys p q = step_last (StoppedBy err.DiskFault) m xs ys q.0 p q.1 q.2 q.3
+step_stops m (err.Damaged name at) xs ys p q = step_last (StoppedBy (err.Damaged name at)) m xs ys q.0 p q.1 q.2 q.3
+step_stops m err.Spent xs ys p q = subst (λ w. AreStepsOn m (xs ++ w)) (sym q) (subst (λ w. AreStepsOn m w) (sym (append-nil xs)) p)
+step_stops m err.Memory xs ys p q = step_last (StoppedBy err.Memory) m xs ys q.0 p q.1 q.2 q.3
+
+-- ONE MOVE OF A STORE
+
+-- a begin retires nothing
+begun_none : (store now m : ℕ) (d : Done) → BeginsMove store now m d → parts_in d.answer ≡ 0
+begun_none store now m d b = by_answer b.answered
+  where
+    by_answer : ((row : ℕ) × (parts : ℕ) × (d.answer ≡ Begun m row parts)) ⊎ (d.answer ≡ Busy m) → parts_in d.answer ≡ 0
+    by_answer (inl is) = ap parts_in is.2
+    by_answer (inr is) = ap parts_in is
+
+begun_first : (first : Done) (xs ys : List Done) → xs ≡ first ∷ [] → xs ++ ys ≡ first ∷ ys
+begun_first first xs ys is = ap (λ (w : List Done). w ++ ys) is
+
+pub once_over : (store now m parts : ℕ) (xs ys : List Done) → BeginsSo store now (Ok (begun.Moves m)) xs → MovesSo m (Ok parts) ys → OneMoveSo store now (Ok (one.Over parts)) (xs ++ ys)
+once_over store now m parts xs ys p q =
+    let is = begun_first p.0 xs ys p.1 in (
+      record { first = p.0; m = m; steps = ys; is = is; begins = p.2; goes = q.0 },
+      (let none = begun_none store now m p.0 p.2 in
+          let same = ap retired_by is in
+          let whole = retired-append (p.0 ∷ []) ys in
+          let told = q.1 in
+          omega arith),
+    )
+
+-- what stops a move cuts it short
+stops_cut : (why : MoveErr) (reply : Reply) → StoppedBy why reply → CutsMove (StoppedBy why) reply
+stops_cut err.DiskFault reply is = (is, inl (inl is))
+stops_cut (err.Damaged name at) reply is = (is, inl (inr (name, at, is)))
+stops_cut err.Spent reply is = absurd is
+stops_cut err.Memory reply is = (is, inr is)
+
+cut_move : (why : MoveErr) (m : ℕ) (ds : List Done) → IsMove (StoppedBy why) m ds → IsMove (CutsMove (StoppedBy why)) m ds
+cut_move why m ds r = record { front = r.front; last = r.last; is = r.is; goes = r.goes; act = r.act; such = stops_cut why r.last.answer r.such }
+
+cut_short : (why : MoveErr) (store now m : ℕ) (xs ys : List Done) → BeginsSo store now (Ok (begun.Moves m)) xs → IsMove (StoppedBy why) m ys → EndsMoves (StoppedBy why) store now (xs ++ ys)
+cut_short why store now m xs ys p q = subst (λ w. EndsMoves (StoppedBy why) store now w) (sym (begun_first p.0 xs ys p.1)) (at_a_step p.0 m p.2 (cut_move why m ys q))
+
+pub once_stops : (why : MoveErr) (store now m : ℕ) (xs ys : List Done) → BeginsSo store now (Ok (begun.Moves m)) xs → MovesSo m (Err why) ys → OneMoveSo store now (Err why) (xs ++ ys)
+once_stops err.DiskFault store now m xs ys p q = cut_short err.DiskFault store now m xs ys p q
+once_stops (err.Damaged name at) store now m xs ys p q = cut_short (err.Damaged name at) store now m xs ys p q
+once_stops err.Spent store now m xs ys p q = subst (λ w. IsBegun store now w) (sym (begun_first p.0 xs ys p.1)) (one_begun p.0 m p.2 q)
+once_stops err.Memory store now m xs ys p q = cut_short err.Memory store now m xs ys p q
+
+pub none_to_make : (store now doors : ℕ) (ds : List Done) → BeginsSo store now (Ok (begun.Nothing doors)) ds → OneMoveSo store now (Ok (one.Nothing doors)) ds
+none_to_make store now doors ds p = let same : p.0 ≡ record { act = MoveBegin store now; answer = Nothing doors } = rw (sym p.2.0, sym p.2.1) refl in p.1 ∙ ap (λ (d : Done). d ∷ []) same
+
+at_begin : (Such : Reply → Type 0) (store now : ℕ) (d : Done) (ds : List Done) → ds ≡ d ∷ [] → d.act ≡ MoveBegin store now → Such d.answer → EndsMoves Such store now ds
+at_begin Such store now d ds is act said = subst (λ w. EndsMoves Such store now w) (sym is) (at_its_begin d act said)
+
+pub begin_stops : (why : MoveErr) (store now : ℕ) (ds : List Done) → BeginsSo store now (Err why) ds → OneMoveSo store now (Err why) ds
+begin_stops err.DiskFault store now ds p = at_begin (StoppedBy err.DiskFault) store now p.0 ds p.1 p.2.0 p.2.1
+begin_stops (err.Damaged name at) store now ds p = at_begin (StoppedBy (err.Damaged name at)) store now p.0 ds p.1 p.2.0 p.2.1
+begin_stops err.Spent store now ds p = subst (λ w. IsBegun store now w) (sym p) none_begun
+begin_stops err.Memory store now ds p = at_begin (StoppedBy err.Memory) store now p.0 ds p.1 p.2.0 p.2.1
 
 -- MOVES OF A STORE
 
--- moves, and the begin of one more
-abbrev pub MovesAnd : ℕ → ℕ → ℕ → List Done → Type 0
-MovesAnd store now m ds = (before : List Done) × (first : Done) × (ds ≡ before ++ first ∷ []) × AreMoves store now before × BeginsMove store now m first
+-- moves that retired so many partitions
+abbrev pub MovesTo : ℕ → ℕ → ℕ → List Done → Type 0
+MovesTo store now retired ds = AreMoves store now ds × (retired ≡ shown (retired_by ds))
 
-pub move_begun : (store now m : ℕ) (xs ys : List Done) → AreMoves store now xs → BeginsSo store now (begun.Moves m) ys → MovesAnd store now m (xs ++ ys)
-move_begun store now m xs ys p q = (xs, q.0, ap (λ (w : List Done). xs ++ w) q.1, p, q.2)
+pub none_yet : (store now : ℕ) → MovesTo store now 0 []
+none_yet store now = (no_move, refl)
 
-split_begun : (before : List Done) (first : Done) (xs ys : List Done) → xs ≡ before ++ first ∷ [] → xs ++ ys ≡ before ++ first ∷ ys
-split_begun before first xs ys is = ap (λ (w : List Done). w ++ ys) is ∙ append_assoc before (first ∷ []) ys
+shown_more : (a b whole r : ℕ) → r ≡ shown a → whole ≡ a + b → min (r + b) (2 ^ 64 - 1) ≡ shown whole
+shown_more a b whole r is sum = omega arith
 
-pub move_done : (store now m : ℕ) (xs ys : List Done) → MovesAnd store now m xs → MovesSo m moved.Over ys → AreMoves store now (xs ++ ys)
-move_done store now m xs ys p q = subst (λ w. AreMoves store now w) (sym (split_begun p.0 p.1 xs ys p.2)) (one_more_move p.1 m p.3 p.4 q)
+pub store_more : (store now retired parts : ℕ) (xs ys : List Done) → MovesTo store now retired xs → OneMoveSo store now (Ok (one.Over parts)) ys → MovesTo store now (min (retired + parts) (2 ^ 64 - 1)) (xs ++ ys)
+store_more store now retired parts xs ys p q = (
+  subst (λ w. AreMoves store now (xs ++ w)) (sym q.0.is) (one_more_move q.0.first q.0.m p.0 q.0.begins q.0.goes),
+  shown_more (retired_by xs) parts (retired_by (xs ++ ys)) retired p.1 (let both = retired-append xs ys in let told = q.1 in omega arith),
+)
 
--- a move's step is the last act
-cut_short : (end : MoverEnd) (store now m : ℕ) (xs ys : List Done) → MovesAnd store now m xs → IsMove (CutsMove (EndsStoreSo (Some end))) m ys → StoreSo store now (Some end) (xs ++ ys)
-cut_short end store now m xs ys p q = record { before = p.0; end = p.1 ∷ ys; is = split_begun p.0 p.1 xs ys p.2; moves = p.3; ends = at_a_step p.1 m p.4 q }
+pub store_ends : (store now retired doors : ℕ) (xs ys : List Done) → MovesTo store now retired xs → OneMoveSo store now (Ok (one.Nothing doors)) ys → StoreMovesSo store now (Ok (record { retired = retired; doors = doors })) (xs ++ ys)
+store_ends store now retired doors xs ys p q =
+    let d : Done = record { act = MoveBegin store now; answer = Nothing doors } in (
+      record { before = xs; end = ys; is = refl; moves = p.0; ends = at_begin (λ reply. reply ≡ Nothing doors) store now d ys q refl refl },
+      p.1 ∙ ap shown (let push = retired_push xs d in let same = ap (λ (w : List Done). retired_by (xs ++ w)) q in omega arith),
+    )
 
-pub move_fails : (store now m : ℕ) (xs ys : List Done) → MovesAnd store now m xs → MovesSo m moved.Fault ys → StoreSo store now (Some MeetsFault) (xs ++ ys)
-move_fails store now m xs ys p q = cut_short MeetsFault store now m xs ys p (record { front = q.front; last = q.last; is = q.is; goes = q.goes; act = q.act; such = (q.such, inl q.such) })
+stops_store : (why : MoveErr) (store now retired : ℕ) (xs ys : List Done) → MovesTo store now retired xs → EndsMoves (StoppedBy why) store now ys → IsOfStore (StoppedBy why) store now (xs ++ ys)
+stops_store why store now retired xs ys p q = record { before = xs; end = ys; is = refl; moves = p.0; ends = q }
 
-pub move_lacks : (store now m : ℕ) (xs ys : List Done) → MovesAnd store now m xs → MovesSo m moved.Memory ys → StoreSo store now (Some MeetsNoMemory) (xs ++ ys)
-move_lacks store now m xs ys p q = cut_short MeetsNoMemory store now m xs ys p (record { front = q.front; last = q.last; is = q.is; goes = q.goes; act = q.act; such = (q.such, inr q.such) })
+pub store_stops : (why : MoveErr) (store now retired : ℕ) (xs ys : List Done) → MovesTo store now retired xs → OneMoveSo store now (Err why) ys → StoreMovesSo store now (Err why) (xs ++ ys)
+store_stops err.DiskFault store now retired xs ys p q = stops_store err.DiskFault store now retired xs ys p q
+store_stops (err.Damaged name at) store now retired xs ys p q = stops_store (err.Damaged name at) store now retired xs ys p q
+store_stops err.Spent store now retired xs ys p q = record { before = xs; rest = ys; is = refl; moves = p.0; goes = q }
+store_stops err.Memory store now retired xs ys p q = stops_store err.Memory store now retired xs ys p q
 
-at_begin : (end : Option MoverEnd) (store now : ℕ) (d : Done) (xs ys : List Done) → AreMoves store now xs → ys ≡ d ∷ [] → d.act ≡ MoveBegin store now → EndsStoreSo end d.answer → StoreSo store now end (xs ++ ys)
-at_begin end store now d xs ys p is act said = record { before = xs; end = ys; is = refl; moves = p; ends = subst (λ w. EndsMoves (EndsStoreSo end) store now w) (sym is) (at_its_begin d act said) }
+-- the same moves, where their last answer is said otherwise
+module _ (P Q : Reply → Type 0) (go : (reply : Reply) → P reply → Q reply) (store now : ℕ) where
+  move_as : (m : ℕ) (ds : List Done) → IsMove (CutsMove P) m ds → IsMove (CutsMove Q) m ds
+  move_as m ds r = record { front = r.front; last = r.last; is = r.is; goes = r.goes; act = r.act; such = (go r.last.answer r.such.0, r.such.1) }
 
-pub begin_fails : (store now : ℕ) (xs ys : List Done) → AreMoves store now xs → BeginsSo store now begun.Fault ys → StoreSo store now (Some MeetsFault) (xs ++ ys)
-begin_fails store now xs ys p q = at_begin (Some MeetsFault) store now q.0 xs ys p q.1 q.2.0 q.2.1
+  end_as : (ds : List Done) → EndsMoves P store now ds → EndsMoves Q store now ds
+  end_as ds (at_its_begin last act such) = at_its_begin last act (go last.answer such)
+  end_as ds (at_a_step {steps} first m begins goes) = at_a_step first m begins (move_as m steps goes)
 
-pub begin_lacks : (store now : ℕ) (xs ys : List Done) → AreMoves store now xs → BeginsSo store now begun.Memory ys → StoreSo store now (Some MeetsNoMemory) (xs ++ ys)
-begin_lacks store now xs ys p q = at_begin (Some MeetsNoMemory) store now q.0 xs ys p q.1 q.2.0 q.2.1
+  pub store_as : (ds : List Done) → IsOfStore P store now ds → IsOfStore Q store now ds
+  store_as ds r = record { before = r.before; end = r.end; is = r.is; moves = r.moves; ends = end_as r.end r.ends }
 
-pub begin_waits : (store now : ℕ) (xs ys : List Done) → AreMoves store now xs → BeginsSo store now (begun.Nothing false) ys → StoreSo store now None (xs ++ ys)
-begin_waits store now xs ys p q = at_begin None store now q.0 xs ys p q.1 q.2.0 q.2.1
+-- IN A ROUND
 
-pub begin_rests : (store now : ℕ) (xs ys : List Done) → AreMoves store now xs → BeginsSo store now (begun.Nothing true) ys → StoreSo store now (Some Rests) (xs ++ ys)
-begin_rests store now xs ys p q = at_begin (Some Rests) store now q.0 xs ys p q.1 q.2.0 q.2.1
+pub rests_so : (store now : ℕ) (moved : StoreMoved) (ds : List Done) → moved.doors ≡ 0 → StoreMovesSo store now (Ok moved) ds → StoreSo store now (Some Rests) ds
+rests_so store now moved ds none p = store_as (λ reply. reply ≡ Nothing moved.doors) (EndsStoreSo (Some Rests)) (λ reply is. is ∙ ap Nothing none) store now ds p.0
+
+pub waits_so : (store now : ℕ) (moved : StoreMoved) (ds : List Done) → moved.doors ≢ 0 → StoreMovesSo store now (Ok moved) ds → StoreSo store now None ds
+waits_so store now moved ds some p = store_as (λ reply. reply ≡ Nothing moved.doors) (EndsStoreSo None) (λ reply is. (moved.doors, is, some)) store now ds p.0
+
+module _ {A : Type 0} (number : A → ℕ) (between : A → List Entry → A → Type 0) (old new : A) where
+  pub store_met : (why : MoveErr) (store now : ℕ) → Does number between old (StoreMovesSo store now (Err why)) new → IfOk (end_met why) (λ end. Does number between old (StoreSo store now end) new)
+  store_met err.DiskFault store now p = does_as number between (StoreMovesSo store now (Err err.DiskFault)) (StoreSo store now (Some MeetsFault)) (store_as (StoppedBy err.DiskFault) IsFault (λ reply is. inl is) store now) old new p
+  store_met (err.Damaged name at) store now p =
+      does_as number between (StoreMovesSo store now (Err (err.Damaged name at))) (StoreSo store now (Some MeetsFault)) (store_as (StoppedBy (err.Damaged name at)) IsFault (λ reply is. inr (name, at, is)) store now) old new p
+  store_met err.Spent store now p = tt
+  store_met err.Memory store now p = does_as number between (StoreMovesSo store now (Err err.Memory)) (StoreSo store now (Some MeetsNoMemory)) (store_as (StoppedBy err.Memory) IsMemory (λ reply is. is) store now) old new p
+
+  pub sweep_met : (why : MoveErr) → Does number between old (IsSwept (Err why)) new → IfOk (end_met why) (λ end. Does number between old (SweepsSo end) new)
+  sweep_met err.DiskFault p = does_as number between (IsSwept (Err err.DiskFault)) (SweepsSo (Some MeetsFault)) (λ ds q. (q.0, q.1, q.2, inl q.3)) old new p
+  sweep_met (err.Damaged name at) p = does_as number between (IsSwept (Err (err.Damaged name at))) (SweepsSo (Some MeetsFault)) (λ ds q. (q.0, q.1, q.2, inr (name, at, q.3))) old new p
+  sweep_met err.Spent p = tt
+  sweep_met err.Memory p = does_as number between (IsSwept (Err err.Memory)) (SweepsSo (Some MeetsNoMemory)) (λ ds q. q) old new p
+
+  pub spent_met : (is_spent : A → Type 0) (P : List Done → Type 0) (why : MoveErr) → (why ≡ err.Spent → is_spent new) → Does number between old P new → OnErr (end_met why) (Does number between old Anything new × is_spent new)
+  spent_met is_spent P err.DiskFault spent p = tt
+  spent_met is_spent P (err.Damaged name at) spent p = tt
+  spent_met is_spent P err.Spent spent p = (does_as number between P Anything (λ ds q. tt) old new p, spent refl)
+  spent_met is_spent P err.Memory spent p = tt
 
 -- ROUNDS
 
@@ -79,16 +201,9 @@ any_store_end (Some Rests) reply is = inl (0, is)
 any_store_end (Some MeetsFault) reply is = inr (inl is)
 any_store_end (Some MeetsNoMemory) reply is = inr (inr is)
 
-any_move : (end : Option MoverEnd) (m : ℕ) (ds : List Done) → IsMove (CutsMove (EndsStoreSo end)) m ds → IsMove (CutsMove EndsStore) m ds
-any_move end m ds r = record { front = r.front; last = r.last; is = r.is; goes = r.goes; act = r.act; such = (any_store_end end r.last.answer r.such.0, r.such.1) }
-
-any_end : (end : Option MoverEnd) (store now : ℕ) (ds : List Done) → EndsMoves (EndsStoreSo end) store now ds → EndsMoves EndsStore store now ds
-any_end end store now ds (at_its_begin last act such) = at_its_begin last act (any_store_end end last.answer such)
-any_end end store now ds (at_a_step {steps} first m begins goes) = at_a_step first m begins (any_move end m steps goes)
-
 -- however they ended, they are the moves of a store
 any_store : (end : Option MoverEnd) (store now : ℕ) (ds : List Done) → StoreSo store now end ds → IsOfStore EndsStore store now ds
-any_store end store now ds r = record { before = r.before; end = r.end; is = r.is; moves = r.moves; ends = any_end end store now r.end r.ends }
+any_store end store now ds r = store_as (EndsStoreSo end) EndsStore (any_store_end end) store now ds r
 
 -- some act was answered so
 abbrev HasAnswer : (Reply → Type 0) → List Done → Type 0
@@ -175,17 +290,17 @@ MetIs (Some Rests) rest = ⊥
 MetIs (Some MeetsFault) rest = HasAnswer IsFault rest
 MetIs (Some MeetsNoMemory) rest = HasAnswer IsMemory rest
 
-store_met : (end : Option MoverEnd) (store now : ℕ) (part rest : List Done) → ((x : Done) → Contains part x → Contains rest x) → StoreSo store now end part → MetIs (fault_of end) rest
-store_met None store now part rest within so = tt
-store_met (Some Rests) store now part rest within so = tt
-store_met (Some MeetsFault) store now part rest within so = let h = last_of_store IsFault store now part so in (h.0, within h.0 h.1, h.2)
-store_met (Some MeetsNoMemory) store now part rest within so = let h = last_of_store IsMemory store now part so in (h.0, within h.0 h.1, h.2)
+store_told : (end : Option MoverEnd) (store now : ℕ) (part rest : List Done) → ((x : Done) → Contains part x → Contains rest x) → StoreSo store now end part → MetIs (fault_of end) rest
+store_told None store now part rest within so = tt
+store_told (Some Rests) store now part rest within so = tt
+store_told (Some MeetsFault) store now part rest within so = let h = last_of_store IsFault store now part so in (h.0, within h.0 h.1, h.2)
+store_told (Some MeetsNoMemory) store now part rest within so = let h = last_of_store IsMemory store now part so in (h.0, within h.0 h.1, h.2)
 
-sweep_met : (end : Option MoverEnd) (d : Done) (rest : List Done) → Contains rest d → SweptSo end d.answer → MetIs end rest
-sweep_met None d rest there so = tt
-sweep_met (Some Rests) d rest there so = so
-sweep_met (Some MeetsFault) d rest there so = (d, there, so)
-sweep_met (Some MeetsNoMemory) d rest there so = (d, there, so)
+sweep_told : (end : Option MoverEnd) (d : Done) (rest : List Done) → Contains rest d → SweptSo end d.answer → MetIs end rest
+sweep_told None d rest there so = tt
+sweep_told (Some Rests) d rest there so = so
+sweep_told (Some MeetsFault) d rest there so = (d, there, so)
+sweep_told (Some MeetsNoMemory) d rest there so = (d, there, so)
 
 first_met : (one other : Option MoverEnd) (rest : List Done) → MetIs one rest → MetIs other rest → MetIs (first_of one other) rest
 first_met None other rest p q = q
@@ -221,8 +336,8 @@ module _ (now : ℕ) (shut : Bool) (short medium swept : Option MoverEnd) (ds : 
   met_ends false is = tt
   met_ends true is =
       ends_met (first_of (fault_of short) (first_of (fault_of medium) swept)) p.first rest ds p.is (p.shut_is is)
-      (first_met (fault_of short) (first_of (fault_of medium) swept) rest (store_met short 1 now p.one rest in_one p.of_short)
-      (first_met (fault_of medium) swept rest (store_met medium 2 now p.two rest in_two p.of_medium) (sweep_met swept p.sweep rest at_sweep p.swept_is)))
+      (first_met (fault_of short) (first_of (fault_of medium) swept) rest (store_told short 1 now p.one rest in_one p.of_short)
+      (first_met (fault_of medium) swept rest (store_told medium 2 now p.two rest in_two p.of_medium) (sweep_told swept p.sweep rest at_sweep p.swept_is)))
 
   rests : short ≡ Some Rests → medium ≡ Some Rests → EndsRoundSo (Some Rests) ds
   rests one two = (

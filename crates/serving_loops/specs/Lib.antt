@@ -1,3 +1,4 @@
 pub mod Does
 pub mod Flushes
 pub mod Moves
+pub mod Due

@@ -1,50 +1,149 @@
--- What the mover did, by how it ended.
-use Rattle.std.specs.Prelude.{◌≡◌, ◌≢◌, ℕ, List, [], ◌∷◌, Bool, true, false, Option, Some, None}
+-- What the mover did, by how it ended. First moves of a store, which are made to their ends; then the rounds of the mover.
+use Rattle.std.specs.Prelude.{◌≡◌, ◌≢◌, ℕ, ◌-◌, ◌^◌, List, [], ◌∷◌, ◌++◌, All, Bool, true, false, Option, Some, None, Result, Ok, Err, min}
+use Rattle.std.specs.List.{sum_by}
 use Rattle.act_model.specs.declared.acts.Act.TheVariants.{MoveBegin, MoveStep, Sweep}
-use Rattle.act_model.specs.declared.acts.Answer.TheVariants.{Nothing, Swept}
+use Rattle.act_model.specs.declared.acts.Answer.TheVariants as answer
+use Rattle.act_model.specs.declared.actor.Spent.{Spent}
 use Rattle.act_model.specs.Reply.{Reply}
 use Rattle.act_model.specs.History.{Done}
 use Rattle.serving_end.specs.declared.ends.MoverEnd.{MoverEnd}
 use Rattle.serving_end.specs.declared.ends.MoverEnd.TheVariants.{Rests, MeetsFault, MeetsNoMemory}
-use Rattle.serving_end.specs.Rounds.{IsFault, IsMemory, GoesOn, IsOver, IsMove, BeginsMove, IsOfStore, IsMoveRound, EndsSo}
+use Rattle.serving_end.specs.Rounds.{IsFault, IsMemory, GoesOn, IsOver, IsMove, BeginsMove, AreMoves, EndsMoves, IsOfStore, IsMoveRound, EndsSo}
 use Rattle.serving_loops.specs.declared.moves.Begun.{Begun}
 use Rattle.serving_loops.specs.declared.moves.Begun.TheVariants as begun
-use Rattle.serving_loops.specs.declared.moves.Moved.{Moved}
-use Rattle.serving_loops.specs.declared.moves.Moved.TheVariants as moved
+use Rattle.serving_loops.specs.declared.moves.MoveErr.{MoveErr}
+use Rattle.serving_loops.specs.declared.moves.MoveErr.TheVariants as err
+use Rattle.serving_loops.specs.declared.moves.OneMove.{OneMove}
+use Rattle.serving_loops.specs.declared.moves.OneMove.TheVariants as one
+use Rattle.serving_loops.specs.declared.moves.StoreMoved.{StoreMoved}
 
--- how a move began, by its answer
-abbrev pub BegunSo : ℕ → ℕ → Begun → Done → Type 0
-BegunSo store now (begun.Moves m) d = BeginsMove store now m d
-BegunSo store now (begun.Nothing true) d = (d.act ≡ MoveBegin store now) × (d.answer ≡ Nothing 0)
-BegunSo store now (begun.Nothing false) d = (d.act ≡ MoveBegin store now) × ((doors : ℕ) × (d.answer ≡ Nothing doors) × (doors ≢ 0))
-BegunSo store now begun.Fault d = (d.act ≡ MoveBegin store now) × IsFault d.answer
-BegunSo store now begun.Memory d = (d.act ≡ MoveBegin store now) × IsMemory d.answer
+-- PARTITIONS THAT WERE RETIRED
 
-abbrev pub BeginsSo : ℕ → ℕ → Begun → List Done → Type 0
-BeginsSo store now end ds = (d : Done) × (ds ≡ d ∷ []) × BegunSo store now end d
+-- by an act that was answered so
+abbrev pub parts_in : Reply → ℕ
+parts_in (answer.Retired parts) = parts
+parts_in other = 0
 
--- how a move ended, by its last answer
-abbrev pub EndedSo : Moved → Reply → Type 0
-EndedSo moved.Over reply = IsOver reply
-EndedSo moved.Fault reply = IsFault reply
-EndedSo moved.Memory reply = IsMemory reply
+-- by all these acts
+abbrev pub retired_by : List Done → ℕ
+retired_by ds = sum_by (λ (d : Done). parts_in d.answer) ds
 
-abbrev pub SteppedSo : Option Moved → Reply → Type 0
-SteppedSo None reply = GoesOn reply
-SteppedSo (Some end) reply = EndedSo end reply
+-- a number, as a u64 shows it
+abbrev pub shown : ℕ → ℕ
+shown n = min n (2 ^ 64 - 1)
 
--- one step, and how the move ended, if it did
-abbrev pub StepsSo : ℕ → Option Moved → List Done → Type 0
-StepsSo m end ds = (d : Done) × (ds ≡ d ∷ []) × (d.act ≡ MoveStep m) × SteppedSo end d.answer
+-- MOVES OF A STORE
 
--- a move to its end
-abbrev pub MovesSo : ℕ → Moved → List Done → Type 0
-MovesSo m end ds = IsMove (EndedSo end) m ds
+-- why moves stopped, by the last answer; there was none where no act was left
+abbrev pub StoppedBy : MoveErr → Reply → Type 0
+StoppedBy err.DiskFault reply = reply ≡ answer.DiskFault
+StoppedBy (err.Damaged name at) reply = reply ≡ answer.Damaged name at
+StoppedBy err.Spent reply = ⊥
+StoppedBy err.Memory reply = reply ≡ answer.Memory
+
+-- so it is, or where no act was left, as `SoFar` says
+abbrev pub UnlessSpent : {X : Type 0} → (List Done → Type 0) → (Result X MoveErr → List Done → Type 0) → Result X MoveErr → List Done → Type 0
+UnlessSpent SoFar Are (Err err.Spent) ds = SoFar ds
+UnlessSpent SoFar Are result ds = Are result ds
+
+-- a step after which its move goes on
+abbrev pub IsStepOn : ℕ → Done → Type 0
+IsStepOn m d = (d.act ≡ MoveStep m) × GoesOn d.answer
+
+-- such steps
+abbrev pub AreStepsOn : ℕ → List Done → Type 0
+AreStepsOn m ds = All (IsStepOn m) ds
+
+-- no move, or one that goes on
+pub data IsBegun (store now : ℕ) : List Done → Type 0 where
+  none_begun : IsBegun store now []
+  one_begun : {steps : List Done} (first : Done) (m : ℕ) → BeginsMove store now m first → AreStepsOn m steps → IsBegun store now (first ∷ steps)
+
+-- moves of a store, and what was begun behind them
+pub record AreSoFar (store now : ℕ) (ds : List Done) : Type 0 where
+  pub before : List Done
+  pub rest : List Done
+  pub is : ds ≡ before ++ rest
+  pub moves : AreMoves store now before
+  pub goes : IsBegun store now rest
+
+-- no act
+abbrev pub AreNone : List Done → Type 0
+AreNone ds = ds ≡ []
+
+-- the one act that begins a move, by its answer
+abbrev pub BegunSo : ℕ → ℕ → Result Begun MoveErr → Done → Type 0
+BegunSo store now (Ok (begun.Moves m)) d = BeginsMove store now m d
+BegunSo store now (Ok (begun.Nothing doors)) d = (d.act ≡ MoveBegin store now) × (d.answer ≡ answer.Nothing doors)
+BegunSo store now (Err why) d = (d.act ≡ MoveBegin store now) × StoppedBy why d.answer
+
+abbrev pub BeginsSo : ℕ → ℕ → Result Begun MoveErr → List Done → Type 0
+BeginsSo store now result ds = UnlessSpent AreNone (λ result ds. (d : Done) × (ds ≡ d ∷ []) × BegunSo store now result d) result ds
+
+-- one step, and how many partitions the move retired, if it is over
+abbrev pub SteppedSo : Result (Option ℕ) MoveErr → Reply → Type 0
+SteppedSo (Ok None) reply = GoesOn reply
+SteppedSo (Ok (Some parts)) reply = IsOver reply × (parts ≡ parts_in reply)
+SteppedSo (Err why) reply = StoppedBy why reply
+
+abbrev pub StepsSo : ℕ → Result (Option ℕ) MoveErr → List Done → Type 0
+StepsSo m result ds = UnlessSpent AreNone (λ result ds. (d : Done) × (ds ≡ d ∷ []) × (d.act ≡ MoveStep m) × SteppedSo result d.answer) result ds
+
+-- a move to its end, and how many partitions it retired
+abbrev pub MovedSo : ℕ → Result ℕ MoveErr → List Done → Type 0
+MovedSo m (Ok parts) ds = IsMove IsOver m ds × (parts ≡ retired_by ds)
+MovedSo m (Err why) ds = IsMove (StoppedBy why) m ds
+
+abbrev pub MovesSo : ℕ → Result ℕ MoveErr → List Done → Type 0
+MovesSo m result ds = UnlessSpent (AreStepsOn m) (MovedSo m) result ds
+
+-- a move of a store, from its begin to its end
+pub record IsOneMove (store now : ℕ) (ds : List Done) : Type 0 where
+  pub first : Done
+  pub m : ℕ
+  pub steps : List Done
+  pub is : ds ≡ first ∷ steps
+  pub begins : BeginsMove store now m first
+  pub goes : IsMove IsOver m steps
+
+-- one more move of a store, or none was to make
+abbrev pub OnceSo : ℕ → ℕ → Result OneMove MoveErr → List Done → Type 0
+OnceSo store now (Ok (one.Over parts)) ds = IsOneMove store now ds × (parts ≡ retired_by ds)
+OnceSo store now (Ok (one.Nothing doors)) ds = ds ≡ record { act = MoveBegin store now; answer = answer.Nothing doors } ∷ []
+OnceSo store now (Err why) ds = EndsMoves (StoppedBy why) store now ds
+
+abbrev pub OneMoveSo : ℕ → ℕ → Result OneMove MoveErr → List Done → Type 0
+OneMoveSo store now result ds = UnlessSpent (IsBegun store now) (OnceSo store now) result ds
+
+-- All moves of a store, all begun at one moment, up to where it had none to make, or to the first act that stopped them.
+abbrev pub StoreMovedSo : ℕ → ℕ → Result StoreMoved MoveErr → List Done → Type 0
+StoreMovedSo store now (Ok moved) ds = IsOfStore (λ reply. reply ≡ answer.Nothing moved.doors) store now ds × (moved.retired ≡ shown (retired_by ds))
+StoreMovedSo store now (Err why) ds = IsOfStore (StoppedBy why) store now ds
+
+abbrev pub StoreMovesSo : ℕ → ℕ → Result StoreMoved MoveErr → List Done → Type 0
+StoreMovesSo store now result ds = UnlessSpent (AreSoFar store now) (StoreMovedSo store now) result ds
+
+-- the one Sweep
+abbrev pub SweepSaid : Result (Unit {0}) MoveErr → Reply → Type 0
+SweepSaid (Ok done) reply = (files : ℕ) × (reply ≡ answer.Swept files)
+SweepSaid (Err why) reply = StoppedBy why reply
+
+abbrev pub IsSwept : Result (Unit {0}) MoveErr → List Done → Type 0
+IsSwept result ds = UnlessSpent AreNone (λ result ds. (d : Done) × (ds ≡ d ∷ []) × (d.act ≡ Sweep) × SweepSaid result d.answer) result ds
+
+-- ROUNDS OF THE MOVER
+
+-- how a round goes on where its moves stopped
+abbrev pub end_met : MoveErr → Result (Option MoverEnd) Spent
+end_met err.DiskFault = Ok (Some MeetsFault)
+end_met (err.Damaged name at) = Ok (Some MeetsFault)
+end_met err.Spent = Err (record {})
+end_met err.Memory = Ok (Some MeetsNoMemory)
 
 -- how a store's moves ended, by the last answer: nothing was to move while doors were left, or none were; a fault; want of memory
 abbrev pub EndsStoreSo : Option MoverEnd → Reply → Type 0
-EndsStoreSo None reply = (doors : ℕ) × (reply ≡ Nothing doors) × (doors ≢ 0)
-EndsStoreSo (Some Rests) reply = reply ≡ Nothing 0
+EndsStoreSo None reply = (doors : ℕ) × (reply ≡ answer.Nothing doors) × (doors ≢ 0)
+EndsStoreSo (Some Rests) reply = reply ≡ answer.Nothing 0
 EndsStoreSo (Some MeetsFault) reply = IsFault reply
 EndsStoreSo (Some MeetsNoMemory) reply = IsMemory reply
 
@@ -53,7 +152,7 @@ abbrev pub StoreSo : ℕ → ℕ → Option MoverEnd → List Done → Type 0
 StoreSo store now end ds = IsOfStore (EndsStoreSo end) store now ds
 
 abbrev pub SweptSo : Option MoverEnd → Reply → Type 0
-SweptSo None reply = (files : ℕ) × (reply ≡ Swept files)
+SweptSo None reply = (files : ℕ) × (reply ≡ answer.Swept files)
 SweptSo (Some Rests) reply = ⊥
 SweptSo (Some MeetsFault) reply = IsFault reply
 SweptSo (Some MeetsNoMemory) reply = IsMemory reply

@@ -1,12 +1,12 @@
 // The mover: round after round it moves what is ripe, and sweeps.
-ghost use Rattle.std.specs.Prelude.{◌≡◌, ℕ, List, IfOk, OnErr, Option};
+ghost use Rattle.std.specs.Prelude.{◌≡◌, ◌≤◌, ℕ, List, IfOk, OnErr, Option};
 ghost use Rattle.act_model.specs.Machine.{Machine};
 ghost use Rattle.serving_end.specs.Rounds.{IsMoving};
 ghost use Rattle.serving_loops.specs.Does.{Does, Anything};
-ghost use Rattle.serving_loops.specs.Moves.{fault_of, first_of, end_of_round, IsMoverRoundSo};
+ghost use Rattle.serving_loops.specs.Moves.{StoreSo, SweepsSo, end_met, fault_of, first_of, end_of_round, IsMoverRoundSo};
 
 use crate::flusher::are_doors_shut;
-use crate::moves::{move_store, sweep};
+use crate::moves::{MoveErr, move_store, sweep};
 use act_model::{Actor, Spent};
 use edge_io::Clock;
 use serving_end::MoverEnd;
@@ -14,6 +14,57 @@ use std::sync::Wait;
 
 /// How long the mover rests between two rounds, in nanoseconds.
 pub const MOVER_RESTS: u64 = 1_000_000_000;
+
+// How a round goes on where its moves stopped.
+fn end_met(err: MoveErr) -> Result<Option<MoverEnd>, Spent>
+    ensures { result ≡ end_met err }
+{
+    match err {
+        MoveErr::DiskFault => Ok(Some(MoverEnd::MeetsFault)),
+        MoveErr::Damaged { .. } => Ok(Some(MoverEnd::MeetsFault)),
+        MoveErr::Spent => Err(Spent),
+        MoveErr::Memory => Ok(Some(MoverEnd::MeetsNoMemory)),
+    }
+}
+
+// The moves of a store in a round, up to where it has none to make, meets a fault or lacks memory. It tells nothing where the store has
+// none to make and doors are left.
+fn move_in_round<A: Actor>(
+    rt: &impl Wait,
+    actor: &mut A,
+    store: u8,
+    now: u64,
+) -> Result<Option<MoverEnd>, Spent>
+    requires stands { (m : Machine) × A.stands actor.old m }
+    requires low { 1 ≤ store }
+    requires high { store ≤ 2 }
+    ensures moves { IfOk result (λ end. Does A.number A.between actor.old (StoreSo store now end) actor.new) }
+    ensures spent { OnErr result (Does A.number A.between actor.old Anything actor.new × A.is_spent actor.new) }
+    ensures stands { (n : Machine) × A.stands actor.new n }
+{
+    match move_store(rt, actor, store, now) {
+        Ok(moved) => {
+            if moved.doors == 0 {
+                return Ok(Some(MoverEnd::Rests));
+            }
+            return Ok(None);
+        }
+        Err(err) => return end_met(err),
+    }
+}
+
+// The sweep of a round. It tells where that met a fault or lacked memory.
+fn sweep_in_round<A: Actor>(actor: &mut A) -> Result<Option<MoverEnd>, Spent>
+    requires stands { (m : Machine) × A.stands actor.old m }
+    ensures sweeps { IfOk result (λ end. Does A.number A.between actor.old (SweepsSo end) actor.new) }
+    ensures spent { OnErr result (Does A.number A.between actor.old Anything actor.new × A.is_spent actor.new) }
+    ensures stands { (n : Machine) × A.stands actor.new n }
+{
+    match sweep(actor) {
+        Ok(()) => return Ok(None),
+        Err(err) => return end_met(err),
+    }
+}
 
 // The fault or want of memory of an end.
 fn fault_in(end: Option<MoverEnd>) -> Option<MoverEnd>
@@ -68,15 +119,15 @@ fn move_round<A: Actor>(rt: &impl Wait, actor: &mut A, now: u64) -> Result<Optio
         Ok(shut) => shut,
         Err(spent) => return Err(spent),
     };
-    let short = match move_store(rt, actor, 1, now) {
+    let short = match move_in_round(rt, actor, 1, now) {
         Ok(short) => short,
         Err(spent) => return Err(spent),
     };
-    let medium = match move_store(rt, actor, 2, now) {
+    let medium = match move_in_round(rt, actor, 2, now) {
         Ok(medium) => medium,
         Err(spent) => return Err(spent),
     };
-    match sweep(actor) {
+    match sweep_in_round(actor) {
         Ok(swept) => return Ok(round_end(shut, short, medium, swept)),
         Err(spent) => return Err(spent),
     }

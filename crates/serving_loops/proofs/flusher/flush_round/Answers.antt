@@ -1,7 +1,6 @@
-use Rattle.std.proofs.Common.{true, false, subst}
-use Rattle.std.specs.Prelude.{Option, None}
+use Rattle.std.proofs.Common.{true, subst}
 use Rattle.serving_end.specs.Rounds.{IsFlushRound}
-use Rattle.serving_loops.specs.Does.{Does, Anything, AsksDoors}
+use Rattle.serving_loops.specs.Does.{Does, AsksDoors}
 use Rattle.serving_loops.specs.Flushes.{TicksAll, FlushesAll, IsRoundSo}
 use Rattle.serving_loops.proofs.Joins.{join, join_any, TicksAfter, ticks_after, round_goes, round_ends}
 use Rattle.serving_loops.proofs.flusher.flush_round.Goals as goal

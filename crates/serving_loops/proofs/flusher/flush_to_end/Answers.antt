@@ -1,7 +1,6 @@
 use Rattle.std.proofs.Common.{subst, refl}
-use Rattle.std.specs.Prelude.{None, Some}
 use Rattle.serving_end.specs.Rounds.{AreRounds, no_round, one_more, IsFlushRound, IsLastFlush, IsFlushing}
-use Rattle.serving_loops.specs.Does.{Does, Anything}
+use Rattle.serving_loops.specs.Does.{Does}
 use Rattle.serving_loops.specs.Flushes.{IsRoundSo}
 use Rattle.serving_loops.proofs.Joins.{join, join_any, does_none}
 use Rattle.serving_loops.proofs.flusher.flush_to_end.Goals as goal

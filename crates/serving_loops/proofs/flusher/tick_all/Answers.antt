@@ -1,5 +1,5 @@
 use Rattle.std.proofs.Common.{◌+◌, true, false, subst}
-use Rattle.serving_loops.specs.Does.{Does, Anything}
+use Rattle.serving_loops.specs.Does.{Does}
 use Rattle.serving_loops.specs.Flushes.{TicksRow, TicksAll}
 use Rattle.serving_loops.proofs.Joins.{join, join_any, TicksTo, tick_goes, tick_ends}
 use Rattle.serving_loops.proofs.flusher.tick_all.Goals as goal

@@ -1,4 +1,3 @@
-use Rattle.std.proofs.Common.{◌≡◌, length}
 use Rattle.act_model.specs.Machine.{Machine}
 use Rattle.serving_loops.specs.Does.{Does}
 use Rattle.serving_loops.proofs.Joins.{TicksTo}

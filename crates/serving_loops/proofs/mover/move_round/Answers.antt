@@ -1,55 +1,55 @@
 use Rattle.std.proofs.Common.{subst, sym}
-use Rattle.serving_loops.specs.Does.{Does, Anything, AsksDoors}
+use Rattle.serving_loops.specs.Does.{Does, AsksDoors}
 use Rattle.serving_loops.specs.Moves.{StoreSo, SweepsSo, end_of_round, IsMoverRoundSo}
 use Rattle.serving_loops.proofs.Joins.{join, join_any}
 use Rattle.serving_loops.proofs.Moving.{ShortAfter, short_after, BothAfter, both_after, round_so}
 use Rattle.serving_loops.proofs.mover.move_round.Goals as goal
 
-pub returns-in-Err-move_store-clause-spent : goal.returns-in-Err-move_store-clause-spent
-returns-in-Err-move_store-clause-spent g c =
-    (join_any g.A.Actor.number g.A.Actor.between g.met.A.Actor.joined g.met.A.Actor.number_stays (AsksDoors c.in-Ok.shut) c.args.actor.now c.are_doors_shut.new.actor c.move_store.new.actor c.in-Ok.ensures.asks c.in-Err-move_store.ensures.spent.0, c.in-Err-move_store.ensures.spent.1)
+pub returns-in-Err-move_in_round-clause-spent : goal.returns-in-Err-move_in_round-clause-spent
+returns-in-Err-move_in_round-clause-spent g c =
+    (join_any g.A.Actor.number g.A.Actor.between g.met.A.Actor.joined g.met.A.Actor.number_stays (AsksDoors c.in-Ok.shut) c.args.actor.now c.are_doors_shut.new.actor c.move_in_round.new.actor c.in-Ok.ensures.asks c.in-Err-move_in_round.ensures.spent.0, c.in-Err-move_in_round.ensures.spent.1)
 
-pub returns-in-Err-move_store-2-clause-spent : goal.returns-in-Err-move_store-2-clause-spent
-returns-in-Err-move_store-2-clause-spent g c =
+pub returns-in-Err-move_in_round-2-clause-spent : goal.returns-in-Err-move_in_round-2-clause-spent
+returns-in-Err-move_in_round-2-clause-spent g c =
     let number = g.A.Actor.number in
     let between = g.A.Actor.between in
     let j = g.met.A.Actor.joined in
     let n = g.met.A.Actor.number_stays in (
-      join_any number between j n (ShortAfter c.args.now c.in-Ok.shut c.in-Ok-move_store.short) c.args.actor.now c.move_store.new.actor c.move_store-2.new.actor
-          (join number between j n (AsksDoors c.in-Ok.shut) (StoreSo 1 c.args.now c.in-Ok-move_store.short) (ShortAfter c.args.now c.in-Ok.shut c.in-Ok-move_store.short) (short_after c.args.now c.in-Ok.shut c.in-Ok-move_store.short) c.args.actor.now c.are_doors_shut.new.actor c.move_store.new.actor c.in-Ok.ensures.asks c.in-Ok-move_store.ensures.moves)
-          c.in-Err-move_store-2.ensures.spent.0,
-      c.in-Err-move_store-2.ensures.spent.1,
+      join_any number between j n (ShortAfter c.args.now c.in-Ok.shut c.in-Ok-move_in_round.short) c.args.actor.now c.move_in_round.new.actor c.move_in_round-2.new.actor
+          (join number between j n (AsksDoors c.in-Ok.shut) (StoreSo 1 c.args.now c.in-Ok-move_in_round.short) (ShortAfter c.args.now c.in-Ok.shut c.in-Ok-move_in_round.short) (short_after c.args.now c.in-Ok.shut c.in-Ok-move_in_round.short) c.args.actor.now c.are_doors_shut.new.actor c.move_in_round.new.actor c.in-Ok.ensures.asks c.in-Ok-move_in_round.ensures.moves)
+          c.in-Err-move_in_round-2.ensures.spent.0,
+      c.in-Err-move_in_round-2.ensures.spent.1,
     )
 
-pub returns-in-Ok-sweep-clause-round : goal.returns-in-Ok-sweep-clause-round
-returns-in-Ok-sweep-clause-round g c =
+pub returns-in-Ok-sweep_in_round-clause-round : goal.returns-in-Ok-sweep_in_round-clause-round
+returns-in-Ok-sweep_in_round-clause-round g c =
     let number = g.A.Actor.number in
     let between = g.A.Actor.between in
     let j = g.met.A.Actor.joined in
     let n = g.met.A.Actor.number_stays in
     let now = c.args.now in
     let shut = c.in-Ok.shut in
-    let short = c.in-Ok-move_store.short in
-    let medium = c.in-Ok-move_store-2.medium in
-    let swept = c.in-Ok-sweep.swept in
-    let one = join number between j n (AsksDoors shut) (StoreSo 1 now short) (ShortAfter now shut short) (short_after now shut short) c.args.actor.now c.are_doors_shut.new.actor c.move_store.new.actor c.in-Ok.ensures.asks c.in-Ok-move_store.ensures.moves in
-    let both = join number between j n (ShortAfter now shut short) (StoreSo 2 now medium) (BothAfter now shut short medium) (both_after now shut short medium) c.args.actor.now c.move_store.new.actor c.move_store-2.new.actor one c.in-Ok-move_store-2.ensures.moves in
-    subst (λ e. Does number between c.args.actor.now (IsMoverRoundSo e) c.sweep.new.actor) (sym c.round_end.ensures)
-    (join number between j n (BothAfter now shut short medium) (SweepsSo swept) (IsMoverRoundSo (end_of_round shut short medium swept)) (round_so now shut short medium swept) c.args.actor.now c.move_store-2.new.actor c.sweep.new.actor both c.in-Ok-sweep.ensures.sweeps)
+    let short = c.in-Ok-move_in_round.short in
+    let medium = c.in-Ok-move_in_round-2.medium in
+    let swept = c.in-Ok-sweep_in_round.swept in
+    let one = join number between j n (AsksDoors shut) (StoreSo 1 now short) (ShortAfter now shut short) (short_after now shut short) c.args.actor.now c.are_doors_shut.new.actor c.move_in_round.new.actor c.in-Ok.ensures.asks c.in-Ok-move_in_round.ensures.moves in
+    let both = join number between j n (ShortAfter now shut short) (StoreSo 2 now medium) (BothAfter now shut short medium) (both_after now shut short medium) c.args.actor.now c.move_in_round.new.actor c.move_in_round-2.new.actor one c.in-Ok-move_in_round-2.ensures.moves in
+    subst (λ e. Does number between c.args.actor.now (IsMoverRoundSo e) c.sweep_in_round.new.actor) (sym c.round_end.ensures)
+    (join number between j n (BothAfter now shut short medium) (SweepsSo swept) (IsMoverRoundSo (end_of_round shut short medium swept)) (round_so now shut short medium swept) c.args.actor.now c.move_in_round-2.new.actor c.sweep_in_round.new.actor both c.in-Ok-sweep_in_round.ensures.sweeps)
 
-pub returns-in-Err-sweep-clause-spent : goal.returns-in-Err-sweep-clause-spent
-returns-in-Err-sweep-clause-spent g c =
+pub returns-in-Err-sweep_in_round-clause-spent : goal.returns-in-Err-sweep_in_round-clause-spent
+returns-in-Err-sweep_in_round-clause-spent g c =
     let number = g.A.Actor.number in
     let between = g.A.Actor.between in
     let j = g.met.A.Actor.joined in
     let n = g.met.A.Actor.number_stays in
     let now = c.args.now in
     let shut = c.in-Ok.shut in
-    let short = c.in-Ok-move_store.short in
-    let medium = c.in-Ok-move_store-2.medium in
-    let one = join number between j n (AsksDoors shut) (StoreSo 1 now short) (ShortAfter now shut short) (short_after now shut short) c.args.actor.now c.are_doors_shut.new.actor c.move_store.new.actor c.in-Ok.ensures.asks c.in-Ok-move_store.ensures.moves in (
-      join_any number between j n (BothAfter now shut short medium) c.args.actor.now c.move_store-2.new.actor c.sweep.new.actor
-          (join number between j n (ShortAfter now shut short) (StoreSo 2 now medium) (BothAfter now shut short medium) (both_after now shut short medium) c.args.actor.now c.move_store.new.actor c.move_store-2.new.actor one c.in-Ok-move_store-2.ensures.moves)
-          c.in-Err-sweep.ensures.spent.0,
-      c.in-Err-sweep.ensures.spent.1,
+    let short = c.in-Ok-move_in_round.short in
+    let medium = c.in-Ok-move_in_round-2.medium in
+    let one = join number between j n (AsksDoors shut) (StoreSo 1 now short) (ShortAfter now shut short) (short_after now shut short) c.args.actor.now c.are_doors_shut.new.actor c.move_in_round.new.actor c.in-Ok.ensures.asks c.in-Ok-move_in_round.ensures.moves in (
+      join_any number between j n (BothAfter now shut short medium) c.args.actor.now c.move_in_round-2.new.actor c.sweep_in_round.new.actor
+          (join number between j n (ShortAfter now shut short) (StoreSo 2 now medium) (BothAfter now shut short medium) (both_after now shut short medium) c.args.actor.now c.move_in_round.new.actor c.move_in_round-2.new.actor one c.in-Ok-move_in_round-2.ensures.moves)
+          c.in-Err-sweep_in_round.ensures.spent.0,
+      c.in-Err-sweep_in_round.ensures.spent.1,
     )

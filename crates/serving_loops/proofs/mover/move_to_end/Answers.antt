@@ -1,7 +1,7 @@
 use Rattle.std.proofs.Common.{subst, refl}
 use Rattle.std.specs.Prelude.{None, Some}
 use Rattle.serving_end.specs.Rounds.{AreRounds, no_round, one_more, IsMoveRound, IsMoving}
-use Rattle.serving_loops.specs.Does.{Does, Anything}
+use Rattle.serving_loops.specs.Does.{Does}
 use Rattle.serving_loops.specs.Moves.{IsMoverRoundSo}
 use Rattle.serving_loops.proofs.Joins.{join, join_any, does_none}
 use Rattle.serving_loops.proofs.mover.move_to_end.Goals as goal

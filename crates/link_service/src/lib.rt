@@ -1,0 +1,21 @@
+//! The service of connections, over any actor on an archive.
+//!
+//! [`serve_link`] serves one connection: a feed of samples, or one request of HTTP. It makes just the acts of that session, in order, and
+//! leaves to others the acts that are no link's. [`serve_door`] is the work of one worker: it asks its door for links to the end, serves
+//! each and gives it back, and then counts its door off.
+//!
+//! Model: `specs/Serving.antt` says what the service of a link came to, by what its session says (`feed_session`, `http_replies`), and
+//! what its peer was written; `specs/Doors.antt` what a worker leaves of its door.
+//!
+//! Caveats: a link of HTTP serves one request. A feed registers no variables.
+//!
+//! Tests: `feed_tests` and `reply_tests` run the two sessions.
+#![tactic(auto)]
+
+mod door;
+mod link;
+mod served;
+
+pub use door::{DoorServed, serve_door};
+pub use link::serve_link;
+pub use served::{FeedTold, Kind, Served};
