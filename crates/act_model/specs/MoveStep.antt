@@ -101,7 +101,7 @@ pub data GoesOn (n : ℕ) : Machine → Reply → Machine → Type 0 where
       → Same (without_move n (made into (Unlists move.row move.store move.to) mid)) new → GoesOn n mid (Retired move.parts) new
   -- a part has grown: nothing leaves, and the move has ended
   again : {mid new : Machine} (move : MoveState) (len copied : ℕ) → get mid.moves n ≡ Some move → move.stage ≡ HasPublished
-      → is_covered mid move ≡ false → copied < len
+      → (mid.told ≡ true → is_covered mid move ≡ false) → copied < len
       → (mid.told ≡ true → (row : RowState) → slice_get mid.rows move.row ≡ Some row → IsGrown mid move row len copied)
       → Same (without_move n mid) new → GoesOn n mid (Again len copied) new
   -- a file can't be read as it should; only where the disk doesn't tell its files, or they don't stand
