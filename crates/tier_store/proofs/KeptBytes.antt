@@ -1,5 +1,5 @@
 -- Listed bytes stay, and listed files are listed still.
-use Rattle.std.proofs.Common.{◌≡◌, ◌≢◌, ℕ, ◌≤◌, List, get_or, refl, sym, ◌∙◌, ap, subst, arith}
+use Rattle.std.proofs.Common.{◌≡◌, ◌≢◌, ℕ, get_or, refl, sym, ◌∙◌, ap, subst, arith}
 use Rattle.std.proofs.lemmas.List.Elements.{All-contains, Contains-get_or}
 use Rattle.disk_model.specs.Files.{Name, Content, Files, At}
 use Rattle.disk_model.specs.Past.{Past, Passes}
@@ -7,7 +7,7 @@ use Rattle.disk_model.proofs.Passing.{passes_none, passes_then, passes_weaker}
 use Rattle.store_files.specs.Fronts.{Keeps}
 use Rattle.store_files.proofs.Stays.{keeps_shorter}
 use Rattle.store_manifest.specs.declared.entry.Entry.{Entry}
-use Rattle.tier_store.specs.Held.{Held, Listing, KeepsListed, IsListedTo, ListsStill, file_of, listing_of}
+use Rattle.tier_store.specs.Held.{Listing, KeepsListed, IsListedTo, ListsStill, file_of}
 use Rattle.tier_store.specs.Writing.{LeavesListed}
 use Rattle.tier_store.proofs.Names.{outside}
 

@@ -23,6 +23,7 @@ pub mod PlannedSample
 pub mod PutFile
 pub mod Reading
 pub mod Retiring
+pub mod Revival
 pub mod RowCalls
 pub mod RowChange
 pub mod Rows

@@ -28,7 +28,7 @@ use Rattle.tier_store.specs.Seen.{Seen, seen_on, listing_in}
 use Rattle.tier_store.specs.Ends.{End, Done, Refused, Failed, Spent, IsFailed, end_of_register, end_of_switch}
 use Rattle.tier_store.specs.Stored.{KeysDiffer, AreHeld, IsStored}
 use Rattle.tier_store.specs.Writing.{LeavesListed}
-use Rattle.tier_store.specs.Change.{IsKnown, Has, HoldsBy, Call, EndsFrom, KeepsLists, Changes, registering, pausing, resuming, Registers, Switches, with_rows}
+use Rattle.tier_store.specs.Change.{IsKnown, Has, HoldsBy, Call, EndsFrom, Changes, registering, pausing, resuming, Registers, Switches, with_rows}
 use Rattle.tier_store.proofs.Growing.{held_grows, still_grows}
 use Rattle.tier_store.proofs.OnDisk.{on_disk}
 use Rattle.tier_store.proofs.RowChange.{rows_hold, rows_made, rows_doubt}
