@@ -12,16 +12,19 @@ use Rattle.disk_model.specs.declared.disk.DiskErr.TheVariants.{Fault, Memory}
 use Rattle.partition_names.specs.declared.granularity.Granularity.{Granularity}
 use Rattle.pv_catalog.specs.declared.row.Row.{Row}
 use Rattle.series_model.specs.declared.batch.RowSamples.{RowSamples}
-use Rattle.tier_store.specs.Ends.{Done, Failed, Spent, end_of_disk}
+use Rattle.tier_store.specs.Ends.{End, Done, Failed, Spent, end_of_disk}
 use Rattle.tier_store.specs.Flush.{CanFlush}
 use Rattle.tier_store.specs.Held.{Filed, IsListed, count_of}
 use Rattle.three_stores.specs.Change.{Acts, Has, EndsFrom, flushing}
+use Rattle.three_stores.specs.Given.{ActsGiven}
 use Rattle.three_stores.specs.Pinned.{beside, KeepsShown, NoneOf}
+use Rattle.three_stores.specs.Revival.{AreWhole, flushing_over}
 use Rattle.three_stores.specs.Seen.{Seen, granularities}
 use Rattle.three_stores.specs.Stores.{Stores}
 use Rattle.three_stores.specs.declared.limbo.Retired.{Retired}
 use Rattle.three_stores.proofs.Left.{has_left}
 use Rattle.three_stores.proofs.Places.{manifest_at}
+use Rattle.three_stores.proofs.WithoutLimbo.{none_whole, plain_acts}
 use Rattle.act_model.specs.Changes.{made}
 use Rattle.act_model.specs.Flush.{batch_of, count_in}
 use Rattle.act_model.specs.Machine.{Machine, Change, Appends}
@@ -46,6 +49,13 @@ use Rattle.archive_core.proofs.Settled.{rests_has, doubt_stands, made_stands, op
 -- no file is in limbo, so none of any store
 pub none_of : (store : ℕ) (limbo : List Retired) → limbo ≡ [] → NoneOf store limbo
 none_of store limbo none = subst (λ (l : List Retired). NoneOf store l) (sym none) (λ k d low. absurd (omega (arith, low)))
+
+-- then limbo is whole, and a flush is one of what is listed alone
+pub whole_of_none : (tells : Bool) (at : Seen) (limbo : List Retired) (stands : Bool) → limbo ≡ [] → AreWhole tells at limbo stands []
+whole_of_none tells at limbo stands none = none_whole tells at limbo stands (none_of 1 limbo none)
+
+pub plain_flush : (tells : Bool) (old new : Seen) (limbo : List Retired) (batch : List RowSamples) (end : End ℕ ⊥) → limbo ≡ [] → ActsGiven (λ (s : Stores). AreWhole tells old limbo s.stands []) tells (flushing_over limbo [] batch) old new end → Acts tells (flushing batch) old new end
+plain_flush tells old new limbo batch end none acts = plain_acts tells limbo [] batch (none_of 1 limbo none) (λ (s : Stores). AreWhole tells old limbo s.stands []) (λ s. whole_of_none tells old limbo s.stands none) old new end acts
 
 -- each file that a place lists is of a row
 files_there : (g : Granularity) (rows : List Row) (files : List Filed) → All (IsListed g rows) files → AllByRecursion (IsBefore (length rows)) files

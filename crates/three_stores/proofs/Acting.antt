@@ -1,5 +1,5 @@
 -- A call that changes the stores, behind the settling of a doubt.
-use Rattle.std.proofs.Common.{◌≡◌, ◌⊎◌, inl, inr, Bool, ◌≤◌, List, refl, sym, ◌∙◌, subst, arith}
+use Rattle.std.proofs.Common.{◌≡◌, ◌⊎◌, inl, inr, Bool, ◌≤◌, List, refl, sym, ◌∙◌, ap, subst, arith}
 use Rattle.std.specs.Prelude.{IsTrue, Result, Ok, Err}
 use Rattle.disk_model.specs.Files.{Files, Rose}
 use Rattle.disk_model.specs.Past.{Past, Passes}
@@ -13,7 +13,7 @@ use Rattle.three_stores.specs.Stores.{Stores}
 use Rattle.three_stores.specs.Seen.{Seen, IsSettled, granularities}
 use Rattle.three_stores.specs.Stored.{HoldsAll}
 use Rattle.three_stores.specs.Given.{ChangesGiven, ActsGiven}
-use Rattle.three_stores.specs.Change.{Has, HasEither, IsOpen, IsEither, Comes, HoldsBy, HoldsChange, Call, EndsFrom, OnlyReads, Changes, Acts}
+use Rattle.three_stores.specs.Change.{Has, HasEither, Doubts, IsOpen, IsEither, Comes, HoldsBy, HoldsChange, Call, EndsFrom, OnlyReads, Changes, Acts}
 use Rattle.three_stores.proofs.Left.{has_left, open_left}
 
 -- the settling reads alone
@@ -46,6 +46,15 @@ has_one tells s before after settled = let held = settled_one tells s before aft
 pub is_one : (Is : Stores → Type 0) (before after held : Stores) → IsEither before after held → Is before → Is after → Is held
 is_one Is before after held (inl is) given given_too = subst Is (sym is) given
 is_one Is before after held (inr is) given given_too = subst Is (sym is) given_too
+
+-- before and after a change that stands in doubt the stores stand alike
+same_stands : (tells : Bool) (s : Seen) (before after : Stores) → Doubts tells s before after → after.stands ≡ before.stands
+same_stands tells s before after doubt = elim doubt.change [ inl r ↦ ap (λ (x : Stores). x.stands) r.same | inr p ↦ ap (λ (x : Stores). x.stands) p.1.same ]
+
+-- one of the two is there, and what was true before is true of it, if that is true of stores that stand alike
+pub has_one_given : (Is : Stores → Type 0) → ((s t : Stores) → t.stands ≡ s.stands → Is s → Is t) → (tells : Bool) (old mid : Seen) (before after : Stores) → ((x y : Stores) → IsOpen tells old x y → HasEither tells mid x y) → Is before → IsOpen tells old before after → (held : Stores) × Is held × Has tells mid held
+has_one_given Is alike tells old mid before after settled given (inl has) = elim (settled before before (inl has)) [ inl now ↦ (before, given, now) | inr now ↦ (before, given, now) ]
+has_one_given Is alike tells old mid before after settled given (inr doubt) = elim (settled before after (inr doubt)) [ inl now ↦ (before, given, now) | inr now ↦ (after, alike before after (same_stands tells old before after doubt) given, now) ]
 
 -- a call on the disk that only read it
 pub only_reads : {B : Type 0} (tells : Bool) (old new : Seen) (r : Result B DiskErr) → (IsTrue tells → new.files ≡ old.files) → (IsTrue tells → Passes (λ a b. b ≡ a) old.past new.past) → old.faults ≤ new.faults → (r ≡ Err Fault → Rose old.faults new.faults) → OnlyReads tells old new (end_of_disk r)
@@ -104,6 +113,10 @@ then_given {A} {B} {E} {F} Is Then tells call old mid new settling end stays set
   };
 }
 
+-- what is said of all stores is said of those of which this is true
+pub changes_given : {A E : Type 0} (Is : Stores → Type 0) (tells : Bool) (call : Call A E) (old new : Seen) (end : End A E) → Changes tells call old new end → ChangesGiven Is tells call old new end
+changes_given {A} {E} Is tells call old new end change = record { ends = λ held has given. change.ends held has; any_moment = λ told held has given. change.any_moment told held has; costs = change.costs }
+
 -- and so it is with all stores
 every_act : {A E : Type 0} (tells : Bool) (call : Call A E) (old new : Seen) (end : End A E) → ActsGiven (λ (s : Stores). Unit {0}) tells call old new end → Acts tells call old new end
 every_act {A} {E} tells call old new end acts = record { ends = λ before after was. acts.ends before after was tt tt; settled = λ held has. acts.settled held has tt; any_moment = λ told before after was. acts.any_moment told before after was tt tt; costs = acts.costs }
@@ -116,7 +129,7 @@ pub then_acts : {A B E F : Type 0} (tells : Bool) (call : Call A E) (old mid new
     → ((held : Stores) → Has tells old held → Has tells mid held) → granularities mid.manifests ≡ granularities old.manifests → OnlyReads tells old mid settling → Changes tells call mid new end → Acts tells call old new end
 then_acts {A} {B} {E} {F} tells call old mid new settling end settled nothing same_g reads change = every_act tells call old new end
     (then_given (λ (s : Stores). Unit {0}) (λ (s : Stores). Unit {0}) tells call old mid new settling end (λ held given. given) settled nothing same_g reads
-    (record { ends = λ held has given. change.ends held has; any_moment = λ told held has given. change.any_moment told held has; costs = change.costs }))
+    (changes_given (λ (s : Stores). Unit {0}) tells call mid new end change))
 
 -- nothing was done
 pub nothing_changes : {A E : Type 0} (tells : Bool) (call : Call A E) (s : Seen) (end : End A E) → ((held : Stores) → Has tells s held → EndsFrom tells call s held end) → (IsFailed end → ⊥) → Changes tells call s s end

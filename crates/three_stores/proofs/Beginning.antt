@@ -1,6 +1,6 @@
 -- A move that is chosen by what the memory lists, and begun: what is said of it by what is held.
 use Rattle.std.proofs.Common.{◌≡◌, Bool, true, false, cond, ℕ, ◌+◌, ◌-◌, ◌≤◌, ◌<◌, List, length, map, get_or, min, max, Some, refl, sym, ◌∙◌, ap, subst, arith}
-use Rattle.std.specs.Prelude.{◌==◌, nat_le, Option, All, IfOk, IfErr, IsTrue, Result, Ok, Err, slice_get}
+use Rattle.std.specs.Prelude.{◌==◌, nat_le, Option, All, IfOk, IfErr, Result, Ok, Err, slice_get}
 use Rattle.std.proofs.lemmas.List.{length-map}
 use Rattle.std.proofs.lemmas.List.Elements.{All-map}
 use Rattle.std.proofs.lemmas.List.Sums.{count_by-le-length}
@@ -9,7 +9,7 @@ use Rattle.disk_model.specs.declared.disk.DiskErr.{DiskErr}
 use Rattle.disk_model.specs.declared.disk.DiskErr.TheVariants.{Fault, Memory}
 use Rattle.etl_mover.specs.Move.{MoveState}
 use Rattle.etl_rules.specs.Choosing.{chosen, ripe}
-use Rattle.move_choice.specs.Parts.{parts_of, covered, end_of, is_covered}
+use Rattle.move_choice.specs.Parts.{covered, end_of, is_covered}
 use Rattle.move_choice.specs.Series.{IsToMove, of_series, parts_in}
 use Rattle.move_choice.specs.declared.parts.MoveRule.{MoveRule}
 use Rattle.move_choice.specs.declared.series.ToMove.{ToMove}

@@ -29,6 +29,10 @@ pub mod PublishCall
 pub mod ReadsThen
 pub mod RelistCall
 pub mod Removals
+pub mod RevivalCall
+pub mod RevivalShown
+pub mod RevivalWhole
+pub mod Revived
 pub mod Rising
 pub mod RowCalls
 pub mod RowTallies
@@ -38,3 +42,5 @@ pub mod Sparing
 pub mod Staying
 pub mod Tallies
 pub mod There
+pub mod Unlisted
+pub mod WithoutLimbo

@@ -11,20 +11,18 @@ use Rattle.pv_catalog.specs.Catalogue.{CatalogueState, registered}
 use Rattle.pv_catalog.specs.Rows.{KeepsRows, switched}
 use Rattle.pv_catalog.specs.declared.row.Row.{Row}
 use Rattle.pv_catalog.proofs.Standing.{keeps_more, keeps_same, keeps_switched}
-use Rattle.series_model.specs.declared.batch.RowSamples.{RowSamples}
-use Rattle.store_files.specs.Fronts.{Begins, Keeps}
+use Rattle.store_files.specs.Fronts.{Begins}
 use Rattle.store_manifest.specs.declared.entry.Entry.{Entry}
 use Rattle.store_manifest.specs.Manifest.{ManifestState}
 use Rattle.tier_store.specs.Ends.{End, Done, Refused, Failed, Spent}
 use Rattle.tier_store.specs.Held.{Filed, Held, Listing, IsListed, IsListedTo, ListsStill, entry_of, file_of, listing_of}
-use Rattle.tier_store.specs.Writing.{LeavesListed}
 use Rattle.tier_store.proofs.Growing.{file_grows}
 use Rattle.tier_store.proofs.There.{contains_map}
 use Rattle.tier_store.proofs.Three.{same_cases}
 use Rattle.three_stores.specs.Stores.{Stores, list_at, tier, with_rows}
 use Rattle.three_stores.specs.Seen.{Seen, seen_on}
-use Rattle.three_stores.specs.Change.{IsKnown, Has, Doubts, IsOpen, HasEither, Call, EndsFrom, Changes, Flushes, Registers, Switches}
-use Rattle.three_stores.specs.Pinned.{SeenAll, beside, listing_at, IsHeldTo, NoneShorter, IsNoShorter, NoneOf, IsRetiredTo, IsThereTo, KeepsShown, KeepsFronts}
+use Rattle.three_stores.specs.Change.{IsKnown, Has, Doubts, IsOpen, HasEither, Call, EndsFrom, Changes, Registers, Switches}
+use Rattle.three_stores.specs.Pinned.{SeenAll, beside, listing_at, IsHeldTo, NoneShorter, IsNoShorter, IsRetiredTo, IsThereTo, KeepsShown, KeepsFronts}
 use Rattle.three_stores.specs.declared.limbo.Retired.{Retired}
 use Rattle.three_stores.proofs.Places.{within_three, one_manifest, tier_other}
 
@@ -410,56 +408,3 @@ switches_on row from to held made by =
 
 pub still_itself : (l : Listing) → ListsStill l l
 still_itself l k d lt = record { entry = get_or l.1 k d; within = Contains-get_or l.1 k d lt; named = refl; longer = omega arith }
-
-pub flushes_on : (batch : List RowSamples) (held made : Stores) → Flushes batch held made → GoesOn held made
-flushes_on batch held made by = inl (ap (λ (s : Stores). s.rows) by.same, go)
-  where
-    go : (place : ℕ) → place < 3 → ListsStill (listing_of (tier place held)) (listing_of (tier place made))
-    go place low = elim (same_cases place 0) [
-      | inl is ↦ subst (λ (k : ℕ). ListsStill (listing_of (tier k held)) (listing_of (tier k made))) (sym is) by.flushed.still
-      | inr apart ↦
-          let same : tier place made ≡ tier place held = ap (tier place) by.same ∙ tier_other 0 place made.short held (omega arith) low apart in
-          subst (λ (t : Held). ListsStill (listing_of (tier place held)) (listing_of t)) (sym same) (still_itself (listing_of (tier place held)))
-    ]
-
--- a flush lists no name of another store
-flush_spares : (batch : List RowSamples) (held made : Stores) (name : Name) (len : ℕ) → Flushes batch held made → name.0 ≢ 1 → Spares held name len → Spares made name len
-flush_spares batch held made name len by other spares k low = elim (same_cases k 0) [
-  | inl is ↦ λ j e lt named. let number : k + 1 ≡ name.0 = ap (λ (n : Name). n.0) named in absurd (other (omega (arith, number, is)))
-  | inr apart ↦
-      let same : tier k made ≡ tier k held = ap (tier k) by.same ∙ tier_other 0 k made.short held (omega arith) low apart in
-      subst (λ (t : Held). NoneShorter (listing_of t) name len) (sym same) (spares k low)
-]
-
--- no name in limbo is of the store
-other_store : (all : SeenAll) (name : Name) (len store : ℕ) → NoneOf store all.limbo → IsRetiredTo all name len → name.0 ≢ store
-other_store all name len store none r is = All-contains (λ (x : Retired). x.name.0 ≢ store) all.limbo r.file none r.within (ap (λ (n : Name). n.0) r.named ∙ is)
-
--- a flush into store 1
-pub flush_shown : {E : Type 0} (tells : Bool) (batch : List RowSamples) (call : Call ℕ E) (old new : SeenAll) (end : End ℕ E) → new.limbo ≡ old.limbo → NoneOf 1 old.limbo → (held : Stores) × Has tells old.stores held → ((held made : Stores) → call.by held made → Flushes batch held made) → Changes tells call old.stores new.stores end → (rows : List Row) → rows ≡ old.stores.catalogue.rows
-    → (m : ManifestState) → slice_get old.stores.manifests 0 ≡ Some m → (IsTrue tells → LeavesListed ((1, rows), m.entries) old.stores.files new.stores.files old.stores.past new.stores.past) → (IsTrue tells → (n : Name) → n.0 ≢ 1 → n ≢ m.journal.name → new.stores.files n ≡ old.stores.files n) → KeepsShown tells old new
-flush_shown {E} tells batch call old new end limbo none has by change rows same m here leaves elsewhere =
-    shown tells old new limbo (λ name len h. ends_held tells call old.stores new.stores has.0 end name len has.1 (λ made made_by. flushes_on batch has.0 made (by has.0 made made_by)) (change.ends has.0 has.1) h)
-    (λ name len r. ends_spares tells call old.stores new.stores has.0 end name len has.1 (λ made made_by. flush_spares batch has.0 made name len (by has.0 made made_by) (other_store old name len 1 none r)) (change.ends has.0 has.1) r.no_shorter)
-    fronts
-  where
-    -- another store's file
-    beside_it : IsTrue tells → (name : Name) (len : ℕ) → IsThereTo old name len → name.0 ≢ 1 → Keeps len (old.stores.files name) (new.stores.files name)
-    beside_it told name len there apart front some within begins =
-        let number = numbered old name len there in
-        let zero_store : m.journal.name.0 ≡ 0 = ap (λ (n : Name). n.0) ((has.1.disk told).each 0 m here).named in
-        subst (Begins front) (sym (elsewhere told name apart (λ is. let at_zero : name.0 ≡ m.journal.name.0 = ap (λ (n : Name). n.0) is in absurd (omega (arith, at_zero, zero_store, number))))) begins
-
-    fronts : IsTrue tells → KeepsFronts old new
-    fronts told name len (inr r) front some within begins = beside_it told name len (inr r) (other_store old name len 1 none r) front some within begins
-    fronts told name len (inl h) front some within begins = elim (same_cases h.place 0) [
-      | inl is ↦
-          let own : h.manifest ≡ m = one_manifest old.stores.manifests 0 h.place m h.manifest is here h.here in
-          let e = h.listed.entry in
-          let listed : Contains m.entries e = subst (λ (x : ManifestState). Contains x.entries e) own h.listed.within in
-          let named : file_of (1, rows) e ≡ name = ap (λ (r : List Row). file_of (1, r) e) same ∙ (ap (λ (k : ℕ). file_of (k + 1, old.stores.catalogue.rows) e) (sym is) ∙ h.listed.named) in
-          let keeps = All-contains (λ (x : Entry). Keeps x.len (old.stores.files (file_of (1, rows) x)) (new.stores.files (file_of (1, rows) x))) m.entries e (leaves told).now listed in
-          let longer = h.listed.longer in
-          subst (λ (n : Name). Begins front (new.stores.files n)) named (keeps front some (omega (arith, within, longer)) (subst (λ (n : Name). Begins front (old.stores.files n)) (sym named) begins))
-      | inr apart ↦ let number = name_listed old.stores name len h in beside_it told name len (inl h) (λ is. apart (omega (arith, is, number))) front some within begins
-    ]

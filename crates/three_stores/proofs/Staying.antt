@@ -79,10 +79,10 @@ stay_from P Q (x ∷ xs) ys r (inr s) within = let more = stay_from P Q xs ys r 
 -- PLACES
 
 -- a file in limbo as one that its store might list
-abbrev as_filed : Retired → Filed
+abbrev pub as_filed : Retired → Filed
 as_filed r = record { entry = r.entry; head = []; samples = [] }
 
-retired_listed : (at : Seen) (r : Retired) (of : IsOfPlace at r) (m : ManifestState) → slice_get at.manifests of.place ≡ Some m → IsListed m.granularity at.catalogue.rows (as_filed r)
+pub retired_listed : (at : Seen) (r : Retired) (of : IsOfPlace at r) (m : ManifestState) → slice_get at.manifests of.place ≡ Some m → IsListed m.granularity at.catalogue.rows (as_filed r)
 retired_listed at r of m here =
     let own = manifest_of at.manifests of.place of.granularity of.here in
     let same : of.granularity ≡ m.granularity = sym own.2 ∙ ap (λ (x : ManifestState). x.granularity) (one_manifest at.manifests of.place of.place m own.0 refl here own.1) in

@@ -1,4 +1,5 @@
--- Calls of which more is said of stores that something more is true of, as of those beside which a running move has written files.
+-- Calls that tell what they make of stores of which something more is true: beside which a running move has written files, or which stand no
+-- further than the files in limbo do.
 use Rattle.std.specs.Prelude.{Bool, IsTrue}
 use Rattle.disk_model.specs.Past.{Passes}
 use Rattle.tier_store.specs.Ends.{End}

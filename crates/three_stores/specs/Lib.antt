@@ -11,6 +11,7 @@ pub mod Opening
 pub mod Pinned
 pub mod Pinning
 pub mod Retiring
+pub mod Revival
 pub mod Seen
 pub mod Settling
 pub mod Stored

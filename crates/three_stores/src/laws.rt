@@ -1,7 +1,7 @@
 //! What follows from holding, for all images and stores.
-ghost use Rattle.std.specs.Prelude.{◌≡◌, ◌⊎◌, ◌<◌, ◌+◌, ℕ, List, [], map, length, slice_get, take, None, Some, true, false, All, Contains, IsTrue};
+ghost use Rattle.std.specs.Prelude.{◌≡◌, ◌⊎◌, ◌<◌, ◌+◌, ◌++◌, ℕ, Bool, List, [], map, length, slice_get, take, None, Some, true, false, All, Contains, IsTrue};
 ghost use Rattle.disk_model.specs.Files.{Files, Name};
-ghost use Rattle.disk_model.specs.Past.{MayLeave};
+ghost use Rattle.disk_model.specs.Past.{MayLeave, Passes};
 ghost use Rattle.etl_mover.specs.Copying.{last_of};
 ghost use Rattle.etl_mover.specs.Move.{HasBegun, IsMove, MoveState, StillLists};
 ghost use Rattle.etl_mover.specs.Step.{GoesTo, Takes, between};
@@ -13,8 +13,9 @@ ghost use Rattle.series_model.specs.declared.batch.RowSamples.{RowSamples};
 ghost use Rattle.store_manifest.specs.Manifest.{ManifestState};
 ghost use Rattle.store_manifest.specs.declared.entry.Entry.{Entry};
 ghost use Rattle.tier_store.specs.Ahead.{drop_of, without_all};
+ghost use Rattle.tier_store.specs.Ends.{End};
 ghost use Rattle.tier_store.specs.Flush.{put_all, with_batch};
-ghost use Rattle.tier_store.specs.Held.{Filed, Held, entry_of};
+ghost use Rattle.tier_store.specs.Held.{Filed, Held, entry_of, samples_of};
 ghost use Rattle.tier_store.specs.Plan.{IsLastOf};
 ghost use Rattle.tier_store.specs.Stored.{AreHeld};
 ghost use Rattle.three_stores.specs.Stores.{Stores, list_at, samples_in, with_list};
@@ -28,9 +29,11 @@ ghost use Rattle.three_stores.specs.Copied.{IsPartFile, WritesNext, end_after};
 ghost use Rattle.three_stores.specs.Finding.{SplitsAt};
 ghost use Rattle.three_stores.specs.Limbo.{LimboStands, LeavesKept};
 ghost use Rattle.three_stores.specs.Moving.{GoesBeside, LeavesNames, RunsBeside, names_of};
-ghost use Rattle.three_stores.specs.Pinned.{beside, PinsStand, KeepsShown};
+ghost use Rattle.three_stores.specs.Pinned.{beside, NoneOf, PinsStand, KeepsShown};
 ghost use Rattle.three_stores.specs.declared.limbo.Retired.{Retired};
-ghost use Rattle.three_stores.specs.Change.{IsKnown, Has, IsOpen, Flushes, CanList};
+ghost use Rattle.three_stores.specs.Change.{IsKnown, Has, HasEither, IsOpen, Acts, Flushes, CanList, flushing};
+ghost use Rattle.three_stores.specs.Given.{ActsGiven};
+ghost use Rattle.three_stores.specs.Revival.{AreWhole, FlushesOver, flushing_over, revived, fresh};
 
 use disk_model::Disk;
 
@@ -60,6 +63,31 @@ pub fn one_journal_is_in_doubt<D: Disk>()
 pub fn a_flush_adds_the_batch()
     ensures { (catalogue : CatalogueState) (ms : List ManifestState) (batch : List RowSamples) (old new : Stores) → IsKnown catalogue ms old → IsTrue old.stands → All (λ (p : RowSamples). IsRising p.samples) batch → Flushes batch old new
         → (row : ℕ) → samples_in row new ≡ with_batch row (samples_in row old) batch }
+{}
+
+/// A flush puts behind what store 1 lists of a row those samples of the batch that are later than all that it lists and has in limbo of the
+/// row, and between the two those of the file in limbo into whose partition the first of them comes.
+pub fn a_flush_revives<D: Disk>()
+    ensures { (disk : D) (catalogue later : CatalogueState) (ms ns : List ManifestState) (limbo : List Retired) (files : List Filed) (batch : List RowSamples) (old new : Stores) → IsKnown catalogue ms old → IsKnown later ns new → granularities ns ≡ granularities ms → IsTrue old.stands
+        → AreWhole D.tells (seen_on D.files D.opened D.past D.faults catalogue ms disk) limbo old.stands files → (by : FlushesOver limbo files batch old new) → (row : ℕ)
+        → samples_of row new.short ≡ samples_of row old.short ++ (revived by.back row (fresh row (samples_of row (put_all old.short by.back)) batch) ++ fresh row (samples_of row (put_all old.short by.back)) batch) }
+{}
+
+/// Where no file of store 1 is in limbo nothing need be known of limbo, and a flush is one of what is listed alone.
+pub fn a_flush_without_limbo<D: Disk>()
+    ensures whole { (disk : D) (catalogue : CatalogueState) (ms : List ManifestState) (limbo : List Retired) (stands : Bool) → NoneOf 1 limbo → AreWhole D.tells (seen_on D.files D.opened D.past D.faults catalogue ms disk) limbo stands [] }
+    ensures acts { (disk after : D) (catalogue later : CatalogueState) (ms ns : List ManifestState) (limbo : List Retired) (batch : List RowSamples) (end : End ℕ ⊥) → NoneOf 1 limbo
+        → ActsGiven (λ held. AreWhole D.tells (seen_on D.files D.opened D.past D.faults catalogue ms disk) limbo held.stands []) D.tells (flushing_over limbo [] batch) (seen_on D.files D.opened D.past D.faults catalogue ms disk) (seen_on D.files D.opened D.past D.faults later ns after) end
+        → Acts D.tells (flushing batch) (seen_on D.files D.opened D.past D.faults catalogue ms disk) (seen_on D.files D.opened D.past D.faults later ns after) end }
+{}
+
+/// Files in limbo stay whole while a doubt is settled.
+pub fn limbo_is_whole<D: Disk>()
+    ensures { (disk after : D) (catalogue later : CatalogueState) (ms ns : List ManifestState) (limbo : List Retired) (stands : Bool) (files : List Filed) (before next : Stores)
+        → IsOpen D.tells (seen_on D.files D.opened D.past D.faults catalogue ms disk) before next
+        → ((x y : Stores) → IsOpen D.tells (seen_on D.files D.opened D.past D.faults catalogue ms disk) x y → HasEither D.tells (seen_on D.files D.opened D.past D.faults later ns after) x y)
+        → KeepsRows catalogue.rows later.rows → granularities ns ≡ granularities ms → (IsTrue D.tells → D.files after ≡ D.files disk) → (IsTrue D.tells → D.opened after ≡ D.opened disk) → (IsTrue D.tells → Passes (λ a b. b ≡ a) (D.past disk) (D.past after))
+        → AreWhole D.tells (seen_on D.files D.opened D.past D.faults catalogue ms disk) limbo stands files → AreWhole D.tells (seen_on D.files D.opened D.past D.faults later ns after) limbo stands files }
 {}
 
 /// Files that a store lists may be dropped from its list: what is left is as safe as it was.

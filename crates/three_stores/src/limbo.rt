@@ -1,12 +1,14 @@
 // Retired files that are still on the disk, and which of them a store lists again.
-ghost use Rattle.std.specs.Prelude.{◌≡◌, ◌≤◌, ℕ, true, false, nat_lt, length};
+ghost use Rattle.std.specs.Prelude.{◌≡◌, ◌≤◌, ℕ, true, false, nat_lt, length, IfOk};
 ghost use Rattle.std.specs.List.Sorted.{IsPartitionPoint};
 ghost use Rattle.store_manifest.specs.Entries.{InOrder, is_listed};
 ghost use Rattle.store_manifest.specs.Listing.{OfSeries};
 ghost use Rattle.three_stores.specs.Limbo.{ListsPlace, Stay};
+ghost use Rattle.three_stores.specs.Revival.{AreUnlistedIn, IsUnlistedOf};
 ghost use Rattle.three_stores.specs.Seen.{AtEach};
 
 use disk_model::FileName;
+use std::alloc::{AllocError, Global};
 use store_manifest::{Entry, Manifest};
 
 /// A file that a retirement has taken from its store's list, or that a retirement in doubt would take: it stays on the disk while a pin
@@ -24,6 +26,33 @@ pub(crate) fn leave_listed(manifests: &[Manifest], limbo: &mut Vec<Retired>)
     ensures { AtEach manifests.now (λ i m. InOrder m.entries) → Stay (λ r. ListsPlace manifests.now r → ⊥) (ListsPlace manifests.now) limbo.old.items limbo.new.items }
 {
     limbo.retain(|file| is_unlisted(manifests, file));
+}
+
+// The entries of the files in limbo of a store that it doesn't list.
+pub(crate) fn unlisted_entries(
+    alloc: Global,
+    manifests: &[Manifest],
+    limbo: &[Retired],
+    store: u8,
+) -> Result<Vec<Entry>, AllocError>
+    ensures { AtEach manifests.now (λ i m. InOrder m.entries) → IfOk result (λ entries. AreUnlistedIn manifests.now store limbo.now entries.items) }
+{
+    let mut entries = Vec::new(alloc);
+    for file in limbo {
+        let unlisted = is_unlisted_of(manifests, file, store);
+        if unlisted {
+            entries.push(file.entry)?;
+        }
+    }
+    Ok(entries)
+}
+
+// Whether a file is of the store, which doesn't list it.
+fn is_unlisted_of(manifests: &[Manifest], file: &Retired, store: u8) -> bool
+    ensures unlisted { AtEach manifests.now (λ i m. InOrder m.entries) → result ≡ true → IsUnlistedOf manifests.now store file.now }
+    ensures other { AtEach manifests.now (λ i m. InOrder m.entries) → result ≡ false → IsUnlistedOf manifests.now store file.now → ⊥ }
+{
+    file.name.store == store && is_unlisted(manifests, file)
 }
 
 // Whether the manifest of a file's store lists none of its row and partition.

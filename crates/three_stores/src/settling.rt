@@ -34,6 +34,7 @@ impl<D: Disk> TierStore<D> {
         ensures limbo { self.new.limbo ≡ self.old.limbo }
         ensures reads { OnlyReads D.tells (seen D.Disk self.old) (seen D.Disk self.new) (end_of_disk result) }
         ensures leaves { LeavesLater D.tells (seen_all D.Disk self.old) (seen_all D.Disk self.new) }
+        ensures opened { IsTrue D.tells → D.opened self.new.disk ≡ D.opened self.old.disk }
     {
         self.catalogue.review(&mut self.disk)?;
         Ok(())
@@ -52,6 +53,7 @@ impl<D: Disk> TierStore<D> {
         ensures granularity { granularities self.new.manifests.items ≡ granularities self.old.manifests.items }
         ensures reads { OnlyReads D.tells (seen D.Disk self.old) (seen D.Disk self.new) (end_of_disk result) }
         ensures leaves { LeavesLater D.tells (seen_all D.Disk self.old) (seen_all D.Disk self.new) }
+        ensures opened { IsTrue D.tells → D.opened self.new.disk ≡ D.opened self.old.disk }
     {
         self.manifests[i].review(&mut self.disk)?;
         Ok(())
@@ -75,6 +77,7 @@ impl<D: Disk> TierStore<D> {
         ensures nothing { IsSettled (seen D.Disk self.old) → (result ≡ Ok tt) × (self.new ≡ self.old) }
         ensures reads { OnlyReads D.tells (seen D.Disk self.old) (seen D.Disk self.new) (end_of_disk result) }
         ensures leaves { LeavesLater D.tells (seen_all D.Disk self.old) (seen_all D.Disk self.new) }
+        ensures opened { IsTrue D.tells → D.opened self.new.disk ≡ D.opened self.old.disk }
     {
         if !self.catalogue.is_sound() {
             return self.settle_rows();

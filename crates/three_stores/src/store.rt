@@ -1,16 +1,20 @@
 // The stores: a disk with its catalogue and its three manifests.
-ghost use Rattle.std.specs.Prelude.{◌≡◌, ◌≤◌, ◌+◌, ℕ, length, slice_get, Some, IsTrue, []};
+ghost use Rattle.std.specs.Prelude.{◌≡◌, ◌≤◌, ◌+◌, ℕ, List, length, slice_get, Some, IsTrue, []};
 ghost use Rattle.pv_catalog.specs.Rows.{KeepsRows};
 ghost use Rattle.tier_store.specs.Flush.{CanFlush};
 ghost use Rattle.tier_store.specs.Ends.{end_of_disk};
+ghost use Rattle.tier_store.specs.Held.{Filed};
 ghost use Rattle.three_stores.specs.Stores.{Stores};
 ghost use Rattle.three_stores.specs.Seen.{seen};
-ghost use Rattle.three_stores.specs.Change.{Has, IsOpen, Changes, Acts, flushing};
+ghost use Rattle.three_stores.specs.Change.{Has, IsOpen};
+ghost use Rattle.three_stores.specs.Given.{ChangesGiven, ActsGiven};
+ghost use Rattle.three_stores.specs.Limbo.{LimboStands};
 ghost use Rattle.three_stores.specs.Moving.{LeavesLater};
-ghost use Rattle.three_stores.specs.Pinned.{seen_all, NoneOf, KeepsShown};
+ghost use Rattle.three_stores.specs.Revival.{AreWhole, KeepsWhole, flushing_over};
+ghost use Rattle.three_stores.specs.Pinned.{seen_all, KeepsShown};
 ghost use Rattle.std.specs.FinMap as map;
 
-use crate::limbo::Retired;
+use crate::limbo::{Retired, unlisted_entries};
 use disk_model::{Disk, DiskErr};
 use pinned_pieces::PinnedPieces;
 use pv_catalog::Catalogue;
@@ -88,17 +92,19 @@ impl<D: Disk> TierStore<D> {
     // Flushes a batch where no change stands in doubt.
     fn flush_batch(&mut self, batch: &Batch) -> Result<u64, DiskErr>
         requires can { CanFlush self.old.catalogue.rows batch.now }
-        requires none_retired { NoneOf 1 self.old.limbo.items }
-        requires has { (held : Stores) × Has D.tells (seen D.Disk self.old) held }
-        ensures changes { Changes D.tells (flushing batch.now) (seen D.Disk self.old) (seen D.Disk self.new) (end_of_disk result) }
+        requires stands { LimboStands (seen D.Disk self.old) self.old.limbo.items }
+        requires has { (held : Stores) × (files : List Filed) × Has D.tells (seen D.Disk self.old) held × AreWhole D.tells (seen D.Disk self.old) self.old.limbo.items held.stands files }
+        ensures changes { (files : List Filed) → ChangesGiven (λ held. AreWhole D.tells (seen D.Disk self.old) self.old.limbo.items held.stands files) D.tells (flushing_over self.old.limbo.items files batch.now) (seen D.Disk self.old) (seen D.Disk self.new) (end_of_disk result) }
         ensures catalogue { self.new.catalogue ≡ self.old.catalogue }
         ensures shown { KeepsShown D.tells (seen_all D.Disk self.old) (seen_all D.Disk self.new) }
         ensures leaves { LeavesLater D.tells (seen_all D.Disk self.old) (seen_all D.Disk self.new) }
+        ensures whole { KeepsWhole D.tells (seen_all D.Disk self.old) (seen_all D.Disk self.new) }
         ensures pins { self.new.pinned ≡ self.old.pinned }
         ensures limbo { self.new.limbo ≡ self.old.limbo }
     {
         let rows = self.catalogue.rows();
-        let plan = plan_flush(self.alloc, rows, &self.manifests[0], batch)?;
+        let limbo = unlisted_entries(self.alloc, &self.manifests, &self.limbo, SHORT)?;
+        let plan = plan_flush(self.alloc, rows, &self.manifests[0], &limbo, batch)?;
         flush_pieces(
             self.alloc,
             &mut self.disk,
@@ -110,26 +116,28 @@ impl<D: Disk> TierStore<D> {
         Ok(plan.count)
     }
 
-    /// Appends the samples of a batch that are later than their rows' last ones in store 1 to the partition files of their rows there,
-    /// and answers how many these are. A change that stands in doubt is settled first. Each file is written behind its listed length,
-    /// then each is synced, and then one commit lists all of them; so a crash at any moment of the call leaves what was held, or that
-    /// with all of the batch.
+    /// Appends the samples of a batch to the partition files of their rows in store 1, those that are later than their rows' last ones
+    /// there, listed or in limbo, and answers how many these are. A change that stands in doubt is settled first. Each file is written
+    /// behind its listed length, then each is synced, and then one commit lists all of them; so a crash at any moment of the call leaves
+    /// what was held, or that with all of the batch.
     ///
-    /// It needs that limbo has no file of store 1: the batch might go to that file's partition, whose name is never made anew while it may
-    /// be pinned.
+    /// A file in limbo into whose partition samples come is revived: it goes on behind its old length and is listed again, with its old
+    /// samples in front of the new ones. So what a pin may still read is never written over. It needs that the files in limbo of store 1
+    /// are whole, but for those that the store lists.
     ///
     /// After `Fault`, which comes only where the disk's count of faults rose in the call, what was held is still held, or it isn't
     /// known whether the batch is; the next call that changes the stores finds out. After `Memory` what was held is still held.
     pub fn flush(&mut self, batch: &Batch) -> Result<u64, DiskErr>
         requires can { CanFlush self.old.catalogue.rows batch.now }
-        requires none_retired { NoneOf 1 self.old.limbo.items }
-        requires begun { (before : Stores) × (after : Stores) × IsOpen D.tells (seen D.Disk self.old) before after }
+        requires stands { LimboStands (seen D.Disk self.old) self.old.limbo.items }
+        requires begun { (before : Stores) × (after : Stores) × (files : List Filed) × IsOpen D.tells (seen D.Disk self.old) before after × AreWhole D.tells (seen D.Disk self.old) self.old.limbo.items before.stands files }
 
-        ensures acts { Acts D.tells (flushing batch.now) (seen D.Disk self.old) (seen D.Disk self.new) (end_of_disk result) }
+        ensures acts { (files : List Filed) → ActsGiven (λ held. AreWhole D.tells (seen D.Disk self.old) self.old.limbo.items held.stands files) D.tells (flushing_over self.old.limbo.items files batch.now) (seen D.Disk self.old) (seen D.Disk self.new) (end_of_disk result) }
         ensures keeps { KeepsRows self.old.catalogue.rows self.new.catalogue.rows }
         ensures settled { IsTrue self.old.catalogue.journal.sound → self.new.catalogue ≡ self.old.catalogue }
         ensures shown { KeepsShown D.tells (seen_all D.Disk self.old) (seen_all D.Disk self.new) }
         ensures leaves { LeavesLater D.tells (seen_all D.Disk self.old) (seen_all D.Disk self.new) }
+        ensures whole { KeepsWhole D.tells (seen_all D.Disk self.old) (seen_all D.Disk self.new) }
         ensures pins { self.new.pinned ≡ self.old.pinned }
         ensures limbo { self.new.limbo ≡ self.old.limbo }
     {

@@ -1,18 +1,30 @@
-use Rattle.std.proofs.Common.{sym, subst}
+use Rattle.std.proofs.Common.{[], sym, subst}
 use Rattle.std.proofs.lemmas.List.Elements.{All-nil}
 use Rattle.disk_model.specs.contracts.memory.MemDiskDisk.TheImpl.{ghosts}
 use Rattle.tier_store.specs.Ends.{end_of_disk}
 use Rattle.three_stores.specs.Change.{flushing}
+use Rattle.three_stores.specs.Limbo.{LimboStands}
 use Rattle.three_stores.specs.Pinned.{seen_all, NoneOf}
+use Rattle.three_stores.specs.Revival.{AreWhole}
+use Rattle.three_stores.specs.Stores.{Stores}
+use Rattle.three_stores.proofs.WithoutLimbo.{none_whole, plain_acts}
 use Rattle.archive_tests.proofs.Usable.{usable_after}
 use Rattle.archive_tests.proofs.pins.flush.Goals as goal
 
 pub flush-requires : goal.flush-requires
-flush-requires c = record {
-  can = c.requires.can;
-  none_retired = subst (NoneOf 1) (sym c.requires.limbo) (All-nil _);
-  begun = (c.requires.usable.before, c.requires.usable.after, c.requires.usable.is_open);
-}
+flush-requires c =
+    let all = seen_all ghosts c.args.store.now in
+    let was = c.requires.usable in
+    record {
+      can = c.requires.can;
+      stands = subst (LimboStands all.stores) (sym c.requires.limbo) (All-nil _);
+      begun = (was.before, was.after, [], was.is_open, none_whole ghosts.tells all.stores all.limbo was.before.stands (subst (NoneOf 1) (sym c.requires.limbo) (All-nil _)));
+    }
 
 pub returns : goal.returns
-returns c = usable_after (flushing c.args.batch.now) (seen_all ghosts c.args.store.now) (seen_all ghosts c.flush.new.self) c.args.store.now.pinned c.flush.new.self.pinned (end_of_disk c.flush.result) c.flush.ensures.acts c.flush.ensures.shown c.flush.ensures.pins c.requires.usable
+returns c =
+    let old = seen_all ghosts c.args.store.now in
+    let new = seen_all ghosts c.flush.new.self in
+    let none = subst (NoneOf 1) (sym c.requires.limbo) (All-nil _) in
+    let acts = plain_acts ghosts.tells old.limbo [] c.args.batch.now none (λ (s : Stores). AreWhole ghosts.tells old.stores old.limbo s.stands []) (λ s. none_whole ghosts.tells old.stores old.limbo s.stands none) old.stores new.stores (end_of_disk c.flush.result) (c.flush.ensures.acts []) in
+    usable_after (flushing c.args.batch.now) old new c.args.store.now.pinned c.flush.new.self.pinned (end_of_disk c.flush.result) acts c.flush.ensures.shown c.flush.ensures.pins c.requires.usable

@@ -1,4 +1,4 @@
-use Rattle.std.proofs.Common.{◌≤◌, ◌-◌, ◌+◌, ℕ, List, Bool, true, false, length, ◌∙◌, ap, subst, arith}
+use Rattle.std.proofs.Common.{◌≤◌, ◌-◌, ℕ, List, Bool, length, ◌∙◌, ap, subst, arith}
 use Rattle.disk_model.specs.Files.{Files}
 use Rattle.three_stores.specs.Counting.{behind}
 use Rattle.three_stores.specs.Finding.{SkipsLines}

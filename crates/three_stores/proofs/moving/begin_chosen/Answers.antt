@@ -15,15 +15,15 @@ begin-requires-clause-most c = (can_begin c.args.rule.now c.args.source.now.entr
 pub begin-requires-clause-listed : goal.begin-requires-clause-listed
 begin-requires-clause-listed c = (can_begin c.args.rule.now c.args.source.now.entries c.args.destination.now.entries (get nat_cmp c.args.running.now) _ c.in_ok-choice.choice c.in-Begin.series c.in-Begin.parts c.in-Begin.is c.in_ok-choice.ensures).listed
 
-pub returns-in-Begin : goal.returns-in-Begin
-returns-in-Begin c = (
+pub returns-in_ok-moving-in-Begin : goal.returns-in_ok-moving-in-Begin
+returns-in_ok-moving-in-Begin c = (
   chosen_is _ _ _ _ _ c.in-Begin.is c.in_ok-choice.ensures,
   record {
     own = c.index-rows-series.result;
-    here = row_here c.args.rows.now c.in-Begin.series c.index-rows-series.result c.index-rows-series.is (bounds-rows-series c);
-    begun = c.in_ok-moving.ensures.begun;
-    goes_on = c.in_ok-moving.ensures.running;
-    lists = c.in_ok-moving.ensures.lists;
+    here = row_here c.args.rows.now c.in-Begin.series c.index-rows-series.result c.index-rows-series.is (can_begin c.args.rule.now c.args.source.now.entries c.args.destination.now.entries (get nat_cmp c.args.running.now) _ c.in_ok-choice.choice c.in-Begin.series c.in-Begin.parts c.in-Begin.is c.in_ok-choice.ensures).within;
+    begun = c.in_ok-moving-in-Begin.ensures.begun;
+    goes_on = c.in_ok-moving-in-Begin.ensures.running;
+    lists = c.in_ok-moving-in-Begin.ensures.lists;
   },
 )
 

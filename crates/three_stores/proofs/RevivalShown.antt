@@ -1,0 +1,209 @@
+-- What is shown stays so through a flush beside files in limbo, and these stay whole while a doubt is settled.
+use Rattle.std.proofs.Common.{◌≡◌, ◌≢◌, inl, inr, Bool, ℕ, ◌<◌, ◌≤◌, ◌+◌, List, map, length, get_or, Some, sym, ◌∙◌, ap, subst, arith}
+use Rattle.std.specs.Prelude.{All, Contains, IsTrue, slice_get}
+use Rattle.std.proofs.lemmas.List.Elements.{All-contains}
+use Rattle.disk_model.specs.Files.{Name}
+use Rattle.disk_model.specs.Past.{Passes}
+use Rattle.partition_names.specs.declared.granularity.Granularity.{Granularity}
+use Rattle.pv_catalog.specs.Rows.{KeepsRows}
+use Rattle.pv_catalog.specs.declared.row.Row.{Row}
+use Rattle.series_model.specs.declared.batch.RowSamples.{RowSamples}
+use Rattle.store_files.specs.Fronts.{Begins, Keeps}
+use Rattle.store_manifest.specs.declared.entry.Entry.{Entry}
+use Rattle.store_manifest.specs.Entries.{place}
+use Rattle.store_manifest.specs.Manifest.{ManifestState}
+use Rattle.tier_store.specs.Ends.{End}
+use Rattle.tier_store.specs.Flush.{PlacesRise, put_all, with_files}
+use Rattle.tier_store.specs.Held.{Filed, Held, AreFiled, AreIn, IsListed, KeepsListed, ListsStill, entry_of, file_of, filed_at, listing_of, shelf_of}
+use Rattle.tier_store.specs.Revival.{ListsNoShorter}
+use Rattle.tier_store.specs.Stored.{AreLong}
+use Rattle.tier_store.proofs.Ahead.{contains_entry}
+use Rattle.tier_store.proofs.Growing.{filed_still, safe_grows}
+use Rattle.tier_store.proofs.Listed.{listed_at}
+use Rattle.tier_store.proofs.Names.{same_file}
+use Rattle.tier_store.proofs.Revival.{listed_stays, one_of_place, put_all_one}
+use Rattle.tier_store.proofs.Stays.{safe_stays}
+use Rattle.tier_store.proofs.There.{contains_map}
+use Rattle.tier_store.proofs.Three.{same_cases}
+use Rattle.three_stores.specs.Stores.{Stores, tier}
+use Rattle.three_stores.specs.Seen.{Seen, granularities}
+use Rattle.three_stores.specs.Change.{IsKnownAt, IsKnown, Has, IsOpen, HasEither, EndsFrom}
+use Rattle.three_stores.specs.Limbo.{IsOfPlace, LimboStands}
+use Rattle.three_stores.specs.Pinned.{SeenAll, IsHeldTo, NoneShorter, IsThereTo, KeepsShown, KeepsFronts}
+use Rattle.three_stores.specs.Revival.{AreWhole, AreInLimbo, FlushesOver, flushing_over, short_with}
+use Rattle.three_stores.specs.declared.limbo.Retired.{Retired}
+use Rattle.three_stores.proofs.Places.{granularity_at, manifest_at, manifest_of, one_manifest, tier_other}
+use Rattle.three_stores.proofs.Showing.{GoesOn, Spares, ends_held, ends_spares, known_spares, name_listed, numbered, settled_held, shown, still_held, still_itself}
+use Rattle.three_stores.proofs.Staying.{as_filed, retired_listed}
+
+-- WHAT IS LISTED
+
+pub over_on : (limbo : List Retired) (files : List Filed) (batch : List RowSamples) (held made : Stores) → FlushesOver limbo files batch held made → GoesOn held made
+over_on limbo files batch held made by = inl (ap (λ (s : Stores). s.rows) by.same, go)
+  where
+    go : (place : ℕ) → place < 3 → ListsStill (listing_of (tier place held)) (listing_of (tier place made))
+    go place low = elim (same_cases place 0) [
+      | inl is ↦ subst (λ (k : ℕ). ListsStill (listing_of (tier k held)) (listing_of (tier k made))) (sym is) by.flushed.still
+      | inr apart ↦
+          let same : tier place made ≡ tier place held = ap (tier place) by.same ∙ tier_other 0 place made.short held (omega arith) low apart in
+          subst (λ (t : Held). ListsStill (listing_of (tier place held)) (listing_of t)) (sym same) (still_itself (listing_of (tier place held)))
+    ]
+
+-- a name that store 1 lists or has in limbo to this length
+pub record IsHere (held : Stores) (back : List Filed) (name : Name) (len : ℕ) : Type 0 where
+  pub file : Filed
+  pub within : Contains (put_all held.short back) file
+  pub named : file_of (1, held.rows) file.entry ≡ name
+  pub longer : len ≤ file.entry.len
+
+-- such a one isn't listed shorter then, and one of another store stays
+over_spares : (limbo : List Retired) (files : List Filed) (batch : List RowSamples) (held made : Stores) (name : Name) (len : ℕ) (by : FlushesOver limbo files batch held made) → (name.0 ≡ 1 → IsHere held by.back name len) → Spares held name len → Spares made name len
+over_spares limbo files batch held made name len by is_here spares k low = elim (same_cases k 0) [
+  | inl is ↦ subst (λ (j : ℕ). NoneShorter (listing_of (tier j made)) name len) (sym is) here
+  | inr apart ↦
+      let same : tier k made ≡ tier k held = ap (tier k) by.same ∙ tier_other 0 k made.short held (omega arith) low apart in
+      subst (λ (t : Held). NoneShorter (listing_of t) name len) (sym same) (spares k low)
+]
+  where
+    rows : made.rows ≡ held.rows
+    rows = ap (λ (s : Stores). s.rows) by.same
+
+    here : NoneShorter (listing_of (tier 0 made)) name len
+    here i e lt named =
+        let number : 1 ≡ name.0 = ap (λ (n : Name). n.0) named in
+        let h = is_here (sym number) in
+        let x : Entry = get_or (map entry_of made.short) i e in
+        let same : file_of (1, held.rows) x ≡ file_of (1, held.rows) h.file.entry = ap (λ (r : List Row). file_of (1, r) x) (sym rows) ∙ (named ∙ sym h.named) in
+        let le = All-contains (ListsNoShorter (shelf_of (tier 0 held)) (map entry_of made.short)) (put_all held.short by.back) h.file by.flushed.no_shorter h.within i e lt same in
+        let longer = h.longer in
+        omega (arith, le, longer)
+
+-- store 1 is at the first place
+first_place : (at : Seen) (r : Retired) (of : IsOfPlace at r) → r.name.0 ≡ 1 → of.place ≡ 0
+first_place at r of number = let own : of.place + 1 ≡ r.name.0 = ap (λ (n : Name). n.0) of.named in omega (arith, own, number)
+
+-- a file in limbo of store 1 is named as that of its row and partition
+own_name : (tells : Bool) (at : Seen) (limbo : List Retired) (held : Stores) → LimboStands at limbo → Has tells at held → (r : Retired) → Contains limbo r → r.name.0 ≡ 1 → file_of (1, held.rows) r.entry ≡ r.name
+own_name tells at limbo held stands has r within number =
+    let of = All-contains (IsOfPlace at) limbo r stands within in
+    let at_first = first_place at r of number in
+    ap (λ (rows : List Row). file_of (1, rows) r.entry) (sym has.known.rows) ∙ (ap (λ (k : ℕ). file_of (k + 1, at.catalogue.rows) r.entry) (sym at_first) ∙ of.named)
+
+-- and so is what is listed of these
+pub place_named : (tells : Bool) (at : Seen) (limbo : List Retired) (held : Stores) (m : ManifestState) → slice_get at.manifests 0 ≡ Some m → LimboStands at limbo → (has : Has tells at held) → (r : Retired) → Contains limbo r → r.name.0 ≡ 1 → (h : Filed) → Contains held.short h → filed_at h ≡ place r.entry → file_of (1, held.rows) h.entry ≡ r.name
+place_named tells at limbo held m here stands has r within number h there same =
+    let of = All-contains (IsOfPlace at) limbo r stands within in
+    let at_first = first_place at r of number in
+    let h_is : IsListed m.granularity held.rows h = All-contains (IsListed m.granularity held.rows) held.short h (has.known.each 0 m here).valid.filed.listed there in
+    let r_is : IsListed m.granularity held.rows (as_filed r) = subst (λ (rows : List Row). IsListed m.granularity rows (as_filed r)) has.known.rows (retired_listed at r of m (ap (slice_get at.manifests) at_first ∙ here)) in
+    same_file m.granularity 1 held.rows h (as_filed r) h_is r_is same ∙ own_name tells at limbo held stands has r within number
+
+-- what is in limbo of store 1 is here
+is_here : (tells : Bool) (at : Seen) (limbo : List Retired) (files : List Filed) (held : Stores) (m : ManifestState) → slice_get at.manifests 0 ≡ Some m → LimboStands at limbo → Has tells at held → PlacesRise files → (back : List Filed) → AreInLimbo limbo files held back
+    → (name : Name) (len : ℕ) (r : Retired) → Contains limbo r → r.name ≡ name → len ≤ r.entry.len → Spares held name len → name.0 ≡ 1 → IsHere held back name len
+is_here tells at limbo files held m here stands has rise back in_limbo name len r within named longer spares number =
+    let own : r.name.0 ≡ 1 = ap (λ (n : Name). n.0) named ∙ number in
+    elim (listed_at held.short (place r.entry)) [
+      | inl none ↦
+          let f = contains_map back r.entry (in_limbo.every r within own none) in
+          let one : All (λ (h : Filed). filed_at h ≡ filed_at f.0 → h ≡ f.0) back = λ k d lt same. one_of_place files f.0 (get_or back k d) rise (All-contains (Contains files) back f.0 in_limbo.known f.1) (in_limbo.known k d lt) same in
+          let len_is = ap (λ (e : Entry). e.len) f.2 in
+          record {
+            file = f.0;
+            within = put_all_one back held.short f.0 one (inr f.1);
+            named = ap (λ (e : Entry). file_of (1, held.rows) e) f.2 ∙ (own_name tells at limbo held stands has r within own ∙ named);
+            longer = omega (arith, longer, len_is);
+          }
+      | inr (h, there, same, found_is) ↦
+          let name_is : file_of (1, held.rows) h.entry ≡ name = place_named tells at limbo held m here stands has r within own h there same ∙ named in
+          let le = All-contains (λ (e : Entry). file_of (1, held.rows) e ≡ name → len ≤ e.len) (map entry_of held.short) h.entry (spares 0 (omega arith)) (contains_entry held.short h there) name_is in
+          record { file = h; within = listed_stays held.short back h (has.known.each 0 m here).valid.apart in_limbo.unlisted there; named = name_is; longer = le }
+    ]
+
+-- SHOWN
+
+pub over_shown : (tells : Bool) (files : List Filed) (batch : List RowSamples) (old new : SeenAll) (end : End ℕ ⊥) → new.limbo ≡ old.limbo → LimboStands old.stores old.limbo → (held : Stores) → Has tells old.stores held → PlacesRise files → EndsFrom tells (flushing_over old.limbo files batch) new.stores held end
+    → (m : ManifestState) → slice_get old.stores.manifests 0 ≡ Some m → (back : List Filed) → AreInLimbo old.limbo files held back → (IsTrue tells → KeepsListed (listing_of (with_files (tier 0 held) back)) old.stores.files new.stores.files)
+    → (IsTrue tells → (n : Name) → n.0 ≢ 1 → n ≢ m.journal.name → new.stores.files n ≡ old.stores.files n) → KeepsShown tells old new
+over_shown tells files batch old new end limbo stands held has rise ends m here back in_limbo keeps elsewhere =
+    shown tells old new limbo (λ name len h. ends_held tells (flushing_over old.limbo files batch) old.stores new.stores held end name len has (λ made by. over_on old.limbo files batch held made by) ends h)
+    (λ name len r. ends_spares tells (flushing_over old.limbo files batch) old.stores new.stores held end name len has
+    (λ made by spares. over_spares old.limbo files batch held made name len by (is_here tells old.stores old.limbo files held m here stands has rise by.back by.in_limbo name len r.file r.within r.named r.longer spares) spares)
+    ends r.no_shorter)
+    fronts
+  where
+    -- another store's file
+    beside_it : IsTrue tells → (name : Name) (len : ℕ) → IsThereTo old name len → name.0 ≢ 1 → Keeps len (old.stores.files name) (new.stores.files name)
+    beside_it told name len there apart front some within begins =
+        let number = numbered old name len there in
+        let zero_store : m.journal.name.0 ≡ 0 = ap (λ (n : Name). n.0) ((has.disk told).each 0 m here).named in
+        subst (Begins front) (sym (elsewhere told name apart (λ is. let at_zero : name.0 ≡ m.journal.name.0 = ap (λ (n : Name). n.0) is in absurd (omega (arith, at_zero, zero_store, number))))) begins
+
+    -- what is here begins as it did
+    keeps_here : IsTrue tells → (name : Name) (len : ℕ) → IsHere held back name len → Keeps len (old.stores.files name) (new.stores.files name)
+    keeps_here told name len h front some within begins =
+        let both = put_all held.short back in
+        let f = h.file in
+        let kept = All-contains (λ (e : Entry). Keeps e.len (old.stores.files (file_of (1, held.rows) e)) (new.stores.files (file_of (1, held.rows) e))) (map entry_of both) f.entry (keeps told) (contains_entry both f h.within) in
+        let longer = h.longer in
+        subst (λ (n : Name). Begins front (new.stores.files n)) h.named (kept front some (omega (arith, within, longer)) (subst (λ (n : Name). Begins front (old.stores.files n)) (sym h.named) begins))
+
+    known : IsKnownAt m (tier 0 held)
+    known = has.known.each 0 m here
+
+    fronts : IsTrue tells → KeepsFronts old new
+    fronts told name len (inr r) = elim (same_cases name.0 1) [
+      | inl number ↦ keeps_here told name len (is_here tells old.stores old.limbo files held m here stands has rise back in_limbo name len r.file r.within r.named r.longer (known_spares old.stores held name len has.known r.no_shorter) number)
+      | inr apart ↦ beside_it told name len (inr r) apart
+    ]
+    fronts told name len (inl h) = elim (same_cases h.place 0) [
+      | inl is ↦
+          let own : h.manifest ≡ m = one_manifest old.stores.manifests 0 h.place m h.manifest is here h.here in
+          let e = h.listed.entry in
+          let listed : Contains m.entries e = subst (λ (x : ManifestState). Contains x.entries e) own h.listed.within in
+          let f = contains_map held.short e (subst (λ (es : List Entry). Contains es e) known.entries listed) in
+          let named : file_of (1, held.rows) e ≡ name = ap (λ (r : List Row). file_of (1, r) e) (sym has.known.rows) ∙ (ap (λ (k : ℕ). file_of (k + 1, old.stores.catalogue.rows) e) (sym is) ∙ h.listed.named) in
+          let longer = h.listed.longer in
+          let len_is = ap (λ (x : Entry). x.len) f.2 in
+          keeps_here told name len (record { file = f.0; within = listed_stays held.short back f.0 known.valid.apart in_limbo.unlisted f.1; named = ap (λ (x : Entry). file_of (1, held.rows) x) f.2 ∙ named; longer = omega (arith, longer, len_is) })
+      | inr apart ↦ beside_it told name len (inl h) (λ is. let number = name_listed old.stores name len h in apart (omega (arith, is, number)))
+    ]
+
+-- WHOLE
+
+-- the manifests that are there, whatever stands in doubt
+known_open : (tells : Bool) (at : Seen) (before after : Stores) → IsOpen tells at before after → IsKnown at.catalogue at.manifests before
+known_open tells at before after (inl has) = has.known
+known_open tells at before after (inr doubt) = doubt.known
+
+-- files in limbo stay whole while calls only read
+read_whole : (tells : Bool) (old new : Seen) (limbo : List Retired) → length old.manifests ≡ 3 → ((name : Name) → IsHeldTo old name 0 → IsHeldTo new name 0) → KeepsRows old.catalogue.rows new.catalogue.rows → granularities new.manifests ≡ granularities old.manifests
+    → (IsTrue tells → new.files ≡ old.files) → (IsTrue tells → new.opened ≡ old.opened) → (IsTrue tells → Passes (λ a b. b ≡ a) old.past new.past) → (stands : Bool) (files : List Filed) → AreWhole tells old limbo stands files → AreWhole tells new limbo stands files
+read_whole tells old new limbo three held keeps same_g same opened passes stands files whole = record {
+  each = λ k d lt number. elim (whole.each k d lt number) [
+    | inl h ↦ inl (held (get_or limbo k d).name h)
+    | inr there ↦ inr there
+  ];
+  from = whole.from;
+  rise = whole.rise;
+  filed = λ m here.
+      let is = manifest_of old.manifests 0 m.granularity (ap (λ (gs : List Granularity). slice_get gs 0) (sym same_g) ∙ granularity_at new.manifests 0 m here) in
+      subst (λ (g : Granularity). AreFiled g (short_with new stands files)) is.2 (filed_still is.0.granularity (short_with old stands files) new.catalogue.rows keeps (whole.filed is.0 is.1));
+  safe = λ told.
+      let first = manifest_at old.manifests 0 (omega (arith, three)) in
+      safe_grows first.0.granularity (short_with old stands files) new.catalogue.rows new.files new.opened new.past keeps (whole.filed first.0 first.1)
+      (safe_stays (short_with old stands files) (λ a b. b ≡ a) old.files new.files old.opened new.opened old.past new.past (whole.safe told) (passes told) (λ a c is there. subst (AreIn (short_with old stands files)) (sym is) there)
+      (subst (AreLong (short_with old stands files)) (sym (same told)) (whole.safe told).long) (λ n. let is : new.opened n ≡ old.opened n = ap (λ (o : Name → ℕ). o n) (opened told) in omega (arith, is)));
+}
+
+-- so they do while a doubt is settled
+pub settled_whole : (tells : Bool) (old new : Seen) (limbo : List Retired) (before after : Stores) → IsOpen tells old before after → ((x y : Stores) → IsOpen tells old x y → HasEither tells new x y) → KeepsRows old.catalogue.rows new.catalogue.rows → granularities new.manifests ≡ granularities old.manifests
+    → (IsTrue tells → new.files ≡ old.files) → (IsTrue tells → new.opened ≡ old.opened) → (IsTrue tells → Passes (λ a b. b ≡ a) old.past new.past) → (stands : Bool) (files : List Filed) → AreWhole tells old limbo stands files → AreWhole tells new limbo stands files
+settled_whole tells old new limbo before after was settled keeps same_g same opened passes =
+    read_whole tells old new limbo (known_open tells old before after was).three (λ name h. settled_held tells old new before after name 0 was settled h) keeps same_g same opened passes
+
+-- or where that failed
+pub still_whole : (tells : Bool) (old new : Seen) (limbo : List Retired) (before after : Stores) → IsOpen tells old before after → ((x y : Stores) → IsOpen tells old x y → IsOpen tells new x y) → KeepsRows old.catalogue.rows new.catalogue.rows → granularities new.manifests ≡ granularities old.manifests
+    → (IsTrue tells → new.files ≡ old.files) → (IsTrue tells → new.opened ≡ old.opened) → (IsTrue tells → Passes (λ a b. b ≡ a) old.past new.past) → (stands : Bool) (files : List Filed) → AreWhole tells old limbo stands files → AreWhole tells new limbo stands files
+still_whole tells old new limbo before after was still keeps same_g same opened passes =
+    read_whole tells old new limbo (known_open tells old before after was).three (λ name h. still_held tells old new before after name 0 was still h) keeps same_g same opened passes
