@@ -13,12 +13,13 @@ use Rattle.tier_store.specs.Ends.{end_of_disk, IsFailed}
 use Rattle.tier_store.specs.Held.{file_of}
 use Rattle.tier_store.proofs.Acting.{rose_after}
 use Rattle.three_stores.specs.Change.{Acts as StoreActs, EndsFrom, Has, HoldsChange, IsEither, OnlyReads}
-use Rattle.three_stores.specs.Limbo.{IsKeptName, IsSwept as IsSweptOf, LeaveListed, LeavesKept, LimboStands, StayNeeded, staying}
+use Rattle.three_stores.specs.Limbo.{IsKeptName, IsSwept as IsSweptOf, LeavesKept, LimboStands, StayNeeded, staying}
 use Rattle.three_stores.specs.Pinned.{beside, IsThereTo, KeepsShown, Shows}
 use Rattle.three_stores.specs.Seen.{Seen, IsSettled, granularities}
 use Rattle.three_stores.specs.Stored.{HoldsAll}
 use Rattle.three_stores.specs.Stores.{Stores}
 use Rattle.three_stores.specs.declared.limbo.Retired.{Retired}
+use Rattle.three_stores.specs.declared.removing.Swept.{Swept}
 use Rattle.act_model.specs.Crash.{settled_there}
 use Rattle.act_model.specs.Limbo.{FileState}
 use Rattle.act_model.specs.Machine.{Machine}
@@ -42,25 +43,25 @@ none_there at limbo none = subst (λ (l : List Retired). LimboStands at l) (sym 
 -- WHAT THE STORES' SWEEP COMES TO
 
 -- what the stores say of a sweep that removed so many files, or failed
-pub record StoresSwept (tells : Bool) (copied : List Name) (q new : Parts) (result : Result ℕ DiskErr) : Type 0 where
+pub record StoresSwept (tells : Bool) (copied : List Name) (q new : Parts) (result : Result Swept DiskErr) : Type 0 where
   pub acts : StoreActs tells staying q.at new.at (end_of_disk result)
-  pub swept : IfOk result (IsSweptOf new.at q.pinned copied q.limbo new.limbo)
-  pub failed : OnErr result (LeaveListed new.at q.limbo new.limbo)
+  pub swept : IfOk result (λ (s : Swept). IsSweptOf new.at q.pinned copied q.limbo new.limbo s.files)
+  pub failed : OnErr result (new.limbo ≡ q.limbo)
   pub leaves : LeavesKept tells q.pinned copied (beside q.at q.limbo) (beside new.at new.limbo)
   pub pins : new.pinned ≡ q.pinned
   pub nothing : IsSettled q.at → (new.at.catalogue ≡ q.at.catalogue) × (new.at.manifests ≡ q.at.manifests)
 
 -- of no files none stays, and none was removed
-swept_none : (tells : Bool) (copied : List Name) (q new : Parts) (result : Result ℕ DiskErr) → q.limbo ≡ [] → StoresSwept tells copied q new result → (new.limbo ≡ []) × IfOk result (λ files. files ≡ 0)
-swept_none tells copied q new (Ok files) none s =
-    let is = subst (λ (l : List Retired). IsSweptOf new.at q.pinned copied l new.limbo files) none s.swept in
+swept_none : (tells : Bool) (copied : List Name) (q new : Parts) (result : Result Swept DiskErr) → q.limbo ≡ [] → StoresSwept tells copied q new result → (new.limbo ≡ []) × IfOk result (λ (s : Swept). s.files ≡ 0)
+swept_none tells copied q new (Ok swept) none s =
+    let is = subst (λ (l : List Retired). IsSweptOf new.at q.pinned copied l new.limbo swept.files) none s.swept in
     let stay : new.limbo ≡ [] = subst (λ (l : List Retired). StayNeeded q.pinned copied l new.limbo) is.unlisted is.needed in
-    let count : files + length new.limbo ≡ length is.retired = is.count in
+    let count : swept.files + length new.limbo ≡ length is.retired = is.count in
     let all : length is.retired ≡ 0 = ap length is.unlisted in
     (stay, omega (arith, count, all))
-swept_none tells copied q new (Err e) none s = (subst (λ (l : List Retired). LeaveListed new.at l new.limbo) none s.failed, tt)
+swept_none tells copied q new (Err e) none s = (s.failed ∙ none, tt)
 
-module _ (tells : Bool) (copied : List Name) (q new : Parts) (result : Result ℕ DiskErr) (s : StoresSwept tells copied q new result) (same : new ≡ record q { at = new.at; limbo = new.limbo; pinned = new.pinned }) (m : Machine) (r : Rests tells q m) where
+module _ (tells : Bool) (copied : List Name) (q new : Parts) (result : Result Swept DiskErr) (s : StoresSwept tells copied q new result) (same : new ≡ record q { at = new.at; limbo = new.limbo; pinned = new.pinned }) (m : Machine) (r : Rests tells q m) where
   abbrev held : Stores
   held = r.stands.store.before
 
@@ -71,8 +72,8 @@ module _ (tells : Bool) (copied : List Name) (q new : Parts) (result : Result �
   same_memory = s.nothing has.settled
 
   -- the stores have what they had
-  has_still : (given : Result ℕ DiskErr) → EndsFrom {A = ℕ} tells staying new.at held (end_of_disk given) → Has tells new.at held
-  has_still (Ok files) (made, is, says, now) = subst (λ (x : Stores). Has tells new.at x) is now
+  has_still : (given : Result Swept DiskErr) → EndsFrom {A = Swept} tells staying new.at held (end_of_disk given) → Has tells new.at held
+  has_still (Ok swept) (made, is, says, now) = subst (λ (x : Stores). Has tells new.at x) is now
   has_still (Err Fault) (inl now) = now
   has_still (Err Fault) (inr (made, is, doubts)) = absurd (undoubted tells q.at new.at held made has.settled same_memory.0 same_memory.1 doubts)
   has_still (Err Memory) now = now
@@ -103,12 +104,12 @@ module _ (tells : Bool) (copied : List Name) (q new : Parts) (result : Result �
       subst (λ (p : Parts). Stands tells p (record m { faults = new.at.faults })) (sym same) (stands_so tells (record q { at = new.at }) (record m { faults = new.at.faults }) new.limbo new.pinned left s.pins again)
 
   -- none was removed
-  pub none_removed : IfOk result (λ files. files ≡ 0)
+  pub none_removed : IfOk result (λ (s : Swept). s.files ≡ 0)
   none_removed = (swept_none tells copied q new result r.stands.plain.none_retired s).1
 
   -- at each moment the disk has what is durable
   pub sweep_passes : IsTrue tells → Passes (λ a image. HoldsMachine (granularities q.at.manifests) image m) q.at.past new.at.past
-  sweep_passes told = passes_weaker (HoldsChange (granularities q.at.manifests) (staying {A = ℕ}).by held held) (λ a image. HoldsMachine (granularities q.at.manifests) image m) q.at.past new.at.past (s.acts.any_moment told held held (inl has)) (λ a image left holds. elim holds [
+  sweep_passes told = passes_weaker (HoldsChange (granularities q.at.manifests) (staying {A = Swept}).by held held) (λ a image. HoldsMachine (granularities q.at.manifests) image m) q.at.past new.at.past (s.acts.any_moment told held held (inl has)) (λ a image left holds. elim holds [
     | inl one ↦ (held, elim one [ inl it ↦ it | inr it ↦ it ], r.stands.store.holds)
     | inr made ↦ (held, subst (λ (x : Stores). HoldsAll (granularities q.at.manifests) image x) (made.1.by ∙ own made.1.from made.1.either) made.2, r.stands.store.holds)
   ])
@@ -145,14 +146,14 @@ module _ (tells : Bool) (p : Parts) where
       (record m { faults = q.at.faults }, wants_memory refl (omega (arith, was, more)), still m s)
 
   module _ (q : Parts) (settles : SettlesTo tells p q) (more : p.at.faults ≤ q.at.faults) (new : Parts) (copied : List Name) (same : new ≡ record q { at = new.at; limbo = new.limbo; pinned = new.pinned }) where
-    pub sweep_ends : (result : Result ℕ DiskErr) → StoresSwept tells copied q new result → SweepEnds (sweep_reply result) new
-    sweep_ends (Ok files) swept = λ m s.
+    pub sweep_ends : (result : Result Swept DiskErr) → StoresSwept tells copied q new result → SweepEnds (sweep_reply result) new
+    sweep_ends (Ok said) swept = λ m s.
         let mid = settles m s in
         let n : Machine = record mid.0 { faults = q.at.faults } in
         let was : m.faults ≡ p.at.faults = s.faults in
         let later = swept.acts.costs.faults in
-        let zero : files ≡ 0 = none_removed tells copied q new (Ok files) swept same n mid.2 in
-        (record mid.0 { faults = new.at.faults }, runs (answer.Swept files) refl mid.1 refl (sweeps_none mid.0 new.at.faults files mid.2.stands.plain.limbo zero) (omega (arith, was, more, later)), stands_still tells copied q new (Ok files) swept same n mid.2)
+        let zero : said.files ≡ 0 = none_removed tells copied q new (Ok said) swept same n mid.2 in
+        (record mid.0 { faults = new.at.faults }, runs (answer.Swept said.files) refl mid.1 refl (sweeps_none mid.0 new.at.faults said.files mid.2.stands.plain.limbo zero) (omega (arith, was, more, later)), stands_still tells copied q new (Ok said) swept same n mid.2)
     sweep_ends (Err Fault) swept = λ m s.
         let mid = settles m s in
         let n : Machine = record mid.0 { faults = q.at.faults } in
@@ -166,7 +167,7 @@ module _ (tells : Bool) (p : Parts) where
         (record mid.0 { faults = new.at.faults }, wants_memory_settled refl mid.1 refl (omega (arith, was, more, later)), stands_still tells copied q new (Err Memory) swept same n mid.2)
 
     -- at each moment a crash leaves what was there, or what is settled
-    pub crash_sweep : (result : Result ℕ DiskErr) → StoresSwept tells copied q new result → (IsTrue tells → Passes (λ a b. b ≡ a) p.at.past q.at.past) → granularities q.at.manifests ≡ granularities p.at.manifests → LeavesByAct tells (λ m. None) (λ m. None) p new
+    pub crash_sweep : (result : Result Swept DiskErr) → StoresSwept tells copied q new result → (IsTrue tells → Passes (λ a b. b ≡ a) p.at.past q.at.past) → granularities q.at.manifests ≡ granularities p.at.manifests → LeavesByAct tells (λ m. None) (λ m. None) p new
     crash_sweep result swept reads same_g = λ m told s.
         let mid = settles m s in
         let n : Machine = record mid.0 { faults = q.at.faults } in

@@ -15,11 +15,11 @@ use act_model::Swept;
 use disk_model::{Disk, DiskErr};
 
 // The stores' answer to a sweep, in the act's own type.
-fn swept(done: Result<u64, DiskErr>) -> Swept
+fn swept(done: Result<three_stores::Swept, DiskErr>) -> Swept
     ensures { swept_reply result ≡ sweep_reply done }
 {
     match done {
-        Ok(files) => Swept::Swept { files },
+        Ok(swept) => Swept::Swept { files: swept.files },
         Err(DiskErr::Fault) => Swept::DiskFault,
         Err(DiskErr::Memory) => Swept::Memory,
     }
@@ -27,7 +27,7 @@ fn swept(done: Result<u64, DiskErr>) -> Swept
 
 impl<D: Disk> Archive<D> {
     // Sweeps the stores. No move has copied into any of their files, since there are no moves yet.
-    fn sweep_stores(&mut self) -> Result<u64, DiskErr>
+    fn sweep_stores(&mut self) -> Result<three_stores::Swept, DiskErr>
         requires stands { (m : Machine) × Stands D.tells (parts D.Disk self.old) m }
         ensures step { Steps D.tells SweepStep (parts D.Disk self.old) (sweep_reply result) (parts D.Disk self.new) }
         ensures crash { LeavesByAct D.tells (refuse_by SweepAct) (change_by SweepAct) (parts D.Disk self.old) (parts D.Disk self.new) }
@@ -38,7 +38,7 @@ impl<D: Disk> Archive<D> {
 
     /// Removes the files that were retired and that nothing needs any more, and answers how many these are. As long as an archive has no
     /// moves it retires nothing, so there are none. A change that stands in doubt is settled first. `DiskFault` comes only where the disk's
-    /// count of faults rose in the call, and `Memory` only from the disk.
+    /// count of faults rose in the call, and `Memory` only from the disk; both come from the settling alone.
     pub fn sweep(&mut self) -> Swept
         requires stands { (m : Machine) × Stands D.tells (parts D.Disk self.old) m }
         ensures step { Steps D.tells SweepStep (parts D.Disk self.old) (swept_reply result) (parts D.Disk self.new) }

@@ -1,5 +1,5 @@
 -- Files that leave a list: in limbo, and from there from the disk.
-use Rattle.std.proofs.Common.{◌≡◌, ◌⊎◌, inl, inr, Bool, true, false, ◌==◌, filter, ℕ, ◌<◌, ◌≤◌, ◌+◌, ◌++◌, List, [], ◌∷◌, length, get_or, Some, refl, sym, ◌∙◌, subst, arith}
+use Rattle.std.proofs.Common.{◌≡◌, ◌⊎◌, inl, inr, Bool, true, false, ◌==◌, filter, ℕ, zero, suc, ◌<◌, ◌≤◌, ◌+◌, ◌++◌, List, [], ◌∷◌, length, get_or, Some, refl, sym, ◌∙◌, subst, arith}
 use Rattle.std.specs.Prelude.{All, Contains, slice_get}
 use Rattle.std.specs.FinMap.{FinMap}
 use Rattle.std.specs.Ordering.{nat_cmp}
@@ -10,19 +10,18 @@ use Rattle.disk_model.specs.Files.{Name, Files}
 use Rattle.disk_model.specs.Past.{Past}
 use Rattle.disk_model.specs.Record.{is_same}
 use Rattle.disk_model.proofs.Passing.{passes_weaker}
-use Rattle.pin_table.specs.Pinned.{PinState, IsPinned}
-use Rattle.pinned_pieces.specs.Pieces.{PinOf, Agree}
+use Rattle.pinned_pieces.specs.Pieces.{PinOf}
 use Rattle.store_manifest.specs.Manifest.{ManifestState}
 use Rattle.store_manifest.specs.declared.entry.Entry.{Entry}
 use Rattle.tier_store.specs.Held.{file_of}
 use Rattle.three_stores.specs.Change.{Has}
-use Rattle.three_stores.specs.Limbo.{IsListedName, IsNeeded, Stay, StayUnlisted, LeaveListed, Spares, Removes}
+use Rattle.three_stores.specs.Limbo.{IsListedName, IsNeeded, IsPinnedFile, Stay, StayUnlisted, LeaveListed, Spares, Removes}
 use Rattle.three_stores.specs.Pinned.{Shows, beside, KeepsShown}
-use Rattle.three_stores.specs.Retiring.{IsFree, Leaves, oldest_entries}
+use Rattle.three_stores.specs.Retiring.{IsFree, Leaves, Stays, names_in, oldest_entries}
 use Rattle.three_stores.specs.Seen.{Seen}
 use Rattle.three_stores.specs.Stores.{Stores}
 use Rattle.three_stores.specs.declared.limbo.Retired.{Retired}
-use Rattle.three_stores.proofs.Staying.{same_name, own_name, pinned_from, stay_by, stay_cases, stay_from}
+use Rattle.three_stores.proofs.Staying.{same_name, own_name, stay_by, stay_cases, stay_from}
 use Rattle.three_stores.proofs.Sparing.{more_shown}
 use Rattle.three_stores.proofs.There.{row_listed}
 
@@ -36,15 +35,22 @@ leaves_from files name any =
 leaves_to : (files : List Retired) (name : Name) → Leaves files name → list_any (λ (r : Retired). is_same r.name name) files ≡ true
 leaves_to files name l = list_any-from_Any (λ (r : Retired). is_same r.name name) files (l.1.0, l.0, l.1.1, l.1.2, subst (λ (n : Name). is_same l.0.name n ≡ true) l.2 (own_name l.0.name))
 
--- one that doesn't leave isn't free
-pub stays_there : (pins : FinMap nat_cmp PinOf) (files : List Retired) (name : Name) (b : Bool) → b ≡ list_any (λ (r : Retired). is_same r.name name) files → b ≡ false → IsFree pins files name → ⊥
-stays_there pins files name b is t free = let yes : b ≡ true = is ∙ leaves_to files name free.leaves in cc (yes, t)
+no_name : (name : Name) → Contains [] name → ⊥
+no_name name (k, lt, is) = omega (arith, lt)
+
+pub pinned_by : (pins : FinMap nat_cmp PinOf) (name : Name) → IsNeeded pins [] name → IsPinnedFile pins name
+pinned_by pins name (inl pinned) = pinned
+pinned_by pins name (inr among) = absurd (no_name name among)
+
+-- one that doesn't leave stays
+pub stays_there : (pins : FinMap nat_cmp PinOf) (files : List Retired) (name : Name) (b : Bool) → b ≡ list_any (λ (r : Retired). is_same r.name name) files → b ≡ false → Stays pins files name
+stays_there pins files name b is t = inl (λ leaves. let yes : b ≡ true = is ∙ leaves_to files name leaves in cc (yes, t))
 
 -- one that leaves is free where no pin names it
-pub free_leaves : (table : FinMap nat_cmp PinState) (pins : FinMap nat_cmp PinOf) (files : List Retired) (name : Name) (b p : Bool) → b ≡ list_any (λ (r : Retired). is_same r.name name) files → b ≡ true → Agree table pins → (IsPinned table name → p ≡ true) → p ≡ false → IsFree pins files name
-free_leaves table pins files name b p is t agree says none = record {
+pub free_leaves : (pins : FinMap nat_cmp PinOf) (files : List Retired) (name : Name) (b p : Bool) → b ≡ list_any (λ (r : Retired). is_same r.name name) files → b ≡ true → (IsNeeded pins [] name → p ≡ true) → p ≡ false → IsFree pins files name
+free_leaves pins files name b p is t says none = record {
   leaves = leaves_from files name (sym is ∙ t);
-  free = λ pinned. let yes : p ≡ true = says (pinned_from table pins name agree pinned) in absurd (cc (yes, none));
+  free = λ pinned. let yes : p ≡ true = says (inl pinned) in absurd (cc (yes, none));
 }
 
 -- LISTS
@@ -53,28 +59,41 @@ pub all_stay : (P Q : Retired → Type 0) (xs : List Retired) → All P xs → S
 all_stay P Q [] all = refl
 all_stay P Q (x ∷ xs) all = inl (xs, All-head P x xs all, refl, all_stay P Q xs (All-tail P x xs all))
 
-pub spares_more : (pins : FinMap nat_cmp PinOf) (copied : List Name) (files limbo : List Retired) → All (Contains limbo) files → (a b : Files) → Spares pins copied files a b → Spares pins copied limbo a b
-spares_more pins copied files limbo among a b spares n other = spares n (λ r within is. other r (All-contains (Contains limbo) files r among within) is)
+-- the file in limbo that has the name
+named_in : (left : List Retired) (n : Name) → Contains (names_in left) n → (r : Retired) × Contains left r × (r.name ≡ n)
+named_in [] n (k, lt, is) = absurd (omega (arith, lt))
+named_in (r ∷ left) n (zero, lt, is) = (r, (zero, omega arith, refl), is)
+named_in (r ∷ left) n (suc k, lt, is) = let rest = named_in left n (k, omega (arith, lt), is) in (rest.0, (suc rest.1.0, omega (arith, rest.1.1), rest.1.2), rest.2)
 
-pub removes_more : (pins : FinMap nat_cmp PinOf) (copied : List Name) (files limbo : List Retired) (was later : Files) (opened after : Name → ℕ) (old new : Past) → All (Contains limbo) files → Removes pins copied files was later opened after old new → Removes pins copied limbo was later opened after old new
-removes_more pins copied files limbo was later opened after old new among removes = record {
-  any_moment = passes_weaker (Spares pins copied files) (Spares pins copied limbo) old new removes.any_moment (λ a c left step. spares_more pins copied files limbo among a c step);
-  spares = spares_more pins copied files limbo among was later removes.spares;
-  fewer = removes.fewer;
-}
+module _ (pins : FinMap nat_cmp PinOf) (files limbo left : List Retired) (stay : Stay (λ r. Stays pins files r.name) (λ r. IsFree pins files r.name) limbo left) where
+  pub none_more : (x : Retired) → Contains left x → Contains limbo x
+  none_more x within = (stay_from (λ r. Stays pins files r.name) (λ r. IsFree pins files r.name) limbo left x stay within).0
 
-no_name : (name : Name) → Contains [] name → ⊥
-no_name name (k, lt, is) = omega (arith, lt)
+  -- a name that leaves, and that is pinned or in limbo still, is pinned
+  left_pinned : (n : Name) → Leaves files n → IsNeeded pins (names_in left) n → IsPinnedFile pins n
+  left_pinned n leaves (inl pinned) = pinned
+  left_pinned n leaves (inr among) =
+      let r = named_in left n among in
+      let stays = subst (Stays pins files) r.2 (stay_from (λ x. Stays pins files x.name) (λ x. IsFree pins files x.name) limbo left r.0 stay r.1).1 in
+      elim stays [ inl none ↦ absurd (none leaves) | inr pinned ↦ pinned ]
 
--- what a pin names is in limbo still
-pub pinned_stays : (pins : FinMap nat_cmp PinOf) (files limbo left : List Retired) → Stay (λ r. IsFree pins files r.name → ⊥) (λ r. IsFree pins files r.name) limbo left → (x : Retired) → Contains limbo x → IsNeeded pins [] x.name → Contains left x
-pinned_stays pins files limbo left stay x within needed = elim (stay_cases (λ r. IsFree pins files r.name → ⊥) (λ r. IsFree pins files r.name) limbo left x stay within) [
-  | inl here ↦ here
-  | inr free ↦ elim needed [ inl pinned ↦ absurd (free.free pinned) | inr copied ↦ absurd (no_name x.name copied) ]
-]
+  -- what a pin names is in limbo still
+  pub left_stays : (x : Retired) → Contains limbo x → IsNeeded pins (names_in left) x.name → Contains left x
+  left_stays x within needed = elim (stay_cases (λ r. Stays pins files r.name) (λ r. IsFree pins files r.name) limbo left x stay within) [
+    | inl here ↦ here
+    | inr free ↦ absurd (free.free (left_pinned x.name free.leaves needed))
+  ]
 
-pub none_more : (pins : FinMap nat_cmp PinOf) (files limbo left : List Retired) → Stay (λ r. IsFree pins files r.name → ⊥) (λ r. IsFree pins files r.name) limbo left → (x : Retired) → Contains left x → Contains limbo x
-none_more pins files limbo left stay x within = (stay_from (λ r. IsFree pins files r.name → ⊥) (λ r. IsFree pins files r.name) limbo left x stay within).0
+  -- a removal of these files spares whatever is in limbo still
+  spares_left : All (Contains limbo) files → (a b : Files) → Spares pins [] files a b → Spares pins (names_in left) limbo a b
+  spares_left among a b spares n other = spares n (λ r within is. inl (left_pinned n (r, within, is) (other r (All-contains (Contains limbo) files r among within) is)))
+
+  pub removes_left : All (Contains limbo) files → (was later : Files) (opened after : Name → ℕ) (old new : Past) → Removes pins [] files was later opened after old new → Removes pins (names_in left) limbo was later opened after old new
+  removes_left among was later opened after old new removes = record {
+    any_moment = passes_weaker (Spares pins [] files) (Spares pins (names_in left) limbo) old new removes.any_moment (λ a c was step. spares_left among a c step);
+    spares = spares_left among was later removes.spares;
+    fewer = removes.fewer;
+  }
 
 -- ENTERING
 

@@ -1,7 +1,7 @@
 -- A retirement: what its files are in limbo, and what comes of the stores.
 use Rattle.std.proofs.Common.{◌≡◌, ◌≢◌, ◌⊎◌, inl, inr, Bool, ℕ, zero, suc, ◌<◌, ◌+◌, ◌++◌, List, [], ◌∷◌, length, map, filter, get_or, Some, refl, sym, ◌∙◌, ap, subst, arith}
-use Rattle.std.specs.Prelude.{All, Contains, IsTrue, slice_get}
-use Rattle.std.proofs.lemmas.List.Elements.{All-append, All-contains, Contains-append_left, Contains-append_right, Contains-get_or, filter_passes}
+use Rattle.std.specs.Prelude.{All, Contains, IsTrue, Result, slice_get}
+use Rattle.std.proofs.lemmas.List.Elements.{All-append, All-contains, Contains-append_right, Contains-get_or, filter_passes}
 use Rattle.disk_model.specs.Files.{Name, Files}
 use Rattle.disk_model.specs.Past.{Passes}
 use Rattle.disk_model.specs.declared.disk.DiskErr.{DiskErr}
@@ -25,18 +25,17 @@ use Rattle.tier_store.proofs.There.{contains_map}
 use Rattle.tier_store.proofs.Three.{same_cases}
 use Rattle.three_stores.specs.Change.{IsKnown, Has, Call, HoldsBy, Changes}
 use Rattle.three_stores.specs.Limbo.{IsOfPlace, LimboStands, IsListedName, StayUnlisted, LeaveListed, staying}
-use Rattle.three_stores.specs.Retiring.{oldest, oldest_entries, without_oldest, retired_of, Leaves, Enter, StayOrListed, HasGrown, HasNotGrown, Retires, SaysRetired, retiring, dropping}
+use Rattle.three_stores.specs.Retiring.{oldest, oldest_entries, without_oldest, retired_of, Leaves, Enter, HandedOver, HasGrown, HasNotGrown, Retires, SaysRetired, retiring, dropping}
 use Rattle.three_stores.specs.Seen.{Seen, granularities}
 use Rattle.three_stores.specs.Stored.{HoldsAll}
 use Rattle.three_stores.specs.Stores.{Stores, list_at}
 use Rattle.three_stores.specs.declared.limbo.Retired.{Retired}
 use Rattle.three_stores.specs.declared.retirement.RetireEnd.{RetireEnd}
-use Rattle.three_stores.specs.declared.retirement.RetireEnd.TheVariants as ends
 use Rattle.three_stores.proofs.Acting.{nothing_changes}
 use Rattle.three_stores.proofs.Dropped.{entry_in, from_oldest, same_entries, stays_or}
 use Rattle.three_stores.proofs.Places.{granularity_at, list_other, list_set, manifest_at, within_three}
 use Rattle.three_stores.proofs.Sparing.{listed_name}
-use Rattle.three_stores.proofs.Staying.{limbo_kept, stay_by, stay_cases, stay_from}
+use Rattle.three_stores.proofs.Staying.{limbo_kept, stay_by, stay_from}
 
 -- LISTS
 
@@ -101,6 +100,18 @@ module _ (tells : Bool) (i row n : ℕ) (at : Seen) (m : ManifestState) (here : 
       let f = contains_map parts e.0 (subst (λ (l : List Entry). Contains l e.0) (same_entries i row n held m.entries (has.known.each i m here).entries) e.1) in
       (f.0, f.1, ap (retired_of (i + 1, at.catalogue.rows)) f.2 ∙ e.2)
 
+  -- they are listed
+  leaving_listed : (r : Retired) → Contains leaving r → IsListedName at r.name
+  leaving_listed r within =
+      let f = part_of r within in
+      let listed = listed_name at held i m f.0 has.known here (from_oldest i row n held f.0 f.1) in
+      subst (IsListedName at) (ap (λ (rows : List Row). file_of (i + 1, rows) f.0.entry) (sym has.known.rows) ∙ ap (λ (x : Retired). x.name) f.2) listed
+
+  -- so what was in limbo and isn't listed is apart from them
+  pub kept_apart : (limbo kept files : List Retired) → StayUnlisted at limbo kept → files ≡ leaving → (r : Retired) → Contains kept r → Leaves files r.name → ⊥
+  kept_apart limbo kept files stay are r there (file, within, same) =
+      (stay_from (λ x. IsListedName at x.name → ⊥) (λ x. IsListedName at x.name) limbo kept r stay there).1 (subst (IsListedName at) same (leaving_listed file (subst (λ (l : List Retired). Contains l file) are within)))
+
   -- they are named as they were listed
   pub leaving_stands : LimboStands at leaving
   leaving_stands k d lt =
@@ -163,7 +174,7 @@ module _ (tells : Bool) (i row n : ℕ) (at : Seen) (m : ManifestState) (here : 
 
 -- WHAT COMES OF THE STORES
 
-module _ (tells : Bool) (i row : ℕ) (published : List ℕ) (Removed Entered : List Retired → Type 0) (at mid : Seen) (grown : (held : Stores) → Has tells at held → (k : ℕ) → HasNotGrown published (map entry_of (oldest i row (length published) held)) k) where
+module _ (tells : Bool) (i row : ℕ) (published : List ℕ) (Limbo : Result (Unit {0}) DiskErr → List Retired → Type 0) (at mid : Seen) (grown : (held : Stores) → Has tells at held → (k : ℕ) → HasNotGrown published (map entry_of (oldest i row (length published) held)) k) where
   abbrev By : Stores → Stores → Type 0
   By old new = (new ≡ old) ⊎ Retires i row published old new
 
@@ -171,9 +182,9 @@ module _ (tells : Bool) (i row : ℕ) (published : List ℕ) (Removed Entered : 
   holds_then held has a c (inl holds) = inl holds
   holds_then held has a c (inr made) = inr (made.0, inr (record { none_grown = grown held has; same = made.1 }), made.2)
 
-  pub retired_done : (new : Seen) (end : RetireEnd) → Changes tells (dropping i row (length published)) at mid (Done tt) → Changes tells (staying {A = RetireEnd}) mid new (Done end)
-      → ((held made : Stores) → Has tells at held → Retires i row published held made → SaysRetired i row published Removed Entered end held made) → Changes tells (retiring i row published Removed Entered) at new (Done end)
-  retired_done new end drop rest says = record {
+  pub retired_done : {B : Type 0} (new : Seen) (end : RetireEnd) (b : B) → Changes tells (dropping i row (length published)) at mid (Done tt) → Changes tells (staying {A = B}) mid new (Done b)
+      → ((held made : Stores) → Has tells at held → Retires i row published held made → SaysRetired i row published Limbo end held made) → Changes tells (retiring i row published Limbo) at new (Done end)
+  retired_done {B} new end b drop rest says = record {
     ends = λ held has.
         let d = drop.ends held has in
         let r = rest.ends d.0 d.3 in
@@ -190,13 +201,13 @@ module _ (tells : Bool) (i row : ℕ) (published : List ℕ) (Removed Entered : 
       go held has made is c (inl holds) = inr (made, inr (record { none_grown = grown held has; same = is }), subst (λ (gs : List Granularity). HoldsAll gs c made) drop.costs.granularity holds)
       go held has made is c (inr s) = inr (s.0, inr (record { none_grown = grown held has; same = s.1 ∙ is }), subst (λ (gs : List Granularity). HoldsAll gs c s.0) drop.costs.granularity s.2)
 
-  pub retired_cut : (e : DiskErr) (end : End (Unit {0}) ⊥) (last : End RetireEnd ⊥) → end ≡ end_of_error e → last ≡ end_of_error e → Changes tells (dropping i row (length published)) at mid end → Changes tells (retiring i row published Removed Entered) at mid last
-  retired_cut e end last is is_too drop = subst (λ (x : End RetireEnd ⊥). Changes tells (retiring i row published Removed Entered) at mid x) (sym is_too) (go e (subst (λ (x : End (Unit {0}) ⊥). Changes tells (dropping i row (length published)) at mid x) is drop))
+  pub retired_cut : (e : DiskErr) (end : End (Unit {0}) ⊥) (last : End RetireEnd ⊥) → end ≡ end_of_error e → last ≡ end_of_error e → Changes tells (dropping i row (length published)) at mid end → Changes tells (retiring i row published Limbo) at mid last
+  retired_cut e end last is is_too drop = subst (λ (x : End RetireEnd ⊥). Changes tells (retiring i row published Limbo) at mid x) (sym is_too) (go e (subst (λ (x : End (Unit {0}) ⊥). Changes tells (dropping i row (length published)) at mid x) is drop))
     where
       moment : {x : End (Unit {0}) ⊥} → Changes tells (dropping i row (length published)) at mid x → IsTrue tells → (held : Stores) → Has tells at held → Passes (HoldsBy (granularities at.manifests) By held) at.past mid.past
       moment {x} d told held has = passes_weaker (HoldsBy (granularities at.manifests) (λ old made. made ≡ without_oldest i row (length published) old) held) (HoldsBy (granularities at.manifests) By held) at.past mid.past (d.any_moment told held has) (λ a c left step. holds_then held has a c step)
 
-      go : (e : DiskErr) → Changes tells (dropping i row (length published)) at mid (end_of_error e) → Changes tells (retiring i row published Removed Entered) at mid (end_of_error e)
+      go : (e : DiskErr) → Changes tells (dropping i row (length published)) at mid (end_of_error e) → Changes tells (retiring i row published Limbo) at mid (end_of_error e)
       go Fault d = record {
         ends = λ held has. elim (d.ends held has) [
           | inl still ↦ inl still
@@ -244,6 +255,7 @@ module _ (tells : Bool) (i row n : ℕ) (at new : Seen) (m : ManifestState) (her
     kept = kept;
     stay = stay_by (λ x. IsListedName at x.name → ⊥) (λ x. IsListedName at x.name) (λ x. Unit {0}) (λ x. IsListedName new x.name ⊎ Leaves files x.name) (λ r. Unit {0}) (λ r known not_listed. tt)
         (λ r known listed. subst (λ (l : List Retired). IsListedName new r.name ⊎ Leaves l r.name) (sym are) (listed_after tells i row n at m here held has new now r.name listed)) limbo kept (λ k d lt. tt) stay;
+    apart = kept_apart tells i row n at m here held has limbo kept files stay are;
     are = is;
   }
 
@@ -266,22 +278,10 @@ pub nothing_retired : (tells : Bool) (call : Call RetireEnd ⊥) (at new : Seen)
 nothing_retired tells call at new end same spent =
     subst (λ (s : Seen). Changes tells call at s end) same (subst (λ (e : End RetireEnd ⊥). Changes tells call at at e) (sym spent) (nothing_changes tells call at Spent (λ held has. has) (λ failed. failed)))
 
-pub says_ended : (i row : ℕ) (published : List ℕ) (Removed Entered : List Retired → Type 0) (held made : Stores) (end : RetireEnd) → (end ≡ ends.Retired) ⊎ (end ≡ ends.Unremoved) → Retires i row published held made
-    → (end ≡ ends.Retired → Removed (map (λ (f : Filed). retired_of (i + 1, held.rows) f.entry) (oldest i row (length published) held))) → (end ≡ ends.Unremoved → Entered (map (λ (f : Filed). retired_of (i + 1, held.rows) f.entry) (oldest i row (length published) held)))
-    → SaysRetired i row published Removed Entered end held made
-says_ended i row published Removed Entered held made end (inl is) retires removed entered = subst (λ (x : RetireEnd). SaysRetired i row published Removed Entered x held made) (sym is) (record { retires = retires; limbo = removed is })
-says_ended i row published Removed Entered held made end (inr is) retires removed entered = subst (λ (x : RetireEnd). SaysRetired i row published Removed Entered x held made) (sym is) (record { retires = retires; limbo = entered is })
-
-pub stays_then : (tells : Bool) (at new : Seen) (held : Stores) (end : RetireEnd) → Has tells at held → Changes tells (staying {A = RetireEnd}) at new (Done end) → Has tells new held
-stays_then tells at new held end has rest = let r = rest.ends held has in subst (Has tells new) r.1 r.3
+pub stays_then : {A : Type 0} (tells : Bool) (at new : Seen) (held : Stores) (a : A) → Has tells at held → Changes tells (staying {A = A}) at new (Done a) → Has tells new held
+stays_then {A} tells at new held a has rest = let r = rest.ends held has in subst (Has tells new) r.1 r.3
 
 -- AFTER AN ERROR
-
-pub left_or_listed : (at new : Seen) (limbo left : List Retired) → at ≡ new → LeaveListed at limbo left → StayOrListed new limbo left
-left_or_listed at new limbo left same stay r within = elim (stay_cases (λ x. Unit {0}) (λ x. IsListedName at x.name) limbo left r stay within) [
-  | inl here ↦ inl here
-  | inr listed ↦ inr (subst (λ (s : Seen). IsListedName s r.name) same listed)
-]
 
 -- what is listed before a change that failed is so behind it
 known_listed : (at new : Seen) (held : Stores) (name : Name) → IsKnown at.catalogue at.manifests held → IsKnown new.catalogue new.manifests held → IsListedName at name → IsListedName new name
@@ -296,12 +296,25 @@ cut_known : (tells : Bool) (i row n : ℕ) (at new : Seen) (held : Stores) (e : 
 cut_known tells i row n at new held Fault has drop = elim (drop.ends held has) [ inl now ↦ now.known | inr made ↦ made.2.known ]
 cut_known tells i row n at new held Memory has drop = (drop.ends held has).known
 
-pub cut_stays : (tells : Bool) (i row n : ℕ) (at new : Seen) (held : Stores) (e : DiskErr) (end : End (Unit {0}) ⊥) → end ≡ end_of_error e → Has tells at held → Changes tells (dropping i row n) at new end → (limbo kept files left : List Retired) → StayUnlisted at limbo kept → left ≡ kept ++ files → StayOrListed new limbo left
-cut_stays tells i row n at new held e end is has drop limbo kept files left stay are r within =
-    elim (stay_cases (λ x. IsListedName at x.name → ⊥) (λ x. IsListedName at x.name) limbo kept r stay within) [
-      | inl here ↦ inl (subst (λ (l : List Retired). Contains l r) (sym are) (Contains-append_left kept files r here))
-      | inr listed ↦ inr (known_listed at new held r.name has.known (cut_known tells i row n at new held e has (subst (λ (x : End (Unit {0}) ⊥). Changes tells (dropping i row n) at new x) is drop)) listed)
-    ]
-
-pub all_still : (at : Seen) (limbo left : List Retired) → left ≡ limbo → StayOrListed at limbo left
-all_still at limbo left same r within = inl (subst (λ (l : List Retired). Contains l r) (sym same) within)
+-- what was in limbo and isn't listed is in it still, and the files that were to leave
+pub cut_handed : (tells : Bool) (i row n : ℕ) (at new : Seen) (m : ManifestState) (here : slice_get at.manifests i ≡ Some m) (held : Stores) (e : DiskErr) (end : End (Unit {0}) ⊥) → end ≡ end_of_error e → Has tells at held → Changes tells (dropping i row n) at new end → (limbo kept files left : List Retired) → StayUnlisted at limbo kept
+    → files ≡ map (retired_of (i + 1, at.catalogue.rows)) (oldest_entries row n m.entries) → left ≡ kept ++ files → HandedOver new i row n limbo left
+cut_handed tells i row n at new m here held e end is has drop limbo kept files left stay are left_is =
+    let known : IsKnown new.catalogue new.manifests held = cut_known tells i row n at new held e has (subst (λ (x : End (Unit {0}) ⊥). Changes tells (dropping i row n) at new x) is drop) in
+    let low = within_three at.manifests i m has.known.three here in
+    let there = manifest_at new.manifests i (let three = known.three in omega (arith, low, three)) in
+    let same_rows : at.catalogue.rows ≡ new.catalogue.rows = has.known.rows ∙ sym known.rows in
+    let same_entries : m.entries ≡ there.0.entries = (has.known.each i m here).entries ∙ sym (known.each i there.0 there.1).entries in (
+      files,
+      record {
+        manifest = there.0;
+        here = there.1;
+        are = are ∙ (ap (λ (rows : List Row). map (retired_of (i + 1, rows)) (oldest_entries row n m.entries)) same_rows ∙ ap (λ (es : List Entry). map (retired_of (i + 1, new.catalogue.rows)) (oldest_entries row n es)) same_entries);
+      },
+      record {
+        kept = kept;
+        stay = stay_by (λ x. IsListedName at x.name → ⊥) (λ x. IsListedName at x.name) (λ x. Unit {0}) (λ x. IsListedName new x.name ⊎ Leaves files x.name) (λ r. Unit {0}) (λ r nothing not_listed. tt) (λ r nothing listed. inl (known_listed at new held r.name has.known known listed)) limbo kept (λ k d lt. tt) stay;
+        apart = kept_apart tells i row n at m here held has limbo kept files stay are;
+        are = left_is;
+      },
+    )

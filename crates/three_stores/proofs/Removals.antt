@@ -3,6 +3,7 @@ use Rattle.std.proofs.Common.{◌≡◌, ◌≢◌, inl, inr, Bool, true, false,
 use Rattle.std.specs.Prelude.{All, Contains, IsTrue, ◌↔◌, not, nat_lt, slice_get, Result, OnOk, OnErr, IfOk}
 use Rattle.std.specs.FinMap.{FinMap}
 use Rattle.std.specs.Ordering.{nat_cmp}
+use Rattle.std.specs.Result.{result_and}
 use Rattle.std.specs.List.{AllByRecursion, items_where_true, list_any}
 use Rattle.std.specs.List.Retain.{IsFiltered, ReturnsInTurn}
 use Rattle.std.specs.List.Sorted.{IsPartitionPoint}
@@ -214,22 +215,28 @@ disk_failed {A} (Ok a) before after cause none = absurd none
 disk_failed {A} (Err Fault) before after cause failed = cause refl
 disk_failed {A} (Err Memory) before after cause none = absurd none
 
-module _ {A : Type 0} (r : Result A DiskErr) (pins : FinMap nat_cmp PinOf) (copied : List Name) (retired left : List Retired) (needed : OnOk r (StayNeeded pins copied retired left)) (unchanged : OnErr r (left ≡ retired)) where
-  -- what is needed is in limbo still, whatever is answered
+-- a count that rose has risen by any later number
+pub rose_until : (a b c : ℕ) → b ≤ c → Rose a b → Rose a c
+rose_until a b c low rose = omega (arith, low, rose)
+
+-- both were done, or a failure is told
+pub both_done : (a b : Result (Unit {0}) DiskErr) (P Q S : Type 0) → (P → Q → S) → OnOk a P → OnOk b Q → OnOk (result_and a b) S
+both_done (Ok u) (Ok v) P Q S to one two = to one two
+both_done (Ok u) (Err e) P Q S to one two = tt
+both_done (Err e) b P Q S to one two = tt
+
+pub both_cause : (a b : Result (Unit {0}) DiskErr) (P : Type 0) → (a ≡ Err Fault → P) → (b ≡ Err Fault → P) → result_and a b ≡ Err Fault → P
+both_cause (Ok u) b P one two is = two is
+both_cause (Err e) b P one two is = one is
+
+module _ (pins : FinMap nat_cmp PinOf) (copied : List Name) (retired left : List Retired) (needed : StayNeeded pins copied retired left) where
+  -- what is needed is in limbo still
   pub needed_stays : (x : Retired) → Contains retired x → IsNeeded pins copied x.name → Contains left x
-  needed_stays x within is = go r needed unchanged
-    where
-      go : (r : Result A DiskErr) → OnOk r (StayNeeded pins copied retired left) → OnErr r (left ≡ retired) → Contains left x
-      go (Ok a) stay same = elim (stay_cases (λ y. IsNeeded pins copied y.name) (λ y. IsNeeded pins copied y.name → ⊥) retired left x stay within) [ inl here ↦ here | inr gone ↦ absurd (gone is) ]
-      go (Err e) stay same = subst (λ (l : List Retired). Contains l x) (sym same) within
+  needed_stays x within is = elim (stay_cases (λ y. IsNeeded pins copied y.name) (λ y. IsNeeded pins copied y.name → ⊥) retired left x needed within) [ inl here ↦ here | inr gone ↦ absurd (gone is) ]
 
   -- and nothing has come into it
   pub none_came : (x : Retired) → Contains left x → Contains retired x
-  none_came x within = go r needed unchanged
-    where
-      go : (r : Result A DiskErr) → OnOk r (StayNeeded pins copied retired left) → OnErr r (left ≡ retired) → Contains retired x
-      go (Ok a) stay same = (stay_from (λ y. IsNeeded pins copied y.name) (λ y. IsNeeded pins copied y.name → ⊥) retired left x stay within).0
-      go (Err e) stay same = subst (λ (l : List Retired). Contains l x) same within
+  none_came x within = (stay_from (λ y. IsNeeded pins copied y.name) (λ y. IsNeeded pins copied y.name → ⊥) retired left x needed within).0
 
 -- nothing has left limbo
 pub none_left : (at : Seen) (xs ys : List Retired) → ys ≡ xs → LeaveListed at xs ys

@@ -1,18 +1,20 @@
 -- How the oldest files of a row leave a store's list.
 use Rattle.std.specs.FinMap.{FinMap}
 use Rattle.std.specs.Ordering.{nat_cmp}
-use Rattle.std.specs.Prelude.{◌≡◌, ◌⊎◌, ◌<◌, ◌≤◌, ◌+◌, ◌++◌, ◌==◌, ℕ, Bool, List, [], Contains, IsTrue, filter, length, map, take, None, Some, slice_get}
+use Rattle.std.specs.Prelude.{◌≡◌, ◌⊎◌, ◌<◌, ◌≤◌, ◌+◌, ◌++◌, ◌==◌, ℕ, Bool, List, [], Contains, IsTrue, OnOk, Result, filter, length, map, take, None, Some, slice_get}
 use Rattle.disk_model.specs.Files.{Name}
 use Rattle.disk_model.specs.Past.{Only}
+use Rattle.disk_model.specs.declared.disk.DiskErr.{DiskErr}
 use Rattle.pinned_pieces.specs.Pieces.{PinOf}
 use Rattle.store_manifest.specs.declared.entry.Change.{Change}
 use Rattle.store_manifest.specs.declared.entry.Change.TheVariants.{Drop}
 use Rattle.store_manifest.specs.declared.entry.Entry.{Entry}
+use Rattle.store_manifest.specs.Manifest.{ManifestState}
 use Rattle.tier_store.specs.Ahead.{without_all}
 use Rattle.tier_store.specs.Held.{Filed, Shelf, entry_of, file_of}
 use Rattle.tier_store.specs.Plan.{of_row}
 use Rattle.three_stores.specs.Change.{Call}
-use Rattle.three_stores.specs.Limbo.{Stay, IsListedName, IsPinnedFile, IsKeptName, AreFree}
+use Rattle.three_stores.specs.Limbo.{Stay, LeaveListed, IsListedName, IsPinnedFile, IsKeptName, AreFree}
 use Rattle.three_stores.specs.Pinned.{SeenAll, Shows}
 use Rattle.three_stores.specs.Seen.{Seen}
 use Rattle.three_stores.specs.Stores.{Stores, list_at, with_list}
@@ -68,26 +70,48 @@ pub record IsFree (pins : FinMap nat_cmp PinOf) (leaving : List Retired) (name :
   pub leaves : Leaves leaving name
   pub free : IsPinnedFile pins name → ⊥
 
--- What was in limbo and isn't listed stays, and the files that leave come behind it.
+-- one that doesn't leave, or that a pin names
+abbrev pub Stays : FinMap nat_cmp PinOf → List Retired → Name → Type 0
+Stays pins leaving name = (Leaves leaving name → ⊥) ⊎ IsPinnedFile pins name
+
+-- What was in limbo and isn't listed stays, and the files that leave come behind it, of which none was there.
 pub record Enter (at : Seen) (old new leaving : List Retired) : Type 0 where
   pub kept : List Retired
   pub stay : Stay (λ r. Unit {0}) (λ r. IsListedName at r.name ⊎ Leaves leaving r.name) old kept
+  pub apart : (r : Retired) → Contains kept r → Leaves leaving r.name → ⊥
   pub are : new ≡ kept ++ leaving
 
--- Of these just those stay that a pin names. The others of the files that leave are no files any more, and no crash brings them back.
-pub record Remain (tells : Bool) (at : Seen) (pins : FinMap nat_cmp PinOf) (old new leaving : List Retired) : Type 0 where
+-- Of the files that leave just those stay that a pin names. Where their removal didn't fail, the others are no files any more, and no crash brings
+-- them back.
+pub record Remain (tells : Bool) (at : Seen) (pins : FinMap nat_cmp PinOf) (old new : List Retired) (removed : Result (Unit {0}) DiskErr) (leaving : List Retired) : Type 0 where
   pub both : List Retired
   pub enter : Enter at old both leaving
-  pub stay : Stay (λ r. IsFree pins leaving r.name → ⊥) (λ r. IsFree pins leaving r.name) both new
-  pub gone : IsTrue tells → AreFree pins [] (λ n. Only at.past n None) leaving
+  pub stay : Stay (λ r. Stays pins leaving r.name) (λ r. IsFree pins leaving r.name) both new
+  pub gone : IsTrue tells → OnOk removed (AreFree pins [] (λ n. Only at.past n None) leaving)
 
--- whatever is listed then or named by a pin, and was shown, is shown still
+-- the names of files in limbo
+abbrev pub names_in : List Retired → List Name
+names_in limbo = map (λ (r : Retired). r.name) limbo
+
+-- whatever is listed then, in limbo or named by a pin, and was shown, is shown still
 abbrev pub ShowsKept : Bool → FinMap nat_cmp PinOf → SeenAll → SeenAll → Type 0
-ShowsKept tells pins old new = (name : Name) (bytes : List ℕ) → IsKeptName new.stores pins [] name → Shows tells old name bytes → Shows tells new name bytes
+ShowsKept tells pins old new = (name : Name) (bytes : List ℕ) → IsKeptName new.stores pins (names_in new.limbo) name → Shows tells old name bytes → Shows tells new name bytes
 
--- each file that was in limbo is so still, or is listed
-abbrev pub StayOrListed : Seen → List Retired → List Retired → Type 0
-StayOrListed at old new = (r : Retired) → Contains old r → Contains new r ⊎ IsListedName at r.name
+-- AFTER AN ERROR
+
+-- the oldest files of a row that a place lists, as ones to be retired
+pub record AreOldest (at : Seen) (i row n : ℕ) (files : List Retired) : Type 0 where
+  pub manifest : ManifestState
+  pub here : slice_get at.manifests i ≡ Some manifest
+  pub are : files ≡ map (retired_of (i + 1, at.catalogue.rows)) (oldest_entries row n manifest.entries)
+
+-- they have come to limbo, behind what was there and isn't listed
+abbrev pub HandedOver : Seen → ℕ → ℕ → ℕ → List Retired → List Retired → Type 0
+HandedOver at i row n old new = (leaving : List Retired) × AreOldest at i row n leaving × Enter at old new leaving
+
+-- they have, or limbo is as it was but for files that are listed
+abbrev pub StayOrEnter : Seen → ℕ → ℕ → ℕ → List Retired → List Retired → Type 0
+StayOrEnter at i row n old new = LeaveListed at old new ⊎ HandedOver at i row n old new
 
 -- THE CALL
 
@@ -102,14 +126,13 @@ pub record Leave (i row : ℕ) (published : List ℕ) (Limbo : List Retired → 
   pub limbo : Limbo (map (λ (f : Filed). retired_of (i + 1, old.rows) f.entry) (oldest i row (length published) old))
 
 -- what an answer says: the files are listed no more, or one has grown, and all is as it was
-abbrev pub SaysRetired : ℕ → ℕ → List ℕ → (List Retired → Type 0) → (List Retired → Type 0) → RetireEnd → Stores → Stores → Type 0
-SaysRetired i row published Removed Entered ends.Retired old new = Leave i row published Removed old new
-SaysRetired i row published Removed Entered ends.Unremoved old new = Leave i row published Entered old new
-SaysRetired i row published Removed Entered (ends.Again len copied) old new = (new ≡ old) × HasGrown published (map entry_of (oldest i row (length published) old)) len copied
+abbrev pub SaysRetired : ℕ → ℕ → List ℕ → (Result (Unit {0}) DiskErr → List Retired → Type 0) → RetireEnd → Stores → Stores → Type 0
+SaysRetired i row published Limbo (ends.Retired removed) old new = Leave i row published (Limbo removed) old new
+SaysRetired i row published Limbo (ends.Again len copied) old new = (new ≡ old) × HasGrown published (map entry_of (oldest i row (length published) old)) len copied
 
 -- The oldest files of a row leave a list, or all is as it was.
-abbrev pub retiring : ℕ → ℕ → List ℕ → (List Retired → Type 0) → (List Retired → Type 0) → Call RetireEnd ⊥
-retiring i row published Removed Entered = record { by = λ old new. (new ≡ old) ⊎ Retires i row published old new; says = SaysRetired i row published Removed Entered; refuses = λ e rows. ⊥ }
+abbrev pub retiring : ℕ → ℕ → List ℕ → (Result (Unit {0}) DiskErr → List Retired → Type 0) → Call RetireEnd ⊥
+retiring i row published Limbo = record { by = λ old new. (new ≡ old) ⊎ Retires i row published old new; says = SaysRetired i row published Limbo; refuses = λ e rows. ⊥ }
 
 -- the commit alone
 abbrev pub dropping : ℕ → ℕ → ℕ → Call (Unit {0}) ⊥

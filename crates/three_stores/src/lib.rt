@@ -51,6 +51,7 @@ mod tallying;
 pub use finding::LaterLines;
 pub use limbo::Retired;
 pub use moving::MoveBegun;
+pub use removing::Swept;
 pub use retirement::RetireEnd;
 pub use store::TierStore;
 pub use tallying::Tally;

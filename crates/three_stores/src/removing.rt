@@ -1,33 +1,44 @@
 // The removal of files in limbo that nothing needs: first each is removed, and then each name is synced, so that a folder which loses many
-// files is synced once. One that a call before has removed already counts as removed.
-ghost use Rattle.std.specs.Prelude.{◌≡◌, ◌≤◌, ◌+◌, ◌↔◌, None, IfOk, OnOk, OnErr, IsErrOf, IsTrue, length};
+// files is synced once. One that isn't there counts as removed.
+//
+// Where the disk fails, the others are removed still. What is left so is an unlisted file: it is removed when its name is written again.
+ghost use Rattle.std.specs.Prelude.{◌≡◌, ◌≤◌, ◌+◌, ◌↔◌, None, OnOk, IsErrOf, IsTrue, length};
 ghost use Rattle.disk_model.specs.Files.{Name, Rose};
 ghost use Rattle.disk_model.specs.Past.{Passes, Only};
+ghost use Rattle.disk_model.specs.Record.{is_same};
+ghost use Rattle.std.specs.List.{list_any};
 ghost use Rattle.three_stores.specs.Limbo.{IsNeeded, StayNeeded, Elsewhere, Removes, AreFree};
 
 use crate::limbo::Retired;
-use crate::retiring::is_among;
 use disk_model::{Disk, DiskErr, FileName};
 use pinned_pieces::PinnedPieces;
 
-// Removes from the disk those files of limbo that nothing needs, takes them from limbo, and answers how many they were. After an error
-// all of them are in limbo still.
+/// What a sweep has done.
+#[derive(Clone, Copy, Debug, PartialEq, Eq)]
+pub struct Swept {
+    /// How many files have left limbo since nothing needs them.
+    pub files: u64,
+    /// Whether these are removed from the disk for good: else the last failure, after which some may be there still.
+    pub removed: Result<(), DiskErr>,
+}
+
+// Takes from limbo those of its files that nothing needs, and removes them from the disk.
 pub(crate) fn clear_limbo<D: Disk>(
     disk: &mut D,
     limbo: &mut Vec<Retired>,
     pinned: &PinnedPieces,
     copied: &[FileName],
-) -> Result<u64, DiskErr>
+) -> Swept
     ensures removes { IsTrue D.tells → Removes pinned.now copied.now limbo.old.items (D.files disk.old) (D.files disk.new) (D.opened disk.old) (D.opened disk.new) (D.past disk.old) (D.past disk.new) }
-    ensures gone { IsTrue D.tells → OnOk result (AreFree pinned.now copied.now (λ n. Only (D.past disk.new) n None) limbo.old.items) }
-    ensures needed { OnOk result (StayNeeded pinned.now copied.now limbo.old.items limbo.new.items) }
-    ensures count { IfOk result (λ files. files + length limbo.new.items ≡ length limbo.old.items) }
-    ensures unchanged { OnErr result (limbo.new ≡ limbo.old) }
+    ensures gone { IsTrue D.tells → OnOk result.removed (AreFree pinned.now copied.now (λ n. Only (D.past disk.new) n None) limbo.old.items) }
+    ensures needed { StayNeeded pinned.now copied.now limbo.old.items limbo.new.items }
+    ensures count { result.files + length limbo.new.items ≡ length limbo.old.items }
     ensures faults { D.faults disk.old ≤ D.faults disk.new }
-    ensures cause { IsErrOf result DiskErr.Fault → Rose (D.faults disk.old) (D.faults disk.new) }
+    ensures cause { IsErrOf result.removed DiskErr.Fault → Rose (D.faults disk.old) (D.faults disk.new) }
 {
-    remove_for_good(disk, limbo.as_slice(), pinned, copied)?;
-    Ok(keep_needed(limbo, pinned, copied))
+    let removed = remove_for_good(disk, limbo.as_slice(), pinned, copied);
+    let files = keep_needed(limbo, pinned, copied);
+    Swept { files, removed }
 }
 
 // Removes those of the files that nothing needs, so that no crash brings them back.
@@ -42,8 +53,9 @@ pub(crate) fn remove_for_good<D: Disk>(
     ensures faults { D.faults disk.old ≤ D.faults disk.new }
     ensures cause { IsErrOf result DiskErr.Fault → Rose (D.faults disk.old) (D.faults disk.new) }
 {
-    remove_unneeded(disk, files, pinned, copied)?;
-    sync_unneeded(disk, files, pinned, copied)
+    let removed = remove_unneeded(disk, files, pinned, copied);
+    let synced = sync_unneeded(disk, files, pinned, copied);
+    synced.and(removed)
 }
 
 // Takes from limbo what nothing needs, and answers how many files that were.
@@ -57,13 +69,20 @@ fn keep_needed(limbo: &mut Vec<Retired>, pinned: &PinnedPieces, copied: &[FileNa
 }
 
 // Whether a pin names a file, or a running move has copied into it.
-fn is_needed(pinned: &PinnedPieces, copied: &[FileName], name: &FileName) -> bool
+pub(crate) fn is_needed(pinned: &PinnedPieces, copied: &[FileName], name: &FileName) -> bool
     ensures { IsTrue result ↔ IsNeeded pinned.now copied.now name.now }
 {
     pinned.pins().is_pinned(name) || is_among(copied, name)
 }
 
-// Removes those of the files that nothing needs, one after another, and syncs none.
+// Whether one of the names is this one.
+fn is_among(names: &[FileName], name: &FileName) -> bool
+    ensures { result ≡ list_any (λ other. is_same other name.now) names.now }
+{
+    names.iter().any(|other| other.is_same(name))
+}
+
+// Removes those of the files that nothing needs, one after another, and syncs none. It goes on behind a failure, and answers the last.
 fn remove_unneeded<D: Disk>(
     disk: &mut D,
     files: &[Retired],
@@ -75,13 +94,15 @@ fn remove_unneeded<D: Disk>(
     ensures faults { D.faults disk.old ≤ D.faults disk.new }
     ensures cause { IsErrOf result DiskErr.Fault → Rose (D.faults disk.old) (D.faults disk.new) }
 {
+    let mut done = Ok(());
     for file in files {
         if is_needed(pinned, copied, &file.name) {
             continue;
         }
-        remove_file(disk, &file.name)?;
+        let removed = remove_file(disk, &file.name);
+        done = removed.and(done);
     }
-    Ok(())
+    done
 }
 
 // Removes a file, if it is there.
@@ -99,7 +120,8 @@ fn remove_file<D: Disk>(disk: &mut D, name: &FileName) -> Result<(), DiskErr>
     }
 }
 
-// Syncs the names of those of the files that nothing needs, one after another: each later crash leaves of them what reads give.
+// Syncs the names of those of the files that nothing needs, one after another: each later crash leaves of them what reads give. It goes on
+// behind a failure, and answers the last.
 fn sync_unneeded<D: Disk>(
     disk: &mut D,
     files: &[Retired],
@@ -113,11 +135,13 @@ fn sync_unneeded<D: Disk>(
     ensures faults { D.faults disk.old ≤ D.faults disk.new }
     ensures cause { IsErrOf result DiskErr.Fault → Rose (D.faults disk.old) (D.faults disk.new) }
 {
+    let mut done = Ok(());
     for file in files {
         if is_needed(pinned, copied, &file.name) {
             continue;
         }
-        disk.sync(&file.name)?;
+        let synced = disk.sync(&file.name);
+        done = synced.and(done);
     }
-    Ok(())
+    done
 }

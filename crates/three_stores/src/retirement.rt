@@ -1,18 +1,19 @@
 // The retirement: the oldest files of a row leave a store's list.
 //
 // They go to limbo first, so that what is pinned is there whatever comes of the commit. Those that no pin names are removed behind it.
-ghost use Rattle.std.specs.Prelude.{◌≡◌, ◌≤◌, ◌<◌, ◌+◌, ℕ, Ok, Some, None, OnErr, Contains, length, map, slice_get};
+ghost use Rattle.std.specs.Prelude.{◌≡◌, ◌≤◌, ◌<◌, ◌+◌, ℕ, Ok, Some, None, OnErr, IsErrOf, Contains, length, map, slice_get};
+ghost use Rattle.disk_model.specs.Files.{Rose};
 ghost use Rattle.pv_catalog.specs.Rows.{KeepsRows};
 ghost use Rattle.store_manifest.specs.Manifest.{ManifestState};
 ghost use Rattle.tier_store.specs.Ends.{end_of_disk};
 ghost use Rattle.tier_store.specs.Held.{Filed};
 ghost use Rattle.three_stores.specs.Stores.{Stores};
-ghost use Rattle.three_stores.specs.Seen.{seen};
+ghost use Rattle.three_stores.specs.Seen.{seen, IsSettled};
 ghost use Rattle.three_stores.specs.Change.{Has, IsOpen, Changes, Acts};
 ghost use Rattle.three_stores.specs.Limbo.{LimboStands};
 ghost use Rattle.three_stores.specs.Pinned.{seen_all, KeepsShown};
-ghost use Rattle.three_stores.specs.Retiring.{oldest, oldest_entries, drop_entry, retired_of, dropping, retiring, HasGrown, HasNotGrown, Enter, Remain, ShowsKept, StayOrListed};
-ghost use Rattle.three_stores.specs.declared.retirement.RetireEnd.TheVariants.{Again};
+ghost use Rattle.three_stores.specs.Retiring.{oldest, oldest_entries, drop_entry, retired_of, dropping, retiring, HasGrown, HasNotGrown, Remain, ShowsKept, HandedOver, StayOrEnter};
+ghost use Rattle.three_stores.specs.declared.retirement.RetireEnd.TheVariants.{Again, Retired as IsRetired};
 
 use crate::TierStore;
 use crate::retiring::oldest;
@@ -23,10 +24,9 @@ use tier_store::relist;
 /// How a retirement ended.
 #[derive(Clone, Copy, Debug, PartialEq, Eq)]
 pub enum RetireEnd {
-    /// The store lists the files no more. Those that a pin names are in limbo, and the others are removed.
-    Retired,
-    /// The store lists the files no more, but the disk failed before all were removed that no pin names: all of them are in limbo.
-    Unremoved,
+    /// The store lists the files no more. Those that a pin names are in limbo. `removed` says whether the others are removed from the disk
+    /// for good: else the last failure, after which some may be there still.
+    Retired { removed: Result<(), DiskErr> },
     /// A file is listed at `len` bytes, of which `copied` were published. Nothing has changed.
     Again { len: u64, copied: u64 },
 }
@@ -82,10 +82,12 @@ impl<D: Disk> TierStore<D> {
         requires has { (held : Stores) × Has D.tells (seen D.Disk self.old) held }
         requires stands { LimboStands (seen D.Disk self.old) self.old.limbo.items }
 
-        ensures changes { Changes D.tells (retiring place row published.now (Remain D.tells (seen D.Disk self.new) self.old.pinned self.old.limbo.items self.new.limbo.items) (Enter (seen D.Disk self.new) self.old.limbo.items self.new.limbo.items)) (seen D.Disk self.old) (seen D.Disk self.new) (end_of_disk result) }
+        ensures changes { Changes D.tells (retiring place row published.now (Remain D.tells (seen D.Disk self.new) self.old.pinned self.old.limbo.items self.new.limbo.items)) (seen D.Disk self.old) (seen D.Disk self.new) (end_of_disk result) }
         ensures shown { ShowsKept D.tells self.old.pinned (seen_all D.Disk self.old) (seen_all D.Disk self.new) }
         ensures again { (len copied : ℕ) → result ≡ Ok (Again len copied) → self.new.limbo ≡ self.old.limbo }
-        ensures failed { OnErr result (StayOrListed (seen D.Disk self.new) self.old.limbo.items self.new.limbo.items) }
+        ensures failed { OnErr result (StayOrEnter (seen D.Disk self.new) place row (length published.now) self.old.limbo.items self.new.limbo.items) }
+        ensures handed { IsErrOf result DiskErr.Fault → HandedOver (seen D.Disk self.new) place row (length published.now) self.old.limbo.items self.new.limbo.items }
+        ensures cause { (removed : _) → result ≡ Ok (IsRetired removed) → IsErrOf removed DiskErr.Fault → Rose (D.faults self.old.disk) (D.faults self.new.disk) }
         ensures stands { LimboStands (seen D.Disk self.new) self.new.limbo.items }
         ensures same { (self.new.catalogue ≡ self.old.catalogue) × (self.new.pinned ≡ self.old.pinned) }
     {
@@ -96,19 +98,21 @@ impl<D: Disk> TierStore<D> {
         }
         let leaving = self.hand_over(place, row, n)?;
         self.drop_oldest(place, row, n, &leaving.drops)?;
-        Ok(self.remove_handed(&leaving.files))
+        let removed = self.remove_handed(&leaving.files);
+        Ok(RetireEnd::Retired { removed })
     }
 
     /// Takes the oldest files of a row, as many as lengths are given, from the list at a place, which is a store's number less one: of
     /// store 1 or 2. `published` has how much of each the next store lists, oldest first. A change that stands in doubt is settled first.
     /// `Again` comes exactly where a file is listed longer than it was published, the first of these, and nothing has changed then.
     ///
-    /// Else the files go to limbo, one commit drops them from the list, and those are removed for good that no pin names; these leave
-    /// limbo. A crash at any moment leaves what was held, or that without the files. What is pinned stays as it is, whatever is answered.
+    /// Else the files go to limbo, one commit drops them from the list, and those that no pin names leave limbo and are removed. A crash at
+    /// any moment leaves what was held, or that without the files. What is pinned stays as it is, whatever is answered. A removal that
+    /// fails is no failure of the retirement; it is told.
     ///
-    /// After `Unremoved`, which is told where the disk failed or wanted memory behind the commit, all the files are in limbo, for a sweep.
     /// After `Fault`, which comes only where the disk's count of faults rose in the call, it may not be known whether the commit was
-    /// made; the next call that changes the stores finds out. After `Memory` what was held is still held.
+    /// made; the next call that changes the stores finds out. The files are in limbo till then, and count for nothing while they are listed.
+    /// After `Memory` what was held is still held.
     pub fn retire(
         &mut self,
         place: usize,
@@ -120,9 +124,11 @@ impl<D: Disk> TierStore<D> {
         requires begun { (before : Stores) × (after : Stores) × IsOpen D.tells (seen D.Disk self.old) before after }
         requires stands { LimboStands (seen D.Disk self.old) self.old.limbo.items }
 
-        ensures acts { Acts D.tells (retiring place row published.now (Remain D.tells (seen D.Disk self.new) self.old.pinned self.old.limbo.items self.new.limbo.items) (Enter (seen D.Disk self.new) self.old.limbo.items self.new.limbo.items)) (seen D.Disk self.old) (seen D.Disk self.new) (end_of_disk result) }
+        ensures acts { Acts D.tells (retiring place row published.now (Remain D.tells (seen D.Disk self.new) self.old.pinned self.old.limbo.items self.new.limbo.items)) (seen D.Disk self.old) (seen D.Disk self.new) (end_of_disk result) }
         ensures again { (len copied : ℕ) → result ≡ Ok (Again len copied) → self.new.limbo ≡ self.old.limbo }
-        ensures failed { OnErr result (StayOrListed (seen D.Disk self.new) self.old.limbo.items self.new.limbo.items) }
+        ensures failed { OnErr result (StayOrEnter (seen D.Disk self.new) place row (length published.now) self.old.limbo.items self.new.limbo.items) }
+        ensures handed { IsSettled (seen D.Disk self.old) → IsErrOf result DiskErr.Fault → HandedOver (seen D.Disk self.new) place row (length published.now) self.old.limbo.items self.new.limbo.items }
+        ensures cause { (removed : _) → result ≡ Ok (IsRetired removed) → IsErrOf removed DiskErr.Fault → Rose (D.faults self.old.disk) (D.faults self.new.disk) }
         ensures shown { ShowsKept D.tells self.old.pinned (seen_all D.Disk self.old) (seen_all D.Disk self.new) }
         ensures stands { LimboStands (seen D.Disk self.new) self.new.limbo.items }
         ensures keeps { KeepsRows self.old.catalogue.rows self.new.catalogue.rows }

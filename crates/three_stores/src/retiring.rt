@@ -2,8 +2,9 @@
 //
 // They go there before its commit, so that pinned pieces are there whatever comes of it: made, not made or in doubt. While a store lists
 // them they count for nothing.
-ghost use Rattle.std.specs.Prelude.{◌≡◌, ◌⊎◌, ◌<◌, ◌+◌, ◌++◌, [], List, All, Contains, IfOk, OnErr, IsTrue, None, Some, true, false, length, map, slice_get, take};
+ghost use Rattle.std.specs.Prelude.{◌≡◌, ◌<◌, ◌+◌, ◌++◌, [], List, All, Contains, IfOk, OnOk, OnErr, IsErrOf, IsTrue, None, Some, true, false, length, map, slice_get, take};
 ghost use Rattle.std.specs.List.{list_any};
+ghost use Rattle.disk_model.specs.Files.{Rose};
 ghost use Rattle.disk_model.specs.Past.{Only};
 ghost use Rattle.disk_model.specs.Record.{is_same};
 ghost use Rattle.store_manifest.specs.Manifest.{ManifestState};
@@ -14,15 +15,13 @@ ghost use Rattle.three_stores.specs.Seen.{seen};
 ghost use Rattle.three_stores.specs.Change.{Has, Changes};
 ghost use Rattle.three_stores.specs.Pinned.{seen_all, KeepsShown};
 ghost use Rattle.three_stores.specs.Limbo.{LimboStands, IsListedName, Stay, StayUnlisted, LeaveListed, LeavesKept, AreFree, staying};
-ghost use Rattle.three_stores.specs.Retiring.{IsFree, oldest_entries, drop_entry, retired_of};
-ghost use Rattle.three_stores.specs.declared.retirement.RetireEnd.TheVariants.{Retired as IsRetired, Unremoved};
+ghost use Rattle.three_stores.specs.Retiring.{IsFree, Stays, names_in, oldest_entries, drop_entry, retired_of};
 ghost use Rattle.three_stores.specs.declared.limbo.Retired.{Retired as RetiredValue};
 
 use crate::TierStore;
 use crate::limbo::{Retired, leave_listed};
-use crate::removing::remove_for_good;
-use crate::retirement::RetireEnd;
-use disk_model::{Disk, FileName};
+use crate::removing::{is_needed, remove_for_good};
+use disk_model::{Disk, DiskErr, FileName};
 use pinned_pieces::PinnedPieces;
 use pv_catalog::Row;
 use std::alloc::{AllocError, Global};
@@ -36,13 +35,6 @@ pub(crate) struct Leaving {
     pub(crate) drops: Vec<Change>,
 }
 
-// Whether one of the names is this one.
-pub(crate) fn is_among(names: &[FileName], name: &FileName) -> bool
-    ensures { result ≡ list_any (λ other. is_same other name.now) names.now }
-{
-    names.iter().any(|other| other.is_same(name))
-}
-
 // Whether a file of this name leaves.
 fn leaves(files: &[Retired], name: &FileName) -> bool
     ensures { result ≡ list_any (λ other. is_same other.name name.now) files.now }
@@ -52,10 +44,10 @@ fn leaves(files: &[Retired], name: &FileName) -> bool
 
 // Whether a file stays in limbo: it isn't one that leaves, or a pin names it.
 fn remains(files: &[Retired], pinned: &PinnedPieces, name: &FileName) -> bool
-    ensures stays { result ≡ true → IsFree pinned.now files.now name.now → ⊥ }
+    ensures stays { result ≡ true → Stays pinned.now files.now name.now }
     ensures leaves { result ≡ false → IsFree pinned.now files.now name.now }
 {
-    !leaves(files, name) || pinned.pins().is_pinned(name)
+    !leaves(files, name) || is_needed(pinned, &[], name)
 }
 
 // The oldest entries of a list, so many.
@@ -138,27 +130,24 @@ impl<D: Disk> TierStore<D> {
         Ok(Leaving { files, drops })
     }
 
-    // Removes files from the disk that have left their list, and takes them from limbo, but for those that a pin names.
-    pub(crate) fn remove_handed(&mut self, files: &[Retired]) -> RetireEnd
+    // Takes from limbo files that have left their list, but for those that a pin names, and removes them from the disk.
+    pub(crate) fn remove_handed(&mut self, files: &[Retired]) -> Result<(), DiskErr>
         requires has { (held : Stores) × Has D.tells (seen D.Disk self.old) held }
         requires stands { LimboStands (seen D.Disk self.old) self.old.limbo.items }
         requires unlisted { All (λ (r : RetiredValue). IsListedName (seen D.Disk self.old) r.name → ⊥) self.old.limbo.items }
         requires among { All (Contains self.old.limbo.items) files.now }
 
         ensures changes { Changes D.tells staying (seen D.Disk self.old) (seen D.Disk self.new) (Done result) }
-        ensures leaves { LeavesKept D.tells self.old.pinned [] (seen_all D.Disk self.old) (seen_all D.Disk self.new) }
+        ensures leaves { LeavesKept D.tells self.old.pinned (names_in self.new.limbo.items) (seen_all D.Disk self.old) (seen_all D.Disk self.new) }
         ensures stands { LimboStands (seen D.Disk self.new) self.new.limbo.items }
-        ensures left { result ≡ IsRetired → Stay (λ r. IsFree self.old.pinned files.now r.name → ⊥) (λ r. IsFree self.old.pinned files.now r.name) self.old.limbo.items self.new.limbo.items }
-        ensures gone { IsTrue D.tells → result ≡ IsRetired → AreFree self.old.pinned [] (λ n. Only (D.past self.new.disk) n None) files.now }
-        ensures unremoved { result ≡ Unremoved → self.new.limbo ≡ self.old.limbo }
-        ensures ends { (result ≡ IsRetired) ⊎ (result ≡ Unremoved) }
+        ensures left { Stay (λ r. Stays self.old.pinned files.now r.name) (λ r. IsFree self.old.pinned files.now r.name) self.old.limbo.items self.new.limbo.items }
+        ensures gone { IsTrue D.tells → OnOk result (AreFree self.old.pinned [] (λ n. Only (D.past self.new.disk) n None) files.now) }
+        ensures cause { IsErrOf result DiskErr.Fault → Rose (D.faults self.old.disk) (D.faults self.new.disk) }
         ensures same { (self.new.catalogue ≡ self.old.catalogue) × (self.new.manifests ≡ self.old.manifests) × (self.new.pinned ≡ self.old.pinned) }
     {
         let pinned = &self.pinned;
-        if remove_for_good(&mut self.disk, files, pinned, &[]).is_err() {
-            return RetireEnd::Unremoved;
-        }
+        let removed = remove_for_good(&mut self.disk, files, pinned, &[]);
         self.limbo.retain(|file| remains(files, pinned, &file.name));
-        RetireEnd::Retired
+        removed
     }
 }

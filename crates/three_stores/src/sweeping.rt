@@ -1,30 +1,30 @@
 // The sweep: retired files that nothing needs any more are removed, and leave limbo.
-ghost use Rattle.std.specs.Prelude.{◌≡◌, ◌≤◌, All, IfOk, OnOk, OnErr, IsTrue};
-ghost use Rattle.disk_model.specs.Files.{Name};
+ghost use Rattle.std.specs.Prelude.{◌≡◌, ◌≤◌, All, IfOk, OnOk, OnErr, IsErrOf, IsTrue};
+ghost use Rattle.disk_model.specs.Files.{Name, Rose};
 ghost use Rattle.pv_catalog.specs.Rows.{KeepsRows};
-ghost use Rattle.tier_store.specs.Ends.{end_of_disk};
+ghost use Rattle.tier_store.specs.Ends.{Done, end_of_disk};
 ghost use Rattle.three_stores.specs.Stores.{Stores};
 ghost use Rattle.three_stores.specs.Seen.{seen, IsSettled};
 ghost use Rattle.three_stores.specs.Change.{Has, IsOpen, Changes, Acts};
 ghost use Rattle.three_stores.specs.Moving.{LeavesNames};
 ghost use Rattle.three_stores.specs.Pinned.{seen_all};
-ghost use Rattle.three_stores.specs.Limbo.{LimboStands, IsSwept, LeaveListed, AreGone, LeavesKept, staying};
+ghost use Rattle.three_stores.specs.Limbo.{LimboStands, IsSwept, AreGone, LeavesKept, staying};
 
 use crate::TierStore;
 use crate::limbo::leave_listed;
-use crate::removing::clear_limbo;
+use crate::removing::{Swept, clear_limbo};
 use disk_model::{Disk, DiskErr, FileName};
 
 impl<D: Disk> TierStore<D> {
     // Sweeps where no change stands in doubt.
-    fn sweep_settled(&mut self, copied: &[FileName]) -> Result<u64, DiskErr>
+    fn sweep_settled(&mut self, copied: &[FileName]) -> Swept
         requires has { (held : Stores) × Has D.tells (seen D.Disk self.old) held }
         requires stands { LimboStands (seen D.Disk self.old) self.old.limbo.items }
 
-        ensures changes { Changes D.tells staying (seen D.Disk self.old) (seen D.Disk self.new) (end_of_disk result) }
-        ensures swept { IfOk result (IsSwept (seen D.Disk self.new) self.old.pinned copied.now self.old.limbo.items self.new.limbo.items) }
-        ensures gone { IsTrue D.tells → OnOk result (AreGone (seen D.Disk self.new) self.old.pinned copied.now self.old.limbo.items) }
-        ensures failed { OnErr result (LeaveListed (seen D.Disk self.new) self.old.limbo.items self.new.limbo.items) }
+        ensures changes { Changes D.tells staying (seen D.Disk self.old) (seen D.Disk self.new) (Done result) }
+        ensures swept { IsSwept (seen D.Disk self.new) self.old.pinned copied.now self.old.limbo.items self.new.limbo.items result.files }
+        ensures gone { IsTrue D.tells → OnOk result.removed (AreGone (seen D.Disk self.new) self.old.pinned copied.now self.old.limbo.items) }
+        ensures cause { IsErrOf result.removed DiskErr.Fault → Rose (D.faults self.old.disk) (D.faults self.new.disk) }
         ensures leaves { LeavesKept D.tells self.old.pinned copied.now (seen_all D.Disk self.old) (seen_all D.Disk self.new) }
         ensures copied { LeavesNames copied.now D.tells (seen_all D.Disk self.old) (seen_all D.Disk self.new) }
         ensures stands { LimboStands (seen D.Disk self.new) self.new.limbo.items }
@@ -36,20 +36,21 @@ impl<D: Disk> TierStore<D> {
 
     /// Removes the files of limbo that nothing needs any more, and answers how many these are. `copied` names the files into which running
     /// moves have copied. A change that stands in doubt is settled first. Then two kinds of files leave limbo: those that their store lists
-    /// again, which aren't counted, and those that no pin names and into which no running move has copied, which are removed for good. What
+    /// again, which aren't counted, and those that no pin names and into which no running move has copied, which are removed from the disk. What
     /// is listed, pinned or copied into stays as it is, at every moment of the call.
     ///
-    /// After `Fault`, which comes only where the disk's count of faults rose in the call, and after `Memory`, which only the disk answers,
-    /// each file that no store lists is in limbo still. Some of them may be removed already; a later sweep counts these too. Where no
-    /// change stood in doubt before the call, none does then.
-    pub fn sweep(&mut self, copied: &[FileName]) -> Result<u64, DiskErr>
+    /// A removal that fails is no failure of the sweep: such a file leaves limbo too, and it is told. `Fault`, which comes only where the
+    /// disk's count of faults rose in the call, and `Memory` come from the settling alone, and limbo is as it was then. Where no change stood
+    /// in doubt before the call, none does then.
+    pub fn sweep(&mut self, copied: &[FileName]) -> Result<Swept, DiskErr>
         requires begun { (before : Stores) × (after : Stores) × IsOpen D.tells (seen D.Disk self.old) before after }
         requires stands { LimboStands (seen D.Disk self.old) self.old.limbo.items }
 
         ensures acts { Acts D.tells staying (seen D.Disk self.old) (seen D.Disk self.new) (end_of_disk result) }
-        ensures swept { IfOk result (IsSwept (seen D.Disk self.new) self.old.pinned copied.now self.old.limbo.items self.new.limbo.items) }
-        ensures gone { IsTrue D.tells → OnOk result (AreGone (seen D.Disk self.new) self.old.pinned copied.now self.old.limbo.items) }
-        ensures failed { OnErr result (LeaveListed (seen D.Disk self.new) self.old.limbo.items self.new.limbo.items) }
+        ensures swept { IfOk result (λ swept. IsSwept (seen D.Disk self.new) self.old.pinned copied.now self.old.limbo.items self.new.limbo.items swept.files) }
+        ensures gone { IsTrue D.tells → IfOk result (λ swept. OnOk swept.removed (AreGone (seen D.Disk self.new) self.old.pinned copied.now self.old.limbo.items)) }
+        ensures cause { IfOk result (λ swept. IsErrOf swept.removed DiskErr.Fault → Rose (D.faults self.old.disk) (D.faults self.new.disk)) }
+        ensures failed { OnErr result (self.new.limbo ≡ self.old.limbo) }
         ensures leaves { LeavesKept D.tells self.old.pinned copied.now (seen_all D.Disk self.old) (seen_all D.Disk self.new) }
         ensures copied { All (λ (n : Name). 2 ≤ n.0) copied.now → LeavesNames copied.now D.tells (seen_all D.Disk self.old) (seen_all D.Disk self.new) }
         ensures stands { LimboStands (seen D.Disk self.new) self.new.limbo.items }
@@ -58,6 +59,6 @@ impl<D: Disk> TierStore<D> {
         ensures nothing { IsSettled (seen D.Disk self.old) → (self.new.catalogue ≡ self.old.catalogue) × (self.new.manifests ≡ self.old.manifests) }
     {
         self.review()?;
-        self.sweep_settled(copied)
+        Ok(self.sweep_settled(copied))
     }
 }

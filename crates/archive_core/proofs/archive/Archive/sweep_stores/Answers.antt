@@ -1,7 +1,9 @@
-use Rattle.std.proofs.Common.{ℕ, Err, Result, refl, sym, ◌∙◌, ap, subst}
+use Rattle.std.proofs.Common.{Err, Result, refl, sym, ◌∙◌, ap, subst}
 use Rattle.std.proofs.lemmas.Result.{err_from_is_err_and}
 use Rattle.disk_model.specs.declared.disk.DiskErr.{DiskErr}
 use Rattle.three_stores.specs.Seen.{seen}
+use Rattle.three_stores.specs.declared.removing.Swept.{Swept}
+use Rattle.three_stores.proofs.Removals.{on_err}
 use Rattle.archive_core.specs.Ends.{Steps}
 use Rattle.archive_core.specs.Parts.{parts}
 use Rattle.archive_core.specs.Sweeping.{sweep_reply}
@@ -15,7 +17,7 @@ returns-in_err-settle-clause-step g c =
     let e = err_from_is_err_and c.from_residual.result c.from_residual.ensures.1 in
     let old = parts g.D.Disk c.args.self.now in
     let new = parts g.D.Disk c.settle.new.self in
-    subst (λ (r : Result ℕ DiskErr). Steps g.D.Disk.tells SweepStep old (sweep_reply r) new) (sym (e.1 ∙ ap (λ (d : DiskErr). Err d) e.2))
+    subst (λ (r : Result Swept DiskErr). Steps g.D.Disk.tells SweepStep old (sweep_reply r) new) (sym (e.1 ∙ ap (λ (d : DiskErr). Err d) e.2))
     (sweep_cut g.D.Disk.tells old new c.settle.result c.in_err-settle.field-0.0 c.in_err-settle.was c.in_err-settle.ensures.still c.settle.ensures.reads)
 
 pub returns-in_err-settle-clause-crash : goal.returns-in_err-settle-clause-crash
@@ -39,7 +41,7 @@ returns-clause-step g c =
     let call = c.sweep.ensures in
     let new = record q { at = seen g.D.Disk c.sweep.new.self; limbo = c.sweep.new.self.limbo.items; pinned = c.sweep.new.self.pinned } in
     sweep_ends g.D.Disk.tells (parts g.D.Disk c.args.self.now) q c.in_ok-settle.ensures.settled c.settle.ensures.reads.faults new _ refl c.sweep.result
-    (record { acts = call.acts; swept = call.swept; failed = call.failed; leaves = call.leaves; pins = call.pins; nothing = λ settled. (let same = call.nothing settled in (same.0, ap (λ l. l.items) same.1)) })
+    (record { acts = call.acts; swept = call.swept; failed = on_err c.sweep.result _ _ (λ same. ap (λ l. l.items) same) call.failed; leaves = call.leaves; pins = call.pins; nothing = λ settled. (let same = call.nothing settled in (same.0, ap (λ l. l.items) same.1)) })
 
 pub returns-clause-crash : goal.returns-clause-crash
 returns-clause-crash g c =
@@ -47,5 +49,5 @@ returns-clause-crash g c =
     let call = c.sweep.ensures in
     let new = record q { at = seen g.D.Disk c.sweep.new.self; limbo = c.sweep.new.self.limbo.items; pinned = c.sweep.new.self.pinned } in
     crash_sweep g.D.Disk.tells (parts g.D.Disk c.args.self.now) q c.in_ok-settle.ensures.settled c.settle.ensures.reads.faults new _ refl c.sweep.result
-    (record { acts = call.acts; swept = call.swept; failed = call.failed; leaves = call.leaves; pins = call.pins; nothing = λ settled. (let same = call.nothing settled in (same.0, ap (λ l. l.items) same.1)) })
+    (record { acts = call.acts; swept = call.swept; failed = on_err c.sweep.result _ _ (λ same. ap (λ l. l.items) same) call.failed; leaves = call.leaves; pins = call.pins; nothing = λ settled. (let same = call.nothing settled in (same.0, ap (λ l. l.items) same.1)) })
     c.settle.ensures.reads.any_moment c.settle.ensures.granularity

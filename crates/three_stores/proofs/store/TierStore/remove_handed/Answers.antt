@@ -1,38 +1,13 @@
-use Rattle.std.proofs.Common.{rules, []}
+use Rattle.std.proofs.Common.{rules}
 use Rattle.std.specs.Prelude.{IsTrue}
 use Rattle.tier_store.specs.Ends.{Done}
 use Rattle.three_stores.specs.Limbo.{IsListedName, Removes}
-use Rattle.three_stores.specs.Retiring.{IsFree}
+use Rattle.three_stores.specs.Retiring.{IsFree, Stays, names_in}
 use Rattle.three_stores.specs.Seen.{seen_on}
-use Rattle.three_stores.specs.declared.retirement.RetireEnd.TheVariants as ends
-use Rattle.three_stores.proofs.Handing.{all_stay, removes_more, pinned_stays, none_more}
+use Rattle.three_stores.proofs.Handing.{all_stay, removes_left, left_stays, none_more}
 use Rattle.three_stores.proofs.Removals.{retained}
 use Rattle.three_stores.proofs.Sparing.{swept_changes, swept_leaves, still_stands}
 use Rattle.three_stores.proofs.store.TierStore.remove_handed.Goals as goal
-
-pub returns-then-is_err-clause-changes : goal.returns-then-is_err-clause-changes
-returns-then-is_err-clause-changes g c =
-    let self = c.args.self.now in
-    let disk = g.D.Disk in
-    let at = seen_on disk.files disk.opened disk.past disk.faults self.catalogue self.manifests.items self.disk in
-    let held = c.requires.has in
-    let limbo = self.limbo.items in
-    let new = c.remove_for_good.new.disk in
-    let unlisted = all_stay (λ r. IsListedName at r.name → ⊥) (λ r. IsListedName at r.name) limbo c.requires.unlisted in
-    let removes : IsTrue disk.tells → Removes self.pinned [] limbo (disk.files self.disk) (disk.files new) (disk.opened self.disk) (disk.opened new) (disk.past self.disk) (disk.past new) = λ told. removes_more self.pinned [] c.args.files.now limbo (disk.files self.disk) (disk.files new) (disk.opened self.disk) (disk.opened new) (disk.past self.disk) (disk.past new) c.requires.among (c.remove_for_good.ensures.removes told) in
-    swept_changes disk.tells at self.pinned [] limbo limbo c.requires.stands unlisted (disk.files new) (disk.opened new) (disk.past new) (disk.faults new) (λ told. (removes told).any_moment) (λ told. (removes told).spares) (λ told. (removes told).fewer) (Done ends.Unremoved) c.remove_for_good.ensures.faults (λ failed. absurd failed)
-
-pub returns-then-is_err-clause-leaves : goal.returns-then-is_err-clause-leaves
-returns-then-is_err-clause-leaves g c =
-    let self = c.args.self.now in
-    let disk = g.D.Disk in
-    let at = seen_on disk.files disk.opened disk.past disk.faults self.catalogue self.manifests.items self.disk in
-    let held = c.requires.has in
-    let limbo = self.limbo.items in
-    let new = c.remove_for_good.new.disk in
-    let unlisted = all_stay (λ r. IsListedName at r.name → ⊥) (λ r. IsListedName at r.name) limbo c.requires.unlisted in
-    let removes : IsTrue disk.tells → Removes self.pinned [] limbo (disk.files self.disk) (disk.files new) (disk.opened self.disk) (disk.opened new) (disk.past self.disk) (disk.past new) = λ told. removes_more self.pinned [] c.args.files.now limbo (disk.files self.disk) (disk.files new) (disk.opened self.disk) (disk.opened new) (disk.past self.disk) (disk.past new) c.requires.among (c.remove_for_good.ensures.removes told) in
-    swept_leaves disk.tells at self.pinned [] limbo limbo c.requires.stands unlisted (disk.files new) (disk.opened new) (disk.past new) (disk.faults new) (λ told. (removes told).any_moment) (λ told. (removes told).spares) (λ told. (removes told).fewer) held.0 limbo held.1 (λ r within needed. within)
 
 pub returns-clause-changes : goal.returns-clause-changes
 returns-clause-changes g c =
@@ -40,11 +15,14 @@ returns-clause-changes g c =
     let disk = g.D.Disk in
     let at = seen_on disk.files disk.opened disk.past disk.faults self.catalogue self.manifests.items self.disk in
     let held = c.requires.has in
+    let files = c.args.files.now in
     let limbo = self.limbo.items in
-    let new = c.remove_for_good.new.disk in
+    let new = c.remove_for_good-removed.new.disk in
+    let left = c.retain.new.self.items in
     let unlisted = all_stay (λ r. IsListedName at r.name → ⊥) (λ r. IsListedName at r.name) limbo c.requires.unlisted in
-    let removes : IsTrue disk.tells → Removes self.pinned [] limbo (disk.files self.disk) (disk.files new) (disk.opened self.disk) (disk.opened new) (disk.past self.disk) (disk.past new) = λ told. removes_more self.pinned [] c.args.files.now limbo (disk.files self.disk) (disk.files new) (disk.opened self.disk) (disk.opened new) (disk.past self.disk) (disk.past new) c.requires.among (c.remove_for_good.ensures.removes told) in
-    swept_changes disk.tells at self.pinned [] limbo limbo c.requires.stands unlisted (disk.files new) (disk.opened new) (disk.past new) (disk.faults new) (λ told. (removes told).any_moment) (λ told. (removes told).spares) (λ told. (removes told).fewer) (Done ends.Retired) c.remove_for_good.ensures.faults (λ failed. absurd failed)
+    let stay = retained _ (λ r. Stays self.pinned files r.name) (λ r. IsFree self.pinned files r.name) _ (λ r b f k. search rules) limbo left c.retain.ensures.filtered in
+    let removes : IsTrue disk.tells → Removes self.pinned (names_in left) limbo (disk.files self.disk) (disk.files new) (disk.opened self.disk) (disk.opened new) (disk.past self.disk) (disk.past new) = λ told. removes_left self.pinned files limbo left stay c.requires.among (disk.files self.disk) (disk.files new) (disk.opened self.disk) (disk.opened new) (disk.past self.disk) (disk.past new) (c.remove_for_good-removed.ensures.removes told) in
+    swept_changes disk.tells at self.pinned (names_in left) limbo limbo c.requires.stands unlisted (disk.files new) (disk.opened new) (disk.past new) (disk.faults new) (λ told. (removes told).any_moment) (λ told. (removes told).spares) (λ told. (removes told).fewer) (Done c.remove_for_good-removed.result) c.remove_for_good-removed.ensures.faults (λ failed. absurd failed)
 
 pub returns-clause-leaves : goal.returns-clause-leaves
 returns-clause-leaves g c =
@@ -52,13 +30,14 @@ returns-clause-leaves g c =
     let disk = g.D.Disk in
     let at = seen_on disk.files disk.opened disk.past disk.faults self.catalogue self.manifests.items self.disk in
     let held = c.requires.has in
+    let files = c.args.files.now in
     let limbo = self.limbo.items in
-    let new = c.remove_for_good.new.disk in
-    let unlisted = all_stay (λ r. IsListedName at r.name → ⊥) (λ r. IsListedName at r.name) limbo c.requires.unlisted in
-    let removes : IsTrue disk.tells → Removes self.pinned [] limbo (disk.files self.disk) (disk.files new) (disk.opened self.disk) (disk.opened new) (disk.past self.disk) (disk.past new) = λ told. removes_more self.pinned [] c.args.files.now limbo (disk.files self.disk) (disk.files new) (disk.opened self.disk) (disk.opened new) (disk.past self.disk) (disk.past new) c.requires.among (c.remove_for_good.ensures.removes told) in
+    let new = c.remove_for_good-removed.new.disk in
     let left = c.retain.new.self.items in
-    let stay = retained _ (λ r. IsFree self.pinned c.args.files.now r.name → ⊥) (λ r. IsFree self.pinned c.args.files.now r.name) _ (λ r b f k. search rules) limbo left c.retain.ensures.filtered in
-    swept_leaves disk.tells at self.pinned [] limbo limbo c.requires.stands unlisted (disk.files new) (disk.opened new) (disk.past new) (disk.faults new) (λ told. (removes told).any_moment) (λ told. (removes told).spares) (λ told. (removes told).fewer) held.0 left held.1 (pinned_stays self.pinned c.args.files.now limbo left stay)
+    let unlisted = all_stay (λ r. IsListedName at r.name → ⊥) (λ r. IsListedName at r.name) limbo c.requires.unlisted in
+    let stay = retained _ (λ r. Stays self.pinned files r.name) (λ r. IsFree self.pinned files r.name) _ (λ r b f k. search rules) limbo left c.retain.ensures.filtered in
+    let removes : IsTrue disk.tells → Removes self.pinned (names_in left) limbo (disk.files self.disk) (disk.files new) (disk.opened self.disk) (disk.opened new) (disk.past self.disk) (disk.past new) = λ told. removes_left self.pinned files limbo left stay c.requires.among (disk.files self.disk) (disk.files new) (disk.opened self.disk) (disk.opened new) (disk.past self.disk) (disk.past new) (c.remove_for_good-removed.ensures.removes told) in
+    swept_leaves disk.tells at self.pinned (names_in left) limbo limbo c.requires.stands unlisted (disk.files new) (disk.opened new) (disk.past new) (disk.faults new) (λ told. (removes told).any_moment) (λ told. (removes told).spares) (λ told. (removes told).fewer) held.0 left held.1 (left_stays self.pinned files limbo left stay)
 
 pub returns-clause-stands : goal.returns-clause-stands
 returns-clause-stands g c =
@@ -66,13 +45,14 @@ returns-clause-stands g c =
     let disk = g.D.Disk in
     let at = seen_on disk.files disk.opened disk.past disk.faults self.catalogue self.manifests.items self.disk in
     let held = c.requires.has in
+    let files = c.args.files.now in
     let limbo = self.limbo.items in
-    let new = c.remove_for_good.new.disk in
-    let unlisted = all_stay (λ r. IsListedName at r.name → ⊥) (λ r. IsListedName at r.name) limbo c.requires.unlisted in
-    let removes : IsTrue disk.tells → Removes self.pinned [] limbo (disk.files self.disk) (disk.files new) (disk.opened self.disk) (disk.opened new) (disk.past self.disk) (disk.past new) = λ told. removes_more self.pinned [] c.args.files.now limbo (disk.files self.disk) (disk.files new) (disk.opened self.disk) (disk.opened new) (disk.past self.disk) (disk.past new) c.requires.among (c.remove_for_good.ensures.removes told) in
+    let new = c.remove_for_good-removed.new.disk in
     let left = c.retain.new.self.items in
-    let stay = retained _ (λ r. IsFree self.pinned c.args.files.now r.name → ⊥) (λ r. IsFree self.pinned c.args.files.now r.name) _ (λ r b f k. search rules) limbo left c.retain.ensures.filtered in
-    still_stands disk.tells at self.pinned [] limbo limbo c.requires.stands unlisted (disk.files new) (disk.opened new) (disk.past new) (disk.faults new) (λ told. (removes told).any_moment) (λ told. (removes told).spares) (λ told. (removes told).fewer) left (none_more self.pinned c.args.files.now limbo left stay)
+    let unlisted = all_stay (λ r. IsListedName at r.name → ⊥) (λ r. IsListedName at r.name) limbo c.requires.unlisted in
+    let stay = retained _ (λ r. Stays self.pinned files r.name) (λ r. IsFree self.pinned files r.name) _ (λ r b f k. search rules) limbo left c.retain.ensures.filtered in
+    let removes : IsTrue disk.tells → Removes self.pinned (names_in left) limbo (disk.files self.disk) (disk.files new) (disk.opened self.disk) (disk.opened new) (disk.past self.disk) (disk.past new) = λ told. removes_left self.pinned files limbo left stay c.requires.among (disk.files self.disk) (disk.files new) (disk.opened self.disk) (disk.opened new) (disk.past self.disk) (disk.past new) (c.remove_for_good-removed.ensures.removes told) in
+    still_stands disk.tells at self.pinned (names_in left) limbo limbo c.requires.stands unlisted (disk.files new) (disk.opened new) (disk.past new) (disk.faults new) (λ told. (removes told).any_moment) (λ told. (removes told).spares) (λ told. (removes told).fewer) left (none_more self.pinned files limbo left stay)
 
 pub returns-clause-left : goal.returns-clause-left
-returns-clause-left g c retired = retained _ (λ r. IsFree c.args.self.now.pinned c.args.files.now r.name → ⊥) (λ r. IsFree c.args.self.now.pinned c.args.files.now r.name) _ (λ r b f k. search rules) _ _ c.retain.ensures.filtered
+returns-clause-left g c = retained _ (λ r. Stays c.args.self.now.pinned c.args.files.now r.name) (λ r. IsFree c.args.self.now.pinned c.args.files.now r.name) _ (λ r b f k. search rules) _ _ c.retain.ensures.filtered

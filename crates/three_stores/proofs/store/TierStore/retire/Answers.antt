@@ -1,4 +1,4 @@
-use Rattle.std.proofs.Common.{Err, Result, List, [], ◌∙◌, ap, subst, sym}
+use Rattle.std.proofs.Common.{◌≡◌, inl, Ok, Err, Result, List, length, ◌∙◌, ap, subst, sym}
 use Rattle.std.specs.Prelude.{OnErr}
 use Rattle.std.specs.FinMap.{FinMap}
 use Rattle.std.specs.Ordering.{nat_cmp}
@@ -8,14 +8,15 @@ use Rattle.pinned_pieces.specs.Pieces.{PinOf}
 use Rattle.pv_catalog.specs.Catalogue.{CatalogueState}
 use Rattle.pv_catalog.specs.Rows.{KeepsRows}
 use Rattle.tier_store.specs.Ends.{end_of_disk}
+use Rattle.tier_store.proofs.Acting.{rose_after}
 use Rattle.three_stores.specs.Change.{Changes}
 use Rattle.three_stores.specs.Limbo.{LimboStands, IsKeptName}
-use Rattle.three_stores.specs.Retiring.{retiring, Enter, Remain, StayOrListed}
+use Rattle.three_stores.specs.Retiring.{retiring, HandedOver, Remain, StayOrEnter, names_in}
 use Rattle.three_stores.specs.Seen.{seen_on}
 use Rattle.three_stores.specs.declared.limbo.Retired.{Retired}
 use Rattle.three_stores.specs.declared.retirement.RetireEnd.{RetireEnd}
 use Rattle.three_stores.proofs.Acting.{has_one, cut_acts, then_acts}
-use Rattle.three_stores.proofs.Leaving.{all_still}
+use Rattle.three_stores.proofs.Removals.{none_left}
 use Rattle.three_stores.proofs.Staying.{limbo_kept}
 use Rattle.three_stores.proofs.store.TierStore.retire.Goals as goal
 
@@ -39,7 +40,7 @@ returns-in_err-review-clause-acts g c =
 pub returns-in_err-review-clause-failed : goal.returns-in_err-review-clause-failed
 returns-in_err-review-clause-failed g c =
     let p = err_from_is_err_and c.from_residual.result c.from_residual.ensures.1 in
-    rw p.1 (all_still _ c.args.self.now.limbo.items c.review.new.self.limbo.items (ap (λ l. l.items) c.review.ensures.limbo))
+    rw p.1 (inl (none_left _ c.args.self.now.limbo.items c.review.new.self.limbo.items (ap (λ l. l.items) c.review.ensures.limbo)))
 
 pub returns-in_err-review-clause-shown : goal.returns-in_err-review-clause-shown
 returns-in_err-review-clause-shown g c name bytes kept was = c.review.ensures.shown name bytes was
@@ -62,23 +63,40 @@ returns-clause-acts g c =
     let between = seen_on disk.files disk.opened disk.past disk.faults mid.catalogue mid.manifests.items mid.disk in
     let after = seen_on disk.files disk.opened disk.past disk.faults new.catalogue new.manifests.items new.disk in
     let end = end_of_disk c.retire_settled.result in
-    then_acts disk.tells (retiring c.args.place c.args.row c.args.published.now (Remain disk.tells after old.pinned old.limbo.items new.limbo.items) (Enter after old.limbo.items new.limbo.items)) _ _ _ (end_of_disk c.review.result) _ c.in_ok-review.ensures.settled (λ held has. rw (c.review.ensures.nothing has.settled).1 has) c.review.ensures.granularity c.review.ensures.reads
-    (subst (λ (l : List Retired). Changes disk.tells (retiring c.args.place c.args.row c.args.published.now (Remain disk.tells after old.pinned l new.limbo.items) (Enter after l new.limbo.items)) between after end) (ap (λ l. l.items) c.review.ensures.limbo)
-    (subst (λ (p : FinMap nat_cmp PinOf). Changes disk.tells (retiring c.args.place c.args.row c.args.published.now (Remain disk.tells after p mid.limbo.items new.limbo.items) (Enter after mid.limbo.items new.limbo.items)) between after end) c.review.ensures.pins c.retire_settled.ensures.changes))
+    then_acts disk.tells (retiring c.args.place c.args.row c.args.published.now (Remain disk.tells after old.pinned old.limbo.items new.limbo.items)) _ _ _ (end_of_disk c.review.result) _ c.in_ok-review.ensures.settled (λ held has. rw (c.review.ensures.nothing has.settled).1 has) c.review.ensures.granularity c.review.ensures.reads
+    (subst (λ (l : List Retired). Changes disk.tells (retiring c.args.place c.args.row c.args.published.now (Remain disk.tells after old.pinned l new.limbo.items)) between after end) (ap (λ l. l.items) c.review.ensures.limbo)
+    (subst (λ (p : FinMap nat_cmp PinOf). Changes disk.tells (retiring c.args.place c.args.row c.args.published.now (Remain disk.tells after p mid.limbo.items new.limbo.items)) between after end) c.review.ensures.pins c.retire_settled.ensures.changes))
 
 pub returns-clause-failed : goal.returns-clause-failed
 returns-clause-failed g c =
     let disk = g.D.Disk in
     let new = c.retire_settled.new.self in
     let after = seen_on disk.files disk.opened disk.past disk.faults new.catalogue new.manifests.items new.disk in
-    subst (λ (l : List Retired). OnErr c.retire_settled.result (StayOrListed after l new.limbo.items)) (ap (λ l. l.items) c.review.ensures.limbo) c.retire_settled.ensures.failed
+    subst (λ (l : List Retired). OnErr c.retire_settled.result (StayOrEnter after c.args.place c.args.row (length c.args.published.now) l new.limbo.items)) (ap (λ l. l.items) c.review.ensures.limbo) c.retire_settled.ensures.failed
 
 pub returns-clause-shown : goal.returns-clause-shown
 returns-clause-shown g c name bytes kept was =
     let disk = g.D.Disk in
     let new = c.retire_settled.new.self in
     let after = seen_on disk.files disk.opened disk.past disk.faults new.catalogue new.manifests.items new.disk in
-    c.retire_settled.ensures.shown name bytes (subst (λ (p : FinMap nat_cmp PinOf). IsKeptName after p [] name) (sym c.review.ensures.pins) kept) (c.review.ensures.shown name bytes was)
+    c.retire_settled.ensures.shown name bytes (subst (λ (p : FinMap nat_cmp PinOf). IsKeptName after p (names_in new.limbo.items) name) (sym c.review.ensures.pins) kept) (c.review.ensures.shown name bytes was)
 
 pub returns-clause-keeps : goal.returns-clause-keeps
 returns-clause-keeps g c = subst (λ (s : CatalogueState). KeepsRows c.args.self.now.catalogue.rows s.rows) (sym c.retire_settled.ensures.same.0) c.review.ensures.keeps
+
+pub returns-in_err-review-clause-handed : goal.returns-in_err-review-clause-handed
+returns-in_err-review-clause-handed g c settled fault =
+    let both : ◌≡◌ {A = Result (Unit {0}) DiskErr} (Ok tt) (Err c.in_err-review.field-0.0) = sym (c.review.ensures.nothing settled).0 ∙ c.in_err-review.was in
+    absurd (cc (both))
+
+pub returns-clause-handed : goal.returns-clause-handed
+returns-clause-handed g c settled fault =
+    let disk = g.D.Disk in
+    let new = c.retire_settled.new.self in
+    let after = seen_on disk.files disk.opened disk.past disk.faults new.catalogue new.manifests.items new.disk in
+    subst (λ (l : List Retired). HandedOver after c.args.place c.args.row (length c.args.published.now) l new.limbo.items) (ap (λ l. l.items) c.review.ensures.limbo) (c.retire_settled.ensures.handed fault)
+
+pub returns-clause-cause : goal.returns-clause-cause
+returns-clause-cause g c told is failed =
+    let faults = g.D.Disk.faults in
+    rose_after (faults c.args.self.now.disk) (faults c.review.new.self.disk) (faults c.retire_settled.new.self.disk) c.review.ensures.reads.faults (c.retire_settled.ensures.cause told is failed)

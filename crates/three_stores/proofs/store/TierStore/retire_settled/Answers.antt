@@ -1,23 +1,26 @@
-use Rattle.std.proofs.Common.{◌≡◌, inl, ◌+◌, ◌++◌, List, [], length, map, take, Err, None, refl, sym, ◌∙◌, ap, subst, arith, length-take}
-use Rattle.std.specs.Prelude.{All, filter, ◌==◌, Contains, Result}
+use Rattle.std.proofs.Common.{◌≡◌, ◌≤◌, inl, inr, ◌+◌, ◌++◌, List, [], length, map, take, Err, None, refl, sym, ◌∙◌, ap, subst, arith, length-take}
+use Rattle.std.specs.Prelude.{All, filter, ◌==◌, Contains, OnOk, Result}
 use Rattle.std.specs.FinMap.{FinMap}
 use Rattle.std.specs.Ordering.{nat_cmp}
 use Rattle.std.proofs.lemmas.List.{length-map}
 use Rattle.std.proofs.lemmas.Result.{err_from_is_err_and}
 use Rattle.std.proofs.lemmas.List.Elements.{Contains-append_right}
 use Rattle.disk_model.specs.declared.disk.DiskErr.{DiskErr}
+use Rattle.disk_model.specs.declared.disk.DiskErr.TheVariants.{Fault, Memory}
 use Rattle.pinned_pieces.specs.Pieces.{PinOf}
 use Rattle.store_manifest.specs.declared.entry.Entry.{Entry}
 use Rattle.tier_store.specs.Ends.{Done, end_of_disk}
+use Rattle.tier_store.proofs.Acting.{rose_after}
 use Rattle.three_stores.specs.Change.{Has, Changes}
-use Rattle.three_stores.specs.Limbo.{LimboStands, IsListedName, IsKeptName, Stay, AreFree}
+use Rattle.three_stores.specs.Limbo.{LimboStands, IsListedName, IsKeptName, LeaveListed, Stay, AreFree}
 use Rattle.disk_model.specs.Past.{Only}
-use Rattle.three_stores.specs.Retiring.{oldest_entries, drop_entry, retired_of, dropping, without_oldest, Enter, Remain, IsFree}
+use Rattle.three_stores.specs.Retiring.{oldest_entries, drop_entry, retired_of, dropping, without_oldest, Remain, Stays, IsFree, names_in}
 use Rattle.three_stores.specs.Seen.{Seen, seen_on}
 use Rattle.three_stores.specs.declared.limbo.Retired.{Retired}
 use Rattle.three_stores.specs.declared.retirement.RetireEnd.{RetireEnd}
+use Rattle.three_stores.specs.declared.retirement.RetireEnd.TheVariants as ends
 use Rattle.three_stores.proofs.Acting.{nothing_changes}
-use Rattle.three_stores.proofs.Leaving.{part_leaves, stands_then, unlisted_then, among_then, has_then, enters, of_held, none_grown, has_grown, fewer_stand, nothing_retired, says_ended, stays_then, left_or_listed, cut_stays, retired_done, retired_cut}
+use Rattle.three_stores.proofs.Leaving.{part_leaves, stands_then, unlisted_then, among_then, has_then, enters, of_held, none_grown, has_grown, fewer_stand, nothing_retired, stays_then, cut_handed, retired_done, retired_cut}
 use Rattle.three_stores.proofs.Places.{manifest_here}
 use Rattle.three_stores.proofs.Settled.{same_seen}
 use Rattle.three_stores.proofs.store.TierStore.retire_settled.Goals as goal
@@ -73,8 +76,8 @@ drop_oldest-requires-clause-handed g c s f has part =
     (Contains-append_right entered.0 files (retired_of (c.args.place + 1, hand.catalogue.rows) f.entry) (subst (λ (x : _). Contains files (retired_of (c.args.place + 1, x.catalogue.rows) f.entry)) is1
     (subst (λ (l : List Retired). Contains l (retired_of (c.args.place + 1, at.catalogue.rows) f.entry)) (sym are) (part_leaves disk.tells c.args.place c.args.row n at m here s was f part))))
 
-pub remove_handed-requires-clause-has : goal.remove_handed-requires-clause-has
-remove_handed-requires-clause-has g c =
+pub remove_handed-removed-requires-clause-has : goal.remove_handed-removed-requires-clause-has
+remove_handed-removed-requires-clause-has g c =
     let self = c.args.self.now in
     let disk = g.D.Disk in
     let at = seen_on disk.files disk.opened disk.past disk.faults self.catalogue self.manifests.items self.disk in
@@ -100,8 +103,8 @@ remove_handed-requires-clause-has g c =
     let now = has_then disk.tells c.args.place c.args.row n at at2 held.0 held.1 done in
     (without_oldest c.args.place c.args.row n held.0, now)
 
-pub remove_handed-requires-clause-stands : goal.remove_handed-requires-clause-stands
-remove_handed-requires-clause-stands g c =
+pub remove_handed-removed-requires-clause-stands : goal.remove_handed-removed-requires-clause-stands
+remove_handed-removed-requires-clause-stands g c =
     let self = c.args.self.now in
     let disk = g.D.Disk in
     let at = seen_on disk.files disk.opened disk.past disk.faults self.catalogue self.manifests.items self.disk in
@@ -125,8 +128,8 @@ remove_handed-requires-clause-stands g c =
     let drop : Changes disk.tells (dropping c.args.place c.args.row n) at at2 (end_of_disk c.drop_oldest.result) = subst (λ (s : Seen). Changes disk.tells (dropping c.args.place c.args.row n) s at2 (end_of_disk c.drop_oldest.result)) (sym is1) c.drop_oldest.ensures.changes in
     subst (LimboStands at2) (sym limbo) (stands_then disk.tells c.args.place c.args.row n at at2 m here held.0 held.1 self.limbo.items entered.0 files c.requires.stands entered.1 are rows drop.costs.granularity)
 
-pub remove_handed-requires-clause-unlisted : goal.remove_handed-requires-clause-unlisted
-remove_handed-requires-clause-unlisted g c =
+pub remove_handed-removed-requires-clause-unlisted : goal.remove_handed-removed-requires-clause-unlisted
+remove_handed-removed-requires-clause-unlisted g c =
     let self = c.args.self.now in
     let disk = g.D.Disk in
     let at = seen_on disk.files disk.opened disk.past disk.faults self.catalogue self.manifests.items self.disk in
@@ -152,8 +155,8 @@ remove_handed-requires-clause-unlisted g c =
     let now = has_then disk.tells c.args.place c.args.row n at at2 held.0 held.1 done in
     subst (λ (l : List Retired). All (λ (r : Retired). IsListedName at2 r.name → ⊥) l) (sym limbo) (unlisted_then disk.tells c.args.place c.args.row n at at2 m here held.0 held.1 now self.limbo.items entered.0 files entered.1 are)
 
-pub remove_handed-requires-clause-among : goal.remove_handed-requires-clause-among
-remove_handed-requires-clause-among g c =
+pub remove_handed-removed-requires-clause-among : goal.remove_handed-removed-requires-clause-among
+remove_handed-removed-requires-clause-among g c =
     let self = c.args.self.now in
     let disk = g.D.Disk in
     let at = seen_on disk.files disk.opened disk.past disk.faults self.catalogue self.manifests.items self.disk in
@@ -236,7 +239,7 @@ returns-in_err-drop_oldest-clause-changes g c =
     let drop : Changes disk.tells (dropping c.args.place c.args.row n) at at2 (end_of_disk c.drop_oldest.result) = subst (λ (s : Seen). Changes disk.tells (dropping c.args.place c.args.row n) s at2 (end_of_disk c.drop_oldest.result)) (sym is1) c.drop_oldest.ensures.changes in
     let p = err_from_is_err_and c.from_residual-in_err-drop_oldest.result c.from_residual-in_err-drop_oldest.ensures.1 in
     let grown = none_grown disk.tells c.args.place c.args.row c.args.published.now at m c.oldest-entries.result.now here es (c.grown.ensures.none c.in_default.is) in
-    retired_cut disk.tells c.args.place c.args.row c.args.published.now _ _ at at2 grown c.in_err-drop_oldest.field-0.0 (end_of_disk c.drop_oldest.result) (end_of_disk c.from_residual-in_err-drop_oldest.result)
+    retired_cut disk.tells c.args.place c.args.row c.args.published.now _ at at2 grown c.in_err-drop_oldest.field-0.0 (end_of_disk c.drop_oldest.result) (end_of_disk c.from_residual-in_err-drop_oldest.result)
     (ap (λ (r : Result (Unit {0}) DiskErr). end_of_disk r) c.in_err-drop_oldest.was) (ap (λ (r : Result RetireEnd DiskErr). end_of_disk r) (p.1 ∙ ap (λ (x : DiskErr). Err x) p.2)) drop
 
 pub returns-in_err-drop_oldest-clause-shown : goal.returns-in_err-drop_oldest-clause-shown
@@ -289,10 +292,10 @@ returns-clause-shown g c name bytes kept was =
     let at2 = seen_on disk.files disk.opened disk.past disk.faults dropped.catalogue dropped.manifests.items dropped.disk in
     let rows : dropped.catalogue ≡ self.catalogue = c.drop_oldest.ensures.catalogue ∙ same.0 in
     let limbo : dropped.limbo.items ≡ entered.0 ++ files = ap (λ v. v.items) c.drop_oldest.ensures.limbo ∙ entered.2 in
-    let removed = c.remove_handed.new.self in
+    let removed = c.remove_handed-removed.new.self in
     let at3 = seen_on disk.files disk.opened disk.past disk.faults removed.catalogue removed.manifests.items removed.disk in
     let pins : dropped.pinned ≡ self.pinned = c.drop_oldest.ensures.pins ∙ same.3 in
-    c.remove_handed.ensures.leaves.shown name bytes (subst (λ (p : FinMap nat_cmp PinOf). IsKeptName at3 p [] name) (sym pins) kept) (c.drop_oldest.ensures.shown name bytes (c.hand_over.ensures.shown name bytes was))
+    c.remove_handed-removed.ensures.leaves.shown name bytes (subst (λ (p : FinMap nat_cmp PinOf). IsKeptName at3 p (names_in removed.limbo.items) name) (sym pins) kept) (c.drop_oldest.ensures.shown name bytes (c.hand_over.ensures.shown name bytes was))
 
 pub returns-clause-changes : goal.returns-clause-changes
 returns-clause-changes g c =
@@ -319,28 +322,26 @@ returns-clause-changes g c =
     let drop : Changes disk.tells (dropping c.args.place c.args.row n) at at2 (end_of_disk c.drop_oldest.result) = subst (λ (s : Seen). Changes disk.tells (dropping c.args.place c.args.row n) s at2 (end_of_disk c.drop_oldest.result)) (sym is1) c.drop_oldest.ensures.changes in
     let done : Changes disk.tells (dropping c.args.place c.args.row n) at at2 (Done tt) = subst (λ (r : Result (Unit {0}) DiskErr). Changes disk.tells (dropping c.args.place c.args.row n) at at2 (end_of_disk r)) c.in_ok-drop_oldest.was drop in
     let now = has_then disk.tells c.args.place c.args.row n at at2 held.0 held.1 done in
-    let removed = c.remove_handed.new.self in
+    let removed = c.remove_handed-removed.new.self in
     let at3 = seen_on disk.files disk.opened disk.past disk.faults removed.catalogue removed.manifests.items removed.disk in
     let pins : dropped.pinned ≡ self.pinned = c.drop_oldest.ensures.pins ∙ same.3 in
-    let end = c.remove_handed.result in
-    let rest = c.remove_handed.ensures.changes in
+    let done_too = c.remove_handed-removed.result in
+    let rest = c.remove_handed-removed.ensures.changes in
     let grown = none_grown disk.tells c.args.place c.args.row c.args.published.now at m c.oldest-entries.result.now here es (c.grown.ensures.none c.in_default.is) in
-    let Entered : List Retired → Type 0 = Enter at3 self.limbo.items removed.limbo.items in
-    let Removed : List Retired → Type 0 = Remain disk.tells at3 self.pinned self.limbo.items removed.limbo.items in
-    retired_done disk.tells c.args.place c.args.row c.args.published.now Removed Entered at at2 grown at3 end done rest (λ was made has retires.
-    let later = stays_then disk.tells at2 at3 (without_oldest c.args.place c.args.row n was) end (has_then disk.tells c.args.place c.args.row n at at2 was has done) rest in
-    let enters_by = enters disk.tells c.args.place c.args.row n at at3 m here was has later self.limbo.items entered.0 files entered.1 are in
-    let of = of_held disk.tells c.args.place c.args.row n at at3 m here was has later self.limbo.items entered.0 files entered.1 are in
-    says_ended c.args.place c.args.row c.args.published.now Removed Entered was made end c.remove_handed.ensures.ends retires
-    (λ is. of Removed (record {
-      both = dropped.limbo.items;
-      enter = enters_by dropped.limbo.items limbo;
-      stay = subst (λ (p : FinMap nat_cmp PinOf). Stay (λ r. IsFree p files r.name → ⊥) (λ r. IsFree p files r.name) dropped.limbo.items removed.limbo.items) pins
-          (subst (λ (l : List Retired). Stay (λ r. IsFree dropped.pinned l r.name → ⊥) (λ r. IsFree dropped.pinned l r.name) dropped.limbo.items removed.limbo.items) c.deref-2.ensures.value (c.remove_handed.ensures.left is));
-      gone = λ told. subst (λ (p : FinMap nat_cmp PinOf). AreFree p [] (λ x. Only (disk.past removed.disk) x None) files) pins
-          (subst (λ (l : List Retired). AreFree dropped.pinned [] (λ x. Only (disk.past removed.disk) x None) l) c.deref-2.ensures.value (c.remove_handed.ensures.gone told is));
-    }))
-    (λ is. of Entered (enters_by removed.limbo.items (ap (λ v. v.items) (c.remove_handed.ensures.unremoved is) ∙ limbo))))
+    let Limbo : Result (Unit {0}) DiskErr → List Retired → Type 0 = Remain disk.tells at3 self.pinned self.limbo.items removed.limbo.items in
+    retired_done disk.tells c.args.place c.args.row c.args.published.now Limbo at at2 grown at3 (ends.Retired done_too) done_too done rest (λ was made has retires.
+    let later = stays_then disk.tells at2 at3 (without_oldest c.args.place c.args.row n was) done_too (has_then disk.tells c.args.place c.args.row n at at2 was has done) rest in
+    record {
+      retires = retires;
+      limbo = of_held disk.tells c.args.place c.args.row n at at3 m here was has later self.limbo.items entered.0 files entered.1 are (Limbo done_too) (record {
+        both = dropped.limbo.items;
+        enter = enters disk.tells c.args.place c.args.row n at at3 m here was has later self.limbo.items entered.0 files entered.1 are dropped.limbo.items limbo;
+        stay = subst (λ (p : FinMap nat_cmp PinOf). Stay (λ r. Stays p files r.name) (λ r. IsFree p files r.name) dropped.limbo.items removed.limbo.items) pins
+            (subst (λ (l : List Retired). Stay (λ r. Stays dropped.pinned l r.name) (λ r. IsFree dropped.pinned l r.name) dropped.limbo.items removed.limbo.items) c.deref-2.ensures.value c.remove_handed-removed.ensures.left);
+        gone = λ told. subst (λ (p : FinMap nat_cmp PinOf). OnOk done_too (AreFree p [] (λ x. Only (disk.past removed.disk) x None) files)) pins
+            (subst (λ (l : List Retired). OnOk done_too (AreFree dropped.pinned [] (λ x. Only (disk.past removed.disk) x None) l)) c.deref-2.ensures.value (c.remove_handed-removed.ensures.gone told));
+      });
+    })
 
 pub returns-in_err-leaving-clause-failed : goal.returns-in_err-leaving-clause-failed
 returns-in_err-leaving-clause-failed g c =
@@ -358,7 +359,7 @@ returns-in_err-leaving-clause-failed g c =
     let same = c.hand_over.ensures.same in
     let is1 : at ≡ at1 = same_seen disk.files disk.opened disk.past disk.faults self.catalogue hand.catalogue ms hand.manifests.items self.disk hand.disk same.0 (ap (λ v. v.items) same.1) same.2 in
     let p = err_from_is_err_and c.from_residual.result c.from_residual.ensures.1 in
-    rw p.1 (left_or_listed at at1 self.limbo.items hand.limbo.items is1 c.in_err-leaving.ensures.failed)
+    rw p.1 (inl (subst (λ (s : Seen). LeaveListed s self.limbo.items hand.limbo.items) is1 c.in_err-leaving.ensures.failed))
 
 pub returns-in_err-drop_oldest-clause-failed : goal.returns-in_err-drop_oldest-clause-failed
 returns-in_err-drop_oldest-clause-failed g c =
@@ -384,4 +385,44 @@ returns-in_err-drop_oldest-clause-failed g c =
     let limbo : dropped.limbo.items ≡ entered.0 ++ files = ap (λ v. v.items) c.drop_oldest.ensures.limbo ∙ entered.2 in
     let drop : Changes disk.tells (dropping c.args.place c.args.row n) at at2 (end_of_disk c.drop_oldest.result) = subst (λ (s : Seen). Changes disk.tells (dropping c.args.place c.args.row n) s at2 (end_of_disk c.drop_oldest.result)) (sym is1) c.drop_oldest.ensures.changes in
     let p = err_from_is_err_and c.from_residual-in_err-drop_oldest.result c.from_residual-in_err-drop_oldest.ensures.1 in
-    rw p.1 (cut_stays disk.tells c.args.place c.args.row n at at2 held.0 c.in_err-drop_oldest.field-0.0 (end_of_disk c.drop_oldest.result) (ap (λ (r : Result (Unit {0}) DiskErr). end_of_disk r) c.in_err-drop_oldest.was) held.1 drop self.limbo.items entered.0 files dropped.limbo.items entered.1 limbo)
+    rw p.1 (inr (cut_handed disk.tells c.args.place c.args.row n at at2 m here held.0 c.in_err-drop_oldest.field-0.0 (end_of_disk c.drop_oldest.result) (ap (λ (r : Result (Unit {0}) DiskErr). end_of_disk r) c.in_err-drop_oldest.was) held.1 drop self.limbo.items entered.0 files dropped.limbo.items entered.1 are limbo))
+
+pub returns-in_err-drop_oldest-clause-handed : goal.returns-in_err-drop_oldest-clause-handed
+returns-in_err-drop_oldest-clause-handed g c fault =
+    let self = c.args.self.now in
+    let disk = g.D.Disk in
+    let at = seen_on disk.files disk.opened disk.past disk.faults self.catalogue self.manifests.items self.disk in
+    let held = c.requires.has in
+    let ms = self.manifests.items in
+    let n = length c.args.published.now in
+    let m = c.index.result.now in
+    let here = manifest_here ms c.args.place m c.index.ensures (let three = held.1.known.three in omega (arith, three, c.requires.within)) in
+    let es : c.oldest-entries.result.now ≡ oldest_entries c.args.row n m.entries = c.oldest-entries.ensures ∙ ap (λ (l : List Entry). take n l) c.entries.ensures in
+    let hand = c.hand_over.new.self in
+    let at1 = seen_on disk.files disk.opened disk.past disk.faults hand.catalogue hand.manifests.items hand.disk in
+    let same = c.hand_over.ensures.same in
+    let is1 : at ≡ at1 = same_seen disk.files disk.opened disk.past disk.faults self.catalogue hand.catalogue ms hand.manifests.items self.disk hand.disk same.0 (ap (λ v. v.items) same.1) same.2 in
+    let files = c.in_ok-leaving.leaving.files.items in
+    let are : files ≡ map (retired_of (c.args.place + 1, self.catalogue.rows)) (oldest_entries c.args.row n m.entries) = c.in_ok-leaving.ensures.files m here in
+    let entered = c.in_ok-leaving.ensures.entered in
+    let dropped = c.drop_oldest.new.self in
+    let at2 = seen_on disk.files disk.opened disk.past disk.faults dropped.catalogue dropped.manifests.items dropped.disk in
+    let rows : dropped.catalogue ≡ self.catalogue = c.drop_oldest.ensures.catalogue ∙ same.0 in
+    let limbo : dropped.limbo.items ≡ entered.0 ++ files = ap (λ v. v.items) c.drop_oldest.ensures.limbo ∙ entered.2 in
+    let drop : Changes disk.tells (dropping c.args.place c.args.row n) at at2 (end_of_disk c.drop_oldest.result) = subst (λ (s : Seen). Changes disk.tells (dropping c.args.place c.args.row n) s at2 (end_of_disk c.drop_oldest.result)) (sym is1) c.drop_oldest.ensures.changes in
+    cut_handed disk.tells c.args.place c.args.row n at at2 m here held.0 c.in_err-drop_oldest.field-0.0 (end_of_disk c.drop_oldest.result) (ap (λ (r : Result (Unit {0}) DiskErr). end_of_disk r) c.in_err-drop_oldest.was) held.1 drop self.limbo.items entered.0 files dropped.limbo.items entered.1 are limbo
+
+pub returns-in_err-leaving-clause-handed : goal.returns-in_err-leaving-clause-handed
+returns-in_err-leaving-clause-handed g c fault =
+    let p = err_from_is_err_and c.from_residual.result c.from_residual.ensures.1 in
+    let both : ◌≡◌ {A = Result RetireEnd DiskErr} (Err Fault) (Err Memory) = sym fault ∙ (p.1 ∙ ap (λ (x : DiskErr). Err x) p.2) in
+    absurd (cc (both))
+
+pub returns-clause-cause : goal.returns-clause-cause
+returns-clause-cause g c told is failed =
+    let faults = g.D.Disk.faults in
+    let self = c.args.self.now in
+    let same : c.hand_over.new.self.disk ≡ self.disk = c.hand_over.ensures.same.2 in
+    let more : faults c.hand_over.new.self.disk ≤ faults c.drop_oldest.new.self.disk = c.drop_oldest.ensures.changes.costs.faults in
+    let own : c.remove_handed-removed.result ≡ told = cc (is) in
+    rose_after (faults self.disk) (faults c.drop_oldest.new.self.disk) (faults c.remove_handed-removed.new.self.disk) (subst (λ d. faults d ≤ faults c.drop_oldest.new.self.disk) same more) (c.remove_handed-removed.ensures.cause (own ∙ failed))

@@ -1,5 +1,5 @@
-use Rattle.std.proofs.Common.{Err, Result, ℕ, List, ◌∙◌, ap, subst, sym}
-use Rattle.std.specs.Prelude.{IfOk, OnOk, OnErr}
+use Rattle.std.proofs.Common.{Err, Result, List, ◌∙◌, ap, subst, sym}
+use Rattle.std.specs.Prelude.{OnOk}
 use Rattle.std.specs.FinMap.{FinMap}
 use Rattle.std.specs.Ordering.{nat_cmp}
 use Rattle.std.proofs.lemmas.Result.{err_from_is_err_and}
@@ -8,14 +8,15 @@ use Rattle.pinned_pieces.specs.Pieces.{PinOf}
 use Rattle.pv_catalog.specs.Catalogue.{CatalogueState}
 use Rattle.pv_catalog.specs.Rows.{KeepsRows}
 use Rattle.tier_store.specs.Ends.{end_of_disk}
-use Rattle.three_stores.specs.Limbo.{LimboStands, IsSwept, AreGone, LeaveListed, LeavesKept, staying}
+use Rattle.tier_store.proofs.Acting.{rose_after}
+use Rattle.three_stores.specs.Limbo.{LimboStands, IsSwept, AreGone, LeavesKept, staying}
 use Rattle.three_stores.specs.Pinned.{beside}
 use Rattle.three_stores.specs.Seen.{seen_on}
 use Rattle.three_stores.specs.declared.limbo.Retired.{Retired}
+use Rattle.three_stores.specs.declared.removing.Swept.{Swept}
 use Rattle.three_stores.proofs.Acting.{has_one, cut_acts, then_acts}
 use Rattle.three_stores.proofs.Staying.{limbo_kept}
 use Rattle.three_stores.proofs.Sparing.{reads_leave, reads_then}
-use Rattle.three_stores.proofs.Removals.{none_left}
 use Rattle.three_stores.proofs.LeavingNames.{names_then}
 use Rattle.three_stores.proofs.store.TierStore.sweep.Goals as goal
 
@@ -34,12 +35,12 @@ sweep_settled-requires-clause-stands g c =
 pub returns-in_err-review-clause-acts : goal.returns-in_err-review-clause-acts
 returns-in_err-review-clause-acts g c =
     let p = err_from_is_err_and c.from_residual.result c.from_residual.ensures.1 in
-    cut_acts g.D.Disk.tells staying _ _ c.review.result c.in_err-review.field-0.0 _ c.in_err-review.was (ap (λ (r : Result ℕ DiskErr). end_of_disk r) (p.1 ∙ ap (λ (x : DiskErr). Err x) p.2)) (λ settled. (tt, (c.review.ensures.nothing settled).0)) c.in_err-review.ensures.still c.review.ensures.granularity c.review.ensures.reads
+    cut_acts g.D.Disk.tells staying _ _ c.review.result c.in_err-review.field-0.0 _ c.in_err-review.was (ap (λ (r : Result Swept DiskErr). end_of_disk r) (p.1 ∙ ap (λ (x : DiskErr). Err x) p.2)) (λ settled. (tt, (c.review.ensures.nothing settled).0)) c.in_err-review.ensures.still c.review.ensures.granularity c.review.ensures.reads
 
 pub returns-in_err-review-clause-failed : goal.returns-in_err-review-clause-failed
 returns-in_err-review-clause-failed g c =
     let p = err_from_is_err_and c.from_residual.result c.from_residual.ensures.1 in
-    rw p.1 (none_left _ c.args.self.now.limbo.items c.review.new.self.limbo.items (ap (λ l. l.items) c.review.ensures.limbo))
+    rw p.1 c.review.ensures.limbo
 
 pub returns-in_err-review-clause-leaves : goal.returns-in_err-review-clause-leaves
 returns-in_err-review-clause-leaves g c = reads_leave g.D.Disk.tells c.args.self.now.pinned c.args.copied.now _ _ c.review.ensures.shown c.review.ensures.reads.files c.review.ensures.reads.any_moment
@@ -61,25 +62,25 @@ returns-clause-swept g c =
     let disk = g.D.Disk in
     let mid = c.review.new.self in
     let new = c.sweep_settled.new.self in
+    let files = c.sweep_settled.result.files in
     let after = seen_on disk.files disk.opened disk.past disk.faults new.catalogue new.manifests.items new.disk in
-    subst (λ (l : List Retired). IfOk c.sweep_settled.result (IsSwept after c.args.self.now.pinned c.args.copied.now l new.limbo.items)) (ap (λ l. l.items) c.review.ensures.limbo)
-    (subst (λ (p : FinMap nat_cmp PinOf). IfOk c.sweep_settled.result (IsSwept after p c.args.copied.now mid.limbo.items new.limbo.items)) c.review.ensures.pins c.sweep_settled.ensures.swept)
+    subst (λ (l : List Retired). IsSwept after c.args.self.now.pinned c.args.copied.now l new.limbo.items files) (ap (λ l. l.items) c.review.ensures.limbo)
+    (subst (λ (p : FinMap nat_cmp PinOf). IsSwept after p c.args.copied.now mid.limbo.items new.limbo.items files) c.review.ensures.pins c.sweep_settled.ensures.swept)
 
 pub returns-clause-gone : goal.returns-clause-gone
 returns-clause-gone g c tells =
     let disk = g.D.Disk in
     let mid = c.review.new.self in
     let new = c.sweep_settled.new.self in
+    let removed = c.sweep_settled.result.removed in
     let after = seen_on disk.files disk.opened disk.past disk.faults new.catalogue new.manifests.items new.disk in
-    subst (λ (l : List Retired). OnOk c.sweep_settled.result (AreGone after c.args.self.now.pinned c.args.copied.now l)) (ap (λ l. l.items) c.review.ensures.limbo)
-    (subst (λ (p : FinMap nat_cmp PinOf). OnOk c.sweep_settled.result (AreGone after p c.args.copied.now mid.limbo.items)) c.review.ensures.pins (c.sweep_settled.ensures.gone tells))
+    subst (λ (l : List Retired). OnOk removed (AreGone after c.args.self.now.pinned c.args.copied.now l)) (ap (λ l. l.items) c.review.ensures.limbo)
+    (subst (λ (p : FinMap nat_cmp PinOf). OnOk removed (AreGone after p c.args.copied.now mid.limbo.items)) c.review.ensures.pins (c.sweep_settled.ensures.gone tells))
 
-pub returns-clause-failed : goal.returns-clause-failed
-returns-clause-failed g c =
-    let disk = g.D.Disk in
-    let new = c.sweep_settled.new.self in
-    let after = seen_on disk.files disk.opened disk.past disk.faults new.catalogue new.manifests.items new.disk in
-    subst (λ (l : List Retired). OnErr c.sweep_settled.result (LeaveListed after l new.limbo.items)) (ap (λ l. l.items) c.review.ensures.limbo) c.sweep_settled.ensures.failed
+pub returns-clause-cause : goal.returns-clause-cause
+returns-clause-cause g c failed =
+    let faults = g.D.Disk.faults in
+    rose_after (faults c.args.self.now.disk) (faults c.review.new.self.disk) (faults c.sweep_settled.new.self.disk) c.review.ensures.reads.faults (c.sweep_settled.ensures.cause failed)
 
 pub returns-clause-leaves : goal.returns-clause-leaves
 returns-clause-leaves g c =

@@ -1,12 +1,12 @@
-use Rattle.std.proofs.Common.{List, ap, sym, subst}
+use Rattle.std.proofs.Common.{List, subst}
 use Rattle.store_manifest.specs.Entries.{InOrder}
 use Rattle.store_manifest.specs.Manifest.{ManifestState}
-use Rattle.tier_store.specs.Ends.{end_of_disk}
+use Rattle.tier_store.specs.Ends.{Done}
 use Rattle.three_stores.specs.Seen.{AtEach, seen_on}
-use Rattle.three_stores.specs.Limbo.{ListsPlace, Stay, LeaveListed}
+use Rattle.three_stores.specs.Limbo.{ListsPlace, Stay}
 use Rattle.three_stores.proofs.Staying.{stay_from, stay_unlisted}
-use Rattle.three_stores.proofs.Sparing.{swept_changes, swept_leaves, swept_files, leave_listed, are_gone, still_stands}
-use Rattle.three_stores.proofs.Removals.{lists_in_order, on_ok, on_err, if_ok, disk_failed, needed_stays, none_came}
+use Rattle.three_stores.proofs.Sparing.{swept_changes, swept_leaves, swept_files, are_gone, still_stands}
+use Rattle.three_stores.proofs.Removals.{lists_in_order, on_ok, needed_stays, none_came}
 use Rattle.three_stores.proofs.LeavingNames.{removal_leaves}
 use Rattle.three_stores.proofs.store.TierStore.sweep_settled.Goals as goal
 
@@ -21,7 +21,7 @@ returns-clause-changes g c =
     let known = subst (λ (ms : List ManifestState). AtEach ms (λ i m. InOrder m.entries) → Stay (λ r. ListsPlace ms r → ⊥) (ListsPlace ms) self.limbo.items retired) c.deref.ensures.value c.leave_listed.ensures in
     let unlisted = stay_unlisted at held.0 self.limbo.items retired held.1.known c.requires.stands (known (lists_in_order self.catalogue self.manifests.items held.0 held.1.known)) in
     swept_changes disk.tells at self.pinned c.args.copied.now self.limbo.items retired c.requires.stands unlisted (disk.files new) (disk.opened new) (disk.past new) (disk.faults new) (λ tells. (c.clear_limbo.ensures.removes tells).any_moment) (λ tells. (c.clear_limbo.ensures.removes tells).spares) (λ tells. (c.clear_limbo.ensures.removes tells).fewer)
-    (end_of_disk c.clear_limbo.result) c.clear_limbo.ensures.faults (disk_failed c.clear_limbo.result (disk.faults self.disk) (disk.faults new) c.clear_limbo.ensures.cause)
+    (Done c.clear_limbo.result) c.clear_limbo.ensures.faults (λ failed. absurd failed)
 
 pub returns-clause-swept : goal.returns-clause-swept
 returns-clause-swept g c =
@@ -31,12 +31,11 @@ returns-clause-swept g c =
     let held = c.requires.has in
     let retired = c.leave_listed.new.limbo.items in
     let left = c.clear_limbo.new.limbo.items in
-    let r = c.clear_limbo.result in
     let new = c.clear_limbo.new.disk in
     let known = subst (λ (ms : List ManifestState). AtEach ms (λ i m. InOrder m.entries) → Stay (λ r. ListsPlace ms r → ⊥) (ListsPlace ms) self.limbo.items retired) c.deref.ensures.value c.leave_listed.ensures in
     let unlisted = stay_unlisted at held.0 self.limbo.items retired held.1.known c.requires.stands (known (lists_in_order self.catalogue self.manifests.items held.0 held.1.known)) in
-    if_ok r _ _ _ (λ n needed count. swept_files disk.tells at self.pinned c.args.copied.now self.limbo.items retired c.requires.stands unlisted (disk.files new) (disk.opened new) (disk.past new) (disk.faults new) (λ tells. (c.clear_limbo.ensures.removes tells).any_moment) (λ tells. (c.clear_limbo.ensures.removes tells).spares) (λ tells. (c.clear_limbo.ensures.removes tells).fewer)
-    left n needed count) c.clear_limbo.ensures.needed c.clear_limbo.ensures.count
+    swept_files disk.tells at self.pinned c.args.copied.now self.limbo.items retired c.requires.stands unlisted (disk.files new) (disk.opened new) (disk.past new) (disk.faults new) (λ tells. (c.clear_limbo.ensures.removes tells).any_moment) (λ tells. (c.clear_limbo.ensures.removes tells).spares) (λ tells. (c.clear_limbo.ensures.removes tells).fewer)
+    left c.clear_limbo.result.files c.clear_limbo.ensures.needed c.clear_limbo.ensures.count
 
 pub returns-clause-gone : goal.returns-clause-gone
 returns-clause-gone g c told =
@@ -46,25 +45,10 @@ returns-clause-gone g c told =
     let held = c.requires.has in
     let retired = c.leave_listed.new.limbo.items in
     let left = c.clear_limbo.new.limbo.items in
-    let r = c.clear_limbo.result in
     let new = c.clear_limbo.new.disk in
     let known = subst (λ (ms : List ManifestState). AtEach ms (λ i m. InOrder m.entries) → Stay (λ r. ListsPlace ms r → ⊥) (ListsPlace ms) self.limbo.items retired) c.deref.ensures.value c.leave_listed.ensures in
     let unlisted = stay_unlisted at held.0 self.limbo.items retired held.1.known c.requires.stands (known (lists_in_order self.catalogue self.manifests.items held.0 held.1.known)) in
-    on_ok r _ _ (are_gone disk.tells at self.pinned c.args.copied.now self.limbo.items retired c.requires.stands unlisted (disk.files new) (disk.opened new) (disk.past new) (disk.faults new) (λ tells. (c.clear_limbo.ensures.removes tells).any_moment) (λ tells. (c.clear_limbo.ensures.removes tells).spares) (λ tells. (c.clear_limbo.ensures.removes tells).fewer)) (c.clear_limbo.ensures.gone told)
-
-pub returns-clause-failed : goal.returns-clause-failed
-returns-clause-failed g c =
-    let self = c.args.self.now in
-    let disk = g.D.Disk in
-    let at = seen_on disk.files disk.opened disk.past disk.faults self.catalogue self.manifests.items self.disk in
-    let held = c.requires.has in
-    let retired = c.leave_listed.new.limbo.items in
-    let left = c.clear_limbo.new.limbo.items in
-    let r = c.clear_limbo.result in
-    let new = c.clear_limbo.new.disk in
-    let known = subst (λ (ms : List ManifestState). AtEach ms (λ i m. InOrder m.entries) → Stay (λ r. ListsPlace ms r → ⊥) (ListsPlace ms) self.limbo.items retired) c.deref.ensures.value c.leave_listed.ensures in
-    let unlisted = stay_unlisted at held.0 self.limbo.items retired held.1.known c.requires.stands (known (lists_in_order self.catalogue self.manifests.items held.0 held.1.known)) in
-    on_err r _ _ (λ same. subst (LeaveListed (seen_on disk.files disk.opened disk.past disk.faults self.catalogue self.manifests.items new) self.limbo.items) (sym (ap (λ l. l.items) same)) (leave_listed disk.tells at self.pinned c.args.copied.now self.limbo.items retired c.requires.stands unlisted (disk.files new) (disk.opened new) (disk.past new) (disk.faults new) (λ tells. (c.clear_limbo.ensures.removes tells).any_moment) (λ tells. (c.clear_limbo.ensures.removes tells).spares) (λ tells. (c.clear_limbo.ensures.removes tells).fewer))) c.clear_limbo.ensures.unchanged
+    on_ok c.clear_limbo.result.removed _ _ (are_gone disk.tells at self.pinned c.args.copied.now self.limbo.items retired c.requires.stands unlisted (disk.files new) (disk.opened new) (disk.past new) (disk.faults new) (λ tells. (c.clear_limbo.ensures.removes tells).any_moment) (λ tells. (c.clear_limbo.ensures.removes tells).spares) (λ tells. (c.clear_limbo.ensures.removes tells).fewer)) (c.clear_limbo.ensures.gone told)
 
 pub returns-clause-leaves : goal.returns-clause-leaves
 returns-clause-leaves g c =
@@ -74,12 +58,11 @@ returns-clause-leaves g c =
     let held = c.requires.has in
     let retired = c.leave_listed.new.limbo.items in
     let left = c.clear_limbo.new.limbo.items in
-    let r = c.clear_limbo.result in
     let new = c.clear_limbo.new.disk in
     let known = subst (λ (ms : List ManifestState). AtEach ms (λ i m. InOrder m.entries) → Stay (λ r. ListsPlace ms r → ⊥) (ListsPlace ms) self.limbo.items retired) c.deref.ensures.value c.leave_listed.ensures in
     let unlisted = stay_unlisted at held.0 self.limbo.items retired held.1.known c.requires.stands (known (lists_in_order self.catalogue self.manifests.items held.0 held.1.known)) in
     swept_leaves disk.tells at self.pinned c.args.copied.now self.limbo.items retired c.requires.stands unlisted (disk.files new) (disk.opened new) (disk.past new) (disk.faults new) (λ tells. (c.clear_limbo.ensures.removes tells).any_moment) (λ tells. (c.clear_limbo.ensures.removes tells).spares) (λ tells. (c.clear_limbo.ensures.removes tells).fewer)
-    held.0 left held.1 (needed_stays r self.pinned c.args.copied.now retired left c.clear_limbo.ensures.needed (on_err r _ _ (λ same. ap (λ l. l.items) same) c.clear_limbo.ensures.unchanged))
+    held.0 left held.1 (needed_stays self.pinned c.args.copied.now retired left c.clear_limbo.ensures.needed)
 
 pub returns-clause-stands : goal.returns-clause-stands
 returns-clause-stands g c =
@@ -89,12 +72,11 @@ returns-clause-stands g c =
     let held = c.requires.has in
     let retired = c.leave_listed.new.limbo.items in
     let left = c.clear_limbo.new.limbo.items in
-    let r = c.clear_limbo.result in
     let new = c.clear_limbo.new.disk in
     let known = subst (λ (ms : List ManifestState). AtEach ms (λ i m. InOrder m.entries) → Stay (λ r. ListsPlace ms r → ⊥) (ListsPlace ms) self.limbo.items retired) c.deref.ensures.value c.leave_listed.ensures in
     let unlisted = stay_unlisted at held.0 self.limbo.items retired held.1.known c.requires.stands (known (lists_in_order self.catalogue self.manifests.items held.0 held.1.known)) in
     still_stands disk.tells at self.pinned c.args.copied.now self.limbo.items retired c.requires.stands unlisted (disk.files new) (disk.opened new) (disk.past new) (disk.faults new) (λ tells. (c.clear_limbo.ensures.removes tells).any_moment) (λ tells. (c.clear_limbo.ensures.removes tells).spares) (λ tells. (c.clear_limbo.ensures.removes tells).fewer)
-    left (none_came r self.pinned c.args.copied.now retired left c.clear_limbo.ensures.needed (on_err r _ _ (λ same. ap (λ l. l.items) same) c.clear_limbo.ensures.unchanged))
+    left (none_came self.pinned c.args.copied.now retired left c.clear_limbo.ensures.needed)
 
 pub returns-clause-copied : goal.returns-clause-copied
 returns-clause-copied g c =
@@ -107,5 +89,5 @@ returns-clause-copied g c =
     let known = subst (λ (ms : List ManifestState). AtEach ms (λ i m. InOrder m.entries) → Stay (λ r. ListsPlace ms r → ⊥) (ListsPlace ms) self.limbo.items retired) c.deref.ensures.value c.leave_listed.ensures in
     let stay = known (lists_in_order self.catalogue self.manifests.items held.0 held.1.known) in
     removal_leaves disk.tells _ _ self.pinned c.args.copied.now retired
-    (λ r there. (stay_from (λ x. ListsPlace self.manifests.items x → ⊥) (ListsPlace self.manifests.items) self.limbo.items retired r stay (none_came c.clear_limbo.result self.pinned c.args.copied.now retired left c.clear_limbo.ensures.needed (on_err c.clear_limbo.result _ _ (λ same. ap (λ l. l.items) same) c.clear_limbo.ensures.unchanged) r there)).0)
+    (λ r there. (stay_from (λ x. ListsPlace self.manifests.items x → ⊥) (ListsPlace self.manifests.items) self.limbo.items retired r stay (none_came self.pinned c.args.copied.now retired left c.clear_limbo.ensures.needed r there)).0)
     c.clear_limbo.ensures.removes
