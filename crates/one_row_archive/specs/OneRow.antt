@@ -1,16 +1,18 @@
 -- An archive of at most one row, whose samples all stand in the row's tail, over a disk that tells nothing of its files.
-use Rattle.std.specs.Prelude.{◌≡◌, ℕ, List, [], ◌∷◌, Bool, true, false, Option, None, Some}
+use Rattle.std.specs.Prelude.{◌≡◌, ℕ, List, [], ◌∷◌, Bool, true, false, Option, None, Some, codes}
 use Rattle.std.specs.FinMap.{get}
 use Rattle.event_types.specs.declared.about.About.{About}
+use Rattle.event_types.specs.declared.about.Method.{Method}
 use Rattle.event_types.specs.declared.about.State.{State}
 use Rattle.event_types.specs.declared.about.State.TheVariants.{Running, Paused}
+use Rattle.pb_wire.specs.declared.payload.PayloadType.TheVariants.{ScalarInt}
 use Rattle.series_model.specs.declared.sample.Sample.{Sample}
 use Rattle.series_model.specs.Sampling.{Cell}
 use Rattle.act_model.specs.declared.acts.Act.{Act}
 use Rattle.act_model.specs.History.{Entry, Goes}
 use Rattle.act_model.specs.Machine.{Machine, PinState, held_bytes}
 use Rattle.act_model.specs.Reply.{Reply}
-use Rattle.act_model.specs.Rows.{RowState}
+use Rattle.act_model.specs.Rows.{RowState, fresh_row}
 use Rattle.act_model.specs.Sound.{IsSound}
 use Rattle.act_model.specs.Step.{Step}
 use Rattle.one_row_archive.specs.declared.one_row.OneRow.{OneRow}
@@ -40,6 +42,11 @@ row_of k cell = record { name = k.name; about = k.about; state = state_of k.paus
 abbrev pub rows_of : Bool → RowState → List RowState
 rows_of false row = []
 rows_of true row = row ∷ []
+
+-- the rows of an archive that begins with one without samples, sampled in this way, or with none
+abbrev pub first_rows : Option Method → List RowState
+first_rows None = []
+first_rows (Some method) = fresh_row (codes "A:B") (record { ty = ScalarInt; method = method; count = None; headers = [] }) ∷ []
 
 abbrev pub names_of : Bool → List ℕ → List (List ℕ)
 names_of false name = []

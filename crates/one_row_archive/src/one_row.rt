@@ -7,7 +7,8 @@ ghost use Rattle.act_model.specs.Reply.{reply_of};
 ghost use Rattle.act_model.proofs.Histories.{runs_append};
 ghost use Rattle.act_model.specs.declared.acts.Act.{Act};
 ghost use Rattle.event_types.specs.declared.about.About.{About as AboutValue};
-ghost use Rattle.one_row_archive.specs.OneRow.{Answers, Leads, Stands, names_of, state_of};
+ghost use Rattle.series_model.specs.Sampling.{first_cell};
+ghost use Rattle.one_row_archive.specs.OneRow.{Answers, Leads, Stands, first_rows, known, names_of, row_of, rows_of, state_of};
 
 use act_model::{Act, Actor, Answer, Details, Spent};
 use disk_model::{MemFile, ReadAt};
@@ -53,7 +54,9 @@ impl OneRow {
         acts: u64,
         failing: u64,
     ) -> Result<OneRow, AllocError>
-        ensures { IfOk result (λ a. (m : Machine) × Stands a m) }
+        ensures stands { IfOk result (λ a. (m : Machine) × Stands a m) }
+        ensures begins { IfOk result (λ a. (rows_of a.is_there (row_of (known a) first_cell) ≡ first_rows row) × (a.pinned ≡ false)) }
+        ensures acts { IfOk result (λ a. (a.acts ≡ acts) × (a.failing ≡ failing)) }
     {
         let Ok(name) = PvName::new(alloc, b"A:B") else {
             return Err(AllocError);
