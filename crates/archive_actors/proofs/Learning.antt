@@ -1,88 +1,62 @@
--- What a pass comes to know is a run of the machine.
-use Rattle.std.proofs.Common.{◌≡◌, ℕ, ◌+◌, List, [], ◌∷◌, ◌++◌, refl, sym, ◌∙◌, ap, subst, append_assoc}
+-- What follows of what passes know.
+use Rattle.std.proofs.Common.{◌≡◌, ℕ, List, [], ◌∷◌, ◌++◌, sym, ◌∙◌, ap, subst}
 use Rattle.std.proofs.lemmas.List.{append-nil}
+use mathlib.Core.List.{IsPrefix}
 use Rattle.turn_rooms.specs.declared.room.Entry.{Entry as RoomEntry}
 use Rattle.turn_rooms.specs.declared.rooms.Pass.{Pass}
 use Rattle.turn_rooms.specs.declared.rooms.Rooms.{Rooms}
-use Rattle.turn_rooms.specs.Histories.{LegalFrom, Legal, end_of}
-use Rattle.turn_rooms.specs.Passes.{IsPassOf, opened, known}
+use Rattle.turn_rooms.specs.declared.view.Seen.{Seen}
+use Rattle.turn_rooms.specs.Histories.{Legal, end_of}
+use Rattle.turn_rooms.specs.Passes.{IsPassOf, Meets, Parts, opened, known}
+use Rattle.turn_rooms.specs.Passes.{Goes as RoomGoes}
 use Rattle.act_model.specs.declared.acts.Act.{Act}
-use Rattle.act_model.specs.History.{Entry, Runs, Goes}
 use Rattle.act_model.specs.Machine.{Machine}
 use Rattle.act_model.specs.Reply.{Reply}
+use Rattle.act_model.specs.Sound.{IsSound}
+use Rattle.act_model.proofs.Histories.{runs_append, runs_onward, steps_at}
 use Rattle.archive_actors.specs.Steps.{RoomStep, kept, all_kept}
-use Rattle.archive_actors.specs.Seats.{StandsFor, HasLearnt}
-
--- HISTORIES OF ROOMS
-
-module _ {S B : Type 0} where
-  end_append : (s : S) (xs ys : List (RoomEntry S Act B)) → end_of s (xs ++ ys) ≡ end_of (end_of s xs) ys
-  end_append s [] ys = refl
-  end_append s (x ∷ xs) ys = end_append x.after xs ys
-
-  pub kept_append : (reply : B → Reply) (xs ys : List (RoomEntry S Act B)) → all_kept reply (xs ++ ys) ≡ all_kept reply xs ++ all_kept reply ys
-  kept_append reply [] ys = refl
-  kept_append reply (x ∷ xs) ys = ap (λ (es : List Entry). kept reply x.who x.act x.answer ∷ es) (kept_append reply xs ys)
-
-module _ {S B : Type 0} (steps : S → ℕ → ℕ → Act → B → S → Type 0) where
-  -- what comes behind a front of a legal history goes on legally from where the front ends
-  legal_rest : (n : ℕ) (s : S) (xs ys : List (RoomEntry S Act B)) → LegalFrom steps n s (xs ++ ys) → (k : ℕ) × LegalFrom steps k (end_of s xs) ys
-  legal_rest n s [] ys legal = (n, legal)
-  legal_rest n s (x ∷ xs) ys legal = legal_rest (n + 1) x.after xs ys legal.1
+use Rattle.archive_actors.specs.Seats.{StandsFor, ActsAfter}
+use Rattle.archive_actors.specs.SeatLaws.{legal_runs, known_further, seat_legal}
 
 module _ {S B : Type 0} (steps : S → ℕ → ℕ → Act → B → S → Type 0) (stands : S → Machine → Type 0) (reply : B → Reply)
     (stepped : (old new : S) (who n : ℕ) (act : Act) (answer : B) → steps old who n act answer new → RoomStep stands reply old who n act answer new) where
-  -- a legal history is a run of the machine
-  legal_runs : (n : ℕ) (s : S) (acts : List (RoomEntry S Act B)) (m : Machine) → LegalFrom steps n s acts → stands s m → Goes (stands (end_of s acts)) m (all_kept reply acts)
-  legal_runs n s [] m legal here = record { after = m; runs = refl; stands_for = here }
-  legal_runs n s (e ∷ es) m legal here =
-      let made = stepped s e.after e.who n e.act e.answer legal.0 in
-      let one = made.1 m here in
-      let rest = legal_runs (n + 1) e.after es one.0 legal.1 one.2 in
-      record { after = rest.after; runs = (made.0, one.0, one.1, rest.runs); stands_for = rest.stands_for }
+  -- each act of a pass that knows more than another is a step in a state that goes onward from those that the other stood for
+  acts_after : ((s : S) (m : Machine) → stands s m → IsSound m) → (rooms : Rooms S Act B) (earlier old : Pass S Act B) → IsPassOf steps rooms old → IsPrefix (known earlier) (known old)
+      → ActsAfter steps stands reply rooms earlier old
+  acts_after sound rooms earlier old pass front m here later new others act answer learnt =
+      let first = known_further steps stands reply stepped rooms earlier old front.0 m pass (sym front.1) here in
+      let then_it = seat_legal steps stands reply stepped rooms old (others ++ kept reply old.number act answer ∷ []) later new first.after learnt first.stands_for in
+      let at = steps_at others [] (kept reply old.number act answer) first.after then_it.after then_it.runs in (
+        at.at,
+        at.after,
+        runs_onward (all_kept reply front.0 ++ others) m at.at (sound (end_of (opened rooms) (known earlier)) m here.now) (runs_append (all_kept reply front.0) others m first.after at.at first.runs at.to),
+        at.step,
+        subst (λ (w : Machine). StandsFor steps stands later new w) at.from then_it.stands_for,
+      )
 
-  pub seat_legal : (rooms : Rooms S Act B) (old : Pass S Act B) (entries : List Entry) (later : Rooms S Act B) (new : Pass S Act B) (m : Machine)
-      → HasLearnt steps reply rooms old entries later new → StandsFor steps stands rooms old m → Goes (StandsFor steps stands later new) m entries
-  seat_legal rooms old entries later new m learnt here =
-      let pass = learnt.still here.is_pass in
-      let whole = subst (λ (h : List (RoomEntry S Act B)). Legal steps (opened rooms) h) learnt.goes_on pass.belongs.legal in
-      let behind = legal_rest steps 0 (opened rooms) (known old) learnt.acts whole in
-      let goes = legal_runs behind.0 (end_of (opened rooms) (known old)) learnt.acts m behind.1 here.now in
-      let ends : end_of (end_of (opened rooms) (known old)) learnt.acts ≡ end_of (opened rooms) (known new) = sym (end_append (opened rooms) (known old) learnt.acts) ∙ ap (λ (h : List (RoomEntry S Act B)). end_of (opened rooms) h) (sym learnt.goes_on) in
-      let now = subst (λ (s : S). stands s goes.after) ends goes.stands_for in
-      let stood : StandsFor steps stands rooms new goes.after = record { is_pass = pass; begun = here.begun; now = now } in
-      record {
-        after = goes.after;
-        runs = subst (λ (es : List Entry). Runs m es goes.after) (sym learnt.are) goes.runs;
-        stands_for = subst (λ (r : Rooms S Act B). StandsFor steps stands r new goes.after) (sym learnt.same_rooms) stood;
-      }
+  pub acts_after_met : ((s : S) (m : Machine) → stands s m → IsSound m) → (rooms : Rooms S Act B) (old new note : Pass S Act B) → Meets steps rooms old new note
+      → ActsAfter steps stands reply rooms old new × ActsAfter steps stands reply rooms note new
+  acts_after_met sound rooms old new note met = (
+    acts_after sound rooms old new met.rooms met.goes_on,
+    acts_after sound rooms note new met.rooms met.note_goes_on,
+  )
+
+  pub acts_after_parted : ((s : S) (m : Machine) → stands s m → IsSound m) → (rooms : Rooms S Act B) (old new note : Pass S Act B) → Parts steps rooms old new note
+      → ActsAfter steps stands reply rooms old new × ActsAfter steps stands reply rooms old note
+  acts_after_parted sound rooms old new note made =
+      let same : known new ≡ known old = ap (λ (s : Seen S Act B). s.known) made.same_seen in (
+        acts_after sound rooms old new made.rooms ([], append-nil (known old) ∙ sym same),
+        acts_after sound rooms old note made.note_rooms ([], append-nil (known old) ∙ sym made.note_knows),
+      )
+
+  -- after turns a pass stands for some state
+  pub stands_on : (rooms : Rooms S Act B) (old new : Pass S Act B) (m : Machine) → RoomGoes steps rooms old new → StandsFor steps stands rooms old m → (n : Machine) × StandsFor steps stands rooms new n
+  stands_on rooms old new m goes here =
+      let further = known_further steps stands reply stepped rooms old new goes.goes_on.0 m goes.rooms (sym goes.goes_on.1) here in
+      (further.after, further.stands_for)
 
   -- wherever a legal history goes, the room stands for some state
   pub stands_later : (rooms : Rooms S Act B) (pass : Pass S Act B) (m : Machine) (acts : List (RoomEntry S Act B)) → StandsFor steps stands rooms pass m → Legal steps (opened rooms) acts → (n : Machine) × stands (end_of (opened rooms) acts) n
   stands_later rooms pass m acts here legal =
-      let goes = legal_runs 0 (opened rooms) acts here.begun.0 legal here.begun.1 in
+      let goes = legal_runs steps stands reply stepped 0 (opened rooms) acts here.begun.0 legal here.begun.1 in
       (goes.after, goes.stands_for)
-
--- WHAT IS LEARNT
-
-module _ {S B : Type 0} (steps : S → ℕ → ℕ → Act → B → S → Type 0) (reply : B → Reply) where
-  pub seat_nothing : (rooms : Rooms S Act B) (pass : Pass S Act B) → HasLearnt steps reply rooms pass [] rooms pass
-  seat_nothing rooms pass = record {
-    same_rooms = refl;
-    same_number = refl;
-    acts = [];
-    goes_on = sym (append-nil (known pass));
-    are = refl;
-    still = λ is. is;
-  }
-
-  pub seat_joined : (rooms : Rooms S Act B) (a : Pass S Act B) (xs : List Entry) (later : Rooms S Act B) (b : Pass S Act B) (ys : List Entry) (last : Rooms S Act B) (c : Pass S Act B)
-      → HasLearnt steps reply rooms a xs later b → HasLearnt steps reply later b ys last c → HasLearnt steps reply rooms a (xs ++ ys) last c
-  seat_joined rooms a xs later b ys last c p q = record {
-    same_rooms = q.same_rooms ∙ p.same_rooms;
-    same_number = q.same_number ∙ p.same_number;
-    acts = p.acts ++ q.acts;
-    goes_on = q.goes_on ∙ (ap (λ (h : List (RoomEntry S Act B)). h ++ q.acts) p.goes_on ∙ append_assoc (known a) p.acts q.acts);
-    are = ap (λ (es : List Entry). es ++ ys) p.are ∙ (ap (λ (es : List Entry). all_kept reply p.acts ++ es) q.are ∙ sym (kept_append reply p.acts q.acts));
-    still = λ is. subst (λ (r : Rooms S Act B). IsPassOf steps r c) p.same_rooms (q.still (subst (λ (r : Rooms S Act B). IsPassOf steps r b) (sym p.same_rooms) (p.still is)));
-  }

@@ -15,7 +15,7 @@ use Rattle.act_model.specs.History.{Entry, own}
 use Rattle.act_model.specs.Reply.{Reply}
 use Rattle.archive_actors.specs.Steps.{kept, all_kept}
 use Rattle.archive_actors.specs.Seats.{HasLearnt, KnowsAll}
-use Rattle.archive_actors.proofs.Learning.{kept_append}
+use Rattle.archive_actors.specs.SeatLaws.{kept_append}
 
 module _ {S B : Type 0} where
   kept_one : (reply : B → Reply) (e : RoomEntry S Act B) (b : Bool) (xs : List Entry) (ys : List (RoomEntry S Act B)) → xs ≡ all_kept reply ys
@@ -67,7 +67,7 @@ module _ {S B : Type 0} (steps : S → ℕ → ℕ → Act → B → S → Type 
         acts = mid ++ last ∷ [];
         goes_on = is ∙ append_assoc (known old) mid (last ∷ []);
         are = sym (kept_append reply mid (last ∷ []));
-        still = λ is. goes.rooms;
+        goes = λ is. goes;
       } in
       (all_kept reply mid, learnt, none_kept reply old.number mid none)
 
@@ -84,6 +84,6 @@ module _ {S B : Type 0} (steps : S → ℕ → ℕ → Act → B → S → Type 
         acts = more;
         goes_on = sym goes.goes_on.1;
         are = refl;
-        still = λ is. goes.rooms;
+        goes = λ is. goes;
       } in
       (all_kept reply more, learnt, none_kept reply old.number more none, full.all)

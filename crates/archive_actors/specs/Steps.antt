@@ -1,11 +1,13 @@
 -- The acts of a room as entries and steps of the machine.
-use Rattle.std.specs.Prelude.{ℕ, List, map}
+use Rattle.std.specs.Prelude.{ℕ, List, Bool, map}
 use Rattle.turn_rooms.specs.declared.room.Entry.{Entry as RoomEntry}
 use Rattle.act_model.specs.declared.acts.Act.{Act}
+use Rattle.act_model.specs.declared.acts.Answer.{Answer}
 use Rattle.act_model.specs.Alone.{Applied}
 use Rattle.act_model.specs.History.{Entry}
 use Rattle.act_model.specs.Machine.{Machine}
-use Rattle.act_model.specs.Reply.{Reply}
+use Rattle.act_model.specs.Reply.{Reply, reply_of}
+use Rattle.archive_actors.specs.declared.shared.Shared.{Shared}
 
 -- what is kept of an act and its answer
 abbrev pub kept : {B : Type 0} → (B → Reply) → ℕ → Act → B → Entry
@@ -18,3 +20,11 @@ RoomStep stands reply old who n act answer new = Applied stands old (kept reply 
 -- what is kept of the acts of a room; the rooms after them are left out
 abbrev pub all_kept : {S B : Type 0} → (B → Reply) → List (RoomEntry S Act B) → List Entry
 all_kept {S} {B} reply acts = map (λ (e : RoomEntry S Act B). kept reply e.who e.act e.answer) acts
+
+-- a shared archive stands for the states that the archive stands for
+abbrev pub SharedStands : {X R : Type 0} → (X → Machine → Type 0) → Shared X R → Machine → Type 0
+SharedStands stands room m = stands room.archive m
+
+-- an act on a shared archive, whose readers have these meanings
+abbrev pub SharedStep : {X R : Type 0} → (X → Machine → Type 0) → Bool → (R → List ℕ) → (R → ℕ) → Shared X R → ℕ → ℕ → Act → Answer R → Shared X R → Type 0
+SharedStep stands tells bytes faults = RoomStep (SharedStands stands) (reply_of tells bytes faults)

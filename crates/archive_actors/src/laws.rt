@@ -1,24 +1,24 @@
-//! What follows of turns, for all seats.
-ghost use Rattle.std.specs.Prelude.{List, [], ◌++◌};
+//! What follows of turns, for all who are seated at one archive.
 ghost use Rattle.turn_rooms.specs.declared.rooms.Pass.{Pass};
 ghost use Rattle.turn_rooms.specs.declared.rooms.Rooms.{Rooms};
+ghost use Rattle.turn_rooms.specs.Passes.{Meets, Parts};
 ghost use Rattle.act_model.specs.declared.acts.Act.{Act};
 ghost use Rattle.act_model.specs.declared.acts.Answer.{Answer};
-ghost use Rattle.act_model.specs.History.{Entry, Goes};
-ghost use Rattle.act_model.specs.Machine.{Machine};
 ghost use Rattle.act_model.specs.Reply.{reply_of};
 ghost use Rattle.archive_actors.specs.declared.shared.Shared.{Shared};
-ghost use Rattle.archive_actors.specs.Steps.{RoomStep};
-ghost use Rattle.archive_actors.specs.Seats.{StandsFor, HasLearnt};
+ghost use Rattle.archive_actors.specs.Steps.{SharedStands, SharedStep};
+ghost use Rattle.archive_actors.specs.Seats.{ActsAfter};
 
 use crate::applies::Applies;
 
-/// What a pass comes to know is a run of the machine, from any state that the pass stood for: so an act is a step in the state that the acts
-/// of others before it led to. What it learnt first and then is what it has learnt, and without a turn that is nothing.
-pub fn turns_are_runs<X: Applies>()
-    ensures legal { (rooms later : Rooms (Shared X X.Reader) Act (Answer X.Reader)) (old new : Pass (Shared X X.Reader) Act (Answer X.Reader)) (entries : List Entry) (m : Machine)
-        → HasLearnt (RoomStep (λ x m. X.stands x.archive m) (reply_of X.Reader.tells X.Reader.bytes X.Reader.faults)) (reply_of X.Reader.tells X.Reader.bytes X.Reader.faults) rooms old entries later new → StandsFor (RoomStep (λ x m. X.stands x.archive m) (reply_of X.Reader.tells X.Reader.bytes X.Reader.faults)) (λ x m. X.stands x.archive m) rooms old m → Goes (StandsFor (RoomStep (λ x m. X.stands x.archive m) (reply_of X.Reader.tells X.Reader.bytes X.Reader.faults)) (λ x m. X.stands x.archive m) later new) m entries }
-    ensures nothing { (rooms : Rooms (Shared X X.Reader) Act (Answer X.Reader)) (pass : Pass (Shared X X.Reader) Act (Answer X.Reader)) → HasLearnt (RoomStep (λ x m. X.stands x.archive m) (reply_of X.Reader.tells X.Reader.bytes X.Reader.faults)) (reply_of X.Reader.tells X.Reader.bytes X.Reader.faults) rooms pass [] rooms pass }
-    ensures joined { (rooms later last : Rooms (Shared X X.Reader) Act (Answer X.Reader)) (a b c : Pass (Shared X X.Reader) Act (Answer X.Reader)) (xs ys : List Entry)
-        → HasLearnt (RoomStep (λ x m. X.stands x.archive m) (reply_of X.Reader.tells X.Reader.bytes X.Reader.faults)) (reply_of X.Reader.tells X.Reader.bytes X.Reader.faults) rooms a xs later b → HasLearnt (RoomStep (λ x m. X.stands x.archive m) (reply_of X.Reader.tells X.Reader.bytes X.Reader.faults)) (reply_of X.Reader.tells X.Reader.bytes X.Reader.faults) later b ys last c → HasLearnt (RoomStep (λ x m. X.stands x.archive m) (reply_of X.Reader.tells X.Reader.bytes X.Reader.faults)) (reply_of X.Reader.tells X.Reader.bytes X.Reader.faults) rooms a (xs ++ ys) last c }
+/// What one finished before another began is there for the other: where a pass took another in, or was made from it, each of its acts is a
+/// step in a state that goes onward from every state that the other stood for. So what a retrieval is over, which is all that is accepted
+/// at its pin, begins with all that was accepted then.
+pub fn acts_come_after_those_known<X: Applies>()
+    ensures meets { (rooms : Rooms (Shared X X.Reader) Act (Answer X.Reader)) (old new note : Pass (Shared X X.Reader) Act (Answer X.Reader)) → Meets (SharedStep X.stands X.Reader.tells X.Reader.bytes X.Reader.faults) rooms old new note
+        → ActsAfter (SharedStep X.stands X.Reader.tells X.Reader.bytes X.Reader.faults) (SharedStands X.stands) (reply_of X.Reader.tells X.Reader.bytes X.Reader.faults) rooms old new
+        × ActsAfter (SharedStep X.stands X.Reader.tells X.Reader.bytes X.Reader.faults) (SharedStands X.stands) (reply_of X.Reader.tells X.Reader.bytes X.Reader.faults) rooms note new }
+    ensures parts { (rooms : Rooms (Shared X X.Reader) Act (Answer X.Reader)) (old new note : Pass (Shared X X.Reader) Act (Answer X.Reader)) → Parts (SharedStep X.stands X.Reader.tells X.Reader.bytes X.Reader.faults) rooms old new note
+        → ActsAfter (SharedStep X.stands X.Reader.tells X.Reader.bytes X.Reader.faults) (SharedStands X.stands) (reply_of X.Reader.tells X.Reader.bytes X.Reader.faults) rooms old new
+        × ActsAfter (SharedStep X.stands X.Reader.tells X.Reader.bytes X.Reader.faults) (SharedStands X.stands) (reply_of X.Reader.tells X.Reader.bytes X.Reader.faults) rooms old note }
 {}

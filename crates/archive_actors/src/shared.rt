@@ -1,9 +1,8 @@
 //! An archive that many share.
 ghost use Rattle.std.specs.Prelude.{◌≡◌};
-ghost use Rattle.act_model.specs.Reply.{reply_of};
 ghost use Rattle.act_model.specs.Machine.{Machine};
 ghost use Rattle.act_model.specs.Step.{MayAsk};
-ghost use Rattle.archive_actors.specs.Steps.{RoomStep};
+ghost use Rattle.archive_actors.specs.Steps.{SharedStep};
 
 use crate::applies::Applies;
 use act_model::{Act, Answer};
@@ -31,10 +30,7 @@ impl<X: Applies> Shared<X> {
     }
 }
 
-impl<X: Applies + Send> Room for Shared<X>
-where
-    X::Reader: Send,
-{
+impl<X: Applies> Room for Shared<X> {
     type Act = Act;
 
     type Answer = Answer<X::Reader>;
@@ -43,7 +39,7 @@ where
 
     ghost fits = { λ room who n act. (m : Machine) × X.stands room.archive m };
 
-    ghost steps = { λ room who n act answer new. RoomStep (λ x m. X.stands x.archive m) (reply_of X.Reader.tells X.Reader.bytes X.Reader.faults) room who n act answer new };
+    ghost steps = { λ room who n act answer new. SharedStep X.stands X.Reader.tells X.Reader.bytes X.Reader.faults room who n act answer new };
 
     fn apply(&mut self, who: u64, n: u64, act: Act) -> Answer<X::Reader> {
         let _ = n;
