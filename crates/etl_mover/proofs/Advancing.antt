@@ -201,7 +201,7 @@ advances_keep fine move new revived len is can goes = elim goes.is [
     pending_is : IsMove fine (with_pending move goes.pending)
     pending_is = elim goes.sets [
       | inl same ↦ subst (λ (ps : List Entry). IsMove fine (with_pending move ps)) (sym same) is
-      | inr (part, start, entry, to, of, own, sets) ↦
+      | inr (part, start, entry, to, of, own, longer, sets) ↦
           let at = start_is fine move revived part start is can to in
           set_keeps fine move part entry goes.pending is to.at_hand
           (record { own = own ∙ at.own; is = subst (λ (p : Part). IsPart move.granularity p) (sym of) at.is; holds = subst (λ (p : Part). HoldsMoment p part.part.start) (sym of) at.holds }) sets

@@ -77,8 +77,8 @@ no_fewer n chunk lines is long = let same = ap length is in omega (arith, same, 
 
 -- a chunk's lines that were taken are a step's
 pub chunk_takes : (head all : List ℕ) (rest most : ℕ) (chunk lines : List ℕ) (old new : Entry) → IsChunk all rest most chunk → lines ≡ take (length lines) chunk → (lines ≡ []) ⊎ ((ty : PayloadType) × (year : ℤ) × TakesLines ty year chunk old (length lines) new)
-    → ((line : List ℕ) (info : PayloadInfo) → head ≡ line ++ 10 ∷ [] → HasNoNewline line → IsHeaderLine line info → TakesLines info.ty info.year chunk old (length lines) new) → Takes head (take rest all) most lines old new
-chunk_takes head all rest most chunk lines old new is front some takes =
+    → ((line : List ℕ) (info : PayloadInfo) → head ≡ line ++ 10 ∷ [] → HasNoNewline line → IsHeaderLine line info → TakesLines info.ty info.year chunk old (length lines) new) → new.len ≡ old.len + length lines → Takes head (take rest all) most lines old new
+chunk_takes head all rest most chunk lines old new is front some takes longer =
     let low : length lines ≤ length chunk = no_fewer (length lines) chunk lines front refl in
     let size = ap length is.are in
     let counted : length lines ≤ is.count = omega (arith, low, size, length-take is.count all) in
@@ -88,6 +88,7 @@ chunk_takes head all rest most chunk lines old new is front some takes =
         | inl none ↦ let long = ap length none in inl (omega (arith, long))
         | inr (ty, year, of_type) ↦ few_lines all rest most chunk lines ty year old new is of_type front
       ];
+      longer = longer;
       samples = λ line info are whole header.
           let of_info = takes line info are whole header in
           record {
@@ -104,6 +105,7 @@ pub takes_none : (head : List ℕ) (most : ℕ) (e : Entry) → Takes head [] mo
 takes_none head most e = record {
   front = refl;
   few = inl (omega arith);
+  longer = omega arith;
   samples = λ line info are whole header. record {
     samples = [];
     are = tt;

@@ -1,7 +1,9 @@
 -- The header of a part's file, and the lines that are taken of it.
 use Rattle.std.proofs.Common.{◌≡◌, ℕ, suc, ◌+◌, ◌-◌, ◌<◌, List, [], ◌∷◌, ◌++◌, length, take, drop, get_or, Option, Some, slice_get, refl, sym, ◌∙◌, ap, arith}
+use Rattle.std.proofs.lemmas.List.{length-append}
 use Rattle.line_escape.specs.Unescaping.{HasNoNewline}
 use Rattle.series_model.specs.declared.sample.Sample.{Sample}
+use Rattle.pb_lines.specs.File.{lines_of}
 use Rattle.pb_lines.proofs.FileLines.{one_line}
 use Rattle.store_manifest.specs.declared.entry.Entry.{Entry}
 use Rattle.etl_mover.specs.Lines.{with_lines, with_line}
@@ -15,6 +17,10 @@ header_ends head line end are whole within ten front = (one_line (take end head)
 pub keeps_part : (xs : List Sample) (e : Entry) → ((with_lines xs e).part ≡ e.part) × ((with_lines xs e).series ≡ e.series)
 keeps_part [] e = (refl, refl)
 keeps_part (x ∷ xs) e = keeps_part xs (with_line (length x.line + 1) x.t e)
+
+pub lines_long : (xs : List Sample) (e : Entry) → (with_lines xs e).len ≡ e.len + length (lines_of xs)
+lines_long [] e = omega arith
+lines_long (x ∷ xs) e = let rest = lines_long xs (with_line (length x.line + 1) x.t e) in omega (arith, rest, length-append x.line (10 ∷ lines_of xs))
 
 pub last_is : (xs : List Entry) (o : Option Entry) (e : Entry) → slice_get xs (length xs - 1) ≡ Some e → last_of xs o ≡ Some e
 last_is [] o e is = absurd (cc (is))

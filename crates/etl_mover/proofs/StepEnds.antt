@@ -36,6 +36,8 @@ ends_covered move start p part from len most b files after past same = (
   [],
   record {
     entry = start.entry;
+    part_is = refl;
+    series_is = refl;
     takes = subst (λ (rest : List ℕ). Takes (take part.head_len b) rest most [] start.entry start.entry) (sym (none_between from len b same)) (takes_none (take part.head_len b) most start.entry);
     writes = inr (record { none = refl; same = refl; same_files = refl });
   },
@@ -72,9 +74,9 @@ pub advances_covered : (move : MoveState) (revived : Option Entry) (part : Entry
 advances_covered move revived part len next = record { pending = move.pending; is = inr (part, next, refl); sets = inl refl }
 
 sets_in : (move : MoveState) (revived : Option Entry) (part : Entry) (start : Start) (pending : List Entry) → GoesTo move revived part start → SetsPart move start pending
-    → (pending ≡ move.pending) ⊎ ((p : Entry) × (s : Start) × (entry : Entry) × GoesTo move revived p s × (entry.part ≡ s.entry.part) × (entry.series ≡ s.entry.series) × SetsLast entry move.pending pending)
+    → (pending ≡ move.pending) ⊎ ((p : Entry) × (s : Start) × (entry : Entry) × GoesTo move revived p s × (entry.part ≡ s.entry.part) × (entry.series ≡ s.entry.series) × (s.entry.len ≤ entry.len) × SetsLast entry move.pending pending)
 sets_in move revived part start pending goes (inl same) = inl same
-sets_in move revived part start pending goes (inr (e, of, own, sets)) = inr (part, start, e, goes, of, own, sets)
+sets_in move revived part start pending goes (inr (e, of, own, longer, sets)) = inr (part, start, e, goes, of, own, longer, sets)
 
 pub advances_more : (move new : MoveState) (revived : Option Entry) (part : Entry) (start : Start) (len : ℕ) → GoesTo move revived part start → new ≡ with_pending move new.pending → SetsPart move start new.pending → Advances move new revived len
 advances_more move new revived part start len goes same sets = record { pending = new.pending; is = inl same; sets = sets_in move revived part start new.pending goes sets }

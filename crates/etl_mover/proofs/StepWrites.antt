@@ -59,11 +59,13 @@ wrote_at name (Some len) head lines files later after past grows makes = grows l
 
 -- a call that wrote them after it had read
 pub has_copied : (name : Name) (start : Start) (part entry : Entry) (from len most : ℕ) (b head lines : List ℕ) (old pending : List Entry) (files mid later : Files) (opened between_opened after : Name → ℕ) (before now past : Past)
-    → OnlyReads files mid opened between_opened before now → head ≡ take part.head_len b → Takes (take part.head_len b) (between from len b) most lines start.entry entry
+    → OnlyReads files mid opened between_opened before now → entry.part ≡ start.entry.part → entry.series ≡ start.entry.series → head ≡ take part.head_len b → Takes (take part.head_len b) (between from len b) most lines start.entry entry
     → ((n : ℕ) → start.at ≡ Some n → WritesFile name start.at lines mid later after past) → (start.at ≡ None → WritesFile name start.at (head ++ lines) mid later after past) → SetsLast entry old pending
     → Copies name start part from len most b old pending files later after past lines
-has_copied name start part entry from len most b head lines old pending files mid later opened between_opened after before now past reads head_is takes grows makes sets = record {
+has_copied name start part entry from len most b head lines old pending files mid later opened between_opened after before now past reads part_is series_is head_is takes grows makes sets = record {
   entry = entry;
+  part_is = part_is;
+  series_is = series_is;
   takes = takes;
   writes = inl (record {
     wrote = subst (λ (f : Files). WritesFile name start.at (written_at start.at (take part.head_len b) lines) f later after past) reads.same
@@ -74,8 +76,8 @@ has_copied name start part entry from len most b head lines old pending files mi
 
 -- one that found no line
 pub copied_none : (name : Name) (start : Start) (part entry : Entry) (from len most : ℕ) (b lines : List ℕ) (pending : List Entry) (files later : Files) (after : Name → ℕ) (past : Past)
-    → Takes (take part.head_len b) (between from len b) most lines start.entry entry → length lines ≡ 0 → later ≡ files → Copies name start part from len most b pending pending files later after past lines
-copied_none name start part entry from len most b lines pending files later after past takes none same = record { entry = entry; takes = takes; writes = inr (record { none = empty lines none; same = refl; same_files = same }) }
+    → entry.part ≡ start.entry.part → entry.series ≡ start.entry.series → Takes (take part.head_len b) (between from len b) most lines start.entry entry → length lines ≡ 0 → later ≡ files → Copies name start part from len most b pending pending files later after past lines
+copied_none name start part entry from len most b lines pending files later after past part_is series_is takes none same = record { entry = entry; part_is = part_is; series_is = series_is; takes = takes; writes = inr (record { none = empty lines none; same = refl; same_files = same }) }
   where
     empty : (l : List ℕ) → length l ≡ 0 → l ≡ []
     empty [] is = refl

@@ -28,6 +28,17 @@ pub record GoesTo (move : MoveState) (revived : Option Entry) (part : Entry) (st
   pub holds : HoldsMoment to part.part.start
   pub begins : starts (last_of move.pending move.listed) move.series to part.head_len revived ≡ Some start
 
+-- It goes on nowhere: the destination ends in a later partition than the one that holds it.
+pub record GoesNowhere (move : MoveState) (revived : Option Entry) (part : Entry) : Type 0 where
+  pub to : Part
+  pub is : IsPart move.granularity to
+  pub holds : HoldsMoment to part.part.start
+  pub none : starts (last_of move.pending move.listed) move.series to part.head_len revived ≡ None
+
+-- it goes on somewhere, or nowhere
+abbrev pub IsPlacedOrNot : MoveState → Option Entry → Entry → Type 0
+IsPlacedOrNot move revived part = ((start : Start) × GoesTo move revived part start) ⊎ GoesNowhere move revived part
+
 abbrev pub source_file : MoveState → Entry → Name
 source_file move part = part_file move.source move.name part
 
@@ -82,6 +93,7 @@ pub record AreTaken (info : PayloadInfo) (rest lines : List ℕ) (old new : Entr
 pub record Takes (head rest : List ℕ) (most : ℕ) (lines : List ℕ) (old new : Entry) : Type 0 where
   pub front : lines ≡ take (length lines) rest
   pub few : AreFew most lines
+  pub longer : new.len ≡ old.len + length lines
   pub samples : (line : List ℕ) (info : PayloadInfo) → head ≡ line ++ 10 ∷ [] → HasNoNewline line → IsHeaderLine line info → AreTaken info rest lines old new
 
 -- WHAT IT MAKES OF THE MOVE
@@ -100,13 +112,13 @@ with_pending move pending = record move { pending = pending }
 
 -- what is to be listed is as it was, or its last entry is of the file where lines go
 abbrev pub SetsPart : MoveState → Start → List Entry → Type 0
-SetsPart move start pending = (pending ≡ move.pending) ⊎ ((e : Entry) × (e.part ≡ start.entry.part) × (e.series ≡ start.entry.series) × SetsLast e move.pending pending)
+SetsPart move start pending = (pending ≡ move.pending) ⊎ ((e : Entry) × (e.part ≡ start.entry.part) × (e.series ≡ start.entry.series) × (start.entry.len ≤ e.len) × SetsLast e move.pending pending)
 
 -- Of the move what is to be listed may have changed, in the file where the part at hand goes, and the part may be copied whole.
 pub record Advances (move new : MoveState) (revived : Option Entry) (len : ℕ) : Type 0 where
   pub pending : List Entry
   pub is : (new ≡ with_pending move pending) ⊎ ((part : Entry) × (slice_get move.parts move.at ≡ Some part) × (new ≡ finished (with_pending move pending) part len))
-  pub sets : (pending ≡ move.pending) ⊎ ((part : Entry) × (start : Start) × (entry : Entry) × GoesTo move revived part start × (entry.part ≡ start.entry.part) × (entry.series ≡ start.entry.series) × SetsLast entry move.pending pending)
+  pub sets : (pending ≡ move.pending) ⊎ ((part : Entry) × (start : Start) × (entry : Entry) × GoesTo move revived part start × (entry.part ≡ start.entry.part) × (entry.series ≡ start.entry.series) × (start.entry.len ≤ entry.len) × SetsLast entry move.pending pending)
 
 -- The lines are written to the file, which is to be listed with them.
 pub record Writes (name : Name) (start : Start) (head lines : List ℕ) (entry : Entry) (old new : List Entry) (files later : Files) (after : Name → ℕ) (past : Past) : Type 0 where
@@ -122,6 +134,8 @@ pub record WritesNone (lines : List ℕ) (old new : List Entry) (files later : F
 -- A step has copied these lines of a part's file with these bytes.
 pub record Copies (name : Name) (start : Start) (part : Entry) (from len most : ℕ) (bytes : List ℕ) (old new : List Entry) (files later : Files) (after : Name → ℕ) (past : Past) (lines : List ℕ) : Type 0 where
   pub entry : Entry
+  pub part_is : entry.part ≡ start.entry.part
+  pub series_is : entry.series ≡ start.entry.series
   pub takes : Takes (take part.head_len bytes) (between from len bytes) most lines start.entry entry
   pub writes : Writes name start (take part.head_len bytes) lines entry old new files later after past ⊎ WritesNone lines old new files later
 

@@ -134,6 +134,7 @@ pub(crate) fn take_part(
         → TakesLines info.ty info.year lines.old.items entry.now (length lines.new.items) new) }
     ensures some { IfOk result (λ new. (lines.new.items ≡ []) ⊎ ((ty : PayloadTypeValue) × (year : ℤ) × TakesLines ty year lines.old.items entry.now (length lines.new.items) new)) }
     ensures front { OnOk result (lines.new.items ≡ take (length lines.new.items) lines.old.items) }
+    ensures longer { IfOk result (λ new. new.len ≡ entry.now.len + length lines.new.items) }
 {
     let mut work = Vec::new(alloc);
     let Some(info) = header_of(alloc, head, &mut work)? else {

@@ -118,6 +118,20 @@ impl Move {
         self.parts.get(self.at)
     }
 
+    /// The series that it moves.
+    pub fn series(&self) -> u32
+        ensures { result ≡ self.now.series }
+    {
+        self.series
+    }
+
+    /// How many parts are copied.
+    pub fn copied_parts(&self) -> usize
+        ensures { result ≡ self.now.at }
+    {
+        self.at
+    }
+
     /// The files of the parts that the move hasn't removed: all of them until the retirement, those that a pin names once it is done,
     /// and after a fault in it also those that may be there still.
     pub fn kept(&self) -> &[FileName]

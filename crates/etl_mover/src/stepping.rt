@@ -10,7 +10,7 @@ ghost use Rattle.etl_mover.specs.declared.moving.Stage.TheVariants.{Copying};
 ghost use Rattle.etl_mover.specs.Copying.{SetsLast};
 ghost use Rattle.etl_mover.specs.Move.{IsMove};
 ghost use Rattle.etl_mover.specs.Reading.{OnlyReads};
-ghost use Rattle.etl_mover.specs.Step.{GoesTo, CanRevive, CanCopy, IsLongUnopened, Takes, Advances, Copies, CopiesPart, SetsPart, between, finished, source_file, target_file, with_pending};
+ghost use Rattle.etl_mover.specs.Step.{GoesTo, GoesNowhere, IsPlacedOrNot, CanRevive, CanCopy, IsLongUnopened, Takes, Advances, Copies, CopiesPart, SetsPart, between, finished, source_file, target_file, with_pending};
 ghost use Rattle.etl_mover.specs.Writing.{LeavesFile};
 
 use crate::copying::{Start, set_last, take_part};
@@ -44,7 +44,7 @@ fn read_part<D: Disk>(
     requires head { part.now.head_len ≤ len }
     requires there { IsTrue D.tells → HasFile (D.files disk.old) name.now (λ b. len ≤ length b) }
     ensures takes { IsTrue D.tells → (b : List ℕ) → D.files disk.old name.now ≡ Some b → IfOk result (λ l. (l.head.items ≡ take part.now.head_len b) × Takes (take part.now.head_len b) (between from len b) MOST_BYTES l.lines.items entry.now l.entry) }
-    ensures keeps { IfOk result (λ l. (l.entry.part ≡ entry.now.part) × (l.entry.series ≡ entry.now.series)) }
+    ensures keeps { IfOk result (λ l. (l.entry.part ≡ entry.now.part) × (l.entry.series ≡ entry.now.series) × (l.entry.len ≡ entry.now.len + length l.lines.items)) }
     ensures reads { IsTrue D.tells → OnlyReads (D.files disk.old) (D.files disk.new) (D.opened disk.old) (D.opened disk.new) (D.past disk.old) (D.past disk.new) }
     ensures faults { D.faults disk.old ≤ D.faults disk.new }
     ensures cause { IsErrOf result DiskErr.Fault → Rose (D.faults disk.old) (D.faults disk.new) }
@@ -69,6 +69,7 @@ impl Move {
         requires running { (fine : Granularity) × IsMove fine self.now }
         ensures goes { IfSome result (GoesTo self.now revived part.now) }
         ensures nowhere { result ≡ None → (p : EntryValue) (start : StartValue) → GoesTo self.now revived p start → ⊥ }
+        ensures ends { result ≡ None → GoesNowhere self.now revived part.now }
     {
         let Some(to) = part_of(self.granularity, part.part.start) else {
             unreachable!();
@@ -84,6 +85,7 @@ impl Move {
         ensures goes { IfSome result (GoesTo self.now revived part.now) }
         ensures some { IfSome result (λ start. from < len) }
         ensures none { result ≡ None → (from ≡ len) ⊎ ((p : EntryValue) (start : StartValue) → GoesTo self.now revived p start → ⊥) }
+        ensures ends { result ≡ None → (from ≡ len) ⊎ GoesNowhere self.now revived part.now }
     {
         if from == len {
             return None;
@@ -191,6 +193,7 @@ impl Move {
             → LeavesFile (target_file self.old start) start.at (D.files disk.old) (D.files disk.new) (D.opened disk.old) (D.opened disk.new) (D.past disk.old) (D.past disk.new) }
         ensures nowhere { IsTrue D.tells → ((p : EntryValue) (start : StartValue) → GoesTo self.old revived p start → ⊥)
             → OnlyReads (D.files disk.old) (D.files disk.new) (D.opened disk.old) (D.opened disk.new) (D.past disk.old) (D.past disk.new) }
+        ensures either { from < len → IsPlacedOrNot self.old revived part.now }
         ensures running { (fine : Granularity) → IsMove fine self.old → IsMove fine self.new }
         ensures advances { OnOk result (Advances self.old self.new revived len) }
         ensures done { IfOk result (λ copied. (copied ≡ Done) ↔ (self.new.at ≡ length self.new.parts)) }
@@ -201,6 +204,18 @@ impl Move {
         match self.left(part, revived, from, len) {
             Some(start) => self.copy_part(disk, part, &start, from, len),
             None => Ok(self.finish(part, len)),
+        }
+    }
+
+    /// Passes the next part, which has `len` bytes, none of them left to copy: by `len` the part is copied.
+    pub fn pass(&mut self, len: u64)
+        requires running { (fine : Granularity) × IsMove fine self.old }
+        requires left { self.old.at ≢ length self.old.parts }
+        ensures passed { (part : EntryValue) → slice_get self.old.parts self.old.at ≡ Some part → self.new ≡ finished self.old part len }
+        ensures running { (fine : Granularity) → IsMove fine self.old → IsMove fine self.new }
+    {
+        if let Some(part) = self.next_part() {
+            self.finish(&part, len);
         }
     }
 
@@ -232,6 +247,7 @@ impl Move {
             → LeavesFile (target_file self.old start) start.at (D.files disk.old) (D.files disk.new) (D.opened disk.old) (D.opened disk.new) (D.past disk.old) (D.past disk.new) }
         ensures nowhere { IsTrue D.tells → ((part : EntryValue) (start : StartValue) → GoesTo self.old (option_copied revived.entry) part start → ⊥)
             → OnlyReads (D.files disk.old) (D.files disk.new) (D.opened disk.old) (D.opened disk.new) (D.past disk.old) (D.past disk.new) }
+        ensures either { (part : EntryValue) → slice_get self.old.parts self.old.at ≡ Some part → from < len → IsPlacedOrNot self.old (option_copied revived.entry) part }
         ensures running { (fine : Granularity) → IsMove fine self.old → IsMove fine self.new }
         ensures advances { OnOk result (Advances self.old self.new (option_copied revived.entry) len) }
         ensures done { IfOk result (λ copied. (copied ≡ Done) ↔ (self.new.at ≡ length self.new.parts)) }

@@ -7,7 +7,7 @@ use Rattle.arch_time.specs.YearTime.{IsSampleYear}
 use Rattle.payload_info.specs.declared.info.PayloadInfo.{PayloadInfo}
 use Rattle.store_manifest.specs.declared.entry.Entry.{Entry}
 use Rattle.etl_mover.specs.Lines.{TakesLines}
-use Rattle.etl_mover.proofs.Parts.{keeps_part}
+use Rattle.etl_mover.proofs.Parts.{keeps_part, lines_long}
 use Rattle.etl_mover.proofs.copying.take_part.Goals as goal
 
 cut_long : (lines cut : List ℕ) (n : ℕ) → cut ≡ take n lines → n ≤ length lines → length cut ≡ n
@@ -53,3 +53,13 @@ returns-clause-front c =
     let lines = c.args.lines.now.items in
     let long = cut_long lines c.truncate.new.self.items taken.len c.truncate.ensures.items (subst (λ (l : List ℕ). taken.len ≤ length l) c.deref.ensures.value c.in_ok-taken.ensures.within) in
     c.truncate.ensures.items ∙ ap (λ (n : ℕ). take n lines) (sym long)
+
+pub returns-clause-longer : goal.returns-clause-longer
+returns-clause-longer c =
+    let taken = c.in_ok-taken.taken in
+    let lines = c.args.lines.now.items in
+    let long = cut_long lines c.truncate.new.self.items taken.len c.truncate.ensures.items (subst (λ (l : List ℕ). taken.len ≤ length l) c.deref.ensures.value c.in_ok-taken.ensures.within) in
+    let takes = c.in_ok-taken.ensures.takes in
+    let grown = ap (λ (e : Entry). e.len) takes.grows ∙ lines_long takes.samples c.args.entry.now in
+    let text = takes.long in
+    omega (arith, long, grown, text)

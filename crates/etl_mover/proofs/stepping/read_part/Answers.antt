@@ -12,5 +12,5 @@ returns-clause-takes g c tells b is =
     let lines = c.take_part.new.lines.items in (
       bytes,
       chunk_takes head (drop c.args.from b) (c.args.len - c.args.from) 1_048_576 chunk lines c.args.entry.now c.in_ok-entry.entry (c.in_ok-lines.ensures.chunk tells b now) c.in_ok-entry.ensures.front c.in_ok-entry.ensures.some
-          (λ line info are whole header. c.in_ok-entry.ensures.takes line info (c.deref.ensures.value ∙ (bytes ∙ are)) whole header),
+          (λ line info are whole header. c.in_ok-entry.ensures.takes line info (c.deref.ensures.value ∙ (bytes ∙ are)) whole header) c.in_ok-entry.ensures.longer,
     )

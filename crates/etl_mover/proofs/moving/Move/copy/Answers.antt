@@ -1,7 +1,8 @@
-use Rattle.std.proofs.Common.{◌≡◌, inl, Option, Some, length, refl, sym, ◌∙◌, subst, arith}
+use Rattle.std.proofs.Common.{◌≡◌, inl, Option, None, Some, length, refl, sym, ◌∙◌, subst, arith}
 use Rattle.std.specs.Prelude.{IfSome}
 use Rattle.store_manifest.specs.declared.entry.Entry.{Entry}
-use Rattle.etl_mover.specs.Step.{CanRevive, CanCopy}
+use Rattle.std.specs.Option.{option_copied}
+use Rattle.etl_mover.specs.Step.{CanRevive, CanCopy, IsPlacedOrNot}
 use Rattle.etl_mover.proofs.StepEnds.{advances_none, all_copied, no_part}
 use Rattle.etl_mover.proofs.StepWrites.{reads_none}
 use Rattle.etl_mover.proofs.moving.Move.copy.Goals as goal
@@ -53,3 +54,14 @@ returns-clause-advances g c = rw c.copied.ensures at c.copy_next.ensures.advance
 
 pub returns-clause-done : goal.returns-clause-done
 returns-clause-done g c = c.copy_next.ensures.done
+
+pub returns-in_default-clause-either : goal.returns-in_default-clause-either
+returns-in_default-clause-either g c part next low =
+    let none : ◌≡◌ {A = Option Entry} None (Some part) = sym (sym c.next_part.ensures ∙ c.in_default.is) ∙ next in
+    absurd (cc (none))
+
+pub returns-clause-either : goal.returns-clause-either
+returns-clause-either g c part next low =
+    let same : ◌≡◌ {A = Option Entry} (Some c.in-Some.part) (Some part) = sym (sym c.next_part.ensures ∙ c.in-Some.is) ∙ next in
+    let one : c.in-Some.part ≡ part = cc (same) in
+    subst (λ (e : Entry). IsPlacedOrNot c.args.self.now (option_copied c.args.revived) e) one (subst (λ (o : Option Entry). IsPlacedOrNot c.args.self.now o c.in-Some.part) c.copied.ensures (c.copy_next.ensures.either low))

@@ -38,7 +38,7 @@ returns-clause-copies g c tells b is =
       load.lines.items,
       sym (c.len.ensures ∙ load.lines.ok.0),
       has_copied (target_file move start) start c.args.part.now load.entry c.args.from c.args.len 1_048_576 b load.head.items load.lines.items move.pending c.set_last.new.pending.items (g.D.Disk.files c.args.disk.now) mid later (g.D.Disk.opened c.args.disk.now) (g.D.Disk.opened c.read_part.new.disk) after (g.D.Disk.past c.args.disk.now) (g.D.Disk.past c.read_part.new.disk) past
-          reads takes.0 takes.1
+          reads c.in_ok-load.ensures.keeps.0 c.in_ok-load.ensures.keeps.1 takes.0 takes.1
           (λ n some. subst (λ (x : Name). WritesFile x start.at load.lines.items mid later after past) target (subst (λ (l : List _). WritesFile c.in_ok-target.target start.at l mid later after past) c.deref-2.ensures.value (c.in_ok-write_file.ensures.grows tells n some)))
           (λ none. subst (λ (x : Name). WritesFile x start.at (load.head.items ++ load.lines.items) mid later after past) target
           (subst (λ (h : List _). WritesFile c.in_ok-target.target start.at (h ++ load.lines.items) mid later after past) c.deref.ensures.value
@@ -58,7 +58,7 @@ returns-clause-sets g c =
     let move = c.args.self.now in
     let load = c.in_ok-load.load in
     let pending : c.reserve.new.self.items ≡ move.pending = c.reserve.ensures.items ∙ ap (λ (m : MoveState). m.pending) c.self.view_is in
-    inr (load.entry, c.in_ok-load.ensures.keeps.0, c.in_ok-load.ensures.keeps.1, subst (λ (l : List Entry). SetsLast load.entry l c.set_last.new.pending.items) pending c.set_last.ensures)
+    inr (load.entry, c.in_ok-load.ensures.keeps.0, c.in_ok-load.ensures.keeps.1, (let long = c.in_ok-load.ensures.keeps.2 in omega (arith, long)), subst (λ (l : List Entry). SetsLast load.entry l c.set_last.new.pending.items) pending c.set_last.ensures)
 
 pub returns-in_err-source-clause-leaves : goal.returns-in_err-source-clause-leaves
 returns-in_err-source-clause-leaves g c tells = reads_leave _ _ _ _ _ _ _ _ (c.requires.room tells) (reads_none _ _ _)
@@ -89,4 +89,4 @@ returns-then-is_empty-clause-copies g c tells b is =
     let source = c.in_ok-source.ensures ∙ ap (λ (m : MoveState). source_file m c.args.part.now) c.self.view_is in
     let takes = c.in_ok-load.ensures.takes tells b (ap (λ (n : Name). g.D.Disk.files c.args.disk.now n) source ∙ is) in
     let none : length load.lines.items ≡ 0 = search (arith, rules) in
-    (load.lines.items, none, copied_none _ c.args.start.now c.args.part.now load.entry c.args.from c.args.len 1_048_576 b load.lines.items move.pending _ _ _ _ takes.1 none (c.in_ok-load.ensures.reads tells).same)
+    (load.lines.items, none, copied_none _ c.args.start.now c.args.part.now load.entry c.args.from c.args.len 1_048_576 b load.lines.items move.pending _ _ _ _ c.in_ok-load.ensures.keeps.0 c.in_ok-load.ensures.keeps.1 takes.1 none (c.in_ok-load.ensures.reads tells).same)

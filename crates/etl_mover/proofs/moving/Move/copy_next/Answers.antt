@@ -1,4 +1,4 @@
-use Rattle.std.proofs.Common.{◌≡◌, inl, inr, List, ℕ, Some, sym, subst}
+use Rattle.std.proofs.Common.{◌≡◌, inl, inr, List, ℕ, Some, sym, subst, arith}
 use Rattle.std.specs.Prelude.{OnOk}
 use Rattle.store_manifest.specs.declared.entry.Entry.{Entry}
 use Rattle.etl_mover.specs.declared.copying.Start.{Start}
@@ -66,3 +66,9 @@ returns-in-None-clause-advances g c = subst (λ (m : MoveState). Advances c.args
 
 pub returns-in-None-clause-done : goal.returns-in-None-clause-done
 returns-in-None-clause-done g c = c.finish.ensures.done
+
+pub returns-in-Some-clause-either : goal.returns-in-Some-clause-either
+returns-in-Some-clause-either g c low = inl (c.in-Some.start, c.in-Some.ensures.goes)
+
+pub returns-in-None-clause-either : goal.returns-in-None-clause-either
+returns-in-None-clause-either g c low = elim (c.left.ensures.ends c.in-None.is) [ inl same ↦ absurd (omega (arith, same, low)) | inr ends ↦ inr ends ]

@@ -16,3 +16,8 @@ pub returns-clause-nowhere : goal.returns-clause-nowhere
 returns-clause-nowhere c none p start goes =
     let known = c.in-Some.ensures.value in
     goes_nowhere c.args.self.now c.args.revived c.args.part.now p c.in-Some.to start c.requires.next (subst (λ (m : MoveState). IsPart m.granularity c.in-Some.to) c.self.view_is known.0) known.1 (sym c.start.ensures ∙ none) goes
+
+pub returns-clause-ends : goal.returns-clause-ends
+returns-clause-ends c none =
+    let known = c.in-Some.ensures.value in
+    record { to = c.in-Some.to; is = subst (λ (m : MoveState). IsPart m.granularity c.in-Some.to) c.self.view_is known.0; holds = known.1; none = sym c.start.ensures ∙ none }
