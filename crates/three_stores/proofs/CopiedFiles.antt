@@ -114,7 +114,7 @@ sooner : (a b : ℕ) → nat_eq a b ≡ false → nat_lt b a ≡ false → a < b
 sooner a b apart not_later = grind (arith, nat_tests)
 
 -- behind the last entry, or in a partition behind that
-after_split : (e : Entry) (begin : ℕ) (start s : _) → after e begin start ≡ Some s → ((e.part.start ≡ begin) × (s ≡ behind e)) ⊎ ((e.part.start < begin) × (s ≡ start))
+pub after_split : (e : Entry) (begin : ℕ) (start s : _) → after e begin start ≡ Some s → ((e.part.start ≡ begin) × (s ≡ behind e)) ⊎ ((e.part.start < begin) × (s ≡ start))
 after_split e begin start s is = go (nat_eq e.part.start begin) refl (nat_lt begin e.part.start) refl is
   where
     go : (b : Bool) → nat_eq e.part.start begin ≡ b → (c : Bool) → nat_lt begin e.part.start ≡ c → (if b then Some (behind e) else (if c then None else Some start)) ≡ Some s → ((e.part.start ≡ begin) × (s ≡ behind e)) ⊎ ((e.part.start < begin) × (s ≡ start))
@@ -123,7 +123,7 @@ after_split e begin start s is = go (nat_eq e.part.start begin) refl (nat_lt beg
     go false same false other is = inr (sooner e.part.start begin same other, cc (is))
 
 -- the last file of a row, by the entries
-last_file : (base : Held) (row : ℕ) (e : Entry) → IsLastOf (map entry_of base.files) row (Some e) → (earlier : List Filed) × (f : Filed) × (of_row row base.files ≡ earlier ++ f ∷ []) × (f.entry ≡ e)
+pub last_file : (base : Held) (row : ℕ) (e : Entry) → IsLastOf (map entry_of base.files) row (Some e) → (earlier : List Filed) × (f : Filed) × (of_row row base.files ≡ earlier ++ f ∷ []) × (f.entry ≡ e)
 last_file base row e last = elim (last_view (of_row row base.files)) [
   | inl none ↦
       let empty : last.0 ++ e ∷ [] ≡ [] = sym last.1 ∙ (filter-map (λ (x : Entry). nat_eq x.series row) base.files ∙ ap (map entry_of) none) in
@@ -137,22 +137,22 @@ last_file base row e last = elim (last_view (of_row row base.files)) [
     map_push [] f = refl
     map_push (x ∷ xs) f = ap (λ (l : List Entry). x.entry ∷ l) (map_push xs f)
 
-none_of_row : (base : Held) (row : ℕ) → IsLastOf (map entry_of base.files) row None → of_row row base.files ≡ []
+pub none_of_row : (base : Held) (row : ℕ) → IsLastOf (map entry_of base.files) row None → of_row row base.files ≡ []
 none_of_row base row last = no_entries (of_row row base.files) (sym (filter-map (λ (x : Entry). nat_eq x.series row) base.files) ∙ last)
   where
     no_entries : (fs : List Filed) → map entry_of fs ≡ [] → fs ≡ []
     no_entries [] is = refl
     no_entries (x ∷ xs) is = absurd (cc (is))
 
-before_push : (n : ℕ) (fs : List Filed) (f : Filed) → StartBefore n fs → f.entry.part.start < n → StartBefore n (fs ++ f ∷ [])
+pub before_push : (n : ℕ) (fs : List Filed) (f : Filed) → StartBefore n fs → f.entry.part.start < n → StartBefore n (fs ++ f ∷ [])
 before_push n [] f all one = (one, tt)
 before_push n (x ∷ xs) f all one = (all.0, before_push n xs f all.1 one)
 
-within_row : (base : Held) (row : ℕ) (earlier : List Filed) (f : Filed) → of_row row base.files ≡ earlier ++ f ∷ [] → Contains base.files f
+pub within_row : (base : Held) (row : ℕ) (earlier : List Filed) (f : Filed) → of_row row base.files ≡ earlier ++ f ∷ [] → Contains base.files f
 within_row base row earlier f are = from_filter (λ (x : Filed). nat_eq x.entry.series row) base.files f (subst (λ (l : List Filed). Contains l f) (sym are) (length earlier, omega (arith, length-append earlier (f ∷ [])), get_or-append_seam earlier f [] f))
 
 -- the others of the row start before its last one
-earlier_start : (row : ℕ) (files earlier : List Filed) (f : Filed) → PlacesRise files → of_row row files ≡ earlier ++ f ∷ [] → StartBefore f.entry.part.start earlier
+pub earlier_start : (row : ℕ) (files earlier : List Filed) (f : Filed) → PlacesRise files → of_row row files ≡ earlier ++ f ∷ [] → StartBefore f.entry.part.start earlier
 earlier_start row files earlier f rise are =
     let is = last_of_rising row files earlier f rise are in
     subst (StartBefore f.entry.part.start) (same_last is.earlier earlier f f (sym is.are ∙ are)).0 is.before
@@ -289,6 +289,7 @@ module _ (fine : Granularity) (move : MoveState) (base : Held) (part : Entry) (q
             some = taken.some starts_left;
             entry_is = ap (with_lines xs) (sym same) ∙ sym taken.grows;
             samples = ap (λ (o : Option Filed). listed_samples o ++ xs) (sym there);
+            text = taken.text;
             becomes = record {
               placed = record { listed = filed_listed g base.rows (with_samples f xs) filed; place = here ∙ ap listed_len (sym there) };
               len = subst (λ (o : Option ℕ). (with_lines xs f.entry).len ≡ start_of o + length (written_at o head lines)) (sym here)
@@ -326,6 +327,7 @@ module _ (fine : Granularity) (move : MoveState) (base : Held) (part : Entry) (q
                 some = λ none. cc (none);
                 entry_is = ap (with_lines (s ∷ ys)) (sym same) ∙ (ap (λ (l : List Sample). with_lines l old) (sym are) ∙ sym taken.grows);
                 samples = ap (λ (o : Option Filed). listed_samples o ++ (s ∷ ys)) (sym there);
+                text = taken.text ∙ ap lines_of are;
                 becomes = record {
                   placed = record { listed = filed_listed g base.rows f filed; place = here ∙ ap listed_len (sym there) };
                   len = subst (λ (o : Option ℕ). f.entry.len ≡ start_of o + length (written_at o head lines)) (sym here) (let size = ap length bytes in omega (arith, filed.len, size));

@@ -3,6 +3,7 @@ use Rattle.std.specs.Prelude.{◌≡◌, ◌≢◌, ◌+◌, ℕ, List, [], ◌+
 use Rattle.etl_mover.specs.Growing.{BecomesFile}
 use Rattle.etl_mover.specs.Move.{MoveState}
 use Rattle.etl_mover.specs.Step.{written_at}
+use Rattle.pb_lines.specs.File.{lines_of}
 use Rattle.partition_names.specs.declared.granularity.Granularity.{Granularity}
 use Rattle.pv_catalog.specs.declared.row.Row.{Row}
 use Rattle.series_model.specs.declared.sample.Sample.{Sample}
@@ -42,4 +43,5 @@ pub record WritesNext (g : Granularity) (base : Held) (at : Option ℕ) (head li
   pub some : copied ≢ []
   pub entry_is : file.entry ≡ entry
   pub samples : file.samples ≡ samples_at (filed_at file) base.files ++ copied
+  pub text : lines ≡ lines_of copied
   pub becomes : BecomesFile g base at (written_at at head lines) file

@@ -56,6 +56,11 @@ abbrev pub IsUpTo : ℕ → LaterLines → Type 0
 IsUpTo end (At at) = at ≤ end
 IsUpTo end (Damaged at) = at ≤ end
 
+-- lines begin no sooner than at this place
+abbrev pub IsFrom : ℕ → LaterLines → Type 0
+IsFrom from (At at) = from ≤ at
+IsFrom from (Damaged at) = Unit {0}
+
 -- a place is told as damaged only where no line of a sample of this type and year begins, up to the end
 abbrev pub IsTold : Files → Name → ℕ → PayloadType → ℤ → LaterLines → Type 0
 IsTold files name end ty year (At at) = Unit {0}

@@ -8,7 +8,7 @@ ghost use Rattle.tier_store.specs.Ends.{end_of_disk};
 ghost use Rattle.tier_store.specs.Held.{Filed};
 ghost use Rattle.three_stores.specs.Change.{Has, IsListedIn, OnlyReads};
 ghost use Rattle.three_stores.specs.Counting.{HasLines, ReadsDisk, behind};
-ghost use Rattle.three_stores.specs.Finding.{IsNext, IsTold, IsUpTo, SkipsLines};
+ghost use Rattle.three_stores.specs.Finding.{IsFrom, IsNext, IsTold, IsUpTo, SkipsLines};
 ghost use Rattle.three_stores.specs.Moving.{LeavesLater};
 ghost use Rattle.three_stores.specs.Pinned.{seen_all, KeepsShown};
 ghost use Rattle.three_stores.specs.Seen.{seen};
@@ -98,6 +98,7 @@ fn next_between<D: Disk>(
     ensures next { IsTrue D.tells → (samples : List Sample) → HasLines (D.files disk.old) name.now from end ty year.now.year samples → IfOk result (IsNext samples (behind last) from) }
     ensures told { IsTrue D.tells → IfOk result (IsTold (D.files disk.old) name.now end ty year.now.year) }
     ensures within { IfOk result (IsUpTo end) }
+    ensures behind { IfOk result (IsFrom from) }
     ensures reads { IsTrue D.tells → ReadsDisk (D.files disk.old) (D.files disk.new) (D.opened disk.old) (D.opened disk.new) (D.past disk.old) (D.past disk.new) }
     ensures faults { D.faults disk.old ≤ D.faults disk.new }
     ensures cause { IsErrOf result DiskErr.Fault → Rose (D.faults disk.old) (D.faults disk.new) }
@@ -136,6 +137,7 @@ fn find_next<D: Disk>(
     ensures next { IsTrue D.tells → (head : List ℕ) (info : PayloadInfoValue) (samples : List Sample) → HasFile (D.files disk.old) name.now (λ b. IsFile (take len b) head info samples) → head_len ≡ length head + 1
         → IfOk result (IsNext samples (behind last) head_len) }
     ensures within { IfOk result (IsUpTo len) }
+    ensures behind { IfOk result (IsFrom head_len) }
     ensures reads { IsTrue D.tells → ReadsDisk (D.files disk.old) (D.files disk.new) (D.opened disk.old) (D.opened disk.new) (D.past disk.old) (D.past disk.new) }
     ensures faults { D.faults disk.old ≤ D.faults disk.new }
     ensures cause { IsErrOf result DiskErr.Fault → Rose (D.faults disk.old) (D.faults disk.new) }
@@ -173,6 +175,7 @@ impl<D: Disk> TierStore<D> {
         ensures found { IsTrue D.tells → (held : Stores) → IsTrue held.stands → Has D.tells (seen D.Disk self.old) held
             → IfOk result (λ later. (i : ℕ) × (store ≡ i + 1) × (f : Filed) × Contains (list_at i held) f × (f.entry ≡ entry.now) × IsNext f.samples (behind after) entry.now.head_len later) }
         ensures within { IfOk result (IsUpTo entry.now.len) }
+        ensures behind { IfOk result (IsFrom entry.now.head_len) }
         ensures kept { (held : Stores) → Has D.tells (seen D.Disk self.old) held → Has D.tells (seen D.Disk self.new) held }
         ensures same { (self.new.catalogue ≡ self.old.catalogue) × (self.new.manifests ≡ self.old.manifests) }
         ensures shown { KeepsShown D.tells (seen_all D.Disk self.old) (seen_all D.Disk self.new) }
