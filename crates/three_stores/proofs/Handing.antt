@@ -1,5 +1,5 @@
 -- Files that leave a list: in limbo, and from there from the disk.
-use Rattle.std.proofs.Common.{◌≡◌, ◌⊎◌, inl, inr, Bool, true, false, ◌==◌, filter, ℕ, zero, suc, ◌<◌, ◌≤◌, ◌+◌, ◌++◌, List, [], ◌∷◌, length, get_or, Some, refl, sym, ◌∙◌, subst, arith}
+use Rattle.std.proofs.Common.{◌≡◌, ◌⊎◌, inl, inr, Bool, true, false, ◌==◌, filter, ℕ, zero, suc, ◌<◌, ◌≤◌, ◌+◌, ◌++◌, List, [], ◌∷◌, length, get_or, Some, refl, sym, ◌∙◌, ap, subst, arith}
 use Rattle.std.specs.Prelude.{All, Contains, slice_get}
 use Rattle.std.specs.FinMap.{FinMap}
 use Rattle.std.specs.Ordering.{nat_cmp}
@@ -64,6 +64,11 @@ named_in : (left : List Retired) (n : Name) → Contains (names_in left) n → (
 named_in [] n (k, lt, is) = absurd (omega (arith, lt))
 named_in (r ∷ left) n (zero, lt, is) = (r, (zero, omega arith, refl), is)
 named_in (r ∷ left) n (suc k, lt, is) = let rest = named_in left n (k, omega (arith, lt), is) in (rest.0, (suc rest.1.0, omega (arith, rest.1.1), rest.1.2), rest.2)
+
+pub name_left : (left : List Retired) (r : Retired) → Contains left r → Contains (names_in left) r.name
+name_left [] r (k, lt, is) = absurd (omega (arith, lt))
+name_left (x ∷ left) r (zero, lt, is) = (zero, omega arith, ap (λ (y : Retired). y.name) is)
+name_left (x ∷ left) r (suc k, lt, is) = let rest = name_left left r (k, omega (arith, lt), is) in (suc rest.0, omega (arith, rest.1), rest.2)
 
 module _ (pins : FinMap nat_cmp PinOf) (files limbo left : List Retired) (stay : Stay (λ r. Stays pins files r.name) (λ r. IsFree pins files r.name) limbo left) where
   pub none_more : (x : Retired) → Contains left x → Contains limbo x

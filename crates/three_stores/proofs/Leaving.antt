@@ -1,7 +1,7 @@
 -- A retirement: what its files are in limbo, and what comes of the stores.
 use Rattle.std.proofs.Common.{◌≡◌, ◌≢◌, ◌⊎◌, inl, inr, Bool, ℕ, zero, suc, ◌<◌, ◌+◌, ◌++◌, List, [], ◌∷◌, length, map, filter, get_or, Some, refl, sym, ◌∙◌, ap, subst, arith}
 use Rattle.std.specs.Prelude.{All, Contains, IsTrue, Result, slice_get}
-use Rattle.std.proofs.lemmas.List.Elements.{All-append, All-contains, Contains-append_right, Contains-get_or, filter_passes}
+use Rattle.std.proofs.lemmas.List.Elements.{All-append, All-contains, Contains-append_cases, Contains-append_right, Contains-get_or, filter_passes}
 use Rattle.disk_model.specs.Files.{Name, Files}
 use Rattle.disk_model.specs.Past.{Passes}
 use Rattle.disk_model.specs.declared.disk.DiskErr.{DiskErr}
@@ -25,7 +25,7 @@ use Rattle.tier_store.proofs.There.{contains_map}
 use Rattle.tier_store.proofs.Three.{same_cases}
 use Rattle.three_stores.specs.Change.{IsKnown, Has, Call, HoldsBy, Changes}
 use Rattle.three_stores.specs.Limbo.{IsOfPlace, LimboStands, IsListedName, StayUnlisted, LeaveListed, staying}
-use Rattle.three_stores.specs.Retiring.{oldest, oldest_entries, without_oldest, retired_of, Leaves, Enter, HandedOver, HasGrown, HasNotGrown, Retires, SaysRetired, retiring, dropping}
+use Rattle.three_stores.specs.Retiring.{AreApart, oldest, oldest_entries, without_oldest, retired_of, Leaves, Enter, HandedOver, HasGrown, HasNotGrown, Retires, SaysRetired, retiring, dropping}
 use Rattle.three_stores.specs.Seen.{Seen, granularities}
 use Rattle.three_stores.specs.Stored.{HoldsAll}
 use Rattle.three_stores.specs.Stores.{Stores, list_at}
@@ -94,11 +94,18 @@ module _ (tells : Bool) (i row n : ℕ) (at : Seen) (m : ManifestState) (here : 
       map_in (retired_of (i + 1, at.catalogue.rows)) (oldest_entries row n m.entries) f.entry
       (subst (λ (l : List Entry). Contains l f.entry) (sym (same_entries i row n held m.entries (has.known.each i m here).entries)) (entry_in parts f within))
 
-  part_of : (r : Retired) → Contains leaving r → (f : Filed) × Contains parts f × (retired_of (i + 1, at.catalogue.rows) f.entry ≡ r)
+  pub part_of : (r : Retired) → Contains leaving r → (f : Filed) × Contains parts f × (retired_of (i + 1, at.catalogue.rows) f.entry ≡ r)
   part_of r within =
       let e = map_out (retired_of (i + 1, at.catalogue.rows)) (oldest_entries row n m.entries) r within in
       let f = contains_map parts e.0 (subst (λ (l : List Entry). Contains l e.0) (same_entries i row n held m.entries (has.known.each i m here).entries) e.1) in
       (f.0, f.1, ap (retired_of (i + 1, at.catalogue.rows)) f.2 ∙ e.2)
+
+  -- they have none of the names that their files don't have
+  pub leaving_apart : (names : List Name) → AreApart i row n held names → All (λ (r : Retired). Contains names r.name → ⊥) leaving
+  leaving_apart names apart k d lt within =
+      let f = part_of (get_or leaving k d) (Contains-get_or leaving k d lt) in
+      let named : file_of (i + 1, held.rows) f.0.entry ≡ (get_or leaving k d).name = ap (λ (rows : List Row). file_of (i + 1, rows) f.0.entry) (sym has.known.rows) ∙ ap (λ (r : Retired). r.name) f.2 in
+      apart f.0 f.1 (subst (Contains names) (sym named) within)
 
   -- they are listed
   leaving_listed : (r : Retired) → Contains leaving r → IsListedName at r.name
@@ -171,6 +178,13 @@ module _ (tells : Bool) (i row n : ℕ) (at : Seen) (m : ManifestState) (here : 
         let f_is = All-contains (IsListed m.granularity held.rows) (list_at i held) f.0 valid.filed.listed (from_oldest i row n held f.0 f.1) in
         let one = same_place m.granularity (i + 1) held.rows h.0 f.0 valid.keys h_is f_is (ap (λ (k : ℕ). file_of (k + 1, held.rows) h.0.entry) (sym is) ∙ named) in
         All-contains (λ (x : Filed). filed_at x ≢ filed_at f.0) (without_all (list_at i held) parts) h.0 (apart_all parts (list_at i held) f.0 f.1) left one
+
+-- what is in limbo then under other names was so before
+pub entered_from : (names : List Name) (at : Seen) (limbo kept files new : List Retired) → StayUnlisted at limbo kept → All (λ (r : Retired). Contains names r.name → ⊥) files → new ≡ kept ++ files → (r : Retired) → Contains names r.name → Contains new r → Contains limbo r
+entered_from names at limbo kept files new stay apart is r within there = elim (Contains-append_cases kept files r (subst (λ (l : List Retired). Contains l r) is there)) [
+  | inl was ↦ (stay_from (λ x. IsListedName at x.name → ⊥) (λ x. IsListedName at x.name) limbo kept r stay was).0
+  | inr leaves ↦ absurd (All-contains (λ (x : Retired). Contains names x.name → ⊥) files r apart leaves within)
+]
 
 -- WHAT COMES OF THE STORES
 

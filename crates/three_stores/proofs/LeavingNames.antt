@@ -12,10 +12,10 @@ use Rattle.pv_catalog.specs.Catalogue.{CatalogueState}
 use Rattle.store_manifest.specs.Manifest.{ManifestState}
 use Rattle.tier_store.specs.Held.{Filed, Shelf, file_of}
 use Rattle.tier_store.specs.Three.{Beside}
-use Rattle.three_stores.specs.Limbo.{Removes, Spares}
-use Rattle.three_stores.specs.Moving.{LeavesNames, LeavesLater, names_of}
+use Rattle.three_stores.specs.Limbo.{IsNeeded, Removes, Spares}
+use Rattle.three_stores.specs.Moving.{LeavesNames, LeavesLater, LeavesFiles, names_of}
 use Rattle.three_stores.specs.Pinned.{SeenAll, beside}
-use Rattle.three_stores.specs.Seen.{seen_on}
+use Rattle.three_stores.specs.Seen.{Seen, seen_on}
 use Rattle.three_stores.specs.declared.limbo.Retired.{Retired}
 
 -- every one of these names has what it had
@@ -23,13 +23,16 @@ abbrev Same : List Name → Files → Files → Type 0
 Same names a b = (n : Name) → Contains names n → b n ≡ a n
 
 -- the disk was only read
-pub read_leaves : (tells : Bool) (old new : SeenAll) → new.limbo ≡ old.limbo → (IsTrue tells → new.stores.files ≡ old.stores.files) → (IsTrue tells → new.stores.opened ≡ old.stores.opened) → (IsTrue tells → Passes (λ a b. b ≡ a) old.stores.past new.stores.past) → LeavesLater tells old new
-read_leaves tells old new limbo files opened passes names later = record {
+pub read_names : (names : List Name) (tells : Bool) (old new : SeenAll) → new.limbo ≡ old.limbo → (IsTrue tells → new.stores.files ≡ old.stores.files) → (IsTrue tells → new.stores.opened ≡ old.stores.opened) → (IsTrue tells → Passes (λ a b. b ≡ a) old.stores.past new.stores.past) → LeavesNames names tells old new
+read_names names tells old new limbo files opened passes = record {
   files = λ told n within. ap (λ (f : Files). f n) (files told);
   fewer = λ told n within. let same : new.stores.opened n ≡ old.stores.opened n = ap (λ (o : Name → ℕ). o n) (opened told) in omega (arith, same);
   any_moment = λ told. passes_weaker (λ a b. b ≡ a) (Same names) old.stores.past new.stores.past (passes told) (λ a c was is n within. ap (λ (f : Files). f n) is);
   limbo = λ r within there. subst (λ (l : List Retired). Contains l r) limbo there;
 }
+
+pub read_leaves : (tells : Bool) (old new : SeenAll) → new.limbo ≡ old.limbo → (IsTrue tells → new.stores.files ≡ old.stores.files) → (IsTrue tells → new.stores.opened ≡ old.stores.opened) → (IsTrue tells → Passes (λ a b. b ≡ a) old.stores.past new.stores.past) → LeavesLater tells old new
+read_leaves tells old new limbo files opened passes names later = read_names names tells old new limbo files opened passes
 
 -- nothing was done
 pub nothing_leaves : (tells : Bool) (all : SeenAll) → LeavesLater tells all all
@@ -73,30 +76,59 @@ removal_leaves tells old new pins copied retired limbo removes = record {
   limbo = λ r within there. limbo r there;
 }
 
--- no name of a later store is that of a journal, or of a file of store 1
-apart_from : (names : List Name) (journal n : Name) → All (λ (x : Name). 2 ≤ x.0) names → Contains names n → journal.0 ≡ 0 → n ≢ journal
-apart_from names journal n later within zero_store is =
-    let two = All-contains (λ (x : Name). 2 ≤ x.0) names n later within in
+-- a removal of files that have none of the names
+pub removal_apart : (names : List Name) (tells : Bool) (old new : SeenAll) (pins : FinMap nat_cmp PinOf) (files : List Retired) → ((r : Retired) → Contains new.limbo r → Contains old.limbo r) → All (λ (r : Retired). Contains names r.name → ⊥) files
+    → (IsTrue tells → Removes pins [] files old.stores.files new.stores.files old.stores.opened new.stores.opened old.stores.past new.stores.past) → LeavesNames names tells old new
+removal_apart names tells old new pins files limbo apart removes = record {
+  files = λ told n within. (removes told).spares n (other n within);
+  fewer = λ told n within. (removes told).fewer n;
+  any_moment = λ told. passes_weaker (Spares pins [] files) (Same names) old.stores.past new.stores.past (removes told).any_moment (λ a c was step n within. step n (other n within));
+  limbo = λ r within there. limbo r there;
+}
+  where
+    other : (n : Name) → Contains names n → (r : Retired) → Contains files r → r.name ≡ n → IsNeeded pins [] n
+    other n within r there is = absurd (All-contains (λ (x : Retired). Contains names x.name → ⊥) files r apart there (subst (Contains names) (sym is) within))
+
+-- nothing comes to limbo under these names, and the disk is as it was
+pub limbo_leaves : (names : List Name) (tells : Bool) (at : Seen) (limbo left : List Retired) → ((r : Retired) → Contains names r.name → Contains left r → Contains limbo r) → LeavesNames names tells (beside at limbo) (beside at left)
+limbo_leaves names tells at limbo left from = record {
+  files = λ told n within. refl;
+  fewer = λ told n within. omega arith;
+  any_moment = λ told. passes_none (Same names) at.past (λ a left n within. refl);
+  limbo = from;
+}
+
+-- no name of a store's file is that of a journal
+apart_from : (names : List Name) (journal n : Name) → All (λ (x : Name). 1 ≤ x.0) names → Contains names n → journal.0 ≡ 0 → n ≢ journal
+apart_from names journal n own within zero_store is =
+    let one = All-contains (λ (x : Name). 1 ≤ x.0) names n own within in
     let same : n.0 ≡ journal.0 = ap (λ (x : Name). x.0) is in
-    omega (arith, two, same, zero_store)
+    omega (arith, one, same, zero_store)
+
+pub later_own : (names : List Name) → All (λ (x : Name). 2 ≤ x.0) names → All (λ (x : Name). 1 ≤ x.0) names
+later_own names later k d lt = let two = later k d lt in omega (arith, two)
 
 -- a commit of a journal alone
-pub commit_leaves : (tells : Bool) (old new : SeenAll) (journal : Name) (R : Content → Content → Type 0) → new.limbo ≡ old.limbo → (IsTrue tells → journal.0 ≡ 0) → (IsTrue tells → (n : Name) → n ≢ journal → new.stores.files n ≡ old.stores.files n) → (IsTrue tells → new.stores.opened ≡ old.stores.opened)
-    → (IsTrue tells → Passes (At journal R) old.stores.past new.stores.past) → LeavesLater tells old new
-commit_leaves tells old new journal R limbo zero_store elsewhere opened passes names later = record {
-  files = λ told n within. elsewhere told n (apart_from names journal n later within (zero_store told));
+pub commit_leaves_files : (tells : Bool) (old new : SeenAll) (journal : Name) (R : Content → Content → Type 0) → new.limbo ≡ old.limbo → (IsTrue tells → journal.0 ≡ 0) → (IsTrue tells → (n : Name) → n ≢ journal → new.stores.files n ≡ old.stores.files n) → (IsTrue tells → new.stores.opened ≡ old.stores.opened)
+    → (IsTrue tells → Passes (At journal R) old.stores.past new.stores.past) → LeavesFiles tells old new
+commit_leaves_files tells old new journal R limbo zero_store elsewhere opened passes names own = record {
+  files = λ told n within. elsewhere told n (apart_from names journal n own within (zero_store told));
   fewer = λ told n within. let same : new.stores.opened n ≡ old.stores.opened n = ap (λ (o : Name → ℕ). o n) (opened told) in omega (arith, same);
-  any_moment = λ told. passes_weaker (At journal R) (Same names) old.stores.past new.stores.past (passes told) (λ a c was step n within. step.elsewhere n (apart_from names journal n later within (zero_store told)));
+  any_moment = λ told. passes_weaker (At journal R) (Same names) old.stores.past new.stores.past (passes told) (λ a c was step n within. step.elsewhere n (apart_from names journal n own within (zero_store told)));
   limbo = λ r within there. subst (λ (l : List Retired). Contains l r) limbo there;
 }
+
+pub commit_leaves : (tells : Bool) (old new : SeenAll) (journal : Name) (R : Content → Content → Type 0) → new.limbo ≡ old.limbo → (IsTrue tells → journal.0 ≡ 0) → (IsTrue tells → (n : Name) → n ≢ journal → new.stores.files n ≡ old.stores.files n) → (IsTrue tells → new.stores.opened ≡ old.stores.opened)
+    → (IsTrue tells → Passes (At journal R) old.stores.past new.stores.past) → LeavesLater tells old new
+commit_leaves tells old new journal R limbo zero_store elsewhere opened passes names later = commit_leaves_files tells old new journal R limbo zero_store elsewhere opened passes names (later_own names later)
 
 -- a call on the files of store 1 and its journal
 pub first_leaves : (tells : Bool) (old new : SeenAll) (journal : Name) → new.limbo ≡ old.limbo → (IsTrue tells → journal.0 ≡ 0) → (IsTrue tells → (n : Name) → n.0 ≢ 1 → n ≢ journal → new.stores.files n ≡ old.stores.files n) → (IsTrue tells → (n : Name) → new.stores.opened n ≤ old.stores.opened n)
     → (IsTrue tells → Passes (Beside 1 journal) old.stores.past new.stores.past) → LeavesLater tells old new
 first_leaves tells old new journal limbo zero_store elsewhere fewer passes names later = record {
-  files = λ told n within. elsewhere told n (not_first n within) (apart_from names journal n later within (zero_store told));
+  files = λ told n within. elsewhere told n (not_first n within) (apart_from names journal n (later_own names later) within (zero_store told));
   fewer = λ told n within. fewer told n;
-  any_moment = λ told. passes_weaker (Beside 1 journal) (Same names) old.stores.past new.stores.past (passes told) (λ a c was step n within. step n (not_first n within) (apart_from names journal n later within (zero_store told)));
+  any_moment = λ told. passes_weaker (Beside 1 journal) (Same names) old.stores.past new.stores.past (passes told) (λ a c was step n within. step n (not_first n within) (apart_from names journal n (later_own names later) within (zero_store told)));
   limbo = λ r within there. subst (λ (l : List Retired). Contains l r) limbo there;
 }
   where

@@ -20,6 +20,7 @@ pub mod ListedTallies
 pub mod Left
 pub mod MovedFiles
 pub mod OnePlace
+pub mod OpenedBeside
 pub mod OpeningPieces
 pub mod PieceLists
 pub mod PinnedFiles
@@ -43,4 +44,5 @@ pub mod Staying
 pub mod Tallies
 pub mod There
 pub mod Unlisted
+pub mod WholeCalls
 pub mod WithoutLimbo

@@ -134,7 +134,7 @@ module _ (i : ℕ) (tells : Bool) (all : SeenAll) (held : Stores) (files : List 
   others_are : (made : Stores) → ListsAlso i files held made → (k : ℕ) → k < 3 → (k ≡ i → ⊥) → tier k made ≡ tier k held
   others_are made by k lo apart = ap (tier k) by ∙ tier_other i k (put_all (list_at i held) files) held low lo apart
 
-  goes_on : (made : Stores) → ListsAlso i files held made → GoesOn held made
+  pub goes_on : (made : Stores) → ListsAlso i files held made → GoesOn held made
   goes_on made by = inl (
     ap (λ (s : Stores). s.rows) by,
     λ place lo. elim (same_cases place i) [

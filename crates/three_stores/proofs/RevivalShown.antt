@@ -1,9 +1,10 @@
 -- What is shown stays so through a flush beside files in limbo, and these stay whole while a doubt is settled.
-use Rattle.std.proofs.Common.{◌≡◌, ◌≢◌, inl, inr, Bool, ℕ, ◌<◌, ◌≤◌, ◌+◌, List, map, length, get_or, Some, sym, ◌∙◌, ap, subst, arith}
-use Rattle.std.specs.Prelude.{All, Contains, IsTrue, slice_get}
+use Rattle.std.proofs.Common.{◌≡◌, ◌≢◌, inl, inr, Bool, ℕ, ◌<◌, ◌≤◌, ◌+◌, List, map, length, get_or, Some, Ok, Err, sym, ◌∙◌, ap, subst, arith}
+use Rattle.std.specs.Prelude.{All, Contains, IsTrue, OnErr, OnOk, Result, slice_get}
 use Rattle.std.proofs.lemmas.List.Elements.{All-contains}
 use Rattle.disk_model.specs.Files.{Name}
 use Rattle.disk_model.specs.Past.{Passes}
+use Rattle.disk_model.specs.declared.disk.DiskErr.{DiskErr}
 use Rattle.partition_names.specs.declared.granularity.Granularity.{Granularity}
 use Rattle.pv_catalog.specs.Rows.{KeepsRows}
 use Rattle.pv_catalog.specs.declared.row.Row.{Row}
@@ -30,7 +31,7 @@ use Rattle.three_stores.specs.Seen.{Seen, granularities}
 use Rattle.three_stores.specs.Change.{IsKnownAt, IsKnown, Has, IsOpen, HasEither, EndsFrom}
 use Rattle.three_stores.specs.Limbo.{IsOfPlace, LimboStands}
 use Rattle.three_stores.specs.Pinned.{SeenAll, IsHeldTo, NoneShorter, IsThereTo, KeepsShown, KeepsFronts}
-use Rattle.three_stores.specs.Revival.{AreWhole, AreInLimbo, FlushesOver, flushing_over, short_with}
+use Rattle.three_stores.specs.Revival.{AreWhole, AreInLimbo, FlushesOver, KeepsWhole, flushing_over, short_with}
 use Rattle.three_stores.specs.declared.limbo.Retired.{Retired}
 use Rattle.three_stores.proofs.Places.{granularity_at, manifest_at, manifest_of, one_manifest, tier_other}
 use Rattle.three_stores.proofs.Showing.{GoesOn, Spares, ends_held, ends_spares, known_spares, name_listed, numbered, settled_held, shown, still_held, still_itself}
@@ -79,15 +80,17 @@ over_spares limbo files batch held made name len by is_here spares k low = elim 
         omega (arith, le, longer)
 
 -- store 1 is at the first place
-first_place : (at : Seen) (r : Retired) (of : IsOfPlace at r) → r.name.0 ≡ 1 → of.place ≡ 0
+pub first_place : (at : Seen) (r : Retired) (of : IsOfPlace at r) → r.name.0 ≡ 1 → of.place ≡ 0
 first_place at r of number = let own : of.place + 1 ≡ r.name.0 = ap (λ (n : Name). n.0) of.named in omega (arith, own, number)
 
 -- a file in limbo of store 1 is named as that of its row and partition
-own_name : (tells : Bool) (at : Seen) (limbo : List Retired) (held : Stores) → LimboStands at limbo → Has tells at held → (r : Retired) → Contains limbo r → r.name.0 ≡ 1 → file_of (1, held.rows) r.entry ≡ r.name
-own_name tells at limbo held stands has r within number =
+pub limbo_name : (at : Seen) (limbo : List Retired) → LimboStands at limbo → (r : Retired) → Contains limbo r → r.name.0 ≡ 1 → file_of (1, at.catalogue.rows) r.entry ≡ r.name
+limbo_name at limbo stands r within number =
     let of = All-contains (IsOfPlace at) limbo r stands within in
-    let at_first = first_place at r of number in
-    ap (λ (rows : List Row). file_of (1, rows) r.entry) (sym has.known.rows) ∙ (ap (λ (k : ℕ). file_of (k + 1, at.catalogue.rows) r.entry) (sym at_first) ∙ of.named)
+    ap (λ (k : ℕ). file_of (k + 1, at.catalogue.rows) r.entry) (sym (first_place at r of number)) ∙ of.named
+
+own_name : (tells : Bool) (at : Seen) (limbo : List Retired) (held : Stores) → LimboStands at limbo → Has tells at held → (r : Retired) → Contains limbo r → r.name.0 ≡ 1 → file_of (1, held.rows) r.entry ≡ r.name
+own_name tells at limbo held stands has r within number = ap (λ (rows : List Row). file_of (1, rows) r.entry) (sym has.known.rows) ∙ limbo_name at limbo stands r within number
 
 -- and so is what is listed of these
 pub place_named : (tells : Bool) (at : Seen) (limbo : List Retired) (held : Stores) (m : ManifestState) → slice_get at.manifests 0 ≡ Some m → LimboStands at limbo → (has : Has tells at held) → (r : Retired) → Contains limbo r → r.name.0 ≡ 1 → (h : Filed) → Contains held.short h → filed_at h ≡ place r.entry → file_of (1, held.rows) h.entry ≡ r.name
@@ -172,7 +175,7 @@ over_shown tells files batch old new end limbo stands held has rise ends m here 
 -- WHOLE
 
 -- the manifests that are there, whatever stands in doubt
-known_open : (tells : Bool) (at : Seen) (before after : Stores) → IsOpen tells at before after → IsKnown at.catalogue at.manifests before
+pub known_open : (tells : Bool) (at : Seen) (before after : Stores) → IsOpen tells at before after → IsKnown at.catalogue at.manifests before
 known_open tells at before after (inl has) = has.known
 known_open tells at before after (inr doubt) = doubt.known
 
@@ -207,3 +210,13 @@ pub still_whole : (tells : Bool) (old new : Seen) (limbo : List Retired) (before
     → (IsTrue tells → new.files ≡ old.files) → (IsTrue tells → new.opened ≡ old.opened) → (IsTrue tells → Passes (λ a b. b ≡ a) old.past new.past) → (stands : Bool) (files : List Filed) → AreWhole tells old limbo stands files → AreWhole tells new limbo stands files
 still_whole tells old new limbo before after was still keeps same_g same opened passes =
     read_whole tells old new limbo (known_open tells old before after was).three (λ name h. still_held tells old new before after name 0 was still h) keeps same_g same opened passes
+
+-- so they do whatever comes of the settling
+pub review_whole : {B : Type 0} (tells : Bool) (old new : SeenAll) (r : Result B DiskErr) → new.limbo ≡ old.limbo → (before : Stores) × (after : Stores) × IsOpen tells old.stores before after → ((x y : Stores) → IsOpen tells old.stores x y → OnOk r (HasEither tells new.stores x y))
+    → ((x y : Stores) → IsOpen tells old.stores x y → OnErr r (IsOpen tells new.stores x y)) → KeepsRows old.stores.catalogue.rows new.stores.catalogue.rows → granularities new.stores.manifests ≡ granularities old.stores.manifests → (IsTrue tells → new.stores.files ≡ old.stores.files) → (IsTrue tells → new.stores.opened ≡ old.stores.opened)
+    → (IsTrue tells → Passes (λ a b. b ≡ a) old.stores.past new.stores.past) → KeepsWhole tells old new
+review_whole {B} tells old new r limbo begun settled still keeps same_g same opened passes stands files whole = (files, subst (λ (l : List Retired). AreWhole tells new.stores l stands files) (sym limbo) (go r settled still))
+  where
+    go : (r : Result B DiskErr) → ((x y : Stores) → IsOpen tells old.stores x y → OnOk r (HasEither tells new.stores x y)) → ((x y : Stores) → IsOpen tells old.stores x y → OnErr r (IsOpen tells new.stores x y)) → AreWhole tells new.stores old.limbo stands files
+    go (Ok a) settled still = settled_whole tells old.stores new.stores old.limbo begun.0 begun.1 begun.2 settled keeps same_g same opened passes stands files whole
+    go (Err e) settled still = still_whole tells old.stores new.stores old.limbo begun.0 begun.1 begun.2 still keeps same_g same opened passes stands files whole

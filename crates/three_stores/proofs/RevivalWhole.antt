@@ -38,19 +38,19 @@ use Rattle.three_stores.proofs.Showing.{ends_held, has_held}
 
 -- WHICH FILES ARE LEFT
 
-abbrev is_none : Option Filed → Bool
+abbrev pub is_none : Option Filed → Bool
 is_none None = true
 is_none (Some f) = false
 
-none_is : (o : Option Filed) → is_none o ≡ true → o ≡ None
+pub none_is : (o : Option Filed) → is_none o ≡ true → o ≡ None
 none_is None is = refl
 none_is (Some f) is = absurd (cc (is))
 
 -- those of which nothing is listed
-abbrev is_free : List Filed → Filed → Bool
+abbrev pub is_free : List Filed → Filed → Bool
 is_free short f = is_none (file_at (filed_at f) short)
 
-abbrev free_of : List Filed → List Filed → List Filed
+abbrev pub free_of : List Filed → List Filed → List Filed
 free_of short files = filter (is_free short) files
 
 free_in : (short files : List Filed) (f : Filed) → is_free short f ≡ true → Contains files f → Contains (free_of short files) f
@@ -64,7 +64,7 @@ free_in short (x ∷ xs) f free within = by_test (is_free short x) refl within (
     by_test false is (suc k, low, at) rest = rest (k, omega (arith, low), at)
 
 -- store 1 of these rows with these files
-abbrev short_of : List Row → List Filed → Bool → Held
+abbrev pub short_of : List Row → List Filed → Bool → Held
 short_of rows files stands = record { store = 1; rows = rows; files = files; stands = stands }
 
 module _ (tells : Bool) (files : List Filed) (batch : List RowSamples) (old new : SeenAll) (end : End ℕ ⊥) (limbo : new.limbo ≡ old.limbo) (catalogue : new.stores.catalogue ≡ old.stores.catalogue) (same_g : granularities new.stores.manifests ≡ granularities old.stores.manifests) (stands : LimboStands old.stores old.limbo)

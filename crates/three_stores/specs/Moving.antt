@@ -1,5 +1,5 @@
 -- Running moves over the three stores: what one has written to the next store and not listed yet, and what a call leaves of that.
-use Rattle.std.specs.Prelude.{◌≡◌, ◌≢◌, ◌≤◌, ◌+◌, ℕ, Bool, List, ◌++◌, All, Contains, IsTrue, length, map, Some, slice_get}
+use Rattle.std.specs.Prelude.{◌≡◌, ◌≢◌, ◌⊎◌, ◌≤◌, ◌+◌, ℕ, Bool, List, ◌++◌, All, Contains, IsTrue, length, map, Some, slice_get}
 use Rattle.disk_model.specs.Files.{Name}
 use Rattle.disk_model.specs.Past.{Passes}
 use Rattle.etl_mover.specs.Move.{MoveState, IsMove, StillLists}
@@ -12,9 +12,9 @@ use Rattle.tier_store.specs.Flush.{PlacesRise, put_all}
 use Rattle.tier_store.specs.Held.{Filed, Held, Shelf, AreFiled, entry_of, file_of, filed_at}
 use Rattle.tier_store.specs.Plan.{IsLastOf, of_row}
 use Rattle.tier_store.specs.Stored.{AreSafe}
-use Rattle.three_stores.specs.Change.{Call}
+use Rattle.three_stores.specs.Change.{Call, Has, Doubts}
 use Rattle.three_stores.specs.Pinned.{SeenAll}
-use Rattle.three_stores.specs.Seen.{granularities}
+use Rattle.three_stores.specs.Seen.{Seen, granularities}
 use Rattle.three_stores.specs.Stores.{Stores, list_at, with_list}
 use Rattle.three_stores.specs.declared.limbo.Retired.{Retired}
 
@@ -81,6 +81,18 @@ pub record LeavesNames (names : List Name) (tells : Bool) (old new : SeenAll) : 
 -- so it does with all names of the stores that moves copy to, the second and the third
 abbrev pub LeavesLater : Bool → SeenAll → SeenAll → Type 0
 LeavesLater tells old new = (names : List Name) → All (λ (n : Name). 2 ≤ n.0) names → LeavesNames names tells old new
+
+-- or with all names that files of the three stores have
+abbrev pub LeavesFiles : Bool → SeenAll → SeenAll → Type 0
+LeavesFiles tells old new = (names : List Name) → All (λ (n : Name). 1 ≤ n.0) names → LeavesNames names tells old new
+
+-- what is held, or what is before a change in doubt or after it
+abbrev pub MayHold : Bool → Seen → Stores → Type 0
+MayHold tells at held = Has tells at held ⊎ ((other : Stores) × (Doubts tells at held other ⊎ Doubts tells at other held))
+
+-- each move that ran beside what may be held does so still
+abbrev pub KeepsBeside : Bool → SeenAll → SeenAll → Type 0
+KeepsBeside tells old new = (held : Stores) → MayHold tells old.stores held → (i : ℕ) (move : MoveState) (files : List Filed) → RunsBeside i tells old move files held → RunsBeside i tells new move files held
 
 -- the partitions that files are of
 abbrev pub parts_in : ℕ → List Filed → List Part

@@ -32,6 +32,10 @@ oldest i row n s = take n (of_row row (list_at i s))
 abbrev pub without_oldest : ℕ → ℕ → ℕ → Stores → Stores
 without_oldest i row n s = with_list i (without_all (list_at i s) (oldest i row n s)) s
 
+-- none of these names is that of one of them
+abbrev pub AreApart : ℕ → ℕ → ℕ → Stores → List Name → Type 0
+AreApart i row n s names = (f : Filed) → Contains (oldest i row n s) f → Contains names (file_of (i + 1, s.rows) f.entry) → ⊥
+
 -- their entries, as a manifest lists them
 abbrev pub oldest_entries : ℕ → ℕ → List Entry → List Entry
 oldest_entries row n entries = take n (filter (λ (e : Entry). e.series == row) entries)

@@ -63,6 +63,10 @@ pub record AreWhole (tells : Bool) (at : Seen) (limbo : List Retired) (stands : 
 abbrev pub KeepsWhole : Bool → SeenAll → SeenAll → Type 0
 KeepsWhole tells old new = (stands : Bool) (files : List Filed) → AreWhole tells old.stores old.limbo stands files → (left : List Filed) × AreWhole tells new.stores new.limbo stands left
 
+-- So does limbo of stores that stand as these do: files that come to it stand no further than they did where they were listed.
+abbrev pub KeepsWholeOf : Bool → SeenAll → SeenAll → Stores → Type 0
+KeepsWholeOf tells old new held = (files : List Filed) → AreWhole tells old.stores old.limbo held.stands files → (left : List Filed) × AreWhole tells new.stores new.limbo held.stands left
+
 -- THE FLUSH
 
 -- Of these files just those that are in limbo of store 1, which doesn't list them.

@@ -14,6 +14,7 @@ ghost use Rattle.three_stores.specs.Moving.{LeavesLater};
 ghost use Rattle.three_stores.specs.Opening.{answer_of, end_of_answer};
 ghost use Rattle.three_stores.specs.Pinned.{seen_all, KeepsShown};
 ghost use Rattle.three_stores.specs.Pinning.{HasNoName, entries_of};
+ghost use Rattle.three_stores.specs.Revival.{KeepsWhole};
 ghost use Rattle.three_stores.specs.Settling.{SettlesAndReads};
 ghost use Rattle.three_stores.specs.Tallying.{RiseFrom, entries_in, listed_count};
 
@@ -95,6 +96,7 @@ impl<D: Disk> TierStore<D> {
         ensures kept { (held : Stores) → Has D.tells (seen D.Disk self.old) held → Has D.tells (seen D.Disk self.new) held }
         ensures same { (self.new.catalogue ≡ self.old.catalogue) × (self.new.manifests ≡ self.old.manifests) × (self.new.pinned ≡ self.old.pinned) × (self.new.limbo ≡ self.old.limbo) }
         ensures shown { KeepsShown D.tells (seen_all D.Disk self.old) (seen_all D.Disk self.new) }
+        ensures leaves { LeavesLater D.tells (seen_all D.Disk self.old) (seen_all D.Disk self.new) }
         ensures reads { OnlyReads D.tells (seen D.Disk self.old) (seen D.Disk self.new) (end_of_disk result) }
     {
         self.tally_row(row)
@@ -163,6 +165,7 @@ impl<D: Disk> TierStore<D> {
         ensures settles { SettlesAndReads D.tells (SaysDescribed D.tells name.now tail.now) (seen D.Disk self.old) (seen D.Disk self.new) (end_of_answer (answer_of result)) }
         ensures shown { KeepsShown D.tells (seen_all D.Disk self.old) (seen_all D.Disk self.new) }
         ensures leaves { LeavesLater D.tells (seen_all D.Disk self.old) (seen_all D.Disk self.new) }
+        ensures whole { KeepsWhole D.tells (seen_all D.Disk self.old) (seen_all D.Disk self.new) }
         ensures pins { self.new.pinned ≡ self.old.pinned }
         ensures limbo { self.new.limbo ≡ self.old.limbo }
     {
@@ -188,6 +191,7 @@ impl<D: Disk> TierStore<D> {
             → SettlesAndReads D.tells (SaysDescribed D.tells name.now tail.now) (seen D.Disk self.old) (seen D.Disk self.new) (end_of_answer result) }
         ensures shown { KeepsShown D.tells (seen_all D.Disk self.old) (seen_all D.Disk self.new) }
         ensures leaves { LeavesLater D.tells (seen_all D.Disk self.old) (seen_all D.Disk self.new) }
+        ensures whole { KeepsWhole D.tells (seen_all D.Disk self.old) (seen_all D.Disk self.new) }
         ensures pins { self.new.pinned ≡ self.old.pinned }
         ensures limbo { self.new.limbo ≡ self.old.limbo }
     {

@@ -8,7 +8,9 @@ ghost use Rattle.three_stores.specs.Beginning.{AreNested, IsBegun, SaysBegun};
 ghost use Rattle.three_stores.specs.Stores.{Stores};
 ghost use Rattle.three_stores.specs.Seen.{seen, IsSettled, granularities};
 ghost use Rattle.three_stores.specs.Change.{Has, IsOpen};
+ghost use Rattle.three_stores.specs.Moving.{LeavesLater};
 ghost use Rattle.three_stores.specs.Pinned.{seen_all, KeepsShown};
+ghost use Rattle.three_stores.specs.Revival.{KeepsWhole};
 ghost use Rattle.three_stores.specs.Settling.{Settles};
 
 use crate::TierStore;
@@ -101,6 +103,8 @@ impl<D: Disk> TierStore<D> {
 
         ensures settles { Settles D.tells (SaysBegun D.tells place rule.now (get nat_cmp running.now) self.new.manifests.items) (seen D.Disk self.old) (seen D.Disk self.new) (end_of_disk result) }
         ensures shown { KeepsShown D.tells (seen_all D.Disk self.old) (seen_all D.Disk self.new) }
+        ensures leaves { LeavesLater D.tells (seen_all D.Disk self.old) (seen_all D.Disk self.new) }
+        ensures whole { KeepsWhole D.tells (seen_all D.Disk self.old) (seen_all D.Disk self.new) }
         ensures pins { self.new.pinned ≡ self.old.pinned }
         ensures limbo { self.new.limbo ≡ self.old.limbo }
         ensures nothing { IsSettled (seen D.Disk self.old) → self.new ≡ self.old }

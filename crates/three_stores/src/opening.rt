@@ -6,6 +6,7 @@ ghost use Rattle.tier_store.specs.Ends.{end_of_disk};
 ghost use Rattle.three_stores.specs.Stores.{Stores, list_at};
 ghost use Rattle.three_stores.specs.Seen.{seen};
 ghost use Rattle.three_stores.specs.Change.{Has, OnlyReads, IsListedIn};
+ghost use Rattle.three_stores.specs.Moving.{KeepsBeside};
 ghost use Rattle.three_stores.specs.Pinned.{seen_all, KeepsShown};
 
 use crate::TierStore;
@@ -30,6 +31,7 @@ impl<D: Disk> TierStore<D> {
         ensures kept { (held : Stores) → Has D.tells (seen D.Disk self.old) held → Has D.tells (seen D.Disk self.new) held }
         ensures same { (self.new.catalogue ≡ self.old.catalogue) × (self.new.manifests ≡ self.old.manifests) }
         ensures shown { KeepsShown D.tells (seen_all D.Disk self.old) (seen_all D.Disk self.new) }
+        ensures beside { KeepsBeside D.tells (seen_all D.Disk self.old) (seen_all D.Disk self.new) }
         ensures pins { self.new.pinned ≡ self.old.pinned }
         ensures limbo { self.new.limbo ≡ self.old.limbo }
         ensures reads { OnlyReads D.tells (seen D.Disk self.old) (seen D.Disk self.new) (end_of_disk result) }

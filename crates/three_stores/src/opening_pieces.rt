@@ -9,8 +9,11 @@ ghost use Rattle.pinned_pieces.specs.declared.piece.PinnedFile.{PinnedFile as Pi
 ghost use Rattle.three_stores.specs.Stores.{Stores};
 ghost use Rattle.three_stores.specs.Seen.{seen};
 ghost use Rattle.three_stores.specs.Change.{IsOpen, OnlyReads};
+ghost use Rattle.three_stores.specs.Limbo.{LimboStands};
+ghost use Rattle.three_stores.specs.Moving.{KeepsBeside};
 ghost use Rattle.three_stores.specs.Pinned.{seen_all, PinsStand, KeepsShown};
 ghost use Rattle.three_stores.specs.Opening.{IsOpened, answer_of, end_of_answer, refusal, given_up, pins_left};
+ghost use Rattle.three_stores.specs.Revival.{KeepsWhole};
 
 use crate::TierStore;
 use act_model::Answer;
@@ -39,6 +42,8 @@ impl<D: Disk> TierStore<D> {
             → IsOpened D.tells D.Reader.tells D.Reader.bytes D.Reader.faults (seen_all D.Disk self.old) piece (answer_of result) }
         ensures kept { (before after : Stores) → IsOpen D.tells (seen D.Disk self.old) before after → IsOpen D.tells (seen D.Disk self.new) before after }
         ensures same { (self.new.catalogue ≡ self.old.catalogue) × (self.new.manifests ≡ self.old.manifests) × (self.new.pinned ≡ self.old.pinned) × (self.new.limbo ≡ self.old.limbo) }
+        ensures beside { KeepsBeside D.tells (seen_all D.Disk self.old) (seen_all D.Disk self.new) }
+        ensures whole { LimboStands (seen D.Disk self.old) self.old.limbo.items → KeepsWhole D.tells (seen_all D.Disk self.old) (seen_all D.Disk self.new) }
         ensures reads { OnlyReads D.tells (seen D.Disk self.old) (seen D.Disk self.new) (end_of_answer (answer_of result)) }
     {
         let pieces = match self.pinned.pieces(who, pin) {
@@ -76,6 +81,8 @@ impl<D: Disk> TierStore<D> {
         ensures kept { (before after : Stores) → IsOpen D.tells (seen D.Disk self.old) before after → IsOpen D.tells (seen D.Disk self.new) before after }
         ensures same { (self.new.catalogue ≡ self.old.catalogue) × (self.new.manifests ≡ self.old.manifests) × (self.new.pinned ≡ self.old.pinned) × (self.new.limbo ≡ self.old.limbo) }
         ensures shown { KeepsShown D.tells (seen_all D.Disk self.old) (seen_all D.Disk self.new) }
+        ensures beside { KeepsBeside D.tells (seen_all D.Disk self.old) (seen_all D.Disk self.new) }
+        ensures whole { LimboStands (seen D.Disk self.old) self.old.limbo.items → KeepsWhole D.tells (seen_all D.Disk self.old) (seen_all D.Disk self.new) }
         ensures reads { OnlyReads D.tells (seen D.Disk self.old) (seen D.Disk self.new) (end_of_answer result) }
     {
         told(self.read_piece(who, pin, i))

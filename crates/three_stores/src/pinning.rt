@@ -13,6 +13,7 @@ ghost use Rattle.three_stores.specs.Opening.{answer_of, end_of_answer};
 ghost use Rattle.three_stores.specs.Moving.{LeavesLater};
 ghost use Rattle.three_stores.specs.Pinned.{seen_all, PinsStand, KeepsShown};
 ghost use Rattle.three_stores.specs.Pinning.{HasNoName, PinsOf, SaysPinned, listed_in, has_bytes, piece_of};
+ghost use Rattle.three_stores.specs.Revival.{KeepsWhole};
 ghost use Rattle.three_stores.specs.Settling.{Settles};
 
 use crate::TierStore;
@@ -160,6 +161,7 @@ impl<D: Disk> TierStore<D> {
         ensures unchanged { IsCut (end_of_answer (answer_of result)) → self.new.pinned ≡ self.old.pinned }
         ensures shown { KeepsShown D.tells (seen_all D.Disk self.old) (seen_all D.Disk self.new) }
         ensures leaves { LeavesLater D.tells (seen_all D.Disk self.old) (seen_all D.Disk self.new) }
+        ensures whole { KeepsWhole D.tells (seen_all D.Disk self.old) (seen_all D.Disk self.new) }
         ensures limbo { self.new.limbo ≡ self.old.limbo }
         ensures stand { PinsStand D.tells (seen_all D.Disk self.old) self.old.pinned → PinsStand D.tells (seen_all D.Disk self.new) self.new.pinned }
     {
@@ -184,6 +186,7 @@ impl<D: Disk> TierStore<D> {
         ensures unchanged { IsCut (end_of_answer result) → self.new.pinned ≡ self.old.pinned }
         ensures shown { KeepsShown D.tells (seen_all D.Disk self.old) (seen_all D.Disk self.new) }
         ensures leaves { LeavesLater D.tells (seen_all D.Disk self.old) (seen_all D.Disk self.new) }
+        ensures whole { KeepsWhole D.tells (seen_all D.Disk self.old) (seen_all D.Disk self.new) }
         ensures limbo { self.new.limbo ≡ self.old.limbo }
         ensures stand { PinsStand D.tells (seen_all D.Disk self.old) self.old.pinned → PinsStand D.tells (seen_all D.Disk self.new) self.new.pinned }
     {

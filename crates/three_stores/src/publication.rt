@@ -11,6 +11,7 @@ ghost use Rattle.three_stores.specs.Change.{Has, IsOpen};
 ghost use Rattle.three_stores.specs.Given.{ChangesGiven, ActsGiven};
 ghost use Rattle.three_stores.specs.Moving.{RunsBeside, LeavesLater, publishing};
 ghost use Rattle.three_stores.specs.Pinned.{seen_all, KeepsShown};
+ghost use Rattle.three_stores.specs.Revival.{KeepsWhole};
 
 use crate::TierStore;
 use disk_model::{Disk, DiskErr};
@@ -25,6 +26,7 @@ impl<D: Disk> TierStore<D> {
         ensures changes { (files : List Filed) → ChangesGiven (RunsBeside place D.tells (seen_all D.Disk self.old) moving.old files) D.tells (publishing place files) (seen D.Disk self.old) (seen D.Disk self.new) (end_of_disk result) }
         ensures shown { KeepsShown D.tells (seen_all D.Disk self.old) (seen_all D.Disk self.new) }
         ensures leaves { LeavesLater D.tells (seen_all D.Disk self.old) (seen_all D.Disk self.new) }
+        ensures whole { KeepsWhole D.tells (seen_all D.Disk self.old) (seen_all D.Disk self.new) }
         ensures same { (self.new.catalogue ≡ self.old.catalogue) × (self.new.pinned ≡ self.old.pinned) × (self.new.limbo ≡ self.old.limbo) }
         ensures published { OnOk result (moving.new ≡ record moving.old { stage = Published }) }
         ensures unpublished { OnErr result (moving.new ≡ moving.old) }
@@ -47,6 +49,7 @@ impl<D: Disk> TierStore<D> {
         ensures acts { (files : List Filed) → ActsGiven (RunsBeside place D.tells (seen_all D.Disk self.old) moving.old files) D.tells (publishing place files) (seen D.Disk self.old) (seen D.Disk self.new) (end_of_disk result) }
         ensures shown { KeepsShown D.tells (seen_all D.Disk self.old) (seen_all D.Disk self.new) }
         ensures leaves { LeavesLater D.tells (seen_all D.Disk self.old) (seen_all D.Disk self.new) }
+        ensures whole { KeepsWhole D.tells (seen_all D.Disk self.old) (seen_all D.Disk self.new) }
         ensures keeps { KeepsRows self.old.catalogue.rows self.new.catalogue.rows }
         ensures pins { self.new.pinned ≡ self.old.pinned }
         ensures limbo { self.new.limbo ≡ self.old.limbo }

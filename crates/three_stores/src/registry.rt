@@ -11,6 +11,7 @@ ghost use Rattle.tier_store.specs.Ends.{end_of_register, end_of_switch};
 ghost use Rattle.three_stores.specs.Change.{Has, IsOpen, Changes, Acts, registering, pausing, resuming};
 ghost use Rattle.three_stores.specs.Moving.{LeavesLater};
 ghost use Rattle.three_stores.specs.Pinned.{seen_all, KeepsShown};
+ghost use Rattle.three_stores.specs.Revival.{KeepsWhole};
 
 use crate::TierStore;
 use disk_model::Disk;
@@ -24,6 +25,7 @@ impl<D: Disk> TierStore<D> {
         ensures changes { Changes D.tells (registering name.now about.now) (seen D.Disk self.old) (seen D.Disk self.new) (end_of_register result) }
         ensures shown { KeepsShown D.tells (seen_all D.Disk self.old) (seen_all D.Disk self.new) }
         ensures leaves { LeavesLater D.tells (seen_all D.Disk self.old) (seen_all D.Disk self.new) }
+        ensures whole { KeepsWhole D.tells (seen_all D.Disk self.old) (seen_all D.Disk self.new) }
         ensures keeps { KeepsRows self.old.catalogue.rows self.new.catalogue.rows }
         ensures pins { self.new.pinned ≡ self.old.pinned }
         ensures limbo { self.new.limbo ≡ self.old.limbo }
@@ -38,6 +40,7 @@ impl<D: Disk> TierStore<D> {
         ensures changes { Changes D.tells (pausing row) (seen D.Disk self.old) (seen D.Disk self.new) (end_of_switch result) }
         ensures shown { KeepsShown D.tells (seen_all D.Disk self.old) (seen_all D.Disk self.new) }
         ensures leaves { LeavesLater D.tells (seen_all D.Disk self.old) (seen_all D.Disk self.new) }
+        ensures whole { KeepsWhole D.tells (seen_all D.Disk self.old) (seen_all D.Disk self.new) }
         ensures keeps { KeepsRows self.old.catalogue.rows self.new.catalogue.rows }
         ensures pins { self.new.pinned ≡ self.old.pinned }
         ensures limbo { self.new.limbo ≡ self.old.limbo }
@@ -51,6 +54,7 @@ impl<D: Disk> TierStore<D> {
         ensures changes { Changes D.tells (resuming row) (seen D.Disk self.old) (seen D.Disk self.new) (end_of_switch result) }
         ensures shown { KeepsShown D.tells (seen_all D.Disk self.old) (seen_all D.Disk self.new) }
         ensures leaves { LeavesLater D.tells (seen_all D.Disk self.old) (seen_all D.Disk self.new) }
+        ensures whole { KeepsWhole D.tells (seen_all D.Disk self.old) (seen_all D.Disk self.new) }
         ensures keeps { KeepsRows self.old.catalogue.rows self.new.catalogue.rows }
         ensures pins { self.new.pinned ≡ self.old.pinned }
         ensures limbo { self.new.limbo ≡ self.old.limbo }
@@ -70,6 +74,7 @@ impl<D: Disk> TierStore<D> {
         ensures acts { Acts D.tells (registering name.now about.now) (seen D.Disk self.old) (seen D.Disk self.new) (end_of_register result) }
         ensures shown { KeepsShown D.tells (seen_all D.Disk self.old) (seen_all D.Disk self.new) }
         ensures leaves { LeavesLater D.tells (seen_all D.Disk self.old) (seen_all D.Disk self.new) }
+        ensures whole { KeepsWhole D.tells (seen_all D.Disk self.old) (seen_all D.Disk self.new) }
         ensures keeps { KeepsRows self.old.catalogue.rows self.new.catalogue.rows }
         ensures pins { self.new.pinned ≡ self.old.pinned }
         ensures limbo { self.new.limbo ≡ self.old.limbo }
@@ -89,6 +94,7 @@ impl<D: Disk> TierStore<D> {
         ensures acts { Acts D.tells (pausing row) (seen D.Disk self.old) (seen D.Disk self.new) (end_of_switch result) }
         ensures shown { KeepsShown D.tells (seen_all D.Disk self.old) (seen_all D.Disk self.new) }
         ensures leaves { LeavesLater D.tells (seen_all D.Disk self.old) (seen_all D.Disk self.new) }
+        ensures whole { KeepsWhole D.tells (seen_all D.Disk self.old) (seen_all D.Disk self.new) }
         ensures keeps { KeepsRows self.old.catalogue.rows self.new.catalogue.rows }
         ensures pins { self.new.pinned ≡ self.old.pinned }
         ensures limbo { self.new.limbo ≡ self.old.limbo }
@@ -106,6 +112,7 @@ impl<D: Disk> TierStore<D> {
         ensures acts { Acts D.tells (resuming row) (seen D.Disk self.old) (seen D.Disk self.new) (end_of_switch result) }
         ensures shown { KeepsShown D.tells (seen_all D.Disk self.old) (seen_all D.Disk self.new) }
         ensures leaves { LeavesLater D.tells (seen_all D.Disk self.old) (seen_all D.Disk self.new) }
+        ensures whole { KeepsWhole D.tells (seen_all D.Disk self.old) (seen_all D.Disk self.new) }
         ensures keeps { KeepsRows self.old.catalogue.rows self.new.catalogue.rows }
         ensures pins { self.new.pinned ≡ self.old.pinned }
         ensures limbo { self.new.limbo ≡ self.old.limbo }

@@ -1,8 +1,8 @@
 // The retirement: the oldest files of a row leave a store's list.
 //
 // They go to limbo first, so that what is pinned is there whatever comes of the commit. Those that no pin names are removed behind it.
-ghost use Rattle.std.specs.Prelude.{◌≡◌, ◌≤◌, ◌<◌, ◌+◌, ℕ, Ok, Some, None, OnErr, IsErrOf, Contains, length, map, slice_get};
-ghost use Rattle.disk_model.specs.Files.{Rose};
+ghost use Rattle.std.specs.Prelude.{◌≡◌, ◌≤◌, ◌<◌, ◌+◌, ℕ, List, All, Ok, Some, None, OnErr, IsErrOf, Contains, length, map, slice_get};
+ghost use Rattle.disk_model.specs.Files.{Name, Rose};
 ghost use Rattle.pv_catalog.specs.Rows.{KeepsRows};
 ghost use Rattle.store_manifest.specs.Manifest.{ManifestState};
 ghost use Rattle.tier_store.specs.Ends.{end_of_disk};
@@ -12,7 +12,9 @@ ghost use Rattle.three_stores.specs.Seen.{seen, IsSettled};
 ghost use Rattle.three_stores.specs.Change.{Has, IsOpen, Changes, Acts};
 ghost use Rattle.three_stores.specs.Limbo.{LimboStands};
 ghost use Rattle.three_stores.specs.Pinned.{seen_all, KeepsShown};
-ghost use Rattle.three_stores.specs.Retiring.{oldest, oldest_entries, drop_entry, retired_of, dropping, retiring, HasGrown, HasNotGrown, Remain, ShowsKept, HandedOver, StayOrEnter};
+ghost use Rattle.three_stores.specs.Retiring.{AreApart, oldest, oldest_entries, drop_entry, retired_of, dropping, retiring, HasGrown, HasNotGrown, Remain, ShowsKept, HandedOver, StayOrEnter};
+ghost use Rattle.three_stores.specs.Moving.{LeavesFiles, LeavesNames};
+ghost use Rattle.three_stores.specs.Revival.{KeepsWholeOf};
 ghost use Rattle.three_stores.specs.declared.retirement.RetireEnd.TheVariants.{Again, Retired as IsRetired};
 
 use crate::TierStore;
@@ -62,6 +64,7 @@ impl<D: Disk> TierStore<D> {
 
         ensures changes { Changes D.tells (dropping place row n) (seen D.Disk self.old) (seen D.Disk self.new) (end_of_disk result) }
         ensures shown { KeepsShown D.tells (seen_all D.Disk self.old) (seen_all D.Disk self.new) }
+        ensures leaves { LeavesFiles D.tells (seen_all D.Disk self.old) (seen_all D.Disk self.new) }
         ensures catalogue { self.new.catalogue ≡ self.old.catalogue }
         ensures pins { self.new.pinned ≡ self.old.pinned }
         ensures limbo { self.new.limbo ≡ self.old.limbo }
@@ -84,6 +87,8 @@ impl<D: Disk> TierStore<D> {
 
         ensures changes { Changes D.tells (retiring place row published.now (Remain D.tells (seen D.Disk self.new) self.old.pinned self.old.limbo.items self.new.limbo.items)) (seen D.Disk self.old) (seen D.Disk self.new) (end_of_disk result) }
         ensures shown { ShowsKept D.tells self.old.pinned (seen_all D.Disk self.old) (seen_all D.Disk self.new) }
+        ensures leaves { (held : Stores) (names : List Name) → Has D.tells (seen D.Disk self.old) held → All (λ (n : Name). 2 ≤ n.0) names → AreApart place row (length published.now) held names → LeavesNames names D.tells (seen_all D.Disk self.old) (seen_all D.Disk self.new) }
+        ensures whole { (held : Stores) → Has D.tells (seen D.Disk self.old) held → KeepsWholeOf D.tells (seen_all D.Disk self.old) (seen_all D.Disk self.new) held }
         ensures again { (len copied : ℕ) → result ≡ Ok (Again len copied) → self.new.limbo ≡ self.old.limbo }
         ensures failed { OnErr result (StayOrEnter (seen D.Disk self.new) place row (length published.now) self.old.limbo.items self.new.limbo.items) }
         ensures handed { IsErrOf result DiskErr.Fault → HandedOver (seen D.Disk self.new) place row (length published.now) self.old.limbo.items self.new.limbo.items }
@@ -130,6 +135,9 @@ impl<D: Disk> TierStore<D> {
         ensures handed { IsSettled (seen D.Disk self.old) → IsErrOf result DiskErr.Fault → HandedOver (seen D.Disk self.new) place row (length published.now) self.old.limbo.items self.new.limbo.items }
         ensures cause { (removed : _) → result ≡ Ok (IsRetired removed) → IsErrOf removed DiskErr.Fault → Rose (D.faults self.old.disk) (D.faults self.new.disk) }
         ensures shown { ShowsKept D.tells self.old.pinned (seen_all D.Disk self.old) (seen_all D.Disk self.new) }
+        ensures leaves { (before after : Stores) (names : List Name) → IsOpen D.tells (seen D.Disk self.old) before after → All (λ (n : Name). 2 ≤ n.0) names
+            → AreApart place row (length published.now) before names → AreApart place row (length published.now) after names → LeavesNames names D.tells (seen_all D.Disk self.old) (seen_all D.Disk self.new) }
+        ensures whole { (before after : Stores) → IsOpen D.tells (seen D.Disk self.old) before after → KeepsWholeOf D.tells (seen_all D.Disk self.old) (seen_all D.Disk self.new) before }
         ensures stands { LimboStands (seen D.Disk self.new) self.new.limbo.items }
         ensures keeps { KeepsRows self.old.catalogue.rows self.new.catalogue.rows }
         ensures pins { self.new.pinned ≡ self.old.pinned }

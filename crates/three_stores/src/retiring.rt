@@ -4,7 +4,7 @@
 // them they count for nothing.
 ghost use Rattle.std.specs.Prelude.{◌≡◌, ◌<◌, ◌+◌, ◌++◌, [], List, All, Contains, IfOk, OnOk, OnErr, IsErrOf, IsTrue, None, Some, true, false, length, map, slice_get, take};
 ghost use Rattle.std.specs.List.{list_any};
-ghost use Rattle.disk_model.specs.Files.{Rose};
+ghost use Rattle.disk_model.specs.Files.{Name, Rose};
 ghost use Rattle.disk_model.specs.Past.{Only};
 ghost use Rattle.disk_model.specs.Record.{is_same};
 ghost use Rattle.store_manifest.specs.Manifest.{ManifestState};
@@ -15,7 +15,9 @@ ghost use Rattle.three_stores.specs.Seen.{seen};
 ghost use Rattle.three_stores.specs.Change.{Has, Changes};
 ghost use Rattle.three_stores.specs.Pinned.{seen_all, KeepsShown};
 ghost use Rattle.three_stores.specs.Limbo.{LimboStands, IsListedName, Stay, StayUnlisted, LeaveListed, LeavesKept, AreFree, staying};
+ghost use Rattle.three_stores.specs.Moving.{LeavesNames};
 ghost use Rattle.three_stores.specs.Retiring.{IsFree, Stays, names_in, oldest_entries, drop_entry, retired_of};
+ghost use Rattle.three_stores.specs.Revival.{KeepsWhole};
 ghost use Rattle.three_stores.specs.declared.limbo.Retired.{Retired as RetiredValue};
 
 use crate::TierStore;
@@ -116,6 +118,7 @@ impl<D: Disk> TierStore<D> {
         ensures drops { (m : ManifestState) → slice_get self.old.manifests.items place ≡ Some m → IfOk result (λ l. l.drops.items ≡ map drop_entry (oldest_entries row n m.entries)) }
         ensures entered { IfOk result (λ l. (kept : List RetiredValue) × StayUnlisted (seen D.Disk self.old) self.old.limbo.items kept × (self.new.limbo.items ≡ kept ++ l.files.items)) }
         ensures failed { OnErr result (LeaveListed (seen D.Disk self.old) self.old.limbo.items self.new.limbo.items) }
+        ensures whole { OnErr result (KeepsWhole D.tells (seen_all D.Disk self.old) (seen_all D.Disk self.new)) }
         ensures shown { KeepsShown D.tells (seen_all D.Disk self.old) (seen_all D.Disk self.new) }
         ensures same { (self.new.catalogue ≡ self.old.catalogue) × (self.new.manifests ≡ self.old.manifests) × (self.new.disk ≡ self.old.disk) × (self.new.pinned ≡ self.old.pinned) }
     {
@@ -139,6 +142,8 @@ impl<D: Disk> TierStore<D> {
 
         ensures changes { Changes D.tells staying (seen D.Disk self.old) (seen D.Disk self.new) (Done result) }
         ensures leaves { LeavesKept D.tells self.old.pinned (names_in self.new.limbo.items) (seen_all D.Disk self.old) (seen_all D.Disk self.new) }
+        ensures others { (names : List Name) → All (λ (r : RetiredValue). Contains names r.name → ⊥) files.now → LeavesNames names D.tells (seen_all D.Disk self.old) (seen_all D.Disk self.new) }
+        ensures whole { KeepsWhole D.tells (seen_all D.Disk self.old) (seen_all D.Disk self.new) }
         ensures stands { LimboStands (seen D.Disk self.new) self.new.limbo.items }
         ensures left { Stay (λ r. Stays self.old.pinned files.now r.name) (λ r. IsFree self.old.pinned files.now r.name) self.old.limbo.items self.new.limbo.items }
         ensures gone { IsTrue D.tells → OnOk result (AreFree self.old.pinned [] (λ n. Only (D.past self.new.disk) n None) files.now) }

@@ -8,6 +8,7 @@ ghost use Rattle.three_stores.specs.Seen.{seen, AtEach, IsSettled, granularities
 ghost use Rattle.three_stores.specs.Change.{IsOpen, HasEither, OnlyReads};
 ghost use Rattle.three_stores.specs.Moving.{LeavesLater};
 ghost use Rattle.three_stores.specs.Pinned.{seen_all, KeepsShown};
+ghost use Rattle.three_stores.specs.Revival.{KeepsWhole};
 
 use crate::TierStore;
 use disk_model::{Disk, DiskErr};
@@ -77,6 +78,7 @@ impl<D: Disk> TierStore<D> {
         ensures nothing { IsSettled (seen D.Disk self.old) → (result ≡ Ok tt) × (self.new ≡ self.old) }
         ensures reads { OnlyReads D.tells (seen D.Disk self.old) (seen D.Disk self.new) (end_of_disk result) }
         ensures leaves { LeavesLater D.tells (seen_all D.Disk self.old) (seen_all D.Disk self.new) }
+        ensures whole { KeepsWhole D.tells (seen_all D.Disk self.old) (seen_all D.Disk self.new) }
         ensures opened { IsTrue D.tells → D.opened self.new.disk ≡ D.opened self.old.disk }
     {
         if !self.catalogue.is_sound() {

@@ -9,6 +9,7 @@ ghost use Rattle.three_stores.specs.Change.{Has, IsOpen, Changes, Acts};
 ghost use Rattle.three_stores.specs.Moving.{LeavesNames};
 ghost use Rattle.three_stores.specs.Pinned.{seen_all, KeepsShown};
 ghost use Rattle.three_stores.specs.Limbo.{LimboStands, IsSwept, AreGone, LeavesKept, staying};
+ghost use Rattle.three_stores.specs.Revival.{KeepsWhole};
 
 use crate::TierStore;
 use crate::limbo::leave_listed;
@@ -26,6 +27,7 @@ impl<D: Disk> TierStore<D> {
         ensures gone { IsTrue D.tells → OnOk result.removed (AreGone (seen D.Disk self.new) self.old.pinned copied.now self.old.limbo.items) }
         ensures cause { IsErrOf result.removed DiskErr.Fault → Rose (D.faults self.old.disk) (D.faults self.new.disk) }
         ensures leaves { LeavesKept D.tells self.old.pinned copied.now (seen_all D.Disk self.old) (seen_all D.Disk self.new) }
+        ensures whole { KeepsWhole D.tells (seen_all D.Disk self.old) (seen_all D.Disk self.new) }
         ensures copied { LeavesNames copied.now D.tells (seen_all D.Disk self.old) (seen_all D.Disk self.new) }
         ensures stands { LimboStands (seen D.Disk self.new) self.new.limbo.items }
         ensures same { (self.new.catalogue ≡ self.old.catalogue) × (self.new.manifests ≡ self.old.manifests) × (self.new.pinned ≡ self.old.pinned) }
@@ -52,6 +54,7 @@ impl<D: Disk> TierStore<D> {
         ensures cause { IfOk result (λ swept. IsErrOf swept.removed DiskErr.Fault → Rose (D.faults self.old.disk) (D.faults self.new.disk)) }
         ensures failed { OnErr result ((self.new.limbo ≡ self.old.limbo) × KeepsShown D.tells (seen_all D.Disk self.old) (seen_all D.Disk self.new)) }
         ensures leaves { LeavesKept D.tells self.old.pinned copied.now (seen_all D.Disk self.old) (seen_all D.Disk self.new) }
+        ensures whole { KeepsWhole D.tells (seen_all D.Disk self.old) (seen_all D.Disk self.new) }
         ensures copied { All (λ (n : Name). 2 ≤ n.0) copied.now → LeavesNames copied.now D.tells (seen_all D.Disk self.old) (seen_all D.Disk self.new) }
         ensures stands { LimboStands (seen D.Disk self.new) self.new.limbo.items }
         ensures keeps { KeepsRows self.old.catalogue.rows self.new.catalogue.rows }

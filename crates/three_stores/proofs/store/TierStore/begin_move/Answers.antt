@@ -40,3 +40,9 @@ returns-clause-settles g c =
     (record { keeps = c.review.ensures.keeps; granularity = c.review.ensures.granularity; reads = c.review.ensures.reads })
     (λ held has. told says held c.begin_settled.result (c.begin_settled.ensures.says held has) c.begin_settled.ensures.memory)
     (not_failed c.begin_settled.result c.begin_settled.ensures.memory)
+
+pub returns-clause-leaves : goal.returns-clause-leaves
+returns-clause-leaves g c = c.review.ensures.leaves
+
+pub returns-clause-whole : goal.returns-clause-whole
+returns-clause-whole g c = c.review.ensures.whole

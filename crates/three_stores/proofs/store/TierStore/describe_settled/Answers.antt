@@ -12,6 +12,7 @@ use Rattle.three_stores.proofs.ReadsThen.{described_cause, has_read, says_descri
 use Rattle.three_stores.proofs.Settled.{cut_settles, same_seen}
 use Rattle.three_stores.proofs.Sparing.{same_shown}
 use Rattle.three_stores.proofs.LeavingNames.{leaves_then, read_leaves}
+use Rattle.three_stores.proofs.WholeCalls.{same_whole, whole_then}
 use Rattle.three_stores.proofs.store.TierStore.describe_settled.Goals as goal
 
 pub describe_named-requires : goal.describe_named-requires
@@ -66,3 +67,11 @@ returns-clause-leaves g c =
     let says = c.describe_named.ensures in
     leaves_then g.D.Disk.tells _ _ _ c.review.ensures.leaves
     (read_leaves g.D.Disk.tells _ _ (ap (λ v. v.items) says.same.3) (λ told. (says.reads told).same) (λ told. (says.reads told).same_opened) (λ told. (says.reads told).any_moment))
+
+pub returns-clause-whole : goal.returns-clause-whole
+returns-clause-whole g c =
+    let says = c.describe_named.ensures in
+    let was = c.requires.begun in
+    let held = has_one g.D.Disk.tells _ was.0 was.1 (c.in_ok-review.ensures.settled was.0 was.1 was.2) in
+    whole_then g.D.Disk.tells _ _ _ c.review.ensures.whole
+    (same_whole g.D.Disk.tells _ _ held.1.known.three says.same.0 (ap (λ v. v.items) says.same.1) (ap (λ v. v.items) says.same.3) (λ told. (says.reads told).same) (λ told. (says.reads told).same_opened) (λ told. (says.reads told).any_moment))

@@ -1,10 +1,12 @@
 use Rattle.std.proofs.Common.{◌+◌, Err, ◌∙◌, ap, refl, sym, subst, arith}
 use Rattle.std.specs.Prelude.{Result}
 use Rattle.std.proofs.lemmas.Result.{err_from_is_err_and}
+use Rattle.disk_model.specs.Files.{Name}
 use Rattle.disk_model.specs.declared.disk.DiskErr.{DiskErr}
 use Rattle.store_manifest.proofs.Written.{batch_length}
 use Rattle.store_manifest.specs.Entries.{AllCanFollow}
 use Rattle.tier_store.specs.Ends.{end_of_disk}
+use Rattle.tier_store.specs.Three.{Anything}
 use Rattle.three_stores.specs.Retiring.{dropping}
 use Rattle.three_stores.specs.Seen.{seen_on}
 use Rattle.three_stores.specs.Stores.{tier}
@@ -13,6 +15,7 @@ use Rattle.three_stores.proofs.Drops.{oldest_follow}
 use Rattle.three_stores.proofs.Places.{manifest_here, holding, within_three}
 use Rattle.three_stores.proofs.RelistCall.{can_relist, beside_all, call_done, call_cut}
 use Rattle.three_stores.proofs.Removals.{lists_in_order}
+use Rattle.three_stores.proofs.LeavingNames.{commit_leaves_files}
 use Rattle.three_stores.proofs.store.TierStore.drop_oldest.Goals as goal
 
 pub relist-requires-clause-sound : goal.relist-requires-clause-sound
@@ -94,3 +97,21 @@ returns-in_err-relist-clause-shown g c =
     let here = manifest_here self.manifests.items c.args.place m c.index_mut.ensures.value c.requires.within in
     dropped_shown g.D.Disk.tells c.args.place c.args.row c.args.n _ _ was.0 was.1 (within_three self.manifests.items c.args.place m was.1.known.three here) (end_of_disk c.from_residual.result) (returns-in_err-relist-clause-changes g c) refl (λ f part. c.requires.handed was.0 f was.1 part)
     m here (λ tells. c.relist.ensures.elsewhere tells)
+
+pub returns-clause-leaves : goal.returns-clause-leaves
+returns-clause-leaves g c =
+    let self = c.args.self.now in
+    let was = c.requires.has in
+    let m = c.index_mut.result.now in
+    let here = manifest_here self.manifests.items c.args.place m c.index_mut.ensures.value c.requires.within in
+    let says = c.relist.ensures in
+    commit_leaves_files g.D.Disk.tells _ _ m.journal.name Anything refl (λ tells. ap (λ (n : Name). n.0) ((was.1.disk tells).each c.args.place m here).named) (λ tells n apart. says.elsewhere tells n apart) says.opened says.frame
+
+pub returns-in_err-relist-clause-leaves : goal.returns-in_err-relist-clause-leaves
+returns-in_err-relist-clause-leaves g c =
+    let self = c.args.self.now in
+    let was = c.requires.has in
+    let m = c.index_mut.result.now in
+    let here = manifest_here self.manifests.items c.args.place m c.index_mut.ensures.value c.requires.within in
+    let says = c.relist.ensures in
+    commit_leaves_files g.D.Disk.tells _ _ m.journal.name Anything refl (λ tells. ap (λ (n : Name). n.0) ((was.1.disk tells).each c.args.place m here).named) (λ tells n apart. says.elsewhere tells n apart) says.opened says.frame

@@ -13,6 +13,9 @@ use Rattle.three_stores.proofs.Handing.{entries_rows, leave_by_list, entered_sho
 use Rattle.three_stores.proofs.Places.{manifest_here, one_manifest}
 use Rattle.three_stores.proofs.Removals.{lists_in_order, none_left}
 use Rattle.three_stores.proofs.Staying.{stay_unlisted}
+use Rattle.three_stores.specs.Pinned.{beside}
+use Rattle.three_stores.specs.Revival.{KeepsWhole}
+use Rattle.three_stores.proofs.WholeCalls.{unlisted_whole}
 use Rattle.three_stores.proofs.store.TierStore.hand_over.Goals as goal
 
 pub all_retired-requires : goal.all_retired-requires
@@ -137,3 +140,24 @@ returns-clause-shown g c =
     let known = subst (λ (xs : List ManifestState). AtEach xs (λ i m. InOrder m.entries) → Stay (λ r. ListsPlace xs r → ⊥) (ListsPlace xs) self.limbo.items kept) c.deref.ensures.value c.leave_listed.ensures in
     let stay = stay_unlisted at held.0 self.limbo.items kept held.1.known c.requires.stands (known (lists_in_order self.catalogue ms held.0 held.1.known)) in
     entered_shown disk.tells at self.limbo.items kept c.in_ok-entering.entering.items c.append.new.self.items held.0 held.1 stay (inl c.in_ok-append.ensures.items)
+
+pub returns-in_err-files-clause-whole : goal.returns-in_err-files-clause-whole
+returns-in_err-files-clause-whole g c = let p = err_from_is_err_and c.from_residual.result c.from_residual.ensures.1 in rw p.1 (λ stands files whole. (files, whole))
+
+pub returns-in_err-entering-clause-whole : goal.returns-in_err-entering-clause-whole
+returns-in_err-entering-clause-whole g c = let p = err_from_is_err_and c.from_residual-in_err-entering.result c.from_residual-in_err-entering.ensures.1 in rw p.1 (λ stands files whole. (files, whole))
+
+pub returns-in_err-drops-clause-whole : goal.returns-in_err-drops-clause-whole
+returns-in_err-drops-clause-whole g c = let p = err_from_is_err_and c.from_residual-in_err-drops.result c.from_residual-in_err-drops.ensures.1 in rw p.1 (λ stands files whole. (files, whole))
+
+pub returns-in_err-append-clause-whole : goal.returns-in_err-append-clause-whole
+returns-in_err-append-clause-whole g c =
+    let self = c.args.self.now in
+    let disk = g.D.Disk in
+    let at = seen_on disk.files disk.opened disk.past disk.faults self.catalogue self.manifests.items self.disk in
+    let held = c.requires.has in
+    let kept = c.leave_listed.new.limbo.items in
+    let known = subst (λ (xs : List ManifestState). AtEach xs (λ i m. InOrder m.entries) → Stay (λ r. ListsPlace xs r → ⊥) (ListsPlace xs) self.limbo.items kept) c.deref.ensures.value c.leave_listed.ensures in
+    let stay = stay_unlisted at held.0 self.limbo.items kept held.1.known c.requires.stands (known (lists_in_order self.catalogue self.manifests.items held.0 held.1.known)) in
+    let p = err_from_is_err_and c.from_residual-in_err-append.result c.from_residual-in_err-append.ensures.1 in
+    rw p.1 (subst (λ (l : List Retired). KeepsWhole disk.tells (beside at self.limbo.items) (beside at l)) (sym c.in_err-append.ensures.items) (unlisted_whole disk.tells at self.limbo.items kept c.requires.stands stay held.1.known.three))

@@ -1,10 +1,13 @@
-use Rattle.std.proofs.Common.{◌≡◌, ◌≤◌, ◌<◌, ℕ, max, List, length, sym, ◌∙◌, ap, subst, arith}
+use Rattle.std.proofs.Common.{◌≡◌, ◌≤◌, ◌<◌, inl, ℕ, max, List, length, sym, ◌∙◌, ap, subst, arith}
 use Rattle.std.proofs.lemmas.Option.{same_Some}
 use Rattle.disk_model.specs.Files.{Name}
 use Rattle.pv_catalog.specs.declared.row.Row.{Row}
 use Rattle.tier_store.specs.Held.{file_of}
 use Rattle.three_stores.proofs.There.{row_listed, listed_file, file_there, front_there, opened_has}
 use Rattle.three_stores.proofs.Showing.{read_shown}
+use Rattle.three_stores.specs.Pinned.{beside, IsThereTo}
+use Rattle.three_stores.specs.Seen.{seen_on}
+use Rattle.three_stores.proofs.OpenedBeside.{listed_to, opened_beside}
 use Rattle.three_stores.proofs.store.TierStore.open_listed.Goals as goal
 
 pub file_name-requires : goal.file_name-requires
@@ -59,3 +62,28 @@ returns-clause-shown g c = let self = c.args.self.now in read_shown g.D.Disk.fil
 
 pub returns-in_err-reader-clause-shown : goal.returns-in_err-reader-clause-shown
 returns-in_err-reader-clause-shown g c = let self = c.args.self.now in read_shown g.D.Disk.files g.D.Disk.opened g.D.Disk.past g.D.Disk.faults g.D.Disk.tells self.catalogue self.manifests.items self.limbo.items self.disk c.open_file.new.self c.open_file.ensures.same
+
+pub returns-in_err-reader-clause-beside : goal.returns-in_err-reader-clause-beside
+returns-in_err-reader-clause-beside g c =
+    let self = c.args.self.now in
+    let disk = g.D.Disk in
+    let e = c.args.entry.now in
+    let len = e.len in
+    let was = c.requires.has in
+    let named : c.in_ok-name.name ≡ file_of (c.args.store, self.catalogue.rows) e = c.in_ok-name.ensures ∙ ap (λ (r : List Row). file_of (c.args.store, r) e) c.rows.ensures.value in
+    let there : IsThereTo (beside (seen_on disk.files disk.opened disk.past disk.faults self.catalogue self.manifests.items self.disk) self.limbo.items) c.in_ok-name.name len = inl (listed_to disk.tells _ was.0 c.args.store e c.in_ok-name.name was.1 c.requires.listed named) in
+    opened_beside g.D.Disk.files g.D.Disk.opened g.D.Disk.past g.D.Disk.faults g.D.Disk.tells self.catalogue self.manifests.items self.limbo.items self.disk c.open_file.new.self c.in_ok-name.name len there c.open_file.ensures.crash c.open_file.ensures.same (λ tells. let is : g.D.Disk.opened c.open_file.new.self c.in_ok-name.name ≡ g.D.Disk.opened self.disk c.in_ok-name.name = ap (λ (o : Name → ℕ). o c.in_ok-name.name) (c.in_err-reader.ensures.unopened tells) in omega (arith, is)) c.open_file.ensures.others
+
+pub returns-clause-beside : goal.returns-clause-beside
+returns-clause-beside g c =
+    let self = c.args.self.now in
+    let disk = g.D.Disk in
+    let e = c.args.entry.now in
+    let len = e.len in
+    let was = c.requires.has in
+    let named : c.in_ok-name.name ≡ file_of (c.args.store, self.catalogue.rows) e = c.in_ok-name.ensures ∙ ap (λ (r : List Row). file_of (c.args.store, r) e) c.rows.ensures.value in
+    let there : IsThereTo (beside (seen_on disk.files disk.opened disk.past disk.faults self.catalogue self.manifests.items self.disk) self.limbo.items) c.in_ok-name.name len = inl (listed_to disk.tells _ was.0 c.args.store e c.in_ok-name.name was.1 c.requires.listed named) in
+    opened_beside g.D.Disk.files g.D.Disk.opened g.D.Disk.past g.D.Disk.faults g.D.Disk.tells self.catalogue self.manifests.items self.limbo.items self.disk c.open_file.new.self c.in_ok-name.name len there c.open_file.ensures.crash c.open_file.ensures.same (λ tells. let is : g.D.Disk.opened c.open_file.new.self c.in_ok-name.name ≡ max (g.D.Disk.opened self.disk c.in_ok-name.name) len = c.in_ok-reader.ensures.opened tells in omega (arith, is)) c.open_file.ensures.others
+
+pub returns-in_err-name-clause-beside : goal.returns-in_err-name-clause-beside
+returns-in_err-name-clause-beside g c held may i move files runs = runs

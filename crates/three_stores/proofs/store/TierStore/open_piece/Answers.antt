@@ -11,3 +11,9 @@ returns-clause-piece g c p piece granted here = subst (IsOpened g.D.Disk.tells g
 
 pub returns-clause-shown : goal.returns-clause-shown
 returns-clause-shown g c = let same = c.read_piece.ensures.same in same_shown g.D.Disk.tells _ _ same.0 (ap (λ v. v.items) same.1) (ap (λ v. v.items) same.3) c.read_piece.ensures.reads.files
+
+pub returns-clause-beside : goal.returns-clause-beside
+returns-clause-beside g c = c.read_piece.ensures.beside
+
+pub returns-clause-whole : goal.returns-clause-whole
+returns-clause-whole g c stand = c.read_piece.ensures.whole stand

@@ -6,6 +6,7 @@ use Rattle.three_stores.specs.Change.{pausing}
 use Rattle.tier_store.proofs.BatchCalls.{still_within}
 use Rattle.three_stores.proofs.Acting.{has_one, cut_acts, then_acts}
 use Rattle.three_stores.proofs.LeavingNames.{leaves_then}
+use Rattle.three_stores.proofs.WholeCalls.{whole_then}
 use Rattle.three_stores.proofs.store.TierStore.pause.Goals as goal
 
 pub pause_row-requires-clause-row : goal.pause_row-requires-clause-row
@@ -27,3 +28,6 @@ returns-clause-shown g c name bytes was = c.pause_row.ensures.shown name bytes (
 
 pub returns-clause-leaves : goal.returns-clause-leaves
 returns-clause-leaves g c = leaves_then g.D.Disk.tells _ _ _ c.review.ensures.leaves c.pause_row.ensures.leaves
+
+pub returns-clause-whole : goal.returns-clause-whole
+returns-clause-whole g c = whole_then g.D.Disk.tells _ _ _ c.review.ensures.whole c.pause_row.ensures.whole

@@ -10,6 +10,7 @@ use Rattle.three_stores.proofs.OpeningPieces.{stand_kept}
 use Rattle.three_stores.proofs.PinsMore.{err_end, not_failed, same_pins, says_from, stands}
 use Rattle.three_stores.proofs.Settled.{cut_settles, same_all, same_seen, then_settles}
 use Rattle.three_stores.proofs.LeavingNames.{leaves_then, same_disk}
+use Rattle.three_stores.specs.Revival.{KeepsWhole}
 use Rattle.three_stores.proofs.store.TierStore.pin_settled.Goals as goal
 
 pub pin_named-requires : goal.pin_named-requires
@@ -92,3 +93,16 @@ returns-clause-leaves g c =
     let same = c.pin_named.ensures.same in
     leaves_then disk.tells _ _ _ c.review.ensures.leaves
     (same_disk disk.files disk.opened disk.past disk.faults disk.tells mid.catalogue new.catalogue mid.manifests.items new.manifests.items mid.limbo.items new.limbo.items mid.disk new.disk same.2 (ap (λ v. v.items) c.pin_named.ensures.limbo))
+
+pub returns-clause-whole : goal.returns-clause-whole
+returns-clause-whole g c =
+    let old = c.args.self.now in
+    let mid = c.review.new.self in
+    let new = c.pin_named.new.self in
+    let disk = g.D.Disk in
+    let before = seen_on disk.files disk.opened disk.past disk.faults old.catalogue old.manifests.items old.disk in
+    let at = seen_on disk.files disk.opened disk.past disk.faults mid.catalogue mid.manifests.items mid.disk in
+    let same = c.pin_named.ensures.same in
+    subst (λ (s : SeenAll). KeepsWhole disk.tells (beside before old.limbo.items) s)
+    (same_all at _ mid.limbo.items new.limbo.items (same_seen disk.files disk.opened disk.past disk.faults mid.catalogue new.catalogue mid.manifests.items new.manifests.items mid.disk new.disk same.0 (ap (λ m. m.items) same.1) same.2) (ap (λ l. l.items) c.pin_named.ensures.limbo))
+    c.review.ensures.whole

@@ -14,6 +14,7 @@ use Rattle.three_stores.specs.Stores.{Stores}
 use Rattle.three_stores.proofs.Acting.{cut_given, is_one, settled_one, then_given}
 use Rattle.three_stores.proofs.BesideMoves.{beside_itself, runs_still}
 use Rattle.three_stores.proofs.LeavingNames.{later_names, leaves_then}
+use Rattle.three_stores.proofs.WholeCalls.{whole_then}
 use Rattle.three_stores.proofs.store.TierStore.publish.Goals as goal
 
 -- the settling leaves what runs
@@ -58,3 +59,6 @@ returns-clause-leaves g c = leaves_then g.D.Disk.tells _ _ _ c.review.ensures.le
 
 pub returns-clause-keeps : goal.returns-clause-keeps
 returns-clause-keeps g c = subst (λ (s : CatalogueState). KeepsRows c.args.self.now.catalogue.rows s.rows) (sym c.publish_settled.ensures.same.0) c.review.ensures.keeps
+
+pub returns-clause-whole : goal.returns-clause-whole
+returns-clause-whole g c = whole_then g.D.Disk.tells _ _ _ c.review.ensures.whole c.publish_settled.ensures.whole

@@ -1,16 +1,21 @@
 use Rattle.std.proofs.Common.{◌≡◌, ℕ, ◌≤◌, ◌+◌, ap, refl, arith}
 use Rattle.disk_model.proofs.Passing.{passes_weaker}
 use Rattle.disk_model.specs.Files.{At, Name}
+use Rattle.pv_catalog.proofs.Standing.{keeps_same}
+use Rattle.tier_store.specs.Ends.{end_of_disk}
 use Rattle.tier_store.specs.Flush.{with_files}
 use Rattle.tier_store.specs.Three.{Anything, Beside}
+use Rattle.three_stores.specs.Moving.{publishing}
 use Rattle.three_stores.specs.Pinned.{beside}
 use Rattle.three_stores.specs.Seen.{seen_on}
 use Rattle.three_stores.specs.Stores.{tier}
 use Rattle.three_stores.proofs.FlushCall.{on_store}
-use Rattle.three_stores.proofs.LeavingNames.{commit_leaves}
-use Rattle.three_stores.proofs.MovedFiles.{has_copied, is_ahead, listed_shown, place_low, same_size}
+use Rattle.three_stores.proofs.LeavingNames.{commit_leaves, commit_leaves_files}
+use Rattle.three_stores.proofs.MovedFiles.{goes_on, has_copied, is_ahead, listed_shown, place_low, same_size}
 use Rattle.three_stores.proofs.Places.{manifest_here}
 use Rattle.three_stores.proofs.PublishCall.{publish_ends}
+use Rattle.three_stores.proofs.Showing.{ends_held}
+use Rattle.three_stores.proofs.WholeCalls.{call_whole}
 use Rattle.three_stores.proofs.store.TierStore.publish_settled.Goals as goal
 
 same_opened : {opened after : Name → ℕ} (n : Name) → after ≡ opened → after n ≤ opened n
@@ -90,3 +95,18 @@ returns-clause-leaves g c =
     let here = manifest_here self.manifests.items c.args.place m c.index_mut.ensures.value (place_low c.args.place disk.tells all c.args.moving.now runs.0 runs.1 runs.3) in
     let says = c.publish.ensures in
     commit_leaves disk.tells all _ m.journal.name Anything refl (λ tells. ap (λ (n : Name). n.0) ((runs.2.disk tells).each c.args.place m here).named) (λ tells n apart. says.elsewhere tells n apart) says.opened says.frame
+
+pub returns-clause-whole : goal.returns-clause-whole
+returns-clause-whole g c =
+    let self = c.args.self.now in
+    let disk = g.D.Disk in
+    let runs = c.requires.runs in
+    let m = c.index_mut.result.now in
+    let all = beside (seen_on disk.files disk.opened disk.past disk.faults self.catalogue self.manifests.items self.disk) self.limbo.items in
+    let here = manifest_here self.manifests.items c.args.place m c.index_mut.ensures.value (place_low c.args.place disk.tells all c.args.moving.now runs.0 runs.1 runs.3) in
+    let says = c.publish.ensures in
+    let change = returns-clause-changes g c runs.0 in
+    call_whole disk.tells all _ runs.2.known.three refl
+    (λ name h. ends_held disk.tells (publishing c.args.place runs.0) all.stores _ runs.1 (end_of_disk c.publish.result) name 0 runs.2 (λ made by. goes_on c.args.place disk.tells all runs.1 runs.0 runs.3.ahead m here runs.2 made by) (change.ends runs.1 runs.2 runs.3) h)
+    (keeps_same self.catalogue.rows) change.costs.granularity
+    (commit_leaves_files disk.tells all _ m.journal.name Anything refl (λ tells. ap (λ (n : Name). n.0) ((runs.2.disk tells).each c.args.place m here).named) (λ tells n apart. says.elsewhere tells n apart) says.opened says.frame)

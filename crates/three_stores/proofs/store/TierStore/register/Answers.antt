@@ -6,6 +6,7 @@ use Rattle.tier_store.specs.Ends.{end_of_disk, end_of_register}
 use Rattle.three_stores.specs.Change.{registering}
 use Rattle.three_stores.proofs.Acting.{has_one, cut_acts, then_acts}
 use Rattle.three_stores.proofs.LeavingNames.{leaves_then}
+use Rattle.three_stores.proofs.WholeCalls.{whole_then}
 use Rattle.three_stores.proofs.store.TierStore.register.Goals as goal
 
 pub register_row-requires : goal.register_row-requires
@@ -28,3 +29,6 @@ returns-clause-shown g c name bytes was = c.register_row.ensures.shown name byte
 
 pub returns-clause-leaves : goal.returns-clause-leaves
 returns-clause-leaves g c = leaves_then g.D.Disk.tells _ _ _ c.review.ensures.leaves c.register_row.ensures.leaves
+
+pub returns-clause-whole : goal.returns-clause-whole
+returns-clause-whole g c = whole_then g.D.Disk.tells _ _ _ c.review.ensures.whole c.register_row.ensures.whole

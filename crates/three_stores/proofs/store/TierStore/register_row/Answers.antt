@@ -4,7 +4,8 @@ use Rattle.tier_store.specs.Ends.{end_of_register}
 use Rattle.three_stores.specs.Change.{registering}
 use Rattle.three_stores.proofs.RowCalls.{register_changes}
 use Rattle.three_stores.proofs.Showing.{rows_shown, rows_keep, registers_on}
-use Rattle.three_stores.proofs.LeavingNames.{commit_leaves}
+use Rattle.three_stores.proofs.LeavingNames.{commit_leaves, commit_leaves_files}
+use Rattle.three_stores.proofs.WholeCalls.{rows_whole}
 use Rattle.three_stores.proofs.store.TierStore.register_row.Goals as goal
 
 pub returns-clause-changes : goal.returns-clause-changes
@@ -24,3 +25,9 @@ pub returns-clause-leaves : goal.returns-clause-leaves
 returns-clause-leaves g c =
     let says = c.register.ensures in
     commit_leaves g.D.Disk.tells _ _ c.args.self.now.catalogue.journal.name _ refl (λ tells. ap (λ (n : Name). n.0) (c.requires.has.1.disk tells).rows.named) says.elsewhere says.opened says.any_moment
+
+pub returns-clause-whole : goal.returns-clause-whole
+returns-clause-whole g c =
+    let says = c.register.ensures in
+    rows_whole g.D.Disk.tells (registering c.args.name.now c.args.about.now) _ _ (end_of_register c.register.result) refl c.requires.has (registers_on c.args.name.now c.args.about.now) (returns-clause-changes g c)
+    (commit_leaves_files g.D.Disk.tells _ _ c.args.self.now.catalogue.journal.name _ refl (λ tells. ap (λ (n : Name). n.0) (c.requires.has.1.disk tells).rows.named) says.elsewhere says.opened says.any_moment)

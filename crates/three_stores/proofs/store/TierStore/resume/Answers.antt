@@ -6,6 +6,7 @@ use Rattle.three_stores.specs.Change.{resuming}
 use Rattle.tier_store.proofs.BatchCalls.{still_within}
 use Rattle.three_stores.proofs.Acting.{has_one, cut_acts, then_acts}
 use Rattle.three_stores.proofs.LeavingNames.{leaves_then}
+use Rattle.three_stores.proofs.WholeCalls.{whole_then}
 use Rattle.three_stores.proofs.store.TierStore.resume.Goals as goal
 
 pub resume_row-requires-clause-row : goal.resume_row-requires-clause-row
@@ -27,3 +28,6 @@ returns-clause-shown g c name bytes was = c.resume_row.ensures.shown name bytes 
 
 pub returns-clause-leaves : goal.returns-clause-leaves
 returns-clause-leaves g c = leaves_then g.D.Disk.tells _ _ _ c.review.ensures.leaves c.resume_row.ensures.leaves
+
+pub returns-clause-whole : goal.returns-clause-whole
+returns-clause-whole g c = whole_then g.D.Disk.tells _ _ _ c.review.ensures.whole c.resume_row.ensures.whole

@@ -5,7 +5,8 @@ use Rattle.tier_store.specs.Ends.{end_of_switch}
 use Rattle.three_stores.specs.Change.{resuming}
 use Rattle.three_stores.proofs.RowCalls.{resume_changes}
 use Rattle.three_stores.proofs.Showing.{rows_shown, rows_keep, switches_on}
-use Rattle.three_stores.proofs.LeavingNames.{commit_leaves}
+use Rattle.three_stores.proofs.LeavingNames.{commit_leaves, commit_leaves_files}
+use Rattle.three_stores.proofs.WholeCalls.{rows_whole}
 use Rattle.three_stores.proofs.store.TierStore.resume_row.Goals as goal
 
 pub returns-clause-changes : goal.returns-clause-changes
@@ -25,3 +26,9 @@ pub returns-clause-leaves : goal.returns-clause-leaves
 returns-clause-leaves g c =
     let says = c.resume.ensures in
     commit_leaves g.D.Disk.tells _ _ c.args.self.now.catalogue.journal.name _ refl (λ tells. ap (λ (n : Name). n.0) (c.requires.has.1.disk tells).rows.named) says.elsewhere says.opened says.any_moment
+
+pub returns-clause-whole : goal.returns-clause-whole
+returns-clause-whole g c =
+    let says = c.resume.ensures in
+    rows_whole g.D.Disk.tells (resuming c.args.row) _ _ (end_of_switch c.resume.result) refl c.requires.has (switches_on c.args.row Paused Running) (returns-clause-changes g c)
+    (commit_leaves_files g.D.Disk.tells _ _ c.args.self.now.catalogue.journal.name _ refl (λ tells. ap (λ (n : Name). n.0) (c.requires.has.1.disk tells).rows.named) says.elsewhere says.opened says.any_moment)

@@ -1,4 +1,4 @@
-use Rattle.std.proofs.Common.{◌≡◌, inl, Ok, Err, Result, List, length, ◌∙◌, ap, subst, sym}
+use Rattle.std.proofs.Common.{◌≡◌, inl, Ok, Err, Result, List, length, refl, ◌∙◌, ap, subst, sym}
 use Rattle.std.specs.Prelude.{OnErr}
 use Rattle.std.specs.FinMap.{FinMap}
 use Rattle.std.specs.Ordering.{nat_cmp}
@@ -15,9 +15,13 @@ use Rattle.three_stores.specs.Retiring.{retiring, HandedOver, Remain, StayOrEnte
 use Rattle.three_stores.specs.Seen.{seen_on}
 use Rattle.three_stores.specs.declared.limbo.Retired.{Retired}
 use Rattle.three_stores.specs.declared.retirement.RetireEnd.{RetireEnd}
-use Rattle.three_stores.proofs.Acting.{has_one, cut_acts, then_acts}
+use Rattle.three_stores.proofs.Acting.{has_one, has_one_given, is_one, settled_one, cut_acts, then_acts}
 use Rattle.three_stores.proofs.Removals.{none_left}
 use Rattle.three_stores.proofs.Staying.{limbo_kept}
+use Rattle.std.specs.Prelude.{Bool}
+use Rattle.three_stores.specs.Revival.{AreWhole}
+use Rattle.three_stores.specs.Retiring.{AreApart}
+use Rattle.three_stores.proofs.LeavingNames.{names_then}
 use Rattle.three_stores.proofs.store.TierStore.retire.Goals as goal
 
 pub retire_settled-requires-clause-has : goal.retire_settled-requires-clause-has
@@ -100,3 +104,29 @@ pub returns-clause-cause : goal.returns-clause-cause
 returns-clause-cause g c told is failed =
     let faults = g.D.Disk.faults in
     rose_after (faults c.args.self.now.disk) (faults c.review.new.self.disk) (faults c.retire_settled.new.self.disk) c.review.ensures.reads.faults (c.retire_settled.ensures.cause told is failed)
+
+pub returns-in_err-review-clause-whole : goal.returns-in_err-review-clause-whole
+returns-in_err-review-clause-whole g c before after was files whole = c.review.ensures.whole before.stands files whole
+
+pub returns-clause-whole : goal.returns-clause-whole
+returns-clause-whole g c before after was files whole =
+    let disk = g.D.Disk in
+    let old = c.args.self.now in
+    let mid = c.review.new.self in
+    let new = c.retire_settled.new.self in
+    let at = seen_on disk.files disk.opened disk.past disk.faults old.catalogue old.manifests.items old.disk in
+    let between = seen_on disk.files disk.opened disk.past disk.faults mid.catalogue mid.manifests.items mid.disk in
+    let later = seen_on disk.files disk.opened disk.past disk.faults new.catalogue new.manifests.items new.disk in
+    let held = has_one_given (λ s. s.stands ≡ before.stands) (λ s t same is. same ∙ is) disk.tells at between before after c.in_ok-review.ensures.settled refl was in
+    let first = c.review.ensures.whole before.stands files whole in
+    let then = c.retire_settled.ensures.whole held.0 held.2 first.0 (subst (λ (b : Bool). AreWhole disk.tells between mid.limbo.items b first.0) (sym held.1) first.1) in
+    (then.0, subst (λ (b : Bool). AreWhole disk.tells later new.limbo.items b then.0) held.1 then.1)
+
+pub returns-in_err-review-clause-leaves : goal.returns-in_err-review-clause-leaves
+returns-in_err-review-clause-leaves g c before after names was later apart apart_too = c.review.ensures.leaves names later
+
+pub returns-clause-leaves : goal.returns-clause-leaves
+returns-clause-leaves g c before after names was later apart apart_too =
+    let held = settled_one g.D.Disk.tells _ before after (c.in_ok-review.ensures.settled before after was) in
+    names_then names g.D.Disk.tells _ _ _ (c.review.ensures.leaves names later)
+    (c.retire_settled.ensures.leaves held.0 names held.2 later (is_one (λ s. AreApart c.args.place c.args.row (length c.args.published.now) s names) before after held.0 held.1 apart apart_too))

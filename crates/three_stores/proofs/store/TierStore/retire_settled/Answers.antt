@@ -23,6 +23,16 @@ use Rattle.three_stores.proofs.Acting.{nothing_changes}
 use Rattle.three_stores.proofs.Leaving.{part_leaves, stands_then, unlisted_then, among_then, has_then, enters, of_held, none_grown, has_grown, fewer_stand, nothing_retired, stays_then, cut_handed, retired_done, retired_cut}
 use Rattle.three_stores.proofs.Places.{manifest_here}
 use Rattle.three_stores.proofs.Settled.{same_seen}
+use Rattle.pv_catalog.specs.Catalogue.{CatalogueState}
+use Rattle.pv_catalog.specs.Rows.{KeepsRows}
+use Rattle.pv_catalog.proofs.Standing.{keeps_same}
+use Rattle.three_stores.specs.Moving.{LeavesFiles}
+use Rattle.three_stores.specs.Pinned.{beside}
+use Rattle.three_stores.proofs.WholeCalls.{handed_whole}
+use Rattle.three_stores.specs.Moving.{LeavesNames}
+use Rattle.three_stores.proofs.Leaving.{entered_from, leaving_apart}
+use Rattle.three_stores.proofs.LeavingNames.{later_own, limbo_leaves, names_then, nothing_leaves}
+use Rattle.three_stores.proofs.Staying.{stay_from}
 use Rattle.three_stores.proofs.store.TierStore.retire_settled.Goals as goal
 
 pub returns-in-Some-clause-changes : goal.returns-in-Some-clause-changes
@@ -426,3 +436,128 @@ returns-clause-cause g c told is failed =
     let more : faults c.hand_over.new.self.disk ≤ faults c.drop_oldest.new.self.disk = c.drop_oldest.ensures.changes.costs.faults in
     let own : c.remove_handed-removed.result ≡ told = cc (is) in
     rose_after (faults self.disk) (faults c.drop_oldest.new.self.disk) (faults c.remove_handed-removed.new.self.disk) (subst (λ d. faults d ≤ faults c.drop_oldest.new.self.disk) same more) (c.remove_handed-removed.ensures.cause (own ∙ failed))
+
+pub returns-in-Some-clause-whole : goal.returns-in-Some-clause-whole
+returns-in-Some-clause-whole g c held has were whole = (were, whole)
+
+pub returns-in_err-leaving-clause-whole : goal.returns-in_err-leaving-clause-whole
+returns-in_err-leaving-clause-whole g c held has were whole = c.in_err-leaving.ensures.whole held.stands were whole
+
+pub returns-in_err-drop_oldest-clause-whole : goal.returns-in_err-drop_oldest-clause-whole
+returns-in_err-drop_oldest-clause-whole g c held has were whole =
+    let self = c.args.self.now in
+    let disk = g.D.Disk in
+    let at = seen_on disk.files disk.opened disk.past disk.faults self.catalogue self.manifests.items self.disk in
+    let ms = self.manifests.items in
+    let n = length c.args.published.now in
+    let m = c.index.result.now in
+    let here = manifest_here ms c.args.place m c.index.ensures (let three = has.known.three in omega (arith, three, c.requires.within)) in
+    let hand = c.hand_over.new.self in
+    let at1 = seen_on disk.files disk.opened disk.past disk.faults hand.catalogue hand.manifests.items hand.disk in
+    let same = c.hand_over.ensures.same in
+    let is1 : at ≡ at1 = same_seen disk.files disk.opened disk.past disk.faults self.catalogue hand.catalogue ms hand.manifests.items self.disk hand.disk same.0 (ap (λ v. v.items) same.1) same.2 in
+    let files = c.in_ok-leaving.leaving.files.items in
+    let are : files ≡ map (retired_of (c.args.place + 1, self.catalogue.rows)) (oldest_entries c.args.row n m.entries) = c.in_ok-leaving.ensures.files m here in
+    let entered = c.in_ok-leaving.ensures.entered in
+    let dropped = c.drop_oldest.new.self in
+    let at2 = seen_on disk.files disk.opened disk.past disk.faults dropped.catalogue dropped.manifests.items dropped.disk in
+    let rows : dropped.catalogue ≡ self.catalogue = c.drop_oldest.ensures.catalogue ∙ same.0 in
+    let limbo : dropped.limbo.items ≡ entered.0 ++ files = ap (λ v. v.items) c.drop_oldest.ensures.limbo ∙ entered.2 in
+    let drop : Changes disk.tells (dropping c.args.place c.args.row n) at at2 (end_of_disk c.drop_oldest.result) = subst (λ (s : Seen). Changes disk.tells (dropping c.args.place c.args.row n) s at2 (end_of_disk c.drop_oldest.result)) (sym is1) c.drop_oldest.ensures.changes in
+    let leaves : LeavesFiles disk.tells (beside at hand.limbo.items) (beside at2 dropped.limbo.items) = subst (λ (s : Seen). LeavesFiles disk.tells (beside s hand.limbo.items) (beside at2 dropped.limbo.items)) (sym is1) c.drop_oldest.ensures.leaves in
+    handed_whole disk.tells c.args.place c.args.row n (beside at self.limbo.items) (beside at2 dropped.limbo.items) m here held has entered.0 files c.requires.stands entered.1 are limbo
+    (subst (λ (s : CatalogueState). KeepsRows self.catalogue.rows s.rows) (sym rows) (keeps_same self.catalogue.rows)) drop.costs.granularity hand.limbo.items leaves were whole
+
+pub returns-clause-whole : goal.returns-clause-whole
+returns-clause-whole g c held has were whole =
+    let self = c.args.self.now in
+    let disk = g.D.Disk in
+    let at = seen_on disk.files disk.opened disk.past disk.faults self.catalogue self.manifests.items self.disk in
+    let ms = self.manifests.items in
+    let n = length c.args.published.now in
+    let m = c.index.result.now in
+    let here = manifest_here ms c.args.place m c.index.ensures (let three = has.known.three in omega (arith, three, c.requires.within)) in
+    let hand = c.hand_over.new.self in
+    let at1 = seen_on disk.files disk.opened disk.past disk.faults hand.catalogue hand.manifests.items hand.disk in
+    let same = c.hand_over.ensures.same in
+    let is1 : at ≡ at1 = same_seen disk.files disk.opened disk.past disk.faults self.catalogue hand.catalogue ms hand.manifests.items self.disk hand.disk same.0 (ap (λ v. v.items) same.1) same.2 in
+    let files = c.in_ok-leaving.leaving.files.items in
+    let are : files ≡ map (retired_of (c.args.place + 1, self.catalogue.rows)) (oldest_entries c.args.row n m.entries) = c.in_ok-leaving.ensures.files m here in
+    let entered = c.in_ok-leaving.ensures.entered in
+    let dropped = c.drop_oldest.new.self in
+    let at2 = seen_on disk.files disk.opened disk.past disk.faults dropped.catalogue dropped.manifests.items dropped.disk in
+    let rows : dropped.catalogue ≡ self.catalogue = c.drop_oldest.ensures.catalogue ∙ same.0 in
+    let limbo : dropped.limbo.items ≡ entered.0 ++ files = ap (λ v. v.items) c.drop_oldest.ensures.limbo ∙ entered.2 in
+    let drop : Changes disk.tells (dropping c.args.place c.args.row n) at at2 (end_of_disk c.drop_oldest.result) = subst (λ (s : Seen). Changes disk.tells (dropping c.args.place c.args.row n) s at2 (end_of_disk c.drop_oldest.result)) (sym is1) c.drop_oldest.ensures.changes in
+    let leaves : LeavesFiles disk.tells (beside at hand.limbo.items) (beside at2 dropped.limbo.items) = subst (λ (s : Seen). LeavesFiles disk.tells (beside s hand.limbo.items) (beside at2 dropped.limbo.items)) (sym is1) c.drop_oldest.ensures.leaves in
+    let then = handed_whole disk.tells c.args.place c.args.row n (beside at self.limbo.items) (beside at2 dropped.limbo.items) m here held has entered.0 files c.requires.stands entered.1 are limbo
+    (subst (λ (s : CatalogueState). KeepsRows self.catalogue.rows s.rows) (sym rows) (keeps_same self.catalogue.rows)) drop.costs.granularity hand.limbo.items leaves were whole in
+    c.remove_handed-removed.ensures.whole held.stands then.0 then.1
+
+pub returns-in-Some-clause-leaves : goal.returns-in-Some-clause-leaves
+returns-in-Some-clause-leaves g c held names has later apart = nothing_leaves g.D.Disk.tells _ names later
+
+pub returns-in_err-leaving-clause-leaves : goal.returns-in_err-leaving-clause-leaves
+returns-in_err-leaving-clause-leaves g c held names has later apart =
+    let self = c.args.self.now in
+    let disk = g.D.Disk in
+    let at = seen_on disk.files disk.opened disk.past disk.faults self.catalogue self.manifests.items self.disk in
+    let hand = c.hand_over.new.self in
+    let at1 = seen_on disk.files disk.opened disk.past disk.faults hand.catalogue hand.manifests.items hand.disk in
+    let same = c.hand_over.ensures.same in
+    let is1 : at ≡ at1 = same_seen disk.files disk.opened disk.past disk.faults self.catalogue hand.catalogue self.manifests.items hand.manifests.items self.disk hand.disk same.0 (ap (λ v. v.items) same.1) same.2 in
+    subst (λ (s : Seen). LeavesNames names disk.tells (beside at self.limbo.items) (beside s hand.limbo.items)) is1
+    (limbo_leaves names disk.tells at self.limbo.items hand.limbo.items (λ r within there. (stay_from (λ x. Unit {0}) (λ x. IsListedName at x.name) self.limbo.items hand.limbo.items r c.in_err-leaving.ensures.failed there).0))
+
+pub returns-in_err-drop_oldest-clause-leaves : goal.returns-in_err-drop_oldest-clause-leaves
+returns-in_err-drop_oldest-clause-leaves g c held names has later apart =
+    let self = c.args.self.now in
+    let disk = g.D.Disk in
+    let at = seen_on disk.files disk.opened disk.past disk.faults self.catalogue self.manifests.items self.disk in
+    let ms = self.manifests.items in
+    let n = length c.args.published.now in
+    let m = c.index.result.now in
+    let here = manifest_here ms c.args.place m c.index.ensures (let three = has.known.three in omega (arith, three, c.requires.within)) in
+    let hand = c.hand_over.new.self in
+    let at1 = seen_on disk.files disk.opened disk.past disk.faults hand.catalogue hand.manifests.items hand.disk in
+    let same = c.hand_over.ensures.same in
+    let is1 : at ≡ at1 = same_seen disk.files disk.opened disk.past disk.faults self.catalogue hand.catalogue ms hand.manifests.items self.disk hand.disk same.0 (ap (λ v. v.items) same.1) same.2 in
+    let files = c.in_ok-leaving.leaving.files.items in
+    let are : files ≡ map (retired_of (c.args.place + 1, self.catalogue.rows)) (oldest_entries c.args.row n m.entries) = c.in_ok-leaving.ensures.files m here in
+    let entered = c.in_ok-leaving.ensures.entered in
+    let dropped = c.drop_oldest.new.self in
+    let at2 = seen_on disk.files disk.opened disk.past disk.faults dropped.catalogue dropped.manifests.items dropped.disk in
+    let rows : dropped.catalogue ≡ self.catalogue = c.drop_oldest.ensures.catalogue ∙ same.0 in
+    let limbo : dropped.limbo.items ≡ entered.0 ++ files = ap (λ v. v.items) c.drop_oldest.ensures.limbo ∙ entered.2 in
+    let drop : Changes disk.tells (dropping c.args.place c.args.row n) at at2 (end_of_disk c.drop_oldest.result) = subst (λ (s : Seen). Changes disk.tells (dropping c.args.place c.args.row n) s at2 (end_of_disk c.drop_oldest.result)) (sym is1) c.drop_oldest.ensures.changes in
+    let leaves : LeavesFiles disk.tells (beside at hand.limbo.items) (beside at2 dropped.limbo.items) = subst (λ (s : Seen). LeavesFiles disk.tells (beside s hand.limbo.items) (beside at2 dropped.limbo.items)) (sym is1) c.drop_oldest.ensures.leaves in
+    let apart_all : All (λ (r : Retired). Contains names r.name → ⊥) files = subst (λ (l : List Retired). All (λ (r : Retired). Contains names r.name → ⊥) l) (sym are) (leaving_apart disk.tells c.args.place c.args.row n at m here held has names apart) in
+    let first = subst (λ (s : Seen). LeavesNames names disk.tells (beside at self.limbo.items) (beside s hand.limbo.items)) is1 (limbo_leaves names disk.tells at self.limbo.items hand.limbo.items (entered_from names at self.limbo.items entered.0 files hand.limbo.items entered.1 apart_all entered.2)) in
+    names_then names disk.tells _ _ _ first (c.drop_oldest.ensures.leaves names (later_own names later))
+
+pub returns-clause-leaves : goal.returns-clause-leaves
+returns-clause-leaves g c held names has later apart =
+    let self = c.args.self.now in
+    let disk = g.D.Disk in
+    let at = seen_on disk.files disk.opened disk.past disk.faults self.catalogue self.manifests.items self.disk in
+    let ms = self.manifests.items in
+    let n = length c.args.published.now in
+    let m = c.index.result.now in
+    let here = manifest_here ms c.args.place m c.index.ensures (let three = has.known.three in omega (arith, three, c.requires.within)) in
+    let hand = c.hand_over.new.self in
+    let at1 = seen_on disk.files disk.opened disk.past disk.faults hand.catalogue hand.manifests.items hand.disk in
+    let same = c.hand_over.ensures.same in
+    let is1 : at ≡ at1 = same_seen disk.files disk.opened disk.past disk.faults self.catalogue hand.catalogue ms hand.manifests.items self.disk hand.disk same.0 (ap (λ v. v.items) same.1) same.2 in
+    let files = c.in_ok-leaving.leaving.files.items in
+    let are : files ≡ map (retired_of (c.args.place + 1, self.catalogue.rows)) (oldest_entries c.args.row n m.entries) = c.in_ok-leaving.ensures.files m here in
+    let entered = c.in_ok-leaving.ensures.entered in
+    let dropped = c.drop_oldest.new.self in
+    let at2 = seen_on disk.files disk.opened disk.past disk.faults dropped.catalogue dropped.manifests.items dropped.disk in
+    let rows : dropped.catalogue ≡ self.catalogue = c.drop_oldest.ensures.catalogue ∙ same.0 in
+    let limbo : dropped.limbo.items ≡ entered.0 ++ files = ap (λ v. v.items) c.drop_oldest.ensures.limbo ∙ entered.2 in
+    let drop : Changes disk.tells (dropping c.args.place c.args.row n) at at2 (end_of_disk c.drop_oldest.result) = subst (λ (s : Seen). Changes disk.tells (dropping c.args.place c.args.row n) s at2 (end_of_disk c.drop_oldest.result)) (sym is1) c.drop_oldest.ensures.changes in
+    let leaves : LeavesFiles disk.tells (beside at hand.limbo.items) (beside at2 dropped.limbo.items) = subst (λ (s : Seen). LeavesFiles disk.tells (beside s hand.limbo.items) (beside at2 dropped.limbo.items)) (sym is1) c.drop_oldest.ensures.leaves in
+    let apart_all : All (λ (r : Retired). Contains names r.name → ⊥) files = subst (λ (l : List Retired). All (λ (r : Retired). Contains names r.name → ⊥) l) (sym are) (leaving_apart disk.tells c.args.place c.args.row n at m here held has names apart) in
+    let first = subst (λ (s : Seen). LeavesNames names disk.tells (beside at self.limbo.items) (beside s hand.limbo.items)) is1 (limbo_leaves names disk.tells at self.limbo.items hand.limbo.items (entered_from names at self.limbo.items entered.0 files hand.limbo.items entered.1 apart_all entered.2)) in
+    let second = names_then names disk.tells _ _ _ first (c.drop_oldest.ensures.leaves names (later_own names later)) in
+    names_then names disk.tells _ _ _ second (c.remove_handed-removed.ensures.others names (subst (λ (l : List Retired). All (λ (r : Retired). Contains names r.name → ⊥) l) (sym c.deref-2.ensures.value) apart_all))

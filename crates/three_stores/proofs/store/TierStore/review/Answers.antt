@@ -5,6 +5,8 @@ use Rattle.pv_catalog.proofs.Standing.{keeps_same}
 use Rattle.three_stores.proofs.Places.{none_doubted}
 use Rattle.three_stores.proofs.Showing.{review_shown}
 use Rattle.three_stores.proofs.LeavingNames.{nothing_leaves}
+use Rattle.three_stores.specs.Seen.{granularities}
+use Rattle.three_stores.proofs.RevivalShown.{review_whole}
 use Rattle.three_stores.proofs.store.TierStore.review.Goals as goal
 
 pub returns-in-Some-clause-nothing : goal.returns-in-Some-clause-nothing
@@ -27,3 +29,16 @@ returns-in-Some-clause-leaves g c = c.settle_list.ensures.leaves
 
 pub returns-in-None-clause-leaves : goal.returns-in-None-clause-leaves
 returns-in-None-clause-leaves g c = nothing_leaves g.D.Disk.tells _
+
+pub returns-then-not-is_sound-clause-whole : goal.returns-then-not-is_sound-clause-whole
+returns-then-not-is_sound-clause-whole g c =
+    let says = c.settle_rows.ensures in
+    review_whole g.D.Disk.tells _ _ c.settle_rows.result (ap (λ v. v.items) says.limbo) c.requires.begun says.settled says.still says.keeps (ap granularities says.manifests) says.reads.files says.opened says.reads.any_moment
+
+pub returns-in-Some-clause-whole : goal.returns-in-Some-clause-whole
+returns-in-Some-clause-whole g c =
+    let says = c.settle_list.ensures in
+    review_whole g.D.Disk.tells _ _ c.settle_list.result (ap (λ v. v.items) says.limbo) c.requires.begun says.settled says.still (returns-in-Some-clause-keeps g c) says.granularity says.reads.files says.opened says.reads.any_moment
+
+pub returns-in-None-clause-whole : goal.returns-in-None-clause-whole
+returns-in-None-clause-whole g c stands files whole = (files, whole)

@@ -18,6 +18,7 @@ use Rattle.three_stores.proofs.Acting.{has_one, cut_acts, then_acts}
 use Rattle.three_stores.proofs.Staying.{limbo_kept}
 use Rattle.three_stores.proofs.Sparing.{reads_leave, reads_then}
 use Rattle.three_stores.proofs.LeavingNames.{names_then}
+use Rattle.three_stores.proofs.WholeCalls.{whole_then}
 use Rattle.three_stores.proofs.store.TierStore.sweep.Goals as goal
 
 pub sweep_settled-requires-clause-has : goal.sweep_settled-requires-clause-has
@@ -111,3 +112,9 @@ returns-in_err-review-clause-copied g c later = c.review.ensures.leaves c.args.c
 
 pub returns-clause-copied : goal.returns-clause-copied
 returns-clause-copied g c later = names_then c.args.copied.now g.D.Disk.tells _ _ _ (c.review.ensures.leaves c.args.copied.now later) c.sweep_settled.ensures.copied
+
+pub returns-in_err-review-clause-whole : goal.returns-in_err-review-clause-whole
+returns-in_err-review-clause-whole g c = c.review.ensures.whole
+
+pub returns-clause-whole : goal.returns-clause-whole
+returns-clause-whole g c = whole_then g.D.Disk.tells _ _ _ c.review.ensures.whole c.sweep_settled.ensures.whole

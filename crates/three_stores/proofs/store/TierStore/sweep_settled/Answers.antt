@@ -1,13 +1,15 @@
-use Rattle.std.proofs.Common.{List, subst}
+use Rattle.std.proofs.Common.{List, refl, subst}
+use Rattle.pv_catalog.proofs.Standing.{keeps_same}
 use Rattle.store_manifest.specs.Entries.{InOrder}
 use Rattle.store_manifest.specs.Manifest.{ManifestState}
 use Rattle.tier_store.specs.Ends.{Done}
 use Rattle.three_stores.specs.Seen.{AtEach, seen_on}
-use Rattle.three_stores.specs.Limbo.{ListsPlace, Stay}
+use Rattle.three_stores.specs.Limbo.{IsNeeded, ListsPlace, Stay}
 use Rattle.three_stores.proofs.Staying.{stay_from, stay_unlisted}
 use Rattle.three_stores.proofs.Sparing.{swept_changes, swept_leaves, swept_files, are_gone, still_stands}
 use Rattle.three_stores.proofs.Removals.{lists_in_order, on_ok, needed_stays, none_came}
 use Rattle.three_stores.proofs.LeavingNames.{removal_leaves}
+use Rattle.three_stores.proofs.WholeCalls.{swept_whole}
 use Rattle.three_stores.proofs.store.TierStore.sweep_settled.Goals as goal
 
 pub returns-clause-changes : goal.returns-clause-changes
@@ -91,3 +93,17 @@ returns-clause-copied g c =
     removal_leaves disk.tells _ _ self.pinned c.args.copied.now retired
     (λ r there. (stay_from (λ x. ListsPlace self.manifests.items x → ⊥) (ListsPlace self.manifests.items) self.limbo.items retired r stay (none_came self.pinned c.args.copied.now retired left c.clear_limbo.ensures.needed r there)).0)
     c.clear_limbo.ensures.removes
+
+pub returns-clause-whole : goal.returns-clause-whole
+returns-clause-whole g c =
+    let self = c.args.self.now in
+    let disk = g.D.Disk in
+    let at = seen_on disk.files disk.opened disk.past disk.faults self.catalogue self.manifests.items self.disk in
+    let held = c.requires.has in
+    let retired = c.leave_listed.new.limbo.items in
+    let left = c.clear_limbo.new.limbo.items in
+    let known = subst (λ (ms : List ManifestState). AtEach ms (λ i m. InOrder m.entries) → Stay (λ r. ListsPlace ms r → ⊥) (ListsPlace ms) self.limbo.items retired) c.deref.ensures.value c.leave_listed.ensures in
+    let unlisted = stay_unlisted at held.0 self.limbo.items retired held.1.known c.requires.stands (known (lists_in_order self.catalogue self.manifests.items held.0 held.1.known)) in
+    swept_whole disk.tells _ _ self.pinned c.args.copied.now retired c.requires.stands unlisted
+    (λ r there. stay_from (λ x. IsNeeded self.pinned c.args.copied.now x.name) (λ x. IsNeeded self.pinned c.args.copied.now x.name → ⊥) retired left r c.clear_limbo.ensures.needed there)
+    held.1.known.three (keeps_same self.catalogue.rows) refl c.clear_limbo.ensures.removes

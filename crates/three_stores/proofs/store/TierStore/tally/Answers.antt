@@ -5,6 +5,7 @@ use Rattle.three_stores.proofs.Acting.{only_reads}
 use Rattle.three_stores.proofs.ReadsThen.{has_read}
 use Rattle.three_stores.proofs.Settled.{same_seen}
 use Rattle.three_stores.proofs.Sparing.{same_shown}
+use Rattle.three_stores.proofs.LeavingNames.{read_leaves}
 use Rattle.three_stores.proofs.store.TierStore.tally.Goals as goal
 
 pub tally_row-requires-clause-three : goal.tally_row-requires-clause-three
@@ -29,3 +30,8 @@ pub returns-clause-reads : goal.returns-clause-reads
 returns-clause-reads g c =
     let told = c.tally_row.ensures in
     only_reads g.D.Disk.tells _ _ c.tally_row.result (λ tells. (told.reads tells).same) (λ tells. (told.reads tells).any_moment) told.faults told.cause
+
+pub returns-clause-leaves : goal.returns-clause-leaves
+returns-clause-leaves g c =
+    let says = c.tally_row.ensures in
+    read_leaves g.D.Disk.tells _ _ (ap (λ v. v.items) says.same.3) (λ told. (says.reads told).same) (λ told. (says.reads told).same_opened) (λ told. (says.reads told).any_moment)
