@@ -1,10 +1,11 @@
 -- The lines before a moment are skipped one after another, and so the samples of a file are split there.
 use Rattle.std.proofs.Common.{◌≡◌, ℕ, ℤ, suc, ◌+◌, ◌-◌, ◌≤◌, ◌<◌, List, [], ◌∷◌, ◌++◌, length, take, drop, get_or, Bool, true, false, cond, Option, Some, refl, sym, ◌∙◌, ap, subst, arith, append_assoc}
-use Rattle.std.specs.Prelude.{nat_le}
+use Rattle.std.specs.Prelude.{nat_le, IfOk, Result, Ok, Err}
 use Rattle.std.proofs.lemmas.Bool.Decides.{nat_tests}
-use Rattle.std.proofs.lemmas.List.{length-append, length-take, length-drop, take-append-drop}
+use Rattle.std.proofs.lemmas.List.{length-append, length-take, length-drop, take-append-drop, take-take}
 use Rattle.disk_model.specs.Files.{Name, Files, HasFile}
 use Rattle.line_escape.specs.Unescaping.{HasNoNewline}
+use Rattle.payload_info.specs.declared.info.PayloadInfo.{PayloadInfo}
 use Rattle.pb_lines.specs.File.{IsSample, AreSamples, lines_of}
 use Rattle.pb_lines.specs.Sample.{IsSampleLine}
 use Rattle.pb_lines.proofs.FileLines.{all-append, lines_of-append}
@@ -13,7 +14,7 @@ use Rattle.series_model.specs.Series.{since}
 use Rattle.series_model.specs.declared.sample.Sample.{Sample}
 use Rattle.series_model.proofs.RisingLists.{since-append}
 use Rattle.three_stores.specs.Counting.{IsSampleStart}
-use Rattle.three_stores.specs.Finding.{GoesOnWith, IsLaterStart, SkipsLines, SplitsAt}
+use Rattle.three_stores.specs.Finding.{BeginsWithHeader, GoesOnWith, IsLaterStart, SkipsLines, SplitsAt}
 use Rattle.three_stores.proofs.CountingLines.{IsCounting, line_at, rest_is, sample_at}
 use Rattle.three_stores.proofs.CountingPieces.{IsBetween, IsPiece, front_of, no_length, piece_of}
 
@@ -132,3 +133,16 @@ damaged_here files name at end w ty year n len bytes there all piece zero skips 
 
     none_at_front : skips.rest ≡ bytes
     none_at_front = ap (λ (l : List Sample). lines_of l ++ skips.rest) (sym none) ∙ sym skips.begin
+
+-- WHAT IS TOLD
+
+pub both_ok : {A E : Type 0} (r : Result A E) (P Q : A → Type 0) → IfOk r P → IfOk r Q → IfOk r (λ a. P a × Q a)
+both_ok {A} {E} (Ok a) P Q one two = (one, two)
+both_ok {A} {E} (Err e) P Q one two = tt
+
+-- the header's line at the front of a file
+pub header_front : (b line : List ℕ) (head_len len : ℕ) (info : PayloadInfo) → BeginsWithHeader head_len (take len b) line info → take head_len (drop 0 b) ≡ line ++ 10 ∷ []
+header_front b line head_len len info begins = sym (take-take head_len len b within) ∙ begins.text
+  where
+    within : head_len ≤ len
+    within = let long = ap length begins.text in let own = begins.long in omega (arith, long, own, length-take head_len (take len b), length-take len b, length-append line (10 ∷ []))

@@ -1,8 +1,11 @@
 -- Where the lines of a file begin that are later than a moment.
 use Rattle.std.specs.Prelude.{◌≡◌, ◌≤◌, ◌+◌, ◌-◌, ℕ, ℤ, Bool, List, [], ◌∷◌, ◌++◌, length, take, drop, true, false}
 use Rattle.disk_model.specs.Files.{Name, Files, HasFile}
+use Rattle.line_escape.specs.Unescaping.{HasNoNewline}
+use Rattle.payload_info.specs.declared.info.PayloadInfo.{PayloadInfo}
 use Rattle.pb_wire.specs.declared.payload.PayloadType.{PayloadType}
 use Rattle.pb_lines.specs.File.{IsSample, AreSamples, lines_of}
+use Rattle.pb_lines.specs.Header.{IsHeaderLine}
 use Rattle.series_model.specs.Series.{since}
 use Rattle.series_model.specs.declared.sample.Sample.{Sample}
 use Rattle.three_stores.specs.Counting.{IsSampleStart}
@@ -65,3 +68,15 @@ IsFrom from (Damaged at) = Unit {0}
 abbrev pub IsTold : Files → Name → ℕ → PayloadType → ℤ → LaterLines → Type 0
 IsTold files name end ty year (At at) = Unit {0}
 IsTold files name end ty year (Damaged at) = HasFile files name (λ b. IsSampleStart ty year (take (end - at) (drop at b)) → ⊥)
+
+-- no place is told sooner than this one
+abbrev pub IsNoSooner : ℕ → LaterLines → Type 0
+IsNoSooner from (At at) = from ≤ at
+IsNoSooner from (Damaged at) = from ≤ at
+
+-- the bytes begin with the line of a header, which takes so many of them
+pub record BeginsWithHeader (head_len : ℕ) (bytes line : List ℕ) (info : PayloadInfo) : Type 0 where
+  pub long : head_len ≡ length line + 1
+  pub text : take head_len bytes ≡ line ++ 10 ∷ []
+  pub whole : HasNoNewline line
+  pub header : IsHeaderLine line info

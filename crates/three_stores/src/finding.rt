@@ -5,10 +5,10 @@ ghost use Rattle.payload_info.specs.declared.info.PayloadInfo.{PayloadInfo as Pa
 ghost use Rattle.pb_lines.specs.File.{IsFile};
 ghost use Rattle.series_model.specs.declared.sample.Sample.{Sample};
 ghost use Rattle.tier_store.specs.Ends.{end_of_disk};
-ghost use Rattle.tier_store.specs.Held.{Filed};
+ghost use Rattle.tier_store.specs.Held.{Filed, file_of};
 ghost use Rattle.three_stores.specs.Change.{Has, IsListedIn, OnlyReads};
 ghost use Rattle.three_stores.specs.Counting.{HasLines, ReadsDisk, behind};
-ghost use Rattle.three_stores.specs.Finding.{IsFrom, IsNext, IsTold, IsUpTo, SkipsLines};
+ghost use Rattle.three_stores.specs.Finding.{BeginsWithHeader, IsFrom, IsNext, IsNoSooner, IsTold, IsUpTo, SkipsLines};
 ghost use Rattle.three_stores.specs.Moving.{LeavesLater};
 ghost use Rattle.three_stores.specs.Pinned.{seen_all, KeepsShown};
 ghost use Rattle.three_stores.specs.Seen.{seen};
@@ -97,6 +97,7 @@ fn next_between<D: Disk>(
     requires there { IsTrue D.tells → HasFile (D.files disk.old) name.now (λ b. end ≤ length b) }
     ensures next { IsTrue D.tells → (samples : List Sample) → HasLines (D.files disk.old) name.now from end ty year.now.year samples → IfOk result (IsNext samples (behind last) from) }
     ensures told { IsTrue D.tells → IfOk result (IsTold (D.files disk.old) name.now end ty year.now.year) }
+    ensures no_sooner { IfOk result (IsNoSooner from) }
     ensures within { IfOk result (IsUpTo end) }
     ensures behind { IfOk result (IsFrom from) }
     ensures reads { IsTrue D.tells → ReadsDisk (D.files disk.old) (D.files disk.new) (D.opened disk.old) (D.opened disk.new) (D.past disk.old) (D.past disk.new) }
@@ -136,6 +137,8 @@ fn find_next<D: Disk>(
     requires there { IsTrue D.tells → HasFile (D.files disk.old) name.now (λ b. len ≤ length b) }
     ensures next { IsTrue D.tells → (head : List ℕ) (info : PayloadInfoValue) (samples : List Sample) → HasFile (D.files disk.old) name.now (λ b. IsFile (take len b) head info samples) → head_len ≡ length head + 1
         → IfOk result (IsNext samples (behind last) head_len) }
+    ensures told { IsTrue D.tells → (line : List ℕ) (info : PayloadInfoValue) → HasFile (D.files disk.old) name.now (λ b. BeginsWithHeader head_len (take len b) line info)
+        → IfOk result (λ later. IsTold (D.files disk.old) name.now len info.ty info.year later × IsNoSooner head_len later) }
     ensures within { IfOk result (IsUpTo len) }
     ensures behind { IfOk result (IsFrom head_len) }
     ensures reads { IsTrue D.tells → ReadsDisk (D.files disk.old) (D.files disk.new) (D.opened disk.old) (D.opened disk.new) (D.past disk.old) (D.past disk.new) }
@@ -160,7 +163,8 @@ fn find_next<D: Disk>(
 impl<D: Disk> TierStore<D> {
     /// Finds the place in a file that a store lists, from 1 to 3, where the lines of samples begin that are later than a moment; without a
     /// moment, those of all samples. It is where a move of the file goes on behind what the next store has. It needs that no change
-    /// stands in doubt. `Damaged` comes only where what is held doesn't stand, or the disk doesn't tell its files.
+    /// stands in doubt. `Damaged` comes only where what is held doesn't stand, or the disk doesn't tell its files. Where the file has its
+    /// header, no line of a sample begins at the place that it tells, which isn't before the header's end.
     ///
     /// `Fault` comes only where the disk's count of faults rose in the call.
     pub fn find_later(
@@ -174,6 +178,8 @@ impl<D: Disk> TierStore<D> {
 
         ensures found { IsTrue D.tells → (held : Stores) → IsTrue held.stands → Has D.tells (seen D.Disk self.old) held
             → IfOk result (λ later. (i : ℕ) × (store ≡ i + 1) × (f : Filed) × Contains (list_at i held) f × (f.entry ≡ entry.now) × IsNext f.samples (behind after) entry.now.head_len later) }
+        ensures told { IsTrue D.tells → (line : List ℕ) (info : PayloadInfoValue) → HasFile (D.files self.old.disk) (file_of (store, self.old.catalogue.rows) entry.now) (λ b. BeginsWithHeader entry.now.head_len (take entry.now.len b) line info)
+            → IfOk result (λ later. IsTold (D.files self.old.disk) (file_of (store, self.old.catalogue.rows) entry.now) entry.now.len info.ty info.year later × IsNoSooner entry.now.head_len later) }
         ensures within { IfOk result (IsUpTo entry.now.len) }
         ensures behind { IfOk result (IsFrom entry.now.head_len) }
         ensures kept { (held : Stores) → Has D.tells (seen D.Disk self.old) held → Has D.tells (seen D.Disk self.new) held }

@@ -1,6 +1,7 @@
 use Rattle.std.proofs.Common.{◌≡◌, ◌<◌, List, Err, length, refl, sym, ◌∙◌, ap, subst}
 use Rattle.std.proofs.lemmas.List.Elements.{All-contains}
 use Rattle.std.proofs.lemmas.Result.{err_from_is_err_and}
+use Rattle.disk_model.specs.Files.{Name}
 use Rattle.disk_model.specs.declared.disk.DiskErr.{DiskErr}
 use Rattle.pb_lines.specs.File.{IsFile}
 use Rattle.pv_catalog.specs.declared.row.Row.{Row}
@@ -12,6 +13,7 @@ use Rattle.three_stores.proofs.LeavingNames.{nothing_leaves, read_leaves}
 use Rattle.three_stores.proofs.ReadsThen.{has_read}
 use Rattle.three_stores.proofs.Showing.{read_shown}
 use Rattle.three_stores.proofs.There.{row_listed, listed_file, file_there, front_there}
+use Rattle.three_stores.specs.Finding.{IsNoSooner, IsTold}
 use Rattle.three_stores.proofs.store.TierStore.find_later.Goals as goal
 
 pub file_name-requires : goal.file_name-requires
@@ -73,3 +75,12 @@ returns-in_err-later-clause-reads g c =
     let p = err_from_is_err_and c.from_residual-in_err-later.result c.from_residual-in_err-later.ensures.1 in
     only_reads g.D.Disk.tells _ _ c.from_residual-in_err-later.result (λ tells. (c.find_next.ensures.reads tells).same) (λ tells. (c.find_next.ensures.reads tells).any_moment) c.find_next.ensures.faults
     (λ is. c.find_next.ensures.cause (c.in_err-later.was ∙ sym (p.1 ∙ ap (λ (x : DiskErr). Err x) p.2) ∙ is))
+
+pub returns-clause-told : goal.returns-clause-told
+returns-clause-told g c tells line info has =
+    let self = c.args.self.now in
+    let e = c.args.entry.now in
+    let files = g.D.Disk.files self.disk in
+    let named : c.in_ok-name.name ≡ file_of (c.args.store, self.catalogue.rows) e = c.in_ok-name.ensures ∙ ap (λ (r : List Row). file_of (c.args.store, r) e) c.rows.ensures.value in
+    subst (λ (n : Name). IsTold files n e.len info.ty info.year c.in_ok-later.later × IsNoSooner e.head_len c.in_ok-later.later) named
+    (c.in_ok-later.ensures.told tells line info (record { bytes = has.bytes; file = ap files named ∙ has.file; holds = has.holds }))
