@@ -51,7 +51,18 @@ adds_more old was new es i e within is before step rise =
     let count = next.count in
     (omega (arith, sum, more, count), made.1 ∙ ap (λ (n : ℕ). max n (e.last + 1)) end ∙ sym next.end)
 
+pub ends_more : (n : ℕ) (es : List Entry) (i : ℕ) (e : Entry) (was new : Tally) → i < length es → e ≡ get_or es i e → behind was.last ≡ end_of_files n (take i es) → behind new.last ≡ max (behind was.last) (e.last + 1) → behind new.last ≡ end_of_files n (take (i + 1) es)
+ends_more n es i e was new within is before step =
+    let one : take (i + 1) es ≡ take i es ++ e ∷ [] = take_more es i e within ∙ ap (λ (x : Entry). take i es ++ x ∷ []) (sym is) in
+    step ∙ (ap (λ (k : ℕ). max k (e.last + 1)) before ∙ sym (ap (end_of_files n) one ∙ end_both n (take i es) (e ∷ [])))
+
 -- three lists, one after another
+pub ends_three : (none one two three : Tally) (xs ys zs : List Entry) → behind none.last ≡ 0 → behind one.last ≡ end_of_files (behind none.last) xs → behind two.last ≡ end_of_files (behind one.last) ys → behind three.last ≡ end_of_files (behind two.last) zs → behind three.last ≡ end_of_files 0 ((xs ++ ys) ++ zs)
+ends_three none one two three xs ys zs zero first second third =
+    let a : behind one.last ≡ end_of_files 0 xs = first ∙ ap (λ (n : ℕ). end_of_files n xs) zero in
+    let b : behind two.last ≡ end_of_files 0 (xs ++ ys) = second ∙ (ap (λ (n : ℕ). end_of_files n ys) a ∙ sym (end_both 0 xs ys)) in
+    third ∙ (ap (λ (n : ℕ). end_of_files n zs) b ∙ sym (end_both 0 (xs ++ ys) zs))
+
 pub adds_three : (none one two three : Tally) (xs ys zs : List Entry) → none.count ≡ 0 → behind none.last ≡ 0 → Adds none xs one → Adds one ys two → Adds two zs three → RiseFrom 0 ((xs ++ ys) ++ zs) → three.count ≡ listed_count ((xs ++ ys) ++ zs)
 adds_three none one two three xs ys zs zero start first second third rise =
     let outer = rise_both 0 (xs ++ ys) zs rise in

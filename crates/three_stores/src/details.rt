@@ -16,7 +16,7 @@ ghost use Rattle.three_stores.specs.Pinned.{seen_all, KeepsShown};
 ghost use Rattle.three_stores.specs.Pinning.{HasNoName, entries_of};
 ghost use Rattle.three_stores.specs.Revival.{KeepsWhole};
 ghost use Rattle.three_stores.specs.Settling.{SettlesAndReads};
-ghost use Rattle.three_stores.specs.Tallying.{RiseFrom, entries_in, listed_count};
+ghost use Rattle.three_stores.specs.Tallying.{RiseFrom, end_of_files, entries_in, listed_count};
 
 use crate::TierStore;
 use crate::opening_pieces::told;
@@ -64,6 +64,7 @@ impl<D: Disk> TierStore<D> {
 
         ensures tally { IsTrue D.tells → (held : Stores) → Has D.tells (seen D.Disk self.old) held → IsTrue held.stands → IfOk result (IsTally (samples_in row held)) }
         ensures listed { RiseFrom 0 (entries_in row self.old.manifests.items) → IfOk result (λ t. t.count ≡ listed_count (entries_in row self.old.manifests.items)) }
+        ensures ends { IfOk result (λ t. behind t.last ≡ end_of_files 0 (entries_in row self.old.manifests.items)) }
         ensures same { (self.new.catalogue ≡ self.old.catalogue) × (self.new.manifests ≡ self.old.manifests) × (self.new.pinned ≡ self.old.pinned) × (self.new.limbo ≡ self.old.limbo) }
         ensures reads { IsTrue D.tells → ReadsDisk (D.files self.old.disk) (D.files self.new.disk) (D.opened self.old.disk) (D.opened self.new.disk) (D.past self.old.disk) (D.past self.new.disk) }
         ensures faults { D.faults self.old.disk ≤ D.faults self.new.disk }
@@ -84,7 +85,8 @@ impl<D: Disk> TierStore<D> {
     ///
     /// The file of an earlier store is read that a later store's samples reach into; all others count by their entries. Where by these each
     /// file of the row begins behind those that are read before it, no file is read, and the number is the one that they say. Else nothing
-    /// is said of it where the disk doesn't tell its files, or somebody has damaged listed ones.
+    /// is said of it where the disk doesn't tell its files, or somebody has damaged listed ones. The last moment is always the latest one
+    /// that the entries say.
     ///
     /// `Fault` comes only where the disk's count of faults rose in the call. `Memory` comes also where no `u64` has the number.
     pub fn tally(&mut self, row: u32) -> Result<Tally, DiskErr>
@@ -93,6 +95,7 @@ impl<D: Disk> TierStore<D> {
 
         ensures tally { IsTrue D.tells → (held : Stores) → Has D.tells (seen D.Disk self.old) held → IsTrue held.stands → IfOk result (IsTally (samples_in row held)) }
         ensures listed { RiseFrom 0 (entries_in row self.old.manifests.items) → IfOk result (λ t. t.count ≡ listed_count (entries_in row self.old.manifests.items)) }
+        ensures ends { IfOk result (λ t. behind t.last ≡ end_of_files 0 (entries_in row self.old.manifests.items)) }
         ensures kept { (held : Stores) → Has D.tells (seen D.Disk self.old) held → Has D.tells (seen D.Disk self.new) held }
         ensures same { (self.new.catalogue ≡ self.old.catalogue) × (self.new.manifests ≡ self.old.manifests) × (self.new.pinned ≡ self.old.pinned) × (self.new.limbo ≡ self.old.limbo) }
         ensures shown { KeepsShown D.tells (seen_all D.Disk self.old) (seen_all D.Disk self.new) }

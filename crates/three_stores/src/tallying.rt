@@ -10,7 +10,7 @@ ghost use Rattle.store_manifest.specs.declared.entry.Entry.{Entry as EntryValue}
 ghost use Rattle.tier_store.specs.Held.{Filed, entry_of};
 ghost use Rattle.three_stores.specs.Counting.{ReadsDisk, behind};
 ghost use Rattle.three_stores.specs.Details.{IsLong, IsTally, IsWhole};
-ghost use Rattle.three_stores.specs.Tallying.{Adds};
+ghost use Rattle.three_stores.specs.Tallying.{Adds, end_of_files};
 
 use crate::counting::count_later;
 use disk_model::{Disk, DiskErr};
@@ -91,6 +91,7 @@ fn add_file<D: Disk>(
     requires there { IsTrue D.tells → IsLong (D.files disk.old) (store, rows.now) entry.now }
     ensures tally { IsTrue D.tells → (g : Granularity) (f : Filed) (samples : List Sample) → f.entry ≡ entry.now → IsWhole g (store, rows.now) (D.files disk.old) f → IsTally samples tally → IfOk result (IsTally (over samples f.samples)) }
     ensures listed { behind tally.last ≤ entry.now.first → IfOk result (λ t. (t.count ≡ tally.count + entry.now.count) × (behind t.last ≡ max (behind tally.last) (entry.now.last + 1))) }
+    ensures ends { IfOk result (λ t. behind t.last ≡ max (behind tally.last) (entry.now.last + 1)) }
     ensures reads { IsTrue D.tells → ReadsDisk (D.files disk.old) (D.files disk.new) (D.opened disk.old) (D.opened disk.new) (D.past disk.old) (D.past disk.new) }
     ensures faults { D.faults disk.old ≤ D.faults disk.new }
     ensures cause { IsErrOf result DiskErr.Fault → Rose (D.faults disk.old) (D.faults disk.new) }
@@ -124,6 +125,7 @@ pub(crate) fn add_files<D: Disk>(
     ensures tally { IsTrue D.tells → (g : Granularity) (files : List Filed) (samples : List Sample) → entries.now ≡ map entry_of files → All (IsWhole g (store, rows.now) (D.files disk.old)) files → IsRising (flat_map (λ (f : Filed). f.samples) files) → IsTally samples tally
         → IfOk result (IsTally (over samples (flat_map (λ (f : Filed). f.samples) files))) }
     ensures listed { IfOk result (Adds tally entries.now) }
+    ensures ends { IfOk result (λ t. behind t.last ≡ end_of_files (behind tally.last) entries.now) }
     ensures reads { IsTrue D.tells → ReadsDisk (D.files disk.old) (D.files disk.new) (D.opened disk.old) (D.opened disk.new) (D.past disk.old) (D.past disk.new) }
     ensures faults { D.faults disk.old ≤ D.faults disk.new }
     ensures cause { IsErrOf result DiskErr.Fault → Rose (D.faults disk.old) (D.faults disk.new) }

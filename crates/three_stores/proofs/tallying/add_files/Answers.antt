@@ -10,7 +10,7 @@ use Rattle.three_stores.specs.Counting.{behind}
 use Rattle.three_stores.specs.Details.{IsTally, IsWhole}
 use Rattle.three_stores.specs.Tallying.{end_of_files, listed_count}
 use Rattle.three_stores.proofs.CountingPieces.{then_reads}
-use Rattle.three_stores.proofs.ListedTallies.{adds_more}
+use Rattle.three_stores.proofs.ListedTallies.{adds_more, ends_more}
 use Rattle.three_stores.proofs.Tallies.{file_at, flat}
 use Rattle.three_stores.proofs.tallying.add_files.Goals as goal
 
@@ -24,6 +24,7 @@ loop-entry-preserved g c = record {
       subst (λ (l : List Sample). IsTally l c.in_ok-tally.tally) (sym at.adds)
       (c.in_ok-tally.ensures.tally tells h at.file (over samples (flat (take c.loop-entry.entry-index files))) at.entry here (c.loop-entry.invariant.tally tells h files samples are whole rises was));
   listed = adds_more c.args.tally c.loop-entry.tally c.in_ok-tally.tally c.args.entries.now c.loop-entry.entry-index c.entry-item.result c.loop-entry-test.true c.entry-item.is c.loop-entry.invariant.listed c.in_ok-tally.ensures.listed;
+  ends = ends_more (behind c.args.tally.last) c.args.entries.now c.loop-entry.entry-index c.entry-item.result c.loop-entry.tally c.in_ok-tally.tally c.loop-entry-test.true c.entry-item.is c.loop-entry.invariant.ends c.in_ok-tally.ensures.ends;
   reads = λ tells. then_reads _ _ _ _ _ _ _ _ _ (c.loop-entry.invariant.reads tells) (c.in_ok-tally.ensures.reads tells);
   faults = omega (arith, c.loop-entry.invariant.faults, c.in_ok-tally.ensures.faults);
 }
@@ -40,3 +41,8 @@ returns-clause-listed g c rise =
     let t = c.loop-entry.tally in
     let old = c.args.tally in
     subst (λ (l : List Entry). (t.count ≡ old.count + listed_count l) × (behind t.last ≡ end_of_files (behind old.last) l)) all (c.loop-entry.invariant.listed rise)
+
+pub returns-clause-ends : goal.returns-clause-ends
+returns-clause-ends g c =
+    let all : take c.loop-entry.entry-index c.args.entries.now ≡ c.args.entries.now = take_all c.loop-entry.entry-index c.args.entries.now (omega (arith, c.loop-entry-test.false)) in
+    subst (λ (l : List Entry). behind c.loop-entry.tally.last ≡ end_of_files (behind c.args.tally.last) l) all c.loop-entry.invariant.ends

@@ -15,6 +15,7 @@ invariant-loop-entry g l = record {
   tally : IsTrue g.D.Disk.tells → (h : Granularity) (files : List Filed) (samples : List Sample) → l.entries ≡ map entry_of files → All (IsWhole h (l.store, l.rows) (g.D.Disk.files l.fn.disk)) files → IsRising (flat_map (λ (f : Filed). f.samples) files) → IsTally samples l.fn.tally
       → IsTally (over samples (flat_map (λ (f : Filed). f.samples) (take l.entry-index files))) l.tally;
   listed : RiseFrom (behind l.fn.tally.last) l.entries → (l.tally.count ≡ l.fn.tally.count + listed_count (take l.entry-index l.entries)) × (behind l.tally.last ≡ end_of_files (behind l.fn.tally.last) (take l.entry-index l.entries));
+  ends : behind l.tally.last ≡ end_of_files (behind l.fn.tally.last) (take l.entry-index l.entries);
   reads : IsTrue g.D.Disk.tells → ReadsDisk (g.D.Disk.files l.fn.disk) (g.D.Disk.files l.disk) (g.D.Disk.opened l.fn.disk) (g.D.Disk.opened l.disk) (g.D.Disk.past l.fn.disk) (g.D.Disk.past l.disk);
   faults : g.D.Disk.faults l.fn.disk ≤ g.D.Disk.faults l.disk;
 }

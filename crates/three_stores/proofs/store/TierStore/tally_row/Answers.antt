@@ -11,8 +11,9 @@ use Rattle.tier_store.specs.Plan.{of_row}
 use Rattle.three_stores.specs.Details.{IsLong, IsTally}
 use Rattle.three_stores.specs.Pinning.{entries_of}
 use Rattle.three_stores.specs.Seen.{seen_on}
-use Rattle.three_stores.specs.Tallying.{Adds}
-use Rattle.three_stores.proofs.ListedTallies.{adds_three, ok_weaker}
+use Rattle.three_stores.specs.Counting.{behind}
+use Rattle.three_stores.specs.Tallying.{Adds, end_of_files}
+use Rattle.three_stores.proofs.ListedTallies.{adds_three, ends_three, ok_weaker}
 use Rattle.three_stores.proofs.RowTallies.{own_rows, own_long, own_files, own_whole}
 use Rattle.three_stores.proofs.store.TierStore.tally_row.Goals as goal
 
@@ -107,3 +108,18 @@ returns-clause-listed g c rise =
     (subst (λ (es : List Entry). Adds c.in_ok-tally.tally es c.in_ok-tally-2.tally) two c.in_ok-tally-2.ensures.listed)
     (subst (λ (es : List Entry). Adds c.in_ok-tally-2.tally es t) one more) rise)
     c.add_files-3.ensures.listed
+
+pub returns-clause-ends : goal.returns-clause-ends
+returns-clause-ends g c =
+    let ms = c.args.self.now.manifests.items in
+    let row = c.args.row in
+    let three = c.own_entries-long.ensures ∙ ap (λ (l : List ManifestState). entries_of row (slice_get l 2)) c.deref.ensures.value in
+    let two = c.own_entries-medium.ensures ∙ ap (λ (l : List ManifestState). entries_of row (slice_get l 1)) c.deref-2.ensures.value in
+    let one = c.own_entries-short.ensures ∙ ap (λ (l : List ManifestState). entries_of row (slice_get l 0)) c.deref-3.ensures.value in
+    let zero : IsTally [] c.none.result = c.none.ensures in
+    ok_weaker _ _ c.add_files-3.result
+    (λ t more. ends_three c.none.result c.in_ok-tally.tally c.in_ok-tally-2.tally t (entries_of row (slice_get ms 2)) (entries_of row (slice_get ms 1)) (entries_of row (slice_get ms 0)) zero.last
+    (subst (λ (es : List Entry). behind c.in_ok-tally.tally.last ≡ end_of_files (behind c.none.result.last) es) three c.in_ok-tally.ensures.ends)
+    (subst (λ (es : List Entry). behind c.in_ok-tally-2.tally.last ≡ end_of_files (behind c.in_ok-tally.tally.last) es) two c.in_ok-tally-2.ensures.ends)
+    (subst (λ (es : List Entry). behind t.last ≡ end_of_files (behind c.in_ok-tally-2.tally.last) es) one more))
+    c.add_files-3.ensures.ends
