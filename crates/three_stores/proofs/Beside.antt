@@ -12,7 +12,7 @@ use Rattle.store_files.specs.Fronts.{Begins}
 use Rattle.store_manifest.specs.Batches.{Folds}
 use Rattle.store_manifest.specs.Manifest.{manifest_name}
 use Rattle.tier_store.specs.Held.{Filed, Held, AreIn, bytes_of, entry_of, file_of, shelf_of}
-use Rattle.tier_store.specs.Stored.{Holds, AreLong, CatalogueStored, TierStored}
+use Rattle.tier_store.specs.Stored.{Holds, AreLong, AreSafe, CatalogueStored, TierStored}
 use Rattle.tier_store.specs.Three.{Beside}
 use Rattle.tier_store.proofs.Ending.{other_journal}
 use Rattle.tier_store.proofs.Frame.{Untouched, catalogue_stays, tier_stays}
@@ -72,8 +72,12 @@ module _ (store : ℕ) (name : Name) (files later : Files) (opened after : Name 
   pub rows_beside : (c : JournalState) (rows : List Row) → CatalogueStored c files opened old rows → CatalogueStored c later after new rows
   rows_beside c rows stored = catalogue_stays (Beside store name) c files later opened after old new call.passes (untouched c catalogue_name stored.named refl (other_journal store)) rows stored
 
+  pub safe_beside : (t : Held) → 1 ≤ t.store → t.store ≢ store → AreSafe t files opened old → AreSafe t later after new
+  safe_beside t numbered apart safe =
+      safe_stays t (Beside store name) files later opened after old new safe call.passes (λ a c step. in_beside store a c t numbered apart (by_name a c step)) (long_beside store files later t numbered apart (by_name files later call.same) safe.long) call.fewer
+
   pub tier_beside : (g : Granularity) (m : JournalState) (t : Held) → t.store ≢ store → TierStored g m files opened old t → TierStored g m later after new t
   tier_beside g m t apart stored =
       let numbered = stored.valid.filed.numbered in
       tier_stays (Beside store name) m files later opened after old new call.passes (untouched m (manifest_name t.store) stored.named refl (manifests_differ t.store store apart)) g t stored
-      (safe_stays t (Beside store name) files later opened after old new stored.safe call.passes (λ a c step. in_beside store a c t numbered apart (by_name a c step)) (long_beside store files later t numbered apart (by_name files later call.same) stored.safe.long) call.fewer)
+      (safe_beside t numbered apart stored.safe)

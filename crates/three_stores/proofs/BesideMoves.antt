@@ -34,11 +34,11 @@ use Rattle.three_stores.proofs.Places.{granularity_at, list_other, list_set, wit
 -- LISTS OF A ROW
 
 -- a list of the same entries of a row ends the same
-last_same : (xs ys : List Entry) (row : ℕ) (o : Option Entry) → filter (λ (e : Entry). nat_eq e.series row) xs ≡ filter (λ (e : Entry). nat_eq e.series row) ys → IsLastOf ys row o → IsLastOf xs row o
+pub last_same : (xs ys : List Entry) (row : ℕ) (o : Option Entry) → filter (λ (e : Entry). nat_eq e.series row) xs ≡ filter (λ (e : Entry). nat_eq e.series row) ys → IsLastOf ys row o → IsLastOf xs row o
 last_same xs ys row None same is = same ∙ is
 last_same xs ys row (Some e) same is = (is.0, same ∙ is.1)
 
-row_entries : (row : ℕ) (xs ys : List Filed) → of_row row xs ≡ of_row row ys → filter (λ (e : Entry). nat_eq e.series row) (map entry_of xs) ≡ filter (λ (e : Entry). nat_eq e.series row) (map entry_of ys)
+pub row_entries : (row : ℕ) (xs ys : List Filed) → of_row row xs ≡ of_row row ys → filter (λ (e : Entry). nat_eq e.series row) (map entry_of xs) ≡ filter (λ (e : Entry). nat_eq e.series row) (map entry_of ys)
 row_entries row xs ys same = filter-map (λ (e : Entry). nat_eq e.series row) xs ∙ ap (map entry_of) same ∙ sym (filter-map (λ (e : Entry). nat_eq e.series row) ys)
 
 parts_map : (xs : List Filed) → map (λ (e : Entry). e.part) (map entry_of xs) ≡ map (λ (f : Filed). f.entry.part) xs

@@ -185,7 +185,7 @@ module _ (fine : Granularity) (move : MoveState) (base : Held) (part : Entry) (q
   lines_are : take (q.entry.len - part.head_len) (drop part.head_len b) ≡ lines_of split.front ++ lines_of split.back
   lines_are = (is_split b q.head part.head_len q.entry.len info q.samples file_is head_long).lines ∙ (ap lines_of split.split ∙ lines_of-append split.front split.back)
 
-  long_is : q.entry.len ≡ part.head_len + (length (lines_of split.front) + length (lines_of split.back))
+  pub long_is : q.entry.len ≡ part.head_len + (length (lines_of split.front) + length (lines_of split.back))
   long_is =
       let whole = of_part.filed.len in
       let both = ap length (ap lines_of split.split ∙ lines_of-append split.front split.back) in
@@ -203,7 +203,7 @@ module _ (fine : Granularity) (move : MoveState) (base : Held) (part : Entry) (q
       ∙ (ap (λ (x : ℕ). drop k (take x (drop h b))) (omega (arith, long_is))
       ∙ (ap (drop k) lines_are ∙ drop-append_seam (lines_of split.front) (lines_of split.back)))))
 
-  some_left : left ≢ []
+  pub some_left : left ≢ []
   some_left = empty_left from q.entry.len split.back (let size = long_is in let at = split.place in omega (arith, size, at)) low
 
   are_left : AreSamples info.ty info.year left
@@ -216,7 +216,7 @@ module _ (fine : Granularity) (move : MoveState) (base : Held) (part : Entry) (q
       go [] none are = absurd (some_left none)
       go (s ∷ xs) same are = record { sample = s; rest = lines_of xs; are = rest_is ∙ ap lines_of same; is = are.0 }
 
-  rises_left : RisesFrom n left
+  pub rises_left : RisesFrom n left
   rises_left = go split.back split.later (RisesFrom-rest 0 split.front split.back (subst (RisesFrom 0) split.split of_part.filed.file.rising))
     where
       go : (xs : List Sample) → BeginsAt n xs → RisesFrom (end_from 0 split.front) xs → RisesFrom n xs

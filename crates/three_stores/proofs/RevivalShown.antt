@@ -180,7 +180,7 @@ known_open tells at before after (inl has) = has.known
 known_open tells at before after (inr doubt) = doubt.known
 
 -- files in limbo stay whole while calls only read
-read_whole : (tells : Bool) (old new : Seen) (limbo : List Retired) → length old.manifests ≡ 3 → ((name : Name) → IsHeldTo old name 0 → IsHeldTo new name 0) → KeepsRows old.catalogue.rows new.catalogue.rows → granularities new.manifests ≡ granularities old.manifests
+pub read_whole : (tells : Bool) (old new : Seen) (limbo : List Retired) → length old.manifests ≡ 3 → ((name : Name) → IsHeldTo old name 0 → IsHeldTo new name 0) → KeepsRows old.catalogue.rows new.catalogue.rows → granularities new.manifests ≡ granularities old.manifests
     → (IsTrue tells → new.files ≡ old.files) → (IsTrue tells → new.opened ≡ old.opened) → (IsTrue tells → Passes (λ a b. b ≡ a) old.past new.past) → (stands : Bool) (files : List Filed) → AreWhole tells old limbo stands files → AreWhole tells new limbo stands files
 read_whole tells old new limbo three held keeps same_g same opened passes stands files whole = record {
   each = λ k d lt number. elim (whole.each k d lt number) [

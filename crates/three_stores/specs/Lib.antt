@@ -1,6 +1,7 @@
 pub mod Beginning
 pub mod Change
 pub mod Copied
+pub mod Copying
 pub mod Counting
 pub mod Details
 pub mod Finding

@@ -41,7 +41,7 @@ struct Skipped {
 }
 
 // Whether a moment is later than another, if there is one.
-fn is_later(last: Option<u64>, t: u64) -> bool
+pub(crate) fn is_later(last: Option<u64>, t: u64) -> bool
     ensures later { IsTrue result → behind last ≤ t }
     ensures earlier { result ≡ false → t + 1 ≤ behind last }
 {
@@ -189,6 +189,7 @@ impl<D: Disk> TierStore<D> {
         ensures pins { self.new.pinned ≡ self.old.pinned }
         ensures limbo { self.new.limbo ≡ self.old.limbo }
         ensures reads { OnlyReads D.tells (seen D.Disk self.old) (seen D.Disk self.new) (end_of_disk result) }
+        ensures opened { IsTrue D.tells → D.opened self.new.disk ≡ D.opened self.old.disk }
     {
         let name = file_name(self.alloc, store, self.catalogue.rows(), entry)?;
         let later = find_next(

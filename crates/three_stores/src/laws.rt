@@ -1,5 +1,5 @@
 //! What follows from holding, for all images and stores.
-ghost use Rattle.std.specs.Prelude.{◌≡◌, ◌⊎◌, ◌<◌, ◌+◌, ◌++◌, ℕ, Bool, List, [], map, length, slice_get, take, None, Some, true, false, All, Contains, IsTrue};
+ghost use Rattle.std.specs.Prelude.{◌≡◌, ◌⊎◌, ◌<◌, ◌≤◌, ◌+◌, ◌++◌, ℕ, Bool, List, [], map, length, slice_get, take, None, Some, true, false, All, Contains, IsTrue};
 ghost use Rattle.disk_model.specs.Files.{Files, Name};
 ghost use Rattle.disk_model.specs.Past.{MayLeave, Passes};
 ghost use Rattle.etl_mover.specs.Copying.{last_of};
@@ -26,7 +26,9 @@ ghost use Rattle.std.specs.Ordering.{nat_cmp};
 ghost use Rattle.pinned_pieces.specs.Pieces.{PinOf};
 ghost use Rattle.pv_catalog.specs.Rows.{KeepsRows};
 ghost use Rattle.three_stores.specs.Copied.{IsPartFile, WritesNext, end_after};
+ghost use Rattle.three_stores.specs.Copying.{CopiesBeside, KnowsHeads};
 ghost use Rattle.three_stores.specs.Finding.{SplitsAt};
+ghost use Rattle.three_stores.specs.Retiring.{oldest};
 ghost use Rattle.three_stores.specs.Limbo.{LimboStands, LeavesKept};
 ghost use Rattle.three_stores.specs.Moving.{GoesBeside, LeavesNames, RunsBeside, names_of};
 ghost use Rattle.three_stores.specs.Pinned.{beside, NoneOf, PinsStand, KeepsShown};
@@ -149,4 +151,19 @@ pub fn a_copy_writes_the_next_samples()
         → (split : SplitsAt file.samples (end_after (last_of move.pending move.listed)) part.head_len from) → from < file.entry.len
         → Takes (take part.head_len bytes) (between from file.entry.len bytes) most lines start.entry entry
         → WritesNext move.granularity base start.at (take part.head_len bytes) lines entry split.back }
+{}
+
+/// A move that has begun copies beside what is held, if it has parts, and has written nothing. It copies beside the stores still after a call
+/// that leaves it as it runs beside them, the headers of its parts' files, and the files of the parts that are copied.
+pub fn a_move_copies_beside<D: Disk>()
+    ensures begun { (disk : D) (catalogue : CatalogueState) (ms : List ManifestState) (limbo : List Retired) (held : Stores) (from : ℕ) (source dest : ManifestState) (row : Row) (n : ℕ) (move : MoveState)
+        → (IsTrue held.stands → IsTrue D.tells) → Has D.tells (seen_on D.files D.opened D.past D.faults catalogue ms disk) held → slice_get ms from ≡ Some source → slice_get ms (from + 1) ≡ Some dest → slice_get held.rows move.series ≡ Some row
+        → HasBegun source dest move.series row.name n move → IsMove source.granularity move → StillLists move source → 1 ≤ length move.parts
+        → CopiesBeside from D.tells (beside (seen_on D.files D.opened D.past D.faults catalogue ms disk) limbo) move [] held }
+    ensures stays { (old new : D) (catalogue later : CatalogueState) (ms ns : List ManifestState) (limbo left : List Retired) (from : ℕ) (move : MoveState) (files : List Filed) (held made : Stores)
+        → granularities ns ≡ granularities ms → GoesBeside (from + 1) move.series held made
+        → LeavesNames (names_of (from + 1 + 1, held.rows) files) D.tells (beside (seen_on D.files D.opened D.past D.faults catalogue ms old) limbo) (beside (seen_on D.files D.opened D.past D.faults later ns new) left)
+        → KnowsHeads from move made → oldest from move.series move.at made ≡ oldest from move.series move.at held
+        → CopiesBeside from D.tells (beside (seen_on D.files D.opened D.past D.faults catalogue ms old) limbo) move files held
+        → CopiesBeside from D.tells (beside (seen_on D.files D.opened D.past D.faults later ns new) left) move files made }
 {}

@@ -14,7 +14,8 @@
 //! are pinned stay on the disk, in limbo, until `TierStore::sweep` finds that nothing needs them.
 //!
 //! A running move writes its files to the next store ahead of what that lists, and the stores don't know it: what it has written stands
-//! beside them (`RunsBeside`) while calls leave those files. `TierStore::publish` lists them.
+//! beside them (`RunsBeside`) while calls leave those files. `TierStore::copy` goes on with what is left to copy, and once all is copied
+//! `TierStore::publish` lists the files.
 //!
 //! `TierStore::details` tells of a row: what the catalogue has of it, how many files each store lists, and how many of its samples are
 //! durable. While a move is half done two stores list the same samples; the file that a later store's samples reach into is then read.
@@ -28,6 +29,7 @@
 //! length, and each can be made again.
 #![tactic(auto)]
 
+mod copying;
 mod counting;
 mod details;
 mod finding;
@@ -48,6 +50,7 @@ mod store;
 mod sweeping;
 mod tallying;
 
+pub use copying::CopyEnd;
 pub use finding::LaterLines;
 pub use limbo::Retired;
 pub use moving::MoveBegun;

@@ -84,3 +84,9 @@ returns-clause-told g c tells line info has =
     let named : c.in_ok-name.name ≡ file_of (c.args.store, self.catalogue.rows) e = c.in_ok-name.ensures ∙ ap (λ (r : List Row). file_of (c.args.store, r) e) c.rows.ensures.value in
     subst (λ (n : Name). IsTold files n e.len info.ty info.year c.in_ok-later.later × IsNoSooner e.head_len c.in_ok-later.later) named
     (c.in_ok-later.ensures.told tells line info (record { bytes = has.bytes; file = ap files named ∙ has.file; holds = has.holds }))
+
+pub returns-clause-opened : goal.returns-clause-opened
+returns-clause-opened g c tells = (c.find_next.ensures.reads tells).same_opened
+
+pub returns-in_err-later-clause-opened : goal.returns-in_err-later-clause-opened
+returns-in_err-later-clause-opened g c tells = (c.find_next.ensures.reads tells).same_opened

@@ -1,0 +1,281 @@
+-- What a step of copying leaves: all that is held, and what is to be listed.
+use Rattle.std.proofs.Common.{◌≡◌, ◌≢◌, ◌⊎◌, inl, inr, true, Bool, ℕ, zero, suc, ◌<◌, ◌≤◌, ◌+◌, List, [], Some, None, Ok, Err, Result, length, get_or, refl, sym, ◌∙◌, ap, subst, arith}
+use Rattle.std.specs.Prelude.{All, Contains, IsTrue, slice_get, slice_set}
+use Rattle.std.proofs.lemmas.List.Elements.{All-contains}
+use Rattle.disk_model.specs.Files.{Name, Files, HasFile, At, Rose}
+use Rattle.disk_model.specs.Past.{Past, MayLeave, Passes}
+use Rattle.disk_model.specs.declared.disk.DiskErr.{DiskErr}
+use Rattle.disk_model.specs.declared.disk.DiskErr.TheVariants.{Fault, Memory}
+use Rattle.disk_model.proofs.Passing.{passes_weaker}
+use Rattle.etl_mover.specs.Growing.{IsPlaced}
+use Rattle.etl_mover.specs.Move.{MoveState, part_file}
+use Rattle.etl_mover.specs.Reading.{OnlyReads}
+use Rattle.etl_mover.specs.Step.{GoesTo, GoesNowhere, target_file}
+use Rattle.etl_mover.specs.Writing.{LeavesFile}
+use Rattle.etl_mover.proofs.Advancing.{IsOfPart, start_is}
+use Rattle.etl_mover.proofs.AheadFile.{allows, still_ahead, still_holds}
+use Rattle.partition_names.specs.declared.granularity.Granularity.{Granularity}
+use Rattle.partition_names.specs.Part.{IsPart}
+use Rattle.partition_names.specs.Path.{path_of}
+use Rattle.pv_catalog.specs.Catalogue.{CatalogueState}
+use Rattle.pv_catalog.specs.declared.row.Row.{Row}
+use Rattle.store_files.specs.Fronts.{Begins, Keeps}
+use Rattle.store_manifest.specs.Manifest.{ManifestState}
+use Rattle.store_manifest.specs.declared.entry.Entry.{Entry}
+use Rattle.tier_store.specs.Ahead.{HasCopied, IsLed}
+use Rattle.tier_store.specs.Ends.{Done, end_of_disk}
+use Rattle.tier_store.specs.Flush.{start_of, with_files}
+use Rattle.tier_store.specs.Held.{Filed, Held, IsIn, IsListed, file_of, name_of, shelf_of}
+use Rattle.tier_store.specs.Stored.{AreHeld, AreSafe, Holds, TierStored}
+use Rattle.tier_store.proofs.Names.{name_cases}
+use Rattle.tier_store.proofs.There.{contains_map}
+use Rattle.three_stores.specs.Stores.{Stores, list_at, tier, with_list}
+use Rattle.three_stores.specs.Seen.{Seen, seen_on}
+use Rattle.three_stores.specs.Change.{Has, HoldsBy}
+use Rattle.three_stores.specs.Copying.{CopiesBeside, NoneOfMove, LeavesOthers}
+use Rattle.three_stores.specs.Given.{ChangesGiven}
+use Rattle.three_stores.specs.Limbo.{staying}
+use Rattle.three_stores.specs.Moving.{of_files}
+use Rattle.three_stores.specs.Pinned.{SeenAll, beside, NoneOf, IsThereTo, IsRetiredTo, KeepsFronts, KeepsShown}
+use Rattle.three_stores.specs.Revival.{KeepsWhole, short_with}
+use Rattle.three_stores.specs.declared.limbo.Retired.{Retired}
+use Rattle.three_stores.proofs.Beside.{OnStore, safe_beside}
+use Rattle.three_stores.proofs.CopyPending.{all_in}
+use Rattle.three_stores.proofs.CopyPlaces.{Start, Where, where_it_goes, placed}
+use Rattle.three_stores.proofs.Left.{all_left, hold_at}
+use Rattle.three_stores.proofs.LeavingNames.{read_leaves}
+use Rattle.three_stores.proofs.MovedFiles.{has_copied, same_size, valid_with}
+use Rattle.three_stores.proofs.OnePlace.{given_done}
+use Rattle.three_stores.proofs.Places.{set_same, one_manifest, within_three}
+use Rattle.three_stores.proofs.ReadsThen.{has_read}
+use Rattle.three_stores.proofs.Showing.{held_same, name_listed, read_shown, shown}
+
+-- the stores with the list that a place has
+list_kept : (i : ℕ) (s : Stores) → i < 3 → with_list i (list_at i s) s ≡ s
+list_kept zero s low = refl
+list_kept (suc zero) s low = refl
+list_kept (suc (suc zero)) s low = refl
+list_kept (suc (suc (suc i))) s low = absurd (omega (arith, low))
+
+module _ {S : Type 0} (files_of : S → Files) (opened_of : S → Name → ℕ) (past_of : S → Past) (faults_of : S → ℕ) (tells : Bool) (c : CatalogueState) (ms : List ManifestState) (limbo : List Retired) (from : ℕ) (m : ManifestState) (here : slice_get ms (from + 1) ≡ Some m) (d after : S)
+    (seen_it : IsTrue tells → MayLeave (past_of d) (files_of d)) where
+  abbrev i : ℕ
+  i = from + 1
+
+  abbrev old : SeenAll
+  old = beside (seen_on files_of opened_of past_of faults_of c ms d) limbo
+
+  abbrev new : SeenAll
+  new = beside (seen_on files_of opened_of past_of faults_of c ms after) limbo
+
+  -- what the call says of files: lines went behind a place of one, or files were read alone
+  abbrev pub Leaves : MoveState → Start → Type 0
+  Leaves move start = IsTrue tells → LeavesFile (target_file move start) start.at (files_of d) (files_of after) (opened_of d) (opened_of after) (past_of d) (past_of after)
+
+  abbrev pub Reads : Type 0
+  Reads = IsTrue tells → OnlyReads (files_of d) (files_of after) (opened_of d) (opened_of after) (past_of d) (past_of after)
+
+  abbrev pub Wrote : MoveState → Entry → Type 0
+  Wrote move part = ((start : Start) × GoesTo move None part start × Leaves move start) ⊎ (GoesNowhere move None part × Reads)
+
+  -- what it leaves of its store
+  pub record Stays (files : List Filed) (held : Stores) : Type 0 where
+    pub stored : TierStored m.granularity m.journal (files_of after) (opened_of after) (past_of after) (tier i held)
+    pub moments : Passes (λ a b. Holds m.granularity b (tier i held)) (past_of d) (past_of after)
+    pub safe : AreSafe (of_files i held files) (files_of after) (opened_of after) (past_of after)
+
+  module _ (move : MoveState) (part : Entry) (files : List Filed) (held : Stores) (has : Has tells old.stores held) (is : CopiesBeside from tells old move files held) where
+    abbrev pub base : Held
+    base = with_files (tier i held) files
+
+    pub valid : AreHeld m.granularity base
+    valid = valid_with i tells old held files is.runs.ahead m here has
+
+    pub coarse : m.granularity ≡ move.granularity
+    coarse = same_size i tells old move files held m here is.runs
+
+    pub copied : IsTrue tells → HasCopied c.journal m (i + 1, c.rows) (files_of d) (opened_of d) (past_of d) (tier i held) base
+    copied told = has_copied i tells old held files is.runs.ahead m here has told (seen_it told)
+
+    -- the name of a file of the row
+    pub name_is : IsTrue tells → (e : Entry) → e.series ≡ move.series → file_of (i + 1, held.rows) e ≡ part_file move.destination move.name e
+    name_is told e own =
+        ap (λ (n : ℕ). (n, path_of (name_of (slice_get held.rows e.series)) e.part.name)) (sym (is.runs.numbers told).1)
+        ∙ (ap (λ (n : ℕ). (move.destination, path_of (name_of (slice_get held.rows n)) e.part.name)) own
+        ∙ (ap (λ o. (move.destination, path_of (name_of o) e.part.name)) is.runs.stands ∙ ap (λ (t : List ℕ). (move.destination, path_of t e.part.name)) is.runs.name))
+
+    module _ (start : Start) (goes : GoesTo move None part start) where
+      pub of_part : IsOfPart move.granularity move.series part start.entry
+      of_part = start_is is.runs.fine move None part start is.runs.running tt goes
+
+      pub where_is : Where base move.series part.head_len start
+      where_is = where_it_goes move base part start goes valid.apart is.last
+
+      -- the file, with nothing known of its bytes
+      abbrev pub bare : Entry → Filed
+      bare e = record { entry = e; head = []; samples = [] }
+
+      pub listed_here : (f : Filed) → f.entry.series ≡ move.series → f.entry.part ≡ start.entry.part → IsListed m.granularity held.rows f
+      listed_here f own of = record {
+        row = is.runs.row;
+        stands = ap (slice_get held.rows) own ∙ is.runs.stands;
+        part = subst (λ p. IsPart m.granularity p) (sym of) (subst (λ (g : Granularity). IsPart g start.entry.part) (sym coarse) of_part.is);
+      }
+
+      pub placed_here : (f : Filed) → f.entry.series ≡ move.series → f.entry.part ≡ start.entry.part → IsPlaced m.granularity base start.at f
+      placed_here f own of = placed m.granularity base move.series part.head_len start valid of_part.own f own of where_is (listed_here f own of)
+
+      module _ (leaves : Leaves move start) where
+        pub call : IsTrue tells → LeavesFile (file_of (shelf_of base) start.entry) start.at (files_of d) (files_of after) (opened_of d) (opened_of after) (past_of d) (past_of after)
+        call told = subst (λ (n : Name). LeavesFile n start.at (files_of d) (files_of after) (opened_of d) (opened_of after) (past_of d) (past_of after)) (sym (name_is told start.entry of_part.own)) (leaves told)
+
+        stays_goes : IsTrue tells → Stays files held
+        stays_goes told =
+            let f : Filed = bare start.entry in
+            let at = placed_here f of_part.own refl in
+            let s = still_ahead c.journal m (i + 1, c.rows) (files_of d) (files_of after) (opened_of d) (opened_of after) (past_of d) (past_of after) (tier i held) base start.at f (copied told) at (call told) in
+            record {
+              stored = s.stored.stored.tier;
+              moments = still_holds c.journal m (i + 1, c.rows) (files_of d) (files_of after) (opened_of d) (opened_of after) (past_of d) (past_of after) (tier i held) base start.at f (copied told) at (call told);
+              safe = safe_in s.safe.safe;
+            }
+          where
+            safe_in : AreSafe base (files_of after) (opened_of after) (past_of after) → AreSafe (of_files i held files) (files_of after) (opened_of after) (past_of after)
+            safe_in safe = record {
+              long = all_in (λ (f : Filed). HasFile (files_of after) (file_of (i + 1, held.rows) f.entry) (λ b. f.entry.len ≤ length b)) files (list_at i held) is.runs.ahead.rise safe.long;
+              unopened = all_in (λ (f : Filed). opened_of after (file_of (i + 1, held.rows) f.entry) ≤ f.entry.len) files (list_at i held) is.runs.ahead.rise safe.unopened;
+              left = λ image left stands. all_in (IsIn (i + 1, held.rows) image) files (list_at i held) is.runs.ahead.rise (safe.left image left stands);
+            }
+
+        on_goes : IsTrue tells → OnStore (i + 1) m.journal.name (files_of d) (files_of after) (opened_of d) (opened_of after) (past_of d) (past_of after)
+        on_goes told =
+            let leaves_it = call told in
+            record {
+              numbered = omega arith;
+              named = ((has.disk told).each i m here).named;
+              passes = passes_weaker (At (file_of (shelf_of base) start.entry) (Keeps (start_of start.at))) _ _ _ leaves_it.any_moment (λ a x was step n other apart. step.elsewhere n (λ same. other (ap (λ (y : Name). y.0) same)));
+              same = λ n other apart. leaves_it.elsewhere n (λ same. other (ap (λ (y : Name). y.0) same));
+              fewer = leaves_it.fewer;
+            }
+
+        -- what is shown stays
+        fronts_goes : NoneOf (i + 1) limbo → IsTrue tells → KeepsFronts old new
+        fronts_goes none told name len there front some within begins = elim (name_cases name (file_of (shelf_of base) start.entry)) [
+          | inl same ↦ subst (λ (n : Name). Begins front (files_of after n)) (sym same) ((call told).front front some (at_most there same) (subst (λ (n : Name). Begins front (files_of d n)) same begins))
+          | inr apart ↦ subst (Begins front) (sym ((call told).elsewhere name apart)) begins
+        ]
+          where
+            at_most : IsThereTo old name len → name ≡ file_of (shelf_of base) start.entry → length front ≤ start_of start.at
+            at_most (inr r) same = absurd (All-contains (λ (x : Retired). x.name.0 ≢ i + 1) limbo r.file none r.within (ap (λ (n : Name). n.0) (r.named ∙ same)))
+            at_most (inl h) same =
+                let number = name_listed old.stores name len h in
+                let store : name.0 ≡ i + 1 = ap (λ (n : Name). n.0) same in
+                let place : h.place ≡ i = omega (arith, number, store) in
+                let own : h.manifest ≡ m = one_manifest ms i h.place m h.manifest place here h.here in
+                let listed : Contains m.entries h.listed.entry = subst (λ (x : ManifestState). Contains x.entries h.listed.entry) own h.listed.within in
+                let f = contains_map (list_at i held) h.listed.entry (subst (λ (es : List Entry). Contains es h.listed.entry) (has.known.each i m here).entries listed) in
+                let led = All-contains (IsLed (tier i held) base.files) (list_at i held) f.0 (copied told).leads.each f.1 in
+                let named : file_of (i + 1, held.rows) f.0.entry ≡ name =
+                ap (file_of (i + 1, held.rows)) f.2 ∙ (ap (λ (r : List Row). file_of (i + 1, r) h.listed.entry) (sym has.known.rows) ∙ (ap (λ (k : ℕ). file_of (k + 1, c.rows) h.listed.entry) (sym place) ∙ h.listed.named)) in
+                let bare_file : Filed = bare start.entry in
+                let most = All-contains (λ (x : Filed). file_of (shelf_of base) x.entry ≡ file_of (shelf_of base) start.entry → x.entry.len ≤ start_of start.at) base.files led.file
+                (allows m.granularity base start.at bare_file valid (placed_here bare_file of_part.own refl)) led.within (led.name ∙ (named ∙ same)) in
+                let longer = led.longer in
+                let long = h.listed.longer in
+                let entry_len = ap (λ (x : Entry). x.len) f.2 in
+                omega (arith, within, long, longer, most, entry_len)
+
+    stays_reads : Reads → IsTrue tells → Stays files held
+    stays_reads reads told =
+        let r = reads told in
+        let now = has_read files_of opened_of past_of faults_of tells c ms d after (λ told. record { same = (reads told).same; same_opened = (reads told).same_opened; any_moment = (reads told).any_moment }) held has in
+        record {
+          stored = (now.disk told).each i m here;
+          moments = passes_weaker (λ a b. b ≡ a) _ _ _ r.any_moment (λ a x left same. subst (λ (f : Files). Holds m.granularity f (tier i held)) (sym same) (hold_at ms a held (all_left old.stores held a (has.disk told) left) i m here));
+          safe = record {
+            long = λ k f lt. let was = (is.runs.ahead.safe told).long k f lt in record { bytes = was.bytes; file = ap (λ (x : Files). x (file_of (i + 1, held.rows) (get_or files k f).entry)) r.same ∙ was.file; holds = was.holds };
+            unopened = λ k f lt.
+                let was = (is.runs.ahead.safe told).unopened k f lt in
+                let same = ap (λ (o : Name → ℕ). o (file_of (i + 1, held.rows) (get_or files k f).entry)) r.same_opened in
+                omega (arith, was, same);
+            left = λ image left stands k f lt.
+                let come = r.any_moment.each (past_of after).now image r.any_moment.later (omega arith) left in
+                subst (λ (x : Files). IsIn (i + 1, held.rows) x (get_or files k f)) (sym come.2) ((is.runs.ahead.safe told).left come.0 come.1 stands k f lt);
+          };
+        }
+
+    on_reads : Reads → IsTrue tells → OnStore (i + 1) m.journal.name (files_of d) (files_of after) (opened_of d) (opened_of after) (past_of d) (past_of after)
+    on_reads reads told =
+        let r = reads told in
+        record {
+          numbered = omega arith;
+          named = ((has.disk told).each i m here).named;
+          passes = passes_weaker (λ a b. b ≡ a) _ _ _ r.any_moment (λ a x was same n other apart. ap (λ (f : Files). f n) same);
+          same = λ n other apart. ap (λ (f : Files). f n) r.same;
+          fewer = λ n. let same = ap (λ (o : Name → ℕ). o n) r.same_opened in omega (arith, same);
+        }
+
+    pub stays : Wrote move part → IsTrue tells → Stays files held
+    stays (inl (start, goes, leaves)) told = stays_goes start goes leaves told
+    stays (inr (nowhere, reads)) told = stays_reads reads told
+
+    pub on_store : Wrote move part → IsTrue tells → OnStore (i + 1) m.journal.name (files_of d) (files_of after) (opened_of d) (opened_of after) (past_of d) (past_of after)
+    on_store (inl (start, goes, leaves)) told = on_goes start goes leaves told
+    on_store (inr (nowhere, reads)) told = on_reads reads told
+
+    pub shown_still : Wrote move part → NoneOf (i + 1) limbo → KeepsShown tells old new
+    shown_still (inl (start, goes, leaves)) none =
+        shown tells old new refl (λ name len h. held_same files_of opened_of past_of faults_of c ms d after name len h) (λ name len r. record { listed = r.no_shorter.listed; in_doubt = r.no_shorter.in_doubt; rows_in_doubt = r.no_shorter.rows_in_doubt })
+        (fronts_goes start goes leaves none)
+    shown_still (inr (nowhere, reads)) none = read_shown files_of opened_of past_of faults_of tells c ms limbo d after (λ told. (reads told).same)
+
+  -- all other names stay
+  pub leaves_others : (move : MoveState) (part : Entry) → Wrote move part → LeavesOthers move tells old new
+  leaves_others move part (inl (start, goes, leaves)) names later none = record {
+    files = λ told n within. (leaves told).elsewhere n (λ same. none start.entry (subst (Contains names) same within));
+    fewer = λ told n within. (leaves told).fewer n;
+    any_moment = λ told. passes_weaker (At (target_file move start) (Keeps (start_of start.at))) _ _ _ (leaves told).any_moment (λ a x was step n within. step.elsewhere n (λ same. none start.entry (subst (Contains names) same within)));
+    limbo = λ r within there. there;
+  }
+  leaves_others move part (inr (nowhere, reads)) names later none = record {
+    files = λ told n within. ap (λ (f : Files). f n) (reads told).same;
+    fewer = λ told n within. let same = ap (λ (o : Name → ℕ). o n) (reads told).same_opened in omega (arith, same);
+    any_moment = λ told. passes_weaker (λ a b. b ≡ a) _ _ _ (reads told).any_moment (λ a x was same n within. ap (λ (f : Files). f n) same);
+    limbo = λ r within there. there;
+  }
+
+  -- files in limbo of store 1 stay whole
+  pub keeps_whole : (IsTrue tells → OnStore (i + 1) m.journal.name (files_of d) (files_of after) (opened_of d) (opened_of after) (past_of d) (past_of after)) → KeepsWhole tells old new
+  keeps_whole on stands files whole = (
+    files,
+    record {
+      each = λ k r lt number. elim (whole.each k r lt number) [
+        | inl h ↦ inl (held_same files_of opened_of past_of faults_of c ms d after (get_or limbo k r).name 0 h)
+        | inr there ↦ inr there
+      ];
+      from = whole.from;
+      rise = whole.rise;
+      filed = whole.filed;
+      safe = λ told. safe_beside (i + 1) m.journal.name (files_of d) (files_of after) (opened_of d) (opened_of after) (past_of d) (past_of after) (on told) (short_with old.stores stands files) (omega arith) (λ is. absurd (omega (arith, is))) (whole.safe told);
+    },
+  )
+
+  -- THE CALL
+
+  module _ (Is : Stores → Type 0) (files : List Filed) (sound : m.journal.sound ≡ true) (stays_in : (held : Stores) → Has tells old.stores held → Is held → IsTrue tells → Stays files held)
+      (on : IsTrue tells → OnStore (i + 1) m.journal.name (files_of d) (files_of after) (opened_of d) (opened_of after) (past_of d) (past_of after)) (faults : faults_of d ≤ faults_of after) where
+    low_in : (held : Stores) → Has tells old.stores held → i < 3
+    low_in held has = within_three ms i m has.known.three here
+
+    done : ChangesGiven Is tells (staying {A = Unit {0}}) old.stores new.stores (Done tt)
+    done = subst (λ (l : List ManifestState). ChangesGiven Is tells (staying {A = Unit {0}}) old.stores (seen_on files_of opened_of past_of faults_of c l after) (Done tt)) (set_same ms i m here)
+        (given_done files_of opened_of past_of faults_of tells c ms i m m here d after refl on faults Is (staying {A = Unit {0}}) (λ held has given. list_at i held) (λ held has given. list_kept i held (low_in held has)) (λ held has given. (has.known.each i m here).valid)
+        (λ told held has given. passes_weaker _ _ _ _ (stays_in held has given told).moments (λ a x was step. inl step)) tt (λ held has given. tt) sound (λ held has given. (has.known.each i m here).entries) (λ told held has given. (stays_in held has given told).stored))
+
+    pub has_still : (held : Stores) → Has tells old.stores held → Is held → Has tells new.stores held
+    has_still held has given = let ends = done.ends held has given in subst (Has tells new.stores) ends.1 ends.3
+
+    pub changes : {A : Type 0} (r : Result A DiskErr) → (r ≡ Err Fault → Rose (faults_of d) (faults_of after)) → ChangesGiven Is tells (staying {A = A}) old.stores new.stores (end_of_disk r)
+    changes {A} (Ok a) cause = record { ends = λ held has given. (held, refl, tt, has_still held has given); any_moment = done.any_moment; costs = record { granularity = refl; faults = faults; cause = λ failed. absurd failed } }
+    changes {A} (Err Fault) cause = record { ends = λ held has given. inl (has_still held has given); any_moment = done.any_moment; costs = record { granularity = refl; faults = faults; cause = λ failed. cause refl } }
+    changes {A} (Err Memory) cause = record { ends = λ held has given. has_still held has given; any_moment = done.any_moment; costs = record { granularity = refl; faults = faults; cause = λ failed. absurd failed } }

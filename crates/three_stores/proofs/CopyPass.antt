@@ -1,0 +1,205 @@
+-- A part of which nothing is left is passed.
+use Rattle.std.proofs.Common.{◌≡◌, ◌≢◌, ◌⊎◌, inl, inr, true, false, Bool, Bor, ℕ, zero, suc, ◌<◌, ◌≤◌, ◌+◌, List, [], ◌∷◌, ◌++◌, length, map, set, take, Option, Some, None, refl, sym, ◌∙◌, ap, subst, arith, append-nil}
+use Rattle.std.specs.Prelude.{IsTrue, is_some, option_copied, slice_get}
+use Rattle.std.proofs.lemmas.Bool.{cases_lt}
+use Rattle.std.proofs.lemmas.List.{length-append, length-set, length-take, take-take}
+use Rattle.std.proofs.lemmas.Option.{get_or_from_slice_get, same_Some, slice_get_within}
+use Rattle.std.proofs.Math.Seq.{map-set_same}
+use Rattle.etl_mover.specs.Copying.{last_of}
+use Rattle.etl_mover.specs.Move.{MoveState, IsMove}
+use Rattle.etl_mover.specs.Step.{finished}
+use Rattle.etl_mover.proofs.Onward.{still_lists}
+use Rattle.etl_mover.proofs.StepEnds.{advances_covered}
+use Rattle.partition_names.specs.declared.granularity.Granularity.{Granularity}
+use Rattle.pb_lines.specs.File.{lines_of}
+use Rattle.pb_lines.proofs.FileLines.{lines_of-append}
+use Rattle.pv_catalog.specs.declared.row.Row.{Row}
+use Rattle.series_model.specs.Series.{end_of, since}
+use Rattle.series_model.specs.declared.sample.Sample.{Sample}
+use Rattle.store_manifest.specs.declared.entry.Entry.{Entry}
+use Rattle.tier_store.specs.Flush.{with_files}
+use Rattle.tier_store.specs.Held.{Filed, Held, IsFiled}
+use Rattle.tier_store.specs.Plan.{of_row}
+use Rattle.tier_store.specs.Stored.{AreHeld}
+use Rattle.tier_store.proofs.Three.{same_cases}
+use Rattle.three_stores.specs.Stores.{Stores, list_at, tier}
+use Rattle.three_stores.specs.Change.{Has}
+use Rattle.three_stores.specs.Copied.{end_after}
+use Rattle.three_stores.specs.Copying.{CopiesBeside, CopiesOrHas, FindsLine, FindsPart, IsDamaged, IsNextPart, HasCopiedAll, KnowsHeads, KnowsLengths, PassesParts, left_of, samples_ahead}
+use Rattle.three_stores.specs.Finding.{IsFrom, IsNext, IsUpTo, SplitsAt}
+use Rattle.three_stores.specs.declared.copying.PartLines.{PartLines}
+use Rattle.three_stores.specs.declared.finding.LaterLines.TheVariants.{At, Damaged}
+use Rattle.three_stores.specs.Moving.{RunsBeside}
+use Rattle.three_stores.specs.Pinned.{SeenAll}
+use Rattle.three_stores.specs.Retiring.{oldest}
+use Rattle.three_stores.proofs.CopyLists.{left_more, lines_none, splits_here}
+use Rattle.three_stores.proofs.CopyParts.{part_in, q_filed, some_at}
+use Rattle.three_stores.proofs.CopyPlaces.{end_is}
+use Rattle.three_stores.proofs.MovedFiles.{valid_with}
+use Rattle.three_stores.proofs.Places.{manifest_of}
+
+-- HOW LONG PARTS ARE COPIED
+
+abbrev file_len : Filed → ℕ
+file_len = λ f. f.entry.len
+
+abbrev entry_len : Entry → ℕ
+entry_len = λ e. e.len
+
+lengths_more : (fs : List Filed) (parts : List Entry) (at len : ℕ) (q : Filed) (part : Entry) → slice_get fs at ≡ Some q → slice_get parts at ≡ Some part → q.entry.len ≡ len → map file_len (take at fs) ≡ map entry_len (take at parts)
+    → map file_len (take (suc at) fs) ≡ map entry_len (take (suc at) (set parts at (record part { len = len })))
+lengths_more [] parts at len q part here there long same = absurd (cc (here))
+lengths_more (f ∷ fs) [] at len q part here there long same = absurd (cc (there))
+lengths_more (f ∷ fs) (p ∷ parts) zero len q part here there long same = ap (λ (n : ℕ). n ∷ []) (ap file_len (same_Some f q here) ∙ long)
+lengths_more (f ∷ fs) (p ∷ parts) (suc at) len q part here there long same =
+    let both : f.entry.len ∷ map file_len (take at fs) ≡ p.len ∷ map entry_len (take at parts) = same in
+    let head : f.entry.len ≡ p.len = cc (both) in
+    let rest = lengths_more fs parts at len q part here there long (cc (both)) in
+    ap (λ (l : List ℕ). f.entry.len ∷ l) rest ∙ ap (λ (n : ℕ). n ∷ map entry_len (take (suc at) (set parts at (record part { len = len })))) head
+
+next_place : (at : ℕ) → suc at ≡ at + 1
+next_place at = omega arith
+
+pub lengths_finished : (from : ℕ) (move : MoveState) (held : Stores) (part : Entry) (len : ℕ) (q : Filed) → KnowsLengths from move held → slice_get (of_row move.series (list_at from held)) move.at ≡ Some q → slice_get move.parts move.at ≡ Some part → q.entry.len ≡ len → KnowsLengths from (finished move part len) held
+lengths_finished from move held part len q same here there long =
+    subst (λ (k : ℕ). map file_len (take k (of_row move.series (list_at from held))) ≡ map entry_len (take k (set move.parts move.at (record part { len = len })))) (next_place move.at)
+    (lengths_more (of_row move.series (list_at from held)) move.parts move.at len q part here there long same)
+
+-- nothing is left where the place is the end
+none_left : (g : Granularity) (rows : List Row) (q : Filed) (n at len : ℕ) → IsFiled g rows q → q.entry.len ≡ len → len ≤ at → SplitsAt q.samples n q.entry.head_len at → since n q.samples ≡ []
+none_left g rows q n at len filed long end split =
+    let whole = filed.len in
+    let head = filed.head_len in
+    let place = split.place in
+    let both = ap length (ap lines_of split.split ∙ lines_of-append split.front split.back) in
+    let none : split.back ≡ [] = lines_none split.back (omega (arith, whole, head, place, both, long, end, length-append q.head (10 ∷ lines_of q.samples), length-append (lines_of split.front) (lines_of split.back))) in
+    ap (since n) (split.split ∙ ap (λ (l : List Sample). split.front ++ l) none ∙ append-nil split.front) ∙ split.earlier
+
+module _ (tells : Bool) (all : SeenAll) (from : ℕ) (move : MoveState) (files : List Filed) (held : Stores) (has : Has tells all.stores held) (is : CopiesBeside from tells all move files held) (part : Entry) (next : slice_get move.parts move.at ≡ Some part) (q : Filed) (q_next : IsNextPart from move held q) (at len : ℕ) (long : q.entry.len ≡ len) (end : len ≤ at)
+    (splits : IsTrue held.stands → SplitsAt q.samples (end_after (last_of move.pending move.listed)) q.entry.head_len at) (run : IsMove is.runs.fine (finished move part len)) where
+  abbrev nm : MoveState
+  nm = finished move part len
+
+  long_then : length nm.parts ≡ length move.parts
+  long_then = length-set move.parts move.at (record part { len = len })
+
+  runs_then : RunsBeside (from + 1) tells all nm files held
+  runs_then = record {
+    from = is.runs.from;
+    next = is.runs.next;
+    fine = is.runs.fine;
+    from_fine = is.runs.from_fine;
+    to_coarse = is.runs.to_coarse;
+    running = run;
+    numbers = is.runs.numbers;
+    row = is.runs.row;
+    stands = is.runs.stands;
+    name = is.runs.name;
+    parts = λ x are. still_lists move nm None len x (advances_covered move None part len next) (is.runs.parts x are);
+    last = λ left. is.runs.last is.left;
+    pending = is.runs.pending;
+    ahead = is.runs.ahead;
+  }
+
+  heads_then : KnowsHeads from nm held
+  heads_then =
+      ap (λ (k : ℕ). map (λ (g : Filed). g.entry.head_len) (oldest from move.series k held)) long_then
+      ∙ (is.heads ∙ sym (map-set_same (λ (e : Entry). e.head_len) move.parts move.at (record part { len = len }) part (ap (λ (e : Entry). e.head_len) (sym (get_or_from_slice_get move.parts move.at part part next)))))
+
+  lengths_then : KnowsLengths from nm held
+  lengths_then = lengths_finished from move held part len q is.lengths q_next.here next long
+
+  abbrev ps : List Filed
+  ps = of_row move.series (list_at from held)
+
+  passed_then : IsTrue held.stands → left_of from move (move.at + 1) files held ≡ []
+  passed_then stands =
+      let n = end_of (samples_ahead (from + 1) move files held) in
+      let to = manifest_of all.stores.manifests (from + 1) move.granularity is.runs.to_coarse in
+      let base : Held = with_files (tier (from + 1) held) files in
+      let valid : AreHeld to.0.granularity base = valid_with (from + 1) tells all held files is.runs.ahead to.0 to.1 has in
+      let n_is : end_after (last_of move.pending move.listed) ≡ n = end_is to.0.granularity base move.series (last_of move.pending move.listed) valid stands is.last in
+      let filed = q_filed tells all from move files held has is q q_next part next stands in
+      let none = none_left is.runs.fine held.rows q (end_after (last_of move.pending move.listed)) at len filed long end (splits stands) in
+      left_more ps move.at q (splits_here ps move.at q q_next.here) n (is.passed stands) ∙ (ap (λ (k : ℕ). since k q.samples) (sym n_is) ∙ none)
+
+  pub passes_on : CopiesOrHas from tells all nm files held
+  passes_on = elim (same_cases (move.at + 1) (length nm.parts)) [
+    | inl all_is ↦ inr (record {
+      runs = runs_then;
+      stage = is.stage;
+      all_copied = all_is;
+      lengths = lengths_then;
+      none_left = λ stands. subst (λ (k : ℕ). left_of from move k files held ≡ []) all_is (passed_then stands);
+    })
+    | inr apart ↦ inl (record {
+      runs = runs_then;
+      stage = is.stage;
+      left = apart;
+      heads = heads_then;
+      lengths = lengths_then;
+      last = is.last;
+      passed = passed_then;
+      told = is.told;
+    })
+  ]
+
+-- a damaged place is told only where nothing stands
+pub damaged_part : (from : ℕ) (move : MoveState) (held : Stores) (lines : PartLines) (at : ℕ) → move.at < length move.parts → lines.later ≡ Damaged at → FindsPart from move held lines → IsDamaged from move held lines.name at
+damaged_part from move held lines at few is finds = record {
+  file = finds.file;
+  part = part_in from move held finds.file few finds.next;
+  named = finds.named;
+  within = subst (IsUpTo finds.file.entry.len) is finds.within;
+  never = λ stands. subst (IsNext finds.file.samples (end_after (last_of move.pending move.listed)) finds.file.entry.head_len) is (finds.splits stands);
+}
+
+-- a line is left at a place that isn't the end
+pub line_left : (from : ℕ) (move : MoveState) (held : Stores) (lines : PartLines) (at : ℕ) → lines.later ≡ At at → at < lines.len → FindsPart from move held lines → FindsLine from move held lines.name at lines.len
+line_left from move held lines at is low finds = record {
+  file = finds.file;
+  next = finds.next;
+  long = finds.long;
+  low = low;
+  named = finds.named;
+  behind = subst (IsFrom finds.file.entry.head_len) is finds.behind;
+  splits = λ stands. subst (IsNext finds.file.samples (end_after (last_of move.pending move.listed)) finds.file.entry.head_len) is (finds.splits stands);
+}
+
+-- none is left at the end
+pub part_passed : (tells : Bool) (all : SeenAll) (from : ℕ) (move new : MoveState) (files : List Filed) (held : Stores) → Has tells all.stores held → (is : CopiesBeside from tells all move files held) → (part : Entry) → slice_get move.parts move.at ≡ Some part → (lines : PartLines) (at : ℕ) → lines.later ≡ At at → (at < lines.len → ⊥) → FindsPart from move held lines
+    → new ≡ finished move part lines.len → IsMove is.runs.fine new → CopiesOrHas from tells all new files held
+part_passed tells all from move new files held has is part next lines at later over finds same run =
+    subst (λ (x : MoveState). CopiesOrHas from tells all x files held) (sym same)
+    (passes_on tells all from move files held has is part next finds.file finds.next at lines.len finds.long (elim (cases_lt at lines.len) [ inl low ↦ absurd (over low) | inr end ↦ end ])
+    (λ stands. subst (IsNext finds.file.samples (end_after (last_of move.pending move.listed)) finds.file.entry.head_len) later (finds.splits stands)) (subst (IsMove is.runs.fine) same run))
+
+pub passes_finished : (move new : MoveState) (part : Entry) (len : ℕ) → new ≡ finished move part len → PassesParts move new
+passes_finished move new part len same = record {
+  is = subst (λ (x : MoveState). x ≡ record move { parts = x.parts; at = x.at }) (sym same) refl;
+  long = ap (λ (x : MoveState). length x.parts) same ∙ length-set move.parts move.at (record part { len = len });
+}
+
+pub passes_none : (move : MoveState) → PassesParts move move
+passes_none move = record { is = refl; long = refl }
+
+pub passes_then : (old mid new : MoveState) → PassesParts old mid → PassesParts mid new → PassesParts old new
+passes_then old mid new one two = record { is = two.is ∙ ap (λ (x : MoveState). record x { parts = new.parts; at = new.at }) one.is; long = two.long ∙ one.long }
+
+-- by whether parts are left
+pub copies_if_left : (from : ℕ) (tells : Bool) (all : SeenAll) (move : MoveState) (files : List Filed) (held : Stores) → move.at < length move.parts → CopiesOrHas from tells all move files held → CopiesBeside from tells all move files held
+copies_if_left from tells all move files held low (inl is) = is
+copies_if_left from tells all move files held low (inr has) = let whole = has.all_copied in absurd (omega (arith, low, whole))
+
+pub has_if_none : (from : ℕ) (tells : Bool) (all : SeenAll) (move : MoveState) (files : List Filed) (held : Stores) → (move.at < length move.parts → ⊥) → CopiesOrHas from tells all move files held → HasCopiedAll from tells all move files held
+has_if_none from tells all move files held over (inl is) = absurd (over (elim (cases_lt move.at (length move.parts)) [ inl less ↦ less | inr more ↦ absurd (is.left (let most = is.runs.running.at in omega (arith, more, most))) ]))
+has_if_none from tells all move files held over (inr has) = has
+
+-- by what the code tests of them
+pub at_left : {T : Type 0} (o : Option (Bor T)) (xs : List T) (k : ℕ) → is_some o ≡ true → option_copied o ≡ slice_get xs k → k < length xs
+at_left None xs k some is = absurd (cc (some))
+at_left (Some r) xs k some is = slice_get_within xs k r.now (sym is)
+
+pub at_none : {T : Type 0} (o : Option (Bor T)) (xs : List T) (k : ℕ) → is_some o ≡ false → option_copied o ≡ slice_get xs k → k < length xs → ⊥
+at_none None xs k none is low = let there = some_at xs k low in absurd (cc (is ∙ there.1))
+at_none (Some r) xs k none is low = absurd (cc (none))

@@ -1,0 +1,179 @@
+-- A step of copying behind the look for what is left.
+use Rattle.std.proofs.Common.{◌≡◌, ◌≢◌, ◌⊎◌, inl, inr, Bool, ℕ, ◌≤◌, ◌+◌, ◌++◌, List, [], None, length, Ok, Err, Result, refl, sym, ◌∙◌, ap, subst, arith, append-nil}
+use Rattle.std.specs.Prelude.{Contains, IfOk, IsTrue, OnErr}
+use Rattle.std.proofs.lemmas.List.{length-set}
+use Rattle.disk_model.specs.Files.{Name, Files}
+use Rattle.disk_model.specs.Past.{MayLeave, Passes}
+use Rattle.disk_model.specs.declared.disk.DiskErr.{DiskErr}
+use Rattle.disk_model.specs.declared.disk.DiskErr.TheVariants.{Fault, Memory}
+use Rattle.disk_model.proofs.Passing.{passes_then, passes_weaker}
+use Rattle.etl_mover.specs.Move.{MoveState, part_file}
+use Rattle.etl_mover.specs.Step.{Advances}
+use Rattle.partition_names.specs.declared.granularity.Granularity.{Granularity}
+use Rattle.series_model.specs.declared.sample.Sample.{Sample}
+use Rattle.store_manifest.specs.declared.entry.Entry.{Entry}
+use Rattle.tier_store.specs.Ends.{End, Done, Refused, Failed, Spent, end_of_disk}
+use Rattle.tier_store.specs.Held.{Filed}
+use Rattle.tier_store.proofs.Acting.{rose_after}
+use Rattle.three_stores.specs.Stores.{Stores}
+use Rattle.three_stores.specs.Stored.{HoldsAll}
+use Rattle.three_stores.specs.Seen.{Seen, granularities}
+use Rattle.three_stores.specs.Change.{Has, HoldsBy, EndsFrom}
+use Rattle.three_stores.specs.Copying.{CopiesBeside, CopiesNext, HasCopiedAll, IsDamaged, LeavesOthers, MovesOn, NoneOfMove, OnlyLooks, PassesParts, SaysCopied, left_of, left_to_copy, samples_ahead}
+use Rattle.three_stores.specs.Given.{ChangesGiven}
+use Rattle.three_stores.specs.Limbo.{staying}
+use Rattle.three_stores.specs.Moving.{LeavesLater, RunsBeside}
+use Rattle.three_stores.specs.Pinned.{SeenAll}
+use Rattle.three_stores.specs.Retiring.{oldest}
+use Rattle.three_stores.specs.Revival.{KeepsWhole}
+use Rattle.three_stores.specs.declared.copying.CopyEnd.{CopyEnd}
+use Rattle.three_stores.specs.declared.copying.CopyEnd.TheVariants as ends
+use Rattle.three_stores.proofs.CopyLooks.{looks_ends}
+use Rattle.three_stores.proofs.Left.{all_left}
+use Rattle.three_stores.proofs.LeavingNames.{names_then}
+
+-- NOTHING THAT IS HELD CHANGES
+
+module _ {A E : Type 0} (tells : Bool) (Is : Stores → Type 0) (old new : SeenAll) (end : End A E) (looks : OnlyLooks tells old new end) where
+  look_moments : IsTrue tells → (held : Stores) → Has tells old.stores held → Passes (HoldsBy (granularities old.stores.manifests) (staying {A = A}).by held) old.stores.past new.stores.past
+  look_moments told held has = passes_weaker (λ a b. b ≡ a) (HoldsBy (granularities old.stores.manifests) (staying {A = A}).by held) old.stores.past new.stores.past (looks.reads.any_moment told)
+      (λ a x left same. inl (subst (λ (f : Files). HoldsAll (granularities old.stores.manifests) f held) (sym same) (all_left old.stores held a (has.disk told) left)))
+
+pub looks_change : {A : Type 0} (tells : Bool) (Is : Stores → Type 0) (old new : SeenAll) (r : Result A DiskErr) → OnlyLooks tells old new (end_of_disk r) → ChangesGiven Is tells (staying {A = A}) old.stores new.stores (end_of_disk r)
+looks_change {A} tells Is old new (Ok a) looks = record {
+  ends = λ held has given. (held, refl, tt, looks.kept held has);
+  any_moment = λ told held has given. look_moments tells Is old new (Done a) looks told held has;
+  costs = record { granularity = ap granularities looks.manifests; faults = looks.reads.faults; cause = looks.reads.cause };
+}
+looks_change {A} tells Is old new (Err Fault) looks = record {
+  ends = λ held has given. inl (looks.kept held has);
+  any_moment = λ told held has given. look_moments tells Is old new Failed looks told held has;
+  costs = record { granularity = ap granularities looks.manifests; faults = looks.reads.faults; cause = looks.reads.cause };
+}
+looks_change {A} tells Is old new (Err Memory) looks = record {
+  ends = λ held has given. looks.kept held has;
+  any_moment = λ told held has given. look_moments tells Is old new Spent looks told held has;
+  costs = record { granularity = ap granularities looks.manifests; faults = looks.reads.faults; cause = looks.reads.cause };
+}
+
+-- whatever it answers otherwise than with an error
+pub looks_done : {A B F : Type 0} (tells : Bool) (Is : Stores → Type 0) (old new : SeenAll) (first : End B F) (a : A) → OnlyLooks tells old new first → ChangesGiven Is tells (staying {A = A}) old.stores new.stores (Done a)
+looks_done {A} {B} {F} tells Is old new first a looks = looks_change tells Is old new (Ok a) (looks_ends tells old new first (end_of_disk {A = A} (Ok a)) (λ failed. failed) looks)
+
+pub look_then_change : {A B F : Type 0} (tells : Bool) (Is Then : Stores → Type 0) (old mid : SeenAll) (new : Seen) (first : End B F) (end : End A ⊥) → OnlyLooks tells old mid first → ((held : Stores) → Has tells old.stores held → Is held → Then held) → ChangesGiven Then tells (staying {A = A}) mid.stores new end → ChangesGiven Is tells (staying {A = A}) old.stores new end
+look_then_change {A} {B} {F} tells Is Then old mid new first end looks to change = record {
+  ends = λ held has given. change.ends held (looks.kept held has) (to held has given);
+  any_moment = λ told held has given.
+      passes_then (HoldsBy (granularities old.stores.manifests) (λ x y. y ≡ x) held) (HoldsBy (granularities old.stores.manifests) (λ x y. y ≡ x) held) old.stores.past mid.stores.past new.past
+      (passes_weaker (λ a b. b ≡ a) (HoldsBy (granularities old.stores.manifests) (λ x y. y ≡ x) held) old.stores.past mid.stores.past (looks.reads.any_moment told)
+      (λ a x left same. inl (subst (λ (f : Files). HoldsAll (granularities old.stores.manifests) f held) (sym same) (all_left old.stores held a (has.disk told) left))))
+      (subst (λ (gs : List Granularity). Passes (HoldsBy gs (λ x y. y ≡ x) held) mid.stores.past new.past) (ap granularities looks.manifests) (change.any_moment told held (looks.kept held has) (to held has given)))
+      (λ a x y was step left now. now);
+  costs = record {
+    granularity = change.costs.granularity ∙ ap granularities looks.manifests;
+    faults = let one = looks.reads.faults in let two = change.costs.faults in omega (arith, one, two);
+    cause = λ failed. rose_after old.stores.faults mid.stores.faults new.faults looks.reads.faults (change.costs.cause failed);
+  };
+}
+
+-- WHAT THE ANSWER SAYS
+
+zero_least : (n : ℕ) → 0 ≤ n
+zero_least n = omega arith
+
+-- passing parts leaves what is left to copy
+module _ (from : ℕ) (move mid : MoveState) (files : List Filed) (held : Stores) (passes : PassesParts move mid) where
+  left_same : left_to_copy from mid files held ≡ left_to_copy from move files held
+  left_same = ap (λ (x : MoveState). left_of from x (length mid.parts) files held) passes.is ∙ ap (λ (k : ℕ). left_of from move k files held) passes.long
+
+  ahead_same : (more : List Filed) → samples_ahead (from + 1) mid more held ≡ samples_ahead (from + 1) move more held
+  ahead_same more = ap (λ (x : MoveState). samples_ahead (from + 1) x more held) passes.is
+
+  next_same : (most : ℕ) (more : List Filed) (copied rest : List Sample) → CopiesNext most from mid files more held copied rest → CopiesNext most from move files more held copied rest
+  next_same most more copied rest next = record {
+    left = sym left_same ∙ next.left;
+    ahead = sym (ahead_same more) ∙ (next.ahead ∙ ap (λ (l : List Sample). l ++ copied) (ahead_same files));
+    few = next.few;
+  }
+
+  parts_same : oldest from mid.series (length mid.parts) held ≡ oldest from move.series (length move.parts) held
+  parts_same = ap (λ (x : MoveState). oldest from x.series (length mid.parts) held) passes.is ∙ ap (λ (k : ℕ). oldest from move.series k held) passes.long
+
+  pub damaged_same : (name : Name) (at : ℕ) → IsDamaged from mid held name at → IsDamaged from move held name at
+  damaged_same name at damaged = record {
+    file = damaged.file;
+    part = subst (λ (l : List Filed). Contains l damaged.file) parts_same damaged.part;
+    named = damaged.named;
+    within = damaged.within;
+    never = damaged.never;
+  }
+
+  pub says_from : (most : ℕ) (tells : Bool) (all : SeenAll) (new : MoveState) (end : CopyEnd) → SaysCopied most from tells all mid new files held end → SaysCopied most from tells all move new files held end
+  says_from most tells all new ends.More (more, is, said) = (more, is, λ stands. let s = said stands in (s.0, s.1, next_same most more s.0 s.1 s.2, s.3, s.4))
+  says_from most tells all new ends.Copied (more, is, said) = (more, is, λ stands. let s = said stands in (s.0, next_same most more s.0 [] s.1))
+  says_from most tells all new (ends.Damaged name at) damaged = damaged_same name at damaged
+
+  -- all its parts were passed
+  pub says_ended : (most : ℕ) (tells : Bool) (all : SeenAll) → HasCopiedAll from tells all mid files held → SaysCopied most from tells all move mid files held ends.Copied
+  says_ended most tells all is = (
+    files,
+    is,
+    λ stands. ([], record { left = sym left_same ∙ is.none_left stands; ahead = sym (append-nil (samples_ahead (from + 1) move files held)); few = inl (zero_least most) }),
+  )
+
+-- WHAT MAY HAVE CHANGED OF THE MOVE
+
+pub moves_none : (move : MoveState) → MovesOn move move
+moves_none move = record { is = refl; long = refl }
+
+pub moves_passed : (old new : MoveState) → PassesParts old new → MovesOn old new
+moves_passed old new passes = record {
+  is = passes.is ∙ ap (λ (l : List Entry). record old { parts = new.parts; at = new.at; pending = l }) (sym (ap (λ (x : MoveState). x.pending) passes.is));
+  long = passes.long;
+}
+
+pub moves_then : (old mid new : MoveState) → PassesParts old mid → MovesOn mid new → MovesOn old new
+moves_then old mid new one two = record {
+  is = two.is ∙ ap (λ (x : MoveState). record x { parts = new.parts; at = new.at; pending = new.pending }) one.is;
+  long = two.long ∙ one.long;
+}
+
+pub moves_advance : (move new : MoveState) (len : ℕ) → Advances move new None len → MovesOn move new
+moves_advance move new len adv = elim adv.is [
+  | inl same ↦ record {
+    is = subst (λ (x : MoveState). x ≡ record move { parts = x.parts; at = x.at; pending = x.pending }) (sym same) refl;
+    long = ap (λ (x : MoveState). length x.parts) same;
+  }
+  | inr (p, at_hand, same) ↦ record {
+    is = subst (λ (x : MoveState). x ≡ record move { parts = x.parts; at = x.at; pending = x.pending }) (sym same) refl;
+    long = ap (λ (x : MoveState). length x.parts) same ∙ length-set move.parts move.at (record p { len = len });
+  }
+]
+
+-- files in limbo of store 1 stay whole through one call and another
+pub whole_then : (tells : Bool) (old mid new : SeenAll) → KeepsWhole tells old mid → KeepsWhole tells mid new → KeepsWhole tells old new
+whole_then tells old mid new one two stands files whole = let between = one stands files whole in two stands between.0 between.1
+
+-- OTHER NAMES
+
+pub others_then : (tells : Bool) (old mid new : SeenAll) (move later_move : MoveState) → later_move.destination ≡ move.destination → later_move.name ≡ move.name → LeavesLater tells old mid → LeavesOthers later_move tells mid new → LeavesOthers move tells old new
+others_then tells old mid new move later_move to named leaves others names later none =
+    names_then names tells old mid new (leaves names later)
+    (others names later (λ e within. none e (subst (λ (n : ℕ). Contains names (part_file n move.name e)) to (subst (λ (t : List ℕ). Contains names (part_file later_move.destination t e)) named within))))
+
+pub only_looks_others : (tells : Bool) (old new : SeenAll) (move : MoveState) → LeavesLater tells old new → LeavesOthers move tells old new
+only_looks_others tells old new move leaves names later none = leaves names later
+
+-- BY AN ANSWER
+
+pub on_err : {A : Type 0} (P : Type 0) (r : Result A DiskErr) → P → OnErr r P
+on_err {A} P (Ok a) holds = tt
+on_err {A} P (Err e) holds = holds
+
+pub on_err_then : {A : Type 0} {P Q : Type 0} (r : Result A DiskErr) → OnErr r P → (P → Q) → OnErr r Q
+on_err_then {A} {P} {Q} (Ok a) holds to = tt
+on_err_then {A} {P} {Q} (Err e) holds to = to holds
+
+pub on_ok : {A : Type 0} {P Q : A → Type 0} (r : Result A DiskErr) → IfOk r P → ((a : A) → P a → Q a) → IfOk r Q
+on_ok {A} {P} {Q} (Ok a) holds to = to a holds
+on_ok {A} {P} {Q} (Err e) holds to = tt

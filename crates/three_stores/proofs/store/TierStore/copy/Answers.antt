@@ -1,0 +1,144 @@
+use Rattle.std.proofs.Common.{Err, inl, Result, List, ◌+◌, ◌≡◌, ℕ, ◌∙◌, ap, refl, subst, sym}
+use Rattle.std.specs.Prelude.{IfOk, OnErr}
+use Rattle.std.proofs.lemmas.Result.{err_from_is_err_and}
+use Rattle.disk_model.specs.declared.disk.DiskErr.{DiskErr}
+use Rattle.pv_catalog.specs.Catalogue.{CatalogueState}
+use Rattle.pv_catalog.specs.Rows.{KeepsRows}
+use Rattle.tier_store.specs.Ends.{end_of_disk}
+use Rattle.tier_store.specs.Held.{Filed}
+use Rattle.three_stores.specs.Change.{Has}
+use Rattle.three_stores.specs.Copying.{CopiesBeside}
+use Rattle.three_stores.specs.Limbo.{staying}
+use Rattle.three_stores.specs.Pinned.{NoneOf, SeenAll, beside}
+use Rattle.three_stores.specs.Revival.{AreWhole}
+use Rattle.three_stores.specs.Seen.{seen_on}
+use Rattle.three_stores.specs.Stores.{Stores}
+use Rattle.three_stores.specs.declared.copying.CopyEnd.{CopyEnd}
+use Rattle.three_stores.specs.declared.limbo.Retired.{Retired}
+use Rattle.three_stores.proofs.Acting.{cut_given, is_one, settled_one, then_given}
+use Rattle.three_stores.proofs.CopyLooks.{copies_on, says_err}
+use Rattle.three_stores.proofs.CopyPass.{passes_none}
+use Rattle.three_stores.proofs.CopySteps.{moves_none, on_err, on_err_then, on_ok, others_then}
+use Rattle.three_stores.proofs.RevivalShown.{settled_whole, still_whole}
+use Rattle.three_stores.proofs.store.TierStore.copy.Goals as goal
+
+pub copy_settled-requires-clause-runs : goal.copy_settled-requires-clause-runs
+copy_settled-requires-clause-runs g c =
+    let disk = g.D.Disk in
+    let old = c.args.self.now in
+    let mid = c.review.new.self in
+    let was = c.requires.begun in
+    let all = beside (seen_on disk.files disk.opened disk.past disk.faults old.catalogue old.manifests.items old.disk) old.limbo.items in
+    let between = beside (seen_on disk.files disk.opened disk.past disk.faults mid.catalogue mid.manifests.items mid.disk) mid.limbo.items in
+    let held = settled_one disk.tells between.stores was.1 was.2 (c.in_ok-review.ensures.settled was.1 was.2 was.3) in
+    let runs = is_one (λ s. CopiesBeside c.args.place disk.tells all c.args.moving.now was.0 s) was.1 was.2 held.0 held.1 was.4 was.5 in
+    (was.0, held.0, held.2, copies_on c.args.place disk.tells all between c.args.moving.now was.0 held.0 c.review.ensures.granularity c.review.ensures.leaves runs)
+
+pub copy_settled-requires-clause-none_retired : goal.copy_settled-requires-clause-none_retired
+copy_settled-requires-clause-none_retired g c = subst (λ (l : List Retired). NoneOf (c.args.place + 2) l) (sym (ap (λ v. v.items) c.review.ensures.limbo)) c.requires.none_retired
+
+pub returns-in_err-review-clause-copies : goal.returns-in_err-review-clause-copies
+returns-in_err-review-clause-copies g c files before after was one two =
+    let p = err_from_is_err_and c.from_residual.result c.from_residual.ensures.1 in
+    says_err _ c.from_residual.result _ (p.1 ∙ ap (λ (x : DiskErr). Err x) p.2)
+
+pub returns-in_err-review-clause-unfinished : goal.returns-in_err-review-clause-unfinished
+returns-in_err-review-clause-unfinished g c files before after was one two =
+    let disk = g.D.Disk in
+    let old = c.args.self.now in
+    let mid = c.review.new.self in
+    let all = beside (seen_on disk.files disk.opened disk.past disk.faults old.catalogue old.manifests.items old.disk) old.limbo.items in
+    let between = beside (seen_on disk.files disk.opened disk.past disk.faults mid.catalogue mid.manifests.items mid.disk) mid.limbo.items in
+    on_err _ c.from_residual.result (
+      before,
+      after,
+      c.in_err-review.ensures.still before after was,
+      copies_on c.args.place disk.tells all between c.args.moving.now files before c.review.ensures.granularity c.review.ensures.leaves one,
+      copies_on c.args.place disk.tells all between c.args.moving.now files after c.review.ensures.granularity c.review.ensures.leaves two,
+    )
+
+pub returns-in_err-review-clause-acts : goal.returns-in_err-review-clause-acts
+returns-in_err-review-clause-acts g c files =
+    let p = err_from_is_err_and c.from_residual.result c.from_residual.ensures.1 in
+    cut_given _ g.D.Disk.tells (staying {A = CopyEnd}) _ _ c.review.result c.in_err-review.field-0.0 _ c.in_err-review.was (ap (λ (r : Result CopyEnd DiskErr). end_of_disk r) (p.1 ∙ ap (λ (x : DiskErr). Err x) p.2)) (λ settled. (tt, (c.review.ensures.nothing settled).0)) c.in_err-review.ensures.still c.review.ensures.granularity c.review.ensures.reads
+
+pub returns-in_err-review-clause-leaves : goal.returns-in_err-review-clause-leaves
+returns-in_err-review-clause-leaves g c names later none = c.review.ensures.leaves names later
+
+pub returns-clause-copies : goal.returns-clause-copies
+returns-clause-copies g c files before after was one two =
+    let disk = g.D.Disk in
+    let old = c.args.self.now in
+    let mid = c.review.new.self in
+    let all = beside (seen_on disk.files disk.opened disk.past disk.faults old.catalogue old.manifests.items old.disk) old.limbo.items in
+    let between = beside (seen_on disk.files disk.opened disk.past disk.faults mid.catalogue mid.manifests.items mid.disk) mid.limbo.items in
+    let held = settled_one disk.tells between.stores before after (c.in_ok-review.ensures.settled before after was) in
+    let runs = copies_on c.args.place disk.tells all between c.args.moving.now files held.0 c.review.ensures.granularity c.review.ensures.leaves (is_one (λ s. CopiesBeside c.args.place disk.tells all c.args.moving.now files s) before after held.0 held.1 one two) in
+    let said = c.copy_settled.ensures.copies files held.0 held.2 runs in
+    on_ok c.copy_settled.result said.1 (λ end says. (held.0, held.1, said.0, says))
+
+pub returns-clause-unfinished : goal.returns-clause-unfinished
+returns-clause-unfinished g c files before after was one two =
+    let disk = g.D.Disk in
+    let old = c.args.self.now in
+    let mid = c.review.new.self in
+    let all = beside (seen_on disk.files disk.opened disk.past disk.faults old.catalogue old.manifests.items old.disk) old.limbo.items in
+    let between = beside (seen_on disk.files disk.opened disk.past disk.faults mid.catalogue mid.manifests.items mid.disk) mid.limbo.items in
+    let held = settled_one disk.tells between.stores before after (c.in_ok-review.ensures.settled before after was) in
+    let runs = copies_on c.args.place disk.tells all between c.args.moving.now files held.0 c.review.ensures.granularity c.review.ensures.leaves (is_one (λ s. CopiesBeside c.args.place disk.tells all c.args.moving.now files s) before after held.0 held.1 one two) in
+    let said = c.copy_settled.ensures.copies files held.0 held.2 runs in
+    on_err_then c.copy_settled.result said.2 (λ still. (held.0, held.0, inl said.0, still, still))
+
+pub returns-clause-acts : goal.returns-clause-acts
+returns-clause-acts g c files =
+    let disk = g.D.Disk in
+    let old = c.args.self.now in
+    let mid = c.review.new.self in
+    let all = beside (seen_on disk.files disk.opened disk.past disk.faults old.catalogue old.manifests.items old.disk) old.limbo.items in
+    let between = beside (seen_on disk.files disk.opened disk.past disk.faults mid.catalogue mid.manifests.items mid.disk) mid.limbo.items in
+    then_given (CopiesBeside c.args.place disk.tells all c.args.moving.now files) (CopiesBeside c.args.place disk.tells between c.args.moving.now files) disk.tells (staying {A = CopyEnd}) _ _ _ (end_of_disk c.review.result) _
+    (λ held runs. copies_on c.args.place disk.tells all between c.args.moving.now files held c.review.ensures.granularity c.review.ensures.leaves runs)
+    c.in_ok-review.ensures.settled (λ held has. rw (c.review.ensures.nothing has.settled).1 has) c.review.ensures.granularity c.review.ensures.reads (c.copy_settled.ensures.changes files)
+
+pub returns-clause-shown : goal.returns-clause-shown
+returns-clause-shown g c name bytes was = c.copy_settled.ensures.shown name bytes (c.review.ensures.shown name bytes was)
+
+pub returns-clause-leaves : goal.returns-clause-leaves
+returns-clause-leaves g c = others_then g.D.Disk.tells _ _ _ c.args.moving.now c.args.moving.now refl refl c.review.ensures.leaves c.copy_settled.ensures.leaves
+
+pub returns-clause-keeps : goal.returns-clause-keeps
+returns-clause-keeps g c = subst (λ (s : CatalogueState). KeepsRows c.args.self.now.catalogue.rows s.rows) (sym c.copy_settled.ensures.same.0) c.review.ensures.keeps
+
+pub returns-in_err-review-clause-moves_on : goal.returns-in_err-review-clause-moves_on
+returns-in_err-review-clause-moves_on g c = moves_none c.args.moving.now
+
+pub returns-in_err-review-clause-passes : goal.returns-in_err-review-clause-passes
+returns-in_err-review-clause-passes g c = on_err _ c.from_residual.result (passes_none c.args.moving.now)
+
+pub returns-in_err-review-clause-whole : goal.returns-in_err-review-clause-whole
+returns-in_err-review-clause-whole g c stands files whole =
+    let disk = g.D.Disk in
+    let old = c.args.self.now in
+    let mid = c.review.new.self in
+    let before = seen_on disk.files disk.opened disk.past disk.faults old.catalogue old.manifests.items old.disk in
+    let between = seen_on disk.files disk.opened disk.past disk.faults mid.catalogue mid.manifests.items mid.disk in
+    let was = c.requires.begun in
+    let says = c.review.ensures in
+    let limbo = old.limbo.items in
+    (files, subst (λ (l : List Retired). AreWhole disk.tells between l stands files) (sym (ap (λ l. l.items) says.limbo)) (still_whole disk.tells before between limbo was.1 was.2 was.3 c.in_err-review.ensures.still says.keeps says.granularity says.reads.files says.opened says.reads.any_moment stands files whole))
+
+pub returns-clause-whole : goal.returns-clause-whole
+returns-clause-whole g c stands files whole =
+    let disk = g.D.Disk in
+    let old = c.args.self.now in
+    let mid = c.review.new.self in
+    let before = seen_on disk.files disk.opened disk.past disk.faults old.catalogue old.manifests.items old.disk in
+    let between = seen_on disk.files disk.opened disk.past disk.faults mid.catalogue mid.manifests.items mid.disk in
+    let was = c.requires.begun in
+    let says = c.review.ensures in
+    let limbo = old.limbo.items in
+    let settled = settled_whole disk.tells before between limbo was.1 was.2 was.3 c.in_ok-review.ensures.settled says.keeps says.granularity says.reads.files says.opened says.reads.any_moment stands files whole in
+    c.copy_settled.ensures.whole stands files (subst (λ (l : List Retired). AreWhole disk.tells between l stands files) (sym (ap (λ l. l.items) says.limbo)) settled)
+
+pub returns-clause-settled : goal.returns-clause-settled
+returns-clause-settled g c sound = c.copy_settled.ensures.same.0 ∙ c.review.ensures.rows sound

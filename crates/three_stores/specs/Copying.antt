@@ -1,0 +1,170 @@
+-- A running move that copies: what stays true of it between its steps, and what one step copies.
+use Rattle.std.specs.Prelude.{◌≡◌, ◌≢◌, ◌⊎◌, ◌<◌, ◌≤◌, ◌++◌, ◌+◌, ℕ, Bool, List, [], All, Contains, IsTrue, length, map, take, Option, None, Some, slice_get}
+use Rattle.std.specs.List.{flat_map}
+use Rattle.disk_model.specs.Files.{Name}
+use Rattle.etl_mover.specs.Copying.{last_of}
+use Rattle.etl_mover.specs.Move.{MoveState, part_file}
+use Rattle.etl_mover.specs.Step.{AreFew}
+use Rattle.etl_mover.specs.declared.moving.Stage.TheVariants.{Copying}
+use Rattle.pb_lines.specs.File.{lines_of}
+use Rattle.series_model.specs.Series.{since, end_of}
+use Rattle.series_model.specs.declared.sample.Sample.{Sample}
+use Rattle.store_manifest.specs.declared.entry.Entry.{Entry}
+use Rattle.tier_store.specs.Ends.{End}
+use Rattle.tier_store.specs.Flush.{put_all}
+use Rattle.tier_store.specs.Held.{Filed, entry_of, file_of, samples_of}
+use Rattle.tier_store.specs.Plan.{IsLastOf, of_row}
+use Rattle.three_stores.specs.Change.{Has, OnlyReads}
+use Rattle.three_stores.specs.Copied.{end_after}
+use Rattle.three_stores.specs.Finding.{SplitsAt, IsFrom, IsNext, IsUpTo}
+use Rattle.three_stores.specs.Moving.{RunsBeside, LeavesNames, LeavesLater}
+use Rattle.three_stores.specs.Pinned.{SeenAll, KeepsShown}
+use Rattle.three_stores.specs.Retiring.{oldest}
+use Rattle.three_stores.specs.Stores.{Stores, list_at}
+use Rattle.three_stores.specs.declared.copying.CopyEnd.{CopyEnd}
+use Rattle.three_stores.specs.declared.copying.CopyEnd.TheVariants as ends
+use Rattle.three_stores.specs.declared.copying.NextLine.{NextLine}
+use Rattle.three_stores.specs.declared.copying.NextLine.TheVariants as next
+use Rattle.three_stores.specs.declared.copying.PartLines.{PartLines}
+
+-- WHAT IS LEFT TO COPY
+
+-- what the store at a place will hold of the move's row, with all that was copied
+abbrev pub samples_ahead : ℕ → MoveState → List Filed → Stores → List Sample
+samples_ahead i move files held = samples_of move.series (put_all (list_at i held) files)
+
+-- the samples of the first n parts, as the store at a place holds them
+abbrev pub samples_of_parts : ℕ → MoveState → ℕ → Stores → List Sample
+samples_of_parts from move n held = flat_map (λ (f : Filed). f.samples) (oldest from move.series n held)
+
+-- those of them that are later than all of that
+abbrev pub left_of : ℕ → MoveState → ℕ → List Filed → Stores → List Sample
+left_of from move n files held = since (end_of (samples_ahead (from + 1) move files held)) (samples_of_parts from move n held)
+
+abbrev pub left_to_copy : ℕ → MoveState → List Filed → Stores → List Sample
+left_to_copy from move files held = left_of from move (length move.parts) files held
+
+-- BETWEEN STEPS
+
+-- the first line of each part's file is as long as the move knows it
+abbrev pub KnowsHeads : ℕ → MoveState → Stores → Type 0
+KnowsHeads from move held = map (λ (f : Filed). f.entry.head_len) (oldest from move.series (length move.parts) held) ≡ map (λ (e : Entry). e.head_len) move.parts
+
+-- the parts that are copied are listed as long as the move has copied them
+abbrev pub KnowsLengths : ℕ → MoveState → Stores → Type 0
+KnowsLengths from move held = map (λ (f : Filed). f.entry.len) (oldest from move.series move.at held) ≡ map (λ (e : Entry). e.len) (take move.at move.parts)
+
+-- A move from the store at a place to the next copies beside these stores, and parts are left to copy. It knows the last file of its row that
+-- is listed there or is to be. Nothing is left of the parts that are copied. What stands is told by the disk.
+pub record CopiesBeside (from : ℕ) (tells : Bool) (all : SeenAll) (move : MoveState) (files : List Filed) (held : Stores) : Type 0 where
+  pub runs : RunsBeside (from + 1) tells all move files held
+  pub stage : move.stage ≡ Copying
+  pub left : move.at ≢ length move.parts
+  pub heads : KnowsHeads from move held
+  pub lengths : KnowsLengths from move held
+  pub last : IsLastOf (map entry_of (put_all (list_at (from + 1) held) files)) move.series (last_of move.pending move.listed)
+  pub passed : IsTrue held.stands → left_of from move move.at files held ≡ []
+  pub told : IsTrue held.stands → IsTrue tells
+
+-- all its parts are copied, and nothing is left of them
+pub record HasCopiedAll (from : ℕ) (tells : Bool) (all : SeenAll) (move : MoveState) (files : List Filed) (held : Stores) : Type 0 where
+  pub runs : RunsBeside (from + 1) tells all move files held
+  pub stage : move.stage ≡ Copying
+  pub all_copied : move.at ≡ length move.parts
+  pub lengths : KnowsLengths from move held
+  pub none_left : IsTrue held.stands → left_to_copy from move files held ≡ []
+
+abbrev pub CopiesOrHas : ℕ → Bool → SeenAll → MoveState → List Filed → Stores → Type 0
+CopiesOrHas from tells all move files held = CopiesBeside from tells all move files held ⊎ HasCopiedAll from tells all move files held
+
+-- what may have changed of a move is how long its parts are copied, how many of them are, and what it is to list
+pub record MovesOn (old new : MoveState) : Type 0 where
+  pub is : new ≡ record old { parts = new.parts; at = new.at; pending = new.pending }
+  pub long : length new.parts ≡ length old.parts
+
+-- only parts were passed of which nothing was left
+pub record PassesParts (old new : MoveState) : Type 0 where
+  pub is : new ≡ record old { parts = new.parts; at = new.at }
+  pub long : length new.parts ≡ length old.parts
+
+-- WHERE A STEP GOES ON
+
+-- this is the file of the part that is copied next
+pub record IsNextPart (from : ℕ) (move : MoveState) (held : Stores) (q : Filed) : Type 0 where
+  pub here : slice_get (of_row move.series (list_at from held)) move.at ≡ Some q
+  pub within : Contains (list_at from held) q
+
+-- the place of the first line of the next part that is later than all that is listed of the row or is to be
+pub record FindsPart (from : ℕ) (move : MoveState) (held : Stores) (lines : PartLines) : Type 0 where
+  pub file : Filed
+  pub next : IsNextPart from move held file
+  pub long : file.entry.len ≡ lines.len
+  pub named : lines.name ≡ file_of (from + 1, held.rows) file.entry
+  pub behind : IsFrom file.entry.head_len lines.later
+  pub within : IsUpTo file.entry.len lines.later
+  pub splits : IsTrue held.stands → IsNext file.samples (end_after (last_of move.pending move.listed)) file.entry.head_len lines.later
+
+-- a line is left of the next part, and it begins here
+pub record FindsLine (from : ℕ) (move : MoveState) (held : Stores) (name : Name) (at len : ℕ) : Type 0 where
+  pub file : Filed
+  pub next : IsNextPart from move held file
+  pub long : file.entry.len ≡ len
+  pub low : at < len
+  pub behind : file.entry.head_len ≤ at
+  pub named : name ≡ file_of (from + 1, held.rows) file.entry
+  pub splits : IsTrue held.stands → SplitsAt file.samples (end_after (last_of move.pending move.listed)) file.entry.head_len at
+
+-- the file of one of the move's parts is told as damaged at a place of it, which comes only where what is held doesn't stand
+pub record IsDamaged (from : ℕ) (move : MoveState) (held : Stores) (name : Name) (at : ℕ) : Type 0 where
+  pub file : Filed
+  pub part : Contains (oldest from move.series (length move.parts) held) file
+  pub named : name ≡ file_of (from + 1, held.rows) file.entry
+  pub within : at ≤ file.entry.len
+  pub never : IsTrue held.stands → ⊥
+
+abbrev pub SaysNext : ℕ → Bool → SeenAll → MoveState → List Filed → Stores → NextLine → Type 0
+SaysNext from tells all move files held (next.Line name at len) = CopiesBeside from tells all move files held × FindsLine from move held name at len
+SaysNext from tells all move files held next.End = HasCopiedAll from tells all move files held
+SaysNext from tells all move files held (next.Damaged name at) = IsDamaged from move held name at
+
+-- the next part was passed, or it has a line that is left or is damaged
+abbrev pub SaysPassed : ℕ → Bool → SeenAll → MoveState → List Filed → Stores → Option NextLine → Type 0
+SaysPassed from tells all move files held None = CopiesOrHas from tells all move files held
+SaysPassed from tells all move files held (Some next) = SaysNext from tells all move files held next
+
+-- files were read, and nothing else was done
+pub record OnlyLooks {A E : Type 0} (tells : Bool) (old new : SeenAll) (end : End A E) : Type 0 where
+  pub kept : (held : Stores) → Has tells old.stores held → Has tells new.stores held
+  pub catalogue : new.stores.catalogue ≡ old.stores.catalogue
+  pub manifests : new.stores.manifests ≡ old.stores.manifests
+  pub limbo : new.limbo ≡ old.limbo
+  pub shown : KeepsShown tells old new
+  pub leaves : LeavesLater tells old new
+  pub opened : IsTrue tells → new.stores.opened ≡ old.stores.opened
+  pub reads : OnlyReads tells old.stores new.stores end
+
+-- WHAT A STEP COPIES
+
+-- These samples were copied, the first of those that were left, and these are left still. Their lines take so many bytes at most, or are one.
+pub record CopiesNext (most from : ℕ) (move : MoveState) (files more : List Filed) (held : Stores) (copied rest : List Sample) : Type 0 where
+  pub left : left_to_copy from move files held ≡ copied ++ rest
+  pub ahead : samples_ahead (from + 1) move more held ≡ samples_ahead (from + 1) move files held ++ copied
+  pub few : AreFew most (lines_of copied)
+
+-- What an answer says: some samples were copied and some are left, or all that was left was copied. A file is told as damaged only where
+-- what is held doesn't stand.
+abbrev pub SaysCopied : ℕ → ℕ → Bool → SeenAll → MoveState → MoveState → List Filed → Stores → CopyEnd → Type 0
+SaysCopied most from tells all move new files held ends.More =
+    (more : List Filed) × CopiesBeside from tells all new more held
+    × (IsTrue held.stands → (copied : List Sample) × (rest : List Sample) × CopiesNext most from move files more held copied rest × (copied ≢ []) × (rest ≢ []))
+SaysCopied most from tells all move new files held ends.Copied =
+    (more : List Filed) × HasCopiedAll from tells all new more held × (IsTrue held.stands → (copied : List Sample) × CopiesNext most from move files more held copied [])
+SaysCopied most from tells all move new files held (ends.Damaged name at) = IsDamaged from move held name at
+
+-- none of these is a file of the move's row in the store to which it moves
+abbrev pub NoneOfMove : MoveState → List Name → Type 0
+NoneOfMove move names = (e : Entry) → Contains names (part_file move.destination move.name e) → ⊥
+
+-- all other names of the stores that moves copy to have what they had
+abbrev pub LeavesOthers : MoveState → Bool → SeenAll → SeenAll → Type 0
+LeavesOthers move tells old new = (names : List Name) → All (λ (n : Name). 2 ≤ n.0) names → NoneOfMove move names → LeavesNames names tells old new
