@@ -6,7 +6,7 @@ ghost use Rattle.tier_store.specs.Ends.{Done, end_of_disk};
 ghost use Rattle.three_stores.specs.Stores.{Stores};
 ghost use Rattle.three_stores.specs.Seen.{seen, IsSettled};
 ghost use Rattle.three_stores.specs.Change.{Has, IsOpen, Changes, Acts};
-ghost use Rattle.three_stores.specs.Moving.{LeavesNames};
+ghost use Rattle.three_stores.specs.Moving.{LeavesLater, LeavesNames};
 ghost use Rattle.three_stores.specs.Pinned.{seen_all, KeepsShown};
 ghost use Rattle.three_stores.specs.Limbo.{LimboStands, IsSwept, AreGone, LeavesKept, staying};
 ghost use Rattle.three_stores.specs.Revival.{KeepsWhole};
@@ -52,7 +52,7 @@ impl<D: Disk> TierStore<D> {
         ensures swept { IfOk result (λ swept. IsSwept (seen D.Disk self.new) self.old.pinned copied.now self.old.limbo.items self.new.limbo.items swept.files) }
         ensures gone { IsTrue D.tells → IfOk result (λ swept. OnOk swept.removed (AreGone (seen D.Disk self.new) self.old.pinned copied.now self.old.limbo.items)) }
         ensures cause { IfOk result (λ swept. IsErrOf swept.removed DiskErr.Fault → Rose (D.faults self.old.disk) (D.faults self.new.disk)) }
-        ensures failed { OnErr result ((self.new.limbo ≡ self.old.limbo) × KeepsShown D.tells (seen_all D.Disk self.old) (seen_all D.Disk self.new)) }
+        ensures failed { OnErr result ((self.new.limbo ≡ self.old.limbo) × KeepsShown D.tells (seen_all D.Disk self.old) (seen_all D.Disk self.new) × LeavesLater D.tells (seen_all D.Disk self.old) (seen_all D.Disk self.new)) }
         ensures leaves { LeavesKept D.tells self.old.pinned copied.now (seen_all D.Disk self.old) (seen_all D.Disk self.new) }
         ensures whole { KeepsWhole D.tells (seen_all D.Disk self.old) (seen_all D.Disk self.new) }
         ensures copied { All (λ (n : Name). 2 ≤ n.0) copied.now → LeavesNames copied.now D.tells (seen_all D.Disk self.old) (seen_all D.Disk self.new) }

@@ -41,7 +41,7 @@ returns-in_err-review-clause-acts g c =
 pub returns-in_err-review-clause-failed : goal.returns-in_err-review-clause-failed
 returns-in_err-review-clause-failed g c =
     let p = err_from_is_err_and c.from_residual.result c.from_residual.ensures.1 in
-    rw p.1 (c.review.ensures.limbo, c.review.ensures.shown)
+    rw p.1 (c.review.ensures.limbo, c.review.ensures.shown, c.review.ensures.leaves)
 
 pub returns-in_err-review-clause-leaves : goal.returns-in_err-review-clause-leaves
 returns-in_err-review-clause-leaves g c = reads_leave g.D.Disk.tells c.args.self.now.pinned c.args.copied.now _ _ c.review.ensures.shown c.review.ensures.reads.files c.review.ensures.reads.any_moment
