@@ -15,7 +15,7 @@ use Rattle.pv_catalog.specs.declared.row.Row.{Row}
 use Rattle.pv_catalog.proofs.Standing.{keeps_same}
 use Rattle.store_manifest.specs.declared.entry.Entry.{Entry}
 use Rattle.store_manifest.specs.Manifest.{ManifestState}
-use Rattle.tier_store.specs.Held.{Filed, Listing, IsListed, IsListedTo, entry_of, file_of, filed_at, listing_of}
+use Rattle.tier_store.specs.Held.{Filed, Listing, IsListed, IsListedTo, entry_of, file_of}
 use Rattle.tier_store.specs.Stored.{AreHeld, AreUnopened, KeysDiffer}
 use Rattle.tier_store.proofs.Listed.{rise_filter}
 use Rattle.tier_store.proofs.Names.{name_cases, same_place}
@@ -26,7 +26,7 @@ use Rattle.three_stores.specs.Seen.{Seen, seen_on}
 use Rattle.three_stores.specs.Change.{Has, IsKnown, IsListedIn, IsOpen}
 use Rattle.three_stores.specs.Limbo.{LimboStands}
 use Rattle.three_stores.specs.Moving.{of_files, KeepsBeside, MayHold, RunsBeside}
-use Rattle.three_stores.specs.Pinned.{SeenAll, beside, IsHeldTo, IsThereTo}
+use Rattle.three_stores.specs.Pinned.{beside, IsHeldTo, IsThereTo}
 use Rattle.three_stores.specs.Revival.{IsAmong, IsOfLimbo, KeepsWhole}
 use Rattle.three_stores.specs.declared.limbo.Retired.{Retired}
 use Rattle.three_stores.proofs.Dropped.{contains_filter, entry_in, from_filter, one_file}

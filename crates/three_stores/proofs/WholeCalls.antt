@@ -1,10 +1,10 @@
 -- Files in limbo stay whole through calls that leave their names, also where some leave limbo or others come to it.
-use Rattle.std.proofs.Common.{◌≡◌, ◌≢◌, inl, inr, Bool, true, false, ℕ, ◌<◌, ◌≤◌, ◌+◌, ◌++◌, ◌&&◌, List, map, filter, length, get_or, nat_eq, Option, None, Some, refl, sym, ◌∙◌, ap, subst, arith}
+use Rattle.std.proofs.Common.{◌≡◌, inl, inr, Bool, true, false, ℕ, ◌<◌, ◌≤◌, ◌+◌, ◌++◌, ◌&&◌, List, map, filter, length, get_or, nat_eq, None, Some, refl, sym, ◌∙◌, ap, subst, arith}
 use Rattle.std.specs.FinMap.{FinMap}
 use Rattle.std.specs.List.{list_any}
 use Rattle.std.specs.Ordering.{nat_cmp}
 use Rattle.std.specs.Prelude.{All, Contains, IsTrue, slice_get}
-use Rattle.std.proofs.lemmas.Bool.Decides.{Decides-eqb, nat_tests}
+use Rattle.std.proofs.lemmas.Bool.Decides.{Decides-eqb}
 use Rattle.std.proofs.lemmas.List.Elements.{All-contains, All-map, Contains-append_cases, Contains-get_or, filter_passes}
 use Rattle.std.proofs.lemmas.List.Folds.{Any-from_list_any, list_any-from_Any}
 use Rattle.disk_model.specs.Files.{Name, Files, HasFile}
@@ -16,7 +16,7 @@ use Rattle.pv_catalog.specs.Rows.{KeepsRows}
 use Rattle.pv_catalog.specs.declared.row.Row.{Row}
 use Rattle.pv_catalog.proofs.Standing.{keeps_same}
 use Rattle.store_files.specs.Fronts.{Begins}
-use Rattle.store_manifest.specs.Entries.{Place, place}
+use Rattle.store_manifest.specs.Entries.{place}
 use Rattle.store_manifest.specs.Manifest.{ManifestState}
 use Rattle.store_manifest.specs.declared.entry.Entry.{Entry}
 use Rattle.tier_store.specs.Ends.{End}
@@ -35,7 +35,7 @@ use Rattle.three_stores.specs.Pinned.{SeenAll, beside, IsHeldTo}
 use Rattle.three_stores.specs.Limbo.{LimboStands, IsListedName, IsNeeded, Removes, StayUnlisted}
 use Rattle.three_stores.specs.Moving.{LeavesFiles, names_of}
 use Rattle.three_stores.specs.Retiring.{oldest_entries, retired_of}
-use Rattle.three_stores.specs.Revival.{AreWhole, IsAmong, IsOfLimbo, KeepsWhole, KeepsWholeOf, short_with}
+use Rattle.three_stores.specs.Revival.{AreWhole, IsAmong, IsOfLimbo, KeepsWhole, short_with}
 use Rattle.three_stores.specs.declared.limbo.Retired.{Retired}
 use Rattle.three_stores.proofs.Dropped.{contains_filter, entry_in, from_filter, from_oldest, one_file}
 use Rattle.three_stores.proofs.Leaving.{part_of}

@@ -67,7 +67,7 @@ impl<D: Disk> TierStore<D> {
     /// Opens piece `i` of an owner's own pin: the reader has the bytes that were pinned, whatever has become of the file since. A change
     /// that stands in doubt stays in doubt. `NoPin`, `NotYours` and `NoPiece` come exactly where no pin has the number, where it is
     /// another's, and where the pin has no such piece, in this order, and then the disk isn't called. It needs that the pieces stand as they
-    /// were pinned, which each call keeps so.
+    /// were pinned, which each call keeps so. No file is opened further than it may be listed, so running moves go on beside the stores.
     ///
     /// `DiskFault` comes only where the disk's count of faults rose in the call.
     pub fn open_piece(&mut self, who: u64, pin: u32, i: u32) -> Answer<D::Reader>

@@ -112,8 +112,8 @@ impl<D: Disk> TierStore<D> {
     /// `Again` comes exactly where a file is listed longer than it was published, the first of these, and nothing has changed then.
     ///
     /// Else the files go to limbo, one commit drops them from the list, and those that no pin names leave limbo and are removed. A crash at
-    /// any moment leaves what was held, or that without the files. What is pinned stays as it is, whatever is answered. A removal that
-    /// fails is no failure of the retirement; it is told.
+    /// any moment leaves what was held, or that without the files. What is pinned stays as it is, whatever is answered, and so do all
+    /// names of stores 2 and 3 but those of the files. A removal that fails is no failure of the retirement; it is told.
     ///
     /// After `Fault`, which comes only where the disk's count of faults rose in the call, it may not be known whether the commit was
     /// made; the next call that changes the stores finds out. The files are in limbo till then, and count for nothing while they are listed.
