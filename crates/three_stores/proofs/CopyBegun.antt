@@ -1,12 +1,11 @@
 -- A move that has begun copies beside the stores, and does so still behind other calls.
-use Rattle.std.proofs.Common.{◌≡◌, ◌≢◌, Bool, ℕ, zero, suc, ◌≤◌, ◌+◌, List, [], ◌∷◌, ◌++◌, Option, None, Some, length, map, get_or, take, refl, sym, ◌∙◌, ap, subst, arith}
+use Rattle.std.proofs.Common.{◌≡◌, Bool, ℕ, zero, suc, ◌≤◌, ◌+◌, List, [], ◌∷◌, ◌++◌, Some, length, map, get_or, take, refl, sym, ◌∙◌, ap, subst, arith}
 use Rattle.std.specs.Prelude.{All, Contains, IsTrue, nat_eq, slice_get}
 use Rattle.std.proofs.lemmas.List.Elements.{All-contains, All-head, All-tail, Contains-get_or}
 use Rattle.std.specs.List.{flat_map}
 use Rattle.etl_mover.specs.Copying.{last_of}
 use Rattle.etl_mover.specs.Move.{MoveState, HasBegun, IsMove, StillLists, of_series}
 use Rattle.partition_names.specs.Part.{IsPart}
-use Rattle.partition_names.specs.declared.granularity.Granularity.{Granularity}
 use Rattle.pv_catalog.specs.declared.row.Row.{Row}
 use Rattle.series_model.specs.Series.{end_of, since}
 use Rattle.series_model.specs.declared.sample.Sample.{Sample}
@@ -21,7 +20,7 @@ use Rattle.tier_store.proofs.PutFile.{later, put_own, sooner}
 use Rattle.three_stores.specs.Stores.{Stores, list_at}
 use Rattle.three_stores.specs.Seen.{granularities}
 use Rattle.three_stores.specs.Change.{Has}
-use Rattle.three_stores.specs.Copying.{CopiesBeside, KnowsHeads, KnowsLengths, left_of, samples_ahead}
+use Rattle.three_stores.specs.Copying.{CopiesBeside, KnowsHeads, left_of, samples_ahead}
 use Rattle.three_stores.specs.Moving.{GoesBeside, LeavesNames, names_of}
 use Rattle.three_stores.specs.Pinned.{SeenAll}
 use Rattle.three_stores.specs.Retiring.{oldest}

@@ -1,6 +1,6 @@
 -- A step of copying that wrote lines, and what it makes of the move.
-use Rattle.std.proofs.Common.{◌≡◌, ◌≢◌, ◌⊎◌, inl, inr, true, false, Bool, ℕ, ◌<◌, ◌≤◌, ◌+◌, List, [], ◌∷◌, ◌++◌, length, get_or, map, take, drop, Option, Some, None, refl, sym, ◌∙◌, ap, subst, arith}
-use Rattle.std.specs.Prelude.{All, Contains, IsTrue, ◌↔◌, slice_get, slice_set}
+use Rattle.std.proofs.Common.{◌≡◌, ◌≢◌, ◌⊎◌, inl, inr, Bool, ℕ, ◌<◌, ◌≤◌, ◌+◌, List, [], ◌∷◌, ◌++◌, length, get_or, map, take, drop, Option, Some, None, refl, sym, ◌∙◌, ap, subst, arith}
+use Rattle.std.specs.Prelude.{All, Contains, IsTrue, ◌↔◌, slice_get}
 use Rattle.std.specs.List.{AllByRecursion, flat_map}
 use Rattle.std.proofs.lemmas.List.{length-append, length-set, length-take, take-append-drop, take-take}
 use Rattle.std.proofs.lemmas.List.Elements.{All-contains, Contains-get_or}
@@ -11,7 +11,7 @@ use Rattle.disk_model.specs.Past.{Past, MayLeave}
 use Rattle.etl_mover.specs.Copying.{last_of, SetsLast}
 use Rattle.etl_mover.specs.Growing.{BecomesFile, IsPlaced}
 use Rattle.etl_mover.specs.Move.{MoveState, IsMove}
-use Rattle.etl_mover.specs.Step.{Advances, AreFew, GoesTo, Takes, between, finished, source_file, target_file, with_pending, written_at}
+use Rattle.etl_mover.specs.Step.{Advances, AreFew, GoesTo, Takes, between, source_file, target_file, written_at}
 use Rattle.etl_mover.specs.Writing.{LeavesFile, WritesFile}
 use Rattle.etl_mover.proofs.Advancing.{IsOfPart}
 use Rattle.etl_mover.proofs.AheadFile.{copied_more}
@@ -31,21 +31,19 @@ use Rattle.store_manifest.specs.Manifest.{ManifestState}
 use Rattle.store_manifest.specs.declared.entry.Entry.{Entry}
 use Rattle.tier_store.specs.Ahead.{HasCopied}
 use Rattle.tier_store.specs.Flush.{PlacesRise, put_all, start_of, with_files}
-use Rattle.tier_store.specs.Held.{Filed, Held, AreFiled, IsFiled, IsIn, IsListed, entry_of, file_of, filed_at, samples_of, shelf_of}
+use Rattle.tier_store.specs.Held.{Filed, Held, AreFiled, IsFiled, IsIn, IsListed, entry_of, file_of, filed_at, samples_of}
 use Rattle.tier_store.specs.Plan.{IsLastOf, of_row}
 use Rattle.tier_store.specs.Stored.{AreHeld, AreSafe}
 use Rattle.tier_store.proofs.Ahead.{put_all_has}
-use Rattle.tier_store.proofs.Lasts.{last_view, same_last}
-use Rattle.tier_store.proofs.Listed.{found}
 use Rattle.three_stores.specs.Stores.{Stores, list_at, tier}
-use Rattle.three_stores.specs.Seen.{seen_on, granularities}
+use Rattle.three_stores.specs.Seen.{seen_on}
 use Rattle.three_stores.specs.Change.{Has}
 use Rattle.three_stores.specs.Copied.{WritesNext, samples_at}
 use Rattle.three_stores.specs.Copying.{CopiesBeside, CopiesNext, IsNextPart, KnowsHeads, KnowsLengths, SaysCopied, left_of, samples_ahead}
 use Rattle.three_stores.specs.declared.copying.CopyEnd.TheVariants as ends
 use Rattle.three_stores.specs.Finding.{SplitsAt}
 use Rattle.three_stores.specs.Copied.{end_after}
-use Rattle.three_stores.specs.Moving.{ListsParts, MayBeListed, NoneShortened, NoneRetiredShortened, RunsBeside, of_files}
+use Rattle.three_stores.specs.Moving.{MayBeListed, RunsBeside, of_files}
 use Rattle.three_stores.specs.Pinned.{SeenAll, beside, NoneOf}
 use Rattle.three_stores.specs.Retiring.{oldest}
 use Rattle.three_stores.specs.declared.limbo.Retired.{Retired}

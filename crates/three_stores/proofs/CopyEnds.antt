@@ -1,6 +1,6 @@
 -- How a step of copying ends, by what the move's own call tells.
-use Rattle.std.proofs.Common.{◌≡◌, ◌≢◌, ◌⊎◌, inl, inr, true, false, Bool, ℕ, ◌<◌, ◌≤◌, ◌+◌, List, [], ◌∷◌, ◌++◌, length, map, take, Option, Some, None, Result, Ok, Err, refl, sym, ◌∙◌, ap, subst, arith}
-use Rattle.std.specs.Prelude.{IsTrue, OnOk, IfOk, ◌↔◌, nat_eq, nat_lt, if◌then◌else◌, slice_get}
+use Rattle.std.proofs.Common.{◌≡◌, ◌≢◌, inl, inr, true, false, Bool, ℕ, ◌<◌, ◌≤◌, ◌+◌, List, [], ◌∷◌, ◌++◌, length, map, Option, Some, None, refl, sym, ◌∙◌, ap, subst, arith}
+use Rattle.std.specs.Prelude.{IsTrue, nat_eq, nat_lt, if◌then◌else◌, slice_get}
 use Rattle.std.specs.List.{AllByRecursion}
 use Rattle.std.proofs.lemmas.Bool.Decides.{nat_tests}
 use Rattle.std.proofs.lemmas.List.Elements.{All-contains, recursion_from_All}
@@ -10,7 +10,7 @@ use Rattle.disk_model.specs.Past.{Past, MayLeave}
 use Rattle.etl_mover.specs.Copying.{after, behind, last_of, starts, SetsLast}
 use Rattle.etl_mover.specs.Move.{MoveState, IsMove}
 use Rattle.etl_mover.specs.Reading.{OnlyReads}
-use Rattle.etl_mover.specs.Step.{Advances, Copies, CopiesPart, GoesNowhere, GoesTo, IsPlacedOrNot, Takes, between, source_file, target_file, written_at}
+use Rattle.etl_mover.specs.Step.{Advances, CopiesPart, GoesNowhere, GoesTo, IsPlacedOrNot, source_file, target_file}
 use Rattle.etl_mover.specs.Writing.{LeavesFile, WritesFile}
 use Rattle.etl_mover.proofs.Advancing.{goes_nowhere, last_all, one_start}
 use Rattle.partition_names.specs.declared.granularity.Granularity.{Granularity}

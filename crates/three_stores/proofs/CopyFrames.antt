@@ -1,6 +1,6 @@
 -- What a step of copying leaves: all that is held, and what is to be listed.
 use Rattle.std.proofs.Common.{◌≡◌, ◌≢◌, ◌⊎◌, inl, inr, true, Bool, ℕ, zero, suc, ◌<◌, ◌≤◌, ◌+◌, List, [], Some, None, Ok, Err, Result, length, get_or, refl, sym, ◌∙◌, ap, subst, arith}
-use Rattle.std.specs.Prelude.{All, Contains, IsTrue, slice_get, slice_set}
+use Rattle.std.specs.Prelude.{Contains, IsTrue, slice_get}
 use Rattle.std.proofs.lemmas.List.Elements.{All-contains}
 use Rattle.disk_model.specs.Files.{Name, Files, HasFile, At, Rose}
 use Rattle.disk_model.specs.Past.{Past, MayLeave, Passes}
@@ -30,20 +30,19 @@ use Rattle.tier_store.specs.Stored.{AreHeld, AreSafe, Holds, TierStored}
 use Rattle.tier_store.proofs.Names.{name_cases}
 use Rattle.tier_store.proofs.There.{contains_map}
 use Rattle.three_stores.specs.Stores.{Stores, list_at, tier, with_list}
-use Rattle.three_stores.specs.Seen.{Seen, seen_on}
-use Rattle.three_stores.specs.Change.{Has, HoldsBy}
-use Rattle.three_stores.specs.Copying.{CopiesBeside, NoneOfMove, LeavesOthers}
+use Rattle.three_stores.specs.Seen.{seen_on}
+use Rattle.three_stores.specs.Change.{Has}
+use Rattle.three_stores.specs.Copying.{CopiesBeside, LeavesOthers}
 use Rattle.three_stores.specs.Given.{ChangesGiven}
 use Rattle.three_stores.specs.Limbo.{staying}
 use Rattle.three_stores.specs.Moving.{of_files}
-use Rattle.three_stores.specs.Pinned.{SeenAll, beside, NoneOf, IsThereTo, IsRetiredTo, KeepsFronts, KeepsShown}
+use Rattle.three_stores.specs.Pinned.{SeenAll, beside, NoneOf, IsThereTo, KeepsFronts, KeepsShown}
 use Rattle.three_stores.specs.Revival.{KeepsWhole, short_with}
 use Rattle.three_stores.specs.declared.limbo.Retired.{Retired}
 use Rattle.three_stores.proofs.Beside.{OnStore, safe_beside}
 use Rattle.three_stores.proofs.CopyPending.{all_in}
 use Rattle.three_stores.proofs.CopyPlaces.{Start, Where, where_it_goes, placed}
 use Rattle.three_stores.proofs.Left.{all_left, hold_at}
-use Rattle.three_stores.proofs.LeavingNames.{read_leaves}
 use Rattle.three_stores.proofs.MovedFiles.{has_copied, same_size, valid_with}
 use Rattle.three_stores.proofs.OnePlace.{given_done}
 use Rattle.three_stores.proofs.Places.{set_same, one_manifest, within_three}

@@ -1,7 +1,7 @@
 -- What is left to copy of a move's parts, when the next part is passed and when samples of it are copied.
-use Rattle.std.proofs.Common.{◌≡◌, ◌≢◌, ◌⊎◌, inl, inr, ℕ, zero, suc, ◌+◌, ◌≤◌, ◌<◌, List, [], ◌∷◌, ◌++◌, length, take, drop, Some, None, refl, sym, ◌∙◌, ap, subst, arith, append_assoc, append-nil, true, false, Bool, cond}
-use Rattle.std.specs.Prelude.{All, IsTrue, nat_eq, nat_le, slice_get}
-use Rattle.std.specs.List.{AllByRecursion, flat_map}
+use Rattle.std.proofs.Common.{◌≡◌, ◌≢◌, inl, inr, ℕ, zero, suc, ◌+◌, ◌≤◌, ◌<◌, List, [], ◌∷◌, ◌++◌, length, take, drop, Some, refl, sym, ◌∙◌, ap, subst, arith, append_assoc, append-nil, true, false, Bool, cond}
+use Rattle.std.specs.Prelude.{All, nat_eq, nat_le, slice_get}
+use Rattle.std.specs.List.{AllByRecursion}
 use Rattle.std.proofs.lemmas.Bool.{cases_lt, cond-true, eqb-true}
 use Rattle.std.proofs.lemmas.Bool.Decides.{nat_tests}
 use Rattle.std.proofs.lemmas.List.{length-append, take-append-drop}
@@ -15,9 +15,9 @@ use Rattle.partition_names.proofs.PartLemmas as parts
 use Rattle.pb_lines.specs.File.{lines_of}
 use Rattle.pb_lines.proofs.FileLines.{all_front, all_rest, lines_of-append}
 use Rattle.pv_catalog.specs.declared.row.Row.{Row}
-use Rattle.series_model.specs.Series.{IsRising, RisesFrom, end_from, end_of, since}
+use Rattle.series_model.specs.Series.{RisesFrom, end_from, since}
 use Rattle.series_model.specs.declared.sample.Sample.{Sample}
-use Rattle.series_model.proofs.RisingLists.{RisesFrom-front, RisesFrom-rest, end_from-append, end_from-ge, since-append, since-since, since_all, since_none}
+use Rattle.series_model.proofs.RisingLists.{RisesFrom-front, RisesFrom-rest, end_from-ge, since-append, since-since, since_all, since_none}
 use Rattle.tier_store.specs.Flush.{PlacesRise}
 use Rattle.tier_store.specs.Held.{Filed, IsFiled}
 use Rattle.tier_store.specs.Plan.{of_row}

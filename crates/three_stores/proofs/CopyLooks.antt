@@ -1,6 +1,6 @@
 -- Calls that look for what is left to copy: they only read.
-use Rattle.std.proofs.Common.{◌≡◌, ◌⊎◌, inl, inr, Bool, ℕ, ◌≤◌, ◌+◌, List, length, refl, sym, ◌∙◌, ap, subst, arith}
-use Rattle.std.specs.Prelude.{IfOk, IsTrue, OnErr, Result, Ok, Err, slice_get}
+use Rattle.std.proofs.Common.{◌≡◌, inl, inr, Bool, ℕ, ◌+◌, List, length, refl, sym, ◌∙◌, ap, subst, arith}
+use Rattle.std.specs.Prelude.{IfOk, OnErr, Result, Err, slice_get}
 use Rattle.disk_model.specs.Files.{Name}
 use Rattle.disk_model.specs.declared.disk.DiskErr.{DiskErr}
 use Rattle.disk_model.specs.declared.disk.DiskErr.TheVariants.{Fault, Memory}
@@ -10,21 +10,20 @@ use Rattle.pv_catalog.specs.Rows.{KeepsRows}
 use Rattle.pv_catalog.specs.declared.row.Row.{Row}
 use Rattle.pv_catalog.proofs.Standing.{keeps_same}
 use Rattle.store_manifest.specs.Manifest.{ManifestState}
-use Rattle.tier_store.specs.Ends.{End, Done, IsFailed, end_of_disk}
+use Rattle.tier_store.specs.Ends.{End, IsFailed, end_of_disk}
 use Rattle.tier_store.specs.Held.{Filed, IsListedTo}
 use Rattle.tier_store.proofs.Acting.{rose_after}
 use Rattle.tier_store.proofs.Stays.{same_then}
 use Rattle.three_stores.specs.Stores.{Stores}
 use Rattle.three_stores.specs.Seen.{Seen, granularities}
-use Rattle.three_stores.specs.Change.{OnlyReads}
-use Rattle.three_stores.specs.Copying.{CopiesBeside, CopiesOrHas, HasCopiedAll, LeavesOthers, OnlyLooks}
-use Rattle.three_stores.specs.Moving.{LeavesLater, LeavesNames, RunsBeside, names_of}
+use Rattle.three_stores.specs.Copying.{CopiesBeside, CopiesOrHas, OnlyLooks}
+use Rattle.three_stores.specs.Moving.{LeavesLater, RunsBeside, names_of}
 use Rattle.three_stores.specs.Pinned.{SeenAll, IsHeldTo}
 use Rattle.three_stores.specs.Revival.{AreWhole, KeepsWhole}
 use Rattle.three_stores.specs.declared.limbo.Retired.{Retired}
 use Rattle.three_stores.proofs.Acting.{nothing_read}
 use Rattle.three_stores.proofs.BesideMoves.{beside_itself, runs_still}
-use Rattle.three_stores.proofs.LeavingNames.{later_names, leaves_then, names_then, nothing_leaves}
+use Rattle.three_stores.proofs.LeavingNames.{later_names, leaves_then, nothing_leaves}
 use Rattle.three_stores.proofs.RevivalShown.{read_whole}
 
 pub looks_none : {A E : Type 0} (tells : Bool) (all : SeenAll) (end : End A E) → (IsFailed end → ⊥) → OnlyLooks tells all all end

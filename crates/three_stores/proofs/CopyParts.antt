@@ -1,19 +1,18 @@
 -- The part that a move copies next, as its store holds it.
-use Rattle.std.proofs.Common.{◌≡◌, inl, inr, Bool, ℕ, zero, suc, ◌<◌, ◌≤◌, ◌+◌, List, [], ◌∷◌, ◌++◌, length, map, take, Option, Some, None, true, refl, sym, ◌∙◌, ap, subst, arith}
+use Rattle.std.proofs.Common.{◌≡◌, inl, inr, Bool, ℕ, zero, suc, ◌<◌, ◌≤◌, ◌+◌, List, [], ◌∷◌, ◌++◌, length, map, take, Option, Some, true, refl, sym, ◌∙◌, ap, subst, arith}
 use Rattle.std.specs.Prelude.{Contains, IsTrue, nat_eq, slice_get}
 use Rattle.std.proofs.lemmas.Bool.{cases_lt, eqb-true}
-use Rattle.std.proofs.lemmas.List.{length-append, length-map, take-append-drop}
+use Rattle.std.proofs.lemmas.List.{length-append, length-map}
 use Rattle.std.proofs.lemmas.List.Elements.{All-contains, filter_passes}
-use Rattle.std.proofs.lemmas.Option.{same_Some, slice_get_within}
-use Rattle.disk_model.specs.Files.{Name, Files, HasFile}
+use Rattle.std.proofs.lemmas.Option.{same_Some}
+use Rattle.disk_model.specs.Files.{Name, HasFile}
 use Rattle.disk_model.specs.Past.{MayLeave}
 use Rattle.etl_mover.specs.Copying.{last_of}
-use Rattle.etl_mover.specs.Move.{MoveState, StillLists, of_series, part_file}
+use Rattle.etl_mover.specs.Move.{MoveState, StillLists, of_series}
 use Rattle.etl_mover.specs.Step.{source_file}
 use Rattle.partition_names.specs.declared.granularity.Granularity.{Granularity}
 use Rattle.partition_names.specs.declared.part.Part.{Part}
 use Rattle.partition_names.specs.Path.{path_of}
-use Rattle.pv_catalog.specs.declared.row.Row.{Row}
 use Rattle.store_files.specs.Fronts.{Begins}
 use Rattle.store_manifest.specs.Entries.{Place}
 use Rattle.store_manifest.specs.Manifest.{ManifestState}
@@ -21,7 +20,7 @@ use Rattle.store_manifest.specs.declared.entry.Entry.{Entry}
 use Rattle.tier_store.specs.Held.{Filed, IsFiled, IsIn, bytes_of, entry_of, file_of, name_of}
 use Rattle.tier_store.specs.Plan.{of_row}
 use Rattle.tier_store.proofs.Ending.{filter-map}
-use Rattle.three_stores.specs.Stores.{Stores, list_at, tier}
+use Rattle.three_stores.specs.Stores.{Stores, list_at}
 use Rattle.three_stores.specs.Seen.{granularities}
 use Rattle.three_stores.specs.Change.{Has, IsListedIn}
 use Rattle.three_stores.specs.Copied.{IsPartFile, end_after}

@@ -6,7 +6,7 @@ use Rattle.std.proofs.lemmas.List.Elements.{All-contains}
 use Rattle.std.proofs.lemmas.Option.{same_Some}
 use Rattle.etl_mover.specs.Copying.{last_of, anew, behind, starts}
 use Rattle.etl_mover.specs.Growing.{IsPlaced}
-use Rattle.etl_mover.specs.Move.{MoveState, IsMove}
+use Rattle.etl_mover.specs.Move.{MoveState}
 use Rattle.etl_mover.specs.Step.{GoesTo}
 use Rattle.partition_names.specs.declared.granularity.Granularity.{Granularity}
 use Rattle.partition_names.specs.declared.part.Part.{Part}

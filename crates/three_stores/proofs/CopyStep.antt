@@ -1,5 +1,5 @@
 -- One step of copying where nothing stands in doubt, by what the move's own call says.
-use Rattle.std.proofs.Common.{◌≡◌, ◌≢◌, Bool, ℕ, ◌<◌, ◌≤◌, ◌+◌, List, length, Some, None, Ok, Err, Result, refl, sym, ◌∙◌, ap, subst, arith}
+use Rattle.std.proofs.Common.{◌≡◌, ◌≢◌, Bool, ℕ, ◌<◌, ◌≤◌, ◌+◌, List, length, Some, None, Ok, Err, Result}
 use Rattle.std.specs.Prelude.{IsTrue, slice_get}
 use Rattle.disk_model.specs.Files.{Name, Files, Rose}
 use Rattle.disk_model.specs.Past.{Past, MayLeave}

@@ -1,9 +1,9 @@
 -- A step of copying behind the look for what is left.
-use Rattle.std.proofs.Common.{◌≡◌, ◌≢◌, ◌⊎◌, inl, inr, Bool, ℕ, ◌≤◌, ◌+◌, ◌++◌, List, [], None, length, Ok, Err, Result, refl, sym, ◌∙◌, ap, subst, arith, append-nil}
+use Rattle.std.proofs.Common.{◌≡◌, inl, inr, Bool, ℕ, ◌≤◌, ◌+◌, ◌++◌, List, [], None, length, Ok, Err, Result, refl, sym, ◌∙◌, ap, subst, arith, append-nil}
 use Rattle.std.specs.Prelude.{Contains, IfOk, IsTrue, OnErr}
 use Rattle.std.proofs.lemmas.List.{length-set}
 use Rattle.disk_model.specs.Files.{Name, Files}
-use Rattle.disk_model.specs.Past.{MayLeave, Passes}
+use Rattle.disk_model.specs.Past.{Passes}
 use Rattle.disk_model.specs.declared.disk.DiskErr.{DiskErr}
 use Rattle.disk_model.specs.declared.disk.DiskErr.TheVariants.{Fault, Memory}
 use Rattle.disk_model.proofs.Passing.{passes_then, passes_weaker}
@@ -12,17 +12,17 @@ use Rattle.etl_mover.specs.Step.{Advances}
 use Rattle.partition_names.specs.declared.granularity.Granularity.{Granularity}
 use Rattle.series_model.specs.declared.sample.Sample.{Sample}
 use Rattle.store_manifest.specs.declared.entry.Entry.{Entry}
-use Rattle.tier_store.specs.Ends.{End, Done, Refused, Failed, Spent, end_of_disk}
+use Rattle.tier_store.specs.Ends.{End, Done, Failed, Spent, end_of_disk}
 use Rattle.tier_store.specs.Held.{Filed}
 use Rattle.tier_store.proofs.Acting.{rose_after}
 use Rattle.three_stores.specs.Stores.{Stores}
 use Rattle.three_stores.specs.Stored.{HoldsAll}
 use Rattle.three_stores.specs.Seen.{Seen, granularities}
-use Rattle.three_stores.specs.Change.{Has, HoldsBy, EndsFrom}
-use Rattle.three_stores.specs.Copying.{CopiesBeside, CopiesNext, HasCopiedAll, IsDamaged, LeavesOthers, MovesOn, NoneOfMove, OnlyLooks, PassesParts, SaysCopied, left_of, left_to_copy, samples_ahead}
+use Rattle.three_stores.specs.Change.{Has, HoldsBy}
+use Rattle.three_stores.specs.Copying.{CopiesNext, HasCopiedAll, IsDamaged, LeavesOthers, MovesOn, OnlyLooks, PassesParts, SaysCopied, left_of, left_to_copy, samples_ahead}
 use Rattle.three_stores.specs.Given.{ChangesGiven}
 use Rattle.three_stores.specs.Limbo.{staying}
-use Rattle.three_stores.specs.Moving.{LeavesLater, RunsBeside}
+use Rattle.three_stores.specs.Moving.{LeavesLater}
 use Rattle.three_stores.specs.Pinned.{SeenAll}
 use Rattle.three_stores.specs.Retiring.{oldest}
 use Rattle.three_stores.specs.Revival.{KeepsWhole}

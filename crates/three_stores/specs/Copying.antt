@@ -14,7 +14,7 @@ use Rattle.tier_store.specs.Ends.{End}
 use Rattle.tier_store.specs.Flush.{put_all}
 use Rattle.tier_store.specs.Held.{Filed, entry_of, file_of, samples_of}
 use Rattle.tier_store.specs.Plan.{IsLastOf, of_row}
-use Rattle.three_stores.specs.Change.{Has, OnlyReads}
+use Rattle.three_stores.specs.Change.{Has, IsEither, IsOpen, OnlyReads}
 use Rattle.three_stores.specs.Copied.{end_after}
 use Rattle.three_stores.specs.Finding.{SplitsAt, IsFrom, IsNext, IsUpTo}
 use Rattle.three_stores.specs.Moving.{RunsBeside, LeavesNames, LeavesLater}
@@ -160,6 +160,12 @@ SaysCopied most from tells all move new files held ends.More =
 SaysCopied most from tells all move new files held ends.Copied =
     (more : List Filed) × HasCopiedAll from tells all new more held × (IsTrue held.stands → (copied : List Sample) × CopiesNext most from move files more held copied [])
 SaysCopied most from tells all move new files held (ends.Damaged name at) = IsDamaged from move held name at
+
+-- After an error the move copies beside the stores still: under the doubt that stood before, or beside what was found when that was settled.
+abbrev pub StillCopies : ℕ → Bool → SeenAll → MoveState → List Filed → Stores → Stores → Type 0
+StillCopies from tells all move files before after =
+    (IsOpen tells all.stores before after × CopiesBeside from tells all move files before × CopiesBeside from tells all move files after)
+    ⊎ ((held : Stores) × IsEither before after held × Has tells all.stores held × CopiesBeside from tells all move files held)
 
 -- none of these is a file of the move's row in the store to which it moves
 abbrev pub NoneOfMove : MoveState → List Name → Type 0

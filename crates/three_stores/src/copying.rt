@@ -9,7 +9,7 @@ ghost use Rattle.three_stores.specs.Stores.{Stores};
 ghost use Rattle.three_stores.specs.Seen.{seen};
 ghost use Rattle.three_stores.specs.Change.{Has, IsOpen, IsEither};
 ghost use Rattle.three_stores.specs.Copied.{end_after};
-ghost use Rattle.three_stores.specs.Copying.{CopiesBeside, MovesOn, PassesParts, FindsPart, FindsLine, SaysNext, SaysPassed, OnlyLooks, SaysCopied, LeavesOthers};
+ghost use Rattle.three_stores.specs.Copying.{CopiesBeside, MovesOn, PassesParts, FindsPart, FindsLine, SaysNext, SaysPassed, OnlyLooks, SaysCopied, StillCopies, LeavesOthers};
 ghost use Rattle.three_stores.specs.Counting.{behind};
 ghost use Rattle.three_stores.specs.Given.{ChangesGiven, ActsGiven};
 ghost use Rattle.three_stores.specs.Limbo.{staying};
@@ -237,8 +237,7 @@ impl<D: Disk> TierStore<D> {
             → IfOk result (λ end. (held : Stores) × IsEither before after held × Has D.tells (seen D.Disk self.new) held × SaysCopied 1_048_576 place D.tells (seen_all D.Disk self.new) moving.old moving.new files held end) }
         ensures unfinished { (files : List Filed) (before after : Stores) → IsOpen D.tells (seen D.Disk self.old) before after
             → CopiesBeside place D.tells (seen_all D.Disk self.old) moving.old files before → CopiesBeside place D.tells (seen_all D.Disk self.old) moving.old files after
-            → OnErr result ((x : Stores) × (y : Stores) × IsOpen D.tells (seen D.Disk self.new) x y
-            × CopiesBeside place D.tells (seen_all D.Disk self.new) moving.new files x × CopiesBeside place D.tells (seen_all D.Disk self.new) moving.new files y) }
+            → OnErr result (StillCopies place D.tells (seen_all D.Disk self.new) moving.new files before after) }
         ensures moves_on { MovesOn moving.old moving.new }
         ensures passes { OnErr result (PassesParts moving.old moving.new) }
         ensures acts { (files : List Filed) → ActsGiven (CopiesBeside place D.tells (seen_all D.Disk self.old) moving.old files) D.tells staying (seen D.Disk self.old) (seen D.Disk self.new) (end_of_disk result) }

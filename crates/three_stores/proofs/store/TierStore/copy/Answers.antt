@@ -1,18 +1,14 @@
-use Rattle.std.proofs.Common.{Err, inl, Result, List, ◌+◌, ◌≡◌, ℕ, ◌∙◌, ap, refl, subst, sym}
-use Rattle.std.specs.Prelude.{IfOk, OnErr}
+use Rattle.std.proofs.Common.{Err, inl, inr, Result, List, ◌+◌, ◌∙◌, ap, refl, subst, sym}
 use Rattle.std.proofs.lemmas.Result.{err_from_is_err_and}
 use Rattle.disk_model.specs.declared.disk.DiskErr.{DiskErr}
 use Rattle.pv_catalog.specs.Catalogue.{CatalogueState}
 use Rattle.pv_catalog.specs.Rows.{KeepsRows}
 use Rattle.tier_store.specs.Ends.{end_of_disk}
-use Rattle.tier_store.specs.Held.{Filed}
-use Rattle.three_stores.specs.Change.{Has}
 use Rattle.three_stores.specs.Copying.{CopiesBeside}
 use Rattle.three_stores.specs.Limbo.{staying}
-use Rattle.three_stores.specs.Pinned.{NoneOf, SeenAll, beside}
+use Rattle.three_stores.specs.Pinned.{NoneOf, beside}
 use Rattle.three_stores.specs.Revival.{AreWhole}
 use Rattle.three_stores.specs.Seen.{seen_on}
-use Rattle.three_stores.specs.Stores.{Stores}
 use Rattle.three_stores.specs.declared.copying.CopyEnd.{CopyEnd}
 use Rattle.three_stores.specs.declared.limbo.Retired.{Retired}
 use Rattle.three_stores.proofs.Acting.{cut_given, is_one, settled_one, then_given}
@@ -49,13 +45,11 @@ returns-in_err-review-clause-unfinished g c files before after was one two =
     let mid = c.review.new.self in
     let all = beside (seen_on disk.files disk.opened disk.past disk.faults old.catalogue old.manifests.items old.disk) old.limbo.items in
     let between = beside (seen_on disk.files disk.opened disk.past disk.faults mid.catalogue mid.manifests.items mid.disk) mid.limbo.items in
-    on_err _ c.from_residual.result (
-      before,
-      after,
+    on_err _ c.from_residual.result (inl (
       c.in_err-review.ensures.still before after was,
       copies_on c.args.place disk.tells all between c.args.moving.now files before c.review.ensures.granularity c.review.ensures.leaves one,
       copies_on c.args.place disk.tells all between c.args.moving.now files after c.review.ensures.granularity c.review.ensures.leaves two,
-    )
+    ))
 
 pub returns-in_err-review-clause-acts : goal.returns-in_err-review-clause-acts
 returns-in_err-review-clause-acts g c files =
@@ -87,7 +81,7 @@ returns-clause-unfinished g c files before after was one two =
     let held = settled_one disk.tells between.stores before after (c.in_ok-review.ensures.settled before after was) in
     let runs = copies_on c.args.place disk.tells all between c.args.moving.now files held.0 c.review.ensures.granularity c.review.ensures.leaves (is_one (λ s. CopiesBeside c.args.place disk.tells all c.args.moving.now files s) before after held.0 held.1 one two) in
     let said = c.copy_settled.ensures.copies files held.0 held.2 runs in
-    on_err_then c.copy_settled.result said.2 (λ still. (held.0, held.0, inl said.0, still, still))
+    on_err_then c.copy_settled.result said.2 (λ still. inr (held.0, held.1, said.0, still))
 
 pub returns-clause-acts : goal.returns-clause-acts
 returns-clause-acts g c files =

@@ -1,11 +1,10 @@
-use Rattle.std.proofs.Common.{◌≡◌, ◌≢◌, ◌≤◌, ◌<◌, ℕ, true, false, Bool, not, Err, Result, List, ◌+◌, ◌∙◌, ap, refl, subst, sym, arith}
+use Rattle.std.proofs.Common.{◌≡◌, ℕ, Err, ◌+◌, ◌∙◌, ap, subst, sym, arith}
 use Rattle.std.proofs.lemmas.Result.{err_from_is_err_and}
 use Rattle.disk_model.specs.declared.disk.DiskErr.{DiskErr}
 use Rattle.etl_mover.specs.Move.{MoveState}
 use Rattle.three_stores.specs.Copying.{CopiesBeside, MovesOn, PassesParts}
 use Rattle.three_stores.specs.Pinned.{NoneOf, beside}
 use Rattle.three_stores.specs.Seen.{seen_on}
-use Rattle.three_stores.specs.declared.limbo.Retired.{Retired}
 use Rattle.three_stores.proofs.CopyRoom.{can_copy, head_low}
 use Rattle.three_stores.proofs.CopyLooks.{err_says, fault_was}
 use Rattle.three_stores.proofs.CopyPass.{passes_none}

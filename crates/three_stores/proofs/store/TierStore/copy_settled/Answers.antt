@@ -1,14 +1,9 @@
-use Rattle.std.proofs.Common.{Err, inl, Result, List, ◌+◌, ◌≡◌, ◌∙◌, ap, refl, subst, sym}
+use Rattle.std.proofs.Common.{Err, List, ◌+◌, ◌∙◌, ap, subst, sym}
 use Rattle.std.proofs.lemmas.Result.{err_from_is_err_and}
 use Rattle.disk_model.specs.declared.disk.DiskErr.{DiskErr}
 use Rattle.etl_mover.specs.Move.{MoveState}
-use Rattle.tier_store.specs.Ends.{end_of_disk}
-use Rattle.tier_store.specs.Held.{Filed}
 use Rattle.three_stores.specs.Copying.{SaysNext}
-use Rattle.three_stores.specs.Given.{ChangesGiven}
-use Rattle.three_stores.specs.Pinned.{NoneOf, beside}
-use Rattle.three_stores.specs.Seen.{seen_on}
-use Rattle.three_stores.specs.declared.copying.CopyEnd.{CopyEnd}
+use Rattle.three_stores.specs.Pinned.{NoneOf}
 use Rattle.three_stores.specs.declared.limbo.Retired.{Retired}
 use Rattle.three_stores.proofs.CopyLooks.{err_says, looks_err, looks_whole}
 use Rattle.three_stores.proofs.CopyPass.{passes_then}

@@ -1,24 +1,18 @@
-use Rattle.std.proofs.Common.{◌≡◌, ◌<◌, ◌+◌, ℕ, List, None, Some, Err, Option, length, map, refl, sym, ◌∙◌, ap, subst, arith}
-use Rattle.std.specs.Prelude.{Contains, slice_get}
+use Rattle.std.proofs.Common.{◌≡◌, ◌<◌, ◌+◌, ℕ, List, Some, Err, Option, length, refl, sym, ◌∙◌, ap, subst, arith}
+use Rattle.std.specs.Prelude.{Contains}
 use Rattle.std.proofs.lemmas.Result.{err_from_is_err_and}
 use Rattle.disk_model.specs.declared.disk.DiskErr.{DiskErr}
-use Rattle.etl_mover.specs.Move.{of_series}
 use Rattle.pv_catalog.specs.declared.row.Row.{Row}
-use Rattle.store_manifest.specs.Entries.{Place}
-use Rattle.store_manifest.specs.Manifest.{ManifestState}
 use Rattle.store_manifest.specs.declared.entry.Entry.{Entry}
 use Rattle.tier_store.specs.Ends.{IsFailed, end_of_disk}
-use Rattle.tier_store.specs.Held.{Filed, entry_of, file_of}
-use Rattle.three_stores.specs.Change.{Has}
-use Rattle.three_stores.specs.Copying.{CopiesBeside, IsNextPart}
+use Rattle.tier_store.specs.Held.{Filed, file_of}
 use Rattle.three_stores.specs.Finding.{IsNext}
 use Rattle.three_stores.specs.Pinned.{beside}
-use Rattle.three_stores.specs.Seen.{Seen, seen_on}
-use Rattle.three_stores.specs.Stores.{Stores, list_at}
+use Rattle.three_stores.specs.Seen.{seen_on}
+use Rattle.three_stores.specs.Stores.{list_at}
 use Rattle.three_stores.proofs.CopyLooks.{looks_err, looks_none}
 use Rattle.three_stores.proofs.CopyParts.{lists_it, next_entry, next_file, part_finds}
 use Rattle.three_stores.proofs.There.{row_listed}
-use Rattle.three_stores.proofs.Dropped.{entry_in, one_file}
 use Rattle.three_stores.proofs.store.TierStore.part_lines.Goals as goal
 
 pub manifest-requires-clause-last : goal.manifest-requires-clause-last

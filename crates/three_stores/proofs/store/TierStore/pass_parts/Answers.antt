@@ -1,4 +1,4 @@
-use Rattle.std.proofs.Common.{Err, Ok, inl, inr, Result, List, ◌+◌, ◌<◌, ◌≡◌, ◌∙◌, ap, refl, subst, sym, arith}
+use Rattle.std.proofs.Common.{Err, Ok, inl, ◌∙◌, ap, refl, subst, sym, arith}
 use Rattle.std.proofs.lemmas.Result.{err_from_is_err_and}
 use Rattle.disk_model.specs.declared.disk.DiskErr.{DiskErr}
 use Rattle.three_stores.specs.Copying.{SaysPassed}
