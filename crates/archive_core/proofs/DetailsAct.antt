@@ -96,20 +96,20 @@ module _ (R : Type 0) (tells reader_tells : Bool) (bytes : R → List ℕ) (faul
       durable_is = counted.durable_is ∙ ap length (sym durable_same);
       first = counted.first ∙ ap first_time (sym accepted_same);
       last = counted.last ∙ ap last_time (sym accepted_same);
-      files = λ store. (parts_of (files_in store), row_parts tells new m held has_new r.stands.store.holds gran r.stands.plain.headers on stands k row.0 row.1 store, count store);
+      files = λ store. (parts_of (files_in store), row_parts tells new m held has_new r.stands.store.holds gran r.stands.rule.headers on stands k row.0 row.1 store, count store);
     }
       where
         stands : IsTrue held.stands
         stands = told_stands tells m.told held.stands r.stands.store.told on
 
         gran : m.rule.granularity ≡ granularities new.manifests
-        gran = r.stands.plain.rule ∙ sym settles.granularity
+        gran = r.stands.rule.granularity ∙ sym settles.granularity
 
         counted : AreCounted (samples_in k held) tail d
         counted = is.counted (told_tells tells m.told held.stands r.stands.store.told on) stands
 
         durable_same : durable row.0 ≡ samples_in k held
-        durable_same = durable_is tells new m held has_new r.stands.store.holds gran r.stands.plain.headers on stands k row.0 row.1
+        durable_same = durable_is tells new m held has_new r.stands.store.holds gran r.stands.rule.headers on stands k row.0 row.1
 
         -- the tail is later than all that is durable
         accepted_same : accepted row.0 ≡ samples_in k held ++ tail

@@ -37,7 +37,9 @@ use Rattle.archive_core.specs.Ends.{ChangesTo, HoldsChanged}
 use Rattle.archive_core.specs.Flushing.{GivesUp}
 use Rattle.archive_core.specs.Memory.{IsCleared}
 use Rattle.archive_core.specs.Parts.{Parts}
-use Rattle.archive_core.specs.Stands.{Stands, Rests, IsDoubtOf, IsPartOf, InDoubt, HoldsDurable}
+use Rattle.archive_core.specs.Stands.{Stands, Rests, IsDoubtOf, IsPartOf, StoresGrow, InDoubt, HoldsDurable}
+use Rattle.archive_core.proofs.Growth.{flush_grows}
+use Rattle.archive_core.proofs.LimboKept.{no_limbo}
 use Rattle.archive_core.proofs.Batches.{parts_there, can_flush, told_stands}
 use Rattle.archive_core.proofs.Changing.{call_passes, call_failed, rests_again}
 use Rattle.archive_core.proofs.Counts.{IsBefore, count_more}
@@ -101,11 +103,17 @@ module _ (tells : Bool) (p : Parts) (m : Machine) (r : Rests tells p m) (limit :
   pub can : CanFlush p.at.catalogue.rows batch
   can = subst (λ (b : List RowSamples). CanFlush p.at.catalogue.rows b) own (can_flush limit p.at.catalogue.rows p.kept p.tails m r.stands.sound r.stands.rows)
 
+  limbo_none : m.limbo ≡ []
+  limbo_none = no_limbo tells (beside p.at p.limbo) m.told m.rows m.limbo r.stands.none_retired r.stands.limbo
+
   durable : (after : Stores) → (flushing batch).by held after → HoldsDurable after (made [] change m)
-  durable after by = batch_holds batch held after m r.stands.sound may r.stands.plain.limbo told_is by r.stands.store.holds
+  durable after by = batch_holds batch held after m r.stands.sound may limbo_none told_is by r.stands.store.holds
 
   stand : (after : Stores) → (flushing batch).by held after → after.stands ≡ held.stands
   stand after by = ap (λ (s : Stores). s.stands) by.same
+
+  grow : (after : Stores) → (flushing batch).by held after → StoresGrow held after
+  grow after by = flush_grows batch held after by
 
   doubting : (new : Seen) → granularities new.manifests ≡ granularities p.at.manifests → KeepsShown tells (beside p.at p.limbo) (beside new p.limbo) → Has tells new held ⊎ InDoubt tells new held (record m { doubt = Some change; faults = new.faults })
       → Stands tells (record p { at = new; doubt = Some (kind.Flush batch) }) (record m { doubt = Some change; faults = new.faults })
@@ -134,7 +142,7 @@ module _ (tells : Bool) (p : Parts) (m : Machine) (r : Rests tells p m) (limit :
       stands : Stands tells (parts_with new left None) (record (made [] change m) { doubt = None; faults = new.faults })
       stands =
           let was = doubting p.at refl (λ name bytes s. s) (inl (rests_has tells p m r)) in
-          (made_stands tells (record p { doubt = Some (kind.Flush batch) }) (record m { doubt = Some change; faults = p.at.faults }) was new p.kept acts.costs.granularity shown left change refl end.0 (r.stands.store.told ∙ ap (λ (b : Bool). tells && b) (sym (stand end.0 end.1))) (durable end.0 end.1) (unclear new.catalogue.rows) gives end.3).stands
+          (made_stands tells (record p { doubt = Some (kind.Flush batch) }) (record m { doubt = Some change; faults = p.at.faults }) was new p.kept acts.costs.granularity shown left change refl end.0 (held, (rests_has tells p m r).known, grow end.0 end.1) (r.stands.store.told ∙ ap (λ (b : Bool). tells && b) (sym (stand end.0 end.1))) (durable end.0 end.1) (unclear new.catalogue.rows) gives end.3).stands
 
       machines : Stands tells (parts_with new left None) (record (made [] change m) { faults = new.faults })
       machines = subst (λ (o : Option Change). Stands tells (parts_with new left None) (record (made [] change m) { doubt = o; faults = new.faults })) (sym r.settled) stands
@@ -159,7 +167,7 @@ module _ (tells : Bool) (p : Parts) (m : Machine) (r : Rests tells p m) (limit :
 
   pub flush_failed : (new : Seen) → KeepsShown tells (beside p.at p.limbo) (beside new p.limbo) → Acts tells (flushing batch) p.at new Failed → ChangesTo {A = ℕ} tells change p m (record p { at = new; doubt = Some (kind.Flush batch) }) (Err Fault)
   flush_failed new shown acts = record {
-    ends = doubting new acts.costs.granularity shown (call_failed tells (flushing batch) change p m r durable new stand (acts.settled held (rests_has tells p m r)));
+    ends = doubting new acts.costs.granularity shown (call_failed tells (flushing batch) change p m r durable new stand grow (acts.settled held (rests_has tells p m r)));
     any_moment = call_passes tells (flushing batch) change p m r durable new Failed acts;
     faults = acts.costs.faults;
     cause = λ is. acts.costs.cause tt;

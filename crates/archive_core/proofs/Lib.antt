@@ -41,3 +41,5 @@ pub mod LimboEnters
 pub mod SameNames
 pub mod LimboPinned
 pub mod LimboSwept
+pub mod Growth
+pub mod LimboKept

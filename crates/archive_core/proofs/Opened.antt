@@ -23,16 +23,18 @@ use Rattle.three_stores.specs.declared.limbo.Retired.{Retired}
 use Rattle.act_model.specs.Crash.{DurableRow, kept_of, kept}
 use Rattle.act_model.specs.Machine.{Machine, PinState, MoveState, held_bytes}
 use Rattle.act_model.specs.NextLife.{opened_row, opened}
-use Rattle.act_model.specs.Rows.{RowState, durable}
+use Rattle.act_model.specs.Rows.{RowState, Store, Short, Medium, Long, durable, tier}
 use Rattle.act_model.specs.Rule.{Rule}
 use Rattle.act_model.specs.Sound.{RowSound, IsSound}
 use Rattle.archive_core.specs.declared.memory.RowMemory.{RowMemory}
+use Rattle.archive_core.specs.LimboTies.{AreBare}
 use Rattle.archive_core.specs.Memory.{AreRowsOf, IsRowOf}
 use Rattle.archive_core.specs.Pins.{ArePinsOf}
 use Rattle.archive_core.specs.Opening.{end_at, memory_of, IsOpened}
 use Rattle.append_buffer.specs.Tails.{TailState}
 use Rattle.archive_core.specs.Stands.{Rests, TellsHeaders, IsDurable, HoldsDurable}
 use Rattle.archive_core.proofs.KeptRows.{sampling_cell, sampling_period}
+use Rattle.archive_core.proofs.LimboKept.{empty_limbo}
 use Rattle.archive_core.proofs.ListEnds.{place_end, place_rises}
 
 -- THE ROWS
@@ -203,6 +205,16 @@ module _ (tells : Bool) (at : Seen) (held : Stores) (has : Has tells at held) (a
   fresh true stands is = ap (λ (rs : List RowState). record (machine true) { rows = rs }) (rows_fresh 0 rows (stands refl) (λ i row here. let plain : 0 + i ≡ i = omega arith in ap (slice_get rows) plain ∙ here))
   fresh false stands is = absurd (cc (is))
 
+  -- where it isn't told, no row shows a sample
+  bare_rows : (told : Bool) → told ≡ false → AreBare (rows_from told ms held 0 rows)
+  bare_rows true off = absurd (cc (off))
+  bare_rows false off = λ i row store here. let from = get_row false i row here in ap (λ (r : RowState). tier r store) from.2 ∙ none_listed i from.0 store
+    where
+      none_listed : (i : ℕ) (row : Row) (store : Store) → tier (row_of false ms held i row) store ≡ []
+      none_listed i row Short = refl
+      none_listed i row Medium = refl
+      none_listed i row Long = refl
+
   -- nothing is pinned
   empty_pins : (told : Bool) → ArePinsOf tells (beside at []) told (rows_from told ms held 0 rows) no_pins no_own_pins
   empty_pins told = record { none = λ n none. get-empty nat_cmp n; each = λ n pin here. absurd (no_pin n pin here); stand = stand_none tells (beside at []) }
@@ -217,7 +229,10 @@ module _ (tells : Bool) (at : Seen) (held : Stores) (has : Has tells at held) (a
         record {
           stands = record {
             sound = sound told stands;
-            plain = record { rule = same_g; headers = headers; limbo = refl; none_retired = refl; moves = refl };
+            rule = record { granularity = same_g; headers = headers };
+            limbo = empty_limbo tells at told (rows_from told ms held 0 rows) (bare_rows told);
+            none_retired = refl;
+            moves = refl;
             pins = empty_pins told;
             faults = refl;
             doors = refl;

@@ -134,7 +134,7 @@ module _ (R : Type 0) (tells reader_tells : Bool) (bytes : R → List ℕ) (faul
       ]
       by_open (inr d) = elim (kept s.store.before d.after (inr d.doubts)) [
         | inl still ↦ inl still
-        | inr doubts ↦ inr (record { change = d.change; is = d.is; after = d.after; doubts = doubts; stand = d.stand; holds = d.holds })
+        | inr doubts ↦ inr (record { change = d.change; is = d.is; after = d.after; doubts = doubts; stand = d.stand; grow = d.grow; holds = d.holds })
       ]
 
   -- it wasn't called

@@ -162,15 +162,15 @@ module _ (R : Type 0) (tells reader_tells : Bool) (bytes : R → List ℕ) (faul
             let listed_size = length-map enough.files listed_of in
             let most = enough.few in
             let has_it = has_new in
-            let gran : m.rule.granularity ≡ granularities new.manifests = r.stands.plain.rule ∙ sym settles.granularity in
+            let gran : m.rule.granularity ≡ granularities new.manifests = r.stands.rule.granularity ∙ sym settles.granularity in
             let rising : IsRising (tail_at p.tails i).samples = subst (λ (xs : List Sample). IsRising xs) (row.4 ∙ q.tail_is) (RisesFrom-lower 0 (end_of (durable row.0)) row.0.tail (r.stands.sound.each_row k row.0 row.1).later (omega arith)) in
-            let durable_same = durable_is tells new m held has_new r.stands.store.holds gran r.stands.plain.headers on stands k row.0 row.1 in
+            let durable_same = durable_is tells new m held has_new r.stands.store.holds gran r.stands.rule.headers on stands k row.0 row.1 in
             let tail_same : row.0.tail ≡ (tail_at p.tails i).samples = row.4 ∙ q.tail_is in
             let stand_now = stand r.stands.pins.stand in
             let there : get pinned pin ≡ Some own = ap (λ (x : FinMap nat_cmp PinOf). get x pin) q.made ∙ get_own in
             with_pieces (map (state_of k) enough.files) (omega (arith, number, count_is, size)) (omega (arith, number, opened_size, listed_size, most))
-            (λ t. rest_listed tells new m held has_new r.stands.store.holds gran r.stands.plain.headers on stands k row.0 row.1 enough.closed enough.files enough.split)
-            (λ t. rest_ordered tells new m held has_new r.stands.store.holds gran r.stands.plain.headers on stands k row.0 row.1 enough.closed enough.files enough.split)
+            (λ t. rest_listed tells new m held has_new r.stands.store.holds gran r.stands.rule.headers on stands k row.0 row.1 enough.closed enough.files enough.split)
+            (λ t. rest_ordered tells new m held has_new r.stands.store.holds gran r.stands.rule.headers on stands k row.0 row.1 enough.closed enough.files enough.split)
             (λ t. ap (λ (xs : List Sample). answer_to (over (over_pieces [] (map (state_of k) enough.files)) xs) query) tail_same ∙ (enough.answers stands rising ∙ (ap (λ (xs : List Sample). answer_to (over xs (tail_at p.tails i).samples) query) (sym durable_same) ∙ ap (λ (xs : List Sample). answer_to (over (durable row.0) xs) query) (sym tail_same))))
             (record { owner = refl; number = sym (number ∙ sym size); pieces = λ t. pieces_are tells (beside new p.limbo) m held has_new seen_now r.stands.store.holds (told_tells tells m.told held.stands r.stands.store.told on) stands k row.0 row.1 enough.closed enough.files pinned pin own enough.split of_files there stand_now })
           where

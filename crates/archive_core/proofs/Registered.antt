@@ -31,7 +31,8 @@ use Rattle.archive_core.specs.declared.memory.RowMemory.{RowMemory}
 use Rattle.archive_core.specs.Ends.{ChangesTo, HoldsChanged, register_reply}
 use Rattle.archive_core.specs.Memory.{AreRowsOf, IsCleared, fresh_memory}
 use Rattle.archive_core.specs.Parts.{Parts}
-use Rattle.archive_core.specs.Stands.{Stands, Rests, IsDoubtOf, IsReady, InDoubt, HoldsDurable}
+use Rattle.archive_core.specs.Stands.{Stands, Rests, IsDoubtOf, IsReady, StoresGrow, InDoubt, HoldsDurable}
+use Rattle.archive_core.proofs.Growth.{register_grows}
 use Rattle.archive_core.proofs.Changing.{call_passes, call_failed}
 use Rattle.archive_core.proofs.KeptRows.{Placed, placed, place_some, place_none, same_bytes_is, same_bytes_self, row_at}
 use Rattle.archive_core.proofs.Lists.{element}
@@ -207,6 +208,9 @@ module _ (tells : Bool) (p : Parts) (m : Machine) (r : Rests tells p m) (name : 
   stand : (after : Stores) → (registering name about).by r.stands.store.before after → after.stands ≡ r.stands.store.before.stands
   stand after by = ap (λ (s : Stores). s.stands) by.1
 
+  grow : (after : Stores) → (registering name about).by r.stands.store.before after → StoresGrow r.stands.store.before after
+  grow after by = register_grows p.at name about r.stands.store.before after (rests_has tells p m r).known by
+
   doubting : (new : Seen) → granularities new.manifests ≡ granularities p.at.manifests → KeepsShown tells (beside p.at p.limbo) (beside new p.limbo) → Has tells new r.stands.store.before ⊎ InDoubt tells new r.stands.store.before (record m { doubt = Some change; faults = new.faults })
       → Stands tells (record p { at = new; kept = more_kept; doubt = Some kind.Row }) (record m { doubt = Some change; faults = new.faults })
   doubting new same_g shown is_open =
@@ -244,7 +248,7 @@ module _ (tells : Bool) (p : Parts) (m : Machine) (r : Rests tells p m) (name : 
       stands : Stands tells (parts_with new None) (record (made [] change m) { doubt = None; faults = new.faults })
       stands =
           let was = doubting p.at refl (λ name bytes s. s) (inl (rests_has tells p m r)) in
-          (made_stands tells (record p { kept = more_kept; doubt = Some kind.Row }) (record m { doubt = Some change; faults = p.at.faults }) was new more_kept acts.costs.granularity shown p.tails change refl end.0 (r.stands.store.told ∙ ap (λ (b : Bool). tells && b) (sym (stand end.0 end.1))) (durable end.0 end.1) (unclear new.catalogue.rows) refl end.3).stands
+          (made_stands tells (record p { kept = more_kept; doubt = Some kind.Row }) (record m { doubt = Some change; faults = p.at.faults }) was new more_kept acts.costs.granularity shown p.tails change refl end.0 (r.stands.store.before, (rests_has tells p m r).known, grow end.0 end.1) (r.stands.store.told ∙ ap (λ (b : Bool). tells && b) (sym (stand end.0 end.1))) (durable end.0 end.1) (unclear new.catalogue.rows) refl end.3).stands
 
       machines : Stands tells (parts_with new None) (record (made [] change m) { faults = new.faults })
       machines = subst (λ (o : Option Change). Stands tells (parts_with new None) (record (made [] change m) { doubt = o; faults = new.faults })) (sym r.settled) stands
@@ -254,7 +258,7 @@ module _ (tells : Bool) (p : Parts) (m : Machine) (r : Rests tells p m) (name : 
 
   pub row_failed : (new : Seen) → KeepsShown tells (beside p.at p.limbo) (beside new p.limbo) → Acts tells (registering name about) p.at new Failed → ChangesTo {A = ℕ} tells change p m (record p { at = new; kept = more_kept; doubt = Some kind.Row }) (Err Fault)
   row_failed new shown acts = record {
-    ends = doubting new acts.costs.granularity shown (call_failed tells (registering name about) change p m r durable new stand (acts.settled r.stands.store.before (rests_has tells p m r)));
+    ends = doubting new acts.costs.granularity shown (call_failed tells (registering name about) change p m r durable new stand grow (acts.settled r.stands.store.before (rests_has tells p m r)));
     any_moment = call_passes tells (registering name about) change p m r durable new Failed acts;
     faults = acts.costs.faults;
     cause = λ is. acts.costs.cause tt;

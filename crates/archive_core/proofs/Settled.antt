@@ -18,7 +18,7 @@ use Rattle.series_model.specs.Series.{end_of, since, IsRising}
 use Rattle.series_model.specs.declared.batch.RowSamples.{RowSamples}
 use Rattle.series_model.specs.declared.sample.Sample.{Sample}
 use Rattle.series_model.proofs.RisingLists.{RisesFrom-lower}
-use Rattle.three_stores.specs.Change.{Has, IsOpen, HasEither}
+use Rattle.three_stores.specs.Change.{Has, IsKnown, IsOpen, HasEither}
 use Rattle.three_stores.specs.Pinned.{beside, KeepsShown}
 use Rattle.three_stores.specs.Seen.{Seen, IsSettled, granularities}
 use Rattle.three_stores.specs.Stores.{Stores}
@@ -33,16 +33,18 @@ use Rattle.act_model.proofs.StepLaws.{settled_sound, settled_none}
 use Rattle.archive_core.specs.declared.memory.RowMemory.{RowMemory}
 use Rattle.archive_core.specs.declared.memory.Doubt.{Doubt}
 use Rattle.archive_core.specs.declared.memory.Doubt.TheVariants as kind
-use Rattle.act_model.specs.Limbo.{FileState, unlisted}
-use Rattle.archive_core.proofs.Batches.{none_beyond, lists_or_not, holds_with, holds_without}
+use Rattle.archive_core.proofs.Batches.{none_beyond, lists_or_not, holds_with, holds_without, told_stands}
+use Rattle.archive_core.proofs.Growth.{same_grow}
 use Rattle.archive_core.proofs.KeptRows.{sampling_period, sampling_cell, each_to}
+use Rattle.archive_core.proofs.LimboKept.{limbo_beside, limbo_changed, limbo_held, no_limbo}
 use Rattle.archive_core.proofs.Making.{kept_to, taken_later}
 use Rattle.archive_core.proofs.PinTies.{KeepsNames, names_stay, names_made, state_name, pins_stay}
 use Rattle.archive_core.specs.Flushing.{GivesUp, ListsBatch, IsTrimmed}
+use Rattle.archive_core.specs.LimboTies.{IsLimboOf}
 use Rattle.archive_core.specs.Memory.{IsRowAt, AreRowsOf, cell_in, period_in, fresh_memory, cleared, IsCleared}
 use Rattle.archive_core.specs.Parts.{Parts}
 use Rattle.archive_core.specs.Pins.{ArePinsOf}
-use Rattle.archive_core.specs.Stands.{Stands, Rests, TellsHeaders, InDoubt, IsPartOf, IsReady, IsDoubtOf, AreDurable, HoldsDurable}
+use Rattle.archive_core.specs.Stands.{Stands, Rests, TellsHeaders, StoresGrow, InDoubt, IsPartOf, IsReady, IsDoubtOf, AreDurable, HoldsDurable}
 use Rattle.archive_core.proofs.Lists.{same_or_not, get_set_same, get_set_other, get_front}
 
 -- WHAT IS KEPT IN MEMORY ALONE
@@ -158,6 +160,15 @@ Takes (Unlists i store to) old new = new ≡ old
 
 -- THE SETTLED ARCHIVE
 
+-- the stores grew from what the memory lists
+abbrev pub GrewFrom : Seen → Stores → Type 0
+GrewFrom at after = (before : Stores) × IsKnown at.catalogue at.manifests before × StoresGrow before after
+
+-- the memory lists what was before a doubt
+pub open_known : (tells : Bool) (at : Seen) (before : Stores) (m : Machine) → Has tells at before ⊎ InDoubt tells at before m → IsKnown at.catalogue at.manifests before
+open_known tells at before m (inl has) = has.known
+open_known tells at before m (inr d) = d.doubts.known
+
 -- the rows in memory are those from before a doubt
 pub open_rows : (tells : Bool) (at : Seen) (before : Stores) (m : Machine) → Has tells at before ⊎ InDoubt tells at before m → at.catalogue.rows ≡ before.rows
 open_rows tells at before m (inl has) = has.known.rows
@@ -178,7 +189,7 @@ module _ (tells : Bool) (p : Parts) (m : Machine) (s : Stands tells p m) (new : 
     pub holds : HoldsDurable held mid
     pub memory : AreKeptOf kept tails mid.rows
     pub rule : mid.rule ≡ m.rule
-    pub limbo : mid.limbo ≡ []
+    pub limbo : IsLimboOf tells (beside new p.limbo) mid.told mid.rows mid.limbo
     pub pins : mid.pins ≡ m.pins
     pub moves : mid.moves ≡ m.moves
     pub doors : mid.doors ≡ m.doors
@@ -187,7 +198,10 @@ module _ (tells : Bool) (p : Parts) (m : Machine) (s : Stands tells p m) (new : 
   rests tails mid held r = record {
     stands = record {
       sound = settled_sound r.settles s.sound;
-      plain = record { rule = ap (λ w. w.granularity) r.rule ∙ (s.plain.rule ∙ sym same_g); headers = subst (λ (rule : Rule). TellsHeaders rule) (sym r.rule) s.plain.headers; limbo = r.limbo; none_retired = s.plain.none_retired; moves = r.moves ∙ s.plain.moves };
+      rule = record { granularity = ap (λ w. w.granularity) r.rule ∙ (s.rule.granularity ∙ sym same_g); headers = subst (λ (rule : Rule). TellsHeaders rule) (sym r.rule) s.rule.headers };
+      limbo = r.limbo;
+      none_retired = s.none_retired;
+      moves = r.moves ∙ s.moves;
       pins = own_pins;
       faults = refl;
       doors = r.doors ∙ s.doors;
@@ -231,6 +245,21 @@ module _ (tells : Bool) (p : Parts) (m : Machine) (s : Stands tells p m) (new : 
   same_memory : AreKeptOf p.kept p.tails m.rows
   same_memory = kept_part p.at.catalogue.rows p.kept p.tails m.rows s.rows
 
+  -- the memory lists what was before a doubt
+  was : IsKnown p.at.catalogue p.at.manifests s.store.before
+  was = open_known tells p.at s.store.before m s.store.is_open
+
+  still_grown : GrewFrom p.at s.store.before
+  still_grown = (s.store.before, was, same_grow s.store.before)
+
+  -- limbo stays the machine's where the change was made in stores that grew
+  changed_limbo : (c : Change) → KeepsNames m.rows (made [] c m).rows → (held : Stores) → GrewFrom p.at held → m.told ≡ (tells && held.stands) → HoldsDurable held (made [] c m) → Has tells new held → IsLimboOf tells (beside new p.limbo) m.told (made [] c m).rows (made [] c m).limbo
+  changed_limbo c names held grow told holds has = limbo_changed tells p.at new p.limbo m grow.0 held grow.1 has grow.2 (told_stands tells m.told held.stands told) same_g s.rule shown s.limbo c names holds
+
+  -- and where it was not
+  still_limbo : (held : Stores) → GrewFrom p.at held → m.told ≡ (tells && held.stands) → HoldsDurable held m → Has tells new held → IsLimboOf tells (beside new p.limbo) m.told m.rows m.limbo
+  still_limbo held grow told holds has = limbo_held tells p.at new p.limbo m grow.0 held grow.1 has grow.2 (told_stands tells m.told held.stands told) same_g s.rule shown s.limbo s.sound holds
+
   -- it was not made: no row has the doubted state
   not_made : (tails : List TailState) → tails ≡ p.tails → IsCleared s.store.before.rows p.doubt p.kept kept → Has tells new s.store.before → (mid : Machine) × Reaches tails mid s.store.before
   not_made tails same_tails memory has = by_doubt m.doubt refl
@@ -249,22 +278,23 @@ module _ (tells : Bool) (p : Parts) (m : Machine) (s : Stands tells p m) (new : 
       stays = subst (λ (ts : List TailState). AreKeptOf kept ts m.rows) (sym same_tails) (subst (λ (ks : List RowMemory). AreKeptOf ks p.tails m.rows) (sym same) same_memory)
 
       by_doubt : (d : Option Change) → m.doubt ≡ d → (mid : Machine) × Reaches tails mid s.store.before
-      by_doubt None is = (m, record { settles = no_doubt is; has = has; told = s.store.told; same_told = refl; names = names_stay m.rows; holds = s.store.holds; memory = stays; rule = refl; limbo = s.plain.limbo; pins = refl; moves = refl; doors = refl })
-      by_doubt (Some c) is = (record m { doubt = None }, record { settles = as_not_made c is; has = has; told = s.store.told; same_told = refl; names = names_stay m.rows; holds = s.store.holds; memory = stays; rule = refl; limbo = s.plain.limbo; pins = refl; moves = refl; doors = refl })
+      by_doubt None is = (m, record { settles = no_doubt is; has = has; told = s.store.told; same_told = refl; names = names_stay m.rows; holds = s.store.holds; memory = stays; rule = refl; limbo = still_limbo s.store.before still_grown s.store.told s.store.holds has; pins = refl; moves = refl; doors = refl })
+      by_doubt (Some c) is = (record m { doubt = None }, record { settles = as_not_made c is; has = has; told = s.store.told; same_told = refl; names = names_stay m.rows; holds = s.store.holds; memory = stays; rule = refl; limbo = still_limbo s.store.before still_grown s.store.told s.store.holds has; pins = refl; moves = refl; doors = refl })
 
   told_after : (after : Stores) → after.stands ≡ s.store.before.stands → m.told ≡ (tells && after.stands)
   told_after after stand = s.store.told ∙ ap (λ (b : Bool). tells && b) (sym stand)
 
-  no_limbo : (rows : List RowState) → unlisted rows (m.limbo ++ []) ≡ []
-  no_limbo rows = ap (λ (l : List FileState). unlisted rows (l ++ [])) s.plain.limbo
+  -- no file is in the machine's limbo
+  limbo_none : m.limbo ≡ []
+  limbo_none = no_limbo tells (beside p.at p.limbo) m.told m.rows m.limbo s.none_retired s.limbo
 
   -- the machine with its doubted change made
   abbrev pub with_change : Change → Machine
   with_change c = record (made [] c m) { doubt = None }
 
   -- the doubted state was set
-  made_state : (k : ℕ) (to : State) → m.doubt ≡ Some (SetsState k to) → (after : Stores) → m.told ≡ (tells && after.stands) → HoldsDurable after (made [] (SetsState k to) m) → IsReady p.kept m.rows (Some (SetsState k to)) → IsCleared after.rows p.doubt p.kept kept → Has tells new after → Reaches p.tails (with_change (SetsState k to)) after
-  made_state k to is after told holds ready memory has = by_own p.doubt refl (subst (λ (d : Option Change). IsDoubtOf p.doubt d) is s.doubt)
+  made_state : (k : ℕ) (to : State) → m.doubt ≡ Some (SetsState k to) → (after : Stores) → GrewFrom p.at after → m.told ≡ (tells && after.stands) → HoldsDurable after (made [] (SetsState k to) m) → IsReady p.kept m.rows (Some (SetsState k to)) → IsCleared after.rows p.doubt p.kept kept → Has tells new after → Reaches p.tails (with_change (SetsState k to)) after
+  made_state k to is after grow told holds ready memory has = by_own p.doubt refl (subst (λ (d : Option Change). IsDoubtOf p.doubt d) is s.doubt)
     where
       at_row : IsRowAt p.at.catalogue.rows p.kept p.tails k ready.0
       at_row = s.rows.each k ready.0 ready.1
@@ -289,23 +319,23 @@ module _ (tells : Bool) (p : Parts) (m : Machine) (s : Stands tells p m) (new : 
           let named : kind.State row state ≡ kind.State k to = cc (doubt) in
           let set = memory.own k to (own ∙ ap (λ (w : Doubt). Some w) named) has_it at_row.memory at_row.there in
           let rows = kept_cleared m p.kept p.tails k to at_row.memory same_memory at_row.there in
-          record { settles = as_made (SetsState k to) [] is refl; has = has; told = told; same_told = refl; names = names_made m (SetsState k to) (state_name m k to); holds = holds; memory = subst (λ (ks : List RowMemory). AreKeptOf ks p.tails (made [] (SetsState k to) m).rows) (sym set) rows; rule = refl; limbo = no_limbo (made [] (SetsState k to) m).rows; pins = refl; moves = refl; doors = refl }
+          record { settles = as_made (SetsState k to) [] is refl; has = has; told = told; same_told = refl; names = names_made m (SetsState k to) (state_name m k to); holds = holds; memory = subst (λ (ks : List RowMemory). AreKeptOf ks p.tails (made [] (SetsState k to) m).rows) (sym set) rows; rule = refl; limbo = changed_limbo (SetsState k to) (names_made m (SetsState k to) (state_name m k to)) after grow told holds has; pins = refl; moves = refl; doors = refl }
 
   -- the doubted row was added
-  made_row : (name : List ℕ) (about : About) → m.doubt ≡ Some (AddsRow name about) → (after : Stores) → m.told ≡ (tells && after.stands) → HoldsDurable after (made [] (AddsRow name about) m) → IsReady p.kept m.rows (Some (AddsRow name about)) → IsCleared after.rows p.doubt p.kept kept → Has tells new after → Reaches p.tails (with_change (AddsRow name about)) after
-  made_row name about is after told holds ready memory has =
+  made_row : (name : List ℕ) (about : About) → m.doubt ≡ Some (AddsRow name about) → (after : Stores) → GrewFrom p.at after → m.told ≡ (tells && after.stands) → HoldsDurable after (made [] (AddsRow name about) m) → IsReady p.kept m.rows (Some (AddsRow name about)) → IsCleared after.rows p.doubt p.kept kept → Has tells new after → Reaches p.tails (with_change (AddsRow name about)) after
+  made_row name about is after grow told holds ready memory has =
       let doubt : IsDoubtOf p.doubt (Some (AddsRow name about)) = subst (λ (d : Option Change). IsDoubtOf p.doubt d) is s.doubt in
       let same : kept ≡ p.kept = memory.other (λ k to state has_it. let wrong = doubt_state p.doubt (Some (AddsRow name about)) doubt k to state in let plain : AddsRow name about ≡ SetsState k to = same_Some (AddsRow name about) (SetsState k to) wrong in cc (plain)) in
       let own_rows = kept_added m p.kept p.tails name about same_memory ready in
-      record { settles = as_made (AddsRow name about) [] is refl; has = has; told = told; same_told = refl; names = names_made m (AddsRow name about) (λ i r. refl); holds = holds; memory = subst (λ (ks : List RowMemory). AreKeptOf ks p.tails (made [] (AddsRow name about) m).rows) (sym same) own_rows; rule = refl; limbo = no_limbo (made [] (AddsRow name about) m).rows; pins = refl; moves = refl; doors = refl }
+      record { settles = as_made (AddsRow name about) [] is refl; has = has; told = told; same_told = refl; names = names_made m (AddsRow name about) (λ i r. refl); holds = holds; memory = subst (λ (ks : List RowMemory). AreKeptOf ks p.tails (made [] (AddsRow name about) m).rows) (sym same) own_rows; rule = refl; limbo = changed_limbo (AddsRow name about) (names_made m (AddsRow name about) (λ i r. refl)) after grow told holds has; pins = refl; moves = refl; doors = refl }
 
   -- the doubted batch was appended
-  made_batch : (batch : List RowSamples) → m.doubt ≡ Some (Appends batch) → (after : Stores) → m.told ≡ (tells && after.stands) → HoldsDurable after (made [] (Appends batch) m) → kept ≡ p.kept → (tails : List TailState) → GivesUp batch p.tails tails → Has tells new after → Reaches tails (with_change (Appends batch)) after
-  made_batch batch is after told holds same tails gives has =
+  made_batch : (batch : List RowSamples) → m.doubt ≡ Some (Appends batch) → (after : Stores) → GrewFrom p.at after → m.told ≡ (tells && after.stands) → HoldsDurable after (made [] (Appends batch) m) → kept ≡ p.kept → (tails : List TailState) → GivesUp batch p.tails tails → Has tells new after → Reaches tails (with_change (Appends batch)) after
+  made_batch batch is after grow told holds same tails gives has =
       let ready : AllByRecursion (IsPartOf (length m.rows)) batch = subst (λ (d : Option Change). IsReady p.kept m.rows d) is s.ready in
       let may = (s.sound.doubted (Appends batch) is).0 in
       let own_rows = kept_flushed m p.kept p.tails tails batch same_memory ready (λ i r here. RisesFrom-lower 0 (end_of r.short) (of_row i batch) (taken_later m batch i r s.sound may here) (omega arith)) gives in
-      record { settles = as_made (Appends batch) [] is refl; has = has; told = told; same_told = refl; names = names_made m (Appends batch) (λ i r. refl); holds = holds; memory = subst (λ (ks : List RowMemory). AreKeptOf ks tails (made [] (Appends batch) m).rows) (sym same) own_rows; rule = refl; limbo = no_limbo (made [] (Appends batch) m).rows; pins = refl; moves = refl; doors = refl }
+      record { settles = as_made (Appends batch) [] is refl; has = has; told = told; same_told = refl; names = names_made m (Appends batch) (λ i r. refl); holds = holds; memory = subst (λ (ks : List RowMemory). AreKeptOf ks tails (made [] (Appends batch) m).rows) (sym same) own_rows; rule = refl; limbo = changed_limbo (Appends batch) (names_made m (Appends batch) (λ i r. refl)) after grow told holds has; pins = refl; moves = refl; doors = refl }
 
   -- a doubted batch leaves what is kept of rows
   same_kept : (rows : List Row) (batch : List RowSamples) → m.doubt ≡ Some (Appends batch) → IsCleared rows p.doubt p.kept kept → kept ≡ p.kept
@@ -314,19 +344,19 @@ module _ (tells : Bool) (p : Parts) (m : Machine) (s : Stands tells p m) (new : 
       cc (own))
 
   -- it was made
-  made_so : (c : Change) → m.doubt ≡ Some c → (after : Stores) → m.told ≡ (tells && after.stands) → HoldsDurable after (made [] c m) → IsReady p.kept m.rows (Some c) → IsCleared after.rows p.doubt p.kept kept → (tails : List TailState) → Takes c p.tails tails → Has tells new after → Reaches tails (with_change c) after
-  made_so (AddsRow name about) is after told holds ready memory tails same has = subst (λ (ts : List TailState). Reaches ts (with_change (AddsRow name about)) after) (sym same) (made_row name about is after told holds ready memory has)
-  made_so (SetsState k to) is after told holds ready memory tails same has = subst (λ (ts : List TailState). Reaches ts (with_change (SetsState k to)) after) (sym same) (made_state k to is after told holds ready memory has)
-  made_so (Appends batch) is after told holds ready memory tails gives has = made_batch batch is after told holds (same_kept after.rows batch is memory) tails gives has
-  made_so (Publishes i store copied) is after told holds ready memory tails same has = absurd ready
-  made_so (Unlists i store to) is after told holds ready memory tails same has = absurd ready
+  made_so : (c : Change) → m.doubt ≡ Some c → (after : Stores) → GrewFrom p.at after → m.told ≡ (tells && after.stands) → HoldsDurable after (made [] c m) → IsReady p.kept m.rows (Some c) → IsCleared after.rows p.doubt p.kept kept → (tails : List TailState) → Takes c p.tails tails → Has tells new after → Reaches tails (with_change c) after
+  made_so (AddsRow name about) is after grow told holds ready memory tails same has = subst (λ (ts : List TailState). Reaches ts (with_change (AddsRow name about)) after) (sym same) (made_row name about is after grow told holds ready memory has)
+  made_so (SetsState k to) is after grow told holds ready memory tails same has = subst (λ (ts : List TailState). Reaches ts (with_change (SetsState k to)) after) (sym same) (made_state k to is after grow told holds ready memory has)
+  made_so (Appends batch) is after grow told holds ready memory tails gives has = made_batch batch is after grow told holds (same_kept after.rows batch is memory) tails gives has
+  made_so (Publishes i store copied) is after grow told holds ready memory tails same has = absurd ready
+  made_so (Unlists i store to) is after grow told holds ready memory tails same has = absurd ready
 
   -- once the stores have what is after the doubted change, the archive stands for the machine with it
-  pub made_stands : (tails : List TailState) (c : Change) → m.doubt ≡ Some c → (after : Stores) → m.told ≡ (tells && after.stands) → HoldsDurable after (made [] c m) → IsCleared new.catalogue.rows p.doubt p.kept kept → Takes c p.tails tails → Has tells new after → Rests tells (settled_parts p new kept tails) (record (with_change c) { faults = new.faults })
-  made_stands tails c is after told holds memory takes has =
+  pub made_stands : (tails : List TailState) (c : Change) → m.doubt ≡ Some c → (after : Stores) → GrewFrom p.at after → m.told ≡ (tells && after.stands) → HoldsDurable after (made [] c m) → IsCleared new.catalogue.rows p.doubt p.kept kept → Takes c p.tails tails → Has tells new after → Rests tells (settled_parts p new kept tails) (record (with_change c) { faults = new.faults })
+  made_stands tails c is after grow told holds memory takes has =
       let ready : IsReady p.kept m.rows (Some c) = subst (λ (d : Option Change). IsReady p.kept m.rows d) is s.ready in
       let rows = subst (λ (rows : List Row). IsCleared rows p.doubt p.kept kept) has.known.rows memory in
-      rests tails (with_change c) after (made_so c is after told holds ready rows tails takes has)
+      rests tails (with_change c) after (made_so c is after grow told holds ready rows tails takes has)
 
   module _ (tails : List TailState) (memory : IsCleared new.catalogue.rows p.doubt p.kept kept) (trims : IsTrimmed new.manifests p.doubt p.tails tails) where
     -- what the archive comes to once its doubt is settled
@@ -344,18 +374,18 @@ module _ (tells : Bool) (p : Parts) (m : Machine) (s : Stands tells p m) (new : 
     same_tails no_flush = trims.other (λ batch is lists. no_flush batch (doubt_flush p.doubt m.doubt s.doubt batch is))
 
     -- A flush stood in doubt: store 1 tells whether it was made.
-    flush_ends : (batch : List RowSamples) → m.doubt ≡ Some (Appends batch) → (held : Stores) → Has tells new held → m.told ≡ (tells && held.stands) → HoldsDurable held m ⊎ HoldsDurable held (made [] (Appends batch) m) → Ends
-    flush_ends batch is held has told holds = elim (lists_or_not new.manifests batch) [
+    flush_ends : (batch : List RowSamples) → m.doubt ≡ Some (Appends batch) → (held : Stores) → GrewFrom p.at held → Has tells new held → m.told ≡ (tells && held.stands) → HoldsDurable held m ⊎ HoldsDurable held (made [] (Appends batch) m) → Ends
+    flush_ends batch is held grow has told holds = elim (lists_or_not new.manifests batch) [
       | inl lists ↦ (
         with_change (Appends batch),
         as_made (Appends batch) [] is refl,
-        rests tails (with_change (Appends batch)) held (made_batch batch is held told (holds_with tells new m s.sound s.plain.limbo held has told batch may ready lists holds) same tails (trims.own batch own lists) has),
+        rests tails (with_change (Appends batch)) held (made_batch batch is held grow told (holds_with tells new m s.sound limbo_none held has told batch may ready lists holds) same tails (trims.own batch own lists) has),
       )
       | inr lacks ↦ (
         record m { doubt = None },
         as_not_made (Appends batch) is,
         rests tails (record m { doubt = None }) held
-            (record { settles = as_not_made (Appends batch) is; has = has; told = told; same_told = refl; names = names_stay m.rows; holds = holds_without tells new m s.sound s.plain.limbo held has told batch may ready lacks holds; memory = stays lacks; rule = refl; limbo = s.plain.limbo; pins = refl; moves = refl; doors = refl }),
+            (record { settles = as_not_made (Appends batch) is; has = has; told = told; same_told = refl; names = names_stay m.rows; holds = without lacks; memory = stays lacks; rule = refl; limbo = still_limbo held grow told (without lacks) has; pins = refl; moves = refl; doors = refl }),
       )
     ]
       where
@@ -370,6 +400,9 @@ module _ (tells : Bool) (p : Parts) (m : Machine) (s : Stands tells p m) (new : 
 
         ready : AllByRecursion (IsPartOf (length m.rows)) batch
         ready = subst (λ (d : Option Change). IsReady p.kept m.rows d) is s.ready
+
+        without : (ListsBatch new.manifests batch → ⊥) → HoldsDurable held m
+        without lacks = holds_without tells new m s.sound limbo_none held has told batch may ready lacks holds
 
         stays : (ListsBatch new.manifests batch → ⊥) → AreKeptOf kept tails m.rows
         stays lacks =
@@ -386,7 +419,7 @@ module _ (tells : Bool) (p : Parts) (m : Machine) (s : Stands tells p m) (new : 
 
     -- the stores have what was before the doubted change
     as_before : (d : Option Change) → m.doubt ≡ d → Has tells new s.store.before → Ends
-    as_before (Some (Appends batch)) is has = flush_ends batch is s.store.before has s.store.told (inl s.store.holds)
+    as_before (Some (Appends batch)) is has = flush_ends batch is s.store.before still_grown has s.store.told (inl s.store.holds)
     as_before None is has = plain_before (other_change None is (λ batch wrong. cc (wrong))) has
     as_before (Some (AddsRow name about)) is has = plain_before (other_change (Some (AddsRow name about)) is (λ batch wrong. cc (wrong))) has
     as_before (Some (SetsState k to)) is has = plain_before (other_change (Some (SetsState k to)) is (λ batch wrong. cc (wrong))) has
@@ -394,20 +427,20 @@ module _ (tells : Bool) (p : Parts) (m : Machine) (s : Stands tells p m) (new : 
     as_before (Some (Unlists i store to)) is has = plain_before (other_change (Some (Unlists i store to)) is (λ batch wrong. cc (wrong))) has
 
     -- they have what is after it
-    as_after : (c : Change) → m.doubt ≡ Some c → (after : Stores) → m.told ≡ (tells && after.stands) → HoldsDurable after (made [] c m) → IsReady p.kept m.rows (Some c) → Has tells new after → Ends
-    as_after (Appends batch) is after told holds ready has = flush_ends batch is after has told (inr holds)
-    as_after (AddsRow name about) is after told holds ready has = (
+    as_after : (c : Change) → m.doubt ≡ Some c → (after : Stores) → GrewFrom p.at after → m.told ≡ (tells && after.stands) → HoldsDurable after (made [] c m) → IsReady p.kept m.rows (Some c) → Has tells new after → Ends
+    as_after (Appends batch) is after grow told holds ready has = flush_ends batch is after grow has told (inr holds)
+    as_after (AddsRow name about) is after grow told holds ready has = (
       with_change (AddsRow name about),
       as_made (AddsRow name about) [] is refl,
-      made_stands tails (AddsRow name about) is after told holds memory (same_tails (other_change (Some (AddsRow name about)) is (λ batch wrong. cc (wrong)))) has,
+      made_stands tails (AddsRow name about) is after grow told holds memory (same_tails (other_change (Some (AddsRow name about)) is (λ batch wrong. cc (wrong)))) has,
     )
-    as_after (SetsState k to) is after told holds ready has = (
+    as_after (SetsState k to) is after grow told holds ready has = (
       with_change (SetsState k to),
       as_made (SetsState k to) [] is refl,
-      made_stands tails (SetsState k to) is after told holds memory (same_tails (other_change (Some (SetsState k to)) is (λ batch wrong. cc (wrong)))) has,
+      made_stands tails (SetsState k to) is after grow told holds memory (same_tails (other_change (Some (SetsState k to)) is (λ batch wrong. cc (wrong)))) has,
     )
-    as_after (Publishes i store copied) is after told holds ready has = absurd ready
-    as_after (Unlists i store to) is after told holds ready has = absurd ready
+    as_after (Publishes i store copied) is after grow told holds ready has = absurd ready
+    as_after (Unlists i store to) is after grow told holds ready has = absurd ready
 
     -- once the stores have settled their doubt, so has the archive
     pub settled_ends : ((before after : Stores) → IsOpen tells p.at before after → HasEither tells new before after) → Ends
@@ -420,7 +453,7 @@ module _ (tells : Bool) (p : Parts) (m : Machine) (s : Stands tells p m) (new : 
         ]
         by_open (inr d) = elim (settled s.store.before d.after (inr d.doubts)) [
           | inl has ↦ as_before m.doubt refl has
-          | inr has ↦ as_after d.change d.is d.after (told_after d.after d.stand) d.holds (subst (λ (o : Option Change). IsReady p.kept m.rows o) d.is s.ready) has
+          | inr has ↦ as_after d.change d.is d.after (s.store.before, was, d.grow) (told_after d.after d.stand) d.holds (subst (λ (o : Option Change). IsReady p.kept m.rows o) d.is s.ready) has
         ]
 
 -- WHERE A DOUBT STANDS, OR NONE
@@ -430,7 +463,10 @@ pub doubt_stands : (tells : Bool) (p : Parts) (m : Machine) (s : Stands tells p 
     → Has tells new s.store.before ⊎ InDoubt tells new s.store.before (record m { doubt = c; faults = new.faults }) → Stands tells (record { at = new; limbo = p.limbo; pinned = p.pinned; tails = p.tails; kept = kept; doubt = d; doors = p.doors }) (record m { doubt = c; faults = new.faults })
 doubt_stands tells p m s new kept d c same_g shown sound rows doubt ready is_open = record {
   sound = sound;
-  plain = record { rule = s.plain.rule ∙ sym same_g; headers = s.plain.headers; limbo = s.plain.limbo; none_retired = s.plain.none_retired; moves = s.plain.moves };
+  rule = record { granularity = s.rule.granularity ∙ sym same_g; headers = s.rule.headers };
+  limbo = limbo_beside tells p.at new p.limbo s.store.before m.told m.rows m.limbo (open_known tells p.at s.store.before m s.store.is_open) (open_known tells new s.store.before (record m { doubt = c; faults = new.faults }) is_open) same_g shown s.limbo;
+  none_retired = s.none_retired;
+  moves = s.moves;
   pins = pins_stay tells (beside p.at p.limbo) (beside new p.limbo) m.told m.rows m.rows m.pins p.pinned shown (names_stay m.rows) s.pins;
   faults = refl;
   doors = s.doors;
@@ -448,7 +484,7 @@ still_doubted tells p m new s doubted still same_g shown = doubt_stands tells p 
     by_open (inl has) = absurd (doubted has.settled)
     by_open (inr d) = elim (still s.store.before d.after (inr d.doubts)) [
       | inl has ↦ inl has
-      | inr doubts ↦ inr (record { change = d.change; is = d.is; after = d.after; doubts = doubts; stand = d.stand; holds = d.holds })
+      | inr doubts ↦ inr (record { change = d.change; is = d.is; after = d.after; doubts = doubts; stand = d.stand; grow = d.grow; holds = d.holds })
     ]
 
 -- where nothing stands in doubt, the stores have what is durable

@@ -22,6 +22,7 @@ use Rattle.archive_core.specs.Stands.{Stands, IsPartOf, IsReady, InDoubt, IsBetw
 use Rattle.archive_core.proofs.Lists.{get_set_other, set_same}
 use Rattle.archive_core.proofs.KeptRows.{each_to, rows_at, rows_spared}
 use Rattle.archive_core.proofs.Durable.{kept_each, kept_changed}
+use Rattle.archive_core.proofs.LimboKept.{limbo_rows, bare_each}
 use Rattle.archive_core.proofs.PinTies.{pins_stay, names_at}
 use Rattle.three_stores.specs.Pinned.{beside}
 use Rattle.three_stores.specs.Change.{Has}
@@ -38,7 +39,7 @@ between_rows tells at m g stays s = record {
   where
     by_open : Has tells at s.before ⊎ InDoubt tells at s.before m → Has tells at s.before ⊎ InDoubt tells at s.before (with_rows m g)
     by_open (inl has) = inl has
-    by_open (inr d) = inr (record { change = d.change; is = d.is; after = d.after; doubts = d.doubts; stand = d.stand; holds = subst (λ (ds : List DurableRow). AreDurable m.told d.after ds) (sym (kept_changed m g d.change stays)) d.holds })
+    by_open (inr d) = inr (record { change = d.change; is = d.is; after = d.after; doubts = d.doubts; stand = d.stand; grow = d.grow; holds = subst (λ (ds : List DurableRow). AreDurable m.told d.after ds) (sym (kept_changed m g d.change stays)) d.holds })
 
 at_stays : (k : ℕ) (f : RowState → RowState) → ((r : RowState) → kept_of (f r) ≡ kept_of r) → (i : ℕ) (r : RowState) → kept_of (at k f i r) ≡ kept_of r
 at_stays k f stays i r = by_test (i == k) refl
@@ -64,7 +65,10 @@ pub row_stands : (tells : Bool) (p : Parts) (m : Machine) → Stands tells p m �
     → ((q : RowState) → kept_of (f q) ≡ kept_of q) → IsSound (with_rows m (at i f)) → Stands tells (record p { kept = slice_set p.kept i memory; tails = new }) (with_rows m (at i f))
 row_stands tells p m s i f memory new row r here there is others stays sound = record {
   sound = sound;
-  plain = record { rule = s.plain.rule; headers = s.plain.headers; limbo = s.plain.limbo; none_retired = s.plain.none_retired; moves = s.plain.moves };
+  rule = s.rule;
+  limbo = limbo_rows tells p.at p.limbo m.told m.rows (each (at i f) 0 m.rows) m.limbo (names_at i f m.rows stays) (λ off. bare_each (at i f) m.rows (at_stays i f stays) (s.limbo.bare off)) s.limbo;
+  none_retired = s.none_retired;
+  moves = s.moves;
   pins = pins_stay tells (beside p.at p.limbo) (beside p.at p.limbo) m.told m.rows (each (at i f) 0 m.rows) m.pins p.pinned (λ name bytes shown. shown) (names_at i f m.rows stays) s.pins;
   faults = s.faults;
   doors = s.doors;
@@ -78,7 +82,10 @@ row_stands tells p m s i f memory new row r here there is others stays sound = r
 pub spared_stands : (tells : Bool) (p : Parts) (m : Machine) (new : List TailState) → Stands tells p m → ((j : ℕ) → (tail_at new j).samples ≡ (tail_at p.tails j).samples) → Stands tells (record p { tails = new }) m
 spared_stands tells p m new s same = record {
   sound = s.sound;
-  plain = s.plain;
+  rule = s.rule;
+  limbo = s.limbo;
+  none_retired = s.none_retired;
+  moves = s.moves;
   pins = s.pins;
   faults = s.faults;
   doors = s.doors;
@@ -99,7 +106,10 @@ still_stands tells p m new s same i memory set here is =
 pub doors_stand : (tells : Bool) (p : Parts) (m : Machine) (doors d : ℕ) → d ≡ doors → Stands tells p m → Stands tells (record p { doors = doors }) (record m { doors = d })
 doors_stand tells p m doors d same s = record {
   sound = s.sound;
-  plain = record { rule = s.plain.rule; headers = s.plain.headers; limbo = s.plain.limbo; none_retired = s.plain.none_retired; moves = s.plain.moves };
+  rule = s.rule;
+  limbo = s.limbo;
+  none_retired = s.none_retired;
+  moves = s.moves;
   pins = s.pins;
   faults = s.faults;
   doors = same;
@@ -111,13 +121,16 @@ doors_stand tells p m doors d same s = record {
   where
     by_open : Has tells p.at s.store.before ⊎ InDoubt tells p.at s.store.before m → Has tells p.at s.store.before ⊎ InDoubt tells p.at s.store.before (record m { doors = d })
     by_open (inl has) = inl has
-    by_open (inr f) = inr (record { change = f.change; is = f.is; after = f.after; doubts = f.doubts; stand = f.stand; holds = f.holds })
+    by_open (inr f) = inr (record { change = f.change; is = f.is; after = f.after; doubts = f.doubts; stand = f.stand; grow = f.grow; holds = f.holds })
 
 -- and so they are of one with other pins
 pub pins_stand : (tells : Bool) (p : Parts) (m : Machine) (pins : FinMap nat_cmp PinState) (pinned : FinMap nat_cmp PinOf) → ArePinsOf tells (beside p.at p.limbo) m.told m.rows pins pinned → IsSound (record m { pins = pins }) → Stands tells p m → Stands tells (record p { pinned = pinned }) (record m { pins = pins })
 pins_stand tells p m pins pinned are sound s = record {
   sound = sound;
-  plain = record { rule = s.plain.rule; headers = s.plain.headers; limbo = s.plain.limbo; none_retired = s.plain.none_retired; moves = s.plain.moves };
+  rule = s.rule;
+  limbo = s.limbo;
+  none_retired = s.none_retired;
+  moves = s.moves;
   pins = are;
   faults = s.faults;
   doors = s.doors;
@@ -129,4 +142,4 @@ pins_stand tells p m pins pinned are sound s = record {
   where
     by_open : Has tells p.at s.store.before ⊎ InDoubt tells p.at s.store.before m → Has tells p.at s.store.before ⊎ InDoubt tells p.at s.store.before (record m { pins = pins })
     by_open (inl has) = inl has
-    by_open (inr f) = inr (record { change = f.change; is = f.is; after = f.after; doubts = f.doubts; stand = f.stand; holds = f.holds })
+    by_open (inr f) = inr (record { change = f.change; is = f.is; after = f.after; doubts = f.doubts; stand = f.stand; grow = f.grow; holds = f.holds })

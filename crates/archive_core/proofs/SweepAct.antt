@@ -33,6 +33,7 @@ use Rattle.archive_core.specs.Stands.{Stands, Rests}
 use Rattle.archive_core.specs.Sweeping.{sweep_reply}
 use Rattle.archive_core.proofs.Acting.{crash_settling}
 use Rattle.archive_core.proofs.Changing.{rests_again, stands_so}
+use Rattle.archive_core.proofs.LimboKept.{no_limbo}
 use Rattle.archive_core.proofs.Opens.{undoubted}
 use Rattle.archive_core.proofs.Settled.{rests_has}
 
@@ -83,7 +84,7 @@ module _ (tells : Bool) (copied : List Name) (q new : Parts) (result : Result Sw
   shown_still = λ name bytes was. subst (λ (l : List Retired). Shows tells (beside new.at l) name bytes) left_is (s.leaves.shown name bytes (listed name bytes was.held) was)
     where
       left_is : new.limbo ≡ q.limbo
-      left_is = (swept_none tells copied q new result r.stands.plain.none_retired s).0 ∙ sym r.stands.plain.none_retired
+      left_is = (swept_none tells copied q new result r.stands.none_retired s).0 ∙ sym r.stands.none_retired
 
       listed : (name : Name) (bytes : List ℕ) → IsThereTo (beside q.at q.limbo) name (length bytes) → IsKeptName new.at q.pinned copied name
       listed name bytes (inl there) = inl (record {
@@ -94,18 +95,18 @@ module _ (tells : Bool) (copied : List Name) (q new : Parts) (result : Result Sw
         within = there.listed.within;
         named = ap (λ (c : CatalogueState). file_of (there.place + 1, c.rows) there.listed.entry) same_memory.0 ∙ there.listed.named;
       })
-      listed name bytes (inr there) = absurd (let within = subst (λ (l : List Retired). Contains l there.file) r.stands.plain.none_retired there.within in omega (arith, within.1))
+      listed name bytes (inr there) = absurd (let within = subst (λ (l : List Retired). Contains l there.file) r.stands.none_retired there.within in omega (arith, within.1))
 
   -- the archive stands for the same machine
   pub stands_still : Stands tells new (record m { faults = new.at.faults })
   stands_still =
       let again = rests_again tells q m r new.at s.acts.costs.granularity shown_still (has_still result (s.acts.settled held has)) in
-      let left = (swept_none tells copied q new result r.stands.plain.none_retired s).0 ∙ sym r.stands.plain.none_retired in
+      let left = (swept_none tells copied q new result r.stands.none_retired s).0 ∙ sym r.stands.none_retired in
       subst (λ (p : Parts). Stands tells p (record m { faults = new.at.faults })) (sym same) (stands_so tells (record q { at = new.at }) (record m { faults = new.at.faults }) new.limbo new.pinned left s.pins again)
 
   -- none was removed
   pub none_removed : IfOk result (λ (s : Swept). s.files ≡ 0)
-  none_removed = (swept_none tells copied q new result r.stands.plain.none_retired s).1
+  none_removed = (swept_none tells copied q new result r.stands.none_retired s).1
 
   -- at each moment the disk has what is durable
   pub sweep_passes : IsTrue tells → Passes (λ a image. HoldsMachine (granularities q.at.manifests) image m) q.at.past new.at.past
@@ -153,7 +154,7 @@ module _ (tells : Bool) (p : Parts) where
         let was : m.faults ≡ p.at.faults = s.faults in
         let later = swept.acts.costs.faults in
         let zero : said.files ≡ 0 = none_removed tells copied q new (Ok said) swept same n mid.2 in
-        (record mid.0 { faults = new.at.faults }, runs (answer.Swept said.files) refl mid.1 refl (sweeps_none mid.0 new.at.faults said.files mid.2.stands.plain.limbo zero) (omega (arith, was, more, later)), stands_still tells copied q new (Ok said) swept same n mid.2)
+        (record mid.0 { faults = new.at.faults }, runs (answer.Swept said.files) refl mid.1 refl (sweeps_none mid.0 new.at.faults said.files (no_limbo tells (beside q.at q.limbo) mid.0.told mid.0.rows mid.0.limbo mid.2.stands.none_retired mid.2.stands.limbo) zero) (omega (arith, was, more, later)), stands_still tells copied q new (Ok said) swept same n mid.2)
     sweep_ends (Err Fault) swept = λ m s.
         let mid = settles m s in
         let n : Machine = record mid.0 { faults = q.at.faults } in

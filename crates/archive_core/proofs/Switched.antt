@@ -29,7 +29,8 @@ use Rattle.archive_core.specs.declared.switching.Unset.TheVariants as unset
 use Rattle.archive_core.specs.Ends.{ChangesTo}
 use Rattle.archive_core.specs.Memory.{IsCleared, cleared}
 use Rattle.archive_core.specs.Parts.{Parts}
-use Rattle.archive_core.specs.Stands.{Stands, Rests, IsDoubtOf, InDoubt, HoldsDurable}
+use Rattle.archive_core.specs.Stands.{Stands, Rests, IsDoubtOf, StoresGrow, InDoubt, HoldsDurable}
+use Rattle.archive_core.proofs.Growth.{switch_grows}
 use Rattle.archive_core.specs.Switching.{IsFound, IsUnset, from_of, to_of, wrong_of, wrong_reply, switching, switch_reply}
 use Rattle.archive_core.proofs.Changing.{call_passes, call_failed, rests_again}
 use Rattle.archive_core.proofs.KeptRows.{find_is, row_at}
@@ -119,6 +120,9 @@ module _ (tells : Bool) (p : Parts) (m : Machine) (r : Rests tells p m) (i : ℕ
   stand : (after : Stores) → (switching switch i).by r.stands.store.before after → after.stands ≡ r.stands.store.before.stands
   stand after by = ap (λ (s : Stores). s.stands) (switches_by switch i r.stands.store.before after by).1
 
+  grow : (after : Stores) → (switching switch i).by r.stands.store.before after → StoresGrow r.stands.store.before after
+  grow after by = switch_grows p.at i (from_of switch) (to_of switch) r.stands.store.before after (rests_has tells p m r).known (switches_by switch i r.stands.store.before after by)
+
   -- with the change in doubt
   doubting : (new : Seen) → granularities new.manifests ≡ granularities p.at.manifests → KeepsShown tells (beside p.at p.limbo) (beside new p.limbo) → Has tells new r.stands.store.before ⊎ InDoubt tells new r.stands.store.before (record m { doubt = Some change; faults = new.faults })
       → Stands tells (record p { at = new; doubt = Some (kind.State i (to_of switch)) }) (record m { doubt = Some change; faults = new.faults })
@@ -156,7 +160,7 @@ module _ (tells : Bool) (p : Parts) (m : Machine) (r : Rests tells p m) (i : ℕ
       stands : Stands tells (record { at = new; limbo = p.limbo; pinned = p.pinned; tails = p.tails; kept = set; doubt = None; doors = p.doors }) (record (made [] change m) { doubt = None; faults = new.faults })
       stands =
           let was = doubting p.at refl (λ name bytes s. s) (inl (rests_has tells p m r)) in
-          (made_stands tells (record p { doubt = Some (kind.State i (to_of switch)) }) (record m { doubt = Some change; faults = p.at.faults }) was new set acts.costs.granularity shown p.tails change refl end.0 (r.stands.store.told ∙ ap (λ (b : Bool). tells && b) (sym (stand end.0 end.1))) (durable end.0 end.1) (clears new.catalogue.rows i (to_of switch) p.kept memory there has_it) refl end.3).stands
+          (made_stands tells (record p { doubt = Some (kind.State i (to_of switch)) }) (record m { doubt = Some change; faults = p.at.faults }) was new set acts.costs.granularity shown p.tails change refl end.0 (r.stands.store.before, (rests_has tells p m r).known, grow end.0 end.1) (r.stands.store.told ∙ ap (λ (b : Bool). tells && b) (sym (stand end.0 end.1))) (durable end.0 end.1) (clears new.catalogue.rows i (to_of switch) p.kept memory there has_it) refl end.3).stands
 
       machines : Stands tells (record { at = new; limbo = p.limbo; pinned = p.pinned; tails = p.tails; kept = set; doubt = None; doors = p.doors }) (record (made [] change m) { faults = new.faults })
       machines = subst (λ (o : Option Change). Stands tells (record { at = new; limbo = p.limbo; pinned = p.pinned; tails = p.tails; kept = set; doubt = None; doors = p.doors }) (record (made [] change m) { doubt = o; faults = new.faults })) (sym r.settled) stands
@@ -166,7 +170,7 @@ module _ (tells : Bool) (p : Parts) (m : Machine) (r : Rests tells p m) (i : ℕ
 
   pub switch_failed : (new : Seen) → KeepsShown tells (beside p.at p.limbo) (beside new p.limbo) → Acts tells (switching switch i) p.at new Failed → ChangesTo {A = Unit {0}} tells change p m (record p { at = new; doubt = Some (kind.State i (to_of switch)) }) (Err Fault)
   switch_failed new shown acts = record {
-    ends = doubting new acts.costs.granularity shown (call_failed tells (switching switch i) change p m r durable new stand (acts.settled r.stands.store.before (rests_has tells p m r)));
+    ends = doubting new acts.costs.granularity shown (call_failed tells (switching switch i) change p m r durable new stand grow (acts.settled r.stands.store.before (rests_has tells p m r)));
     any_moment = call_passes tells (switching switch i) change p m r durable new Failed acts;
     faults = acts.costs.faults;
     cause = λ is. acts.costs.cause tt;

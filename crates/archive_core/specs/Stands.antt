@@ -3,16 +3,17 @@
 use Rattle.std.specs.FinMap.{empty}
 use Rattle.std.specs.List.{AllByRecursion}
 use Rattle.std.specs.Prelude.{◌≡◌, ◌≢◌, ◌⊎◌, ◌<◌, ℕ, List, [], length, Bool, true, false, ◌&&◌, Option, Some, None, Ok, slice_get}
+use Rattle.disk_model.specs.Files.{Name}
 use Rattle.payload_info.specs.Info.{info_of}
 use Rattle.payload_info.specs.declared.info.PayloadInfo.{PayloadInfo}
+use Rattle.pv_catalog.specs.Rows.{KeepsRows}
 use Rattle.pv_catalog.specs.declared.row.Row.{Row}
 use Rattle.series_model.specs.declared.batch.RowSamples.{RowSamples}
-use Rattle.tier_store.specs.Held.{samples_of}
-use Rattle.three_stores.specs.Stores.{Stores}
+use Rattle.tier_store.specs.Held.{IsListedTo, listing_of, samples_of}
+use Rattle.three_stores.specs.Stores.{Stores, tier}
 use Rattle.three_stores.specs.Seen.{Seen, granularities}
 use Rattle.three_stores.specs.Change.{Has, Doubts}
 use Rattle.three_stores.specs.Pinned.{beside}
-use Rattle.three_stores.specs.declared.limbo.Retired.{Retired}
 use Rattle.act_model.specs.Rows.{RowState, is_empty}
 use Rattle.act_model.specs.Machine.{Machine, Change, AddsRow, SetsState, Appends, Publishes, Unlists}
 use Rattle.act_model.specs.Changes.{made}
@@ -22,6 +23,7 @@ use Rattle.act_model.specs.Sound.{IsSound}
 use Rattle.archive_core.specs.declared.memory.RowMemory.{RowMemory}
 use Rattle.archive_core.specs.declared.memory.Doubt.{Doubt}
 use Rattle.archive_core.specs.declared.memory.Doubt.TheVariants as doubt
+use Rattle.archive_core.specs.LimboTies.{IsLimboOf}
 use Rattle.archive_core.specs.Memory.{AreRowsOf, fresh_memory}
 use Rattle.archive_core.specs.Parts.{Parts}
 use Rattle.archive_core.specs.Pins.{ArePinsOf}
@@ -79,6 +81,11 @@ IsReady kept rows (Some (Unlists i store to)) = ⊥
 
 -- THE ARCHIVE
 
+-- rows stand for the same variables, and each file that a store lists is listed still
+pub record StoresGrow (before after : Stores) : Type 0 where
+  pub rows : KeepsRows before.rows after.rows
+  pub lists : (place : ℕ) (name : Name) → place < 3 → IsListedTo (listing_of (tier place before)) name 0 → IsListedTo (listing_of (tier place after)) name 0
+
 -- A change of the stores stands in doubt, and it is the one that the machine doubts: once it is made they have what is durable of the
 -- machine with the change made.
 pub record InDoubt (tells : Bool) (at : Seen) (before : Stores) (m : Machine) : Type 0 where
@@ -87,6 +94,7 @@ pub record InDoubt (tells : Bool) (at : Seen) (before : Stores) (m : Machine) : 
   pub after : Stores
   pub doubts : Doubts tells at before after
   pub stand : after.stands ≡ before.stands
+  pub grow : StoresGrow before after
   pub holds : HoldsDurable after (made [] change m)
 
 -- the stores have what is durable of the machine, or are in doubt whether they have it with the doubted change
@@ -100,18 +108,18 @@ pub record IsBetween (tells : Bool) (at : Seen) (m : Machine) : Type 0 where
 abbrev pub TellsHeaders : Rule → Type 0
 TellsHeaders rule = (message : List ℕ) (info : PayloadInfo) → info_of message ≡ Ok info → rule.header message ≡ Some (record { ty = info.ty; year = info.year })
 
--- what a machine and its archive have that no act of an archive without moves changes
-pub record IsPlain (at : Seen) (retired : List Retired) (m : Machine) : Type 0 where
-  pub rule : m.rule.granularity ≡ granularities at.manifests
-  pub headers : TellsHeaders m.rule
-  pub limbo : m.limbo ≡ []
-  pub none_retired : retired ≡ []
-  pub moves : m.moves ≡ empty
+-- the rule has the partitions of the stores, and tells headers
+pub record IsRuleOf (at : Seen) (rule : Rule) : Type 0 where
+  pub granularity : rule.granularity ≡ granularities at.manifests
+  pub headers : TellsHeaders rule
 
--- the archive stands for the machine
+-- The archive stands for the machine. No act of it makes a move or retires a file yet.
 pub record Stands (tells : Bool) (p : Parts) (m : Machine) : Type 0 where
   pub sound : IsSound m
-  pub plain : IsPlain p.at p.limbo m
+  pub rule : IsRuleOf p.at m.rule
+  pub limbo : IsLimboOf tells (beside p.at p.limbo) m.told m.rows m.limbo
+  pub none_retired : p.limbo ≡ []
+  pub moves : m.moves ≡ empty
   pub pins : ArePinsOf tells (beside p.at p.limbo) m.told m.rows m.pins p.pinned
   pub faults : m.faults ≡ p.at.faults
   pub doors : m.doors ≡ p.doors

@@ -33,7 +33,7 @@ pub sweep-requires-clause-stands : goal.sweep-requires-clause-stands
 sweep-requires-clause-stands g c =
     let was = c.requires.stands in
     let then = c.in_ok-settle.ensures.settled was.0 was.1 in
-    none_there (seen g.D.Disk c.settle.new.self.store) c.settle.new.self.store.limbo.items then.2.stands.plain.none_retired
+    none_there (seen g.D.Disk c.settle.new.self.store) c.settle.new.self.store.limbo.items then.2.stands.none_retired
 
 pub returns-clause-step : goal.returns-clause-step
 returns-clause-step g c =

@@ -1,0 +1,97 @@
+-- Stores that only grow: what is listed in memory is listed still.
+use Rattle.std.proofs.Common.{◌≡◌, ◌⊎◌, inl, inr, ℕ, ◌+◌, ◌<◌, List, refl, sym, ◌∙◌, ap, subst, arith}
+use Rattle.std.specs.Prelude.{Contains}
+use Rattle.std.proofs.lemmas.List.Elements.{All-contains}
+use Rattle.std.proofs.lemmas.Option.{slice_get_within}
+use Rattle.disk_model.specs.Files.{Name}
+use Rattle.event_types.specs.declared.about.About.{About}
+use Rattle.event_types.specs.declared.about.State.{State}
+use Rattle.pv_catalog.specs.Rows.{KeepsRows}
+use Rattle.pv_catalog.specs.declared.row.Row.{Row}
+use Rattle.pv_catalog.proofs.Standing.{keeps_same}
+use Rattle.series_model.specs.declared.batch.RowSamples.{RowSamples}
+use Rattle.store_manifest.specs.declared.entry.Entry.{Entry}
+use Rattle.tier_store.specs.Held.{Held, Listing, IsListed, IsListedTo, ListsStill, file_of, listing_of}
+use Rattle.tier_store.proofs.Growing.{file_grows}
+use Rattle.tier_store.proofs.There.{contains_map}
+use Rattle.tier_store.proofs.Three.{same_cases}
+use Rattle.three_stores.specs.Change.{IsKnown, Registers, Switches, Flushes}
+use Rattle.three_stores.specs.Limbo.{IsListedName}
+use Rattle.three_stores.specs.Seen.{Seen}
+use Rattle.three_stores.specs.Stores.{Stores, list_at, tier, with_rows}
+use Rattle.three_stores.proofs.Places.{manifest_at, tier_other}
+use Rattle.three_stores.proofs.Showing.{known_to, registers_on, switches_on}
+use Rattle.archive_core.specs.Stands.{StoresGrow}
+
+-- WHAT IS LISTED IN MEMORY
+
+named_in : (at : Seen) (s : Stores) (name : Name) → IsKnown at.catalogue at.manifests s → IsListedName at name → (place : ℕ) × (place < 3) × IsListedTo (listing_of (tier place s)) name 0
+named_in at s name known is =
+    let low = slice_get_within at.manifests is.place is.manifest is.here in
+    let three = known.three in
+    (is.place, omega (arith, low, three), known_to at s is.place is.manifest name 0 known is.here (record { entry = is.entry; within = is.within; named = is.named; longer = omega arith }))
+
+listed_name : (at : Seen) (s : Stores) (place : ℕ) (name : Name) → IsKnown at.catalogue at.manifests s → place < 3 → IsListedTo (listing_of (tier place s)) name 0 → IsListedName at name
+listed_name at s place name known low to =
+    let three = known.three in
+    let m = manifest_at at.manifests place (omega (arith, low, three)) in
+    record {
+      place = place;
+      manifest = m.0;
+      here = m.1;
+      entry = to.entry;
+      within = subst (λ (es : List Entry). Contains es to.entry) (sym (known.each place m.0 m.1).entries) to.within;
+      named = ap (λ (rows : List Row). file_of (place + 1, rows) to.entry) known.rows ∙ to.named;
+    }
+
+pub stays_listed : (old new : Seen) (s t : Stores) (name : Name) → IsKnown old.catalogue old.manifests s → IsKnown new.catalogue new.manifests t → StoresGrow s t → IsListedName old name → IsListedName new name
+stays_listed old new s t name was now grow is = let at = named_in old s name was is in listed_name new t at.0 name now at.1 (grow.lists at.0 name at.1 at.2)
+
+-- the rows in memory go on as those of the stores do
+pub rows_go_on : (old new : Seen) (s t : Stores) → IsKnown old.catalogue old.manifests s → IsKnown new.catalogue new.manifests t → StoresGrow s t → KeepsRows old.catalogue.rows new.catalogue.rows
+rows_go_on old new s t was now grow =
+    subst (λ (rows : List Row). KeepsRows rows new.catalogue.rows) (sym was.rows) (subst (λ (rows : List Row). KeepsRows s.rows rows) (sym now.rows) grow.rows)
+
+-- CHANGES
+
+pub same_grow : (s : Stores) → StoresGrow s s
+same_grow s = record { rows = keeps_same s.rows; lists = λ place name low to. to }
+
+-- the rows go on, and the lists stay
+rows_grow : (at : Seen) (s made : Stores) → IsKnown at.catalogue at.manifests s → (made ≡ with_rows s made.rows) × KeepsRows s.rows made.rows → StoresGrow s made
+rows_grow at s made known on = record {
+  rows = on.1;
+  lists = λ place name low to. subst (λ (x : Stores). IsListedTo (listing_of (tier place x)) name 0) (sym on.0) (named place name low to);
+}
+  where
+    named : (place : ℕ) (name : Name) → place < 3 → IsListedTo (listing_of (tier place s)) name 0 → IsListedTo (listing_of (tier place (with_rows s made.rows))) name 0
+    named place name low to =
+        let three = known.three in
+        let m = manifest_at at.manifests place (omega (arith, low, three)) in
+        let f = contains_map (list_at place s) to.entry to.within in
+        let listed = All-contains (IsListed m.0.granularity s.rows) (list_at place s) f.0 (known.each place m.0 m.1).valid.filed.listed f.1 in
+        let same = file_grows m.0.granularity (place + 1) s.rows made.rows f.0 on.1 listed in
+        record { entry = to.entry; within = to.within; named = subst (λ (e : Entry). file_of (place + 1, made.rows) e ≡ file_of (place + 1, s.rows) e) f.2 same ∙ to.named; longer = to.longer }
+
+pub register_grows : (at : Seen) (name : List ℕ) (about : About) (s made : Stores) → IsKnown at.catalogue at.manifests s → Registers name about s made → StoresGrow s made
+register_grows at name about s made known by = rows_grow at s made known (registers_on name about s made by)
+
+pub switch_grows : (at : Seen) (row : ℕ) (from to : State) (s made : Stores) → IsKnown at.catalogue at.manifests s → Switches row from to s made → StoresGrow s made
+switch_grows at row from to s made known by = rows_grow at s made known (switches_on row from to s made by)
+
+still_named : (old new : Listing) (name : Name) → ListsStill old new → IsListedTo old name 0 → IsListedTo new name 0
+still_named old new name still to =
+    let more = All-contains (λ (e : Entry). IsListedTo new (file_of old.0 e) e.len) old.1 to.entry still to.within in
+    record { entry = more.entry; within = more.within; named = more.named ∙ to.named; longer = omega arith }
+
+pub flush_grows : (batch : List RowSamples) (s made : Stores) → Flushes batch s made → StoresGrow s made
+flush_grows batch s made by = record {
+  rows = subst (λ (rows : List Row). KeepsRows s.rows rows) (sym (ap (λ (x : Stores). x.rows) by.same)) (keeps_same s.rows);
+  lists = λ place name low to. elim (same_cases place 0) [
+    | inl is ↦ subst (λ (k : ℕ). IsListedTo (listing_of (tier k made)) name 0) (sym is) (still_named (listing_of (tier 0 s)) (listing_of (tier 0 made)) name by.flushed.still (subst (λ (k : ℕ). IsListedTo (listing_of (tier k s)) name 0) is to))
+    | inr apart ↦ (
+        let same : tier place made ≡ tier place s = ap (tier place) by.same ∙ tier_other 0 place made.short s (omega arith) low apart in
+        subst (λ (t : Held). IsListedTo (listing_of t) name 0) (sym same) to
+        )
+  ];
+}
