@@ -35,7 +35,7 @@ use Rattle.archive_core.specs.Stands.{AreDurable, HoldsDurable, IsPartOf}
 use Rattle.archive_core.proofs.KeptRows.{each_to}
 use Rattle.archive_core.proofs.ListEnds.{place_end}
 use Rattle.archive_core.proofs.Lists.{element, get_front}
-use Rattle.archive_core.proofs.Making.{kept_to, taken_later, short_with, kept_untold, kept_empty}
+use Rattle.archive_core.proofs.Making.{NoneShort, kept_to, taken_later, short_with, kept_untold, kept_empty}
 
 -- WHAT A FLUSH TAKES
 
@@ -168,7 +168,7 @@ same_end n (x ∷ xs) some = refl
 own_first : (part : RowSamples) (batch : List RowSamples) → of_row part.row (part ∷ batch) ≡ part.samples ++ of_row part.row batch
 own_first part batch = let own : nat_eq part.row part.row ≡ true = grind (arith, nat_tests) in rw own refl
 
-module _ (tells : Bool) (new : Seen) (m : Machine) (sound : IsSound m) (none : m.limbo ≡ []) (held : Stores) (has : Has tells new held) (told_is : m.told ≡ (tells && held.stands)) where
+module _ (tells : Bool) (new : Seen) (m : Machine) (sound : IsSound m) (none : NoneShort m) (held : Stores) (has : Has tells new held) (told_is : m.told ≡ (tells && held.stands)) where
   -- where store 1 lists a part of samples, it isn't without them
   not_before : (part : RowSamples) (batch : List RowSamples) → m.told ≡ true → MayMake m.rule m.told m.rows m.limbo (Appends (part ∷ batch)) → IsPartOf (length m.rows) part → ListsBatch new.manifests (part ∷ batch) → HoldsDurable held m → ⊥
   not_before part batch told may is lists holds =

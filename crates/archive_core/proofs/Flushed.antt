@@ -39,25 +39,18 @@ use Rattle.archive_core.specs.Memory.{IsCleared}
 use Rattle.archive_core.specs.Parts.{Parts}
 use Rattle.archive_core.specs.Stands.{Stands, Rests, IsDoubtOf, IsPartOf, StoresGrow, InDoubt, HoldsDurable}
 use Rattle.archive_core.proofs.Growth.{flush_grows}
-use Rattle.archive_core.proofs.LimboKept.{no_limbo}
+use Rattle.archive_core.proofs.LimboKept.{no_short}
 use Rattle.archive_core.proofs.Batches.{parts_there, can_flush, told_stands}
 use Rattle.archive_core.proofs.Changing.{call_passes, call_failed, rests_again}
 use Rattle.archive_core.proofs.Counts.{IsBefore, count_more}
 use Rattle.archive_core.proofs.KeptRows.{batch_is}
 use Rattle.archive_core.proofs.Lists.{element}
-use Rattle.archive_core.proofs.Making.{batch_holds, samples_with}
+use Rattle.archive_core.proofs.Making.{NoneShort, batch_holds, samples_with}
 use Rattle.archive_core.proofs.Settled.{rests_has, doubt_stands, made_stands, open_rows, no_own}
 
--- no file is in limbo, so none of any store
-pub none_of : (store : ℕ) (limbo : List Retired) → limbo ≡ [] → NoneOf store limbo
-none_of store limbo none = subst (λ (l : List Retired). NoneOf store l) (sym none) (λ k d low. absurd (omega (arith, low)))
-
--- then limbo is whole, and a flush is one of what is listed alone
-pub whole_of_none : (tells : Bool) (at : Seen) (limbo : List Retired) (stands : Bool) → limbo ≡ [] → AreWhole tells at limbo stands []
-whole_of_none tells at limbo stands none = none_whole tells at limbo stands (none_of 1 limbo none)
-
-pub plain_flush : (tells : Bool) (old new : Seen) (limbo : List Retired) (batch : List RowSamples) (end : End ℕ ⊥) → limbo ≡ [] → ActsGiven (λ (s : Stores). AreWhole tells old limbo s.stands []) tells (flushing_over limbo [] batch) old new end → Acts tells (flushing batch) old new end
-plain_flush tells old new limbo batch end none acts = plain_acts tells limbo [] batch (none_of 1 limbo none) (λ (s : Stores). AreWhole tells old limbo s.stands []) (λ s. whole_of_none tells old limbo s.stands none) old new end acts
+-- where no file of store 1 is in limbo, a flush is one of what is listed alone
+pub plain_flush : (tells : Bool) (old new : Seen) (limbo : List Retired) (batch : List RowSamples) (end : End ℕ ⊥) → NoneOf 1 limbo → ActsGiven (λ (s : Stores). AreWhole tells old limbo s.stands []) tells (flushing_over limbo [] batch) old new end → Acts tells (flushing batch) old new end
+plain_flush tells old new limbo batch end none acts = plain_acts tells limbo [] batch none (λ (s : Stores). AreWhole tells old limbo s.stands []) (λ s. none_whole tells old limbo s.stands none) old new end acts
 
 -- each file that a place lists is of a row
 files_there : (g : Granularity) (rows : List Row) (files : List Filed) → All (IsListed g rows) files → AllByRecursion (IsBefore (length rows)) files
@@ -103,8 +96,8 @@ module _ (tells : Bool) (p : Parts) (m : Machine) (r : Rests tells p m) (limit :
   pub can : CanFlush p.at.catalogue.rows batch
   can = subst (λ (b : List RowSamples). CanFlush p.at.catalogue.rows b) own (can_flush limit p.at.catalogue.rows p.kept p.tails m r.stands.sound r.stands.rows)
 
-  limbo_none : m.limbo ≡ []
-  limbo_none = no_limbo tells (beside p.at p.limbo) m.told m.rows m.limbo r.stands.none_retired r.stands.limbo
+  limbo_none : NoneShort m
+  limbo_none = no_short tells (beside p.at p.limbo) m.told m.rows m.limbo r.stands.none_short r.stands.limbo
 
   durable : (after : Stores) → (flushing batch).by held after → HoldsDurable after (made [] change m)
   durable after by = batch_holds batch held after m r.stands.sound may limbo_none told_is by r.stands.store.holds

@@ -43,3 +43,4 @@ pub mod LimboPinned
 pub mod LimboSwept
 pub mod Growth
 pub mod LimboKept
+pub mod PinsSwept

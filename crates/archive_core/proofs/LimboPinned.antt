@@ -123,7 +123,7 @@ named_at [] name (k, low, is) = absurd (omega (arith, low))
 named_at (file ∷ files) name (zero, low, is) = (0, file, refl, is)
 named_at (file ∷ files) name (suc k, low, is) = let rest = named_at files name (k, omega (arith, low), is) in (suc rest.0, rest.1, rest.2, rest.3)
 
-at_named : (files : List PinnedFile) (k : ℕ) (file : PinnedFile) → slice_get files k ≡ Some file → Contains (map piece_file files) file.name
+pub at_named : (files : List PinnedFile) (k : ℕ) (file : PinnedFile) → slice_get files k ≡ Some file → Contains (map piece_file files) file.name
 at_named [] k file here = absurd (cc (here))
 at_named (x ∷ files) zero file here = (0, omega arith, ap (λ (p : PinnedFile). p.name) (same_Some x file here))
 at_named (x ∷ files) (suc k) file here = let rest = at_named files k file here in (suc rest.0, (let low = rest.1 in omega (arith, low)), rest.2)

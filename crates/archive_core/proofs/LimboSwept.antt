@@ -116,7 +116,7 @@ module _ (tells : Bool) (old new : SeenAll) (m : Machine) (sound : IsSound m) (t
   stays f = list_any (λ (file : Retired). same_name file.name (name_in m.rows f)) new.limbo
 
   -- a file that the stores leave in limbo is needed, and was there
-  left_is : (file : Retired) → Contains new.limbo file → Contains old.limbo file × IsNeeded pinned copied file.name × (IsListedName new.stores file.name → ⊥)
+  pub left_is : (file : Retired) → Contains new.limbo file → Contains old.limbo file × IsNeeded pinned copied file.name × (IsListedName new.stores file.name → ⊥)
   left_is file there =
       let in_retired = stay_from (λ r. IsNeeded pinned copied r.name) (λ r. IsNeeded pinned copied r.name → ⊥) swept.retired new.limbo file swept.needed there in
       let in_old = stay_from (λ r. IsListedName new.stores r.name → ⊥) (λ r. IsListedName new.stores r.name) old.limbo swept.retired file swept.unlisted in_retired.0 in

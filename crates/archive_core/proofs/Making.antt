@@ -27,7 +27,8 @@ use Rattle.act_model.specs.Changes.{each, changed, added, made, of_row}
 use Rattle.act_model.specs.Crash.{DurableRow, kept_of, kept}
 use Rattle.act_model.specs.Flush.{batch_of}
 use Rattle.act_model.specs.Machine.{Machine, Change, AddsRow, SetsState, Appends}
-use Rattle.act_model.specs.Rows.{RowState, durable, fresh_row}
+use Rattle.act_model.specs.Limbo.{files_of}
+use Rattle.act_model.specs.Rows.{RowState, Short, durable, fresh_row}
 use Rattle.act_model.specs.Sound.{IsSound, MayMake}
 use Rattle.act_model.proofs.Puts.{put_plain}
 use Rattle.act_model.proofs.RowActs.{flush_may}
@@ -162,9 +163,13 @@ taken_later m batch i r sound may_make here =
     let end = end_of-over (over r.long r.medium) r.short row.short in
     RisesFrom-lower (end_of r.short) (end_of (durable r)) (of_row i batch) front (omega (arith, end))
 
+-- no file of store 1 is in the machine's limbo
+abbrev pub NoneShort : Machine → Type 0
+NoneShort m = (i : ℕ) → files_of i Short m.limbo ≡ []
+
 -- what store 1 lists of a row once the batch is appended
-pub short_with : (m : Machine) (batch : List RowSamples) (i : ℕ) (r : RowState) → m.told ≡ true → m.limbo ≡ [] → (changed m.told m.limbo (Appends batch) i r).short ≡ r.short ++ of_row i batch
-short_with m batch i r told none = rw (told, none) (put_plain (of_row i batch) r.short)
+pub short_with : (m : Machine) (batch : List RowSamples) (i : ℕ) (r : RowState) → m.told ≡ true → NoneShort m → (changed m.told m.limbo (Appends batch) i r).short ≡ r.short ++ of_row i batch
+short_with m batch i r told none = let own = none i in rw (told, own) (put_plain (of_row i batch) r.short)
 
 -- so far each row's samples in store 1 go where the batch was appended
 pub samples_with : (batch : List RowSamples) (old new : Stores) (m : Machine) → IsSound m → MayMake m.rule m.told m.rows m.limbo (Appends batch) → (m.told ≡ true → IsTrue old.stands) → Flushes batch old new → HoldsDurable old m → m.told ≡ true
@@ -173,7 +178,7 @@ samples_with batch old new m sound may stands flushes holds told i r here =
     let was : r.short ≡ samples_of i old.short = (holds.each i (kept_of r) (kept_to m.rows i r here)).is.short told in
     flushes.flushed.samples (stands told) i ∙ batch_behind batch i (samples_of i old.short) (subst (λ (xs : List Sample). RisesFrom (end_of xs) (of_row i batch)) was (taken_later m batch i r sound may here))
 
-pub batch_holds : (batch : List RowSamples) (old new : Stores) (m : Machine) → IsSound m → MayMake m.rule m.told m.rows m.limbo (Appends batch) → m.limbo ≡ [] → (m.told ≡ true → IsTrue old.stands) → Flushes batch old new → HoldsDurable old m → HoldsDurable new (made [] (Appends batch) m)
+pub batch_holds : (batch : List RowSamples) (old new : Stores) (m : Machine) → IsSound m → MayMake m.rule m.told m.rows m.limbo (Appends batch) → NoneShort m → (m.told ≡ true → IsTrue old.stands) → Flushes batch old new → HoldsDurable old m → HoldsDurable new (made [] (Appends batch) m)
 batch_holds batch old new m sound may none stands flushes holds = durable_made m (Appends batch) new
     (let count = count_of old m holds in let same = ap (λ (s : Stores). length s.rows) flushes.same in omega (arith, count, same))
     (λ i r here. by_row i r here (holds.each i (kept_of r) (kept_to m.rows i r here))) (λ j r here. absurd (cc (here)))
@@ -192,7 +197,7 @@ batch_holds batch old new m sound may none stands flushes holds = durable_made m
       };
     }
 
-pub flush_holds : (limit : ℕ) (old new : Stores) (m : Machine) → IsSound m → m.limbo ≡ [] → (m.told ≡ true → IsTrue old.stands) → Flushes (batch_of limit m) old new → HoldsDurable old m → HoldsDurable new (made [] (Appends (batch_of limit m)) m)
+pub flush_holds : (limit : ℕ) (old new : Stores) (m : Machine) → IsSound m → NoneShort m → (m.told ≡ true → IsTrue old.stands) → Flushes (batch_of limit m) old new → HoldsDurable old m → HoldsDurable new (made [] (Appends (batch_of limit m)) m)
 flush_holds limit old new m sound none stands flushes holds = batch_holds (batch_of limit m) old new m sound (flush_may limit m) none stands flushes holds
 
 -- what is durable stays where an untold machine appends a batch, or any machine one of nothing

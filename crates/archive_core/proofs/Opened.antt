@@ -231,7 +231,7 @@ module _ (tells : Bool) (at : Seen) (held : Stores) (has : Has tells at held) (a
             sound = sound told stands;
             rule = record { granularity = same_g; headers = headers };
             limbo = empty_limbo tells at told (rows_from told ms held 0 rows) (bare_rows told);
-            none_retired = refl;
+            none_short = λ k d low. absurd (omega (arith, low));
             moves = refl;
             pins = empty_pins told;
             faults = refl;

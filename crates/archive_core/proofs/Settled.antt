@@ -36,8 +36,8 @@ use Rattle.archive_core.specs.declared.memory.Doubt.TheVariants as kind
 use Rattle.archive_core.proofs.Batches.{none_beyond, lists_or_not, holds_with, holds_without, told_stands}
 use Rattle.archive_core.proofs.Growth.{same_grow}
 use Rattle.archive_core.proofs.KeptRows.{sampling_period, sampling_cell, each_to}
-use Rattle.archive_core.proofs.LimboKept.{limbo_beside, limbo_changed, limbo_held, no_limbo}
-use Rattle.archive_core.proofs.Making.{kept_to, taken_later}
+use Rattle.archive_core.proofs.LimboKept.{limbo_beside, limbo_changed, limbo_held, no_short}
+use Rattle.archive_core.proofs.Making.{NoneShort, kept_to, taken_later}
 use Rattle.archive_core.proofs.PinTies.{KeepsNames, names_stay, names_made, state_name, pins_stay}
 use Rattle.archive_core.specs.Flushing.{GivesUp, ListsBatch, IsTrimmed}
 use Rattle.archive_core.specs.LimboTies.{IsLimboOf}
@@ -200,7 +200,7 @@ module _ (tells : Bool) (p : Parts) (m : Machine) (s : Stands tells p m) (new : 
       sound = settled_sound r.settles s.sound;
       rule = record { granularity = ap (λ w. w.granularity) r.rule ∙ (s.rule.granularity ∙ sym same_g); headers = subst (λ (rule : Rule). TellsHeaders rule) (sym r.rule) s.rule.headers };
       limbo = r.limbo;
-      none_retired = s.none_retired;
+      none_short = s.none_short;
       moves = r.moves ∙ s.moves;
       pins = own_pins;
       faults = refl;
@@ -284,9 +284,9 @@ module _ (tells : Bool) (p : Parts) (m : Machine) (s : Stands tells p m) (new : 
   told_after : (after : Stores) → after.stands ≡ s.store.before.stands → m.told ≡ (tells && after.stands)
   told_after after stand = s.store.told ∙ ap (λ (b : Bool). tells && b) (sym stand)
 
-  -- no file is in the machine's limbo
-  limbo_none : m.limbo ≡ []
-  limbo_none = no_limbo tells (beside p.at p.limbo) m.told m.rows m.limbo s.none_retired s.limbo
+  -- no file of store 1 is in the machine's limbo
+  limbo_none : NoneShort m
+  limbo_none = no_short tells (beside p.at p.limbo) m.told m.rows m.limbo s.none_short s.limbo
 
   -- the machine with its doubted change made
   abbrev pub with_change : Change → Machine
@@ -465,7 +465,7 @@ doubt_stands tells p m s new kept d c same_g shown sound rows doubt ready is_ope
   sound = sound;
   rule = record { granularity = s.rule.granularity ∙ sym same_g; headers = s.rule.headers };
   limbo = limbo_beside tells p.at new p.limbo s.store.before m.told m.rows m.limbo (open_known tells p.at s.store.before m s.store.is_open) (open_known tells new s.store.before (record m { doubt = c; faults = new.faults }) is_open) same_g shown s.limbo;
-  none_retired = s.none_retired;
+  none_short = s.none_short;
   moves = s.moves;
   pins = pins_stay tells (beside p.at p.limbo) (beside new p.limbo) m.told m.rows m.rows m.pins p.pinned shown (names_stay m.rows) s.pins;
   faults = refl;

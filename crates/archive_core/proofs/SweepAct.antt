@@ -1,66 +1,83 @@
 -- The act that sweeps: how it ends, and what a crash within it leaves.
-use Rattle.std.proofs.Common.{◌≡◌, inl, inr, ℕ, ◌+◌, ◌≤◌, List, [], length, Bool, true, false, None, Result, Ok, Err, refl, sym, ◌∙◌, ap, subst, arith}
-use Rattle.std.specs.Prelude.{Contains, IfOk, IsTrue, OnErr, filter, slice_get}
+use Rattle.std.proofs.Common.{◌≡◌, ◌≢◌, ◌⊎◌, inl, inr, ℕ, ◌+◌, ◌≤◌, List, [], ◌∷◌, length, get_or, Bool, true, false, Option, Some, None, Result, Ok, Err, refl, sym, ◌∙◌, ap, subst, arith}
+use Rattle.std.specs.FinMap.{FinMap, empty, get, get-empty}
+use Rattle.std.specs.Ordering.{nat_cmp}
+use Rattle.std.specs.Prelude.{◌↔◌, Contains, IfOk, IsTrue, OnErr, filter, not, slice_get}
+use Rattle.std.proofs.lemmas.List.Elements.{All-contains, Contains-get_or}
 use Rattle.disk_model.specs.Files.{Name, Rose}
 use Rattle.disk_model.specs.Past.{Passes}
 use Rattle.disk_model.specs.declared.disk.DiskErr.{DiskErr}
 use Rattle.disk_model.specs.declared.disk.DiskErr.TheVariants.{Fault, Memory}
 use Rattle.disk_model.proofs.Passing.{passes_then, passes_weaker}
 use Rattle.partition_names.specs.declared.granularity.Granularity.{Granularity}
+use Rattle.pinned_pieces.specs.Pieces.{PinOf}
 use Rattle.pv_catalog.specs.Catalogue.{CatalogueState}
-use Rattle.store_manifest.specs.Manifest.{ManifestState}
-use Rattle.tier_store.specs.Ends.{end_of_disk, IsFailed}
-use Rattle.tier_store.specs.Held.{file_of}
+use Rattle.pv_catalog.specs.Rows.{KeepsRows}
+use Rattle.tier_store.specs.Ends.{Done, end_of_disk, IsFailed}
 use Rattle.tier_store.proofs.Acting.{rose_after}
 use Rattle.three_stores.specs.Change.{Acts as StoreActs, EndsFrom, Has, HoldsChange, IsEither, OnlyReads}
-use Rattle.three_stores.specs.Limbo.{IsKeptName, IsSwept as IsSweptOf, LeavesKept, LimboStands, StayNeeded, staying}
-use Rattle.three_stores.specs.Pinned.{beside, IsThereTo, KeepsShown, Shows}
+use Rattle.three_stores.specs.Limbo.{IsListedName, IsNeeded, IsSwept as IsSweptOf, LeavesKept, LimboStands, staying}
+use Rattle.three_stores.specs.Pinned.{SeenAll, beside, KeepsShown, NoneOf}
 use Rattle.three_stores.specs.Seen.{Seen, IsSettled, granularities}
 use Rattle.three_stores.specs.Stored.{HoldsAll}
 use Rattle.three_stores.specs.Stores.{Stores}
 use Rattle.three_stores.specs.declared.limbo.Retired.{Retired}
 use Rattle.three_stores.specs.declared.removing.Swept.{Swept}
+use Rattle.three_stores.proofs.Staying.{stay_from}
+use Rattle.act_model.specs.Changes.{no_doubt}
 use Rattle.act_model.specs.Crash.{settled_there}
 use Rattle.act_model.specs.Limbo.{FileState}
-use Rattle.act_model.specs.Machine.{Machine}
+use Rattle.act_model.specs.Machine.{Machine, MoveState}
+use Rattle.act_model.specs.OpenPiece.{name_of}
 use Rattle.act_model.specs.Outcome.{runs, faults_first, faults_between, wants_memory, wants_memory_settled}
 use Rattle.act_model.specs.Reply.{Reply}
-use Rattle.act_model.specs.Sweep.{IsSwept, Sweeps, SweepStep}
+use Rattle.act_model.specs.Rows.{RowState}
+use Rattle.act_model.specs.Sweep.{IsPinned, IsCopiedInto, IsSwept, Sweeps, SweepStep}
 use Rattle.act_model.specs.declared.acts.Answer.TheVariants as answer
+use Rattle.act_model.proofs.MoveActs.{sweep_sound}
 use Rattle.archive_core.specs.Ends.{Steps, SettlesTo, StandsStill, HoldsMachine, LeavesByAct, LeavesWithin, disk_reply}
+use Rattle.archive_core.specs.LimboTies.{AreRetired, AreUnlisted, IsLimboOf, NamesDiffer}
+use Rattle.archive_core.specs.Memory.{AreRowsOf}
 use Rattle.archive_core.specs.Parts.{Parts}
+use Rattle.archive_core.specs.Pins.{ArePinsOf}
 use Rattle.archive_core.specs.Stands.{Stands, Rests}
 use Rattle.archive_core.specs.Sweeping.{sweep_reply}
 use Rattle.archive_core.proofs.Acting.{crash_settling}
 use Rattle.archive_core.proofs.Changing.{rests_again, stands_so}
-use Rattle.archive_core.proofs.LimboKept.{no_limbo}
+use Rattle.archive_core.proofs.Growth.{rows_go_on, same_grow, stays_listed}
+use Rattle.archive_core.proofs.LimboSwept.{just, left_is, stay_differ, stays, swept_count, swept_ties}
+use Rattle.archive_core.proofs.LimboTying.{KeepsFiles, ListsSame}
 use Rattle.archive_core.proofs.Opens.{undoubted}
+use Rattle.archive_core.proofs.PinTies.{names_stay}
+use Rattle.archive_core.proofs.PinsSwept.{pinned_stay}
 use Rattle.archive_core.proofs.Settled.{rests_has}
-
--- nothing is in limbo
-pub none_there : (at : Seen) (limbo : List Retired) → limbo ≡ [] → LimboStands at limbo
-none_there at limbo none = subst (λ (l : List Retired). LimboStands at l) (sym none) (λ k d low. absurd (omega (arith, low)))
 
 -- WHAT THE STORES' SWEEP COMES TO
 
--- what the stores say of a sweep that removed so many files, or failed
+-- What the stores say of a sweep, with these files copied into. Where it fails, limbo and all that was shown are as before.
 pub record StoresSwept (tells : Bool) (copied : List Name) (q new : Parts) (result : Result Swept DiskErr) : Type 0 where
   pub acts : StoreActs tells staying q.at new.at (end_of_disk result)
   pub swept : IfOk result (λ (s : Swept). IsSweptOf new.at q.pinned copied q.limbo new.limbo s.files)
-  pub failed : OnErr result (new.limbo ≡ q.limbo)
+  pub failed : OnErr result ((new.limbo ≡ q.limbo) × KeepsShown tells (beside q.at q.limbo) (beside new.at q.limbo))
   pub leaves : LeavesKept tells q.pinned copied (beside q.at q.limbo) (beside new.at new.limbo)
+  pub stands : LimboStands new.at new.limbo
   pub pins : new.pinned ≡ q.pinned
   pub nothing : IsSettled q.at → (new.at.catalogue ≡ q.at.catalogue) × (new.at.manifests ≡ q.at.manifests)
 
--- of no files none stays, and none was removed
-swept_none : (tells : Bool) (copied : List Name) (q new : Parts) (result : Result Swept DiskErr) → q.limbo ≡ [] → StoresSwept tells copied q new result → (new.limbo ≡ []) × IfOk result (λ (s : Swept). s.files ≡ 0)
-swept_none tells copied q new (Ok swept) none s =
-    let is = subst (λ (l : List Retired). IsSweptOf new.at q.pinned copied l new.limbo swept.files) none s.swept in
-    let stay : new.limbo ≡ [] = subst (λ (l : List Retired). StayNeeded q.pinned copied l new.limbo) is.unlisted is.needed in
-    let count : swept.files + length new.limbo ≡ length is.retired = is.count in
-    let all : length is.retired ≡ 0 = ap length is.unlisted in
-    (stay, omega (arith, count, all))
-swept_none tells copied q new (Err e) none s = (s.failed ∙ none, tt)
+-- these are just the files that running moves have copied into
+abbrev pub AreCopied : List Name → Machine → Type 0
+AreCopied copied m = (f : FileState) (row : RowState) → Contains m.limbo f → slice_get m.rows f.row ≡ Some row → Contains copied (name_of row f) ↔ IsCopiedInto m f
+
+-- without moves there are none
+pub none_copied : (copied : List Name) (m : Machine) → copied ≡ [] → m.moves ≡ empty → AreCopied copied m
+none_copied copied m none no_moves = λ f row there here. (
+  λ names. absurd (let within = subst (λ (l : List Name). Contains l (name_of row f)) none names in omega (arith, within.1)),
+  λ is. absurd (
+      let nowhere : get m.moves is.number ≡ None = ap (λ (moves : FinMap nat_cmp MoveState). get moves is.number) no_moves ∙ get-empty nat_cmp is.number in
+      let both : ◌≡◌ {A = Option MoveState} None (Some is.move) = sym nowhere ∙ is.here in
+      cc (both)
+      ),
+)
 
 module _ (tells : Bool) (copied : List Name) (q new : Parts) (result : Result Swept DiskErr) (s : StoresSwept tells copied q new result) (same : new ≡ record q { at = new.at; limbo = new.limbo; pinned = new.pinned }) (m : Machine) (r : Rests tells q m) where
   abbrev held : Stores
@@ -69,44 +86,24 @@ module _ (tells : Bool) (copied : List Name) (q new : Parts) (result : Result Sw
   has : Has tells q.at held
   has = rests_has tells q m r
 
-  abbrev same_memory : (new.at.catalogue ≡ q.at.catalogue) × (new.at.manifests ≡ q.at.manifests)
+  same_memory : (new.at.catalogue ≡ q.at.catalogue) × (new.at.manifests ≡ q.at.manifests)
   same_memory = s.nothing has.settled
 
   -- the stores have what they had
-  has_still : (given : Result Swept DiskErr) → EndsFrom {A = Swept} tells staying new.at held (end_of_disk given) → Has tells new.at held
-  has_still (Ok swept) (made, is, says, now) = subst (λ (x : Stores). Has tells new.at x) is now
-  has_still (Err Fault) (inl now) = now
-  has_still (Err Fault) (inr (made, is, doubts)) = absurd (undoubted tells q.at new.at held made has.settled same_memory.0 same_memory.1 doubts)
-  has_still (Err Memory) now = now
+  has_by : (given : Result Swept DiskErr) → EndsFrom {A = Swept} tells staying new.at held (end_of_disk given) → Has tells new.at held
+  has_by (Ok said) (made, is, says, now) = subst (λ (x : Stores). Has tells new.at x) is now
+  has_by (Err Fault) (inl now) = now
+  has_by (Err Fault) (inr (made, is, doubts)) = absurd (undoubted tells q.at new.at held made has.settled same_memory.0 same_memory.1 doubts)
+  has_by (Err Memory) now = now
 
-  -- With nothing in limbo, all that was shown is listed, and listed still.
-  shown_still : KeepsShown tells (beside q.at q.limbo) (beside new.at q.limbo)
-  shown_still = λ name bytes was. subst (λ (l : List Retired). Shows tells (beside new.at l) name bytes) left_is (s.leaves.shown name bytes (listed name bytes was.held) was)
-    where
-      left_is : new.limbo ≡ q.limbo
-      left_is = (swept_none tells copied q new result r.stands.none_retired s).0 ∙ sym r.stands.none_retired
+  has_still : Has tells new.at held
+  has_still = has_by result (s.acts.settled held has)
 
-      listed : (name : Name) (bytes : List ℕ) → IsThereTo (beside q.at q.limbo) name (length bytes) → IsKeptName new.at q.pinned copied name
-      listed name bytes (inl there) = inl (record {
-        place = there.place;
-        manifest = there.manifest;
-        here = ap (λ (ms : List ManifestState). slice_get ms there.place) same_memory.1 ∙ there.here;
-        entry = there.listed.entry;
-        within = there.listed.within;
-        named = ap (λ (c : CatalogueState). file_of (there.place + 1, c.rows) there.listed.entry) same_memory.0 ∙ there.listed.named;
-      })
-      listed name bytes (inr there) = absurd (let within = subst (λ (l : List Retired). Contains l there.file) r.stands.none_retired there.within in omega (arith, within.1))
-
-  -- the archive stands for the same machine
-  pub stands_still : Stands tells new (record m { faults = new.at.faults })
-  stands_still =
-      let again = rests_again tells q m r new.at s.acts.costs.granularity shown_still (has_still result (s.acts.settled held has)) in
-      let left = (swept_none tells copied q new result r.stands.none_retired s).0 ∙ sym r.stands.none_retired in
-      subst (λ (p : Parts). Stands tells p (record m { faults = new.at.faults })) (sym same) (stands_so tells (record q { at = new.at }) (record m { faults = new.at.faults }) new.limbo new.pinned left s.pins again)
-
-  -- none was removed
-  pub none_removed : IfOk result (λ (s : Swept). s.files ≡ 0)
-  none_removed = (swept_none tells copied q new result r.stands.none_retired s).1
+  -- where limbo and all that was shown stay, the archive stands for the same machine
+  stands_still : (new.limbo ≡ q.limbo) × KeepsShown tells (beside q.at q.limbo) (beside new.at q.limbo) → Stands tells new (record m { faults = new.at.faults })
+  stands_still stay =
+      let again = rests_again tells q m r new.at s.acts.costs.granularity stay.1 has_still in
+      subst (λ (p : Parts). Stands tells p (record m { faults = new.at.faults })) (sym same) (stands_so tells (record q { at = new.at }) (record m { faults = new.at.faults }) new.limbo new.pinned stay.0 s.pins again)
 
   -- at each moment the disk has what is durable
   pub sweep_passes : IsTrue tells → Passes (λ a image. HoldsMachine (granularities q.at.manifests) image m) q.at.past new.at.past
@@ -119,18 +116,157 @@ module _ (tells : Bool) (copied : List Name) (q new : Parts) (result : Result Sw
       own from (inl is) = is
       own from (inr is) = is
 
+module _ (tells : Bool) (copied : List Name) (q new : Parts) (said : Swept) (s : StoresSwept tells copied q new (Ok said)) (same : new ≡ record q { at = new.at; limbo = new.limbo; pinned = new.pinned }) (m : Machine) (r : Rests tells q m) (copied_is : AreCopied copied m) where
+  abbrev before : Stores
+  before = r.stands.store.before
+
+  abbrev files : ℕ
+  files = said.files
+
+  abbrev old_all : SeenAll
+  old_all = beside q.at q.limbo
+
+  abbrev new_all : SeenAll
+  new_all = beside new.at new.limbo
+
+  was : Has tells q.at before
+  was = rests_has tells q m r
+
+  now : Has tells new.at before
+  now = has_still tells copied q new (Ok said) s same m r
+
+  swept : IsSweptOf new.at q.pinned copied q.limbo new.limbo files
+  swept = s.swept
+
+  variables : KeepsRows q.at.catalogue.rows new.at.catalogue.rows
+  variables = rows_go_on q.at new.at before before was.known now.known (same_grow before)
+
+  lists : ListsSame q.at new.at q.limbo
+  lists = λ file there. (λ listed. stays_listed new.at q.at before before file.name now.known was.known (same_grow before) listed, λ listed. stays_listed q.at new.at before before file.name was.known now.known (same_grow before) listed)
+
+  -- no two files left in limbo have one name
+  left_apart : NamesDiffer (λ (file : Retired). file.name) new.limbo
+  left_apart =
+      stay_differ (λ r. IsNeeded q.pinned copied r.name) (λ r. IsNeeded q.pinned copied r.name → ⊥) swept.retired new.limbo swept.needed
+      (stay_differ (λ r. IsListedName new.at r.name → ⊥) (λ r. IsListedName new.at r.name) q.limbo swept.retired swept.unlisted r.stands.limbo.differ)
+
+  -- what is pinned is kept
+  pins_kept : ArePinsOf tells new_all m.told m.rows m.pins q.pinned
+  pins_kept = pinned_stay tells old_all new_all m.told m.rows m.pins q.pinned (λ name bytes pinned. s.leaves.shown name bytes (inr (inl pinned))) r.stands.pins
+
+  -- the files that stay in the machine's limbo, and limbo then
+  pub record Left : Type 0 where
+    pub stays : FileState → Bool
+    pub just : IsSwept m stays m.limbo
+    pub number : m.told ≡ true → files ≡ length (filter (λ (f : FileState). not (stays f)) m.limbo)
+    pub tie : IsLimboOf tells new_all m.told m.rows (filter stays m.limbo)
+
+  told_left : m.told ≡ true → Left
+  told_left on = record {
+    stays = stays tells old_all new_all m r.stands.sound on ties free r.stands.limbo.differ q.pinned r.stands.pins lists copied copied_is files swept;
+    just = just tells old_all new_all m r.stands.sound on ties free r.stands.limbo.differ q.pinned r.stands.pins lists copied copied_is files swept;
+    number = λ told. swept_count tells old_all new_all m r.stands.sound on ties free r.stands.limbo.differ q.pinned r.stands.pins lists copied copied_is files swept;
+    tie = record {
+      stands = s.stands;
+      differ = left_apart;
+      retired = λ told. both.0;
+      unlisted = λ told. both.1;
+      none = λ off. absurd (let both : true ≡ false = sym on ∙ off in cc (both));
+      bare = r.stands.limbo.bare;
+    };
+  }
+    where
+      ties : AreRetired tells old_all m.rows m.limbo
+      ties = r.stands.limbo.retired on
+
+      free : AreUnlisted old_all m.rows m.limbo
+      free = r.stands.limbo.unlisted on
+
+      -- a file that is left is needed, and so it is shown
+      keeps : KeepsFiles tells old_all new_all m.rows m.rows
+      keeps = record {
+        shown = λ file bytes there. s.leaves.shown file.name bytes (inr (left_is tells old_all new_all m r.stands.sound on ties free r.stands.limbo.differ q.pinned r.stands.pins lists copied copied_is files swept file there).1);
+        variables = variables;
+        names = names_stay m.rows;
+        granularity = s.acts.costs.granularity;
+      }
+
+      both : AreRetired tells new_all m.rows (filter (stays tells old_all new_all m r.stands.sound on ties free r.stands.limbo.differ q.pinned r.stands.pins lists copied copied_is files swept) m.limbo) × AreUnlisted new_all m.rows (filter (stays tells old_all new_all m r.stands.sound on ties free r.stands.limbo.differ q.pinned r.stands.pins lists copied copied_is files swept) m.limbo)
+      both = swept_ties tells old_all new_all m r.stands.sound on ties free r.stands.limbo.differ q.pinned r.stands.pins lists copied copied_is files swept keeps
+
+  -- of an untold machine no file is there
+  untold_left : m.told ≡ false → Left
+  untold_left off = record {
+    stays = λ f. true;
+    just = subst (λ (l : List FileState). IsSwept m (λ f. true) l) (sym none) tt;
+    number = λ told. absurd (let both : true ≡ false = sym told ∙ off in cc (both));
+    tie = record {
+      stands = s.stands;
+      differ = left_apart;
+      retired = λ told. absurd (let both : true ≡ false = sym told ∙ off in cc (both));
+      unlisted = λ told. absurd (let both : true ≡ false = sym told ∙ off in cc (both));
+      none = λ off. ap (λ (l : List FileState). filter (λ f. true) l) none;
+      bare = r.stands.limbo.bare;
+    };
+  }
+    where
+      none : m.limbo ≡ []
+      none = r.stands.limbo.none off
+
+  pub left : Left
+  left = by_told m.told refl
+    where
+      by_told : (b : Bool) → m.told ≡ b → Left
+      by_told true on = told_left on
+      by_told false off = untold_left off
+
+  -- the machine without the files that go
+  abbrev pub swept_machine : Machine
+  swept_machine = record m { limbo = filter left.stays m.limbo; faults = new.at.faults }
+
+  pub sweeps : Sweeps m (answer.Swept files) swept_machine
+  sweeps = record { stays = left.stays; just = left.just; files = files; number = left.number; answered = refl; same = refl }
+
+  -- no file of store 1 comes to limbo
+  none_short : NoneOf 1 new.limbo
+  none_short = λ k d low. by_file (get_or new.limbo k d) (Contains-get_or new.limbo k d low)
+    where
+      by_file : (file : Retired) → Contains new.limbo file → file.name.0 ≢ 1
+      by_file file there =
+          let in_retired = stay_from (λ r. IsNeeded q.pinned copied r.name) (λ r. IsNeeded q.pinned copied r.name → ⊥) swept.retired new.limbo file swept.needed there in
+          let in_old = stay_from (λ r. IsListedName new.at r.name → ⊥) (λ r. IsListedName new.at r.name) q.limbo swept.retired file swept.unlisted in_retired.0 in
+          All-contains (λ (x : Retired). x.name.0 ≢ 1) q.limbo file r.stands.none_short in_old.0
+
+  pub swept_stands : Stands tells new swept_machine
+  swept_stands = subst (λ (p : Parts). Stands tells p swept_machine) (sym same) (record {
+    sound = sweep_sound m swept_machine (answer.Swept files) r.stands.sound (runs (answer.Swept files) refl (no_doubt r.settled) refl sweeps (let same_faults : m.faults ≡ q.at.faults = r.stands.faults in let more = s.acts.costs.faults in omega (arith, same_faults, more)));
+    rule = record { granularity = r.stands.rule.granularity ∙ sym s.acts.costs.granularity; headers = r.stands.rule.headers };
+    limbo = left.tie;
+    none_short = none_short;
+    moves = r.stands.moves;
+    pins = subst (λ (pinned : FinMap nat_cmp PinOf). ArePinsOf tells new_all m.told m.rows m.pins pinned) (sym s.pins) pins_kept;
+    faults = refl;
+    doors = r.stands.doors;
+    rows = subst (λ (c : CatalogueState). AreRowsOf c.rows q.kept q.tails m.rows) (sym (s.nothing was.settled).0) r.stands.rows;
+    doubt = r.stands.doubt;
+    ready = r.stands.ready;
+    store = record { before = before; told = r.stands.store.told; holds = r.stands.store.holds; is_open = inl now };
+  })
+
 -- THE ACT
 
--- with nothing in limbo none goes
-sweeps_none : (m : Machine) (f files : ℕ) → m.limbo ≡ [] → files ≡ 0 → Sweeps m (answer.Swept files) (record m { faults = f })
-sweeps_none m f files none zero = record {
-  stays = λ f. true;
-  just = subst (λ (l : List FileState). IsSwept m (λ f. true) l) (sym none) tt;
-  files = files;
-  number = λ told. zero ∙ sym (ap (λ (l : List FileState). length (filter (λ f. false) l)) none);
-  answered = refl;
-  same = ap (λ (l : List FileState). record m { limbo = l; faults = f }) (none ∙ sym (ap (λ (l : List FileState). filter (λ f. true) l) none));
-}
+-- the count of faults is nothing to what is needed
+swept_goes : (m : Machine) (k : ℕ) (stays : FileState → Bool) (limbo : List FileState) → IsSwept (record m { faults = k }) stays limbo → IsSwept m stays limbo
+swept_goes m k stays [] just = tt
+swept_goes m k stays (f ∷ limbo) just = ((λ test. forth (just.0.0 test), λ needed. just.0.1 (back needed)), swept_goes m k stays limbo just.1)
+  where
+    forth : IsPinned (record m { faults = k }) f ⊎ IsCopiedInto (record m { faults = k }) f → IsPinned m f ⊎ IsCopiedInto m f
+    forth (inl is) = inl (record { number = is.number; pin = is.pin; here = is.here; names = is.names })
+    forth (inr is) = inr (record { number = is.number; move = is.move; here = is.here; place = is.place; some = is.some })
+
+    back : IsPinned m f ⊎ IsCopiedInto m f → IsPinned (record m { faults = k }) f ⊎ IsCopiedInto (record m { faults = k }) f
+    back (inl is) = inl (record { number = is.number; pin = is.pin; here = is.here; names = is.names })
+    back (inr is) = inr (record { number = is.number; move = is.move; here = is.here; place = is.place; some = is.some })
 
 module _ (tells : Bool) (p : Parts) where
   abbrev pub SweepEnds : Reply → Parts → Type 0
@@ -146,26 +282,28 @@ module _ (tells : Bool) (p : Parts) where
       let more = reads.faults in
       (record m { faults = q.at.faults }, wants_memory refl (omega (arith, was, more)), still m s)
 
-  module _ (q : Parts) (settles : SettlesTo tells p q) (more : p.at.faults ≤ q.at.faults) (new : Parts) (copied : List Name) (same : new ≡ record q { at = new.at; limbo = new.limbo; pinned = new.pinned }) where
+  module _ (q : Parts) (settles : SettlesTo tells p q) (more : p.at.faults ≤ q.at.faults) (new : Parts) (copied : List Name) (same : new ≡ record q { at = new.at; limbo = new.limbo; pinned = new.pinned }) (copied_is : (m : Machine) → Rests tells q m → AreCopied copied m) where
     pub sweep_ends : (result : Result Swept DiskErr) → StoresSwept tells copied q new result → SweepEnds (sweep_reply result) new
     sweep_ends (Ok said) swept = λ m s.
         let mid = settles m s in
         let n : Machine = record mid.0 { faults = q.at.faults } in
         let was : m.faults ≡ p.at.faults = s.faults in
         let later = swept.acts.costs.faults in
-        let zero : said.files ≡ 0 = none_removed tells copied q new (Ok said) swept same n mid.2 in
-        (record mid.0 { faults = new.at.faults }, runs (answer.Swept said.files) refl mid.1 refl (sweeps_none mid.0 new.at.faults said.files (no_limbo tells (beside q.at q.limbo) mid.0.told mid.0.rows mid.0.limbo mid.2.stands.none_retired mid.2.stands.limbo) zero) (omega (arith, was, more, later)), stands_still tells copied q new (Ok said) swept same n mid.2)
+        let own = left tells copied q new said swept same n mid.2 (copied_is n mid.2) in
+        let after = swept_machine tells copied q new said swept same n mid.2 (copied_is n mid.2) in
+        let ran : Sweeps mid.0 (answer.Swept said.files) after = record { stays = own.stays; just = swept_goes mid.0 q.at.faults own.stays mid.0.limbo own.just; files = said.files; number = own.number; answered = refl; same = refl } in
+        (after, runs (answer.Swept said.files) refl mid.1 refl ran (omega (arith, was, more, later)), swept_stands tells copied q new said swept same n mid.2 (copied_is n mid.2))
     sweep_ends (Err Fault) swept = λ m s.
         let mid = settles m s in
         let n : Machine = record mid.0 { faults = q.at.faults } in
         let rises : Rose m.faults new.at.faults = rw s.faults (rose_after p.at.faults q.at.faults new.at.faults more (swept.acts.costs.cause tt)) in
-        (record mid.0 { faults = new.at.faults }, faults_between refl mid.1 refl rises, stands_still tells copied q new (Err Fault) swept same n mid.2)
+        (record mid.0 { faults = new.at.faults }, faults_between refl mid.1 refl rises, stands_still tells copied q new (Err Fault) swept same n mid.2 swept.failed)
     sweep_ends (Err Memory) swept = λ m s.
         let mid = settles m s in
         let n : Machine = record mid.0 { faults = q.at.faults } in
         let was : m.faults ≡ p.at.faults = s.faults in
         let later = swept.acts.costs.faults in
-        (record mid.0 { faults = new.at.faults }, wants_memory_settled refl mid.1 refl (omega (arith, was, more, later)), stands_still tells copied q new (Err Memory) swept same n mid.2)
+        (record mid.0 { faults = new.at.faults }, wants_memory_settled refl mid.1 refl (omega (arith, was, more, later)), stands_still tells copied q new (Err Memory) swept same n mid.2 swept.failed)
 
     -- at each moment a crash leaves what was there, or what is settled
     pub crash_sweep : (result : Result Swept DiskErr) → StoresSwept tells copied q new result → (IsTrue tells → Passes (λ a b. b ≡ a) p.at.past q.at.past) → granularities q.at.manifests ≡ granularities p.at.manifests → LeavesByAct tells (λ m. None) (λ m. None) p new

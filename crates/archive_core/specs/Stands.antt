@@ -13,7 +13,7 @@ use Rattle.tier_store.specs.Held.{IsListedTo, listing_of, samples_of}
 use Rattle.three_stores.specs.Stores.{Stores, tier}
 use Rattle.three_stores.specs.Seen.{Seen, granularities}
 use Rattle.three_stores.specs.Change.{Has, Doubts}
-use Rattle.three_stores.specs.Pinned.{beside}
+use Rattle.three_stores.specs.Pinned.{beside, NoneOf}
 use Rattle.act_model.specs.Rows.{RowState, is_empty}
 use Rattle.act_model.specs.Machine.{Machine, Change, AddsRow, SetsState, Appends, Publishes, Unlists}
 use Rattle.act_model.specs.Changes.{made}
@@ -113,12 +113,12 @@ pub record IsRuleOf (at : Seen) (rule : Rule) : Type 0 where
   pub granularity : rule.granularity ≡ granularities at.manifests
   pub headers : TellsHeaders rule
 
--- The archive stands for the machine. No act of it makes a move or retires a file yet.
+-- The archive stands for the machine. No act of it makes a move yet, and none retires a file of store 1.
 pub record Stands (tells : Bool) (p : Parts) (m : Machine) : Type 0 where
   pub sound : IsSound m
   pub rule : IsRuleOf p.at m.rule
   pub limbo : IsLimboOf tells (beside p.at p.limbo) m.told m.rows m.limbo
-  pub none_retired : p.limbo ≡ []
+  pub none_short : NoneOf 1 p.limbo
   pub moves : m.moves ≡ empty
   pub pins : ArePinsOf tells (beside p.at p.limbo) m.told m.rows m.pins p.pinned
   pub faults : m.faults ≡ p.at.faults

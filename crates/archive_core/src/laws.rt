@@ -21,7 +21,8 @@ ghost use Rattle.act_model.specs.Flush.{batch_of};
 ghost use Rattle.act_model.specs.Machine.{Machine, AddsRow, SetsState, Appends};
 ghost use Rattle.act_model.specs.MoveBegin.{parts_of};
 ghost use Rattle.act_model.specs.Parts.{AreParts};
-ghost use Rattle.act_model.specs.Rows.{RowState, Store, Long, tier};
+ghost use Rattle.act_model.specs.Limbo.{files_of};
+ghost use Rattle.act_model.specs.Rows.{RowState, Store, Short, Long, tier};
 ghost use Rattle.act_model.specs.Rule.{index_of};
 ghost use Rattle.act_model.specs.Sound.{IsSound};
 ghost use Rattle.archive_core.specs.declared.memory.Doubt.{Doubt};
@@ -40,11 +41,12 @@ pub fn a_crash_leaves_what_is_durable<D: Disk>()
 {}
 
 /// What the stores make of a change is what the machine makes of it: where they held what is durable of a machine, they hold what is
-/// durable of the machine with the change made. So it is of a new row, of a row's state, and of what a flush takes of the tails.
+/// durable of the machine with the change made. So it is of a new row, of a row's state, and of what a flush takes of the tails, where
+/// limbo has no file of store 1.
 pub fn changes_are_the_machines()
     ensures register { (catalogue : CatalogueState) (ms : List ManifestState) (name : List ℕ) (about : About) (old new : Stores) (m : Machine) → IsKnown catalogue ms old → Registers name about old new → HoldsDurable old m → HoldsDurable new (made [] (AddsRow name about) m) }
     ensures switch { (row : ℕ) (from to : State) (old new : Stores) (m : Machine) → Switches row from to old new → HoldsDurable old m → HoldsDurable new (made [] (SetsState row to) m) }
-    ensures flush { (limit : ℕ) (old new : Stores) (m : Machine) → IsSound m → m.limbo ≡ [] → (m.told ≡ true → IsTrue old.stands) → Flushes (batch_of limit m) old new → HoldsDurable old m → HoldsDurable new (made [] (Appends (batch_of limit m)) m) }
+    ensures flush { (limit : ℕ) (old new : Stores) (m : Machine) → IsSound m → ((row : ℕ) → files_of row Short m.limbo ≡ []) → (m.told ≡ true → IsTrue old.stands) → Flushes (batch_of limit m) old new → HoldsDurable old m → HoldsDurable new (made [] (Appends (batch_of limit m)) m) }
 {}
 
 /// A move that is chosen by what the stores list is the one that the machine chooses by its samples: the partitions of a row's listed files

@@ -12,8 +12,8 @@ use std::test::Fail;
 const ALL: u64 = 67_108_864;
 
 // Two rows, each of whose lines has 10 bytes with its newline, but for the last, which has 11. The first flush of any has a limit below one
-// line, and takes the whole tail of the first row.
-fn worked() -> [(Ask<'static>, Told); 17] {
+// line, and takes the whole tail of the first row. Nothing is in limbo, so a sweep finds no file.
+fn worked() -> [(Ask<'static>, Told); 18] {
     [
         (Register(b"A:B", Monitor), Registered(0)),
         (Register(b"C:D", Monitor), Registered(1)),
@@ -34,6 +34,7 @@ fn worked() -> [(Ask<'static>, Told); 17] {
                 left: 10,
             },
         ),
+        (Sweep, Swept(0)),
         (
             Offer(b"A:B", S2, T4),
             Dropped(Reason::NotLater { last: T2 }),

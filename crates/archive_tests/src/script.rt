@@ -31,6 +31,7 @@ pub(crate) enum Ask<'a> {
     Tick(u32, u64),
     /// Whole tails of so many bytes, at least 1.
     Flush(u64),
+    Sweep,
     DoorDone,
 }
 
@@ -54,6 +55,7 @@ pub(crate) enum Told {
     NotDue(u64),
     TickKept(u64),
     Flushed { samples: u64, left: u64 },
+    Swept(u64),
     Doors(u64),
     DiskFault,
     Memory,
@@ -120,6 +122,14 @@ fn told_of_flush(answer: act_model::Flushed) -> Told {
     }
 }
 
+fn told_of_sweep(answer: act_model::Swept) -> Told {
+    match answer {
+        act_model::Swept::DiskFault => Told::DiskFault,
+        act_model::Swept::Swept { files } => Told::Swept(files),
+        act_model::Swept::Memory => Told::Memory,
+    }
+}
+
 /// What is kept of a variable that is sampled so.
 pub(crate) fn about(alloc: Global, method: Method) -> About {
     About {
@@ -167,6 +177,7 @@ pub(crate) fn asked(
         }
         Ask::Tick(row, now) => Ok(told_of_tick(archive.tick(row, now))),
         Ask::Flush(limit) => Ok(told_of_flush(archive.flush(limit.max(1)))),
+        Ask::Sweep => Ok(told_of_sweep(archive.sweep())),
         Ask::DoorDone => Ok(Told::Doors(archive.door_done().doors)),
     }
 }

@@ -18,5 +18,8 @@ returns-in-Tick c = let next = c.tick.ensures.step c.requires.0 c.requires.1 in 
 pub returns-in-Flush : goal.returns-in-Flush
 returns-in-Flush c = let next = c.flush.ensures.step c.requires.0 c.requires.1 in (next.0, next.2)
 
+pub returns-in-Sweep : goal.returns-in-Sweep
+returns-in-Sweep c = let next = c.sweep.ensures.step c.requires.0 c.requires.1 in (next.0, next.2)
+
 pub returns-in-DoorDone : goal.returns-in-DoorDone
 returns-in-DoorDone c = let next = c.door_done.ensures.step c.requires.0 c.requires.1 in (next.0, next.2)

@@ -1,7 +1,10 @@
-use Rattle.std.proofs.Common.{Err, Result, refl, sym, ◌∙◌, ap, subst}
+use Rattle.std.proofs.Common.{List, ℕ, Err, Result, refl, sym, ◌∙◌, ap, subst}
 use Rattle.std.proofs.lemmas.Result.{err_from_is_err_and}
 use Rattle.disk_model.specs.declared.disk.DiskErr.{DiskErr}
+use Rattle.disk_model.specs.Files.{Name}
+use Rattle.three_stores.specs.Pinned.{beside, Shows}
 use Rattle.three_stores.specs.Seen.{seen}
+use Rattle.three_stores.specs.declared.limbo.Retired.{Retired}
 use Rattle.three_stores.specs.declared.removing.Swept.{Swept}
 use Rattle.three_stores.proofs.Removals.{on_err}
 use Rattle.archive_core.specs.Ends.{Steps}
@@ -9,7 +12,7 @@ use Rattle.archive_core.specs.Parts.{parts}
 use Rattle.archive_core.specs.Sweeping.{sweep_reply}
 use Rattle.act_model.specs.Sweep.{SweepStep}
 use Rattle.archive_core.proofs.Settled.{begun}
-use Rattle.archive_core.proofs.SweepAct.{none_there, sweep_cut, sweep_ends, crash_sweep, crash_sweep_cut}
+use Rattle.archive_core.proofs.SweepAct.{none_copied, sweep_cut, sweep_ends, crash_sweep, crash_sweep_cut}
 use Rattle.archive_core.proofs.archive.Archive.sweep_stores.Goals as goal
 
 pub returns-in_err-settle-clause-step : goal.returns-in_err-settle-clause-step
@@ -33,21 +36,21 @@ pub sweep-requires-clause-stands : goal.sweep-requires-clause-stands
 sweep-requires-clause-stands g c =
     let was = c.requires.stands in
     let then = c.in_ok-settle.ensures.settled was.0 was.1 in
-    none_there (seen g.D.Disk c.settle.new.self.store) c.settle.new.self.store.limbo.items then.2.stands.none_retired
+    then.2.stands.limbo.stands
 
 pub returns-clause-step : goal.returns-clause-step
 returns-clause-step g c =
     let q = parts g.D.Disk c.settle.new.self in
     let call = c.sweep.ensures in
     let new = record q { at = seen g.D.Disk c.sweep.new.self; limbo = c.sweep.new.self.limbo.items; pinned = c.sweep.new.self.pinned } in
-    sweep_ends g.D.Disk.tells (parts g.D.Disk c.args.self.now) q c.in_ok-settle.ensures.settled c.settle.ensures.reads.faults new _ refl c.sweep.result
-    (record { acts = call.acts; swept = call.swept; failed = on_err c.sweep.result _ _ (λ same. ap (λ l. l.items) same) call.failed; leaves = call.leaves; pins = call.pins; nothing = λ settled. (let same = call.nothing settled in (same.0, ap (λ l. l.items) same.1)) })
+    sweep_ends g.D.Disk.tells (parts g.D.Disk c.args.self.now) q c.in_ok-settle.ensures.settled c.settle.ensures.reads.faults new _ refl (λ m r. none_copied _ m refl r.stands.moves) c.sweep.result
+    (record { acts = call.acts; swept = call.swept; failed = on_err c.sweep.result _ _ (λ stay. (ap (λ l. l.items) stay.0, λ name bytes shown. subst (λ (l : List Retired). Shows g.D.Disk.tells (beside new.at l) name bytes) (ap (λ l. l.items) stay.0) (stay.1 name bytes shown))) call.failed; leaves = call.leaves; stands = call.stands; pins = call.pins; nothing = λ settled. (let same = call.nothing settled in (same.0, ap (λ l. l.items) same.1)) })
 
 pub returns-clause-crash : goal.returns-clause-crash
 returns-clause-crash g c =
     let q = parts g.D.Disk c.settle.new.self in
     let call = c.sweep.ensures in
     let new = record q { at = seen g.D.Disk c.sweep.new.self; limbo = c.sweep.new.self.limbo.items; pinned = c.sweep.new.self.pinned } in
-    crash_sweep g.D.Disk.tells (parts g.D.Disk c.args.self.now) q c.in_ok-settle.ensures.settled c.settle.ensures.reads.faults new _ refl c.sweep.result
-    (record { acts = call.acts; swept = call.swept; failed = on_err c.sweep.result _ _ (λ same. ap (λ l. l.items) same) call.failed; leaves = call.leaves; pins = call.pins; nothing = λ settled. (let same = call.nothing settled in (same.0, ap (λ l. l.items) same.1)) })
+    crash_sweep g.D.Disk.tells (parts g.D.Disk c.args.self.now) q c.in_ok-settle.ensures.settled c.settle.ensures.reads.faults new _ refl (λ m r. none_copied _ m refl r.stands.moves) c.sweep.result
+    (record { acts = call.acts; swept = call.swept; failed = on_err c.sweep.result _ _ (λ stay. (ap (λ l. l.items) stay.0, λ name bytes shown. subst (λ (l : List Retired). Shows g.D.Disk.tells (beside new.at l) name bytes) (ap (λ l. l.items) stay.0) (stay.1 name bytes shown))) call.failed; leaves = call.leaves; stands = call.stands; pins = call.pins; nothing = λ settled. (let same = call.nothing settled in (same.0, ap (λ l. l.items) same.1)) })
     c.settle.ensures.reads.any_moment c.settle.ensures.granularity
