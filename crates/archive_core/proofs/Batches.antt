@@ -13,6 +13,7 @@ use Rattle.pv_catalog.specs.declared.row.Row.{Row}
 use Rattle.series_model.specs.Series.{end_of, end_from, RisesFrom, IsRising}
 use Rattle.series_model.specs.declared.batch.RowSamples.{RowSamples}
 use Rattle.series_model.specs.declared.sample.Sample.{Sample}
+use Rattle.series_model.proofs.OverLemmas.{end_of-over}
 use Rattle.series_model.proofs.RisingLists.{end_from-append, end_from-ge, RisesFrom-front, RisesFrom-rest, RisesFrom-lower}
 use Rattle.store_manifest.specs.Manifest.{ManifestState}
 use Rattle.tier_store.specs.Flush.{CanFlush, IsOfRow, IsSampleOf, bytes_in}
@@ -24,9 +25,13 @@ use Rattle.act_model.specs.Changes.{each, changed, made, of_row}
 use Rattle.act_model.specs.Crash.{DurableRow, kept_of, kept}
 use Rattle.act_model.specs.Event.{IsEvent}
 use Rattle.act_model.specs.Flush.{batch_from, batch_of}
+use Rattle.act_model.specs.Limbo.{files_of}
 use Rattle.act_model.specs.Machine.{Machine, Appends, held_bytes}
-use Rattle.act_model.specs.Rows.{RowState, durable, is_empty, size_of}
+use Rattle.act_model.specs.Rows.{RowState, Short, deep, durable, is_empty, size_of}
 use Rattle.act_model.specs.Sound.{IsSound, MayMake}
+use Rattle.act_model.proofs.MadeLaws.{ground}
+use Rattle.act_model.proofs.Puts.{put_rises}
+use Rattle.act_model.proofs.RowLaws.{fit_all, higher_cover}
 use Rattle.archive_core.specs.declared.memory.RowMemory.{RowMemory}
 use Rattle.archive_core.specs.Flushing.{ListsBatch}
 use Rattle.archive_core.specs.Memory.{AreRowsOf}
@@ -35,7 +40,7 @@ use Rattle.archive_core.specs.Stands.{AreDurable, HoldsDurable, IsPartOf}
 use Rattle.archive_core.proofs.KeptRows.{each_to}
 use Rattle.archive_core.proofs.ListEnds.{place_end}
 use Rattle.archive_core.proofs.Lists.{element, get_front}
-use Rattle.archive_core.proofs.Making.{NoneShort, kept_to, taken_later, short_with, kept_untold, kept_empty}
+use Rattle.archive_core.proofs.Making.{kept_to, taken_durable, taken_later, kept_untold, kept_empty}
 
 -- WHAT A FLUSH TAKES
 
@@ -168,7 +173,18 @@ same_end n (x ∷ xs) some = refl
 own_first : (part : RowSamples) (batch : List RowSamples) → of_row part.row (part ∷ batch) ≡ part.samples ++ of_row part.row batch
 own_first part batch = let own : nat_eq part.row part.row ≡ true = grind (arith, nat_tests) in rw own refl
 
-module _ (tells : Bool) (new : Seen) (m : Machine) (sound : IsSound m) (none : NoneShort m) (held : Stores) (has : Has tells new held) (told_is : m.told ≡ (tells && held.stands)) where
+-- once a batch is appended, store 1 ends where the batch does
+end_with : (m : Machine) (batch : List RowSamples) (i : ℕ) (r : RowState) → IsSound m → MayMake m.rule m.told m.rows m.limbo (Appends batch) → slice_get m.rows i ≡ Some r → m.told ≡ true → end_of (changed m.told m.limbo (Appends batch) i r).short ≡ end_from (end_of r.short) (of_row i batch)
+end_with m batch i r sound may here told =
+    let row = sound.each_row i r here in
+    let on = ground m.rule m.told m.rows m.limbo i r here sound.each_file in
+    let files = files_of i Short m.limbo in
+    let end = end_of-over (deep r Short) r.short row.short in
+    let low = higher_cover files (end_of (deep r Short)) (end_of (durable r)) (on.covered Short told) (omega (arith, end)) in
+    let fits = fit_all (of_row i batch) (end_of (durable r)) files (taken_durable m batch i r sound may here) low in
+    rw told (put_rises (of_row i batch) files r.short row.short (taken_later m batch i r sound may here) (on.parts Short told) fits).1
+
+module _ (tells : Bool) (new : Seen) (m : Machine) (sound : IsSound m) (held : Stores) (has : Has tells new held) (told_is : m.told ≡ (tells && held.stands)) where
   -- where store 1 lists a part of samples, it isn't without them
   not_before : (part : RowSamples) (batch : List RowSamples) → m.told ≡ true → MayMake m.rule m.told m.rows m.limbo (Appends (part ∷ batch)) → IsPartOf (length m.rows) part → ListsBatch new.manifests (part ∷ batch) → HoldsDurable held m → ⊥
   not_before part batch told may is lists holds =
@@ -190,15 +206,14 @@ module _ (tells : Bool) (new : Seen) (m : Machine) (sound : IsSound m) (none : N
       let plain : 0 + part.row ≡ part.row = omega arith in
       let there : slice_get (made [] (Appends (part ∷ batch)) m).rows part.row ≡ Some (change part.row r.0) = get_front (each change 0 m.rows) [] part.row (change part.row r.0) (each_to change 0 m.rows part.row r.0 r.1 ∙ ap (λ (n : ℕ). Some (change n r.0)) plain) in
       let at = holds.each part.row (kept_of (change part.row r.0)) (kept_to (made [] (Appends (part ∷ batch)) m).rows part.row (change part.row r.0) there) in
-      let short : r.0.short ++ of_row part.row (part ∷ batch) ≡ samples_of part.row held.short = sym (short_with m (part ∷ batch) part.row r.0 told none) ∙ at.is.short told in
+      let same : end_of (change part.row r.0).short ≡ end_of (samples_of part.row held.short) = ap end_of (at.is.short told) in
       let end : end_at new.manifests 0 part.row ≡ end_of (samples_of part.row held.short) = place_end new held tells has (told_stands tells m.told held.stands told_is told) 0 part.row (omega arith) in
       let later = taken_later m (part ∷ batch) part.row r.0 sound may r.1 in
       let n = end_of r.0.short in
       let all : RisesFrom n (part.samples ++ of_row part.row batch) = subst (λ (xs : List Sample). RisesFrom n xs) (own_first part batch) later in
-      let whole : end_of (r.0.short ++ of_row part.row (part ∷ batch)) ≡ end_from (end_from n part.samples) (of_row part.row batch) = end_from-append 0 r.0.short (of_row part.row (part ∷ batch)) ∙ (ap (end_from n) (own_first part batch) ∙ end_from-append n part.samples (of_row part.row batch)) in
+      let whole : end_of (change part.row r.0).short ≡ end_from (end_from n part.samples) (of_row part.row batch) = end_with m (part ∷ batch) part.row r.0 sound may r.1 told ∙ (ap (end_from n) (own_first part batch) ∙ end_from-append n part.samples (of_row part.row batch)) in
       let more = end_from-ge (end_from n part.samples) (of_row part.row batch) (RisesFrom-rest n part.samples (of_row part.row batch) all) in
       let first = same_end n part.samples is.some in
-      let same : end_of (r.0.short ++ of_row part.row (part ∷ batch)) ≡ end_of (samples_of part.row held.short) = ap end_of short in
       omega (arith, end, whole, more, first, same)
 
   -- stores that list a batch hold what is durable with it

@@ -9,16 +9,15 @@ use Rattle.event_types.specs.declared.about.State.{State}
 use Rattle.pv_catalog.specs.Rows.{KeepsRows}
 use Rattle.pv_catalog.specs.declared.row.Row.{Row}
 use Rattle.pv_catalog.proofs.Standing.{keeps_same}
-use Rattle.series_model.specs.declared.batch.RowSamples.{RowSamples}
 use Rattle.store_manifest.specs.declared.entry.Entry.{Entry}
 use Rattle.tier_store.specs.Held.{Held, Listing, IsListed, IsListedTo, ListsStill, file_of, listing_of}
 use Rattle.tier_store.proofs.Growing.{file_grows}
 use Rattle.tier_store.proofs.There.{contains_map}
 use Rattle.tier_store.proofs.Three.{same_cases}
-use Rattle.three_stores.specs.Change.{IsKnown, Registers, Switches, Flushes}
+use Rattle.three_stores.specs.Change.{IsKnown, Registers, Switches}
 use Rattle.three_stores.specs.Limbo.{IsListedName}
 use Rattle.three_stores.specs.Seen.{Seen}
-use Rattle.three_stores.specs.Stores.{Stores, list_at, tier, with_rows}
+use Rattle.three_stores.specs.Stores.{Stores, list_at, tier, with_list, with_rows}
 use Rattle.three_stores.proofs.Places.{manifest_at, tier_other}
 use Rattle.three_stores.proofs.Showing.{known_to, registers_on, switches_on}
 use Rattle.archive_core.specs.Stands.{StoresGrow}
@@ -84,13 +83,14 @@ still_named old new name still to =
     let more = All-contains (λ (e : Entry). IsListedTo new (file_of old.0 e) e.len) old.1 to.entry still to.within in
     record { entry = more.entry; within = more.within; named = more.named ∙ to.named; longer = omega arith }
 
-pub flush_grows : (batch : List RowSamples) (s made : Stores) → Flushes batch s made → StoresGrow s made
-flush_grows batch s made by = record {
-  rows = subst (λ (rows : List Row). KeepsRows s.rows rows) (sym (ap (λ (x : Stores). x.rows) by.same)) (keeps_same s.rows);
+-- store 1 lists all that it listed, and the others stay
+pub short_grows : (s made : Stores) → made ≡ with_list 0 made.short s → ListsStill (listing_of (tier 0 s)) (listing_of (tier 0 made)) → StoresGrow s made
+short_grows s made same_lists still = record {
+  rows = subst (λ (rows : List Row). KeepsRows s.rows rows) (sym (ap (λ (x : Stores). x.rows) same_lists)) (keeps_same s.rows);
   lists = λ place name low to. elim (same_cases place 0) [
-    | inl is ↦ subst (λ (k : ℕ). IsListedTo (listing_of (tier k made)) name 0) (sym is) (still_named (listing_of (tier 0 s)) (listing_of (tier 0 made)) name by.flushed.still (subst (λ (k : ℕ). IsListedTo (listing_of (tier k s)) name 0) is to))
+    | inl is ↦ subst (λ (k : ℕ). IsListedTo (listing_of (tier k made)) name 0) (sym is) (still_named (listing_of (tier 0 s)) (listing_of (tier 0 made)) name still (subst (λ (k : ℕ). IsListedTo (listing_of (tier k s)) name 0) is to))
     | inr apart ↦ (
-        let same : tier place made ≡ tier place s = ap (tier place) by.same ∙ tier_other 0 place made.short s (omega arith) low apart in
+        let same : tier place made ≡ tier place s = ap (tier place) same_lists ∙ tier_other 0 place made.short s (omega arith) low apart in
         subst (λ (t : Held). IsListedTo (listing_of t) name 0) (sym same) to
         )
   ];

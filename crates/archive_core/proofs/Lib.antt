@@ -44,3 +44,6 @@ pub mod LimboSwept
 pub mod Growth
 pub mod LimboKept
 pub mod PinsSwept
+pub mod PutFirst
+pub mod Reviving
+pub mod FlushOver

@@ -48,7 +48,7 @@ kept_to (q ∷ rs) zero r here = ap (λ (x : RowState). Some (kept_of x)) (same_
 kept_to (q ∷ rs) (suc i) r here = kept_to rs i r here
 
 -- the rows that a change makes are durable, where each is
-durable_made : (m : Machine) (c : Change) (new : Stores) → length m.rows + length (added c) ≡ length new.rows → ((i : ℕ) (r : RowState) → slice_get m.rows i ≡ Some r → IsDurableAt m.told new i (kept_of (changed m.told m.limbo c i r)))
+pub durable_made : (m : Machine) (c : Change) (new : Stores) → length m.rows + length (added c) ≡ length new.rows → ((i : ℕ) (r : RowState) → slice_get m.rows i ≡ Some r → IsDurableAt m.told new i (kept_of (changed m.told m.limbo c i r)))
     → ((j : ℕ) (r : RowState) → slice_get (added c) j ≡ Some r → IsDurableAt m.told new (length m.rows + j) (kept_of r)) → HoldsDurable new (made [] c m)
 durable_made m c new count old_rows new_rows = record {
   count = length-map (made [] c m).rows kept_of ∙ (more_rows m.told m.limbo c m.rows ∙ count);
@@ -59,7 +59,7 @@ durable_made m c new count old_rows new_rows = record {
     by_row i d r is (from_row was here made_is) = subst (λ (x : DurableRow). IsDurableAt m.told new i x) (ap kept_of (sym made_is) ∙ is) (old_rows i was here)
     by_row i d r is (is_new j at_is here) = subst (λ (x : DurableRow). IsDurableAt m.told new i x) is (subst (λ (k : ℕ). IsDurableAt m.told new k (kept_of r)) (sym at_is) (new_rows j r here))
 
-count_of : (old : Stores) (m : Machine) → HoldsDurable old m → length m.rows ≡ length old.rows
+pub count_of : (old : Stores) (m : Machine) → HoldsDurable old m → length m.rows ≡ length old.rows
 count_of old m holds = sym (length-map m.rows kept_of) ∙ holds.count
 
 -- A ROW IS ADDED
@@ -140,7 +140,7 @@ switch_holds k from to old new m switches holds = subst (λ (s : Stores). HoldsD
 
 -- SAMPLES ARE FLUSHED
 
-batch_behind : (batch : List RowSamples) (i : ℕ) (xs : List Sample) → RisesFrom (end_of xs) (of_row i batch) → with_batch i xs batch ≡ xs ++ of_row i batch
+pub batch_behind : (batch : List RowSamples) (i : ℕ) (xs : List Sample) → RisesFrom (end_of xs) (of_row i batch) → with_batch i xs batch ≡ xs ++ of_row i batch
 batch_behind [] i xs later = sym (append-nil xs)
 batch_behind (p ∷ batch) i xs later = by_test (nat_eq p.row i) later (λ ys h. batch_behind batch i ys h)
   where
@@ -153,15 +153,20 @@ batch_behind (p ∷ batch) i xs later = by_test (nat_eq p.row i) later (λ ys h.
         ap (λ w. with_batch i w batch) plain ∙ (more (xs ++ p.samples) rest ∙ append_assoc xs p.samples (of_row i batch))
     by_test false later more = more xs later
 
--- what a batch takes of the front of a row's tail is later than all that store 1 lists of the row
-pub taken_later : (m : Machine) (batch : List RowSamples) (i : ℕ) (r : RowState) → IsSound m → MayMake m.rule m.told m.rows m.limbo (Appends batch) → slice_get m.rows i ≡ Some r → RisesFrom (end_of r.short) (of_row i batch)
-taken_later m batch i r sound may_make here =
+-- what a batch takes of the front of a row's tail is later than all that is durable
+pub taken_durable : (m : Machine) (batch : List RowSamples) (i : ℕ) (r : RowState) → IsSound m → MayMake m.rule m.told m.rows m.limbo (Appends batch) → slice_get m.rows i ≡ Some r → RisesFrom (end_of (durable r)) (of_row i batch)
+taken_durable m batch i r sound may_make here =
     let row = sound.each_row i r here in
     let may : (rest : List Sample) × (r.tail ≡ of_row i batch ++ rest) = may_make i r here in
     let later : RisesFrom (end_of (durable r)) (of_row i batch ++ may.0) = subst (λ (xs : List Sample). RisesFrom (end_of (durable r)) xs) may.1 row.later in
-    let front = RisesFrom-front (end_of (durable r)) (of_row i batch) may.0 later in
+    RisesFrom-front (end_of (durable r)) (of_row i batch) may.0 later
+
+-- and so than all that store 1 lists of the row
+pub taken_later : (m : Machine) (batch : List RowSamples) (i : ℕ) (r : RowState) → IsSound m → MayMake m.rule m.told m.rows m.limbo (Appends batch) → slice_get m.rows i ≡ Some r → RisesFrom (end_of r.short) (of_row i batch)
+taken_later m batch i r sound may_make here =
+    let row = sound.each_row i r here in
     let end = end_of-over (over r.long r.medium) r.short row.short in
-    RisesFrom-lower (end_of r.short) (end_of (durable r)) (of_row i batch) front (omega (arith, end))
+    RisesFrom-lower (end_of r.short) (end_of (durable r)) (of_row i batch) (taken_durable m batch i r sound may_make here) (omega (arith, end))
 
 -- no file of store 1 is in the machine's limbo
 abbrev pub NoneShort : Machine → Type 0

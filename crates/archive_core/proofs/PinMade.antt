@@ -63,7 +63,7 @@ get_inserted pinned n own = let same : eq_by_cmp nat_cmp n n ≡ true = grind (a
 
 -- ITS PIECES
 
-lines_same : (xs : List Sample) → lines_of xs ≡ lines.lines_of xs
+pub lines_same : (xs : List Sample) → lines_of xs ≡ lines.lines_of xs
 lines_same [] = refl
 lines_same (x ∷ xs) = ap (λ (rest : List ℕ). x.line ++ (10 ∷ rest)) (lines_same xs)
 
@@ -71,7 +71,7 @@ pub bytes_same : (i : ℕ) (p : Placed) → bytes_of (state_of i p) ≡ held.byt
 bytes_same i p = ap (λ (rest : List ℕ). p.file.head ++ (10 ∷ rest)) (lines_same p.file.samples)
 
 -- two fronts of one file, equally long, are the same
-same_front : (a b : List ℕ) (c : Content) → length a ≡ length b → Begins a c → Begins b c → a ≡ b
+pub same_front : (a b : List ℕ) (c : Content) → length a ≡ length b → Begins a c → Begins b c → a ≡ b
 same_front a b None same one two = absurd one
 same_front a b (Some bytes) same one two = sym one ∙ (ap (λ (n : ℕ). take n bytes) same ∙ two)
 

@@ -22,7 +22,7 @@ contains_head {A} x xs = (0, omega arith, refl)
 pub contains_tail : {A : Type 0} (x : A) (xs : List A) (y : A) → Contains xs y → Contains (x ∷ xs) y
 contains_tail {A} x xs y (k, low, is) = (suc k, omega (arith, low), is)
 
-contains_cases : {A : Type 0} (x : A) (xs : List A) (y : A) → Contains (x ∷ xs) y → (x ≡ y) ⊎ Contains xs y
+pub contains_cases : {A : Type 0} (x : A) (xs : List A) (y : A) → Contains (x ∷ xs) y → (x ≡ y) ⊎ Contains xs y
 contains_cases {A} x xs y (zero, low, is) = inl is
 contains_cases {A} x xs y (suc k, low, is) = inr (k, omega (arith, low), is)
 

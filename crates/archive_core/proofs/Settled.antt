@@ -36,8 +36,8 @@ use Rattle.archive_core.specs.declared.memory.Doubt.TheVariants as kind
 use Rattle.archive_core.proofs.Batches.{none_beyond, lists_or_not, holds_with, holds_without, told_stands}
 use Rattle.archive_core.proofs.Growth.{same_grow}
 use Rattle.archive_core.proofs.KeptRows.{sampling_period, sampling_cell, each_to}
-use Rattle.archive_core.proofs.LimboKept.{limbo_beside, limbo_changed, limbo_held, no_short}
-use Rattle.archive_core.proofs.Making.{NoneShort, kept_to, taken_later}
+use Rattle.archive_core.proofs.LimboKept.{limbo_beside, limbo_changed, limbo_held}
+use Rattle.archive_core.proofs.Making.{kept_to, taken_later}
 use Rattle.archive_core.proofs.PinTies.{KeepsNames, names_stay, names_made, state_name, pins_stay}
 use Rattle.archive_core.specs.Flushing.{GivesUp, ListsBatch, IsTrimmed}
 use Rattle.archive_core.specs.LimboTies.{IsLimboOf}
@@ -284,10 +284,6 @@ module _ (tells : Bool) (p : Parts) (m : Machine) (s : Stands tells p m) (new : 
   told_after : (after : Stores) → after.stands ≡ s.store.before.stands → m.told ≡ (tells && after.stands)
   told_after after stand = s.store.told ∙ ap (λ (b : Bool). tells && b) (sym stand)
 
-  -- no file of store 1 is in the machine's limbo
-  limbo_none : NoneShort m
-  limbo_none = no_short tells (beside p.at p.limbo) m.told m.rows m.limbo s.none_short s.limbo
-
   -- the machine with its doubted change made
   abbrev pub with_change : Change → Machine
   with_change c = record (made [] c m) { doubt = None }
@@ -379,7 +375,7 @@ module _ (tells : Bool) (p : Parts) (m : Machine) (s : Stands tells p m) (new : 
       | inl lists ↦ (
         with_change (Appends batch),
         as_made (Appends batch) [] is refl,
-        rests tails (with_change (Appends batch)) held (made_batch batch is held grow told (holds_with tells new m s.sound limbo_none held has told batch may ready lists holds) same tails (trims.own batch own lists) has),
+        rests tails (with_change (Appends batch)) held (made_batch batch is held grow told (holds_with tells new m s.sound held has told batch may ready lists holds) same tails (trims.own batch own lists) has),
       )
       | inr lacks ↦ (
         record m { doubt = None },
@@ -402,7 +398,7 @@ module _ (tells : Bool) (p : Parts) (m : Machine) (s : Stands tells p m) (new : 
         ready = subst (λ (d : Option Change). IsReady p.kept m.rows d) is s.ready
 
         without : (ListsBatch new.manifests batch → ⊥) → HoldsDurable held m
-        without lacks = holds_without tells new m s.sound limbo_none held has told batch may ready lacks holds
+        without lacks = holds_without tells new m s.sound held has told batch may ready lacks holds
 
         stays : (ListsBatch new.manifests batch → ⊥) → AreKeptOf kept tails m.rows
         stays lacks =

@@ -257,8 +257,8 @@ module _ (tells : Bool) (copied : List Name) (q new : Parts) (said : Swept) (s :
 
 -- the count of faults is nothing to what is needed
 swept_goes : (m : Machine) (k : ℕ) (stays : FileState → Bool) (limbo : List FileState) → IsSwept (record m { faults = k }) stays limbo → IsSwept m stays limbo
-swept_goes m k stays [] just = tt
-swept_goes m k stays (f ∷ limbo) just = ((λ test. forth (just.0.0 test), λ needed. just.0.1 (back needed)), swept_goes m k stays limbo just.1)
+swept_goes m k stays [] each = tt
+swept_goes m k stays (f ∷ limbo) each = ((λ test. forth (each.0.0 test), λ needed. each.0.1 (back needed)), swept_goes m k stays limbo each.1)
   where
     forth : IsPinned (record m { faults = k }) f ⊎ IsCopiedInto (record m { faults = k }) f → IsPinned m f ⊎ IsCopiedInto m f
     forth (inl is) = inl (record { number = is.number; pin = is.pin; here = is.here; names = is.names })

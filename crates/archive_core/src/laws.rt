@@ -1,5 +1,5 @@
 //! What follows from standing for a machine, and what the stores' changes are to it.
-ghost use Rattle.std.specs.Prelude.{◌≡◌, ◌≢◌, ℕ, List, Option, Some, IsTrue, [], true, slice_get};
+ghost use Rattle.std.specs.Prelude.{◌≡◌, ◌≢◌, ◌&&◌, ℕ, List, Option, Some, IsTrue, [], true, slice_get};
 ghost use Rattle.std.specs.FinMap.{FinMap};
 ghost use Rattle.std.specs.Ordering.{nat_cmp};
 ghost use Rattle.append_buffer.specs.Tails.{TailState};
@@ -12,7 +12,10 @@ ghost use Rattle.pinned_pieces.specs.Pieces.{PinOf};
 ghost use Rattle.pv_catalog.specs.Catalogue.{CatalogueState};
 ghost use Rattle.store_manifest.specs.Manifest.{ManifestState};
 ghost use Rattle.three_stores.specs.Beginning.{IsChoice};
-ghost use Rattle.three_stores.specs.Change.{IsKnown, Registers, Switches, Flushes};
+ghost use Rattle.tier_store.specs.Held.{Filed};
+ghost use Rattle.three_stores.specs.Change.{Has, IsKnown, Registers, Switches, Flushes};
+ghost use Rattle.three_stores.specs.Pinned.{beside};
+ghost use Rattle.three_stores.specs.Revival.{AreWhole, FlushesOver};
 ghost use Rattle.three_stores.specs.Seen.{seen_on, granularities};
 ghost use Rattle.three_stores.specs.Stores.{Stores};
 ghost use Rattle.three_stores.specs.declared.limbo.Retired.{Retired};
@@ -28,6 +31,7 @@ ghost use Rattle.act_model.specs.Sound.{IsSound};
 ghost use Rattle.archive_core.specs.declared.memory.Doubt.{Doubt};
 ghost use Rattle.archive_core.specs.declared.memory.RowMemory.{RowMemory};
 ghost use Rattle.archive_core.specs.Ends.{LeavesBetween};
+ghost use Rattle.archive_core.specs.LimboTies.{IsLimboOf};
 ghost use Rattle.archive_core.specs.MoveChoice.{HaveDurable, AreNumbers, GoesOnBy, file_parts, move_rule, parts_to_move, row_files};
 ghost use Rattle.archive_core.specs.Stands.{Stands, HoldsDurable};
 
@@ -47,6 +51,15 @@ pub fn changes_are_the_machines()
     ensures register { (catalogue : CatalogueState) (ms : List ManifestState) (name : List ℕ) (about : About) (old new : Stores) (m : Machine) → IsKnown catalogue ms old → Registers name about old new → HoldsDurable old m → HoldsDurable new (made [] (AddsRow name about) m) }
     ensures switch { (row : ℕ) (from to : State) (old new : Stores) (m : Machine) → Switches row from to old new → HoldsDurable old m → HoldsDurable new (made [] (SetsState row to) m) }
     ensures flush { (limit : ℕ) (old new : Stores) (m : Machine) → IsSound m → ((row : ℕ) → files_of row Short m.limbo ≡ []) → (m.told ≡ true → IsTrue old.stands) → Flushes (batch_of limit m) old new → HoldsDurable old m → HoldsDurable new (made [] (Appends (batch_of limit m)) m) }
+{}
+
+/// A flush beside files in limbo is the machine's too, also where it goes on in one of them: where the stores held what is durable of a
+/// machine whose limbo is theirs, they hold what is durable of the machine with the batch appended.
+pub fn a_flush_goes_on_in_limbo<D: Disk>()
+    ensures { (disk : D) (catalogue later : CatalogueState) (ms ns : List ManifestState) (limbo : List Retired) (files : List Filed) (limit : ℕ) (old new : Stores) (m : Machine)
+        → IsSound m → m.told ≡ (D.tells && old.stands) → Has D.tells (seen_on D.files D.opened D.past D.faults catalogue ms disk) old → HoldsDurable old m → IsLimboOf D.tells (beside (seen_on D.files D.opened D.past D.faults catalogue ms disk) limbo) m.told m.rows m.limbo
+        → AreWhole D.tells (seen_on D.files D.opened D.past D.faults catalogue ms disk) limbo old.stands files → FlushesOver limbo files (batch_of limit m) old new → IsKnown later ns new → granularities ns ≡ granularities ms
+        → HoldsDurable new (made [] (Appends (batch_of limit m)) m) }
 {}
 
 /// A move that is chosen by what the stores list is the one that the machine chooses by its samples: the partitions of a row's listed files
