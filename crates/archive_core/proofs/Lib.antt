@@ -47,3 +47,5 @@ pub mod PinsSwept
 pub mod PutFirst
 pub mod Reviving
 pub mod FlushOver
+pub mod PartsGrow
+pub mod Beside

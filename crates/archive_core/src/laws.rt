@@ -1,5 +1,5 @@
 //! What follows from standing for a machine, and what the stores' changes are to it.
-ghost use Rattle.std.specs.Prelude.{◌≡◌, ◌≢◌, ◌&&◌, ℕ, List, Option, Some, IsTrue, [], true, slice_get};
+ghost use Rattle.std.specs.Prelude.{◌≡◌, ◌≢◌, ◌≤◌, ◌<◌, ◌&&◌, ℕ, List, Option, Some, IsTrue, [], true, slice_get};
 ghost use Rattle.std.specs.FinMap.{FinMap};
 ghost use Rattle.std.specs.Ordering.{nat_cmp};
 ghost use Rattle.append_buffer.specs.Tails.{TailState};
@@ -10,10 +10,12 @@ ghost use Rattle.event_types.specs.declared.about.State.{State};
 ghost use Rattle.move_choice.specs.declared.series.ToMove.{ToMove};
 ghost use Rattle.pinned_pieces.specs.Pieces.{PinOf};
 ghost use Rattle.pv_catalog.specs.Catalogue.{CatalogueState};
+ghost use Rattle.series_model.specs.declared.batch.RowSamples.{RowSamples};
 ghost use Rattle.store_manifest.specs.Manifest.{ManifestState};
 ghost use Rattle.three_stores.specs.Beginning.{IsChoice};
 ghost use Rattle.tier_store.specs.Held.{Filed};
 ghost use Rattle.three_stores.specs.Change.{Has, IsKnown, Registers, Switches, Flushes};
+ghost use Rattle.three_stores.specs.Moving.{GoesBeside};
 ghost use Rattle.three_stores.specs.Pinned.{beside};
 ghost use Rattle.three_stores.specs.Revival.{AreWhole, FlushesOver};
 ghost use Rattle.three_stores.specs.Seen.{seen_on, granularities};
@@ -60,6 +62,16 @@ pub fn a_flush_goes_on_in_limbo<D: Disk>()
         → IsSound m → m.told ≡ (D.tells && old.stands) → Has D.tells (seen_on D.files D.opened D.past D.faults catalogue ms disk) old → HoldsDurable old m → IsLimboOf D.tells (beside (seen_on D.files D.opened D.past D.faults catalogue ms disk) limbo) m.told m.rows m.limbo
         → AreWhole D.tells (seen_on D.files D.opened D.past D.faults catalogue ms disk) limbo old.stands files → FlushesOver limbo files (batch_of limit m) old new → IsKnown later ns new → granularities ns ≡ granularities ms
         → HoldsDurable new (made [] (Appends (batch_of limit m)) m) }
+{}
+
+/// Each change of the stores goes beside a running move, of any row, to store 2 or 3: a new row, a row's state, and a flush, also beside
+/// files in limbo. The store at the place to which the move copies, which is its number less one, lists of the row what it listed; and the
+/// store before it the same partitions, or further ones behind them.
+pub fn changes_go_beside_moves()
+    ensures register { (name : List ℕ) (about : About) (old new : Stores) (i row : ℕ) → Registers name about old new → GoesBeside i row old new }
+    ensures switch { (k : ℕ) (from to : State) (old new : Stores) (i row : ℕ) → Switches k from to old new → GoesBeside i row old new }
+    ensures flush { (catalogue later : CatalogueState) (ms ns : List ManifestState) (limbo : List Retired) (files : List Filed) (batch : List RowSamples) (old new : Stores) (i row : ℕ)
+        → IsKnown catalogue ms old → IsKnown later ns new → granularities ns ≡ granularities ms → FlushesOver limbo files batch old new → 1 ≤ i → i < 3 → GoesBeside i row old new }
 {}
 
 /// A move that is chosen by what the stores list is the one that the machine chooses by its samples: the partitions of a row's listed files
