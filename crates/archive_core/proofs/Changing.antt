@@ -9,7 +9,7 @@ use Rattle.disk_model.proofs.Passing.{passes_weaker}
 use Rattle.tier_store.specs.Ends.{End, Failed}
 use Rattle.three_stores.specs.Change.{Call, Acts, Has, IsEither, HoldsChange, EndsFrom}
 use Rattle.pinned_pieces.specs.Pieces.{PinOf}
-use Rattle.three_stores.specs.Pinned.{beside, KeepsShown}
+use Rattle.three_stores.specs.Pinned.{beside}
 use Rattle.three_stores.specs.Seen.{Seen, granularities}
 use Rattle.three_stores.specs.Stores.{Stores}
 use Rattle.three_stores.specs.declared.limbo.Retired.{Retired}
@@ -18,6 +18,7 @@ use Rattle.act_model.specs.Machine.{Machine, Change}
 use Rattle.archive_core.specs.Ends.{HoldsChanged, ChangesTo}
 use Rattle.archive_core.specs.Parts.{Parts}
 use Rattle.archive_core.specs.Stands.{Stands, Rests, StoresGrow, InDoubt, HoldsDurable}
+use Rattle.archive_core.proofs.Keeping.{Keeps}
 use Rattle.archive_core.proofs.Settled.{rests_has, doubt_stands}
 
 module _ {A E : Type 0} (tells : Bool) (call : Call A E) (c : Change) (p : Parts) (m : Machine) (r : Rests tells p m) (durable : (after : Stores) → call.by r.stands.store.before after → HoldsDurable after (made [] c m)) where
@@ -41,17 +42,17 @@ module _ {A E : Type 0} (tells : Bool) (call : Call A E) (c : Change) (p : Parts
   call_failed new stand grow (inr (after, by, doubts)) = inr (record { change = c; is = refl; after = after; doubts = doubts; stand = stand after by; grow = grow after by; holds = durable after by })
 
 -- all is as it was
-pub rests_again : (tells : Bool) (p : Parts) (m : Machine) (r : Rests tells p m) (new : Seen) → granularities new.manifests ≡ granularities p.at.manifests → KeepsShown tells (beside p.at p.limbo) (beside new p.limbo) → Has tells new r.stands.store.before → Stands tells (record p { at = new }) (record m { faults = new.faults })
+pub rests_again : (tells : Bool) (p : Parts) (m : Machine) (r : Rests tells p m) (new : Seen) → granularities new.manifests ≡ granularities p.at.manifests → Keeps tells (beside p.at p.limbo) (beside new p.limbo) → Has tells new r.stands.store.before → Stands tells (record p { at = new }) (record m { faults = new.faults })
 rests_again tells p m r new same_g shown has = let s = r.stands in doubt_stands tells p m s new p.kept p.doubt m.doubt same_g shown s.sound s.rows s.doubt s.ready (inl has)
 
 -- what is pinned or in limbo stays
 pub record KeepsPins (tells : Bool) (old : Parts) (new : Seen) (limbo : List Retired) (pinned : FinMap nat_cmp PinOf) : Type 0 where
   pub limbo_is : limbo ≡ old.limbo
   pub pins_are : pinned ≡ old.pinned
-  pub shown : KeepsShown tells (beside old.at old.limbo) (beside new old.limbo)
+  pub shown : Keeps tells (beside old.at old.limbo) (beside new old.limbo)
 
-pub keeps_pins : (tells : Bool) (old : Parts) (new : Seen) (limbo : List Retired) (pinned : FinMap nat_cmp PinOf) → limbo ≡ old.limbo → pinned ≡ old.pinned → KeepsShown tells (beside old.at old.limbo) (beside new limbo) → KeepsPins tells old new limbo pinned
-keeps_pins tells old new limbo pinned same pins shown = record { limbo_is = same; pins_are = pins; shown = subst (λ (l : List Retired). KeepsShown tells (beside old.at old.limbo) (beside new l)) same shown }
+pub keeps_pins : (tells : Bool) (old : Parts) (new : Seen) (limbo : List Retired) (pinned : FinMap nat_cmp PinOf) → limbo ≡ old.limbo → pinned ≡ old.pinned → Keeps tells (beside old.at old.limbo) (beside new limbo) → KeepsPins tells old new limbo pinned
+keeps_pins tells old new limbo pinned same pins shown = record { limbo_is = same; pins_are = pins; shown = subst (λ (l : List Retired). Keeps tells (beside old.at old.limbo) (beside new l)) same shown }
 
 pub with_pins : {A : Type 0} (tells : Bool) (change : Change) (old : Parts) (m : Machine) (new : Parts) (at : Seen) (limbo : List Retired) (pinned : FinMap nat_cmp PinOf) (result : Result A DiskErr) → KeepsPins tells old at limbo pinned → new.limbo ≡ old.limbo → new.pinned ≡ old.pinned → ChangesTo tells change old m new result → ChangesTo tells change old m (record new { limbo = limbo; pinned = pinned }) result
 with_pins {A} tells change old m new at limbo pinned result keeps same_limbo same_pins changes =

@@ -18,7 +18,7 @@ use Rattle.tier_store.specs.Plan.{of_row}
 use Rattle.three_stores.specs.Change.{Has}
 use Rattle.three_stores.specs.Details.{AreCounted, IsDescribed, SaysDescribed, none_has, is_described}
 use Rattle.three_stores.specs.Opening.{end_of_answer}
-use Rattle.three_stores.specs.Pinned.{beside, KeepsShown}
+use Rattle.three_stores.specs.Pinned.{beside}
 use Rattle.three_stores.specs.Pinning.{HasNoName}
 use Rattle.three_stores.specs.Seen.{Seen, granularities}
 use Rattle.three_stores.specs.Settling.{SettlesAndReads, ReadsOf}
@@ -36,6 +36,7 @@ use Rattle.archive_core.specs.Describing.{IsDescribing}
 use Rattle.archive_core.specs.Ends.{AskEnds, is_spent, is_failed, is_answered}
 use Rattle.archive_core.specs.Parts.{Parts}
 use Rattle.archive_core.specs.Stands.{Stands, Rests}
+use Rattle.archive_core.proofs.Keeping.{Keeps}
 use Rattle.archive_core.proofs.Asking.{end_kind}
 use Rattle.archive_core.proofs.Batches.{told_stands}
 use Rattle.archive_core.proofs.Changing.{rests_again}
@@ -47,7 +48,7 @@ use Rattle.archive_core.proofs.Registered.{find_some}
 use Rattle.archive_core.proofs.Settled.{rests_has, open_rows}
 
 module _ (R : Type 0) (tells reader_tells : Bool) (bytes : R → List ℕ) (faults : R → ℕ) (p : Parts) (m : Machine) (r : Rests tells p m) (i : ℕ) (name : List ℕ) (named : HasName p.at.catalogue.rows i name) (result : Answer R) (new : Seen)
-    (settles : SettlesAndReads tells (SaysDescribed tells name (tail_at p.tails i).samples) p.at new (end_of_answer result)) (shown : KeepsShown tells (beside p.at p.limbo) (beside new p.limbo)) where
+    (settles : SettlesAndReads tells (SaysDescribed tells name (tail_at p.tails i).samples) p.at new (end_of_answer result)) (shown : Keeps tells (beside p.at p.limbo) (beside new p.limbo)) where
   abbrev held : Stores
   held = r.stands.store.before
 

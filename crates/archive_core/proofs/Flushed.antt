@@ -19,7 +19,7 @@ use Rattle.tier_store.specs.Flush.{CanFlush, put_all}
 use Rattle.tier_store.specs.Held.{Filed, AreFiled, IsListed, count_of}
 use Rattle.three_stores.specs.Change.{EndsFrom, Has, HoldsChange, IsEither}
 use Rattle.three_stores.specs.Given.{ActsGiven}
-use Rattle.three_stores.specs.Pinned.{beside, KeepsShown}
+use Rattle.three_stores.specs.Pinned.{beside}
 use Rattle.three_stores.specs.Revival.{AreWhole, CountsOver, FlushesOver, flushing_over}
 use Rattle.three_stores.specs.Seen.{Seen, granularities}
 use Rattle.three_stores.specs.Stores.{Stores, tier}
@@ -39,6 +39,7 @@ use Rattle.archive_core.specs.Flushing.{GivesUp}
 use Rattle.archive_core.specs.Memory.{IsCleared}
 use Rattle.archive_core.specs.Parts.{Parts}
 use Rattle.archive_core.specs.Stands.{Stands, Rests, IsDoubtOf, IsPartOf, StoresGrow, InDoubt, HoldsDurable}
+use Rattle.archive_core.proofs.Keeping.{Keeps, keeps_itself}
 use Rattle.archive_core.proofs.FlushOver.{IsFiledAt, both_below, flush_over_holds, then_below}
 use Rattle.archive_core.proofs.Growth.{short_grows}
 use Rattle.archive_core.proofs.Reviving.{batch_over}
@@ -48,7 +49,7 @@ use Rattle.archive_core.proofs.Counts.{IsBefore, count_more}
 use Rattle.archive_core.proofs.KeptRows.{batch_is}
 use Rattle.archive_core.proofs.Lists.{element}
 use Rattle.archive_core.proofs.Opens.{told_tells}
-use Rattle.archive_core.proofs.Settled.{rests_has, doubt_stands, made_stands, open_rows, no_own}
+use Rattle.archive_core.proofs.Settled.{rests_has, doubt_stands, made_stands, open_rows, no_own, grew}
 
 -- each file that a place lists is of a row
 files_there : (g : Granularity) (rows : List Row) (files : List Filed) → All (IsListed g rows) files → AllByRecursion (IsBefore (length rows)) files
@@ -72,7 +73,7 @@ FlushActs tells old limbo files batch new end = ActsGiven (λ (s : Stores). AreW
 pub flush_as : (tells : Bool) (old : Seen) (limbo : List Retired) (files : List Filed) (new : Seen) (a b : List RowSamples) (r s : Result ℕ DiskErr) → a ≡ b → r ≡ s → FlushActs tells old limbo files a new (end_of_disk r) → FlushActs tells old limbo files b new (end_of_disk s)
 flush_as tells old limbo files new a b r s same is acts = subst (λ (x : Result ℕ DiskErr). FlushActs tells old limbo files b new (end_of_disk x)) is (subst (λ (x : List RowSamples). FlushActs tells old limbo files x new (end_of_disk r)) same acts)
 
-module _ (tells : Bool) (p : Parts) (m : Machine) (r : Rests tells p m) (limit : ℕ) (some : 1 ≤ limit) (files : List Filed) (whole : AreWhole tells p.at p.limbo r.stands.store.before.stands files) (seen_now : IsTrue tells → MayLeave p.at.past p.at.files) where
+module _ (tells : Bool) (p : Parts) (m : Machine) (r : Rests tells p m) (limit : ℕ) (some : 1 ≤ limit) (seen_now : IsTrue tells → MayLeave p.at.past p.at.files) where
   -- what the intake has for a flush
   abbrev pub batch : List RowSamples
   batch = tails.batch_of limit p.tails
@@ -82,6 +83,13 @@ module _ (tells : Bool) (p : Parts) (m : Machine) (r : Rests tells p m) (limit :
 
   abbrev held : Stores
   held = r.stands.store.before
+
+  -- the files in limbo of store 1, which are whole
+  abbrev pub files : List Filed
+  files = r.stands.store.whole.0
+
+  whole : AreWhole tells p.at p.limbo held.stands files
+  whole = r.stands.store.whole.1
 
   own : batch_of limit m ≡ batch
   own = sym (batch_is limit p.at.catalogue.rows p.kept p.tails m some r.stands.rows)
@@ -129,7 +137,7 @@ module _ (tells : Bool) (p : Parts) (m : Machine) (r : Rests tells p m) (limit :
       own_from from (inl is) = is
       own_from from (inr is) = is
 
-  doubting : (new : Seen) → granularities new.manifests ≡ granularities p.at.manifests → KeepsShown tells (beside p.at p.limbo) (beside new p.limbo) → Has tells new held ⊎ InDoubt tells new held (record m { doubt = Some change; faults = new.faults })
+  doubting : (new : Seen) → granularities new.manifests ≡ granularities p.at.manifests → Keeps tells (beside p.at p.limbo) (beside new p.limbo) → Has tells new held ⊎ InDoubt tells new held (record m { doubt = Some change; faults = new.faults })
       → Stands tells (record p { at = new; doubt = Some (kind.Flush batch) }) (record m { doubt = Some change; faults = new.faults })
   doubting new same_g shown is_open =
       let s = r.stands in
@@ -142,7 +150,7 @@ module _ (tells : Bool) (p : Parts) (m : Machine) (r : Rests tells p m) (limit :
   abbrev parts_with : Seen → List TailState → Option Doubt → Parts
   parts_with new left d = record { at = new; limbo = p.limbo; pinned = p.pinned; tails = left; kept = p.kept; doubt = d; doors = p.doors }
 
-  pub flush_done : (new : Seen) → KeepsShown tells (beside p.at p.limbo) (beside new p.limbo) → (samples : ℕ) (left : List TailState) → GivesUp batch p.tails left → Acted new (Done samples) → ChangesTo tells change p m (record p { at = new; tails = left }) (Ok samples)
+  pub flush_done : (new : Seen) → Keeps tells (beside p.at p.limbo) (beside new p.limbo) → (samples : ℕ) (left : List TailState) → GivesUp batch p.tails left → Acted new (Done samples) → ChangesTo tells change p m (record p { at = new; tails = left }) (Ok samples)
   flush_done new shown samples left gives acts = record {
     ends = own_doubt;
     any_moment = passes new (Done samples) acts;
@@ -155,8 +163,8 @@ module _ (tells : Bool) (p : Parts) (m : Machine) (r : Rests tells p m) (limit :
 
       stands : Stands tells (parts_with new left None) (record (made [] change m) { doubt = None; faults = new.faults })
       stands =
-          let was = doubting p.at refl (λ name bytes s. s) (inl has) in
-          (made_stands tells (record p { doubt = Some (kind.Flush batch) }) (record m { doubt = Some change; faults = p.at.faults }) was new p.kept acts.costs.granularity shown left change refl end.0 (held, has.known, grow end.0 end.1) (r.stands.store.told ∙ ap (λ (b : Bool). tells && b) (sym (stand end.0 end.1))) (durable end.0 end.1 (of_each new end.0 acts.costs.granularity (λ n here. (end.3.known.each 0 n here).valid.filed))) (unclear new.catalogue.rows) gives end.3).stands
+          let was = doubting p.at refl (keeps_itself tells (beside p.at p.limbo)) (inl has) in
+          (made_stands tells (record p { doubt = Some (kind.Flush batch) }) (record m { doubt = Some change; faults = p.at.faults }) was new p.kept acts.costs.granularity shown left change refl end.0 (grew tells p m r.stands new shown end.0 (stand end.0 end.1) (grow end.0 end.1)) (r.stands.store.told ∙ ap (λ (b : Bool). tells && b) (sym (stand end.0 end.1))) (durable end.0 end.1 (of_each new end.0 acts.costs.granularity (λ n here. (end.3.known.each 0 n here).valid.filed))) (unclear new.catalogue.rows) gives end.3).stands
 
       machines : Stands tells (parts_with new left None) (record (made [] change m) { faults = new.faults })
       machines = subst (λ (o : Option Change). Stands tells (parts_with new left None) (record (made [] change m) { doubt = o; faults = new.faults })) (sym r.settled) stands
@@ -183,7 +191,7 @@ module _ (tells : Bool) (p : Parts) (m : Machine) (r : Rests tells p m) (limit :
       let says : count_of (put_all listed over.flushed.written) ≡ count_of listed + samples = counts.count in
       omega (arith, more, says)
 
-  pub flush_failed : (new : Seen) → KeepsShown tells (beside p.at p.limbo) (beside new p.limbo) → Acted new Failed → ChangesTo {A = ℕ} tells change p m (record p { at = new; doubt = Some (kind.Flush batch) }) (Err Fault)
+  pub flush_failed : (new : Seen) → Keeps tells (beside p.at p.limbo) (beside new p.limbo) → Acted new Failed → ChangesTo {A = ℕ} tells change p m (record p { at = new; doubt = Some (kind.Flush batch) }) (Err Fault)
   flush_failed new shown acts = record {
     ends = doubting new acts.costs.granularity shown (by_end (acts.settled held has whole));
     any_moment = passes new Failed acts;
@@ -195,7 +203,7 @@ module _ (tells : Bool) (p : Parts) (m : Machine) (r : Rests tells p m) (limit :
       by_end (inl has) = inl has
       by_end (inr (after, by, doubts)) = inr (record { change = change; is = refl; after = after; doubts = doubts; stand = stand after by; grow = grow after by; holds = durable after by (of_each new after acts.costs.granularity (λ n here. (doubts.valid_after 0 n here).filed)) })
 
-  pub flush_spent : (new : Seen) → KeepsShown tells (beside p.at p.limbo) (beside new p.limbo) → Acted new Spent → ChangesTo {A = ℕ} tells change p m (record p { at = new }) (Err Memory)
+  pub flush_spent : (new : Seen) → Keeps tells (beside p.at p.limbo) (beside new p.limbo) → Acted new Spent → ChangesTo {A = ℕ} tells change p m (record p { at = new }) (Err Memory)
   flush_spent new shown acts = record {
     ends = rests_again tells p m r new acts.costs.granularity shown (acts.settled held has whole);
     any_moment = passes new Spent acts;
@@ -206,7 +214,7 @@ module _ (tells : Bool) (p : Parts) (m : Machine) (r : Rests tells p m) (limit :
   -- there was no memory for the batch
   pub flush_unmade : ChangesTo {A = ℕ} tells change p m p (Err Memory)
   flush_unmade = record {
-    ends = rests_again tells p m r p.at refl (λ name bytes s. s) has;
+    ends = rests_again tells p m r p.at refl (keeps_itself tells (beside p.at p.limbo)) has;
     any_moment = λ told. passes_none (λ a image. HoldsChanged (granularities p.at.manifests) change m image) p.at.past (λ image left. inl (held, has_left tells p.at held has told image left, r.stands.store.holds));
     faults = omega arith;
     cause = λ is. absurd (cc (is));

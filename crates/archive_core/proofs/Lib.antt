@@ -49,3 +49,4 @@ pub mod Reviving
 pub mod FlushOver
 pub mod PartsGrow
 pub mod Beside
+pub mod Keeping

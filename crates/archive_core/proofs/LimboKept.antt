@@ -1,25 +1,21 @@
 -- The stores' limbo stays the machine's in every act that leaves limbo, while the stores stay or grow.
-use Rattle.std.proofs.Common.{◌≡◌, ◌≢◌, ℕ, ◌+◌, List, [], ◌∷◌, Bool, true, false, cond, Some, refl, sym, ◌∙◌, ap, subst, arith}
+use Rattle.std.proofs.Common.{◌≡◌, ℕ, ◌+◌, List, [], ◌∷◌, Bool, true, false, refl, sym, ◌∙◌, ap, subst, arith}
 use Rattle.std.specs.List.{AllByRecursion}
-use Rattle.std.specs.Prelude.{◌==◌, ◌&&◌, Contains, IsTrue, slice_get}
-use Rattle.std.proofs.lemmas.List.Elements.{All-contains}
-use Rattle.disk_model.specs.Files.{Name}
+use Rattle.std.specs.Prelude.{Contains, IsTrue}
 use Rattle.pv_catalog.specs.Rows.{KeepsRows}
-use Rattle.pv_catalog.specs.declared.row.Row.{Row}
 use Rattle.pv_catalog.proofs.Standing.{keeps_same}
 use Rattle.three_stores.specs.Change.{Has, IsKnown}
 use Rattle.three_stores.specs.Limbo.{LimboStands, IsListedName}
-use Rattle.three_stores.specs.Pinned.{SeenAll, beside, KeepsShown, NoneOf}
+use Rattle.three_stores.specs.Pinned.{beside, KeepsShown}
 use Rattle.three_stores.specs.Seen.{Seen, granularities}
 use Rattle.three_stores.specs.Stores.{Stores}
 use Rattle.three_stores.specs.declared.limbo.Retired.{Retired}
 use Rattle.three_stores.proofs.Staying.{limbo_kept}
 use Rattle.act_model.specs.Changes.{each, made}
 use Rattle.act_model.specs.Crash.{DurableRow, kept_of}
-use Rattle.act_model.specs.Limbo.{FileState, files_of, unlisted}
+use Rattle.act_model.specs.Limbo.{FileState, unlisted}
 use Rattle.act_model.specs.Machine.{Machine, Change}
-use Rattle.act_model.specs.Rows.{RowState, Store, Short, Medium, Long, same_store, tier}
-use Rattle.act_model.specs.Rule.{index_of}
+use Rattle.act_model.specs.Rows.{RowState, Store, Short, Medium, Long, tier}
 use Rattle.act_model.specs.Sound.{IsSound, IsUnlisted}
 use Rattle.act_model.proofs.Rows.{each_get}
 use Rattle.archive_core.specs.LimboTies.{AreRetired, AreUnlisted, AreBare, IsLimboOf}
@@ -28,41 +24,10 @@ use Rattle.archive_core.proofs.Growth.{stays_listed, rows_go_on, same_grow}
 use Rattle.archive_core.proofs.LimboMade.{goes_on_same, limbo_made, unlisted_ties}
 use Rattle.archive_core.proofs.LimboTying.{KeepsFiles, ListsSame, limbo_stays, retired_stays}
 use Rattle.archive_core.proofs.PinTies.{KeepsNames, names_stay}
-use Rattle.archive_core.proofs.SameNames.{contains_head, contains_tail}
 
 -- NO FILE
 
--- where the stores have none of store 1 in limbo, nor has the machine
-pub no_short : (tells : Bool) (all : SeenAll) (told : Bool) (rows : List RowState) (limbo : List FileState) → NoneOf 1 all.limbo → IsLimboOf tells all told rows limbo → (i : ℕ) → files_of i Short limbo ≡ []
-no_short tells all told rows limbo none tie i = by_told told refl
-  where
-    other : told ≡ true → (f : FileState) → Contains limbo f → f.store ≢ Short
-    other on f there is =
-        let has = (tie.retired on).each f there in
-        let number : has.file.name.0 ≡ index_of f.store + 1 = ap (λ (n : Name). n.0) has.is.named in
-        All-contains (λ (file : Retired). file.name.0 ≢ 1) all.limbo has.file none has.within (number ∙ ap (λ (s : Store). index_of s + 1) is)
-
-    none_of : (store : Store) → store ≢ Short → same_store store Short ≡ false
-    none_of Short apart = absurd (apart refl)
-    none_of Medium apart = refl
-    none_of Long apart = refl
-
-    none_in : (files : List FileState) → ((f : FileState) → Contains files f → f.store ≢ Short) → files_of i Short files ≡ []
-    none_in [] apart = refl
-    none_in (f ∷ files) apart =
-        let rest = none_in files (λ g there. apart g (contains_tail f files g there)) in
-        let test = none_of f.store (apart f (contains_head f files)) in
-        by_row (f.row == i) (same_store f.store Short) test rest
-      where
-        by_row : (a b : Bool) → b ≡ false → files_of i Short files ≡ [] → cond (a && b) (f ∷ files_of i Short files) (files_of i Short files) ≡ []
-        by_row true b is rest = rw is rest
-        by_row false b is rest = rest
-
-    by_told : (b : Bool) → told ≡ b → files_of i Short limbo ≡ []
-    by_told true on = none_in limbo (other on)
-    by_told false off = ap (λ (files : List FileState). files_of i Short files) (tie.none off)
-
--- and where the machine has none, the stores may have none
+-- where the machine has none, the stores may have none
 pub empty_limbo : (tells : Bool) (at : Seen) (told : Bool) (rows : List RowState) → (told ≡ false → AreBare rows) → IsLimboOf tells (beside at []) told rows []
 empty_limbo tells at told rows bare = record {
   stands = λ k d low. absurd (omega (arith, low));

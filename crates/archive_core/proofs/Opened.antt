@@ -20,6 +20,7 @@ use Rattle.three_stores.proofs.OpeningPieces.{stand_none}
 use Rattle.three_stores.specs.Seen.{Seen, granularities}
 use Rattle.three_stores.specs.Stores.{Stores}
 use Rattle.three_stores.specs.declared.limbo.Retired.{Retired}
+use Rattle.three_stores.proofs.WithoutLimbo.{none_whole}
 use Rattle.act_model.specs.Crash.{DurableRow, kept_of, kept}
 use Rattle.act_model.specs.Machine.{Machine, PinState, MoveState, held_bytes}
 use Rattle.act_model.specs.NextLife.{opened_row, opened}
@@ -231,7 +232,6 @@ module _ (tells : Bool) (at : Seen) (held : Stores) (has : Has tells at held) (a
             sound = sound told stands;
             rule = record { granularity = same_g; headers = headers };
             limbo = empty_limbo tells at told (rows_from told ms held 0 rows) (bare_rows told);
-            none_short = λ k d low. absurd (omega (arith, low));
             moves = refl;
             pins = empty_pins told;
             faults = refl;
@@ -239,7 +239,7 @@ module _ (tells : Bool) (at : Seen) (held : Stores) (has : Has tells at held) (a
             rows = memory told;
             doubt = tt;
             ready = tt;
-            store = record { before = held; told = refl; holds = holds told; is_open = inl has };
+            store = record { before = held; told = refl; holds = holds told; whole = ([], none_whole tells at [] held.stands (λ k d low. absurd (omega (arith, low)))); is_open = inl has };
           };
           settled = refl;
         },

@@ -14,7 +14,7 @@ use Rattle.store_manifest.specs.Manifest.{ManifestState}
 use Rattle.tier_store.specs.Ends.{IsFailed}
 use Rattle.three_stores.specs.Change.{Has, IsOpen, Doubts}
 use Rattle.three_stores.specs.Opening.{IsOpened, IsReaderOf, end_of_answer, refusal}
-use Rattle.three_stores.specs.Pinned.{SeenAll, beside, KeepsShown}
+use Rattle.three_stores.specs.Pinned.{SeenAll, beside}
 use Rattle.three_stores.specs.Seen.{Seen, IsSettled, granularities}
 use Rattle.three_stores.specs.Stores.{Stores}
 use Rattle.act_model.specs.declared.acts.Answer.{Answer}
@@ -30,6 +30,7 @@ use Rattle.archive_core.specs.Ends.{Steps}
 use Rattle.archive_core.specs.Parts.{Parts}
 use Rattle.archive_core.specs.Pins.{IsPieceOf, HasFileOf, HasPinOf, IsOpening}
 use Rattle.archive_core.specs.Stands.{Stands, InDoubt}
+use Rattle.archive_core.proofs.Keeping.{Keeps}
 use Rattle.archive_core.proofs.Lists.{element}
 use Rattle.archive_core.proofs.Settled.{doubt_stands}
 
@@ -117,7 +118,7 @@ is_opening R tells reader_tells bytes faults all asked_for i given refused lacks
 module _ (R : Type 0) (tells reader_tells : Bool) (bytes : R → List ℕ) (faults : R → ℕ) (readers : IsTrue reader_tells → IsTrue tells) (p : Parts) (who pin i : ℕ) (result : Answer R) (new : Seen)
     (refused : (e : PinErr) → asked who (get p.pinned pin) ≡ Err e → (result ≡ refusal e) × (new ≡ p.at)) (lacks : (own : PinOf) → asked who (get p.pinned pin) ≡ Ok own → slice_get own.pieces i ≡ None → (result ≡ answer.NoPiece (length own.pieces)) × (new ≡ p.at))
     (opened : (own : PinOf) (file : PinnedFile) → asked who (get p.pinned pin) ≡ Ok own → slice_get own.pieces i ≡ Some file → IsOpened tells reader_tells bytes faults (beside p.at p.limbo) file result)
-    (kept : (before after : Stores) → IsOpen tells p.at before after → IsOpen tells new before after) (same_rows : new.catalogue ≡ p.at.catalogue) (same_lists : new.manifests ≡ p.at.manifests) (shown : KeepsShown tells (beside p.at p.limbo) (beside new p.limbo))
+    (kept : (before after : Stores) → IsOpen tells p.at before after → IsOpen tells new before after) (same_rows : new.catalogue ≡ p.at.catalogue) (same_lists : new.manifests ≡ p.at.manifests) (shown : Keeps tells (beside p.at p.limbo) (beside new p.limbo))
     (more : p.at.faults ≤ new.faults) (cause : IsFailed (end_of_answer result) → Rose p.at.faults new.faults) where
   -- how it ends from a machine, with this answer
   abbrev EndsAs : Answer R → Machine → Type 0

@@ -22,7 +22,7 @@ use Rattle.series_model.proofs.RisingLists.{RisesFrom-lower}
 use Rattle.tier_store.specs.Ends.{End, IsCut}
 use Rattle.three_stores.specs.Change.{Has}
 use Rattle.three_stores.specs.Opening.{end_of_answer}
-use Rattle.three_stores.specs.Pinned.{beside, KeepsShown, PinsStand}
+use Rattle.three_stores.specs.Pinned.{beside, PinsStand}
 use Rattle.three_stores.specs.Pinning.{files_in, state_of, listed_of, piece_of, has_bytes, IsPinned, AreEnough, SaysPinned, none_has, is_pinned}
 use Rattle.three_stores.specs.Seen.{Seen, granularities}
 use Rattle.three_stores.specs.Settling.{Settles, SaysOf}
@@ -40,6 +40,7 @@ use Rattle.archive_core.specs.Ends.{AskEnds, is_spent, is_answered}
 use Rattle.archive_core.specs.Pinning.{IsPinning}
 use Rattle.archive_core.specs.Pins.{IsPinOf}
 use Rattle.archive_core.specs.Stands.{Stands, Rests}
+use Rattle.archive_core.proofs.Keeping.{Keeps}
 use Rattle.archive_core.proofs.Asking.{end_kind}
 use Rattle.archive_core.proofs.Batches.{told_stands}
 use Rattle.archive_core.proofs.Changing.{rests_again}
@@ -75,7 +76,7 @@ unknown : ℕ → PinnedFile → FileState
 unknown i file = record { row = i; store = Short; part = record { start = 0; end = 0; name = [] }; head = []; samples = [] }
 
 module _ (R : Type 0) (tells reader_tells : Bool) (bytes : R → List ℕ) (faults : R → ℕ) (p : Parts) (m : Machine) (r : Rests tells p m) (who i : ℕ) (name : List ℕ) (query : Query) (named : HasName p.at.catalogue.rows i name) (result : Answer R) (new : Seen) (pinned : FinMap nat_cmp PinOf)
-    (settles : Settles tells (SaysPinned who name query (tail_at p.tails i).samples p.pinned pinned) p.at new (end_of_answer result)) (unchanged : IsCut (end_of_answer result) → pinned ≡ p.pinned) (shown : KeepsShown tells (beside p.at p.limbo) (beside new p.limbo))
+    (settles : Settles tells (SaysPinned who name query (tail_at p.tails i).samples p.pinned pinned) p.at new (end_of_answer result)) (unchanged : IsCut (end_of_answer result) → pinned ≡ p.pinned) (shown : Keeps tells (beside p.at p.limbo) (beside new p.limbo))
     (stand : PinsStand tells (beside p.at p.limbo) p.pinned → PinsStand tells (beside new p.limbo) pinned) (seen_now : IsTrue tells → MayLeave new.past new.files) where
   abbrev held : Stores
   held = r.stands.store.before
@@ -125,7 +126,7 @@ module _ (R : Type 0) (tells reader_tells : Bool) (bytes : R → List ℕ) (faul
         let free : get m.pins pin ≡ None = by_pin (get m.pins pin) refl in
         let made : Pins who name query m (answer.Pinned pin row.0.name row.0.about (length pieces) row.0.tail) n = pins k row.0 pin pieces found row.1 free (λ lower low none. absurd (let some = q.least lower low in let lacks = r.stands.pins.none lower none in let both : false ≡ true = subst (λ (o : Option PinOf). IsSome o) lacks some in cc (both))) listed ordered answers few refl in
         let same : answer.Pinned pin row.0.name row.0.about (length pieces) row.0.tail ≡ reply_of reader_tells bytes faults (answer.Pinned pin told about count rest) = let a = row.2 in let b = row.3 in let c = row.4 in cc (a, b, c, number) in
-        let stay = pins_stay tells (beside p.at p.limbo) (beside new p.limbo) m.told m.rows m.rows m.pins p.pinned shown (names_stay m.rows) r.stands.pins in
+        let stay = pins_stay tells (beside p.at p.limbo) (beside new p.limbo) m.told m.rows m.rows m.pins p.pinned shown.shown (names_stay m.rows) r.stands.pins in
         let stand_now = subst (λ (x : FinMap nat_cmp PinOf). PinsStand tells (beside new p.limbo) x) q.made (stand r.stands.pins.stand) in
         let are = more_pins tells (beside new p.limbo) m.told m.rows m.pins p.pinned pin state own stay is stand_now in
         let stands = pins_stand tells (record p { at = new }) (record m { faults = new.faults }) (insert m.pins pin state) (insert p.pinned pin own) are (pins_sound r.stands.sound made) read in

@@ -84,7 +84,10 @@ comes_back (f ∷ files) listed s free = by_test (holds f.part s.t) refl (comes_
     by_test : (b : Bool) → holds f.part s.t ≡ b → ComesBack files s (revived files listed s) → ComesBack (f ∷ files) s (cond b (cond (is_empty (window f.part listed)) f.samples []) (revived files listed s))
     by_test true is rest = inl (f, contains_head f files, is, ap (λ (b : Bool). cond b f.samples []) free.0)
     by_test false is (inl (g, there, lies, same)) = inl (g, contains_tail f files g there, lies, same)
-    by_test false is (inr (none, same)) = inr ((λ g there lies. elim (contains_cases f files g there) [
-      | inl own ↦ (let yes : holds f.part s.t ≡ true = ap (λ (x : FileState). holds x.part s.t) own ∙ lies in let both : true ≡ false = sym yes ∙ is in cc (both))
-      | inr later ↦ none g later lies
-    ]), same)
+    by_test false is (inr (none, same)) = inr (
+      (λ g there lies. elim (contains_cases f files g there) [
+        | inl own ↦ (let yes : holds f.part s.t ≡ true = ap (λ (x : FileState). holds x.part s.t) own ∙ lies in let both : true ≡ false = sym yes ∙ is in cc (both))
+        | inr later ↦ none g later lies
+      ]),
+      same,
+    )

@@ -15,7 +15,7 @@ use Rattle.pv_catalog.specs.declared.error.RegisterErr.TheVariants.{NameTaken, K
 use Rattle.pv_catalog.specs.declared.row.Row.{Row}
 use Rattle.tier_store.specs.Ends.{Done, Refused, Failed, Spent}
 use Rattle.three_stores.specs.Change.{Acts, Has, EndsFrom, registering}
-use Rattle.three_stores.specs.Pinned.{beside, KeepsShown}
+use Rattle.three_stores.specs.Pinned.{beside}
 use Rattle.three_stores.specs.Seen.{Seen, granularities}
 use Rattle.three_stores.specs.Stores.{Stores}
 use Rattle.three_stores.proofs.Left.{has_left}
@@ -32,12 +32,13 @@ use Rattle.archive_core.specs.Ends.{ChangesTo, HoldsChanged, register_reply}
 use Rattle.archive_core.specs.Memory.{AreRowsOf, IsCleared, fresh_memory}
 use Rattle.archive_core.specs.Parts.{Parts}
 use Rattle.archive_core.specs.Stands.{Stands, Rests, IsDoubtOf, IsReady, StoresGrow, InDoubt, HoldsDurable}
+use Rattle.archive_core.proofs.Keeping.{Keeps, keeps_itself}
 use Rattle.archive_core.proofs.Growth.{register_grows}
 use Rattle.archive_core.proofs.Changing.{call_passes, call_failed}
 use Rattle.archive_core.proofs.KeptRows.{Placed, placed, place_some, place_none, same_bytes_is, same_bytes_self, row_at}
 use Rattle.archive_core.proofs.Lists.{element}
 use Rattle.archive_core.proofs.Making.{register_holds}
-use Rattle.archive_core.proofs.Settled.{rests_has, doubt_stands, made_stands, open_rows, no_own}
+use Rattle.archive_core.proofs.Settled.{rests_has, doubt_stands, made_stands, open_rows, no_own, grew}
 
 -- PLACES
 
@@ -211,7 +212,7 @@ module _ (tells : Bool) (p : Parts) (m : Machine) (r : Rests tells p m) (name : 
   grow : (after : Stores) → (registering name about).by r.stands.store.before after → StoresGrow r.stands.store.before after
   grow after by = register_grows p.at name about r.stands.store.before after (rests_has tells p m r).known by
 
-  doubting : (new : Seen) → granularities new.manifests ≡ granularities p.at.manifests → KeepsShown tells (beside p.at p.limbo) (beside new p.limbo) → Has tells new r.stands.store.before ⊎ InDoubt tells new r.stands.store.before (record m { doubt = Some change; faults = new.faults })
+  doubting : (new : Seen) → granularities new.manifests ≡ granularities p.at.manifests → Keeps tells (beside p.at p.limbo) (beside new p.limbo) → Has tells new r.stands.store.before ⊎ InDoubt tells new r.stands.store.before (record m { doubt = Some change; faults = new.faults })
       → Stands tells (record p { at = new; kept = more_kept; doubt = Some kind.Row }) (record m { doubt = Some change; faults = new.faults })
   doubting new same_g shown is_open =
       let s = r.stands in
@@ -228,7 +229,7 @@ module _ (tells : Bool) (p : Parts) (m : Machine) (r : Rests tells p m) (name : 
   abbrev parts_with : Seen → Option Doubt → Parts
   parts_with new d = record { at = new; limbo = p.limbo; pinned = p.pinned; tails = p.tails; kept = more_kept; doubt = d; doors = p.doors }
 
-  pub row_done : (new : Seen) → KeepsShown tells (beside p.at p.limbo) (beside new p.limbo) → (id : ℕ) → Acts tells (registering name about) p.at new (Done id) → ChangesTo tells change p m (record p { at = new; kept = more_kept }) (Ok id) × (id ≡ length p.at.catalogue.rows)
+  pub row_done : (new : Seen) → Keeps tells (beside p.at p.limbo) (beside new p.limbo) → (id : ℕ) → Acts tells (registering name about) p.at new (Done id) → ChangesTo tells change p m (record p { at = new; kept = more_kept }) (Ok id) × (id ≡ length p.at.catalogue.rows)
   row_done new shown id acts = (
     record {
       ends = own_doubt;
@@ -247,8 +248,8 @@ module _ (tells : Bool) (p : Parts) (m : Machine) (r : Rests tells p m) (name : 
 
       stands : Stands tells (parts_with new None) (record (made [] change m) { doubt = None; faults = new.faults })
       stands =
-          let was = doubting p.at refl (λ name bytes s. s) (inl (rests_has tells p m r)) in
-          (made_stands tells (record p { kept = more_kept; doubt = Some kind.Row }) (record m { doubt = Some change; faults = p.at.faults }) was new more_kept acts.costs.granularity shown p.tails change refl end.0 (r.stands.store.before, (rests_has tells p m r).known, grow end.0 end.1) (r.stands.store.told ∙ ap (λ (b : Bool). tells && b) (sym (stand end.0 end.1))) (durable end.0 end.1) (unclear new.catalogue.rows) refl end.3).stands
+          let was = doubting p.at refl (keeps_itself tells (beside p.at p.limbo)) (inl (rests_has tells p m r)) in
+          (made_stands tells (record p { kept = more_kept; doubt = Some kind.Row }) (record m { doubt = Some change; faults = p.at.faults }) was new more_kept acts.costs.granularity shown p.tails change refl end.0 (grew tells p m r.stands new shown end.0 (stand end.0 end.1) (grow end.0 end.1)) (r.stands.store.told ∙ ap (λ (b : Bool). tells && b) (sym (stand end.0 end.1))) (durable end.0 end.1) (unclear new.catalogue.rows) refl end.3).stands
 
       machines : Stands tells (parts_with new None) (record (made [] change m) { faults = new.faults })
       machines = subst (λ (o : Option Change). Stands tells (parts_with new None) (record (made [] change m) { doubt = o; faults = new.faults })) (sym r.settled) stands
@@ -256,7 +257,7 @@ module _ (tells : Bool) (p : Parts) (m : Machine) (r : Rests tells p m) (name : 
       own_doubt : Stands tells (parts_with new p.doubt) (record (made [] change m) { faults = new.faults })
       own_doubt = subst (λ (d : Option Doubt). Stands tells (parts_with new d) (record (made [] change m) { faults = new.faults })) (sym (no_own p.doubt (subst (λ (o : Option Change). IsDoubtOf p.doubt o) r.settled r.stands.doubt))) machines
 
-  pub row_failed : (new : Seen) → KeepsShown tells (beside p.at p.limbo) (beside new p.limbo) → Acts tells (registering name about) p.at new Failed → ChangesTo {A = ℕ} tells change p m (record p { at = new; kept = more_kept; doubt = Some kind.Row }) (Err Fault)
+  pub row_failed : (new : Seen) → Keeps tells (beside p.at p.limbo) (beside new p.limbo) → Acts tells (registering name about) p.at new Failed → ChangesTo {A = ℕ} tells change p m (record p { at = new; kept = more_kept; doubt = Some kind.Row }) (Err Fault)
   row_failed new shown acts = record {
     ends = doubting new acts.costs.granularity shown (call_failed tells (registering name about) change p m r durable new stand grow (acts.settled r.stands.store.before (rests_has tells p m r)));
     any_moment = call_passes tells (registering name about) change p m r durable new Failed acts;
@@ -264,7 +265,7 @@ module _ (tells : Bool) (p : Parts) (m : Machine) (r : Rests tells p m) (name : 
     cause = λ is. acts.costs.cause tt;
   }
 
-  pub row_spent : (new : Seen) → KeepsShown tells (beside p.at p.limbo) (beside new p.limbo) → Acts tells (registering name about) p.at new Spent → ChangesTo {A = ℕ} tells change p m (record p { at = new; kept = more_kept }) (Err Memory)
+  pub row_spent : (new : Seen) → Keeps tells (beside p.at p.limbo) (beside new p.limbo) → Acts tells (registering name about) p.at new Spent → ChangesTo {A = ℕ} tells change p m (record p { at = new; kept = more_kept }) (Err Memory)
   row_spent new shown acts =
       let s = r.stands in
       record {
@@ -280,7 +281,7 @@ module _ (tells : Bool) (p : Parts) (m : Machine) (r : Rests tells p m) (name : 
       let s = r.stands in
       let cut = subst (λ (ks : List RowMemory). AreRowsOf p.at.catalogue.rows ks p.tails m.rows) (append-nil (take (length p.at.catalogue.rows) p.kept)) (rows_cut p.at.catalogue.rows p.kept [] p.tails m.rows s.rows) in
       record {
-        ends = doubt_stands tells p m s p.at (take (length p.at.catalogue.rows) p.kept) p.doubt m.doubt refl (λ name bytes s. s) s.sound cut s.doubt (undoubted (take (length p.at.catalogue.rows) p.kept)) (inl (rests_has tells p m r));
+        ends = doubt_stands tells p m s p.at (take (length p.at.catalogue.rows) p.kept) p.doubt m.doubt refl (keeps_itself tells (beside p.at p.limbo)) s.sound cut s.doubt (undoubted (take (length p.at.catalogue.rows) p.kept)) (inl (rests_has tells p m r));
         any_moment = λ told. passes_none (λ a image. HoldsChanged (granularities p.at.manifests) change m image) p.at.past (λ image left. inl (s.store.before, has_left tells p.at s.store.before (rests_has tells p m r) told image left, s.store.holds));
         faults = omega arith;
         cause = λ is. absurd (cc (is));

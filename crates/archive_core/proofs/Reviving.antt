@@ -124,10 +124,13 @@ stands_at (f ∷ files) row t = by_test (is_at row t f) refl (stands_at files ro
     by_test : (b : Bool) → is_at row t f ≡ b → StandsAt files row t (samples_at files row t) → StandsAt (f ∷ files) row t (cond b f.samples (samples_at files row t))
     by_test true is rest = inl (f, contains_head f files, grind (arith, nat_tests, is), (grind (arith, nat_tests, is), grind (arith, nat_tests, is)), refl)
     by_test false is (inl (g, there, own, lies, same)) = inl (g, contains_tail f files g there, own, lies, same)
-    by_test false is (inr (none, same)) = inr ((λ g there own lies. elim (contains_cases f files g there) [
-      | inl one ↦ (let yes : is_at row t f ≡ true = ap (is_at row t) one ∙ at_true row t g own lies.0 lies.1 in let both : true ≡ false = sym yes ∙ is in cc (both))
-      | inr later ↦ none g later own lies
-    ]), same)
+    by_test false is (inr (none, same)) = inr (
+      (λ g there own lies. elim (contains_cases f files g there) [
+        | inl one ↦ (let yes : is_at row t f ≡ true = ap (is_at row t) one ∙ at_true row t g own lies.0 lies.1 in let both : true ≡ false = sym yes ∙ is in cc (both))
+        | inr later ↦ none g later own lies
+      ]),
+      same,
+    )
 
 short_by : (store : Store) → index_of store + 1 ≡ 1 → store ≡ Short
 short_by Short is = refl

@@ -27,13 +27,15 @@ use Rattle.archive_core.proofs.PinTies.{pins_stay, names_at}
 use Rattle.three_stores.specs.Pinned.{beside}
 use Rattle.three_stores.specs.Change.{Has}
 use Rattle.three_stores.specs.Seen.{Seen}
+use Rattle.three_stores.specs.declared.limbo.Retired.{Retired}
 
 -- the stores are as much those of the machine
-between_rows : (tells : Bool) (at : Seen) (m : Machine) (g : ℕ → RowState → RowState) → ((i : ℕ) (r : RowState) → kept_of (g i r) ≡ kept_of r) → IsBetween tells at m → IsBetween tells at (with_rows m g)
-between_rows tells at m g stays s = record {
+between_rows : (tells : Bool) (at : Seen) (limbo : List Retired) (m : Machine) (g : ℕ → RowState → RowState) → ((i : ℕ) (r : RowState) → kept_of (g i r) ≡ kept_of r) → IsBetween tells at limbo m → IsBetween tells at limbo (with_rows m g)
+between_rows tells at limbo m g stays s = record {
   before = s.before;
   told = s.told;
   holds = subst (λ (ds : List DurableRow). AreDurable m.told s.before ds) (sym (kept_each g 0 m.rows stays)) s.holds;
+  whole = s.whole;
   is_open = by_open s.is_open;
 }
   where
@@ -67,7 +69,6 @@ row_stands tells p m s i f memory new row r here there is others stays sound = r
   sound = sound;
   rule = s.rule;
   limbo = limbo_rows tells p.at p.limbo m.told m.rows (each (at i f) 0 m.rows) m.limbo (names_at i f m.rows stays) (λ off. bare_each (at i f) m.rows (at_stays i f stays) (s.limbo.bare off)) s.limbo;
-  none_short = s.none_short;
   moves = s.moves;
   pins = pins_stay tells (beside p.at p.limbo) (beside p.at p.limbo) m.told m.rows (each (at i f) 0 m.rows) m.pins p.pinned (λ name bytes shown. shown) (names_at i f m.rows stays) s.pins;
   faults = s.faults;
@@ -75,7 +76,7 @@ row_stands tells p m s i f memory new row r here there is others stays sound = r
   rows = rows_at p.at.catalogue.rows p.kept p.tails new m.rows s.rows i f memory row r here there is others;
   doubt = s.doubt;
   ready = still_ready p.kept m.rows i f memory (slice_get_within m.rows i r there) stays m.doubt s.ready;
-  store = between_rows tells p.at m (at i f) (at_stays i f stays) s.store;
+  store = between_rows tells p.at p.limbo m (at i f) (at_stays i f stays) s.store;
 }
 
 -- spares change
@@ -84,7 +85,6 @@ spared_stands tells p m new s same = record {
   sound = s.sound;
   rule = s.rule;
   limbo = s.limbo;
-  none_short = s.none_short;
   moves = s.moves;
   pins = s.pins;
   faults = s.faults;
@@ -108,7 +108,6 @@ doors_stand tells p m doors d same s = record {
   sound = s.sound;
   rule = s.rule;
   limbo = s.limbo;
-  none_short = s.none_short;
   moves = s.moves;
   pins = s.pins;
   faults = s.faults;
@@ -116,7 +115,7 @@ doors_stand tells p m doors d same s = record {
   rows = s.rows;
   doubt = s.doubt;
   ready = s.ready;
-  store = record { before = s.store.before; told = s.store.told; holds = s.store.holds; is_open = by_open s.store.is_open };
+  store = record { before = s.store.before; told = s.store.told; holds = s.store.holds; whole = s.store.whole; is_open = by_open s.store.is_open };
 }
   where
     by_open : Has tells p.at s.store.before ⊎ InDoubt tells p.at s.store.before m → Has tells p.at s.store.before ⊎ InDoubt tells p.at s.store.before (record m { doors = d })
@@ -129,7 +128,6 @@ pins_stand tells p m pins pinned are sound s = record {
   sound = sound;
   rule = s.rule;
   limbo = s.limbo;
-  none_short = s.none_short;
   moves = s.moves;
   pins = are;
   faults = s.faults;
@@ -137,7 +135,7 @@ pins_stand tells p m pins pinned are sound s = record {
   rows = s.rows;
   doubt = s.doubt;
   ready = s.ready;
-  store = record { before = s.store.before; told = s.store.told; holds = s.store.holds; is_open = by_open s.store.is_open };
+  store = record { before = s.store.before; told = s.store.told; holds = s.store.holds; whole = s.store.whole; is_open = by_open s.store.is_open };
 }
   where
     by_open : Has tells p.at s.store.before ⊎ InDoubt tells p.at s.store.before m → Has tells p.at s.store.before ⊎ InDoubt tells p.at s.store.before (record m { pins = pins })

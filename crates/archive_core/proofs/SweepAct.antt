@@ -1,9 +1,8 @@
 -- The act that sweeps: how it ends, and what a crash within it leaves.
-use Rattle.std.proofs.Common.{◌≡◌, ◌≢◌, ◌⊎◌, inl, inr, ℕ, ◌+◌, ◌≤◌, List, [], ◌∷◌, length, get_or, Bool, true, false, Option, Some, None, Result, Ok, Err, refl, sym, ◌∙◌, ap, subst, arith}
+use Rattle.std.proofs.Common.{◌≡◌, ◌⊎◌, inl, inr, ℕ, ◌+◌, ◌≤◌, List, [], ◌∷◌, length, Bool, true, false, Option, Some, None, Result, Ok, Err, refl, sym, ◌∙◌, ap, subst, arith}
 use Rattle.std.specs.FinMap.{FinMap, empty, get, get-empty}
 use Rattle.std.specs.Ordering.{nat_cmp}
 use Rattle.std.specs.Prelude.{◌↔◌, Contains, IfOk, IsTrue, OnErr, filter, not, slice_get}
-use Rattle.std.proofs.lemmas.List.Elements.{All-contains, Contains-get_or}
 use Rattle.disk_model.specs.Files.{Name, Rose}
 use Rattle.disk_model.specs.Past.{Passes}
 use Rattle.disk_model.specs.declared.disk.DiskErr.{DiskErr}
@@ -17,13 +16,13 @@ use Rattle.tier_store.specs.Ends.{Done, end_of_disk, IsFailed}
 use Rattle.tier_store.proofs.Acting.{rose_after}
 use Rattle.three_stores.specs.Change.{Acts as StoreActs, EndsFrom, Has, HoldsChange, IsEither, OnlyReads}
 use Rattle.three_stores.specs.Limbo.{IsListedName, IsNeeded, IsSwept as IsSweptOf, LeavesKept, LimboStands, staying}
-use Rattle.three_stores.specs.Pinned.{SeenAll, beside, KeepsShown, NoneOf}
+use Rattle.three_stores.specs.Pinned.{SeenAll, beside, KeepsShown}
+use Rattle.three_stores.specs.Revival.{KeepsWhole}
 use Rattle.three_stores.specs.Seen.{Seen, IsSettled, granularities}
 use Rattle.three_stores.specs.Stored.{HoldsAll}
 use Rattle.three_stores.specs.Stores.{Stores}
 use Rattle.three_stores.specs.declared.limbo.Retired.{Retired}
 use Rattle.three_stores.specs.declared.removing.Swept.{Swept}
-use Rattle.three_stores.proofs.Staying.{stay_from}
 use Rattle.act_model.specs.Changes.{no_doubt}
 use Rattle.act_model.specs.Crash.{settled_there}
 use Rattle.act_model.specs.Limbo.{FileState}
@@ -60,6 +59,7 @@ pub record StoresSwept (tells : Bool) (copied : List Name) (q new : Parts) (resu
   pub swept : IfOk result (λ (s : Swept). IsSweptOf new.at q.pinned copied q.limbo new.limbo s.files)
   pub failed : OnErr result ((new.limbo ≡ q.limbo) × KeepsShown tells (beside q.at q.limbo) (beside new.at q.limbo))
   pub leaves : LeavesKept tells q.pinned copied (beside q.at q.limbo) (beside new.at new.limbo)
+  pub whole : KeepsWhole tells (beside q.at q.limbo) (beside new.at new.limbo)
   pub stands : LimboStands new.at new.limbo
   pub pins : new.pinned ≡ q.pinned
   pub nothing : IsSettled q.at → (new.at.catalogue ≡ q.at.catalogue) × (new.at.manifests ≡ q.at.manifests)
@@ -102,7 +102,7 @@ module _ (tells : Bool) (copied : List Name) (q new : Parts) (result : Result Sw
   -- where limbo and all that was shown stay, the archive stands for the same machine
   stands_still : (new.limbo ≡ q.limbo) × KeepsShown tells (beside q.at q.limbo) (beside new.at q.limbo) → Stands tells new (record m { faults = new.at.faults })
   stands_still stay =
-      let again = rests_again tells q m r new.at s.acts.costs.granularity stay.1 has_still in
+      let again = rests_again tells q m r new.at s.acts.costs.granularity (record { shown = stay.1; whole = subst (λ (l : List Retired). KeepsWhole tells (beside q.at q.limbo) (beside new.at l)) stay.0 s.whole }) has_still in
       subst (λ (p : Parts). Stands tells p (record m { faults = new.at.faults })) (sym same) (stands_so tells (record q { at = new.at }) (record m { faults = new.at.faults }) new.limbo new.pinned stay.0 s.pins again)
 
   -- at each moment the disk has what is durable
@@ -227,22 +227,11 @@ module _ (tells : Bool) (copied : List Name) (q new : Parts) (said : Swept) (s :
   pub sweeps : Sweeps m (answer.Swept files) swept_machine
   sweeps = record { stays = left.stays; just = left.just; files = files; number = left.number; answered = refl; same = refl }
 
-  -- no file of store 1 comes to limbo
-  none_short : NoneOf 1 new.limbo
-  none_short = λ k d low. by_file (get_or new.limbo k d) (Contains-get_or new.limbo k d low)
-    where
-      by_file : (file : Retired) → Contains new.limbo file → file.name.0 ≢ 1
-      by_file file there =
-          let in_retired = stay_from (λ r. IsNeeded q.pinned copied r.name) (λ r. IsNeeded q.pinned copied r.name → ⊥) swept.retired new.limbo file swept.needed there in
-          let in_old = stay_from (λ r. IsListedName new.at r.name → ⊥) (λ r. IsListedName new.at r.name) q.limbo swept.retired file swept.unlisted in_retired.0 in
-          All-contains (λ (x : Retired). x.name.0 ≢ 1) q.limbo file r.stands.none_short in_old.0
-
   pub swept_stands : Stands tells new swept_machine
   swept_stands = subst (λ (p : Parts). Stands tells p swept_machine) (sym same) (record {
     sound = sweep_sound m swept_machine (answer.Swept files) r.stands.sound (runs (answer.Swept files) refl (no_doubt r.settled) refl sweeps (let same_faults : m.faults ≡ q.at.faults = r.stands.faults in let more = s.acts.costs.faults in omega (arith, same_faults, more)));
     rule = record { granularity = r.stands.rule.granularity ∙ sym s.acts.costs.granularity; headers = r.stands.rule.headers };
     limbo = left.tie;
-    none_short = none_short;
     moves = r.stands.moves;
     pins = subst (λ (pinned : FinMap nat_cmp PinOf). ArePinsOf tells new_all m.told m.rows m.pins pinned) (sym s.pins) pins_kept;
     faults = refl;
@@ -250,7 +239,7 @@ module _ (tells : Bool) (copied : List Name) (q new : Parts) (said : Swept) (s :
     rows = subst (λ (c : CatalogueState). AreRowsOf c.rows q.kept q.tails m.rows) (sym (s.nothing was.settled).0) r.stands.rows;
     doubt = r.stands.doubt;
     ready = r.stands.ready;
-    store = record { before = before; told = r.stands.store.told; holds = r.stands.store.holds; is_open = inl now };
+    store = record { before = before; told = r.stands.store.told; holds = r.stands.store.holds; whole = s.whole before.stands r.stands.store.whole.0 r.stands.store.whole.1; is_open = inl now };
   })
 
 -- THE ACT

@@ -12,7 +12,7 @@ use Rattle.pv_catalog.specs.declared.error.StateErr.TheVariants as of_state
 use Rattle.pv_catalog.specs.declared.row.Row.{Row}
 use Rattle.tier_store.specs.Ends.{Done, Refused, Failed, Spent}
 use Rattle.three_stores.specs.Change.{Acts, Has, EndsFrom, Switches}
-use Rattle.three_stores.specs.Pinned.{beside, KeepsShown}
+use Rattle.three_stores.specs.Pinned.{beside}
 use Rattle.three_stores.specs.Seen.{Seen, granularities}
 use Rattle.three_stores.specs.Stores.{Stores}
 use Rattle.act_model.specs.Changes.{made}
@@ -30,12 +30,13 @@ use Rattle.archive_core.specs.Ends.{ChangesTo}
 use Rattle.archive_core.specs.Memory.{IsCleared, cleared}
 use Rattle.archive_core.specs.Parts.{Parts}
 use Rattle.archive_core.specs.Stands.{Stands, Rests, IsDoubtOf, StoresGrow, InDoubt, HoldsDurable}
+use Rattle.archive_core.proofs.Keeping.{Keeps, keeps_itself}
 use Rattle.archive_core.proofs.Growth.{switch_grows}
 use Rattle.archive_core.specs.Switching.{IsFound, IsUnset, from_of, to_of, wrong_of, wrong_reply, switching, switch_reply}
 use Rattle.archive_core.proofs.Changing.{call_passes, call_failed, rests_again}
 use Rattle.archive_core.proofs.KeptRows.{find_is, row_at}
 use Rattle.archive_core.proofs.Making.{switch_holds}
-use Rattle.archive_core.proofs.Settled.{rests_has, doubt_stands, made_stands, open_rows, no_own}
+use Rattle.archive_core.proofs.Settled.{rests_has, doubt_stands, made_stands, open_rows, no_own, grew}
 
 -- REFUSALS
 
@@ -124,7 +125,7 @@ module _ (tells : Bool) (p : Parts) (m : Machine) (r : Rests tells p m) (i : ℕ
   grow after by = switch_grows p.at i (from_of switch) (to_of switch) r.stands.store.before after (rests_has tells p m r).known (switches_by switch i r.stands.store.before after by)
 
   -- with the change in doubt
-  doubting : (new : Seen) → granularities new.manifests ≡ granularities p.at.manifests → KeepsShown tells (beside p.at p.limbo) (beside new p.limbo) → Has tells new r.stands.store.before ⊎ InDoubt tells new r.stands.store.before (record m { doubt = Some change; faults = new.faults })
+  doubting : (new : Seen) → granularities new.manifests ≡ granularities p.at.manifests → Keeps tells (beside p.at p.limbo) (beside new p.limbo) → Has tells new r.stands.store.before ⊎ InDoubt tells new r.stands.store.before (record m { doubt = Some change; faults = new.faults })
       → Stands tells (record p { at = new; doubt = Some (kind.State i (to_of switch)) }) (record m { doubt = Some change; faults = new.faults })
   doubting new same_g shown is_open =
       let s = r.stands in
@@ -133,7 +134,7 @@ module _ (tells : Bool) (p : Parts) (m : Machine) (r : Rests tells p m) (i : ℕ
       let sound = with_doubt m.rule m.told m.rows m.limbo m.pins m.moves m.doubt change s.sound (tt, tt) in
       doubt_stands tells p m s new p.kept (Some (kind.State i (to_of switch))) (Some change) same_g shown sound s.rows refl (at.0, at.1, other) is_open
 
-  pub switch_done : (new : Seen) → KeepsShown tells (beside p.at p.limbo) (beside new p.limbo) → (a : Unit {0}) (memory : RowMemory) → slice_get p.kept i ≡ Some memory → Acts tells (switching switch i) p.at new (Done a) → ChangesTo tells change p m (record p { at = new; kept = slice_set p.kept i (cleared memory) }) (Ok a)
+  pub switch_done : (new : Seen) → Keeps tells (beside p.at p.limbo) (beside new p.limbo) → (a : Unit {0}) (memory : RowMemory) → slice_get p.kept i ≡ Some memory → Acts tells (switching switch i) p.at new (Done a) → ChangesTo tells change p m (record p { at = new; kept = slice_set p.kept i (cleared memory) }) (Ok a)
   switch_done new shown a memory there acts = record {
     ends = own_doubt;
     any_moment = call_passes tells (switching switch i) change p m r durable new (Done a) acts;
@@ -159,8 +160,8 @@ module _ (tells : Bool) (p : Parts) (m : Machine) (r : Rests tells p m) (i : ℕ
 
       stands : Stands tells (record { at = new; limbo = p.limbo; pinned = p.pinned; tails = p.tails; kept = set; doubt = None; doors = p.doors }) (record (made [] change m) { doubt = None; faults = new.faults })
       stands =
-          let was = doubting p.at refl (λ name bytes s. s) (inl (rests_has tells p m r)) in
-          (made_stands tells (record p { doubt = Some (kind.State i (to_of switch)) }) (record m { doubt = Some change; faults = p.at.faults }) was new set acts.costs.granularity shown p.tails change refl end.0 (r.stands.store.before, (rests_has tells p m r).known, grow end.0 end.1) (r.stands.store.told ∙ ap (λ (b : Bool). tells && b) (sym (stand end.0 end.1))) (durable end.0 end.1) (clears new.catalogue.rows i (to_of switch) p.kept memory there has_it) refl end.3).stands
+          let was = doubting p.at refl (keeps_itself tells (beside p.at p.limbo)) (inl (rests_has tells p m r)) in
+          (made_stands tells (record p { doubt = Some (kind.State i (to_of switch)) }) (record m { doubt = Some change; faults = p.at.faults }) was new set acts.costs.granularity shown p.tails change refl end.0 (grew tells p m r.stands new shown end.0 (stand end.0 end.1) (grow end.0 end.1)) (r.stands.store.told ∙ ap (λ (b : Bool). tells && b) (sym (stand end.0 end.1))) (durable end.0 end.1) (clears new.catalogue.rows i (to_of switch) p.kept memory there has_it) refl end.3).stands
 
       machines : Stands tells (record { at = new; limbo = p.limbo; pinned = p.pinned; tails = p.tails; kept = set; doubt = None; doors = p.doors }) (record (made [] change m) { faults = new.faults })
       machines = subst (λ (o : Option Change). Stands tells (record { at = new; limbo = p.limbo; pinned = p.pinned; tails = p.tails; kept = set; doubt = None; doors = p.doors }) (record (made [] change m) { doubt = o; faults = new.faults })) (sym r.settled) stands
@@ -168,7 +169,7 @@ module _ (tells : Bool) (p : Parts) (m : Machine) (r : Rests tells p m) (i : ℕ
       own_doubt : Stands tells (record p { at = new; kept = set }) (record (made [] change m) { faults = new.faults })
       own_doubt = subst (λ (d : Option Doubt). Stands tells (record { at = new; limbo = p.limbo; pinned = p.pinned; tails = p.tails; kept = set; doubt = d; doors = p.doors }) (record (made [] change m) { faults = new.faults })) (sym (no_own p.doubt (subst (λ (o : Option Change). IsDoubtOf p.doubt o) r.settled r.stands.doubt))) machines
 
-  pub switch_failed : (new : Seen) → KeepsShown tells (beside p.at p.limbo) (beside new p.limbo) → Acts tells (switching switch i) p.at new Failed → ChangesTo {A = Unit {0}} tells change p m (record p { at = new; doubt = Some (kind.State i (to_of switch)) }) (Err Fault)
+  pub switch_failed : (new : Seen) → Keeps tells (beside p.at p.limbo) (beside new p.limbo) → Acts tells (switching switch i) p.at new Failed → ChangesTo {A = Unit {0}} tells change p m (record p { at = new; doubt = Some (kind.State i (to_of switch)) }) (Err Fault)
   switch_failed new shown acts = record {
     ends = doubting new acts.costs.granularity shown (call_failed tells (switching switch i) change p m r durable new stand grow (acts.settled r.stands.store.before (rests_has tells p m r)));
     any_moment = call_passes tells (switching switch i) change p m r durable new Failed acts;
@@ -176,7 +177,7 @@ module _ (tells : Bool) (p : Parts) (m : Machine) (r : Rests tells p m) (i : ℕ
     cause = λ is. acts.costs.cause tt;
   }
 
-  pub switch_spent : (new : Seen) → KeepsShown tells (beside p.at p.limbo) (beside new p.limbo) → Acts tells (switching switch i) p.at new Spent → ChangesTo {A = Unit {0}} tells change p m (record p { at = new }) (Err Memory)
+  pub switch_spent : (new : Seen) → Keeps tells (beside p.at p.limbo) (beside new p.limbo) → Acts tells (switching switch i) p.at new Spent → ChangesTo {A = Unit {0}} tells change p m (record p { at = new }) (Err Memory)
   switch_spent new shown acts = record {
     ends = rests_again tells p m r new acts.costs.granularity shown (acts.settled r.stands.store.before (rests_has tells p m r));
     any_moment = call_passes tells (switching switch i) change p m r durable new Spent acts;

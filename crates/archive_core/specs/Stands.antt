@@ -9,11 +9,13 @@ use Rattle.payload_info.specs.declared.info.PayloadInfo.{PayloadInfo}
 use Rattle.pv_catalog.specs.Rows.{KeepsRows}
 use Rattle.pv_catalog.specs.declared.row.Row.{Row}
 use Rattle.series_model.specs.declared.batch.RowSamples.{RowSamples}
-use Rattle.tier_store.specs.Held.{IsListedTo, listing_of, samples_of}
+use Rattle.tier_store.specs.Held.{Filed, IsListedTo, listing_of, samples_of}
 use Rattle.three_stores.specs.Stores.{Stores, tier}
 use Rattle.three_stores.specs.Seen.{Seen, granularities}
 use Rattle.three_stores.specs.Change.{Has, Doubts}
-use Rattle.three_stores.specs.Pinned.{beside, NoneOf}
+use Rattle.three_stores.specs.Pinned.{beside}
+use Rattle.three_stores.specs.Revival.{AreWhole}
+use Rattle.three_stores.specs.declared.limbo.Retired.{Retired}
 use Rattle.act_model.specs.Rows.{RowState, is_empty}
 use Rattle.act_model.specs.Machine.{Machine, Change, AddsRow, SetsState, Appends, Publishes, Unlists}
 use Rattle.act_model.specs.Changes.{made}
@@ -97,11 +99,13 @@ pub record InDoubt (tells : Bool) (at : Seen) (before : Stores) (m : Machine) : 
   pub grow : StoresGrow before after
   pub holds : HoldsDurable after (made [] change m)
 
--- the stores have what is durable of the machine, or are in doubt whether they have it with the doubted change
-pub record IsBetween (tells : Bool) (at : Seen) (m : Machine) : Type 0 where
+-- The stores have what is durable of the machine, or are in doubt whether they have it with the doubted change. The files in limbo of store 1
+-- are whole beside them, so that a flush may go on in one.
+pub record IsBetween (tells : Bool) (at : Seen) (limbo : List Retired) (m : Machine) : Type 0 where
   pub before : Stores
   pub told : m.told ≡ (tells && before.stands)
   pub holds : HoldsDurable before m
+  pub whole : (files : List Filed) × AreWhole tells at limbo before.stands files
   pub is_open : Has tells at before ⊎ InDoubt tells at before m
 
 -- the rule tells each header by its type and its year
@@ -113,12 +117,11 @@ pub record IsRuleOf (at : Seen) (rule : Rule) : Type 0 where
   pub granularity : rule.granularity ≡ granularities at.manifests
   pub headers : TellsHeaders rule
 
--- The archive stands for the machine. No act of it makes a move yet, and none retires a file of store 1.
+-- The archive stands for the machine. No act of it makes a move yet.
 pub record Stands (tells : Bool) (p : Parts) (m : Machine) : Type 0 where
   pub sound : IsSound m
   pub rule : IsRuleOf p.at m.rule
   pub limbo : IsLimboOf tells (beside p.at p.limbo) m.told m.rows m.limbo
-  pub none_short : NoneOf 1 p.limbo
   pub moves : m.moves ≡ empty
   pub pins : ArePinsOf tells (beside p.at p.limbo) m.told m.rows m.pins p.pinned
   pub faults : m.faults ≡ p.at.faults
@@ -126,7 +129,7 @@ pub record Stands (tells : Bool) (p : Parts) (m : Machine) : Type 0 where
   pub rows : AreRowsOf p.at.catalogue.rows p.kept p.tails m.rows
   pub doubt : IsDoubtOf p.doubt m.doubt
   pub ready : IsReady p.kept m.rows m.doubt
-  pub store : IsBetween tells p.at m
+  pub store : IsBetween tells p.at p.limbo m
 
 -- nothing stands in doubt, so the stores have what is durable of the machine
 pub record Rests (tells : Bool) (p : Parts) (m : Machine) : Type 0 where

@@ -2,11 +2,12 @@ use Rattle.std.proofs.Common.{List, ap, ◌∙◌, subst}
 use Rattle.series_model.specs.declared.sample.Sample.{Sample}
 use Rattle.three_stores.specs.Details.{SaysDescribed}
 use Rattle.three_stores.specs.Opening.{end_of_answer}
-use Rattle.three_stores.specs.Pinned.{beside, KeepsShown}
+use Rattle.three_stores.specs.Pinned.{beside}
 use Rattle.three_stores.specs.Seen.{seen}
 use Rattle.three_stores.specs.Settling.{SettlesAndReads}
 use Rattle.three_stores.specs.declared.limbo.Retired.{Retired}
 use Rattle.archive_core.specs.Parts.{parts}
+use Rattle.archive_core.proofs.Keeping.{Keeps}
 use Rattle.archive_core.proofs.DetailsAct.{details_end, details_answer}
 use Rattle.archive_core.proofs.Settled.{begun}
 use Rattle.archive_core.proofs.archive.Archive.describe_row.Goals as goal
@@ -21,7 +22,7 @@ returns-clause-describes g c = λ m r.
     let new = seen g.D.Disk c.details.new.self in
     let limbo = ap (λ l. l.items) call.limbo in
     let settles = subst (λ (xs : List Sample). SettlesAndReads g.D.Disk.tells (SaysDescribed {R = g.row.D-Reader.Denot} g.D.Disk.tells c.args.name.now xs) p.at new (end_of_answer c.details.result)) (c.in_ok-tail.ensures ∙ c.tail.ensures) (call.settles c.args.row c.requires.named) in
-    let shown = subst (λ (l : List Retired). KeepsShown g.D.Disk.tells (beside p.at p.limbo) (beside new l)) limbo call.shown in
+    let shown = subst (λ (l : List Retired). Keeps g.D.Disk.tells (beside p.at p.limbo) (beside new l)) limbo (record { shown = call.shown; whole = call.whole }) in
     let ends = details_end g.row.D-Reader.Denot g.D.Disk.tells g.D.Reader.ReadAt.tells g.D.Reader.ReadAt.bytes g.D.Reader.ReadAt.faults p m r c.args.row c.args.name.now c.requires.named c.details.result new settles shown in
     rw (call.limbo, call.pins) ends
 
@@ -33,7 +34,7 @@ returns-clause-answers g c =
     let new = seen g.D.Disk c.details.new.self in
     let limbo = ap (λ l. l.items) call.limbo in
     let settles = subst (λ (xs : List Sample). SettlesAndReads g.D.Disk.tells (SaysDescribed {R = g.row.D-Reader.Denot} g.D.Disk.tells c.args.name.now xs) p.at new (end_of_answer c.details.result)) (c.in_ok-tail.ensures ∙ c.tail.ensures) (call.settles c.args.row c.requires.named) in
-    let shown = subst (λ (l : List Retired). KeepsShown g.D.Disk.tells (beside p.at p.limbo) (beside new l)) limbo call.shown in
+    let shown = subst (λ (l : List Retired). Keeps g.D.Disk.tells (beside p.at p.limbo) (beside new l)) limbo (record { shown = call.shown; whole = call.whole }) in
     details_answer g.row.D-Reader.Denot g.D.Disk.tells g.D.Reader.ReadAt.tells g.D.Reader.ReadAt.bytes g.D.Reader.ReadAt.faults p was.0 was.1 c.args.row c.args.name.now c.requires.named c.details.result new settles shown
 
 pub returns-clause-faults : goal.returns-clause-faults

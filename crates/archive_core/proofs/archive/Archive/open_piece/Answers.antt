@@ -31,7 +31,7 @@ returns-clause-step g c = λ m s.
     let same = call.same in
     let p = parts g.D.Disk c.args.self.now in
     let new = seen g.D.Disk c.open_piece.new.self in
-    let keeps = keeps_pins g.D.Disk.tells p new c.open_piece.new.self.limbo.items c.open_piece.new.self.pinned (ap (λ l. l.items) same.3) same.2 call.shown in
+    let keeps = keeps_pins g.D.Disk.tells p new c.open_piece.new.self.limbo.items c.open_piece.new.self.pinned (ap (λ l. l.items) same.3) same.2 (record { shown = call.shown; whole = call.whole s.limbo.stands }) in
     let ends = open_ends g.row.D-Reader.Denot g.D.Disk.tells g.D.Reader.ReadAt.tells g.D.Reader.ReadAt.bytes g.D.Reader.ReadAt.faults g.met.D.Disk.readers p c.args.who c.args.pin c.args.i c.open_piece.result new
     (λ e is. let told = call.refused e is in (told.0, ap (λ store. seen g.D.Disk store) told.1)) (λ own is none. let told = call.no_piece own is none in (told.0, ap (λ store. seen g.D.Disk store) told.1)) call.piece
     call.kept same.0 (ap (λ l. l.items) same.1) keeps.shown call.reads.faults call.reads.cause m s in

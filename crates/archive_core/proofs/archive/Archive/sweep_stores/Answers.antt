@@ -44,7 +44,7 @@ returns-clause-step g c =
     let call = c.sweep.ensures in
     let new = record q { at = seen g.D.Disk c.sweep.new.self; limbo = c.sweep.new.self.limbo.items; pinned = c.sweep.new.self.pinned } in
     sweep_ends g.D.Disk.tells (parts g.D.Disk c.args.self.now) q c.in_ok-settle.ensures.settled c.settle.ensures.reads.faults new _ refl (λ m r. none_copied _ m refl r.stands.moves) c.sweep.result
-    (record { acts = call.acts; swept = call.swept; failed = on_err c.sweep.result _ _ (λ stay. (ap (λ l. l.items) stay.0, λ name bytes shown. subst (λ (l : List Retired). Shows g.D.Disk.tells (beside new.at l) name bytes) (ap (λ l. l.items) stay.0) (stay.1 name bytes shown))) call.failed; leaves = call.leaves; stands = call.stands; pins = call.pins; nothing = λ settled. (let same = call.nothing settled in (same.0, ap (λ l. l.items) same.1)) })
+    (record { acts = call.acts; swept = call.swept; failed = on_err c.sweep.result _ _ (λ stay. (ap (λ l. l.items) stay.0, λ name bytes shown. subst (λ (l : List Retired). Shows g.D.Disk.tells (beside new.at l) name bytes) (ap (λ l. l.items) stay.0) (stay.1 name bytes shown))) call.failed; leaves = call.leaves; whole = call.whole; stands = call.stands; pins = call.pins; nothing = λ settled. (let same = call.nothing settled in (same.0, ap (λ l. l.items) same.1)) })
 
 pub returns-clause-crash : goal.returns-clause-crash
 returns-clause-crash g c =
@@ -52,5 +52,5 @@ returns-clause-crash g c =
     let call = c.sweep.ensures in
     let new = record q { at = seen g.D.Disk c.sweep.new.self; limbo = c.sweep.new.self.limbo.items; pinned = c.sweep.new.self.pinned } in
     crash_sweep g.D.Disk.tells (parts g.D.Disk c.args.self.now) q c.in_ok-settle.ensures.settled c.settle.ensures.reads.faults new _ refl (λ m r. none_copied _ m refl r.stands.moves) c.sweep.result
-    (record { acts = call.acts; swept = call.swept; failed = on_err c.sweep.result _ _ (λ stay. (ap (λ l. l.items) stay.0, λ name bytes shown. subst (λ (l : List Retired). Shows g.D.Disk.tells (beside new.at l) name bytes) (ap (λ l. l.items) stay.0) (stay.1 name bytes shown))) call.failed; leaves = call.leaves; stands = call.stands; pins = call.pins; nothing = λ settled. (let same = call.nothing settled in (same.0, ap (λ l. l.items) same.1)) })
+    (record { acts = call.acts; swept = call.swept; failed = on_err c.sweep.result _ _ (λ stay. (ap (λ l. l.items) stay.0, λ name bytes shown. subst (λ (l : List Retired). Shows g.D.Disk.tells (beside new.at l) name bytes) (ap (λ l. l.items) stay.0) (stay.1 name bytes shown))) call.failed; leaves = call.leaves; whole = call.whole; stands = call.stands; pins = call.pins; nothing = λ settled. (let same = call.nothing settled in (same.0, ap (λ l. l.items) same.1)) })
     c.settle.ensures.reads.any_moment c.settle.ensures.granularity
