@@ -50,3 +50,4 @@ pub mod FlushOver
 pub mod PartsGrow
 pub mod Beside
 pub mod Keeping
+pub mod MoveChanges

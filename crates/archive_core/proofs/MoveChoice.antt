@@ -248,7 +248,7 @@ next_list Long s apart = absurd (apart refl)
 -- THE FILES OF A ROW
 
 -- they are of the store's partitions, each ends before the next one starts, and together they have what the machine's store lists
-record RowFiles (rule : Rule) (s : Stores) (store : Store) (i : ℕ) (row : RowState) : Type 0 where
+pub record RowFiles (rule : Rule) (s : Stores) (store : Store) (i : ℕ) (row : RowState) : Type 0 where
   pub unit : Granularity
   pub of_store : slice_get rule.granularity (index_of store) ≡ Some unit
   pub filed : All (IsFiled unit s.rows) (row_files s store i)
@@ -261,7 +261,7 @@ module _ (catalogue : CatalogueState) (ms : List ManifestState) (s : Stores) (m 
   tier_held Medium = (have.holds.each i (kept_of row) (kept_to m.rows i row here)).is.medium told
   tier_held Long = (have.holds.each i (kept_of row) (kept_to m.rows i row here)).is.long told
 
-  files_held : (store : Store) → RowFiles m.rule s store i row
+  pub files_held : (store : Store) → RowFiles m.rule s store i row
   files_held store =
       let three = have.known.three in
       let low = index_low store in

@@ -49,7 +49,7 @@ row_apart g rows id (f ∷ fs) filed rise own = (behind fs (All-tail (IsFiled g 
 abbrev Inside : Part → Sample → Type 0
 Inside p s = HoldsMoment p s.t
 
-rises_inside : (n : ℕ) (p : Part) (xs : List Sample) → n ≤ p.start → IsRising xs → All (Inside p) xs → RisesFrom n xs
+pub rises_inside : (n : ℕ) (p : Part) (xs : List Sample) → n ≤ p.start → IsRising xs → All (Inside p) xs → RisesFrom n xs
 rises_inside n p [] low rising inside = tt
 rises_inside n p (x ∷ xs) low rising inside = let here : Inside p x = All-head (Inside p) x xs inside in let from = here.0 in (omega (arith, from, low), rising.1)
 
@@ -74,7 +74,7 @@ before-append n (x ∷ xs) ys = by_test (nat_lt x.t n) (before-append n xs ys)
     by_test false rest = rest
 
 -- files that start at n or later have no sample before n
-from_there : (g : Granularity) (rows : List Row) (n : ℕ) (fs : List Filed) → All (IsFiled g rows) fs → AreApart fs → AllByRecursion (λ (f : Filed). n ≤ f.entry.part.start) fs → RisesFrom n (all_in fs)
+pub from_there : (g : Granularity) (rows : List Row) (n : ℕ) (fs : List Filed) → All (IsFiled g rows) fs → AreApart fs → AllByRecursion (λ (f : Filed). n ≤ f.entry.part.start) fs → RisesFrom n (all_in fs)
 from_there g rows n [] filed apart low = tt
 from_there g rows n (f ∷ fs) filed apart low =
     let is = All-head (IsFiled g rows) f fs filed in

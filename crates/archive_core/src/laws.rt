@@ -1,6 +1,7 @@
 //! What follows from standing for a machine, and what the stores' changes are to it.
 ghost use Rattle.std.specs.Prelude.{◌≡◌, ◌≢◌, ◌≤◌, ◌<◌, ◌&&◌, ℕ, List, Option, Some, IsTrue, [], true, slice_get};
 ghost use Rattle.std.specs.FinMap.{FinMap};
+ghost use Rattle.std.specs.List.{AllByRecursion};
 ghost use Rattle.std.specs.Ordering.{nat_cmp};
 ghost use Rattle.append_buffer.specs.Tails.{TailState};
 ghost use Rattle.disk_model.specs.Files.{Files};
@@ -11,30 +12,33 @@ ghost use Rattle.move_choice.specs.declared.series.ToMove.{ToMove};
 ghost use Rattle.pinned_pieces.specs.Pieces.{PinOf};
 ghost use Rattle.pv_catalog.specs.Catalogue.{CatalogueState};
 ghost use Rattle.series_model.specs.declared.batch.RowSamples.{RowSamples};
+ghost use Rattle.series_model.specs.declared.sample.Sample.{Sample};
 ghost use Rattle.store_manifest.specs.Manifest.{ManifestState};
 ghost use Rattle.three_stores.specs.Beginning.{IsChoice};
-ghost use Rattle.tier_store.specs.Held.{Filed};
+ghost use Rattle.tier_store.specs.Flush.{put_all};
+ghost use Rattle.tier_store.specs.Held.{Filed, samples_of};
 ghost use Rattle.three_stores.specs.Change.{Has, IsKnown, Registers, Switches, Flushes};
-ghost use Rattle.three_stores.specs.Moving.{GoesBeside};
+ghost use Rattle.three_stores.specs.Moving.{GoesBeside, ListsAlso};
 ghost use Rattle.three_stores.specs.Pinned.{beside};
+ghost use Rattle.three_stores.specs.Retiring.{without_oldest};
 ghost use Rattle.three_stores.specs.Revival.{AreWhole, FlushesOver};
 ghost use Rattle.three_stores.specs.Seen.{seen_on, granularities};
-ghost use Rattle.three_stores.specs.Stores.{Stores};
+ghost use Rattle.three_stores.specs.Stores.{Stores, list_at};
 ghost use Rattle.three_stores.specs.declared.limbo.Retired.{Retired};
 ghost use Rattle.act_model.specs.Changes.{made};
 ghost use Rattle.act_model.specs.Flush.{batch_of};
-ghost use Rattle.act_model.specs.Machine.{Machine, AddsRow, SetsState, Appends};
+ghost use Rattle.act_model.specs.Machine.{Machine, AddsRow, SetsState, Appends, Publishes, Unlists};
 ghost use Rattle.act_model.specs.MoveBegin.{parts_of};
 ghost use Rattle.act_model.specs.Parts.{AreParts};
-ghost use Rattle.act_model.specs.Limbo.{files_of};
-ghost use Rattle.act_model.specs.Rows.{RowState, Store, Short, Long, tier};
+ghost use Rattle.act_model.specs.Limbo.{files_of, put};
+ghost use Rattle.act_model.specs.Rows.{RowState, Store, Short, Long, next_store, tier};
 ghost use Rattle.act_model.specs.Rule.{index_of};
 ghost use Rattle.act_model.specs.Sound.{IsSound};
 ghost use Rattle.archive_core.specs.declared.memory.Doubt.{Doubt};
 ghost use Rattle.archive_core.specs.declared.memory.RowMemory.{RowMemory};
 ghost use Rattle.archive_core.specs.Ends.{LeavesBetween};
 ghost use Rattle.archive_core.specs.LimboTies.{IsLimboOf};
-ghost use Rattle.archive_core.specs.MoveChoice.{HaveDurable, AreNumbers, GoesOnBy, file_parts, move_rule, parts_to_move, row_files};
+ghost use Rattle.archive_core.specs.MoveChoice.{HaveDurable, AreNumbers, GoesOnBy, file_parts, move_end, move_rule, parts_to_move, row_files};
 ghost use Rattle.archive_core.specs.Stands.{Stands, HoldsDurable};
 
 use disk_model::Disk;
@@ -72,6 +76,16 @@ pub fn changes_go_beside_moves()
     ensures switch { (k : ℕ) (from to : State) (old new : Stores) (i row : ℕ) → Switches k from to old new → GoesBeside i row old new }
     ensures flush { (catalogue later : CatalogueState) (ms ns : List ManifestState) (limbo : List Retired) (files : List Filed) (batch : List RowSamples) (old new : Stores) (i row : ℕ)
         → IsKnown catalogue ms old → IsKnown later ns new → granularities ns ≡ granularities ms → FlushesOver limbo files batch old new → 1 ≤ i → i < 3 → GoesBeside i row old new }
+{}
+
+/// What the stores make of a move's changes is what the machine makes of them: of what a move has copied, once the next store lists it, and of
+/// a row's oldest files, once their store lists them no more.
+pub fn moves_change_the_machine()
+    ensures publish { (row : ℕ) (store : Store) (copied : List Sample) (files : List Filed) (old new : Stores) (m : Machine) → AllByRecursion (λ (f : Filed). f.entry.series ≡ row) files
+        → (m.told ≡ true → (r : RowState) → slice_get m.rows row ≡ Some r → samples_of row (put_all (list_at (index_of (next_store store)) old) files) ≡ put copied (files_of row (next_store store) m.limbo) (tier r (next_store store)))
+        → ListsAlso (index_of (next_store store)) files old new → HoldsDurable old m → HoldsDurable new (made [] (Publishes row store copied) m) }
+    ensures retire { (catalogue : CatalogueState) (ms : List ManifestState) (row n to : ℕ) (store : Store) (old : Stores) (m : Machine) → HaveDurable catalogue ms old m → (m.told ≡ true → to ≡ move_end old store row n)
+        → HoldsDurable (without_oldest (index_of store) row n old) (made [] (Unlists row store to) m) }
 {}
 
 /// A move that is chosen by what the stores list is the one that the machine chooses by its samples: the partitions of a row's listed files

@@ -1,4 +1,4 @@
-use Rattle.std.proofs.Common.{inl, refl, ℕ, List, [], Ok, Err, Some, Result, sym, ◌∙◌, ap, subst}
+use Rattle.std.proofs.Common.{inl, refl, ℕ, List, Ok, Err, Some, Result, sym, ◌∙◌, ap, subst}
 use Rattle.std.proofs.lemmas.Result.{err_from_is_err_and}
 use Rattle.append_buffer.specs.Tails.{batch_of}
 use Rattle.disk_model.specs.declared.disk.DiskErr.{DiskErr}
