@@ -68,10 +68,10 @@ impl<D: Disk> Archive<D> {
         Ok(answer)
     }
 
-    /// Tells what is known of a variable: its name, its about and its state, how many files each store lists of it, how many samples of it
-    /// are durable and how many are accepted, and the moments of the first and the last of these. A change that stands in doubt is settled
-    /// first, and files are only read. `DiskFault` comes only where the disk's count of faults rose in the call. `Memory` comes also where
-    /// no `u64` has a number of samples.
+    /// Tells what is known of a variable: its name, what the catalogue has about it, and its state, how many files each store lists of it,
+    /// how many samples of it are durable and how many are accepted, and the moments of the first and the last of these. A change that
+    /// stands in doubt is settled first, and files are only read. `DiskFault` comes only where the disk's count of faults rose in the call.
+    /// `Memory` comes also where no `u64` has a number of samples.
     pub fn details(&mut self, name: &[u8]) -> DetailsTold
         requires stands { (m : Machine) × Stands D.tells (parts D.Disk self.old) m }
         ensures step { Steps D.tells (DetailsStep name.now) (parts D.Disk self.old) (details_told_reply result) (parts D.Disk self.new) }

@@ -88,8 +88,8 @@ pub fn moves_change_the_machine()
         → HoldsDurable (without_oldest (index_of store) row n old) (made [] (Unlists row store to) m) }
 {}
 
-/// A move that is chosen by what the stores list is the one that the machine chooses by its samples: the partitions of a row's listed files
-/// are those of its samples, as many of them are to move, and the machine goes on as chosen.
+/// A move that is chosen by what the stores list is the one that the machine chooses by its samples: where these are told, the partitions of
+/// a row's listed files are those of its samples, and out of store 1 or 2 as many of them are to move; and the machine goes on as chosen.
 pub fn moves_are_the_machines()
     ensures parts { (catalogue : CatalogueState) (ms : List ManifestState) (s : Stores) (m : Machine) (i : ℕ) (row : RowState) (store : Store) → HaveDurable catalogue ms s m → m.told ≡ true → slice_get m.rows i ≡ Some row → AreParts m.rule store (tier row store) (file_parts (row_files s store i)) }
     ensures number { (catalogue : CatalogueState) (ms : List ManifestState) (s : Stores) (m : Machine) (i : ℕ) (row : RowState) (store : Store) (now : ℕ) → HaveDurable catalogue ms s m → m.told ≡ true → slice_get m.rows i ≡ Some row → store ≢ Long
