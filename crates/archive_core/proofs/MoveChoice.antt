@@ -1,8 +1,7 @@
 -- The choice of a move by what the stores list of a row is the machine's, by its samples.
 use Rattle.std.proofs.Common.{◌≡◌, ◌≢◌, inl, inr, ℕ, zero, suc, ◌+◌, ◌-◌, ◌<◌, ◌≤◌, List, [], ◌∷◌, ◌++◌, length, map, take, min, max, Bool, true, false, cond, Some, None, refl, sym, ◌∙◌, ap, subst, arith}
-use Rattle.std.specs.FinMap.{get}
 use Rattle.std.specs.List.{AllByRecursion, flat_map}
-use Rattle.std.specs.Prelude.{Option, All, IsSome, count_by, filter, nat_eq, nat_le, slice_get, slice_index}
+use Rattle.std.specs.Prelude.{Option, All, IsSome, count_by, nat_eq, nat_le, slice_get, slice_index}
 use Rattle.std.proofs.lemmas.Bool.Decides.{nat_tests}
 use Rattle.std.proofs.lemmas.List.{length-map}
 use Rattle.std.proofs.lemmas.List.Elements.{All-head, All-tail, All-filter}
@@ -32,7 +31,7 @@ use Rattle.three_stores.proofs.Beginning.{parts_listed}
 use Rattle.three_stores.proofs.Places.{manifest_at, granularity_at}
 use Rattle.three_stores.proofs.Rising.{own_series}
 use Rattle.act_model.specs.Crash.{kept_of}
-use Rattle.act_model.specs.Machine.{Machine, MoveState}
+use Rattle.act_model.specs.Machine.{Machine}
 use Rattle.act_model.specs.MoveBegin.{HasMove, HasNoMove, IsFree, IsMoving, IsPassed, begins, all_run, none_to_make, chosen, front_length, parts_of}
 use Rattle.act_model.specs.Parts.{PartsFrom, AreParts}
 use Rattle.act_model.specs.Rows.{RowState, Store, Short, Medium, Long, next_store, tier, window, is_empty}

@@ -1,5 +1,5 @@
 -- The stores' pins stay the machine's while all that is pinned is shown.
-use Rattle.std.proofs.Common.{◌≡◌, ℕ, List, Bool, true, Some}
+use Rattle.std.proofs.Common.{◌≡◌, ℕ, List, Bool, Some}
 use Rattle.std.specs.FinMap.{FinMap, get}
 use Rattle.std.specs.Ordering.{nat_cmp}
 use Rattle.std.specs.Prelude.{slice_get}

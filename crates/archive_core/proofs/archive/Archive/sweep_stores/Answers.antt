@@ -1,7 +1,6 @@
-use Rattle.std.proofs.Common.{List, ℕ, Err, Result, refl, sym, ◌∙◌, ap, subst}
+use Rattle.std.proofs.Common.{List, Err, Result, refl, sym, ◌∙◌, ap, subst}
 use Rattle.std.proofs.lemmas.Result.{err_from_is_err_and}
 use Rattle.disk_model.specs.declared.disk.DiskErr.{DiskErr}
-use Rattle.disk_model.specs.Files.{Name}
 use Rattle.three_stores.specs.Pinned.{beside, Shows}
 use Rattle.three_stores.specs.Seen.{seen}
 use Rattle.three_stores.specs.declared.limbo.Retired.{Retired}
