@@ -125,6 +125,28 @@ impl Move {
         self.series
     }
 
+    /// How far it has come.
+    pub fn stage(&self) -> Stage
+        ensures { result ≡ self.now.stage }
+    {
+        self.stage
+    }
+
+    /// The entries of its parts, oldest first: of those that are copied with the length up to which they are, of the others as the source
+    /// listed them when the move began.
+    pub fn parts(&self) -> &[Entry]
+        ensures { result.now ≡ self.now.parts }
+    {
+        &self.parts
+    }
+
+    /// The entries that the destination is to list: what the move has written, in order.
+    pub fn pending(&self) -> &[Entry]
+        ensures { result.now ≡ self.now.pending }
+    {
+        &self.pending
+    }
+
     /// How many parts are copied.
     pub fn copied_parts(&self) -> usize
         ensures { result ≡ self.now.at }
