@@ -7,11 +7,13 @@ ghost use Rattle.running_moves.specs.Table.{at, told, IsOf};
 use std::alloc::{AllocError, Global};
 use std::collections::BTreeMap;
 
-/// A move that runs, and its series.
+/// A move that runs, its series, and the store out of which it goes.
 #[derive(Drop)]
 pub struct Running<M: Drop> {
     /// The number of its series.
     pub series: u32,
+    /// The number of the store.
+    pub store: u8,
     /// The move.
     pub moving: M,
 }
@@ -34,16 +36,15 @@ impl<M: Drop> RunningMoves<M> {
         }
     }
 
-    /// Takes in a move of a series, and gives its number: the least that no move has.
-    pub fn begin(&mut self, series: u32, moving: M) -> Result<u32, AllocError>
+    /// Takes in a move, and gives its number: the least that no move has.
+    pub fn begin(&mut self, running: Running<M>) -> Result<u32, AllocError>
         ensures free { IfOk result (λ m. at self.old.slots.items m ≡ None) }
         ensures least { IfOk result (λ m. (k : ℕ) → k < m → IsSome (at self.old.slots.items k)) }
-        ensures begun { IfOk result (λ m. (k : ℕ) → at self.new.slots.items k ≡ (if k == m then Some (record { series = series; moving = moving }) else at self.old.slots.items k)) }
+        ensures begun { IfOk result (λ m. (k : ℕ) → at self.new.slots.items k ≡ (if k == m then Some running else at self.old.slots.items k)) }
         ensures unchanged { OnErr result ((k : ℕ) → at self.new.slots.items k ≡ at self.old.slots.items k) }
     {
         let place = free_place(&self.slots);
         let number = u32::try_from(place).or(Err(AllocError))?;
-        let running = Running { series, moving };
         if place == self.slots.len() {
             self.slots.push(Some(running))?;
         } else {
