@@ -29,6 +29,7 @@ use Rattle.tier_store.specs.Held.{Filed, Held, IsIn, IsListed, file_of, name_of,
 use Rattle.tier_store.specs.Stored.{AreHeld, AreSafe, Holds, TierStored}
 use Rattle.tier_store.proofs.Names.{name_cases}
 use Rattle.tier_store.proofs.There.{contains_map}
+use Rattle.tier_store.proofs.Three.{same_cases}
 use Rattle.three_stores.specs.Stores.{Stores, list_at, tier, with_list}
 use Rattle.three_stores.specs.Seen.{seen_on}
 use Rattle.three_stores.specs.Change.{Has}
@@ -37,7 +38,7 @@ use Rattle.three_stores.specs.Given.{ChangesGiven}
 use Rattle.three_stores.specs.Limbo.{staying}
 use Rattle.three_stores.specs.Moving.{of_files}
 use Rattle.three_stores.specs.Pinned.{SeenAll, beside, NoneOf, IsThereTo, KeepsFronts, KeepsShown}
-use Rattle.three_stores.specs.Revival.{KeepsWhole, short_with}
+use Rattle.three_stores.specs.Revival.{KeepsWhole, store_with}
 use Rattle.three_stores.specs.declared.limbo.Retired.{Retired}
 use Rattle.three_stores.proofs.Beside.{OnStore, safe_beside}
 use Rattle.three_stores.proofs.CopyPending.{all_in}
@@ -48,6 +49,7 @@ use Rattle.three_stores.proofs.OnePlace.{given_done}
 use Rattle.three_stores.proofs.Places.{set_same, one_manifest, within_three}
 use Rattle.three_stores.proofs.ReadsThen.{has_read}
 use Rattle.three_stores.proofs.Showing.{held_same, name_listed, read_shown, shown}
+use Rattle.three_stores.proofs.WithoutLimbo.{none_whole}
 
 -- the stores with the list that a place has
 list_kept : (i : ℕ) (s : Stores) → i < 3 → with_list i (list_at i s) s ≡ s
@@ -243,21 +245,24 @@ module _ {S : Type 0} (files_of : S → Files) (opened_of : S → Name → ℕ) 
     limbo = λ r within there. there;
   }
 
-  -- files in limbo of store 1 stay whole
-  pub keeps_whole : (IsTrue tells → OnStore (i + 1) m.journal.name (files_of d) (files_of after) (opened_of d) (opened_of after) (past_of d) (past_of after)) → KeepsWhole tells old new
-  keeps_whole on stands files whole = (
-    files,
-    record {
-      each = λ k r lt number. elim (whole.each k r lt number) [
-        | inl h ↦ inl (held_same files_of opened_of past_of faults_of c ms d after (get_or limbo k r).name 0 h)
-        | inr there ↦ inr there
-      ];
-      from = whole.from;
-      rise = whole.rise;
-      filed = whole.filed;
-      safe = λ told. safe_beside (i + 1) m.journal.name (files_of d) (files_of after) (opened_of d) (opened_of after) (past_of d) (past_of after) (on told) (short_with old.stores stands files) (omega arith) (λ is. absurd (omega (arith, is))) (whole.safe told);
-    },
-  )
+  -- files in limbo stay whole: those of another store are left, and of this one there is none
+  pub keeps_whole : NoneOf (i + 1) limbo → (IsTrue tells → OnStore (i + 1) m.journal.name (files_of d) (files_of after) (opened_of d) (opened_of after) (past_of d) (past_of after)) → KeepsWhole tells old new
+  keeps_whole none on j stands files low whole = elim (same_cases j i) [
+    | inl is ↦ ([], none_whole j tells new.stores limbo stands (subst (λ (k : ℕ). NoneOf (k + 1) limbo) (sym is) none))
+    | inr apart ↦ (
+      files,
+      record {
+        each = λ k r lt number. elim (whole.each k r lt number) [
+          | inl h ↦ inl (held_same files_of opened_of past_of faults_of c ms d after (get_or limbo k r).name 0 h)
+          | inr there ↦ inr there
+        ];
+        from = whole.from;
+        rise = whole.rise;
+        filed = whole.filed;
+        safe = λ told. safe_beside (i + 1) m.journal.name (files_of d) (files_of after) (opened_of d) (opened_of after) (past_of d) (past_of after) (on told) (store_with j old.stores stands files) (omega arith) (λ is. apart (omega (arith, is))) (whole.safe told);
+      },
+    )
+  ]
 
   -- THE CALL
 

@@ -126,11 +126,11 @@ held_kept old new catalogue manifests name len h = record {
 
 -- files in limbo stay whole
 pub looks_whole : {A E : Type 0} (tells : Bool) (old new : SeenAll) (end : End A E) → length old.stores.manifests ≡ 3 → OnlyLooks tells old new end → KeepsWhole tells old new
-looks_whole {A} {E} tells old new end three looks stands files whole = (
+looks_whole {A} {E} tells old new end three looks i stands files low whole = (
   files,
-  subst (λ (l : List Retired). AreWhole tells new.stores l stands files) (sym looks.limbo)
+  subst (λ (l : List Retired). AreWhole i tells new.stores l stands files) (sym looks.limbo)
       (read_whole tells old.stores new.stores old.limbo three (λ name h. held_kept old.stores new.stores looks.catalogue looks.manifests name 0 h)
-      (subst (λ (rows : List Row). KeepsRows old.stores.catalogue.rows rows) (sym (ap (λ (c : CatalogueState). c.rows) looks.catalogue)) (keeps_same old.stores.catalogue.rows)) (ap granularities looks.manifests) looks.reads.files looks.opened looks.reads.any_moment stands files whole),
+      (subst (λ (rows : List Row). KeepsRows old.stores.catalogue.rows rows) (sym (ap (λ (c : CatalogueState). c.rows) looks.catalogue)) (keeps_same old.stores.catalogue.rows)) (ap granularities looks.manifests) looks.reads.files looks.opened looks.reads.any_moment i stands files low whole),
 )
 
 -- AFTER AN ERROR

@@ -75,7 +75,7 @@ module _ {S : Type 0} (files_of : S → Files) (opened_of : S → Name → ℕ) 
     step_leaves = leaves_others files_of opened_of past_of faults_of tells c ms limbo from to.0 to.1 d after seen_it move part.0 wrote
 
     pub step_whole : KeepsWhole tells old new
-    step_whole = keeps_whole files_of opened_of past_of faults_of tells c ms limbo from to.0 to.1 d after seen_it (λ told. on_store files_of opened_of past_of faults_of tells c ms limbo from to.0 to.1 d after seen_it move part.0 begun.0 begun.1 begun.2 begun.3 wrote told)
+    step_whole = keeps_whole files_of opened_of past_of faults_of tells c ms limbo from to.0 to.1 d after seen_it none (λ told. on_store files_of opened_of past_of faults_of tells c ms limbo from to.0 to.1 d after seen_it move part.0 begun.0 begun.1 begun.2 begun.3 wrote told)
 
     -- after an error the move runs as it did
     pub step_still : (files : List Filed) (held : Stores) → Has tells old.stores held → CopiesBeside from tells old move files held → CopiesBeside from tells new move files held

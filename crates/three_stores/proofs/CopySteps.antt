@@ -25,7 +25,6 @@ use Rattle.three_stores.specs.Limbo.{staying}
 use Rattle.three_stores.specs.Moving.{LeavesLater}
 use Rattle.three_stores.specs.Pinned.{SeenAll}
 use Rattle.three_stores.specs.Retiring.{oldest}
-use Rattle.three_stores.specs.Revival.{KeepsWhole}
 use Rattle.three_stores.specs.declared.copying.CopyEnd.{CopyEnd}
 use Rattle.three_stores.specs.declared.copying.CopyEnd.TheVariants as ends
 use Rattle.three_stores.proofs.CopyLooks.{looks_ends}
@@ -149,10 +148,6 @@ moves_advance move new len adv = elim adv.is [
     long = ap (λ (x : MoveState). length x.parts) same ∙ length-set move.parts move.at (record p { len = len });
   }
 ]
-
--- files in limbo of store 1 stay whole through one call and another
-pub whole_then : (tells : Bool) (old mid new : SeenAll) → KeepsWhole tells old mid → KeepsWhole tells mid new → KeepsWhole tells old new
-whole_then tells old mid new one two stands files whole = let between = one stands files whole in two stands between.0 between.1
 
 -- OTHER NAMES
 

@@ -27,14 +27,14 @@ use Rattle.three_stores.specs.Change.{Has, IsKnown, IsListedIn, IsOpen}
 use Rattle.three_stores.specs.Limbo.{LimboStands}
 use Rattle.three_stores.specs.Moving.{of_files, KeepsBeside, MayHold, RunsBeside}
 use Rattle.three_stores.specs.Pinned.{beside, IsHeldTo, IsThereTo}
-use Rattle.three_stores.specs.Revival.{IsAmong, IsOfLimbo, KeepsWhole}
+use Rattle.three_stores.specs.Revival.{AreWhole, IsAmong, IsOfLimbo}
 use Rattle.three_stores.specs.declared.limbo.Retired.{Retired}
 use Rattle.three_stores.proofs.Dropped.{contains_filter, entry_in, from_filter, one_file}
 use Rattle.three_stores.proofs.Places.{manifest_at, manifest_of}
 use Rattle.three_stores.proofs.RevivalShown.{known_open, limbo_name}
 use Rattle.three_stores.proofs.Showing.{ListsTo, after_to, doubts_held, has_held, known_to, name_listed}
 use Rattle.three_stores.proofs.Staying.{own_name, same_name}
-use Rattle.three_stores.proofs.WholeCalls.{filed_fewer, safe_fewer, short_name, spared_whole}
+use Rattle.three_stores.proofs.WholeCalls.{filed_fewer, name_at, safe_fewer, spared_whole}
 
 -- NAMES THAT ARE LISTED
 
@@ -85,7 +85,7 @@ module _ {S : Type 0} (files_of : S → Files) (opened_of : S → Name → ℕ) 
 
   -- LIMBO
 
-  module _ (before next : Stores) (open_to : IsOpen tells at before next) (stand : LimboStands at limbo) where
+  module _ (before next : Stores) (open_to : IsOpen tells at before next) (stand : LimboStands at limbo) (i : ℕ) (low : i < 3) where
     abbrev second_of : IsOpen tells at before next → Stores
     second_of (inl has) = before
     second_of (inr doubt) = next
@@ -93,35 +93,35 @@ module _ {S : Type 0} (files_of : S → Files) (opened_of : S → Name → ℕ) 
     abbrev second : Stores
     second = second_of open_to
 
-    to_held : (o : IsOpen tells at before next) (n : Name) → ListsTo 0 before n 0 → ListsTo 0 (second_of o) n 0 → IsHeldTo at n 0
-    to_held (inl has) n to to_too = has_held tells at before 0 n 0 has (omega arith) to
-    to_held (inr doubt) n to to_too = doubts_held tells at before next 0 n 0 doubt (omega arith) to to_too
+    to_held : (o : IsOpen tells at before next) (n : Name) → ListsTo i before n 0 → ListsTo i (second_of o) n 0 → IsHeldTo at n 0
+    to_held (inl has) n to to_too = has_held tells at before i n 0 has low to
+    to_held (inr doubt) n to to_too = doubts_held tells at before next i n 0 doubt low to to_too
 
-    from_held : (o : IsOpen tells at before next) (n : Name) → n.0 ≡ 1 → IsHeldTo at n 0 → ListsTo 0 before n 0 × ListsTo 0 (second_of o) n 0
+    from_held : (o : IsOpen tells at before next) (n : Name) → n.0 ≡ i + 1 → IsHeldTo at n 0 → ListsTo i before n 0 × ListsTo i (second_of o) n 0
     from_held o n number h = go o
       where
-        first : h.place ≡ 0
-        first = let own = name_listed at n 0 h in omega (arith, own, number)
+        at_place : h.place ≡ i
+        at_place = let own = name_listed at n 0 h in omega (arith, own, number)
 
-        go : (o : IsOpen tells at before next) → ListsTo 0 before n 0 × ListsTo 0 (second_of o) n 0
-        go (inl has) = let to = subst (λ (k : ℕ). ListsTo k before n 0) first (known_to at before h.place h.manifest n 0 has.known h.here h.listed) in (to, to)
-        go (inr doubt) = (subst (λ (k : ℕ). ListsTo k before n 0) first (known_to at before h.place h.manifest n 0 doubt.known h.here h.listed), subst (λ (k : ℕ). ListsTo k next n 0) first (after_to tells at before next n 0 doubt h))
+        go : (o : IsOpen tells at before next) → ListsTo i before n 0 × ListsTo i (second_of o) n 0
+        go (inl has) = let to = subst (λ (k : ℕ). ListsTo k before n 0) at_place (known_to at before h.place h.manifest n 0 has.known h.here h.listed) in (to, to)
+        go (inr doubt) = (subst (λ (k : ℕ). ListsTo k before n 0) at_place (known_to at before h.place h.manifest n 0 doubt.known h.here h.listed), subst (λ (k : ℕ). ListsTo k next n 0) at_place (after_to tells at before next n 0 doubt h))
 
     -- those of which the list isn't known to have one of the name
     abbrev keep : Filed → Bool
-    keep f = not (lists_name 0 before (short_name c.rows f) && lists_name 0 second (short_name c.rows f))
+    keep f = not (lists_name i before (name_at i c.rows f) && lists_name i second (name_at i c.rows f))
 
-    not_kept : (f : Filed) → keep f ≡ false → IsHeldTo at (short_name c.rows f) 0
+    not_kept : (f : Filed) → keep f ≡ false → IsHeldTo at (name_at i c.rows f) 0
     not_kept f is =
-        let n = short_name c.rows f in
-        let both = both_true (lists_name 0 before n) (lists_name 0 second n) is in
-        to_held open_to n (lists_so 0 before n both.0) (lists_so 0 second n both.1)
+        let n = name_at i c.rows f in
+        let both = both_true (lists_name i before n) (lists_name i second n) is in
+        to_held open_to n (lists_so i before n both.0) (lists_so i second n both.1)
 
-    kept : (f : Filed) → keep f ≡ true → IsHeldTo at (short_name c.rows f) 0 → ⊥
+    kept : (f : Filed) → keep f ≡ true → IsHeldTo at (name_at i c.rows f) 0 → ⊥
     kept f is h =
-        let n = short_name c.rows f in
+        let n = name_at i c.rows f in
         let both = from_held open_to n refl h in
-        not_both_true (lists_name 0 before n) (lists_name 0 second n) is (so_lists 0 before n both.0) (so_lists 0 second n both.1)
+        not_both_true (lists_name i before n) (lists_name i second n) is (so_lists i before n both.0) (so_lists i second n both.1)
 
     still_held : (n : Name) → IsHeldTo at n 0 → IsHeldTo later n 0
     still_held n h = record { place = h.place; manifest = h.manifest; here = h.here; listed = h.listed; in_doubt = h.in_doubt; rows_in_doubt = h.rows_in_doubt }
@@ -129,20 +129,20 @@ module _ {S : Type 0} (files_of : S → Files) (opened_of : S → Name → ℕ) 
     known : IsKnown c ms before
     known = known_open tells at before next open_to
 
-    abbrev first : (m : ManifestState) × (slice_get ms 0 ≡ Some m)
-    first = manifest_at ms 0 (let three = known.three in omega (arith, three))
+    abbrev manifest : (m : ManifestState) × (slice_get ms i ≡ Some m)
+    manifest = manifest_at ms i (let three = known.three in omega (arith, three, low))
 
     keys : KeysDiffer c.rows
-    keys = subst (λ (rows : List Row). KeysDiffer rows) (sym known.rows) (known.each 0 first.0 first.1).valid.keys
+    keys = subst (λ (rows : List Row). KeysDiffer rows) (sym known.rows) (known.each i manifest.0 manifest.1).valid.keys
 
-    -- limbo stays whole
-    pub opened_whole : KeepsWhole tells (beside at limbo) (beside later limbo)
+    -- limbo of the store stays whole
+    pub opened_whole : (stands : Bool) (files : List Filed) → AreWhole i tells at limbo stands files → (left : List Filed) × AreWhole i tells later limbo stands left
     opened_whole stands files whole = (
       left,
-      spared_whole tells (beside at limbo) (beside later limbo) known.three (keeps_same c.rows) refl (λ n. Unit {0}) (λ told n spared. ap (λ (f : Files). f n) (same told)) (λ told. passes_weaker (λ a b. b ≡ a) (λ a b. (n : Name) → Unit {0} → b n ≡ a n) (past_of d) (past_of after) (passes told) (λ a b was is n spared. ap (λ (f : Files). f n) is)) stands left
-          among (λ k x lt. All-contains (λ (f : Filed). IsOfLimbo limbo f.entry) files (get_or left k x) whole.from (within k x lt)) (rise_filter keep files whole.rise)
-          (λ m there. filed_fewer c.rows files left stands within m.granularity (whole.filed m there))
-          (λ told. safe_fewer c.rows files left stands within (files_of d) (opened_of d) (past_of d) (whole.safe told))
+      spared_whole i low tells (beside at limbo) (beside later limbo) known.three (keeps_same c.rows) refl (λ n. Unit {0}) (λ told n spared. ap (λ (f : Files). f n) (same told)) (λ told. passes_weaker (λ a b. b ≡ a) (λ a b. (n : Name) → Unit {0} → b n ≡ a n) (past_of d) (past_of after) (passes told) (λ a b was is n spared. ap (λ (f : Files). f n) is)) stands left
+          among (λ k x lt. All-contains (λ (f : Filed). IsOfLimbo i limbo f.entry) files (get_or left k x) whole.from (within k x lt)) (rise_filter keep files whole.rise)
+          (λ m there. filed_fewer i c.rows files left stands within m.granularity (whole.filed m there))
+          (λ told. safe_fewer i c.rows files left stands within (files_of d) (opened_of d) (past_of d) (whole.safe told))
           (λ k x lt. tt) unopened,
     )
       where
@@ -152,27 +152,27 @@ module _ {S : Type 0} (files_of : S → Files) (opened_of : S → Name → ℕ) 
         within : (k : ℕ) (x : Filed) → k < length left → Contains files (get_or left k x)
         within k x lt = from_filter keep files (get_or left k x) (Contains-get_or left k x lt)
 
-        among : All (IsAmong later left) limbo
+        among : All (IsAmong i later left) limbo
         among k x lt number = elim (whole.each k x lt number) [
           | inl h ↦ inl (still_held (get_or limbo k x).name h)
           | inr in_files ↦
               let r : Retired = get_or limbo k x in
               let u = contains_map files r.entry in_files in
-              let named : short_name c.rows u.0 ≡ r.name = ap (λ (e : Entry). file_of (1, c.rows) e) u.2 ∙ limbo_name at limbo stand r (Contains-get_or limbo k x lt) number in
+              let named : name_at i c.rows u.0 ≡ r.name = ap (λ (e : Entry). file_of (i + 1, c.rows) e) u.2 ∙ limbo_name i at limbo stand r (Contains-get_or limbo k x lt) number in
               by_test u.0 u.1 r u.2 named (keep u.0) refl
         ]
           where
-            by_test : (u : Filed) → Contains files u → (r : Retired) → u.entry ≡ r.entry → short_name c.rows u ≡ r.name → (b : Bool) → keep u ≡ b → IsHeldTo later r.name 0 ⊎ Contains (map entry_of left) r.entry
+            by_test : (u : Filed) → Contains files u → (r : Retired) → u.entry ≡ r.entry → name_at i c.rows u ≡ r.name → (b : Bool) → keep u ≡ b → IsHeldTo later r.name 0 ⊎ Contains (map entry_of left) r.entry
             by_test u u_in r same_entry named true is = inr (subst (Contains (map entry_of left)) same_entry (entry_in left u (contains_filter keep files u u_in is)))
             by_test u u_in r same_entry named false is = inl (still_held r.name (subst (λ (n : Name). IsHeldTo at n 0) named (not_kept u is)))
 
-        unopened : IsTrue tells → All (λ (f : Filed). opened_of after (short_name c.rows f) ≤ f.entry.len) left
-        unopened told k x lt = elim (name_cases (short_name c.rows f) name) [
-          | inr apart ↦ let is : opened_of after (short_name c.rows f) ≡ opened_of d (short_name c.rows f) = others told (short_name c.rows f) apart in omega (arith, is, was)
+        unopened : IsTrue tells → All (λ (f : Filed). opened_of after (name_at i c.rows f) ≤ f.entry.len) left
+        unopened told k x lt = elim (name_cases (name_at i c.rows f) name) [
+          | inr apart ↦ let is : opened_of after (name_at i c.rows f) ≡ opened_of d (name_at i c.rows f) = others told (name_at i c.rows f) apart in omega (arith, is, was)
           | inl is ↦
               let long = long_enough is in
-              let is_after : opened_of after (short_name c.rows f) ≡ opened_of after name = ap (opened_of after) is in
-              let is_before : opened_of d (short_name c.rows f) ≡ opened_of d name = ap (opened_of d) is in
+              let is_after : opened_of after (name_at i c.rows f) ≡ opened_of after name = ap (opened_of after) is in
+              let is_before : opened_of d (name_at i c.rows f) ≡ opened_of d name = ap (opened_of d) is in
               let le = here told in
               omega (arith, is_after, is_before, le, was, long)
         ]
@@ -183,24 +183,24 @@ module _ {S : Type 0} (files_of : S → Files) (opened_of : S → Name → ℕ) 
             f_in : Contains files f
             f_in = within k x lt
 
-            was : opened_of d (short_name c.rows f) ≤ f.entry.len
-            was = All-contains (λ (y : Filed). opened_of d (short_name c.rows y) ≤ y.entry.len) files f (whole.safe told).unopened f_in
+            was : opened_of d (name_at i c.rows f) ≤ f.entry.len
+            was = All-contains (λ (y : Filed). opened_of d (name_at i c.rows y) ≤ y.entry.len) files f (whole.safe told).unopened f_in
 
-            not_held : (n : Name) (k : ℕ) → short_name c.rows f ≡ n → IsHeldTo at n k → ⊥
+            not_held : (n : Name) (k : ℕ) → name_at i c.rows f ≡ n → IsHeldTo at n k → ⊥
             not_held n l is h = kept f (filter_passes keep files k x lt) (subst (λ (m : Name). IsHeldTo at m 0) (sym is) (held_less at n l h))
 
-            long_enough : short_name c.rows f ≡ name → len ≤ f.entry.len
+            long_enough : name_at i c.rows f ≡ name → len ≤ f.entry.len
             long_enough is = elim there [
               | inl h ↦ absurd (not_held name len is h)
               | inr r ↦
-                  let number : r.file.name.0 ≡ 1 = ap (λ (n : Name). n.0) (r.named ∙ sym is) in
-                  elim (All-contains (IsAmong at files) limbo r.file whole.each r.within number) [
+                  let number : r.file.name.0 ≡ i + 1 = ap (λ (n : Name). n.0) (r.named ∙ sym is) in
+                  elim (All-contains (IsAmong i at files) limbo r.file whole.each r.within number) [
                     | inl h ↦ absurd (not_held r.file.name 0 (is ∙ sym r.named) h)
                     | inr in_files ↦
                         let u = contains_map files r.file.entry in_files in
-                        let named : short_name c.rows u.0 ≡ short_name c.rows f = ap (λ (e : Entry). file_of (1, c.rows) e) u.2 ∙ limbo_name at limbo stand r.file r.within number ∙ r.named ∙ sym is in
-                        let listed = (whole.filed first.0 first.1).listed in
-                        let place = same_place first.0.granularity 1 c.rows u.0 f keys (All-contains (IsListed first.0.granularity c.rows) files u.0 listed u.1) (All-contains (IsListed first.0.granularity c.rows) files f listed f_in) named in
+                        let named : name_at i c.rows u.0 ≡ name_at i c.rows f = ap (λ (e : Entry). file_of (i + 1, c.rows) e) u.2 ∙ limbo_name i at limbo stand r.file r.within number ∙ r.named ∙ sym is in
+                        let listed = (whole.filed manifest.0 manifest.1).listed in
+                        let place = same_place manifest.0.granularity (i + 1) c.rows u.0 f keys (All-contains (IsListed manifest.0.granularity c.rows) files u.0 listed u.1) (All-contains (IsListed manifest.0.granularity c.rows) files f listed f_in) named in
                         let one : u.0 ≡ f = one_file files f u.0 whole.rise f_in u.1 place in
                         let same_len : r.file.entry.len ≡ f.entry.len = ap (λ (e : Entry). e.len) (sym u.2) ∙ ap (λ (y : Filed). y.entry.len) one in
                         let longer = r.longer in

@@ -34,7 +34,7 @@ use Rattle.three_stores.specs.Change.{IsKnown, Has}
 use Rattle.three_stores.specs.Given.{ChangesGiven}
 use Rattle.three_stores.specs.Limbo.{IsOfPlace, IsListedName, LimboStands, ListsPlace}
 use Rattle.three_stores.specs.Pinned.{IsHeldTo}
-use Rattle.three_stores.specs.Revival.{IsOfUnlisted, AreUnlistedIn, IsAmong, AreWhole, AreInLimbo, FlushesOver, CountsOver, flushing_over, short_with}
+use Rattle.three_stores.specs.Revival.{IsOfUnlisted, AreUnlistedIn, IsAmong, AreWhole, AreInLimbo, FlushesOver, CountsOver, flushing_over, store_with}
 use Rattle.three_stores.specs.declared.limbo.Retired.{Retired}
 use Rattle.three_stores.proofs.Beside.{OnStore}
 use Rattle.three_stores.proofs.FlushCall.{list_unsure, stored_as}
@@ -95,13 +95,13 @@ safe_some t back files opened past known safe = record {
 
 -- WHAT IS IN LIMBO
 
-module _ (tells : Bool) (at : Seen) (limbo : List Retired) (stands : LimboStands at limbo) (entries : List Entry) (listed : AreUnlistedIn at.manifests 1 limbo entries) (files : List Filed) (held : Stores) (has : Has tells at held) (whole : AreWhole tells at limbo held.stands files) where
+module _ (tells : Bool) (at : Seen) (limbo : List Retired) (stands : LimboStands at limbo) (entries : List Entry) (listed : AreUnlistedIn at.manifests 1 limbo entries) (files : List Filed) (held : Stores) (has : Has tells at held) (whole : AreWhole 0 tells at limbo held.stands files) where
   pub each_known : All (Contains (map entry_of files)) entries
   each_known k d lt =
       let from = listed.from k d lt in
       let r = from.file in
       let of = All-contains (IsOfPlace at) limbo r stands from.within in
-      let there : Contains (map entry_of files) r.entry = elim (All-contains (IsAmong at files) limbo r whole.each from.within from.unlisted.0) [
+      let there : Contains (map entry_of files) r.entry = elim (All-contains (IsAmong 0 at files) limbo r whole.each from.within from.unlisted.0) [
         | inl h ↦ absurd (from.unlisted.1 (listed_place at held r has.known of (listed_by at r.name 0 h)))
         | inr there ↦ there
       ] in
@@ -148,7 +148,7 @@ module _ (tells : Bool) (at : Seen) (limbo : List Retired) (stands : LimboStands
   pub back_safe : IsTrue tells → AreSafe (having (tier 0 held) back) at.files at.opened at.past
   back_safe told =
       let T : List Row → Held = λ rows. record { store = 1; rows = rows; files = back; stands = held.stands } in
-      subst (λ (rows : List Row). AreSafe (T rows) at.files at.opened at.past) has.known.rows (safe_some (short_with at held.stands files) back at.files at.opened at.past back_known (whole.safe told))
+      subst (λ (rows : List Row). AreSafe (T rows) at.files at.opened at.past) has.known.rows (safe_some (store_with 0 at held.stands files) back at.files at.opened at.past back_known (whole.safe told))
 
 -- what the flush makes of what is held
 pub record ToRevive (tells : Bool) (at : Seen) (m : ManifestState) (limbo : List Retired) (entries : List Entry) (files : List Filed) (batch : List RowSamples) (pieces : List Piece) (count : ℕ) (held : Stores) : Type 0 where
@@ -163,7 +163,7 @@ pub record ToRevive (tells : Bool) (at : Seen) (m : ManifestState) (limbo : List
   pub lists : all_changed m.entries (map set_of pieces) ≡ map entry_of (put_all held.short filed)
 
 -- the entries of files in limbo are of partitions
-pub limbo_parts : (tells : Bool) (at : Seen) (limbo : List Retired) (entries : List Entry) (m : ManifestState) → slice_get at.manifests 0 ≡ Some m → LimboStands at limbo → AreUnlistedIn at.manifests 1 limbo entries → (files : List Filed) (held : Stores) → Has tells at held → AreWhole tells at limbo held.stands files
+pub limbo_parts : (tells : Bool) (at : Seen) (limbo : List Retired) (entries : List Entry) (m : ManifestState) → slice_get at.manifests 0 ≡ Some m → LimboStands at limbo → AreUnlistedIn at.manifests 1 limbo entries → (files : List Filed) (held : Stores) → Has tells at held → AreWhole 0 tells at limbo held.stands files
     → All (λ (e : Entry). IsPart m.granularity e.part) entries
 limbo_parts tells at limbo entries m here stands listed files held has whole k d lt =
     let f = contains_map files (get_or entries k d) (each_known tells at limbo stands entries listed files held has whole k d lt) in
@@ -185,7 +185,7 @@ module _ {S : Type 0} (files_of : S → Files) (opened_of : S → Name → ℕ) 
   before = seen_on files_of opened_of past_of faults_of c ms d
 
   abbrev Whole : Stores → Type 0
-  Whole held = AreWhole tells before limbo held.stands files
+  Whole held = AreWhole 0 tells before limbo held.stands files
 
   abbrev IsAheadOf : JournalState → Held → Held → Type 0
   IsAheadOf catalogue held ahead = HasCopied catalogue m (1, rows) (files_of d) (opened_of d) (past_of d) held ahead

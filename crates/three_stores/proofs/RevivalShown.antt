@@ -26,12 +26,12 @@ use Rattle.tier_store.proofs.Revival.{listed_stays, one_of_place, put_all_one}
 use Rattle.tier_store.proofs.Stays.{safe_stays}
 use Rattle.tier_store.proofs.There.{contains_map}
 use Rattle.tier_store.proofs.Three.{same_cases}
-use Rattle.three_stores.specs.Stores.{Stores, tier}
+use Rattle.three_stores.specs.Stores.{Stores, list_at, tier}
 use Rattle.three_stores.specs.Seen.{Seen, granularities}
 use Rattle.three_stores.specs.Change.{IsKnownAt, IsKnown, Has, IsOpen, HasEither, EndsFrom}
 use Rattle.three_stores.specs.Limbo.{IsOfPlace, LimboStands}
 use Rattle.three_stores.specs.Pinned.{SeenAll, IsHeldTo, NoneShorter, IsThereTo, KeepsShown, KeepsFronts}
-use Rattle.three_stores.specs.Revival.{AreWhole, AreInLimbo, FlushesOver, KeepsWhole, flushing_over, short_with}
+use Rattle.three_stores.specs.Revival.{AreWhole, AreInLimbo, FlushesOver, KeepsWhole, flushing_over, store_with}
 use Rattle.three_stores.specs.declared.limbo.Retired.{Retired}
 use Rattle.three_stores.proofs.Places.{granularity_at, manifest_at, manifest_of, one_manifest, tier_other}
 use Rattle.three_stores.proofs.Showing.{GoesOn, Spares, ends_held, ends_spares, known_spares, name_listed, numbered, settled_held, shown, still_held, still_itself}
@@ -79,27 +79,27 @@ over_spares limbo files batch held made name len by is_here spares k low = elim 
         let longer = h.longer in
         omega (arith, le, longer)
 
--- store 1 is at the first place
-pub first_place : (at : Seen) (r : Retired) (of : IsOfPlace at r) → r.name.0 ≡ 1 → of.place ≡ 0
-first_place at r of number = let own : of.place + 1 ≡ r.name.0 = ap (λ (n : Name). n.0) of.named in omega (arith, own, number)
+-- a store is at the place of its number less one
+own_place : (i : ℕ) (at : Seen) (r : Retired) (of : IsOfPlace at r) → r.name.0 ≡ i + 1 → of.place ≡ i
+own_place i at r of number = let own : of.place + 1 ≡ r.name.0 = ap (λ (n : Name). n.0) of.named in omega (arith, own, number)
 
--- a file in limbo of store 1 is named as that of its row and partition
-pub limbo_name : (at : Seen) (limbo : List Retired) → LimboStands at limbo → (r : Retired) → Contains limbo r → r.name.0 ≡ 1 → file_of (1, at.catalogue.rows) r.entry ≡ r.name
-limbo_name at limbo stands r within number =
+-- a file in limbo is named as that of its store, row and partition
+pub limbo_name : (i : ℕ) (at : Seen) (limbo : List Retired) → LimboStands at limbo → (r : Retired) → Contains limbo r → r.name.0 ≡ i + 1 → file_of (i + 1, at.catalogue.rows) r.entry ≡ r.name
+limbo_name i at limbo stands r within number =
     let of = All-contains (IsOfPlace at) limbo r stands within in
-    ap (λ (k : ℕ). file_of (k + 1, at.catalogue.rows) r.entry) (sym (first_place at r of number)) ∙ of.named
+    ap (λ (k : ℕ). file_of (k + 1, at.catalogue.rows) r.entry) (sym (own_place i at r of number)) ∙ of.named
 
-own_name : (tells : Bool) (at : Seen) (limbo : List Retired) (held : Stores) → LimboStands at limbo → Has tells at held → (r : Retired) → Contains limbo r → r.name.0 ≡ 1 → file_of (1, held.rows) r.entry ≡ r.name
-own_name tells at limbo held stands has r within number = ap (λ (rows : List Row). file_of (1, rows) r.entry) (sym has.known.rows) ∙ limbo_name at limbo stands r within number
+own_name : (i : ℕ) (tells : Bool) (at : Seen) (limbo : List Retired) (held : Stores) → LimboStands at limbo → Has tells at held → (r : Retired) → Contains limbo r → r.name.0 ≡ i + 1 → file_of (i + 1, held.rows) r.entry ≡ r.name
+own_name i tells at limbo held stands has r within number = ap (λ (rows : List Row). file_of (i + 1, rows) r.entry) (sym has.known.rows) ∙ limbo_name i at limbo stands r within number
 
 -- and so is what is listed of these
-pub place_named : (tells : Bool) (at : Seen) (limbo : List Retired) (held : Stores) (m : ManifestState) → slice_get at.manifests 0 ≡ Some m → LimboStands at limbo → (has : Has tells at held) → (r : Retired) → Contains limbo r → r.name.0 ≡ 1 → (h : Filed) → Contains held.short h → filed_at h ≡ place r.entry → file_of (1, held.rows) h.entry ≡ r.name
-place_named tells at limbo held m here stands has r within number h there same =
+pub place_named : (i : ℕ) (tells : Bool) (at : Seen) (limbo : List Retired) (held : Stores) (m : ManifestState) → slice_get at.manifests i ≡ Some m → LimboStands at limbo → (has : Has tells at held) → (r : Retired) → Contains limbo r → r.name.0 ≡ i + 1 → (h : Filed) → Contains (list_at i held) h → filed_at h ≡ place r.entry → file_of (i + 1, held.rows) h.entry ≡ r.name
+place_named i tells at limbo held m here stands has r within number h there same =
     let of = All-contains (IsOfPlace at) limbo r stands within in
-    let at_first = first_place at r of number in
-    let h_is : IsListed m.granularity held.rows h = All-contains (IsListed m.granularity held.rows) held.short h (has.known.each 0 m here).valid.filed.listed there in
-    let r_is : IsListed m.granularity held.rows (as_filed r) = subst (λ (rows : List Row). IsListed m.granularity rows (as_filed r)) has.known.rows (retired_listed at r of m (ap (slice_get at.manifests) at_first ∙ here)) in
-    same_file m.granularity 1 held.rows h (as_filed r) h_is r_is same ∙ own_name tells at limbo held stands has r within number
+    let own = own_place i at r of number in
+    let h_is : IsListed m.granularity held.rows h = All-contains (IsListed m.granularity held.rows) (list_at i held) h (has.known.each i m here).valid.filed.listed there in
+    let r_is : IsListed m.granularity held.rows (as_filed r) = subst (λ (rows : List Row). IsListed m.granularity rows (as_filed r)) has.known.rows (retired_listed at r of m (ap (slice_get at.manifests) own ∙ here)) in
+    same_file m.granularity (i + 1) held.rows h (as_filed r) h_is r_is same ∙ own_name i tells at limbo held stands has r within number
 
 -- what is in limbo of store 1 is here
 is_here : (tells : Bool) (at : Seen) (limbo : List Retired) (files : List Filed) (held : Stores) (m : ManifestState) → slice_get at.manifests 0 ≡ Some m → LimboStands at limbo → Has tells at held → PlacesRise files → (back : List Filed) → AreInLimbo limbo files held back
@@ -114,11 +114,11 @@ is_here tells at limbo files held m here stands has rise back in_limbo name len 
           record {
             file = f.0;
             within = put_all_one back held.short f.0 one (inr f.1);
-            named = ap (λ (e : Entry). file_of (1, held.rows) e) f.2 ∙ (own_name tells at limbo held stands has r within own ∙ named);
+            named = ap (λ (e : Entry). file_of (1, held.rows) e) f.2 ∙ (own_name 0 tells at limbo held stands has r within own ∙ named);
             longer = omega (arith, longer, len_is);
           }
       | inr (h, there, same, found_is) ↦
-          let name_is : file_of (1, held.rows) h.entry ≡ name = place_named tells at limbo held m here stands has r within own h there same ∙ named in
+          let name_is : file_of (1, held.rows) h.entry ≡ name = place_named 0 tells at limbo held m here stands has r within own h there same ∙ named in
           let le = All-contains (λ (e : Entry). file_of (1, held.rows) e ≡ name → len ≤ e.len) (map entry_of held.short) h.entry (spares 0 (omega arith)) (contains_entry held.short h there) name_is in
           record { file = h; within = listed_stays held.short back h (has.known.each 0 m here).valid.apart in_limbo.unlisted there; named = name_is; longer = le }
     ]
@@ -181,8 +181,8 @@ known_open tells at before after (inr doubt) = doubt.known
 
 -- files in limbo stay whole while calls only read
 pub read_whole : (tells : Bool) (old new : Seen) (limbo : List Retired) → length old.manifests ≡ 3 → ((name : Name) → IsHeldTo old name 0 → IsHeldTo new name 0) → KeepsRows old.catalogue.rows new.catalogue.rows → granularities new.manifests ≡ granularities old.manifests
-    → (IsTrue tells → new.files ≡ old.files) → (IsTrue tells → new.opened ≡ old.opened) → (IsTrue tells → Passes (λ a b. b ≡ a) old.past new.past) → (stands : Bool) (files : List Filed) → AreWhole tells old limbo stands files → AreWhole tells new limbo stands files
-read_whole tells old new limbo three held keeps same_g same opened passes stands files whole = record {
+    → (IsTrue tells → new.files ≡ old.files) → (IsTrue tells → new.opened ≡ old.opened) → (IsTrue tells → Passes (λ a b. b ≡ a) old.past new.past) → (i : ℕ) (stands : Bool) (files : List Filed) → i < 3 → AreWhole i tells old limbo stands files → AreWhole i tells new limbo stands files
+read_whole tells old new limbo three held keeps same_g same opened passes i stands files low whole = record {
   each = λ k d lt number. elim (whole.each k d lt number) [
     | inl h ↦ inl (held (get_or limbo k d).name h)
     | inr there ↦ inr there
@@ -190,24 +190,24 @@ read_whole tells old new limbo three held keeps same_g same opened passes stands
   from = whole.from;
   rise = whole.rise;
   filed = λ m here.
-      let is = manifest_of old.manifests 0 m.granularity (ap (λ (gs : List Granularity). slice_get gs 0) (sym same_g) ∙ granularity_at new.manifests 0 m here) in
-      subst (λ (g : Granularity). AreFiled g (short_with new stands files)) is.2 (filed_still is.0.granularity (short_with old stands files) new.catalogue.rows keeps (whole.filed is.0 is.1));
+      let is = manifest_of old.manifests i m.granularity (ap (λ (gs : List Granularity). slice_get gs i) (sym same_g) ∙ granularity_at new.manifests i m here) in
+      subst (λ (g : Granularity). AreFiled g (store_with i new stands files)) is.2 (filed_still is.0.granularity (store_with i old stands files) new.catalogue.rows keeps (whole.filed is.0 is.1));
   safe = λ told.
-      let first = manifest_at old.manifests 0 (omega (arith, three)) in
-      safe_grows first.0.granularity (short_with old stands files) new.catalogue.rows new.files new.opened new.past keeps (whole.filed first.0 first.1)
-      (safe_stays (short_with old stands files) (λ a b. b ≡ a) old.files new.files old.opened new.opened old.past new.past (whole.safe told) (passes told) (λ a c is there. subst (AreIn (short_with old stands files)) (sym is) there)
-      (subst (AreLong (short_with old stands files)) (sym (same told)) (whole.safe told).long) (λ n. let is : new.opened n ≡ old.opened n = ap (λ (o : Name → ℕ). o n) (opened told) in omega (arith, is)));
+      let own = manifest_at old.manifests i (omega (arith, three, low)) in
+      safe_grows own.0.granularity (store_with i old stands files) new.catalogue.rows new.files new.opened new.past keeps (whole.filed own.0 own.1)
+      (safe_stays (store_with i old stands files) (λ a b. b ≡ a) old.files new.files old.opened new.opened old.past new.past (whole.safe told) (passes told) (λ a c is there. subst (AreIn (store_with i old stands files)) (sym is) there)
+      (subst (AreLong (store_with i old stands files)) (sym (same told)) (whole.safe told).long) (λ n. let is : new.opened n ≡ old.opened n = ap (λ (o : Name → ℕ). o n) (opened told) in omega (arith, is)));
 }
 
 -- so they do while a doubt is settled
 pub settled_whole : (tells : Bool) (old new : Seen) (limbo : List Retired) (before after : Stores) → IsOpen tells old before after → ((x y : Stores) → IsOpen tells old x y → HasEither tells new x y) → KeepsRows old.catalogue.rows new.catalogue.rows → granularities new.manifests ≡ granularities old.manifests
-    → (IsTrue tells → new.files ≡ old.files) → (IsTrue tells → new.opened ≡ old.opened) → (IsTrue tells → Passes (λ a b. b ≡ a) old.past new.past) → (stands : Bool) (files : List Filed) → AreWhole tells old limbo stands files → AreWhole tells new limbo stands files
+    → (IsTrue tells → new.files ≡ old.files) → (IsTrue tells → new.opened ≡ old.opened) → (IsTrue tells → Passes (λ a b. b ≡ a) old.past new.past) → (i : ℕ) (stands : Bool) (files : List Filed) → i < 3 → AreWhole i tells old limbo stands files → AreWhole i tells new limbo stands files
 settled_whole tells old new limbo before after was settled keeps same_g same opened passes =
     read_whole tells old new limbo (known_open tells old before after was).three (λ name h. settled_held tells old new before after name 0 was settled h) keeps same_g same opened passes
 
 -- or where that failed
 pub still_whole : (tells : Bool) (old new : Seen) (limbo : List Retired) (before after : Stores) → IsOpen tells old before after → ((x y : Stores) → IsOpen tells old x y → IsOpen tells new x y) → KeepsRows old.catalogue.rows new.catalogue.rows → granularities new.manifests ≡ granularities old.manifests
-    → (IsTrue tells → new.files ≡ old.files) → (IsTrue tells → new.opened ≡ old.opened) → (IsTrue tells → Passes (λ a b. b ≡ a) old.past new.past) → (stands : Bool) (files : List Filed) → AreWhole tells old limbo stands files → AreWhole tells new limbo stands files
+    → (IsTrue tells → new.files ≡ old.files) → (IsTrue tells → new.opened ≡ old.opened) → (IsTrue tells → Passes (λ a b. b ≡ a) old.past new.past) → (i : ℕ) (stands : Bool) (files : List Filed) → i < 3 → AreWhole i tells old limbo stands files → AreWhole i tells new limbo stands files
 still_whole tells old new limbo before after was still keeps same_g same opened passes =
     read_whole tells old new limbo (known_open tells old before after was).three (λ name h. still_held tells old new before after name 0 was still h) keeps same_g same opened passes
 
@@ -215,8 +215,8 @@ still_whole tells old new limbo before after was still keeps same_g same opened 
 pub review_whole : {B : Type 0} (tells : Bool) (old new : SeenAll) (r : Result B DiskErr) → new.limbo ≡ old.limbo → (before : Stores) × (after : Stores) × IsOpen tells old.stores before after → ((x y : Stores) → IsOpen tells old.stores x y → OnOk r (HasEither tells new.stores x y))
     → ((x y : Stores) → IsOpen tells old.stores x y → OnErr r (IsOpen tells new.stores x y)) → KeepsRows old.stores.catalogue.rows new.stores.catalogue.rows → granularities new.stores.manifests ≡ granularities old.stores.manifests → (IsTrue tells → new.stores.files ≡ old.stores.files) → (IsTrue tells → new.stores.opened ≡ old.stores.opened)
     → (IsTrue tells → Passes (λ a b. b ≡ a) old.stores.past new.stores.past) → KeepsWhole tells old new
-review_whole {B} tells old new r limbo begun settled still keeps same_g same opened passes stands files whole = (files, subst (λ (l : List Retired). AreWhole tells new.stores l stands files) (sym limbo) (go r settled still))
+review_whole {B} tells old new r limbo begun settled still keeps same_g same opened passes i stands files low whole = (files, subst (λ (l : List Retired). AreWhole i tells new.stores l stands files) (sym limbo) (go r settled still))
   where
-    go : (r : Result B DiskErr) → ((x y : Stores) → IsOpen tells old.stores x y → OnOk r (HasEither tells new.stores x y)) → ((x y : Stores) → IsOpen tells old.stores x y → OnErr r (IsOpen tells new.stores x y)) → AreWhole tells new.stores old.limbo stands files
-    go (Ok a) settled still = settled_whole tells old.stores new.stores old.limbo begun.0 begun.1 begun.2 settled keeps same_g same opened passes stands files whole
-    go (Err e) settled still = still_whole tells old.stores new.stores old.limbo begun.0 begun.1 begun.2 still keeps same_g same opened passes stands files whole
+    go : (r : Result B DiskErr) → ((x y : Stores) → IsOpen tells old.stores x y → OnOk r (HasEither tells new.stores x y)) → ((x y : Stores) → IsOpen tells old.stores x y → OnErr r (IsOpen tells new.stores x y)) → AreWhole i tells new.stores old.limbo stands files
+    go (Ok a) settled still = settled_whole tells old.stores new.stores old.limbo begun.0 begun.1 begun.2 settled keeps same_g same opened passes i stands files low whole
+    go (Err e) settled still = still_whole tells old.stores new.stores old.limbo begun.0 begun.1 begun.2 still keeps same_g same opened passes i stands files low whole

@@ -1,5 +1,5 @@
--- Files in limbo stay whole through a flush.
-use Rattle.std.proofs.Common.{◌≡◌, inl, inr, Bool, true, false, ℕ, zero, suc, ◌<◌, ◌≤◌, List, [], ◌∷◌, map, length, get_or, cond, Option, None, Some, refl, sym, ◌∙◌, ap, subst, arith}
+-- Files in limbo of store 1 stay whole through a flush.
+use Rattle.std.proofs.Common.{◌≡◌, inl, inr, Bool, true, false, ℕ, zero, suc, ◌<◌, ◌≤◌, ◌+◌, List, [], ◌∷◌, map, length, get_or, cond, Option, None, Some, refl, sym, ◌∙◌, ap, subst, arith}
 use Rattle.std.specs.Prelude.{All, Contains, IsTrue, filter, slice_get}
 use Rattle.std.proofs.lemmas.List.{length-append}
 use Rattle.std.proofs.lemmas.List.Elements.{All-contains, All-filter, Contains-append_right, Contains-get_or, filter_passes}
@@ -29,7 +29,7 @@ use Rattle.three_stores.specs.Seen.{granularities}
 use Rattle.three_stores.specs.Change.{Has, EndsFrom}
 use Rattle.three_stores.specs.Limbo.{LimboStands}
 use Rattle.three_stores.specs.Pinned.{SeenAll, IsHeldTo}
-use Rattle.three_stores.specs.Revival.{AreUnlistedIn, AreWhole, IsAmong, IsOfLimbo, flushing_over, short_with}
+use Rattle.three_stores.specs.Revival.{AreUnlistedIn, AreWhole, IsAmong, IsOfLimbo, flushing_over, store_with}
 use Rattle.three_stores.specs.declared.limbo.Retired.{Retired}
 use Rattle.three_stores.proofs.Places.{granularity_at}
 use Rattle.three_stores.proofs.RevivalCall.{listed_there}
@@ -63,15 +63,15 @@ free_in short (x ∷ xs) f free within = by_test (is_free short x) refl within (
     by_test false is (zero, low, at) rest = absurd (let yes : is_free short x ≡ true = ap (is_free short) at ∙ free in cc (yes, is))
     by_test false is (suc k, low, at) rest = rest (k, omega (arith, low), at)
 
--- store 1 of these rows with these files
-abbrev pub short_of : List Row → List Filed → Bool → Held
-short_of rows files stands = record { store = 1; rows = rows; files = files; stands = stands }
+-- the store at a place, of these rows, with these files
+abbrev pub store_of : ℕ → List Row → List Filed → Bool → Held
+store_of i rows files stands = record { store = i + 1; rows = rows; files = files; stands = stands }
 
 module _ (tells : Bool) (files : List Filed) (batch : List RowSamples) (old new : SeenAll) (end : End ℕ ⊥) (limbo : new.limbo ≡ old.limbo) (catalogue : new.stores.catalogue ≡ old.stores.catalogue) (same_g : granularities new.stores.manifests ≡ granularities old.stores.manifests) (stands : LimboStands old.stores old.limbo)
     (held : Stores) (has : Has tells old.stores held) (ends : EndsFrom tells (flushing_over old.limbo files batch) new.stores held end) (m : ManifestState) (here : slice_get old.stores.manifests 0 ≡ Some m)
     (entries : List Entry) (listed : AreUnlistedIn old.stores.manifests 1 old.limbo entries) (back : List Filed) (back_are : map entry_of back ≡ entries) (in_limbo : one_store.AreInLimbo m.granularity (tier 0 held) back)
     (leaves : IsTrue tells → LeavesListed (listing_of (with_files (tier 0 held) back)) old.stores.files new.stores.files old.stores.past new.stores.past) (long : IsTrue tells → AreLong (with_files (tier 0 held) back) new.stores.files) (fewer : IsTrue tells → (n : Name) → new.stores.opened n ≤ old.stores.opened n)
-    (stand : Bool) (were : List Filed) (whole : AreWhole tells old.stores old.limbo stand were) where
+    (stand : Bool) (were : List Filed) (whole : AreWhole 0 tells old.stores old.limbo stand were) where
   abbrev left : List Filed
   left = free_of held.short were
 
@@ -86,14 +86,14 @@ module _ (tells : Bool) (files : List Filed) (batch : List RowSamples) (old new 
   back_has k d lt =
       let f : Filed = get_or left k d in
       let none : file_at (filed_at f) held.short ≡ None = none_is (file_at (filed_at f) held.short) (filter_passes (is_free held.short) were k d lt) in
-      let of = All-contains (λ (x : Filed). IsOfLimbo old.limbo x.entry) were f whole.from (was_in k d lt) in
+      let of = All-contains (λ (x : Filed). IsOfLimbo 0 old.limbo x.entry) were f whole.from (was_in k d lt) in
       let none_of : file_at (place of.file.entry) held.short ≡ None = ap (λ (e : Entry). file_at (place e) held.short) of.is ∙ none in
       let known = has.known.each 0 m here in
       let there = listed.every of.file of.within (of.store, λ lists. listed_there old.stores.manifests m held.short of.file here known.entries known.valid.apart of.store none_of lists) in
       let found = contains_map back of.file.entry (subst (λ (es : List Entry). Contains es of.file.entry) (sym back_are) there) in
       (found.0, limbo_stays m.granularity (tier 0 held) back found.0 in_limbo found.1, found.2 ∙ of.is)
 
-  each_left : All (IsAmong new.stores left) old.limbo
+  each_left : All (IsAmong 0 new.stores left) old.limbo
   each_left k d lt number =
       let r : Retired = get_or old.limbo k d in
       let goes : IsHeldTo old.stores r.name 0 → IsHeldTo new.stores r.name 0 = λ h. ends_held tells (flushing_over old.limbo files batch) old.stores new.stores held end r.name 0 has (λ made by. over_on old.limbo files batch held made by) ends h in
@@ -105,7 +105,7 @@ module _ (tells : Bool) (files : List Filed) (batch : List RowSamples) (old new 
               let free : is_free held.short f.0 ≡ true = ap (λ (e : Entry). is_none (file_at (place e) held.short)) f.2 ∙ ap is_none none in
               inr (subst (Contains (map entry_of left)) f.2 (contains_entry left f.0 (free_in held.short were f.0 free f.1)))
           | inr (h, within, same, found_is) ↦
-              let name_is = place_named tells old.stores old.limbo held m here stands has r (Contains-get_or old.limbo k d lt) number h within same in
+              let name_is = place_named 0 tells old.stores old.limbo held m here stands has r (Contains-get_or old.limbo k d lt) number h within same in
               inl (goes (has_held tells old.stores held 0 r.name 0 has (omega arith) (record { entry = h.entry; within = contains_entry held.short h within; named = name_is; longer = omega arith })))
         ]
       ]
@@ -113,20 +113,20 @@ module _ (tells : Bool) (files : List Filed) (batch : List RowSamples) (old new 
   rows_are : new.stores.catalogue.rows ≡ held.rows
   rows_are = ap (λ (c : CatalogueState). c.rows) catalogue ∙ has.known.rows
 
-  filed_were : AreFiled m.granularity (short_of held.rows were stand)
-  filed_were = subst (λ (rows : List Row). AreFiled m.granularity (short_of rows were stand)) has.known.rows (whole.filed m here)
+  filed_were : AreFiled m.granularity (store_of 0 held.rows were stand)
+  filed_were = subst (λ (rows : List Row). AreFiled m.granularity (store_of 0 rows were stand)) has.known.rows (whole.filed m here)
 
-  safe_were : IsTrue tells → AreSafe (short_of held.rows were stand) old.stores.files old.stores.opened old.stores.past
-  safe_were told = subst (λ (rows : List Row). AreSafe (short_of rows were stand) old.stores.files old.stores.opened old.stores.past) has.known.rows (whole.safe told)
+  safe_were : IsTrue tells → AreSafe (store_of 0 held.rows were stand) old.stores.files old.stores.opened old.stores.past
+  safe_were told = subst (λ (rows : List Row). AreSafe (store_of 0 rows were stand) old.stores.files old.stores.opened old.stores.past) has.known.rows (whole.safe told)
 
-  filed_left : AreFiled m.granularity (short_of held.rows left stand)
+  filed_left : AreFiled m.granularity (store_of 0 held.rows left stand)
   filed_left = record {
     numbered = filed_were.numbered;
     listed = λ k d lt. All-contains (IsListed m.granularity held.rows) were (get_or left k d) filed_were.listed (was_in k d lt);
     filed = λ is k d lt. All-contains (IsFiled m.granularity held.rows) were (get_or left k d) (filed_were.filed is) (was_in k d lt);
   }
 
-  safe_left : IsTrue tells → AreSafe (short_of held.rows left stand) new.stores.files new.stores.opened new.stores.past
+  safe_left : IsTrue tells → AreSafe (store_of 0 held.rows left stand) new.stores.files new.stores.opened new.stores.past
   safe_left told = record {
     long = λ k d lt.
         let f = back_has k d lt in
@@ -149,13 +149,13 @@ module _ (tells : Bool) (files : List Filed) (batch : List RowSamples) (old new 
         kept (bytes_of x) (omega (arith, length-append x.head (10 ∷ lines_of x.samples))) (omega (arith, len)) was;
   }
 
-  pub whole_left : AreWhole tells new.stores new.limbo stand left
+  pub whole_left : AreWhole 0 tells new.stores new.limbo stand left
   whole_left = record {
-    each = subst (λ (l : List Retired). All (IsAmong new.stores left) l) (sym limbo) each_left;
-    from = λ k d lt. subst (λ (l : List Retired). IsOfLimbo l (get_or left k d).entry) (sym limbo) (All-contains (λ (x : Filed). IsOfLimbo old.limbo x.entry) were (get_or left k d) whole.from (was_in k d lt));
+    each = subst (λ (l : List Retired). All (IsAmong 0 new.stores left) l) (sym limbo) each_left;
+    from = λ k d lt. subst (λ (l : List Retired). IsOfLimbo 0 l (get_or left k d).entry) (sym limbo) (All-contains (λ (x : Filed). IsOfLimbo 0 old.limbo x.entry) were (get_or left k d) whole.from (was_in k d lt));
     rise = rise_filter (is_free held.short) were whole.rise;
     filed = λ n there.
         let same : n.granularity ≡ m.granularity = same_Some n.granularity m.granularity (sym (granularity_at new.stores.manifests 0 n there) ∙ (ap (λ (gs : List Granularity). slice_get gs 0) same_g ∙ granularity_at old.stores.manifests 0 m here)) in
-        subst (λ (g : Granularity). AreFiled g (short_with new.stores stand left)) (sym same) (subst (λ (rows : List Row). AreFiled m.granularity (short_of rows left stand)) (sym rows_are) filed_left);
-    safe = λ told. subst (λ (rows : List Row). AreSafe (short_of rows left stand) new.stores.files new.stores.opened new.stores.past) (sym rows_are) (safe_left told);
+        subst (λ (g : Granularity). AreFiled g (store_with 0 new.stores stand left)) (sym same) (subst (λ (rows : List Row). AreFiled m.granularity (store_of 0 rows left stand)) (sym rows_are) filed_left);
+    safe = λ told. subst (λ (rows : List Row). AreSafe (store_of 0 rows left stand) new.stores.files new.stores.opened new.stores.past) (sym rows_are) (safe_left told);
   }

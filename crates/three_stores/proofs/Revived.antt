@@ -473,7 +473,7 @@ module _ (g : Granularity) (rows : List Row) (listed limbo written : List Filed)
   samples_over = subst (λ (l : List Sample). samples_of row (put_all listed written) ≡ of_files listed_files ++ (revived limbo row l ++ l)) (sym fresh_is) (added (of_row row written) refl)
 
 -- of stores that are known
-pub flush_revives : (tells : Bool) (at : Seen) (later : CatalogueState) (ns : List ManifestState) (limbo : List Retired) (files : List Filed) (batch : List RowSamples) (old new : Stores) → IsKnown at.catalogue at.manifests old → IsKnown later ns new → granularities ns ≡ granularities at.manifests → IsTrue old.stands → AreWhole tells at limbo old.stands files
+pub flush_revives : (tells : Bool) (at : Seen) (later : CatalogueState) (ns : List ManifestState) (limbo : List Retired) (files : List Filed) (batch : List RowSamples) (old new : Stores) → IsKnown at.catalogue at.manifests old → IsKnown later ns new → granularities ns ≡ granularities at.manifests → IsTrue old.stands → AreWhole 0 tells at limbo old.stands files
     → (by : FlushesOver limbo files batch old new) → (row : ℕ) → samples_of row new.short ≡ samples_of row old.short ++ (revived by.back row (fresh row (samples_of row (put_all old.short by.back)) batch) ++ fresh row (samples_of row (put_all old.short by.back)) batch)
 flush_revives tells at later ns limbo files batch old new known known_new same_g stands whole by row =
     let m = manifest_at at.manifests 0 (let three = known.three in omega (arith, three)) in

@@ -17,10 +17,10 @@ use Rattle.three_stores.specs.Pinned.{NoneOf}
 use Rattle.three_stores.specs.Revival.{IsOfLimbo, AreWhole, FlushesOver, CountsOver, flushing_over}
 use Rattle.three_stores.specs.declared.limbo.Retired.{Retired}
 
-none_back : (limbo : List Retired) (back : List Filed) → NoneOf 1 limbo → All (λ (f : Filed). IsOfLimbo limbo f.entry) back → back ≡ []
+none_back : (limbo : List Retired) (back : List Filed) → NoneOf 1 limbo → All (λ (f : Filed). IsOfLimbo 0 limbo f.entry) back → back ≡ []
 none_back limbo [] none from = refl
 none_back limbo (f ∷ back) none from =
-    let one = All-head (λ (x : Filed). IsOfLimbo limbo x.entry) f back from in
+    let one = All-head (λ (x : Filed). IsOfLimbo 0 limbo x.entry) f back from in
     absurd (All-contains (λ (r : Retired). r.name.0 ≡ 1 → ⊥) limbo one.file none one.within one.store)
 
 pub plain_by : (limbo : List Retired) (files : List Filed) (batch : List RowSamples) (old new : Stores) → NoneOf 1 limbo → FlushesOver limbo files batch old new → Flushes batch old new
@@ -33,9 +33,9 @@ plain_count limbo files batch n old new none counts =
     let count = subst (λ (l : List Filed). count_of (put_all (put_all old.short l) counts.over.flushed.written) ≡ count_of (put_all old.short l) + n) (none_back limbo counts.over.back none counts.over.in_limbo.from) counts.count in
     ap (λ (t : Held). count_of t.files) counts.over.flushed.lists ∙ count
 
--- nothing of store 1 is in limbo, and that is whole
-pub none_whole : (tells : Bool) (at : Seen) (limbo : List Retired) (stands : Bool) → NoneOf 1 limbo → AreWhole tells at limbo stands []
-none_whole tells at limbo stands none = record {
+-- nothing of a store is in limbo, and that is whole
+pub none_whole : (i : ℕ) (tells : Bool) (at : Seen) (limbo : List Retired) (stands : Bool) → NoneOf (i + 1) limbo → AreWhole i tells at limbo stands []
+none_whole i tells at limbo stands none = record {
   each = λ k d lt number. absurd (none k d lt number);
   from = λ k d lt. absurd (omega (arith, lt));
   rise = tt;

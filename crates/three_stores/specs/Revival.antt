@@ -1,5 +1,5 @@
 -- A flush into partitions of files in limbo. Such a file is revived: it goes on behind its old length and is listed again.
-use Rattle.std.specs.Prelude.{◌≡◌, ◌⊎◌, ◌+◌, ◌&&◌, ℕ, Bool, List, [], ◌∷◌, map, length, drop, nat_eq, nat_le, nat_lt, if◌then◌else◌, All, Contains, IsTrue, None, Some, slice_get}
+use Rattle.std.specs.Prelude.{◌≡◌, ◌⊎◌, ◌<◌, ◌+◌, ◌&&◌, ℕ, Bool, List, [], ◌∷◌, map, length, drop, nat_eq, nat_le, nat_lt, if◌then◌else◌, All, Contains, IsTrue, None, Some, slice_get}
 use Rattle.series_model.specs.declared.batch.RowSamples.{RowSamples}
 use Rattle.series_model.specs.declared.sample.Sample.{Sample}
 use Rattle.store_manifest.specs.declared.entry.Entry.{Entry}
@@ -35,37 +35,37 @@ pub record AreUnlistedIn (manifests : List ManifestState) (store : ℕ) (limbo :
   pub from : All (IsOfUnlisted manifests store limbo) entries
   pub every : (r : Retired) → Contains limbo r → IsUnlistedOf manifests store r → Contains entries r.entry
 
--- a file in limbo of store 1 has this entry
-pub record IsOfLimbo (limbo : List Retired) (entry : Entry) : Type 0 where
+-- a file in limbo of the store at a place has this entry
+pub record IsOfLimbo (i : ℕ) (limbo : List Retired) (entry : Entry) : Type 0 where
   pub file : Retired
   pub within : Contains limbo file
-  pub store : file.name.0 ≡ 1
+  pub store : file.name.0 ≡ i + 1
   pub is : file.entry ≡ entry
 
--- store 1 with these files alone
-abbrev pub short_with : Seen → Bool → List Filed → Held
-short_with at stands files = record { store = 1; rows = at.catalogue.rows; files = files; stands = stands }
+-- the store at a place with these files alone
+abbrev pub store_with : ℕ → Seen → Bool → List Filed → Held
+store_with i at stands files = record { store = i + 1; rows = at.catalogue.rows; files = files; stands = stands }
 
--- the file is one of these, if it is of store 1; or the store lists it, and so does what is after a change that stands in doubt
-abbrev pub IsAmong : Seen → List Filed → Retired → Type 0
-IsAmong at files r = r.name.0 ≡ 1 → IsHeldTo at r.name 0 ⊎ Contains (map entry_of files) r.entry
+-- the file is one of these, if it is of that store; or the store lists it, and so does what is after a change that stands in doubt
+abbrev pub IsAmong : ℕ → Seen → List Filed → Retired → Type 0
+IsAmong i at files r = r.name.0 ≡ i + 1 → IsHeldTo at r.name 0 ⊎ Contains (map entry_of files) r.entry
 
--- These are the files in limbo of store 1 that it doesn't list, or may not list once a doubt is settled: they are as safe on the disk as
--- listed files are, and no two of them are of one row and partition.
-pub record AreWhole (tells : Bool) (at : Seen) (limbo : List Retired) (stands : Bool) (files : List Filed) : Type 0 where
-  pub each : All (IsAmong at files) limbo
-  pub from : All (λ (f : Filed). IsOfLimbo limbo f.entry) files
+-- These are the files in limbo of the store at a place that it doesn't list, or may not list once a doubt is settled: they are as safe on the
+-- disk as listed files are, and no two of them are of one row and partition.
+pub record AreWhole (i : ℕ) (tells : Bool) (at : Seen) (limbo : List Retired) (stands : Bool) (files : List Filed) : Type 0 where
+  pub each : All (IsAmong i at files) limbo
+  pub from : All (λ (f : Filed). IsOfLimbo i limbo f.entry) files
   pub rise : PlacesRise files
-  pub filed : (m : ManifestState) → slice_get at.manifests 0 ≡ Some m → AreFiled m.granularity (short_with at stands files)
-  pub safe : IsTrue tells → AreSafe (short_with at stands files) at.files at.opened at.past
+  pub filed : (m : ManifestState) → slice_get at.manifests i ≡ Some m → AreFiled m.granularity (store_with i at stands files)
+  pub safe : IsTrue tells → AreSafe (store_with i at stands files) at.files at.opened at.past
 
--- limbo stays whole: of whatever files it was, it is so of some still
+-- limbo of each store stays whole: of whatever files it was, it is so of some still
 abbrev pub KeepsWhole : Bool → SeenAll → SeenAll → Type 0
-KeepsWhole tells old new = (stands : Bool) (files : List Filed) → AreWhole tells old.stores old.limbo stands files → (left : List Filed) × AreWhole tells new.stores new.limbo stands left
+KeepsWhole tells old new = (i : ℕ) (stands : Bool) (files : List Filed) → i < 3 → AreWhole i tells old.stores old.limbo stands files → (left : List Filed) × AreWhole i tells new.stores new.limbo stands left
 
 -- So does limbo of stores that stand as these do: files that come to it stand no further than they did where they were listed.
 abbrev pub KeepsWholeOf : Bool → SeenAll → SeenAll → Stores → Type 0
-KeepsWholeOf tells old new held = (files : List Filed) → AreWhole tells old.stores old.limbo held.stands files → (left : List Filed) × AreWhole tells new.stores new.limbo held.stands left
+KeepsWholeOf tells old new held = (i : ℕ) (files : List Filed) → i < 3 → AreWhole i tells old.stores old.limbo held.stands files → (left : List Filed) × AreWhole i tells new.stores new.limbo held.stands left
 
 -- THE FLUSH
 
@@ -73,7 +73,7 @@ KeepsWholeOf tells old new held = (files : List Filed) → AreWhole tells old.st
 pub record AreInLimbo (limbo : List Retired) (files : List Filed) (held : Stores) (back : List Filed) : Type 0 where
   pub known : All (Contains files) back
   pub unlisted : AreUnlisted held.short back
-  pub from : All (λ (f : Filed). IsOfLimbo limbo f.entry) back
+  pub from : All (λ (f : Filed). IsOfLimbo 0 limbo f.entry) back
   pub every : (r : Retired) → Contains limbo r → r.name.0 ≡ 1 → file_at (place r.entry) held.short ≡ None → Contains (map entry_of back) r.entry
 
 -- Store 1 has all of the batch too, flushed as if its files in limbo were listed, and stores 2 and 3 stay.

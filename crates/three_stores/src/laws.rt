@@ -71,25 +71,25 @@ pub fn a_flush_adds_the_batch()
 /// row, and between the two those of the file in limbo into whose partition the first of them comes.
 pub fn a_flush_revives<D: Disk>()
     ensures { (disk : D) (catalogue later : CatalogueState) (ms ns : List ManifestState) (limbo : List Retired) (files : List Filed) (batch : List RowSamples) (old new : Stores) → IsKnown catalogue ms old → IsKnown later ns new → granularities ns ≡ granularities ms → IsTrue old.stands
-        → AreWhole D.tells (seen_on D.files D.opened D.past D.faults catalogue ms disk) limbo old.stands files → (by : FlushesOver limbo files batch old new) → (row : ℕ)
+        → AreWhole 0 D.tells (seen_on D.files D.opened D.past D.faults catalogue ms disk) limbo old.stands files → (by : FlushesOver limbo files batch old new) → (row : ℕ)
         → samples_of row new.short ≡ samples_of row old.short ++ (revived by.back row (fresh row (samples_of row (put_all old.short by.back)) batch) ++ fresh row (samples_of row (put_all old.short by.back)) batch) }
 {}
 
 /// Where no file of store 1 is in limbo nothing need be known of limbo, and a flush is one of what is listed alone.
 pub fn a_flush_without_limbo<D: Disk>()
-    ensures whole { (disk : D) (catalogue : CatalogueState) (ms : List ManifestState) (limbo : List Retired) (stands : Bool) → NoneOf 1 limbo → AreWhole D.tells (seen_on D.files D.opened D.past D.faults catalogue ms disk) limbo stands [] }
+    ensures whole { (disk : D) (catalogue : CatalogueState) (ms : List ManifestState) (limbo : List Retired) (stands : Bool) → NoneOf 1 limbo → AreWhole 0 D.tells (seen_on D.files D.opened D.past D.faults catalogue ms disk) limbo stands [] }
     ensures acts { (disk after : D) (catalogue later : CatalogueState) (ms ns : List ManifestState) (limbo : List Retired) (batch : List RowSamples) (end : End ℕ ⊥) → NoneOf 1 limbo
-        → ActsGiven (λ held. AreWhole D.tells (seen_on D.files D.opened D.past D.faults catalogue ms disk) limbo held.stands []) D.tells (flushing_over limbo [] batch) (seen_on D.files D.opened D.past D.faults catalogue ms disk) (seen_on D.files D.opened D.past D.faults later ns after) end
+        → ActsGiven (λ held. AreWhole 0 D.tells (seen_on D.files D.opened D.past D.faults catalogue ms disk) limbo held.stands []) D.tells (flushing_over limbo [] batch) (seen_on D.files D.opened D.past D.faults catalogue ms disk) (seen_on D.files D.opened D.past D.faults later ns after) end
         → Acts D.tells (flushing batch) (seen_on D.files D.opened D.past D.faults catalogue ms disk) (seen_on D.files D.opened D.past D.faults later ns after) end }
 {}
 
-/// Files in limbo stay whole while a doubt is settled.
+/// Files in limbo of each store stay whole while a doubt is settled.
 pub fn limbo_is_whole<D: Disk>()
-    ensures { (disk after : D) (catalogue later : CatalogueState) (ms ns : List ManifestState) (limbo : List Retired) (stands : Bool) (files : List Filed) (before next : Stores)
+    ensures { (disk after : D) (catalogue later : CatalogueState) (ms ns : List ManifestState) (limbo : List Retired) (i : ℕ) (stands : Bool) (files : List Filed) (before next : Stores) → i < 3
         → IsOpen D.tells (seen_on D.files D.opened D.past D.faults catalogue ms disk) before next
         → ((x y : Stores) → IsOpen D.tells (seen_on D.files D.opened D.past D.faults catalogue ms disk) x y → HasEither D.tells (seen_on D.files D.opened D.past D.faults later ns after) x y)
         → KeepsRows catalogue.rows later.rows → granularities ns ≡ granularities ms → (IsTrue D.tells → D.files after ≡ D.files disk) → (IsTrue D.tells → D.opened after ≡ D.opened disk) → (IsTrue D.tells → Passes (λ a b. b ≡ a) (D.past disk) (D.past after))
-        → AreWhole D.tells (seen_on D.files D.opened D.past D.faults catalogue ms disk) limbo stands files → AreWhole D.tells (seen_on D.files D.opened D.past D.faults later ns after) limbo stands files }
+        → AreWhole i D.tells (seen_on D.files D.opened D.past D.faults catalogue ms disk) limbo stands files → AreWhole i D.tells (seen_on D.files D.opened D.past D.faults later ns after) limbo stands files }
 {}
 
 /// Files that a store lists may be dropped from its list: what is left is as safe as it was.

@@ -93,8 +93,8 @@ impl<D: Disk> TierStore<D> {
     fn flush_batch(&mut self, batch: &Batch) -> Result<u64, DiskErr>
         requires can { CanFlush self.old.catalogue.rows batch.now }
         requires stands { LimboStands (seen D.Disk self.old) self.old.limbo.items }
-        requires has { (held : Stores) × (files : List Filed) × Has D.tells (seen D.Disk self.old) held × AreWhole D.tells (seen D.Disk self.old) self.old.limbo.items held.stands files }
-        ensures changes { (files : List Filed) → ChangesGiven (λ held. AreWhole D.tells (seen D.Disk self.old) self.old.limbo.items held.stands files) D.tells (flushing_over self.old.limbo.items files batch.now) (seen D.Disk self.old) (seen D.Disk self.new) (end_of_disk result) }
+        requires has { (held : Stores) × (files : List Filed) × Has D.tells (seen D.Disk self.old) held × AreWhole 0 D.tells (seen D.Disk self.old) self.old.limbo.items held.stands files }
+        ensures changes { (files : List Filed) → ChangesGiven (λ held. AreWhole 0 D.tells (seen D.Disk self.old) self.old.limbo.items held.stands files) D.tells (flushing_over self.old.limbo.items files batch.now) (seen D.Disk self.old) (seen D.Disk self.new) (end_of_disk result) }
         ensures catalogue { self.new.catalogue ≡ self.old.catalogue }
         ensures shown { KeepsShown D.tells (seen_all D.Disk self.old) (seen_all D.Disk self.new) }
         ensures leaves { LeavesLater D.tells (seen_all D.Disk self.old) (seen_all D.Disk self.new) }
@@ -130,9 +130,9 @@ impl<D: Disk> TierStore<D> {
     pub fn flush(&mut self, batch: &Batch) -> Result<u64, DiskErr>
         requires can { CanFlush self.old.catalogue.rows batch.now }
         requires stands { LimboStands (seen D.Disk self.old) self.old.limbo.items }
-        requires begun { (before : Stores) × (after : Stores) × (files : List Filed) × IsOpen D.tells (seen D.Disk self.old) before after × AreWhole D.tells (seen D.Disk self.old) self.old.limbo.items before.stands files }
+        requires begun { (before : Stores) × (after : Stores) × (files : List Filed) × IsOpen D.tells (seen D.Disk self.old) before after × AreWhole 0 D.tells (seen D.Disk self.old) self.old.limbo.items before.stands files }
 
-        ensures acts { (files : List Filed) → ActsGiven (λ held. AreWhole D.tells (seen D.Disk self.old) self.old.limbo.items held.stands files) D.tells (flushing_over self.old.limbo.items files batch.now) (seen D.Disk self.old) (seen D.Disk self.new) (end_of_disk result) }
+        ensures acts { (files : List Filed) → ActsGiven (λ held. AreWhole 0 D.tells (seen D.Disk self.old) self.old.limbo.items held.stands files) D.tells (flushing_over self.old.limbo.items files batch.now) (seen D.Disk self.old) (seen D.Disk self.new) (end_of_disk result) }
         ensures keeps { KeepsRows self.old.catalogue.rows self.new.catalogue.rows }
         ensures settled { IsTrue self.old.catalogue.journal.sound → self.new.catalogue ≡ self.old.catalogue }
         ensures shown { KeepsShown D.tells (seen_all D.Disk self.old) (seen_all D.Disk self.new) }

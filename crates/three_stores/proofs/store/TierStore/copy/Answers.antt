@@ -110,7 +110,7 @@ pub returns-in_err-review-clause-passes : goal.returns-in_err-review-clause-pass
 returns-in_err-review-clause-passes g c = on_err _ c.from_residual.result (passes_none c.args.moving.now)
 
 pub returns-in_err-review-clause-whole : goal.returns-in_err-review-clause-whole
-returns-in_err-review-clause-whole g c stands files whole =
+returns-in_err-review-clause-whole g c i stands files low whole =
     let disk = g.D.Disk in
     let old = c.args.self.now in
     let mid = c.review.new.self in
@@ -119,10 +119,10 @@ returns-in_err-review-clause-whole g c stands files whole =
     let was = c.requires.begun in
     let says = c.review.ensures in
     let limbo = old.limbo.items in
-    (files, subst (λ (l : List Retired). AreWhole disk.tells between l stands files) (sym (ap (λ l. l.items) says.limbo)) (still_whole disk.tells before between limbo was.1 was.2 was.3 c.in_err-review.ensures.still says.keeps says.granularity says.reads.files says.opened says.reads.any_moment stands files whole))
+    (files, subst (λ (l : List Retired). AreWhole i disk.tells between l stands files) (sym (ap (λ l. l.items) says.limbo)) (still_whole disk.tells before between limbo was.1 was.2 was.3 c.in_err-review.ensures.still says.keeps says.granularity says.reads.files says.opened says.reads.any_moment i stands files low whole))
 
 pub returns-clause-whole : goal.returns-clause-whole
-returns-clause-whole g c stands files whole =
+returns-clause-whole g c i stands files low whole =
     let disk = g.D.Disk in
     let old = c.args.self.now in
     let mid = c.review.new.self in
@@ -131,8 +131,8 @@ returns-clause-whole g c stands files whole =
     let was = c.requires.begun in
     let says = c.review.ensures in
     let limbo = old.limbo.items in
-    let settled = settled_whole disk.tells before between limbo was.1 was.2 was.3 c.in_ok-review.ensures.settled says.keeps says.granularity says.reads.files says.opened says.reads.any_moment stands files whole in
-    c.copy_settled.ensures.whole stands files (subst (λ (l : List Retired). AreWhole disk.tells between l stands files) (sym (ap (λ l. l.items) says.limbo)) settled)
+    let settled = settled_whole disk.tells before between limbo was.1 was.2 was.3 c.in_ok-review.ensures.settled says.keeps says.granularity says.reads.files says.opened says.reads.any_moment i stands files low whole in
+    c.copy_settled.ensures.whole i stands files low (subst (λ (l : List Retired). AreWhole i disk.tells between l stands files) (sym (ap (λ l. l.items) says.limbo)) settled)
 
 pub returns-clause-settled : goal.returns-clause-settled
 returns-clause-settled g c sound = c.copy_settled.ensures.same.0 ∙ c.review.ensures.rows sound

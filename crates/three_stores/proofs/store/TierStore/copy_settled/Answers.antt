@@ -7,7 +7,8 @@ use Rattle.three_stores.specs.Pinned.{NoneOf}
 use Rattle.three_stores.specs.declared.limbo.Retired.{Retired}
 use Rattle.three_stores.proofs.CopyLooks.{err_says, looks_err, looks_whole}
 use Rattle.three_stores.proofs.CopyPass.{passes_then}
-use Rattle.three_stores.proofs.CopySteps.{damaged_same, look_then_change, looks_change, looks_done, moves_passed, moves_then, on_err, on_err_then, on_ok, only_looks_others, others_then, says_ended, says_from, whole_then}
+use Rattle.three_stores.proofs.CopySteps.{damaged_same, look_then_change, looks_change, looks_done, moves_passed, moves_then, on_err, on_err_then, on_ok, only_looks_others, others_then, says_ended, says_from}
+use Rattle.three_stores.proofs.WholeCalls.{whole_then}
 use Rattle.three_stores.proofs.store.TierStore.copy_settled.Goals as goal
 
 pub copy_lines-requires-clause-runs : goal.copy_lines-requires-clause-runs

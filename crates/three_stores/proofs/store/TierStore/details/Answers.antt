@@ -12,7 +12,7 @@ pub returns-clause-leaves : goal.returns-clause-leaves
 returns-clause-leaves g c = c.describe_settled.ensures.leaves
 
 pub returns-in_default-clause-whole : goal.returns-in_default-clause-whole
-returns-in_default-clause-whole g c stands files whole = (files, whole)
+returns-in_default-clause-whole g c i stands files low whole = (files, whole)
 
 pub returns-clause-whole : goal.returns-clause-whole
 returns-clause-whole g c = c.describe_settled.ensures.whole

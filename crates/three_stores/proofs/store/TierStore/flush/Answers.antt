@@ -1,4 +1,4 @@
-use Rattle.std.proofs.Common.{Bool, Err, List, Result, ℕ, ◌∙◌, ap, subst, sym}
+use Rattle.std.proofs.Common.{Bool, Err, List, Result, ℕ, ◌∙◌, ap, arith, subst, sym}
 use Rattle.std.proofs.lemmas.Result.{err_from_is_err_and}
 use Rattle.disk_model.specs.declared.disk.DiskErr.{DiskErr}
 use Rattle.tier_store.specs.Ends.{end_of_disk}
@@ -40,10 +40,10 @@ flush_batch-requires-clause-has g c =
     let settled = c.in_ok-review.ensures.settled in
     let limbo = old.limbo.items in
     let files = was.2 in
-    let Whole : Stores → Type 0 = λ s. AreWhole disk.tells before limbo s.stands files in
-    let held = has_one_given Whole (λ s t same p. subst (λ (b : Bool). AreWhole disk.tells before limbo b files) (sym same) p) disk.tells before between was.0 was.1 settled was.4 was.3 in
-    let whole = settled_whole disk.tells before between limbo was.0 was.1 was.3 settled says.keeps says.granularity says.reads.files says.opened says.reads.any_moment held.0.stands files held.1 in
-    (held.0, files, held.2, subst (λ (l : List Retired). AreWhole disk.tells between l held.0.stands files) (sym (ap (λ l. l.items) says.limbo)) whole)
+    let Whole : Stores → Type 0 = λ s. AreWhole 0 disk.tells before limbo s.stands files in
+    let held = has_one_given Whole (λ s t same p. subst (λ (b : Bool). AreWhole 0 disk.tells before limbo b files) (sym same) p) disk.tells before between was.0 was.1 settled was.4 was.3 in
+    let whole = settled_whole disk.tells before between limbo was.0 was.1 was.3 settled says.keeps says.granularity says.reads.files says.opened says.reads.any_moment 0 held.0.stands files (omega arith) held.1 in
+    (held.0, files, held.2, subst (λ (l : List Retired). AreWhole 0 disk.tells between l held.0.stands files) (sym (ap (λ l. l.items) says.limbo)) whole)
 
 pub returns-in_err-review-clause-acts : goal.returns-in_err-review-clause-acts
 returns-in_err-review-clause-acts g c files =
@@ -63,19 +63,19 @@ returns-clause-acts g c files =
     let says = c.review.ensures in
     let settled = c.in_ok-review.ensures.settled in
     let limbo = old.limbo.items in
-    let Whole : Stores → Type 0 = λ s. AreWhole disk.tells before limbo s.stands files in
-    let Then : Stores → Type 0 = λ s. AreWhole disk.tells between limbo s.stands files in
+    let Whole : Stores → Type 0 = λ s. AreWhole 0 disk.tells before limbo s.stands files in
+    let Then : Stores → Type 0 = λ s. AreWhole 0 disk.tells between limbo s.stands files in
     then_given Whole Then disk.tells (flushing_over limbo files c.args.batch.now) before between _ (end_of_disk c.review.result) _
-    (λ s p. settled_whole disk.tells before between limbo was.0 was.1 was.3 settled says.keeps says.granularity says.reads.files says.opened says.reads.any_moment s.stands files p)
+    (λ s p. settled_whole disk.tells before between limbo was.0 was.1 was.3 settled says.keeps says.granularity says.reads.files says.opened says.reads.any_moment 0 s.stands files (omega arith) p)
     settled (λ held has. rw (says.nothing has.settled).1 has) says.granularity says.reads
-    (subst (λ (l : List Retired). ChangesGiven (λ s. AreWhole disk.tells between l s.stands files) disk.tells (flushing_over l files c.args.batch.now) between after (end_of_disk c.flush_batch.result)) (ap (λ l. l.items) says.limbo) (c.flush_batch.ensures.changes files))
+    (subst (λ (l : List Retired). ChangesGiven (λ s. AreWhole 0 disk.tells between l s.stands files) disk.tells (flushing_over l files c.args.batch.now) between after (end_of_disk c.flush_batch.result)) (ap (λ l. l.items) says.limbo) (c.flush_batch.ensures.changes files))
 
 pub returns-clause-shown : goal.returns-clause-shown
 returns-clause-shown g c name bytes was =
     c.flush_batch.ensures.shown name bytes (c.review.ensures.shown name bytes was)
 
 pub returns-in_err-review-clause-whole : goal.returns-in_err-review-clause-whole
-returns-in_err-review-clause-whole g c stands files whole =
+returns-in_err-review-clause-whole g c i stands files low whole =
     let disk = g.D.Disk in
     let old = c.args.self.now in
     let mid = c.review.new.self in
@@ -84,10 +84,10 @@ returns-in_err-review-clause-whole g c stands files whole =
     let was = c.requires.begun in
     let says = c.review.ensures in
     let limbo = old.limbo.items in
-    (files, subst (λ (l : List Retired). AreWhole disk.tells between l stands files) (sym (ap (λ l. l.items) says.limbo)) (still_whole disk.tells before between limbo was.0 was.1 was.3 c.in_err-review.ensures.still says.keeps says.granularity says.reads.files says.opened says.reads.any_moment stands files whole))
+    (files, subst (λ (l : List Retired). AreWhole i disk.tells between l stands files) (sym (ap (λ l. l.items) says.limbo)) (still_whole disk.tells before between limbo was.0 was.1 was.3 c.in_err-review.ensures.still says.keeps says.granularity says.reads.files says.opened says.reads.any_moment i stands files low whole))
 
 pub returns-clause-whole : goal.returns-clause-whole
-returns-clause-whole g c stands files whole =
+returns-clause-whole g c i stands files low whole =
     let disk = g.D.Disk in
     let old = c.args.self.now in
     let mid = c.review.new.self in
@@ -96,8 +96,8 @@ returns-clause-whole g c stands files whole =
     let was = c.requires.begun in
     let says = c.review.ensures in
     let limbo = old.limbo.items in
-    let settled = settled_whole disk.tells before between limbo was.0 was.1 was.3 c.in_ok-review.ensures.settled says.keeps says.granularity says.reads.files says.opened says.reads.any_moment stands files whole in
-    c.flush_batch.ensures.whole stands files (subst (λ (l : List Retired). AreWhole disk.tells between l stands files) (sym (ap (λ l. l.items) says.limbo)) settled)
+    let settled = settled_whole disk.tells before between limbo was.0 was.1 was.3 c.in_ok-review.ensures.settled says.keeps says.granularity says.reads.files says.opened says.reads.any_moment i stands files low whole in
+    c.flush_batch.ensures.whole i stands files low (subst (λ (l : List Retired). AreWhole i disk.tells between l stands files) (sym (ap (λ l. l.items) says.limbo)) settled)
 
 pub returns-clause-leaves : goal.returns-clause-leaves
 returns-clause-leaves g c = leaves_then g.D.Disk.tells _ _ _ c.review.ensures.leaves c.flush_batch.ensures.leaves

@@ -3,6 +3,7 @@ use Rattle.std.proofs.lemmas.Result.{err_from_is_err_and}
 use Rattle.disk_model.specs.Files.{Name}
 use Rattle.disk_model.specs.declared.disk.DiskErr.{DiskErr}
 use Rattle.partition_names.specs.Part.{IsPart}
+use Rattle.pv_catalog.proofs.Standing.{keeps_same}
 use Rattle.store_manifest.specs.Manifest.{ManifestState}
 use Rattle.tier_store.specs.declared.piece.Piece.{Piece}
 use Rattle.tier_store.specs.Ends.{End, Done, Spent, end_of_disk}
@@ -17,8 +18,10 @@ use Rattle.three_stores.proofs.FlushCall.{planned, on_store}
 use Rattle.three_stores.proofs.LeavingNames.{first_leaves, nothing_leaves}
 use Rattle.three_stores.proofs.Places.{manifest_here, one_manifest, first_of_three, same_granularities}
 use Rattle.three_stores.proofs.RevivalCall.{is_ahead, limbo_parts, listed_as, over_cut, over_done, to}
-use Rattle.three_stores.proofs.RevivalShown.{over_shown}
+use Rattle.three_stores.proofs.RevivalShown.{over_on, over_shown}
 use Rattle.three_stores.proofs.RevivalWhole.{whole_left}
+use Rattle.three_stores.proofs.Showing.{ends_held}
+use Rattle.three_stores.proofs.WholeCalls.{first_whole}
 use Rattle.tier_store.specs.Ahead.{HasCopied}
 use Rattle.std.specs.Prelude.{All, IsTrue}
 use Rattle.three_stores.proofs.Removals.{lists_in_order}
@@ -142,48 +145,6 @@ returns-clause-shown g c =
     over_shown g.D.Disk.tells was.1 c.args.batch.now _ _ (Done c.in_ok-plan.plan.count) refl c.requires.stands was.0 was.2 was.3.rise ((returns-clause-changes g c was.1).ends was.0 was.2 was.3) c.index_mut.result.now here t.by.back t.by.in_limbo
     (λ tells. (c.flush_pieces.ensures.ahead tells self.catalogue.journal (tier 0 was.0) (with_files (tier 0 was.0) t.by.back) t.filed (is_ahead g.D.Disk.files g.D.Disk.opened g.D.Disk.past g.D.Disk.faults g.D.Disk.tells self.catalogue ms c.index_mut.result.now c.index_mut.result.now here self.disk self.disk _ c.rows-rows.ensures.value c.args.batch.now _ _ c.deref-4.ensures.value _ self.limbo.items c.requires.stands c.deref-3.result.now (λ held known. listed_as ms c.deref.result.now self.limbo.items c.deref-2.result.now c.in_ok-limbo.limbo.items c.deref-3.result.now c.deref.ensures.value c.deref-2.ensures.value c.deref-3.ensures.value c.in_ok-limbo.ensures (lists_in_order self.catalogue ms held known)) was.1 flushes was.0 was.3 was.2 tells) t.makes).now) c.flush_pieces.ensures.elsewhere
 
-pub returns-in_err-limbo-clause-whole : goal.returns-in_err-limbo-clause-whole
-returns-in_err-limbo-clause-whole g c stands files whole = (files, whole)
-
-pub returns-in_err-plan-clause-whole : goal.returns-in_err-plan-clause-whole
-returns-in_err-plan-clause-whole g c stands files whole = (files, whole)
-
-pub returns-in_err-flush_pieces-clause-whole : goal.returns-in_err-flush_pieces-clause-whole
-returns-in_err-flush_pieces-clause-whole g c stands files whole =
-    let self = c.args.self.now in
-    let was = c.requires.has in
-    let ms = self.manifests.items in
-    let low = first_of_three ms was.2.known.three in
-    let here = manifest_here ms 0 c.index_mut.result.now c.index_mut.ensures.value low in
-    let flushes = planned ms c.index.result.now c.index_mut.result.now (manifest_here ms 0 c.index.result.now c.index.ensures low) here _ _ c.args.batch.now _ _ c.in_ok-plan.ensures.flushes in
-    let t = to g.D.Disk.files g.D.Disk.opened g.D.Disk.past g.D.Disk.faults g.D.Disk.tells self.catalogue ms c.index_mut.result.now c.index_mut.result.now here self.disk self.disk _ c.rows-rows.ensures.value c.args.batch.now _ _ c.deref-4.ensures.value _ self.limbo.items c.requires.stands c.deref-3.result.now (λ held known. listed_as ms c.deref.result.now self.limbo.items c.deref-2.result.now c.in_ok-limbo.limbo.items c.deref-3.result.now c.deref.ensures.value c.deref-2.ensures.value c.deref-3.ensures.value c.in_ok-limbo.ensures (lists_in_order self.catalogue ms held known)) was.1 flushes was.0 was.3 was.2 in
-    let says = c.flush_pieces.ensures in
-    let ahead = with_files (tier 0 was.0) t.by.back in
-    let copied : (tells : IsTrue g.D.Disk.tells) → HasCopied self.catalogue.journal c.index_mut.result.now (1, c.rows-rows.result.now) (g.D.Disk.files self.disk) (g.D.Disk.opened self.disk) (g.D.Disk.past self.disk) (tier 0 was.0) ahead = λ tells. is_ahead g.D.Disk.files g.D.Disk.opened g.D.Disk.past g.D.Disk.faults g.D.Disk.tells self.catalogue ms c.index_mut.result.now c.index_mut.result.now here self.disk self.disk _ c.rows-rows.ensures.value c.args.batch.now _ _ c.deref-4.ensures.value _ self.limbo.items c.requires.stands c.deref-3.result.now (λ held known. listed_as ms c.deref.result.now self.limbo.items c.deref-2.result.now c.in_ok-limbo.limbo.items c.deref-3.result.now c.deref.ensures.value c.deref-2.ensures.value c.deref-3.ensures.value c.in_ok-limbo.ensures (lists_in_order self.catalogue ms held known)) was.1 flushes was.0 was.3 was.2 tells in (
-      _,
-      whole_left g.D.Disk.tells was.1 c.args.batch.now _ _ (end_of_disk c.from_residual-in_err-flush_pieces.result) refl refl (same_granularities ms 0 c.index_mut.result.now c.flush_pieces.new.manifest here says.state.0) c.requires.stands was.0 was.2 ((returns-in_err-flush_pieces-clause-changes g c was.1).ends was.0 was.2 was.3) c.index_mut.result.now here
-          c.deref-3.result.now (listed_as ms c.deref.result.now self.limbo.items c.deref-2.result.now c.in_ok-limbo.limbo.items c.deref-3.result.now c.deref.ensures.value c.deref-2.ensures.value c.deref-3.ensures.value c.in_ok-limbo.ensures (lists_in_order self.catalogue ms was.0 was.2.known)) t.by.back t.are t.in_limbo
-          (λ tells. says.ahead tells self.catalogue.journal (tier 0 was.0) ahead t.filed (copied tells) t.makes) (λ tells. says.long tells self.catalogue.journal (tier 0 was.0) ahead t.filed (copied tells) t.makes) says.no_more stands files whole,
-    )
-
-pub returns-clause-whole : goal.returns-clause-whole
-returns-clause-whole g c stands files whole =
-    let self = c.args.self.now in
-    let was = c.requires.has in
-    let ms = self.manifests.items in
-    let low = first_of_three ms was.2.known.three in
-    let here = manifest_here ms 0 c.index_mut.result.now c.index_mut.ensures.value low in
-    let flushes = planned ms c.index.result.now c.index_mut.result.now (manifest_here ms 0 c.index.result.now c.index.ensures low) here _ _ c.args.batch.now _ _ c.in_ok-plan.ensures.flushes in
-    let t = to g.D.Disk.files g.D.Disk.opened g.D.Disk.past g.D.Disk.faults g.D.Disk.tells self.catalogue ms c.index_mut.result.now c.index_mut.result.now here self.disk self.disk _ c.rows-rows.ensures.value c.args.batch.now _ _ c.deref-4.ensures.value _ self.limbo.items c.requires.stands c.deref-3.result.now (λ held known. listed_as ms c.deref.result.now self.limbo.items c.deref-2.result.now c.in_ok-limbo.limbo.items c.deref-3.result.now c.deref.ensures.value c.deref-2.ensures.value c.deref-3.ensures.value c.in_ok-limbo.ensures (lists_in_order self.catalogue ms held known)) was.1 flushes was.0 was.3 was.2 in
-    let says = c.flush_pieces.ensures in
-    let ahead = with_files (tier 0 was.0) t.by.back in
-    let copied : (tells : IsTrue g.D.Disk.tells) → HasCopied self.catalogue.journal c.index_mut.result.now (1, c.rows-rows.result.now) (g.D.Disk.files self.disk) (g.D.Disk.opened self.disk) (g.D.Disk.past self.disk) (tier 0 was.0) ahead = λ tells. is_ahead g.D.Disk.files g.D.Disk.opened g.D.Disk.past g.D.Disk.faults g.D.Disk.tells self.catalogue ms c.index_mut.result.now c.index_mut.result.now here self.disk self.disk _ c.rows-rows.ensures.value c.args.batch.now _ _ c.deref-4.ensures.value _ self.limbo.items c.requires.stands c.deref-3.result.now (λ held known. listed_as ms c.deref.result.now self.limbo.items c.deref-2.result.now c.in_ok-limbo.limbo.items c.deref-3.result.now c.deref.ensures.value c.deref-2.ensures.value c.deref-3.ensures.value c.in_ok-limbo.ensures (lists_in_order self.catalogue ms held known)) was.1 flushes was.0 was.3 was.2 tells in (
-      _,
-      whole_left g.D.Disk.tells was.1 c.args.batch.now _ _ (Done c.in_ok-plan.plan.count) refl refl (same_granularities ms 0 c.index_mut.result.now c.flush_pieces.new.manifest here says.state.0) c.requires.stands was.0 was.2 ((returns-clause-changes g c was.1).ends was.0 was.2 was.3) c.index_mut.result.now here
-          c.deref-3.result.now (listed_as ms c.deref.result.now self.limbo.items c.deref-2.result.now c.in_ok-limbo.limbo.items c.deref-3.result.now c.deref.ensures.value c.deref-2.ensures.value c.deref-3.ensures.value c.in_ok-limbo.ensures (lists_in_order self.catalogue ms was.0 was.2.known)) t.by.back t.are t.in_limbo
-          (λ tells. says.ahead tells self.catalogue.journal (tier 0 was.0) ahead t.filed (copied tells) t.makes) (λ tells. says.long tells self.catalogue.journal (tier 0 was.0) ahead t.filed (copied tells) t.makes) says.no_more stands files whole,
-    )
-
 pub returns-in_err-limbo-clause-leaves : goal.returns-in_err-limbo-clause-leaves
 returns-in_err-limbo-clause-leaves g c = nothing_leaves g.D.Disk.tells _
 
@@ -207,3 +168,57 @@ returns-clause-leaves g c =
     let m = c.index_mut.result.now in
     let here = manifest_here ms 0 m c.index_mut.ensures.value (first_of_three ms was.known.three) in
     first_leaves g.D.Disk.tells _ _ m.journal.name refl (λ tells. ap (λ (n : Name). n.0) ((was.disk tells).each 0 m here).named) says.elsewhere says.no_more says.frame
+
+pub returns-in_err-limbo-clause-whole : goal.returns-in_err-limbo-clause-whole
+returns-in_err-limbo-clause-whole g c i stands files low whole = (files, whole)
+
+pub returns-in_err-plan-clause-whole : goal.returns-in_err-plan-clause-whole
+returns-in_err-plan-clause-whole g c i stands files low whole = (files, whole)
+
+pub returns-in_err-flush_pieces-clause-whole : goal.returns-in_err-flush_pieces-clause-whole
+returns-in_err-flush_pieces-clause-whole g c =
+    let self = c.args.self.now in
+    let was = c.requires.has in
+    let ms = self.manifests.items in
+    let low = first_of_three ms was.2.known.three in
+    let here = manifest_here ms 0 c.index_mut.result.now c.index_mut.ensures.value low in
+    let flushes = planned ms c.index.result.now c.index_mut.result.now (manifest_here ms 0 c.index.result.now c.index.ensures low) here _ _ c.args.batch.now _ _ c.in_ok-plan.ensures.flushes in
+    let t = to g.D.Disk.files g.D.Disk.opened g.D.Disk.past g.D.Disk.faults g.D.Disk.tells self.catalogue ms c.index_mut.result.now c.index_mut.result.now here self.disk self.disk _ c.rows-rows.ensures.value c.args.batch.now _ _ c.deref-4.ensures.value _ self.limbo.items c.requires.stands c.deref-3.result.now (λ held known. listed_as ms c.deref.result.now self.limbo.items c.deref-2.result.now c.in_ok-limbo.limbo.items c.deref-3.result.now c.deref.ensures.value c.deref-2.ensures.value c.deref-3.ensures.value c.in_ok-limbo.ensures (lists_in_order self.catalogue ms held known)) was.1 flushes was.0 was.3 was.2 in
+    let says = c.flush_pieces.ensures in
+    let ahead = with_files (tier 0 was.0) t.by.back in
+    let copied : (tells : IsTrue g.D.Disk.tells) → HasCopied self.catalogue.journal c.index_mut.result.now (1, c.rows-rows.result.now) (g.D.Disk.files self.disk) (g.D.Disk.opened self.disk) (g.D.Disk.past self.disk) (tier 0 was.0) ahead = λ tells. is_ahead g.D.Disk.files g.D.Disk.opened g.D.Disk.past g.D.Disk.faults g.D.Disk.tells self.catalogue ms c.index_mut.result.now c.index_mut.result.now here self.disk self.disk _ c.rows-rows.ensures.value c.args.batch.now _ _ c.deref-4.ensures.value _ self.limbo.items c.requires.stands c.deref-3.result.now (λ held known. listed_as ms c.deref.result.now self.limbo.items c.deref-2.result.now c.in_ok-limbo.limbo.items c.deref-3.result.now c.deref.ensures.value c.deref-2.ensures.value c.deref-3.ensures.value c.in_ok-limbo.ensures (lists_in_order self.catalogue ms held known)) was.1 flushes was.0 was.3 was.2 tells in
+    let same_g = same_granularities ms 0 c.index_mut.result.now c.flush_pieces.new.manifest here says.state.0 in
+    let ends = (returns-in_err-flush_pieces-clause-changes g c was.1).ends was.0 was.2 was.3 in
+    first_whole g.D.Disk.tells _ _ was.2.known.three refl
+    (λ name h. ends_held g.D.Disk.tells (flushing_over self.limbo.items was.1 c.args.batch.now) _ _ was.0 (end_of_disk c.from_residual-in_err-flush_pieces.result) name 0 was.2 (λ made by. over_on self.limbo.items was.1 c.args.batch.now was.0 made by) ends h)
+    (keeps_same self.catalogue.rows) same_g (returns-in_err-flush_pieces-clause-leaves g c)
+    (λ stands files whole. (
+      _,
+      whole_left g.D.Disk.tells was.1 c.args.batch.now _ _ (end_of_disk c.from_residual-in_err-flush_pieces.result) refl refl same_g c.requires.stands was.0 was.2 ends c.index_mut.result.now here
+          c.deref-3.result.now (listed_as ms c.deref.result.now self.limbo.items c.deref-2.result.now c.in_ok-limbo.limbo.items c.deref-3.result.now c.deref.ensures.value c.deref-2.ensures.value c.deref-3.ensures.value c.in_ok-limbo.ensures (lists_in_order self.catalogue ms was.0 was.2.known)) t.by.back t.are t.in_limbo
+          (λ tells. says.ahead tells self.catalogue.journal (tier 0 was.0) ahead t.filed (copied tells) t.makes) (λ tells. says.long tells self.catalogue.journal (tier 0 was.0) ahead t.filed (copied tells) t.makes) says.no_more stands files whole,
+    ))
+
+pub returns-clause-whole : goal.returns-clause-whole
+returns-clause-whole g c =
+    let self = c.args.self.now in
+    let was = c.requires.has in
+    let ms = self.manifests.items in
+    let low = first_of_three ms was.2.known.three in
+    let here = manifest_here ms 0 c.index_mut.result.now c.index_mut.ensures.value low in
+    let flushes = planned ms c.index.result.now c.index_mut.result.now (manifest_here ms 0 c.index.result.now c.index.ensures low) here _ _ c.args.batch.now _ _ c.in_ok-plan.ensures.flushes in
+    let t = to g.D.Disk.files g.D.Disk.opened g.D.Disk.past g.D.Disk.faults g.D.Disk.tells self.catalogue ms c.index_mut.result.now c.index_mut.result.now here self.disk self.disk _ c.rows-rows.ensures.value c.args.batch.now _ _ c.deref-4.ensures.value _ self.limbo.items c.requires.stands c.deref-3.result.now (λ held known. listed_as ms c.deref.result.now self.limbo.items c.deref-2.result.now c.in_ok-limbo.limbo.items c.deref-3.result.now c.deref.ensures.value c.deref-2.ensures.value c.deref-3.ensures.value c.in_ok-limbo.ensures (lists_in_order self.catalogue ms held known)) was.1 flushes was.0 was.3 was.2 in
+    let says = c.flush_pieces.ensures in
+    let ahead = with_files (tier 0 was.0) t.by.back in
+    let copied : (tells : IsTrue g.D.Disk.tells) → HasCopied self.catalogue.journal c.index_mut.result.now (1, c.rows-rows.result.now) (g.D.Disk.files self.disk) (g.D.Disk.opened self.disk) (g.D.Disk.past self.disk) (tier 0 was.0) ahead = λ tells. is_ahead g.D.Disk.files g.D.Disk.opened g.D.Disk.past g.D.Disk.faults g.D.Disk.tells self.catalogue ms c.index_mut.result.now c.index_mut.result.now here self.disk self.disk _ c.rows-rows.ensures.value c.args.batch.now _ _ c.deref-4.ensures.value _ self.limbo.items c.requires.stands c.deref-3.result.now (λ held known. listed_as ms c.deref.result.now self.limbo.items c.deref-2.result.now c.in_ok-limbo.limbo.items c.deref-3.result.now c.deref.ensures.value c.deref-2.ensures.value c.deref-3.ensures.value c.in_ok-limbo.ensures (lists_in_order self.catalogue ms held known)) was.1 flushes was.0 was.3 was.2 tells in
+    let same_g = same_granularities ms 0 c.index_mut.result.now c.flush_pieces.new.manifest here says.state.0 in
+    let ends = (returns-clause-changes g c was.1).ends was.0 was.2 was.3 in
+    first_whole g.D.Disk.tells _ _ was.2.known.three refl
+    (λ name h. ends_held g.D.Disk.tells (flushing_over self.limbo.items was.1 c.args.batch.now) _ _ was.0 (Done c.in_ok-plan.plan.count) name 0 was.2 (λ made by. over_on self.limbo.items was.1 c.args.batch.now was.0 made by) ends h)
+    (keeps_same self.catalogue.rows) same_g (returns-clause-leaves g c)
+    (λ stands files whole. (
+      _,
+      whole_left g.D.Disk.tells was.1 c.args.batch.now _ _ (Done c.in_ok-plan.plan.count) refl refl same_g c.requires.stands was.0 was.2 ends c.index_mut.result.now here
+          c.deref-3.result.now (listed_as ms c.deref.result.now self.limbo.items c.deref-2.result.now c.in_ok-limbo.limbo.items c.deref-3.result.now c.deref.ensures.value c.deref-2.ensures.value c.deref-3.ensures.value c.in_ok-limbo.ensures (lists_in_order self.catalogue ms was.0 was.2.known)) t.by.back t.are t.in_limbo
+          (λ tells. says.ahead tells self.catalogue.journal (tier 0 was.0) ahead t.filed (copied tells) t.makes) (λ tells. says.long tells self.catalogue.journal (tier 0 was.0) ahead t.filed (copied tells) t.makes) says.no_more stands files whole,
+    ))

@@ -142,13 +142,13 @@ returns-clause-shown g c =
     entered_shown disk.tells at self.limbo.items kept c.in_ok-entering.entering.items c.append.new.self.items held.0 held.1 stay (inl c.in_ok-append.ensures.items)
 
 pub returns-in_err-files-clause-whole : goal.returns-in_err-files-clause-whole
-returns-in_err-files-clause-whole g c = let p = err_from_is_err_and c.from_residual.result c.from_residual.ensures.1 in rw p.1 (λ stands files whole. (files, whole))
+returns-in_err-files-clause-whole g c = let p = err_from_is_err_and c.from_residual.result c.from_residual.ensures.1 in rw p.1 (λ i stands files low whole. (files, whole))
 
 pub returns-in_err-entering-clause-whole : goal.returns-in_err-entering-clause-whole
-returns-in_err-entering-clause-whole g c = let p = err_from_is_err_and c.from_residual-in_err-entering.result c.from_residual-in_err-entering.ensures.1 in rw p.1 (λ stands files whole. (files, whole))
+returns-in_err-entering-clause-whole g c = let p = err_from_is_err_and c.from_residual-in_err-entering.result c.from_residual-in_err-entering.ensures.1 in rw p.1 (λ i stands files low whole. (files, whole))
 
 pub returns-in_err-drops-clause-whole : goal.returns-in_err-drops-clause-whole
-returns-in_err-drops-clause-whole g c = let p = err_from_is_err_and c.from_residual-in_err-drops.result c.from_residual-in_err-drops.ensures.1 in rw p.1 (λ stands files whole. (files, whole))
+returns-in_err-drops-clause-whole g c = let p = err_from_is_err_and c.from_residual-in_err-drops.result c.from_residual-in_err-drops.ensures.1 in rw p.1 (λ i stands files low whole. (files, whole))
 
 pub returns-in_err-append-clause-whole : goal.returns-in_err-append-clause-whole
 returns-in_err-append-clause-whole g c =

@@ -69,14 +69,14 @@ returns-in_err-reader-clause-beside g c =
     opened_beside g.D.Disk.files g.D.Disk.opened g.D.Disk.past g.D.Disk.faults g.D.Disk.tells self.catalogue self.manifests.items self.limbo.items self.disk c.open_file.new.self c.in_ok-name.name len there c.open_file.ensures.crash c.open_file.ensures.same (λ tells. let is : g.D.Disk.opened c.open_file.new.self c.in_ok-name.name ≡ g.D.Disk.opened self.disk c.in_ok-name.name = ap (λ (o : Name → ℕ). o c.in_ok-name.name) (c.in_err-reader.ensures.unopened tells) in omega (arith, is)) c.open_file.ensures.others
 
 pub returns-in_err-reader-clause-whole : goal.returns-in_err-reader-clause-whole
-returns-in_err-reader-clause-whole g c stand =
+returns-in_err-reader-clause-whole g c stand i stands files low whole =
     let here : slice_get c.in-Ok.pieces.now c.args.i ≡ Some c.in-Some.piece.now = found_at c.in-Ok.pieces.now c.args.i c.in-Some.piece.now c.in-Some.ensures.lookup.3.0 c.in-Some.ensures.lookup.1 in
     let self = c.args.self.now in
     let len = c.in-Some.piece.now.len in
     let shown = granted_shown g.D.Disk.tells _ self.pinned c.args.who c.args.pin c.args.i _ c.in-Some.piece.now c.requires.stand c.in-Ok.ensures.found here in
     let there = shown_held g.D.Disk.tells _ c.in-Some.piece.now c.in_ok-name.name c.in_ok-name.ensures shown in
     let was = c.requires.begun in
-    opened_whole g.D.Disk.files g.D.Disk.opened g.D.Disk.past g.D.Disk.faults g.D.Disk.tells self.catalogue self.manifests.items self.limbo.items self.disk c.open_file.new.self c.in_ok-name.name len there c.open_file.ensures.crash c.open_file.ensures.same (λ tells. let is : g.D.Disk.opened c.open_file.new.self c.in_ok-name.name ≡ g.D.Disk.opened self.disk c.in_ok-name.name = ap (λ (o : Name → ℕ). o c.in_ok-name.name) (c.in_err-reader.ensures.unopened tells) in omega (arith, is)) c.open_file.ensures.others was.0 was.1 was.2 stand
+    opened_whole g.D.Disk.files g.D.Disk.opened g.D.Disk.past g.D.Disk.faults g.D.Disk.tells self.catalogue self.manifests.items self.limbo.items self.disk c.open_file.new.self c.in_ok-name.name len there c.open_file.ensures.crash c.open_file.ensures.same (λ tells. let is : g.D.Disk.opened c.open_file.new.self c.in_ok-name.name ≡ g.D.Disk.opened self.disk c.in_ok-name.name = ap (λ (o : Name → ℕ). o c.in_ok-name.name) (c.in_err-reader.ensures.unopened tells) in omega (arith, is)) c.open_file.ensures.others was.0 was.1 was.2 stand i low stands files whole
 
 pub returns-clause-beside : goal.returns-clause-beside
 returns-clause-beside g c =
@@ -88,29 +88,29 @@ returns-clause-beside g c =
     opened_beside g.D.Disk.files g.D.Disk.opened g.D.Disk.past g.D.Disk.faults g.D.Disk.tells self.catalogue self.manifests.items self.limbo.items self.disk c.open_file.new.self c.in_ok-name.name len there c.open_file.ensures.crash c.open_file.ensures.same (λ tells. let is : g.D.Disk.opened c.open_file.new.self c.in_ok-name.name ≡ max (g.D.Disk.opened self.disk c.in_ok-name.name) len = c.in_ok-reader.ensures.opened tells in omega (arith, is)) c.open_file.ensures.others
 
 pub returns-clause-whole : goal.returns-clause-whole
-returns-clause-whole g c stand =
+returns-clause-whole g c stand i stands files low whole =
     let here : slice_get c.in-Ok.pieces.now c.args.i ≡ Some c.in-Some.piece.now = found_at c.in-Ok.pieces.now c.args.i c.in-Some.piece.now c.in-Some.ensures.lookup.3.0 c.in-Some.ensures.lookup.1 in
     let self = c.args.self.now in
     let len = c.in-Some.piece.now.len in
     let shown = granted_shown g.D.Disk.tells _ self.pinned c.args.who c.args.pin c.args.i _ c.in-Some.piece.now c.requires.stand c.in-Ok.ensures.found here in
     let there = shown_held g.D.Disk.tells _ c.in-Some.piece.now c.in_ok-name.name c.in_ok-name.ensures shown in
     let was = c.requires.begun in
-    opened_whole g.D.Disk.files g.D.Disk.opened g.D.Disk.past g.D.Disk.faults g.D.Disk.tells self.catalogue self.manifests.items self.limbo.items self.disk c.open_file.new.self c.in_ok-name.name len there c.open_file.ensures.crash c.open_file.ensures.same (λ tells. let is : g.D.Disk.opened c.open_file.new.self c.in_ok-name.name ≡ max (g.D.Disk.opened self.disk c.in_ok-name.name) len = c.in_ok-reader.ensures.opened tells in omega (arith, is)) c.open_file.ensures.others was.0 was.1 was.2 stand
+    opened_whole g.D.Disk.files g.D.Disk.opened g.D.Disk.past g.D.Disk.faults g.D.Disk.tells self.catalogue self.manifests.items self.limbo.items self.disk c.open_file.new.self c.in_ok-name.name len there c.open_file.ensures.crash c.open_file.ensures.same (λ tells. let is : g.D.Disk.opened c.open_file.new.self c.in_ok-name.name ≡ max (g.D.Disk.opened self.disk c.in_ok-name.name) len = c.in_ok-reader.ensures.opened tells in omega (arith, is)) c.open_file.ensures.others was.0 was.1 was.2 stand i low stands files whole
 
 pub returns-in-Err-clause-beside : goal.returns-in-Err-clause-beside
 returns-in-Err-clause-beside g c held may i move files runs = runs
 
 pub returns-in-Err-clause-whole : goal.returns-in-Err-clause-whole
-returns-in-Err-clause-whole g c stand stands files whole = (files, whole)
+returns-in-Err-clause-whole g c stand i stands files low whole = (files, whole)
 
 pub returns-in_default-clause-beside : goal.returns-in_default-clause-beside
 returns-in_default-clause-beside g c held may i move files runs = runs
 
 pub returns-in_default-clause-whole : goal.returns-in_default-clause-whole
-returns-in_default-clause-whole g c stand stands files whole = (files, whole)
+returns-in_default-clause-whole g c stand i stands files low whole = (files, whole)
 
 pub returns-in_err-name-clause-beside : goal.returns-in_err-name-clause-beside
 returns-in_err-name-clause-beside g c held may i move files runs = runs
 
 pub returns-in_err-name-clause-whole : goal.returns-in_err-name-clause-whole
-returns-in_err-name-clause-whole g c stand stands files whole = (files, whole)
+returns-in_err-name-clause-whole g c stand i stands files low whole = (files, whole)

@@ -106,10 +106,10 @@ returns-clause-cause g c told is failed =
     rose_after (faults c.args.self.now.disk) (faults c.review.new.self.disk) (faults c.retire_settled.new.self.disk) c.review.ensures.reads.faults (c.retire_settled.ensures.cause told is failed)
 
 pub returns-in_err-review-clause-whole : goal.returns-in_err-review-clause-whole
-returns-in_err-review-clause-whole g c before after was files whole = c.review.ensures.whole before.stands files whole
+returns-in_err-review-clause-whole g c before after was i files low whole = c.review.ensures.whole i before.stands files low whole
 
 pub returns-clause-whole : goal.returns-clause-whole
-returns-clause-whole g c before after was files whole =
+returns-clause-whole g c before after was i files low whole =
     let disk = g.D.Disk in
     let old = c.args.self.now in
     let mid = c.review.new.self in
@@ -118,9 +118,9 @@ returns-clause-whole g c before after was files whole =
     let between = seen_on disk.files disk.opened disk.past disk.faults mid.catalogue mid.manifests.items mid.disk in
     let later = seen_on disk.files disk.opened disk.past disk.faults new.catalogue new.manifests.items new.disk in
     let held = has_one_given (λ s. s.stands ≡ before.stands) (λ s t same is. same ∙ is) disk.tells at between before after c.in_ok-review.ensures.settled refl was in
-    let first = c.review.ensures.whole before.stands files whole in
-    let then = c.retire_settled.ensures.whole held.0 held.2 first.0 (subst (λ (b : Bool). AreWhole disk.tells between mid.limbo.items b first.0) (sym held.1) first.1) in
-    (then.0, subst (λ (b : Bool). AreWhole disk.tells later new.limbo.items b then.0) held.1 then.1)
+    let first = c.review.ensures.whole i before.stands files low whole in
+    let then = c.retire_settled.ensures.whole held.0 held.2 i first.0 low (subst (λ (b : Bool). AreWhole i disk.tells between mid.limbo.items b first.0) (sym held.1) first.1) in
+    (then.0, subst (λ (b : Bool). AreWhole i disk.tells later new.limbo.items b then.0) held.1 then.1)
 
 pub returns-in_err-review-clause-leaves : goal.returns-in_err-review-clause-leaves
 returns-in_err-review-clause-leaves g c before after names was later apart apart_too = c.review.ensures.leaves names later

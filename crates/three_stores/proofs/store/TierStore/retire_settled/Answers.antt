@@ -438,13 +438,13 @@ returns-clause-cause g c told is failed =
     rose_after (faults self.disk) (faults c.drop_oldest.new.self.disk) (faults c.remove_handed-removed.new.self.disk) (subst (λ d. faults d ≤ faults c.drop_oldest.new.self.disk) same more) (c.remove_handed-removed.ensures.cause (own ∙ failed))
 
 pub returns-in-Some-clause-whole : goal.returns-in-Some-clause-whole
-returns-in-Some-clause-whole g c held has were whole = (were, whole)
+returns-in-Some-clause-whole g c held has i were low whole = (were, whole)
 
 pub returns-in_err-leaving-clause-whole : goal.returns-in_err-leaving-clause-whole
-returns-in_err-leaving-clause-whole g c held has were whole = c.in_err-leaving.ensures.whole held.stands were whole
+returns-in_err-leaving-clause-whole g c held has i were low whole = c.in_err-leaving.ensures.whole i held.stands were low whole
 
 pub returns-in_err-drop_oldest-clause-whole : goal.returns-in_err-drop_oldest-clause-whole
-returns-in_err-drop_oldest-clause-whole g c held has were whole =
+returns-in_err-drop_oldest-clause-whole g c held has i were low whole =
     let self = c.args.self.now in
     let disk = g.D.Disk in
     let at = seen_on disk.files disk.opened disk.past disk.faults self.catalogue self.manifests.items self.disk in
@@ -466,10 +466,10 @@ returns-in_err-drop_oldest-clause-whole g c held has were whole =
     let drop : Changes disk.tells (dropping c.args.place c.args.row n) at at2 (end_of_disk c.drop_oldest.result) = subst (λ (s : Seen). Changes disk.tells (dropping c.args.place c.args.row n) s at2 (end_of_disk c.drop_oldest.result)) (sym is1) c.drop_oldest.ensures.changes in
     let leaves : LeavesFiles disk.tells (beside at hand.limbo.items) (beside at2 dropped.limbo.items) = subst (λ (s : Seen). LeavesFiles disk.tells (beside s hand.limbo.items) (beside at2 dropped.limbo.items)) (sym is1) c.drop_oldest.ensures.leaves in
     handed_whole disk.tells c.args.place c.args.row n (beside at self.limbo.items) (beside at2 dropped.limbo.items) m here held has entered.0 files c.requires.stands entered.1 are limbo
-    (subst (λ (s : CatalogueState). KeepsRows self.catalogue.rows s.rows) (sym rows) (keeps_same self.catalogue.rows)) drop.costs.granularity hand.limbo.items leaves were whole
+    (subst (λ (s : CatalogueState). KeepsRows self.catalogue.rows s.rows) (sym rows) (keeps_same self.catalogue.rows)) drop.costs.granularity hand.limbo.items leaves i low were whole
 
 pub returns-clause-whole : goal.returns-clause-whole
-returns-clause-whole g c held has were whole =
+returns-clause-whole g c held has i were low whole =
     let self = c.args.self.now in
     let disk = g.D.Disk in
     let at = seen_on disk.files disk.opened disk.past disk.faults self.catalogue self.manifests.items self.disk in
@@ -491,8 +491,8 @@ returns-clause-whole g c held has were whole =
     let drop : Changes disk.tells (dropping c.args.place c.args.row n) at at2 (end_of_disk c.drop_oldest.result) = subst (λ (s : Seen). Changes disk.tells (dropping c.args.place c.args.row n) s at2 (end_of_disk c.drop_oldest.result)) (sym is1) c.drop_oldest.ensures.changes in
     let leaves : LeavesFiles disk.tells (beside at hand.limbo.items) (beside at2 dropped.limbo.items) = subst (λ (s : Seen). LeavesFiles disk.tells (beside s hand.limbo.items) (beside at2 dropped.limbo.items)) (sym is1) c.drop_oldest.ensures.leaves in
     let then = handed_whole disk.tells c.args.place c.args.row n (beside at self.limbo.items) (beside at2 dropped.limbo.items) m here held has entered.0 files c.requires.stands entered.1 are limbo
-    (subst (λ (s : CatalogueState). KeepsRows self.catalogue.rows s.rows) (sym rows) (keeps_same self.catalogue.rows)) drop.costs.granularity hand.limbo.items leaves were whole in
-    c.remove_handed-removed.ensures.whole held.stands then.0 then.1
+    (subst (λ (s : CatalogueState). KeepsRows self.catalogue.rows s.rows) (sym rows) (keeps_same self.catalogue.rows)) drop.costs.granularity hand.limbo.items leaves i low were whole in
+    c.remove_handed-removed.ensures.whole i held.stands then.0 low then.1
 
 pub returns-in-Some-clause-leaves : goal.returns-in-Some-clause-leaves
 returns-in-Some-clause-leaves g c held names has later apart = nothing_leaves g.D.Disk.tells _ names later

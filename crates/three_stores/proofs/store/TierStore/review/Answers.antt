@@ -41,4 +41,4 @@ returns-in-Some-clause-whole g c =
     review_whole g.D.Disk.tells _ _ c.settle_list.result (ap (λ v. v.items) says.limbo) c.requires.begun says.settled says.still (returns-in-Some-clause-keeps g c) says.granularity says.reads.files says.opened says.reads.any_moment
 
 pub returns-in-None-clause-whole : goal.returns-in-None-clause-whole
-returns-in-None-clause-whole g c stands files whole = (files, whole)
+returns-in-None-clause-whole g c i stands files low whole = (files, whole)
