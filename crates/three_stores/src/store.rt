@@ -117,9 +117,9 @@ impl<D: Disk> TierStore<D> {
     }
 
     /// Appends the samples of a batch to the partition files of their rows in store 1, those that are later than their rows' last ones
-    /// there, listed or in limbo, and answers how many these are. A change that stands in doubt is settled first. Each file is written
-    /// behind its listed length, then each is synced, and then one commit lists all of them; so a crash at any moment of the call leaves
-    /// what was held, or that with all of the batch.
+    /// there, listed or in limbo, and answers how many these are; what it answers is their number only where what is held stands. A
+    /// change that stands in doubt is settled first. Each file is written behind its listed length, then each is synced, and then one
+    /// commit lists all of them; so a crash at any moment of the call leaves what was held, or that with all of the batch.
     ///
     /// A file in limbo into whose partition samples come is revived: it goes on behind its old length and is listed again, with its old
     /// samples in front of the new ones. So what a pin may still read is never written over. It needs that the files in limbo of store 1
