@@ -27,9 +27,9 @@ use tier_store::file_name;
 /// Where the lines of a file begin that are later than a moment.
 #[derive(Clone, Copy, Debug, PartialEq, Eq)]
 pub enum LaterLines {
-    /// At this place; where there are none, at the file's listed length.
+    /// At this place, in bytes from the file's start; where there are none, at the file's listed length.
     At(u64),
-    /// It isn't known: at this place no line of a sample begins, or the file has no header.
+    /// It isn't known: at this place, in bytes from the file's start, no line of a sample begins, or the file has no header.
     Damaged(u64),
 }
 
@@ -161,10 +161,11 @@ fn find_next<D: Disk>(
 }
 
 impl<D: Disk> TierStore<D> {
-    /// Finds the place in a file that a store lists, from 1 to 3, where the lines of samples begin that are later than a moment; without a
-    /// moment, those of all samples. It is where a move of the file goes on behind what the next store has. It needs that no change
-    /// stands in doubt. `Damaged` comes only where what is held doesn't stand, or the disk doesn't tell its files. Where the file has its
-    /// header, no line of a sample begins at the place that it tells, which isn't before the header's end.
+    /// Finds the place in a file that a store lists, from 1 to 3, where the lines of samples begin that are later than the moment `after`,
+    /// in nanoseconds since 1970-01-01T00:00:00Z; without a moment, those of all samples. It is where a move of the file goes on behind
+    /// what the next store has. It needs that no change stands in doubt. `Damaged` comes only where what is held doesn't stand, or the
+    /// disk doesn't tell its files. Where the file has its header, no line of a sample begins at the place that it tells, which isn't
+    /// before the header's end.
     ///
     /// `Fault` comes only where the disk's count of faults rose in the call.
     pub fn find_later(
