@@ -19,11 +19,14 @@ use std::alloc::Global;
 use store_manifest::Entry;
 use tier_store::file_name;
 
-/// How many samples there are, and the moments of the first and of the last.
+/// How many samples there are, and the moments of the first and of the last, in nanoseconds since 1970-01-01T00:00:00Z.
 #[derive(Clone, Copy, Debug, PartialEq, Eq)]
 pub struct Tally {
+    /// How many samples there are.
     pub count: u64,
+    /// The moment of the first one, if there is one.
     pub first: Option<u64>,
+    /// The moment of the last one, if there is one.
     pub last: Option<u64>,
 }
 
