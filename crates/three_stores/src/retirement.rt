@@ -29,11 +29,11 @@ pub enum RetireEnd {
     /// The store lists the files no more. Those that a pin names are in limbo. `removed` says whether the others are removed from the disk
     /// for good: else the last failure, after which some may be there still.
     Retired { removed: Result<(), DiskErr> },
-    /// A file is listed at `len` bytes, of which `copied` were published. Nothing has changed.
+    /// A file is listed at `len` bytes, longer than the `copied` bytes up to which it was copied. Nothing has changed.
     Again { len: u64, copied: u64 },
 }
 
-// The first entry that is listed longer than it was published: its length, and the published one.
+// The first entry that is listed longer than it was copied: its length, and that up to which it was copied.
 fn grown(now: &[Entry], published: &[u64]) -> Option<(u64, u64)>
     requires { length now.now ≤ length published.now }
     ensures grown { (len copied : ℕ) → result ≡ Some (len, copied) → HasGrown published.now now.now len copied }
@@ -108,8 +108,9 @@ impl<D: Disk> TierStore<D> {
     }
 
     /// Takes the oldest files of a row, as many as lengths are given, from the list at a place, which is a store's number less one: of
-    /// store 1 or 2. `published` has how much of each the next store lists, oldest first. A change that stands in doubt is settled first.
-    /// `Again` comes exactly where a file is listed longer than it was published, the first of these, and nothing has changed then.
+    /// store 1 or 2. `published` has the lengths in bytes up to which these files were copied to the next store, which lists that, oldest
+    /// first. A change that stands in doubt is settled first. `Again` comes exactly where a file is listed longer than it was copied; it
+    /// tells of the first of these, and nothing has changed then.
     ///
     /// Else the files go to limbo, one commit drops them from the list, and those that no pin names leave limbo and are removed. A crash at
     /// any moment leaves what was held, or that without the files. What is pinned stays as it is, whatever is answered, and so do all
