@@ -87,10 +87,11 @@ impl<D: Disk> TierStore<D> {
 
     /// Begins the move that is to be made from the store at a place, which is its number less one, to the next: of the least row that has
     /// one to make and none running. `running` tells by its row the number of each move that runs. How many files of a row are to move is
-    /// said by `rule` and by what both stores list of it.
+    /// said by `rule`, which has the moment that counts as now, and by what both stores list of it.
     ///
     /// A change that stands in doubt is settled first, for which the disk is read; else the disk isn't called. Nothing is copied yet, and
-    /// what is held stays. `Fault` comes only where the disk's count of faults rose in the call, which then settled nothing.
+    /// what is held stays. `Fault` comes only where the disk's count of faults rose in the call, which then settled nothing. `Memory` comes
+    /// where memory is wanting, for the settling or for the choice behind it: a doubt stands as before then, or it is settled.
     pub fn begin_move(
         &mut self,
         place: usize,
