@@ -34,10 +34,10 @@ impl<D: Disk> TierStore<D> {
         moving.publish(&mut self.disk, &mut self.manifests[place])
     }
 
-    /// Lists what a running move has copied to the store at a place, which is a store's number less one, in one commit. A change that
-    /// stands in doubt is settled first. It needs that the move has copied all its parts, and that what it has written stands beside what is
-    /// held, before a doubtful change and after it. A crash at any moment leaves what was held, or that with the files listed too. What is
-    /// pinned stays as it is.
+    /// Lists in one commit what a running move has copied. `place` is that of the move's destination, the store's number less one. A change
+    /// that stands in doubt is settled first. It needs that the move has copied all its parts, and that what it has written stands beside
+    /// what is held, before a doubtful change and after it. A crash at any moment leaves what was held, or that with the files listed too.
+    /// What is pinned stays as it is.
     ///
     /// After `Fault`, which comes only where the disk's count of faults rose in the call, it may not be known whether the files are listed;
     /// the next call that changes the stores finds out. After `Memory` what was held is still held. After both the move is as it was.
