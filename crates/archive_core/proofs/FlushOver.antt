@@ -94,7 +94,7 @@ put_short : (m : Machine) (batch : List RowSamples) (i : ℕ) (r : RowState) →
 put_short m batch i r told = rw told refl
 
 module _ (tells : Bool) (at : Seen) (limbo : List Retired) (m : Machine) (held : Stores) (has : Has tells at held) (seen_now : IsTrue tells → MayLeave at.past at.files) (sound : IsSound m) (told_is : m.told ≡ (tells && held.stands)) (holds : HoldsDurable held m) (tie : IsLimboOf tells (beside at limbo) m.told m.rows m.limbo)
-    (files : List Filed) (whole : AreWhole tells at limbo held.stands files) (batch : List RowSamples) (may : MayMake m.rule m.told m.rows m.limbo (Appends batch)) (after : Stores) (by : FlushesOver limbo files batch held after) where
+    (files : List Filed) (whole : AreWhole 0 tells at limbo held.stands files) (batch : List RowSamples) (may : MayMake m.rule m.told m.rows m.limbo (Appends batch)) (after : Stores) (by : FlushesOver limbo files batch held after) where
   short_is : after.short ≡ put_all held.short by.flushed.written
   short_is = ap (λ (t : Held). t.files) by.flushed.lists
 
@@ -160,7 +160,7 @@ module _ (tells : Bool) (at : Seen) (limbo : List Retired) (m : Machine) (held :
           let f : Filed = get_or by.flushed.written k d in
           All-contains (IsBelow (length held.rows)) after.short f (All-from_recursion (IsBelow (length held.rows)) after.short all) (subst (λ (fs : List Filed). Contains fs f) (sym short_is) (put_all_new by.flushed.written held.short f by.flushed.rise (Contains-get_or by.flushed.written k d lt)))
 
-pub goes_on_in_limbo : (tells : Bool) (at : Seen) → (IsTrue tells → MayLeave at.past at.files) → (later : CatalogueState) (ns : List ManifestState) (limbo : List Retired) (files : List Filed) (limit : ℕ) (old new : Stores) (m : Machine) → IsSound m → m.told ≡ (tells && old.stands) → Has tells at old → HoldsDurable old m → IsLimboOf tells (beside at limbo) m.told m.rows m.limbo → AreWhole tells at limbo old.stands files
+pub goes_on_in_limbo : (tells : Bool) (at : Seen) → (IsTrue tells → MayLeave at.past at.files) → (later : CatalogueState) (ns : List ManifestState) (limbo : List Retired) (files : List Filed) (limit : ℕ) (old new : Stores) (m : Machine) → IsSound m → m.told ≡ (tells && old.stands) → Has tells at old → HoldsDurable old m → IsLimboOf tells (beside at limbo) m.told m.rows m.limbo → AreWhole 0 tells at limbo old.stands files
     → FlushesOver limbo files (batch_of limit m) old new → IsKnown later ns new → granularities ns ≡ granularities at.manifests → HoldsDurable new (made [] (Appends (batch_of limit m)) m)
 goes_on_in_limbo tells at seen_now later ns limbo files limit old new m sound told_is has holds tie whole by known same_g =
     flush_over_holds tells at limbo m old has seen_now sound told_is holds tie files whole (batch_of limit m) (flush_may limit m) new by (λ g here.

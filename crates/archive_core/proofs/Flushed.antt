@@ -67,7 +67,7 @@ short_there tells at held has =
 
 -- what the stores' call did of stores beside which these files in limbo are whole
 abbrev pub FlushActs : Bool → Seen → List Retired → List Filed → List RowSamples → Seen → End ℕ ⊥ → Type 0
-FlushActs tells old limbo files batch new end = ActsGiven (λ (s : Stores). AreWhole tells old limbo s.stands files) tells (flushing_over limbo files batch) old new end
+FlushActs tells old limbo files batch new end = ActsGiven (λ (s : Stores). AreWhole 0 tells old limbo s.stands files) tells (flushing_over limbo files batch) old new end
 
 -- by what was flushed and answered
 pub flush_as : (tells : Bool) (old : Seen) (limbo : List Retired) (files : List Filed) (new : Seen) (a b : List RowSamples) (r s : Result ℕ DiskErr) → a ≡ b → r ≡ s → FlushActs tells old limbo files a new (end_of_disk r) → FlushActs tells old limbo files b new (end_of_disk s)
@@ -88,7 +88,7 @@ module _ (tells : Bool) (p : Parts) (m : Machine) (r : Rests tells p m) (limit :
   abbrev pub files : List Filed
   files = r.stands.store.whole.0
 
-  whole : AreWhole tells p.at p.limbo held.stands files
+  whole : AreWhole 0 tells p.at p.limbo held.stands files
   whole = r.stands.store.whole.1
 
   own : batch_of limit m ≡ batch

@@ -9,4 +9,4 @@ pub record Keeps (tells : Bool) (old new : SeenAll) : Type 0 where
   pub whole : KeepsWhole tells old new
 
 pub keeps_itself : (tells : Bool) (all : SeenAll) → Keeps tells all all
-keeps_itself tells all = record { shown = λ name bytes shown. shown; whole = λ stands files whole. (files, whole) }
+keeps_itself tells all = record { shown = λ name bytes shown. shown; whole = λ i stands files low whole. (files, whole) }

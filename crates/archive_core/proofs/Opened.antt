@@ -239,7 +239,7 @@ module _ (tells : Bool) (at : Seen) (held : Stores) (has : Has tells at held) (a
             rows = memory told;
             doubt = tt;
             ready = tt;
-            store = record { before = held; told = refl; holds = holds told; whole = ([], none_whole tells at [] held.stands (λ k d low. absurd (omega (arith, low)))); is_open = inl has };
+            store = record { before = held; told = refl; holds = holds told; whole = ([], none_whole 0 tells at [] held.stands (λ k d low. absurd (omega (arith, low)))); is_open = inl has };
           };
           settled = refl;
         },

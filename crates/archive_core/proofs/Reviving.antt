@@ -140,7 +140,7 @@ short_by Long is = absurd (omega (arith, is))
 -- THE FILES IN LIMBO
 
 module _ (tells : Bool) (at : Seen) (limbo : List Retired) (m : Machine) (held : Stores) (has : Has tells at held) (told_disk : IsTrue tells) (seen_now : MayLeave at.past at.files) (stands : IsTrue held.stands) (sound : IsSound m) (told : m.told ≡ true) (holds_it : HoldsDurable held m) (tie : IsLimboOf tells (beside at limbo) m.told m.rows m.limbo)
-    (files : List Filed) (whole : AreWhole tells at limbo held.stands files) (batch : List RowSamples) (made : Stores) (by : FlushesOver limbo files batch held made) (i : ℕ) (r : RowState) (here : slice_get m.rows i ≡ Some r) where
+    (files : List Filed) (whole : AreWhole 0 tells at limbo held.stands files) (batch : List RowSamples) (made : Stores) (by : FlushesOver limbo files batch held made) (i : ℕ) (r : RowState) (here : slice_get m.rows i ≡ Some r) where
   first : (m : ManifestState) × (slice_get at.manifests 0 ≡ Some m)
   first = manifest_at at.manifests 0 (let three = has.known.three in omega (arith, three))
 
@@ -207,7 +207,7 @@ module _ (tells : Bool) (at : Seen) (limbo : List Retired) (m : Machine) (held :
       here = first.1;
       entry = h.entry;
       within = subst (λ (es : List Entry). Contains es h.entry) (sym (has.known.each 0 first.0 first.1).entries) (contains_entry held.short h within);
-      named = ap (λ (rows : List Row). file_of (1, rows) h.entry) has.known.rows ∙ place_named tells at limbo held first.0 first.1 tie.stands has file there number h within same;
+      named = ap (λ (rows : List Row). file_of (1, rows) h.entry) has.known.rows ∙ place_named 0 tells at limbo held first.0 first.1 tie.stands has file there number h within same;
     }))
   ]
 
@@ -247,7 +247,7 @@ module _ (tells : Bool) (at : Seen) (limbo : List Retired) (m : Machine) (held :
 
   is_of_machine : (h : Filed) → Contains by.back h → h.entry.series ≡ i → IsOwn h
   is_of_machine h within series =
-      let of = All-contains (λ (x : Filed). IsOfLimbo limbo x.entry) by.back h by.in_limbo.from within in
+      let of = All-contains (λ (x : Filed). IsOfLimbo 0 limbo x.entry) by.back h by.in_limbo.from within in
       let none : file_at (filed_at h) held.short ≡ None = All-contains (λ (x : Filed). file_at (filed_at x) held.short ≡ None) by.back h by.in_limbo.unlisted within in
       let none_of : file_at (place of.file.entry) held.short ≡ None = ap (λ (e : Entry). file_at (place e) held.short) of.is ∙ none in
       let known = has.known.each 0 first.0 first.1 in

@@ -169,7 +169,7 @@ pub record GrewFrom (tells : Bool) (at new : Seen) (limbo : List Retired) (after
   pub from : Stores
   pub known : IsKnown at.catalogue at.manifests from
   pub grow : StoresGrow from after
-  pub whole : (files : List Filed) × AreWhole tells new limbo after.stands files
+  pub whole : (files : List Filed) × AreWhole 0 tells new limbo after.stands files
 
 -- the memory lists what was before a doubt
 pub open_known : (tells : Bool) (at : Seen) (before : Stores) (m : Machine) → Has tells at before ⊎ InDoubt tells at before m → IsKnown at.catalogue at.manifests before
@@ -184,8 +184,8 @@ open_rows tells at before m (inr d) = d.doubts.known.rows
 -- so they do from what was before a doubt
 pub grew : (tells : Bool) (p : Parts) (m : Machine) (s : Stands tells p m) (new : Seen) → Keeps tells (beside p.at p.limbo) (beside new p.limbo) → (after : Stores) → after.stands ≡ s.store.before.stands → StoresGrow s.store.before after → GrewFrom tells p.at new p.limbo after
 grew tells p m s new keeps after stand grow =
-    let whole = keeps.whole s.store.before.stands s.store.whole.0 s.store.whole.1 in
-    record { from = s.store.before; known = open_known tells p.at s.store.before m s.store.is_open; grow = grow; whole = (whole.0, subst (λ (b : Bool). AreWhole tells new p.limbo b whole.0) (sym stand) whole.1) }
+    let whole = keeps.whole 0 s.store.before.stands s.store.whole.0 (omega arith) s.store.whole.1 in
+    record { from = s.store.before; known = open_known tells p.at s.store.before m s.store.is_open; grow = grow; whole = (whole.0, subst (λ (b : Bool). AreWhole 0 tells new p.limbo b whole.0) (sym stand) whole.1) }
 
 -- the archive after the settling: other stores, memory and tails, and no doubt
 abbrev pub settled_parts : Parts → Seen → List RowMemory → List TailState → Parts
@@ -200,7 +200,7 @@ module _ (tells : Bool) (p : Parts) (m : Machine) (s : Stands tells p m) (new : 
     pub same_told : mid.told ≡ m.told
     pub names : KeepsNames m.rows mid.rows
     pub holds : HoldsDurable held mid
-    pub whole : (files : List Filed) × AreWhole tells new p.limbo held.stands files
+    pub whole : (files : List Filed) × AreWhole 0 tells new p.limbo held.stands files
     pub memory : AreKeptOf kept tails mid.rows
     pub rule : mid.rule ≡ m.rule
     pub limbo : IsLimboOf tells (beside new p.limbo) mid.told mid.rows mid.limbo
@@ -477,7 +477,7 @@ doubt_stands tells p m s new kept d c same_g shown sound rows doubt ready is_ope
   rows = subst (λ (rows : List Row). AreRowsOf rows kept p.tails m.rows) (open_rows tells p.at s.store.before m s.store.is_open ∙ sym (open_rows tells new s.store.before (record m { doubt = c; faults = new.faults }) is_open)) rows;
   doubt = doubt;
   ready = ready;
-  store = record { before = s.store.before; told = s.store.told; holds = s.store.holds; whole = shown.whole s.store.before.stands s.store.whole.0 s.store.whole.1; is_open = is_open };
+  store = record { before = s.store.before; told = s.store.told; holds = s.store.holds; whole = shown.whole 0 s.store.before.stands s.store.whole.0 (omega arith) s.store.whole.1; is_open = is_open };
 }
 
 -- the doubt stands as it stood, since the stores couldn't settle it

@@ -239,7 +239,7 @@ module _ (tells : Bool) (copied : List Name) (q new : Parts) (said : Swept) (s :
     rows = subst (λ (c : CatalogueState). AreRowsOf c.rows q.kept q.tails m.rows) (sym (s.nothing was.settled).0) r.stands.rows;
     doubt = r.stands.doubt;
     ready = r.stands.ready;
-    store = record { before = before; told = r.stands.store.told; holds = r.stands.store.holds; whole = s.whole before.stands r.stands.store.whole.0 r.stands.store.whole.1; is_open = inl now };
+    store = record { before = before; told = r.stands.store.told; holds = r.stands.store.holds; whole = s.whole 0 before.stands r.stands.store.whole.0 (omega arith) r.stands.store.whole.1; is_open = inl now };
   })
 
 -- THE ACT

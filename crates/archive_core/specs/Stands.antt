@@ -105,7 +105,7 @@ pub record IsBetween (tells : Bool) (at : Seen) (limbo : List Retired) (m : Mach
   pub before : Stores
   pub told : m.told ≡ (tells && before.stands)
   pub holds : HoldsDurable before m
-  pub whole : (files : List Filed) × AreWhole tells at limbo before.stands files
+  pub whole : (files : List Filed) × AreWhole 0 tells at limbo before.stands files
   pub is_open : Has tells at before ⊎ InDoubt tells at before m
 
 -- the rule tells each header by its type and its year

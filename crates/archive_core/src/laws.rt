@@ -64,7 +64,7 @@ pub fn changes_are_the_machines()
 pub fn a_flush_goes_on_in_limbo<D: Disk>()
     ensures { (disk : D) (catalogue later : CatalogueState) (ms ns : List ManifestState) (limbo : List Retired) (files : List Filed) (limit : ℕ) (old new : Stores) (m : Machine)
         → IsSound m → m.told ≡ (D.tells && old.stands) → Has D.tells (seen_on D.files D.opened D.past D.faults catalogue ms disk) old → HoldsDurable old m → IsLimboOf D.tells (beside (seen_on D.files D.opened D.past D.faults catalogue ms disk) limbo) m.told m.rows m.limbo
-        → AreWhole D.tells (seen_on D.files D.opened D.past D.faults catalogue ms disk) limbo old.stands files → FlushesOver limbo files (batch_of limit m) old new → IsKnown later ns new → granularities ns ≡ granularities ms
+        → AreWhole 0 D.tells (seen_on D.files D.opened D.past D.faults catalogue ms disk) limbo old.stands files → FlushesOver limbo files (batch_of limit m) old new → IsKnown later ns new → granularities ns ≡ granularities ms
         → HoldsDurable new (made [] (Appends (batch_of limit m)) m) }
 {}
 

@@ -18,7 +18,7 @@ flush-requires c =
     record {
       can = c.requires.can;
       stands = subst (LimboStands all.stores) (sym c.requires.limbo) (All-nil _);
-      begun = (was.before, was.after, [], was.is_open, none_whole ghosts.tells all.stores all.limbo was.before.stands (subst (NoneOf 1) (sym c.requires.limbo) (All-nil _)));
+      begun = (was.before, was.after, [], was.is_open, none_whole 0 ghosts.tells all.stores all.limbo was.before.stands (subst (NoneOf 1) (sym c.requires.limbo) (All-nil _)));
     }
 
 pub returns : goal.returns
@@ -26,5 +26,5 @@ returns c =
     let old = seen_all ghosts c.args.store.now in
     let new = seen_all ghosts c.flush.new.self in
     let none = subst (NoneOf 1) (sym c.requires.limbo) (All-nil _) in
-    let acts = plain_acts ghosts.tells old.limbo [] c.args.batch.now none (λ (s : Stores). AreWhole ghosts.tells old.stores old.limbo s.stands []) (λ s. none_whole ghosts.tells old.stores old.limbo s.stands none) old.stores new.stores (end_of_disk c.flush.result) (c.flush.ensures.acts []) in
+    let acts = plain_acts ghosts.tells old.limbo [] c.args.batch.now none (λ (s : Stores). AreWhole 0 ghosts.tells old.stores old.limbo s.stands []) (λ s. none_whole 0 ghosts.tells old.stores old.limbo s.stands none) old.stores new.stores (end_of_disk c.flush.result) (c.flush.ensures.acts []) in
     usable_after (flushing c.args.batch.now) old new c.args.store.now.pinned c.flush.new.self.pinned (end_of_disk c.flush.result) acts c.flush.ensures.shown c.flush.ensures.pins c.requires.usable
