@@ -1,19 +1,26 @@
 -- The manifests that were loaded so far.
 use Rattle.std.proofs.Common.{◌≡◌, ◌⊎◌, inl, inr, ℕ, zero, suc, ◌+◌, ◌<◌, ◌≤◌, List, [], ◌∷◌, ◌++◌, length, Some, refl, sym, ◌∙◌, ap, subst, arith}
 use Rattle.std.specs.Prelude.{slice_get}
-use Rattle.std.proofs.lemmas.Option.{same_Some}
+use Rattle.std.specs.List.{AllAdjacentBelow}
+use Rattle.std.proofs.lemmas.Bool.{cases_lt}
+use Rattle.std.proofs.lemmas.Option.{same_Some, slice_get_within}
 use Rattle.disk_model.specs.Files.{Content, Files}
 use Rattle.gate_journal.specs.Kept.{Says}
+use Rattle.etl_rules.specs.Config.{ConfigState, IsGood}
+use Rattle.partition_names.specs.Granularity.{Holds}
 use Rattle.partition_names.specs.declared.granularity.Granularity.{Granularity}
+use Rattle.partition_names.specs.declared.granularity.Granularity.TheVariants.{Hour}
 use Rattle.store_manifest.specs.declared.entry.Entry.{Entry}
 use Rattle.store_manifest.specs.Batches.{Folds}
 use Rattle.store_manifest.specs.Manifest.{ManifestState, manifest_name}
 use Rattle.pv_catalog.specs.declared.row.Row.{Row}
 use Rattle.pv_catalog.specs.Catalogue.{catalogue_name}
 use Rattle.pv_catalog.specs.Rows.{IsCatalogue}
+use Rattle.three_stores.specs.Beginning.{AreNested}
 use Rattle.three_stores.specs.Seen.{AtEach}
 use Rattle.three_stores.proofs.Places.{manifest_at}
-use Rattle.three_reopen.specs.Reopen.{lists_of}
+use Rattle.three_reopen.specs.Loading.{granularity_at}
+use Rattle.three_reopen.specs.Reopen.{lists_of, stores_of}
 use Rattle.three_reopen.specs.Verdict.{AreSaid, AreSaidBelow}
 use Rattle.three_reopen.proofs.Having.{listed_at, low_of}
 
@@ -37,6 +44,26 @@ one_more P ms made m n is count each last i k here = elim (at_end ms m i k (ap (
   | inl there ↦ each i k there
   | inr both ↦ subst (P i) (sym both.1) (subst (λ (j : ℕ). P j m) (sym (both.0 ∙ count)) last)
 ]
+
+-- what is true of the places below one, and of that one, is true of the places below the next
+pub one_further : {P : Type 0} (i n : ℕ) → (i + 1 < n → P) → (i + 1 ≡ n → P) → i + 1 < n + 1 → P
+one_further {P} i n earlier last low = elim (cases_lt (i + 1) n) [
+  | inl before ↦ earlier before
+  | inr behind ↦ last (omega (arith, low, behind))
+]
+
+-- where each granularity of a list holds the one before, the first three do so
+nested_at : (gs : List Granularity) (i : ℕ) (g : Granularity) → AllAdjacentBelow (λ fine coarse. Holds coarse fine) gs (length gs) → slice_get gs (i + 1) ≡ Some g → i < 2 → AreNested i (granularity_at gs 0 ∷ granularity_at gs 1 ∷ granularity_at gs 2 ∷ [])
+nested_at [] i g adjacent here few fine coarse first second = absurd (cc (here))
+nested_at (x ∷ []) i g adjacent here few fine coarse first second = absurd (omega (arith, slice_get_within (x ∷ []) (i + 1) g here))
+nested_at (x ∷ y ∷ rest) zero g adjacent here few fine coarse first second = subst (λ (c : Granularity). Holds c fine) (same_Some y coarse second) (subst (Holds y) (same_Some x fine first) (adjacent 0 Hour (omega arith)))
+nested_at (x ∷ y ∷ []) (suc i) g adjacent here few fine coarse first second = absurd (omega (arith, slice_get_within (x ∷ y ∷ []) (suc i + 1) g here))
+nested_at (x ∷ y ∷ z ∷ rest) (suc zero) g adjacent here few fine coarse first second = subst (λ (c : Granularity). Holds c fine) (same_Some z coarse second) (subst (Holds z) (same_Some y fine first) (adjacent 1 Hour (omega arith)))
+nested_at (x ∷ y ∷ z ∷ rest) (suc (suc i)) g adjacent here few fine coarse first second = absurd (omega (arith, few))
+
+-- the partitions of one of the configured stores lie in those of the next, where that is configured
+pub nested_next : (config : ConfigState) (i place : ℕ) (g : Granularity) → IsGood config → slice_get config.granularity place ≡ Some g → i < 2 → i + 1 ≡ place → AreNested i (stores_of config)
+nested_next config i place g good here few next = nested_at config.granularity i g good.nested (ap (slice_get config.granularity) next ∙ here) few
 
 -- what the manifests at the first places say
 abbrev SaidAt : Files → List ManifestState → Type 0

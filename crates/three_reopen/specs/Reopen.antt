@@ -13,6 +13,7 @@ use Rattle.pv_catalog.specs.declared.row.Row.{Row}
 use Rattle.pv_catalog.specs.Catalogue.{CatalogueState, catalogue_name}
 use Rattle.pv_catalog.specs.Rows.{AreRows, IsCatalogue}
 use Rattle.tier_store.specs.Held.{AreIn, file_of}
+use Rattle.three_stores.specs.Beginning.{AllNested}
 use Rattle.three_stores.specs.Stores.{Stores, list_at, tier, with_list, with_rows}
 use Rattle.three_stores.specs.Seen.{AtEach, granularities, seen}
 use Rattle.three_stores.specs.Stored.{HoldsAll}
@@ -106,6 +107,7 @@ pub record IsReady (gs : List Granularity) (catalogue : CatalogueState) (manifes
   pub sound : catalogue.journal.sound ≡ true
   pub sound_lists : AtEach manifests (λ i m. m.journal.sound ≡ true)
   pub granularity : granularities manifests ≡ gs
+  pub nested : AllNested gs
   pub rows : AreRows catalogue.rows
   pub entries : AtEach manifests (λ i m. AreEntries m.granularity m.entries)
   pub of_rows : AtEach manifests (λ i m. All (HasRow catalogue.rows) m.entries)

@@ -1,5 +1,5 @@
 // The loads of the journals, and where a bad batch stands.
-ghost use Rattle.std.specs.Prelude.{◌≡◌, ◌≢◌, ◌⊎◌, ◌≤◌, ◌<◌, ◌+◌, ℕ, List, length, take, slice_get, true, Some, IfOk, IfErr, OnOk, IsErrOf, IsTrue, Err};
+ghost use Rattle.std.specs.Prelude.{◌≡◌, ◌≢◌, ◌⊎◌, ◌≤◌, ◌<◌, ◌+◌, ℕ, List, length, take, slice_get, true, Some, IfOk, IfErr, IsOk, OnOk, IsErrOf, IsTrue, Err};
 ghost use Rattle.disk_model.specs.Files.{Name, Files, Rose, At};
 ghost use Rattle.disk_model.specs.Past.{Passes};
 ghost use Rattle.disk_model.specs.declared.disk.DiskErr.TheVariants.{Fault};
@@ -13,6 +13,7 @@ ghost use Rattle.pv_catalog.specs.Rows.{IsCatalogue};
 ghost use Rattle.store_manifest.specs.Batches.{Folds};
 ghost use Rattle.store_manifest.specs.Entries.{AreEntries};
 ghost use Rattle.store_manifest.specs.Manifest.{ManifestState, IsKept, Lists, manifest_name};
+ghost use Rattle.three_stores.specs.Beginning.{AreNested, AllNested};
 ghost use Rattle.three_stores.specs.Seen.{AtEach};
 ghost use Rattle.three_reopen.specs.Loading.{KeepsSaid};
 ghost use Rattle.three_reopen.specs.Refusal.{IsTold};
@@ -68,6 +69,7 @@ pub(crate) fn load_manifests<D: Disk>(
     ensures names { IfOk result (λ ms. AtEach ms.items (λ i m. m.journal.name ≡ manifest_name (i + 1))) }
     ensures sound { IfOk result (λ ms. AtEach ms.items (λ i m. m.journal.sound ≡ true)) }
     ensures granularity { IfOk result (λ ms. AtEach ms.items (λ i m. slice_get (stores_of config.now) i ≡ Some m.granularity)) }
+    ensures nested { IsOk result → AllNested (stores_of config.now) }
     ensures are { IfOk result (λ ms. AtEach ms.items (λ i m. AreEntries m.granularity m.entries)) }
     ensures told { IsTrue D.tells → (seen : Files) (rows : List Row) → Says IsCatalogue rows (seen catalogue_name)
         → ((i : ℕ) → i < 3 → D.files disk.old (manifest_name (i + 1)) ≡ seen (manifest_name (i + 1))) → IfErr result (IsTold (stores_of config.now) seen) }
@@ -98,6 +100,7 @@ fn load_manifest<D: Disk>(
     ensures kept { IsTrue D.tells → IfOk result (λ m. IsKept m (D.files disk.new) (D.opened disk.new) (D.past disk.new)) }
     ensures entries { IsTrue D.tells → IfOk result (λ m. Lists m.granularity m.entries (D.files disk.old (manifest_name (place + 1)))) }
     ensures are { IfOk result (λ m. AreEntries m.granularity m.entries) }
+    ensures nested { IsOk result → (i : ℕ) → i < 2 → i + 1 ≡ place → AreNested i (stores_of config.now) }
     ensures manifest { IfOk result (λ m. (m.journal.name ≡ manifest_name (place + 1)) × (m.journal.sound ≡ true) × (slice_get (stores_of config.now) place ≡ Some m.granularity)) }
     ensures told { IsTrue D.tells → (seen : Files) (rows : List Row) (lists : Listings) → Says IsCatalogue rows (seen catalogue_name) → AreSaidBelow place (stores_of config.now) seen lists
         → D.files disk.old (manifest_name (place + 1)) ≡ seen (manifest_name (place + 1)) → IfErr result (IsTold (stores_of config.now) seen) }

@@ -29,7 +29,7 @@ use store_manifest::Manifest;
 use three_stores::TierStore;
 
 /// Opens a disk as three stores, in the configured granularities. What the disk's image holds is what the stores hold, with no pin and
-/// nothing in limbo. It needs that no journal of the disk was opened, and no listed file beyond its listed length.
+/// nothing in limbo, and they keep the settings. It needs that no journal of the disk was opened, and no listed file beyond its listed length.
 ///
 /// The first that is wrong is told, in this order: the catalogue; the manifests of stores 1 to 3, each with its granularity; an entry of
 /// no row; the listed files, store by store and in the order of series and time. Of files it looks only at lengths. `DiskFault` comes only
@@ -48,6 +48,7 @@ pub fn reopen<D: Disk>(
     ensures said { IsTrue D.tells → IfOk result (λ s. let now = seen D.Disk s in AreSaid (stores_of config.now) (D.files disk) now.catalogue.rows (lists_of now.manifests)) }
     ensures ready { IfOk result (λ s. let now = seen D.Disk s in IsReady (stores_of config.now) now.catalogue now.manifests) }
     ensures fresh { IfOk result (λ s. (s.limbo.items ≡ []) × (s.pinned ≡ map.empty)) }
+    ensures settings { IfOk result (λ s. s.config ≡ config.now) }
 
     ensures whole { IsTrue D.tells → IsOk result → IsWhole (stores_of config.now) (D.files disk) }
     ensures damaged { IsTrue D.tells → (d : D) (name : Name) (at : ℕ) → result ≡ Err (Damaged d name at) → IsDamaged (stores_of config.now) (D.files disk) name at }
@@ -61,7 +62,9 @@ pub fn reopen<D: Disk>(
 {
     let mut disk = disk;
     match load_stores(alloc, &mut disk, config) {
-        Ok((catalogue, manifests)) => Ok(TierStore::new(alloc, disk, catalogue, manifests)),
+        Ok((catalogue, manifests)) => Ok(TierStore::new(
+            alloc, disk, *config, catalogue, manifests,
+        )),
         Err(Refusal::Disk(DiskErr::Fault)) => Err(ReopenErr::DiskFault(disk)),
         Err(Refusal::Disk(DiskErr::Memory)) => Err(ReopenErr::Memory(disk)),
         Err(Refusal::Damaged { name, at }) => Err(ReopenErr::Damaged { disk, name, at }),

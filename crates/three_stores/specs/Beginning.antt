@@ -1,5 +1,5 @@
 -- Which move of a row's oldest files to the next store is to be made, and how it begins.
-use Rattle.std.specs.Prelude.{◌≡◌, ◌+◌, ℕ, List, map, length, Option, Some, slice_get, Bool, IsTrue}
+use Rattle.std.specs.Prelude.{◌≡◌, ◌<◌, ◌+◌, ℕ, List, map, length, Option, Some, slice_get, Bool, IsTrue}
 use Rattle.etl_mover.specs.Move.{MoveState, HasBegun, IsMove, StillLists, IsOfRow}
 use Rattle.etl_mover.specs.Step.{IsToRow}
 use Rattle.move_choice.specs.Series.{IsToMove, parts_in}
@@ -19,6 +19,10 @@ use Rattle.three_stores.specs.declared.moving.MoveBegun.TheVariants.{Begun, Runn
 -- each partition of the store at a place lies in one of the next store's
 abbrev pub AreNested : ℕ → List Granularity → Type 0
 AreNested i gs = (fine coarse : Granularity) → slice_get gs i ≡ Some fine → slice_get gs (i + 1) ≡ Some coarse → Holds coarse fine
+
+-- and those of the first two stores do so
+abbrev pub AllNested : List Granularity → Type 0
+AllNested gs = (i : ℕ) → i < 2 → AreNested i gs
 
 -- how many partitions of each row are to move from the store at a place to the next
 abbrev pub parts_at : MoveRule → ℕ → Stores → ℕ → ℕ

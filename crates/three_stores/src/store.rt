@@ -16,6 +16,7 @@ ghost use Rattle.std.specs.FinMap as map;
 
 use crate::limbo::{Retired, unlisted_entries};
 use disk_model::{Disk, DiskErr};
+use etl_rules::Config;
 use pinned_pieces::PinnedPieces;
 use pv_catalog::Catalogue;
 use series_model::Batch;
@@ -27,7 +28,8 @@ use tier_store::{flush_pieces, plan_flush};
 const SHORT: u8 = 1;
 
 /// Three stores of partition files: their disk, the catalogue of their rows, the manifests of stores 1, 2 and 3, each at the place
-/// of its number less one, the pins of those who read them, and the limbo: retired files that are still on the disk.
+/// of its number less one, the pins of those who read them, the limbo: retired files that are still on the disk, and the settings by which
+/// files move on.
 #[derive(Drop)]
 pub struct TierStore<D: Disk> {
     pub(crate) alloc: Global,
@@ -36,19 +38,22 @@ pub struct TierStore<D: Disk> {
     pub(crate) manifests: Vec<Manifest>,
     pub(crate) pinned: PinnedPieces,
     pub(crate) limbo: Vec<Retired>,
+    pub(crate) config: Config,
 }
 
 impl<D: Disk> TierStore<D> {
     /// The stores of a disk, with no pin and nothing in limbo, whose catalogue and whose manifests of stores 1, 2 and 3, in this order,
-    /// were loaded from it.
+    /// were loaded from it. The settings are those that the manifests were loaded by.
     pub fn new(
         alloc: Global,
         disk: D,
+        config: Config,
         catalogue: Catalogue,
         manifests: Vec<Manifest>,
     ) -> TierStore<D>
         ensures alloc { result.alloc ≡ alloc }
         ensures disk { result.disk ≡ disk }
+        ensures config { result.config ≡ config }
         ensures rows { result.catalogue ≡ catalogue }
         ensures lists { result.manifests.items ≡ manifests.items }
         ensures pins { result.pinned ≡ map.empty }
@@ -61,7 +66,15 @@ impl<D: Disk> TierStore<D> {
             manifests,
             pinned: PinnedPieces::new(alloc),
             limbo: Vec::new(alloc),
+            config,
         }
+    }
+
+    /// The settings that it was opened with. They say when files of stores 1 and 2 are to move on.
+    pub fn config(&self) -> Config
+        ensures { result ≡ self.now.config }
+    {
+        self.config
     }
 
     /// Its rows. Where a change of them stands in doubt, they are those from before it.

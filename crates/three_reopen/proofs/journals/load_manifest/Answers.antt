@@ -13,6 +13,7 @@ use Rattle.three_reopen.specs.Reopen.{stores_of}
 use Rattle.three_reopen.specs.Verdict.{manifest_bad}
 use Rattle.three_reopen.proofs.Having.{here_at}
 use Rattle.three_reopen.proofs.Keeping.{kept_list, kept_then, list_again, manifest_stays}
+use Rattle.three_reopen.proofs.Manifests.{nested_next}
 use Rattle.three_reopen.proofs.journals.load_manifest.Goals as goal
 
 pub returns-in-Ok-clause-keeps : goal.returns-in-Ok-clause-keeps
@@ -113,3 +114,6 @@ pub returns-in-Ok-clause-earlier : goal.returns-in-Ok-clause-earlier
 returns-in-Ok-clause-earlier g c tells i m low named kept =
     manifest_stays (c.args.place + 1) (StillSays (Folds c.granularity.result) (g.D.Disk.files c.args.disk.now (manifest_name (c.args.place + 1)))) (i + 1) m (g.D.Disk.files c.args.disk.now) (g.D.Disk.opened c.args.disk.now) (g.D.Disk.past c.args.disk.now) (g.D.Disk.files c.load.new.disk) (g.D.Disk.opened c.load.new.disk) (g.D.Disk.past c.load.new.disk)
     named (λ is. absurd (omega (arith, is, low))) kept (c.load.ensures.elsewhere tells) (c.load.ensures.any_moment tells) (c.load.ensures.opened tells)
+
+pub returns-in-Ok-clause-nested : goal.returns-in-Ok-clause-nested
+returns-in-Ok-clause-nested g c ok i few next = nested_next c.args.config.now i (c.args.place + 1 - 1) c.granularity.result c.granularity.ensures.good c.granularity.ensures.value few (next ∙ omega arith)

@@ -10,7 +10,7 @@ use Rattle.store_manifest.specs.Manifest.{ManifestState, IsKept, manifest_name}
 use Rattle.three_stores.specs.Seen.{AtEach}
 use Rattle.three_reopen.specs.Reopen.{stores_of, lists_of}
 use Rattle.three_reopen.proofs.Keeping.{kept_then, kept_same, one_store}
-use Rattle.three_reopen.proofs.Manifests.{no_manifest, one_more, said_below}
+use Rattle.three_reopen.proofs.Manifests.{no_manifest, one_more, one_further, said_below}
 use Rattle.three_reopen.proofs.journals.load_manifests.Goals as goal
 
 pub loop-place-init : goal.loop-place-init
@@ -25,6 +25,7 @@ loop-place-init g c =
       names = no_manifest (λ i m. m.journal.name ≡ manifest_name (i + 1)) ms none;
       sound = no_manifest (λ i m. m.journal.sound ≡ true) ms none;
       granularity = no_manifest (λ i m. slice_get (stores_of c.args.config.now) i ≡ Some m.granularity) ms none;
+      nested = λ i few low. absurd (omega (arith, low));
       are = no_manifest (λ i m. AreEntries m.granularity m.entries) ms none;
       rest = λ tells i from low. refl;
       catalogue = λ tells s named stored. stored;
@@ -52,6 +53,7 @@ loop-place-preserved g c =
       names = one_more (λ i k. k.journal.name ≡ manifest_name (i + 1)) ms made m place is was.count was.names says.manifest.0;
       sound = one_more (λ i k. k.journal.sound ≡ true) ms made m place is was.count was.sound says.manifest.1;
       granularity = one_more (λ i k. slice_get (stores_of c.args.config.now) i ≡ Some k.granularity) ms made m place is was.count was.granularity says.manifest.2;
+      nested = λ i few low. one_further i place (λ earlier. was.nested i few earlier) (λ last. says.nested refl i few last) low;
       are = one_more (λ i k. AreEntries k.granularity k.entries) ms made m place is was.count was.are says.are;
       rest = λ tells i from low. says.others tells (manifest_name (i + 1)) (λ same. let store = one_store (i + 1) (place + 1) same in absurd (omega (arith, store, from))) ∙ was.rest tells i (omega (arith, from)) low;
       catalogue = λ tells s named stored. says.catalogue tells s named (was.catalogue tells s named stored);
@@ -72,3 +74,6 @@ returns-in_err-manifest-clause-keeps g c tells = kept_then (stores_of c.args.con
 
 pub returns-in_err-push-clause-keeps : goal.returns-in_err-push-clause-keeps
 returns-in_err-push-clause-keeps g c tells = kept_then (stores_of c.args.config.now) _ _ _ _ _ _ _ _ _ (c.loop-place.invariant.keeps tells) (c.load_manifest.ensures.keeps tells)
+
+pub returns-clause-nested : goal.returns-clause-nested
+returns-clause-nested g c ok i low = (c.loop-place.invariant.nested i low (omega (arith, low, c.loop-place-test.false)))

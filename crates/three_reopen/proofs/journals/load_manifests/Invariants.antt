@@ -5,6 +5,7 @@ use Rattle.pv_catalog.specs.Catalogue.{CatalogueState, catalogue_name, IsStored}
 use Rattle.store_manifest.specs.Batches.{Folds}
 use Rattle.store_manifest.specs.Entries.{AreEntries}
 use Rattle.store_manifest.specs.Manifest.{IsKept, manifest_name}
+use Rattle.three_stores.specs.Beginning.{AreNested}
 use Rattle.three_stores.specs.Seen.{AtEach}
 use Rattle.three_reopen.specs.Loading.{KeepsSaid}
 use Rattle.three_reopen.specs.Reopen.{stores_of}
@@ -19,6 +20,7 @@ invariant-loop-place g l = record {
   names : AtEach l.manifests.items (λ i m. m.journal.name ≡ manifest_name (i + 1));
   sound : AtEach l.manifests.items (λ i m. m.journal.sound ≡ true);
   granularity : AtEach l.manifests.items (λ i m. slice_get (stores_of l.config) i ≡ Some m.granularity);
+  nested : (i : ℕ) → i < 2 → i + 1 < l.place → AreNested i (stores_of l.config);
   are : AtEach l.manifests.items (λ i m. AreEntries m.granularity m.entries);
   rest : IsTrue g.D.Disk.tells → (i : ℕ) → l.place ≤ i → i < 3 → g.D.Disk.files l.disk (manifest_name (i + 1)) ≡ g.D.Disk.files l.fn.disk (manifest_name (i + 1));
   catalogue : IsTrue g.D.Disk.tells → (s : CatalogueState) → s.journal.name ≡ catalogue_name → IsStored s (g.D.Disk.files l.fn.disk) (g.D.Disk.opened l.fn.disk) (g.D.Disk.past l.fn.disk) → IsStored s (g.D.Disk.files l.disk) (g.D.Disk.opened l.disk) (g.D.Disk.past l.disk);

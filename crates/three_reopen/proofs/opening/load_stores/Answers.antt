@@ -89,6 +89,7 @@ returns-clause-ready g c = record {
   sound = c.in_ok-catalogue.ensures.journal.1;
   sound_lists = c.in_ok-manifests.ensures.sound;
   granularity = same_granularities (stores_of c.args.config.now) c.in_ok-manifests.manifests.items c.in_ok-manifests.ensures.three c.in_ok-manifests.ensures.granularity;
+  nested = c.in_ok-manifests.ensures.nested refl;
   rows = c.rows-rows.ensures.are;
   entries = c.in_ok-manifests.ensures.are;
   of_rows = λ i m here. subst (λ (r : List Row). All (HasRow r) m.entries) c.rows-rows.ensures.value (c.in_ok-check_rows.ensures.of_rows i m (ap (λ (l : List ManifestState). slice_get l i) c.deref.ensures.value ∙ here));
