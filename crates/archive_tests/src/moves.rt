@@ -214,6 +214,7 @@ fn a_move_has_the_least_free_number(rt: HostRuntime) -> Result<(), Fail> {
     assert_eq!(rt; (second.series, second.moving), (6, 60));
     assert!(rt; moves.take(1).is_none());
     assert!(rt; moves.take(3).is_none());
+    assert!(rt; moves.runs(2) && !moves.runs(1) && !moves.runs(3));
     let by_series = moves.by_series()?;
     assert_eq!(rt; by_series.len(), 2);
     assert_eq!(rt; by_series.get(&5).copied(), Some(0));

@@ -1,5 +1,5 @@
 // The moves by their numbers.
-ghost use Rattle.std.specs.Prelude.{◌≡◌, ◌<◌, ◌≤◌, ◌==◌, length, ℕ, Some, None, IsSome, IfOk, OnOk, OnErr, if◌then◌else◌};
+ghost use Rattle.std.specs.Prelude.{◌≡◌, ◌<◌, ◌≤◌, ◌==◌, length, ℕ, Some, None, IsSome, is_some, IfOk, OnOk, OnErr, if◌then◌else◌};
 ghost use Rattle.std.specs.BTreeMap.{get};
 ghost use Rattle.std.specs.Ordering.{nat_cmp};
 ghost use Rattle.running_moves.specs.Table.{at, told, IsOf};
@@ -51,6 +51,16 @@ impl<M: Drop> RunningMoves<M> {
             self.slots[place] = Some(running);
         }
         Ok(number)
+    }
+
+    /// Whether a move of this number runs.
+    pub fn runs(&self, number: u32) -> bool
+        ensures { result ≡ is_some (at self.now.slots.items number) }
+    {
+        match self.slots.get(number as usize) {
+            Some(slot) => slot.is_some(),
+            None => false,
+        }
     }
 
     /// The move of this number, which runs no more.
