@@ -81,6 +81,13 @@ impl<M: Drop> RunningMoves<M> {
         self.slots[number as usize] = Some(running);
     }
 
+    /// The moves, each at the place of its number.
+    pub fn slots(&self) -> &[Option<Running<M>>]
+        ensures { result.now ≡ self.now.slots.items }
+    {
+        &self.slots
+    }
+
     /// By its series the number of each move that runs; where moves of one series run, that of one of them.
     pub fn by_series(&self) -> Result<BTreeMap<u32, u32>, AllocError>
         ensures runs { IfOk result (λ by. (series number : ℕ) → get nat_cmp by series ≡ Some number → IsOf self.now.slots.items number series) }
