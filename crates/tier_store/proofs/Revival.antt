@@ -130,6 +130,10 @@ longer_than g held pieces fs f old each within here =
     let some = grows.1.some in
     omega (arith, at, entry, len, some)
 
+-- and its header is as long
+pub head_stays : (g : Granularity) (held : Held) (pieces : List Piece) (fs : List Filed) (f old : Filed) → AllZip (Grows g held) pieces fs → Contains fs f → file_at (filed_at f) held.files ≡ Some old → f.entry.head_len ≡ old.entry.head_len
+head_stays g held pieces fs f old each within here = let grows = piece_of (Grows g held) pieces fs f each within in grows.1.head old here
+
 pub still_over : (g : Granularity) (held : Held) (limbo fs : List Filed) (pieces : List Piece) → AreHeld g held → AreInLimbo g held limbo → MakesFiles g (with_files held limbo) pieces fs → ListsStill (listing_of held) (listing_of (with_files held fs))
 still_over g held limbo fs pieces valid in_limbo makes =
     All-map (λ (e : Entry). IsListedTo (listing_of (with_files held fs)) (file_of (shelf_of held) e) e.len) entry_of held.files (λ k d lt.
@@ -183,6 +187,7 @@ flushes_over g held limbo batch pieces n valid in_limbo plan = record {
   rise = plan.makes.apart;
   ends = plan.ends;
   longer = λ k d lt old here. longer_than g (with_files held limbo) pieces plan.files (get_or plan.files k d) old plan.makes.each (Contains-get_or plan.files k d lt) here;
+  heads = λ k d lt old here. head_stays g (with_files held limbo) pieces plan.files (get_or plan.files k d) old plan.makes.each (Contains-get_or plan.files k d lt) here;
 }
 
 -- THE COMMIT

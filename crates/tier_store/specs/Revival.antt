@@ -27,7 +27,7 @@ abbrev pub ListsNoShorter : Shelf → List Entry → Filed → Type 0
 ListsNoShorter shelf entries f = All (λ (e : Entry). file_of shelf e ≡ file_of shelf f.entry → f.entry.len ≤ e.len) entries
 
 -- The batch is flushed as if the files in limbo were listed. Of these just those are listed then that were written: each written file ends
--- its row, and one that was there is longer now. What was listed is listed still, and neither that nor what was in limbo is cut.
+-- its row, and one that was there is longer now, behind a header of the same length. What was listed is listed still, and neither that nor what was in limbo is cut.
 pub record FlushesOver (held : Held) (limbo : List Filed) (batch : List RowSamples) (new : Held) : Type 0 where
   pub written : List Filed
   pub lists : new ≡ with_files held written
@@ -37,3 +37,4 @@ pub record FlushesOver (held : Held) (limbo : List Filed) (batch : List RowSampl
   pub rise : PlacesRise written
   pub ends : All (EndsRow (put_all held.files limbo)) written
   pub longer : All (λ (f : Filed). (old : Filed) → file_at (filed_at f) (put_all held.files limbo) ≡ Some old → old.entry.len < f.entry.len) written
+  pub heads : All (λ (f : Filed). (old : Filed) → file_at (filed_at f) (put_all held.files limbo) ≡ Some old → f.entry.head_len ≡ old.entry.head_len) written
