@@ -25,7 +25,7 @@ use Rattle.tier_store.proofs.There.{contains_map}
 use Rattle.tier_store.proofs.Three.{same_cases}
 use Rattle.three_stores.specs.Change.{IsKnown, Has, Call, HoldsBy, Changes}
 use Rattle.three_stores.specs.Limbo.{IsOfPlace, LimboStands, IsListedName, StayUnlisted, LeaveListed, staying}
-use Rattle.three_stores.specs.Retiring.{AreApart, oldest, oldest_entries, without_oldest, retired_of, Leaves, Enter, HandedOver, HasGrown, HasNotGrown, Retires, SaysRetired, retiring, dropping}
+use Rattle.three_stores.specs.Retiring.{FailsRetired, AreApart, oldest, oldest_entries, without_oldest, retired_of, Leaves, Enter, HandedOver, HasGrown, HasNotGrown, Retires, SaysRetired, retiring, dropping}
 use Rattle.three_stores.specs.Seen.{Seen, granularities}
 use Rattle.three_stores.specs.Stored.{HoldsAll}
 use Rattle.three_stores.specs.Stores.{Stores, list_at}
@@ -235,6 +235,15 @@ module _ (tells : Bool) (i row : ℕ) (published : List ℕ) (Limbo : Result (Un
         any_moment = λ told held has. moment d told held has;
         costs = record { granularity = d.costs.granularity; faults = d.costs.faults; cause = λ failed. absurd failed };
       }
+
+  -- and after a fault all is as it was, or the files may be listed no more
+  pub retired_doubt : (e : DiskErr) (end : End (Unit {0}) ⊥) → end ≡ end_of_error e → e ≡ Fault → Changes tells (dropping i row (length published)) at mid end → (held : Stores) → Has tells at held → FailsRetired i row published tells mid held
+  retired_doubt e end is fault drop held has =
+      let ends = (subst (λ (x : End (Unit {0}) ⊥). Changes tells (dropping i row (length published)) at mid x) (is ∙ ap end_of_error fault) drop).ends held has in
+      elim ends [
+        | inl still ↦ inl still
+        | inr made ↦ inr (made.0, record { none_grown = grown held has; same = made.1 }, made.2)
+      ]
 
 -- BETWEEN THE COMMIT AND THE REMOVAL
 

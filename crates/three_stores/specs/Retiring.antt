@@ -13,7 +13,7 @@ use Rattle.store_manifest.specs.Manifest.{ManifestState}
 use Rattle.tier_store.specs.Ahead.{without_all}
 use Rattle.tier_store.specs.Held.{Filed, Shelf, entry_of, file_of}
 use Rattle.tier_store.specs.Plan.{of_row}
-use Rattle.three_stores.specs.Change.{Call}
+use Rattle.three_stores.specs.Change.{Call, Doubts, Has}
 use Rattle.three_stores.specs.Limbo.{Stay, LeaveListed, IsListedName, IsPinnedFile, IsKeptName, AreFree}
 use Rattle.three_stores.specs.Pinned.{SeenAll, Shows}
 use Rattle.three_stores.specs.Seen.{Seen}
@@ -137,6 +137,10 @@ SaysRetired i row published Limbo (ends.Again len copied) old new = (new ≡ old
 -- The oldest files of a row leave a list, or all is as it was.
 abbrev pub retiring : ℕ → ℕ → List ℕ → (Result (Unit {0}) DiskErr → List Retired → Type 0) → Call RetireEnd ⊥
 retiring i row published Limbo = record { by = λ old new. (new ≡ old) ⊎ Retires i row published old new; says = SaysRetired i row published Limbo; refuses = λ e rows. ⊥ }
+
+-- After a fault all is as it was, or it isn't known whether the files are listed still.
+abbrev pub FailsRetired : ℕ → ℕ → List ℕ → Bool → Seen → Stores → Type 0
+FailsRetired i row published tells new held = Has tells new held ⊎ ((made : Stores) × Retires i row published held made × Doubts tells new held made)
 
 -- the commit alone
 abbrev pub dropping : ℕ → ℕ → ℕ → Call (Unit {0}) ⊥

@@ -12,7 +12,7 @@ ghost use Rattle.three_stores.specs.Seen.{seen, IsSettled};
 ghost use Rattle.three_stores.specs.Change.{Has, IsOpen, Changes, Acts};
 ghost use Rattle.three_stores.specs.Limbo.{LimboStands};
 ghost use Rattle.three_stores.specs.Pinned.{seen_all, KeepsShown};
-ghost use Rattle.three_stores.specs.Retiring.{AreApart, oldest, oldest_entries, drop_entry, retired_of, dropping, retiring, HasGrown, HasNotGrown, Remain, ShowsKept, HandedOver, StayOrEnter};
+ghost use Rattle.three_stores.specs.Retiring.{FailsRetired, AreApart, oldest, oldest_entries, drop_entry, retired_of, dropping, retiring, HasGrown, HasNotGrown, Remain, ShowsKept, HandedOver, StayOrEnter};
 ghost use Rattle.three_stores.specs.Moving.{LeavesFiles, LeavesNames};
 ghost use Rattle.three_stores.specs.Revival.{KeepsWholeOf};
 ghost use Rattle.three_stores.specs.declared.retirement.RetireEnd.TheVariants.{Again, Retired as IsRetired};
@@ -91,6 +91,7 @@ impl<D: Disk> TierStore<D> {
         ensures whole { (held : Stores) → Has D.tells (seen D.Disk self.old) held → KeepsWholeOf D.tells (seen_all D.Disk self.old) (seen_all D.Disk self.new) held }
         ensures again { (len copied : ℕ) → result ≡ Ok (Again len copied) → self.new.limbo ≡ self.old.limbo }
         ensures failed { OnErr result (StayOrEnter (seen D.Disk self.new) place row (length published.now) self.old.limbo.items self.new.limbo.items) }
+        ensures doubted { (held : Stores) → Has D.tells (seen D.Disk self.old) held → IsErrOf result DiskErr.Fault → FailsRetired place row published.now D.tells (seen D.Disk self.new) held }
         ensures handed { IsErrOf result DiskErr.Fault → HandedOver (seen D.Disk self.new) place row (length published.now) self.old.limbo.items self.new.limbo.items }
         ensures cause { (removed : _) → result ≡ Ok (IsRetired removed) → IsErrOf removed DiskErr.Fault → Rose (D.faults self.old.disk) (D.faults self.new.disk) }
         ensures stands { LimboStands (seen D.Disk self.new) self.new.limbo.items }
@@ -133,6 +134,7 @@ impl<D: Disk> TierStore<D> {
         ensures acts { Acts D.tells (retiring place row published.now (Remain D.tells (seen D.Disk self.new) self.old.pinned self.old.limbo.items self.new.limbo.items)) (seen D.Disk self.old) (seen D.Disk self.new) (end_of_disk result) }
         ensures again { (len copied : ℕ) → result ≡ Ok (Again len copied) → self.new.limbo ≡ self.old.limbo }
         ensures failed { OnErr result (StayOrEnter (seen D.Disk self.new) place row (length published.now) self.old.limbo.items self.new.limbo.items) }
+        ensures doubted { (held : Stores) → Has D.tells (seen D.Disk self.old) held → IsErrOf result DiskErr.Fault → FailsRetired place row published.now D.tells (seen D.Disk self.new) held }
         ensures handed { IsSettled (seen D.Disk self.old) → IsErrOf result DiskErr.Fault → HandedOver (seen D.Disk self.new) place row (length published.now) self.old.limbo.items self.new.limbo.items }
         ensures cause { (removed : _) → result ≡ Ok (IsRetired removed) → IsErrOf removed DiskErr.Fault → Rose (D.faults self.old.disk) (D.faults self.new.disk) }
         ensures shown { ShowsKept D.tells self.old.pinned (seen_all D.Disk self.old) (seen_all D.Disk self.new) }

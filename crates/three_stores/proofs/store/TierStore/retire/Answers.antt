@@ -88,6 +88,14 @@ returns-clause-shown g c name bytes kept was =
 pub returns-clause-keeps : goal.returns-clause-keeps
 returns-clause-keeps g c = subst (λ (s : CatalogueState). KeepsRows c.args.self.now.catalogue.rows s.rows) (sym c.retire_settled.ensures.same.0) c.review.ensures.keeps
 
+pub returns-in_err-review-clause-doubted : goal.returns-in_err-review-clause-doubted
+returns-in_err-review-clause-doubted g c held has fault =
+    let both : ◌≡◌ {A = Result (Unit {0}) DiskErr} (Ok tt) (Err c.in_err-review.field-0.0) = sym (c.review.ensures.nothing has.settled).0 ∙ c.in_err-review.was in
+    absurd (cc (both))
+
+pub returns-clause-doubted : goal.returns-clause-doubted
+returns-clause-doubted g c held has fault = c.retire_settled.ensures.doubted held (rw (c.review.ensures.nothing has.settled).1 has) fault
+
 pub returns-in_err-review-clause-handed : goal.returns-in_err-review-clause-handed
 returns-in_err-review-clause-handed g c settled fault =
     let both : ◌≡◌ {A = Result (Unit {0}) DiskErr} (Ok tt) (Err c.in_err-review.field-0.0) = sym (c.review.ensures.nothing settled).0 ∙ c.in_err-review.was in

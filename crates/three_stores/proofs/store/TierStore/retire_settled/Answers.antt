@@ -20,7 +20,7 @@ use Rattle.three_stores.specs.declared.limbo.Retired.{Retired}
 use Rattle.three_stores.specs.declared.retirement.RetireEnd.{RetireEnd}
 use Rattle.three_stores.specs.declared.retirement.RetireEnd.TheVariants as ends
 use Rattle.three_stores.proofs.Acting.{nothing_changes}
-use Rattle.three_stores.proofs.Leaving.{part_leaves, stands_then, unlisted_then, among_then, has_then, enters, of_held, none_grown, has_grown, fewer_stand, nothing_retired, stays_then, cut_handed, retired_done, retired_cut}
+use Rattle.three_stores.proofs.Leaving.{part_leaves, stands_then, unlisted_then, among_then, has_then, enters, of_held, none_grown, has_grown, fewer_stand, nothing_retired, stays_then, cut_handed, retired_done, retired_cut, retired_doubt}
 use Rattle.three_stores.proofs.Places.{manifest_here}
 use Rattle.three_stores.proofs.Settled.{same_seen}
 use Rattle.pv_catalog.specs.Catalogue.{CatalogueState}
@@ -396,6 +396,40 @@ returns-in_err-drop_oldest-clause-failed g c =
     let drop : Changes disk.tells (dropping c.args.place c.args.row n) at at2 (end_of_disk c.drop_oldest.result) = subst (λ (s : Seen). Changes disk.tells (dropping c.args.place c.args.row n) s at2 (end_of_disk c.drop_oldest.result)) (sym is1) c.drop_oldest.ensures.changes in
     let p = err_from_is_err_and c.from_residual-in_err-drop_oldest.result c.from_residual-in_err-drop_oldest.ensures.1 in
     rw p.1 (inr (cut_handed disk.tells c.args.place c.args.row n at at2 m here held.0 c.in_err-drop_oldest.field-0.0 (end_of_disk c.drop_oldest.result) (ap (λ (r : Result (Unit {0}) DiskErr). end_of_disk r) c.in_err-drop_oldest.was) held.1 drop self.limbo.items entered.0 files dropped.limbo.items entered.1 are limbo))
+
+pub returns-in_err-drop_oldest-clause-doubted : goal.returns-in_err-drop_oldest-clause-doubted
+returns-in_err-drop_oldest-clause-doubted g c s was fault =
+    let self = c.args.self.now in
+    let disk = g.D.Disk in
+    let at = seen_on disk.files disk.opened disk.past disk.faults self.catalogue self.manifests.items self.disk in
+    let held = c.requires.has in
+    let ms = self.manifests.items in
+    let n = length c.args.published.now in
+    let m = c.index.result.now in
+    let here = manifest_here ms c.args.place m c.index.ensures (let three = held.1.known.three in omega (arith, three, c.requires.within)) in
+    let es : c.oldest-entries.result.now ≡ oldest_entries c.args.row n m.entries = c.oldest-entries.ensures ∙ ap (λ (l : List Entry). take n l) c.entries.ensures in
+    let hand = c.hand_over.new.self in
+    let at1 = seen_on disk.files disk.opened disk.past disk.faults hand.catalogue hand.manifests.items hand.disk in
+    let same = c.hand_over.ensures.same in
+    let is1 : at ≡ at1 = same_seen disk.files disk.opened disk.past disk.faults self.catalogue hand.catalogue ms hand.manifests.items self.disk hand.disk same.0 (ap (λ v. v.items) same.1) same.2 in
+    let files = c.in_ok-leaving.leaving.files.items in
+    let are : files ≡ map (retired_of (c.args.place + 1, self.catalogue.rows)) (oldest_entries c.args.row n m.entries) = c.in_ok-leaving.ensures.files m here in
+    let entered = c.in_ok-leaving.ensures.entered in
+    let dropped = c.drop_oldest.new.self in
+    let at2 = seen_on disk.files disk.opened disk.past disk.faults dropped.catalogue dropped.manifests.items dropped.disk in
+    let rows : dropped.catalogue ≡ self.catalogue = c.drop_oldest.ensures.catalogue ∙ same.0 in
+    let limbo : dropped.limbo.items ≡ entered.0 ++ files = ap (λ v. v.items) c.drop_oldest.ensures.limbo ∙ entered.2 in
+    let drop : Changes disk.tells (dropping c.args.place c.args.row n) at at2 (end_of_disk c.drop_oldest.result) = subst (λ (s : Seen). Changes disk.tells (dropping c.args.place c.args.row n) s at2 (end_of_disk c.drop_oldest.result)) (sym is1) c.drop_oldest.ensures.changes in
+    let p = err_from_is_err_and c.from_residual-in_err-drop_oldest.result c.from_residual-in_err-drop_oldest.ensures.1 in
+    let grown = none_grown disk.tells c.args.place c.args.row c.args.published.now at m c.oldest-entries.result.now here es (c.grown.ensures.none c.in_default.is) in
+    let failed : c.in_err-drop_oldest.field-0.0 ≡ Fault = let both : ◌≡◌ {A = Result RetireEnd DiskErr} (Err c.in_err-drop_oldest.field-0.0) (Err Fault) = sym (p.1 ∙ ap (λ (x : DiskErr). Err x) p.2) ∙ fault in cc (both) in
+    retired_doubt disk.tells c.args.place c.args.row c.args.published.now (λ r l. Unit {0}) at at2 grown c.in_err-drop_oldest.field-0.0 (end_of_disk c.drop_oldest.result) (ap (λ (r : Result (Unit {0}) DiskErr). end_of_disk r) c.in_err-drop_oldest.was) failed drop s was
+
+pub returns-in_err-leaving-clause-doubted : goal.returns-in_err-leaving-clause-doubted
+returns-in_err-leaving-clause-doubted g c held has fault =
+    let p = err_from_is_err_and c.from_residual.result c.from_residual.ensures.1 in
+    let both : ◌≡◌ {A = Result RetireEnd DiskErr} (Err Fault) (Err Memory) = sym fault ∙ (p.1 ∙ ap (λ (x : DiskErr). Err x) p.2) in
+    absurd (cc (both))
 
 pub returns-in_err-drop_oldest-clause-handed : goal.returns-in_err-drop_oldest-clause-handed
 returns-in_err-drop_oldest-clause-handed g c fault =
