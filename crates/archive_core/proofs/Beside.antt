@@ -26,16 +26,8 @@ use Rattle.three_stores.specs.declared.limbo.Retired.{Retired}
 use Rattle.three_stores.proofs.Places.{granularity_at, list_other, manifest_at, manifest_of}
 use Rattle.three_stores.proofs.Showing.{registers_on, switches_on}
 use Rattle.archive_core.proofs.FlushOver.{IsFiledAt}
+use Rattle.archive_core.proofs.Growth.{rows_beside}
 use Rattle.archive_core.proofs.PartsGrow.{parts_grow}
-
--- the rows go on, and the lists stay
-pub rows_beside : (i row : ℕ) (held made : Stores) → made ≡ with_rows held made.rows → KeepsRows held.rows made.rows → GoesBeside i row held made
-rows_beside i row held made same keeps = record {
-  rows = keeps;
-  stands = ap (λ (s : Stores). s.stands) same;
-  listed = ap (λ (s : Stores). of_row row (list_at i s)) same;
-  parts = λ from next. ([], ap (λ (s : Stores). parts_in row (list_at from s)) same ∙ sym (append-nil (parts_in row (list_at from held))));
-}
 
 pub register_beside : (name : List ℕ) (about : About) (old new : Stores) (i row : ℕ) → Registers name about old new → GoesBeside i row old new
 register_beside name about old new i row by = let on = registers_on name about old new by in rows_beside i row old new on.0 on.1
@@ -74,7 +66,7 @@ module _ (catalogue : CatalogueState) (ms : List ManifestState) (limbo : List Re
       let x : Filed = get_or held.short j e in
       All-contains (λ (y : Filed). y.entry.series ≡ f.entry.series → y.entry.part.start ≤ f.entry.part.start) (put_all held.short by.back) x (by.flushed.ends k d lt) (listed_stays held.short by.back x rise by.in_limbo.unlisted (Contains-get_or held.short j e low))
 
-  more_parts : (row : ℕ) → (more : List Part) × (parts_in row after.short ≡ parts_in row held.short ++ more)
+  pub more_parts : (row : ℕ) → (more : List Part) × (parts_in row after.short ≡ parts_in row held.short ++ more)
   more_parts row =
       let grown = parts_grow unit row by.flushed.written held.short by.flushed.rise written_of rise (listed_of held.rows held.short (known.each 0 first.0 first.1).valid.filed.listed) ends in
       (grown.0, ap (parts_in row) short_is ∙ grown.1)

@@ -25,7 +25,7 @@ use Rattle.three_stores.specs.Seen.{Seen, granularities}
 use Rattle.three_stores.specs.Stores.{Stores, tier}
 use Rattle.three_stores.specs.declared.limbo.Retired.{Retired}
 use Rattle.three_stores.proofs.Left.{has_left}
-use Rattle.three_stores.proofs.Places.{manifest_at, manifest_of}
+use Rattle.three_stores.proofs.Places.{granularity_at, manifest_at, manifest_of}
 use Rattle.act_model.specs.Changes.{made}
 use Rattle.act_model.specs.Flush.{batch_of, count_in}
 use Rattle.act_model.specs.Machine.{Machine, Change, Appends}
@@ -41,6 +41,7 @@ use Rattle.archive_core.specs.Parts.{Parts}
 use Rattle.archive_core.specs.Stands.{Stands, Rests, IsDoubtOf, IsPartOf, StoresGrow, InDoubt, HoldsDurable}
 use Rattle.archive_core.proofs.Keeping.{Keeps, keeps_itself}
 use Rattle.archive_core.proofs.FlushOver.{IsFiledAt, both_below, flush_over_holds, then_below}
+use Rattle.archive_core.proofs.Beside.{more_parts}
 use Rattle.archive_core.proofs.Growth.{short_grows}
 use Rattle.archive_core.proofs.Reviving.{batch_over}
 use Rattle.archive_core.proofs.Batches.{parts_there, can_flush, told_stands}
@@ -122,8 +123,9 @@ module _ (tells : Bool) (p : Parts) (m : Machine) (r : Rests tells p m) (limit :
   stand : (after : Stores) → FlushesOver p.limbo files batch held after → after.stands ≡ held.stands
   stand after by = ap (λ (s : Stores). s.stands) by.same
 
-  grow : (after : Stores) → FlushesOver p.limbo files batch held after → StoresGrow held after
-  grow after by = short_grows held after by.same by.flushed.still
+  grow : (after : Stores) → FlushesOver p.limbo files batch held after → IsFiledAt (granularities p.at.manifests) 0 (tier 0 after) → StoresGrow held after
+  grow after by filed =
+      short_grows held after by.same by.flushed.still (more_parts p.at.catalogue p.at.manifests p.limbo files batch held after has.known by filed)
 
   -- at each moment the disk has what is durable, or that with the batch
   passes : (new : Seen) (end : End ℕ ⊥) → Acted new end → IsTrue tells → Passes (λ a image. HoldsChanged (granularities p.at.manifests) change m image) p.at.past new.past
@@ -148,7 +150,7 @@ module _ (tells : Bool) (p : Parts) (m : Machine) (r : Rests tells p m) (limit :
   unclear rows = record { other = λ none. refl; own = λ k state is. absurd (cc (is)) }
 
   abbrev parts_with : Seen → List TailState → Option Doubt → Parts
-  parts_with new left d = record { at = new; limbo = p.limbo; pinned = p.pinned; tails = left; kept = p.kept; doubt = d; doors = p.doors }
+  parts_with new left d = record { at = new; limbo = p.limbo; pinned = p.pinned; tails = left; kept = p.kept; doubt = d; doors = p.doors; config = p.config; slots = p.slots }
 
   pub flush_done : (new : Seen) → Keeps tells (beside p.at p.limbo) (beside new p.limbo) → (samples : ℕ) (left : List TailState) → GivesUp batch p.tails left → Acted new (Done samples) → ChangesTo tells change p m (record p { at = new; tails = left }) (Ok samples)
   flush_done new shown samples left gives acts = record {
@@ -164,7 +166,7 @@ module _ (tells : Bool) (p : Parts) (m : Machine) (r : Rests tells p m) (limit :
       stands : Stands tells (parts_with new left None) (record (made [] change m) { doubt = None; faults = new.faults })
       stands =
           let was = doubting p.at refl (keeps_itself tells (beside p.at p.limbo)) (inl has) in
-          (made_stands tells (record p { doubt = Some (kind.Flush batch) }) (record m { doubt = Some change; faults = p.at.faults }) was new p.kept acts.costs.granularity shown left change refl end.0 (grew tells p m r.stands new shown end.0 (stand end.0 end.1) (grow end.0 end.1)) (r.stands.store.told ∙ ap (λ (b : Bool). tells && b) (sym (stand end.0 end.1))) (durable end.0 end.1 (of_each new end.0 acts.costs.granularity (λ n here. (end.3.known.each 0 n here).valid.filed))) (unclear new.catalogue.rows) gives end.3).stands
+          (made_stands tells (record p { doubt = Some (kind.Flush batch) }) (record m { doubt = Some change; faults = p.at.faults }) was new p.kept acts.costs.granularity shown left change refl end.0 (grew tells p m r.stands new acts.costs.granularity shown end.0 (stand end.0 end.1) (grow end.0 end.1 (of_each new end.0 acts.costs.granularity (λ n here. (end.3.known.each 0 n here).valid.filed)))) (r.stands.store.told ∙ ap (λ (b : Bool). tells && b) (sym (stand end.0 end.1))) (durable end.0 end.1 (of_each new end.0 acts.costs.granularity (λ n here. (end.3.known.each 0 n here).valid.filed))) (unclear new.catalogue.rows) gives end.3).stands
 
       machines : Stands tells (parts_with new left None) (record (made [] change m) { faults = new.faults })
       machines = subst (λ (o : Option Change). Stands tells (parts_with new left None) (record (made [] change m) { doubt = o; faults = new.faults })) (sym r.settled) stands
@@ -201,7 +203,7 @@ module _ (tells : Bool) (p : Parts) (m : Machine) (r : Rests tells p m) (limit :
     where
       by_end : EndsFrom tells (flushing_over p.limbo files batch) new held Failed → Has tells new held ⊎ InDoubt tells new held (record m { doubt = Some change; faults = new.faults })
       by_end (inl has) = inl has
-      by_end (inr (after, by, doubts)) = inr (record { change = change; is = refl; after = after; doubts = doubts; stand = stand after by; grow = grow after by; holds = durable after by (of_each new after acts.costs.granularity (λ n here. (doubts.valid_after 0 n here).filed)) })
+      by_end (inr (after, by, doubts)) = inr (record { change = change; is = refl; after = after; doubts = doubts; stand = stand after by; grow = grow after by (of_each new after acts.costs.granularity (λ n here. (doubts.valid_after 0 n here).filed)); holds = durable after by (of_each new after acts.costs.granularity (λ n here. (doubts.valid_after 0 n here).filed)) })
 
   pub flush_spent : (new : Seen) → Keeps tells (beside p.at p.limbo) (beside new p.limbo) → Acted new Spent → ChangesTo {A = ℕ} tells change p m (record p { at = new }) (Err Memory)
   flush_spent new shown acts = record {

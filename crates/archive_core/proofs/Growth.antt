@@ -1,11 +1,12 @@
 -- Stores that only grow: what is listed in memory is listed still.
-use Rattle.std.proofs.Common.{◌≡◌, inl, inr, ℕ, ◌+◌, ◌<◌, List, sym, ◌∙◌, ap, subst, arith}
+use Rattle.std.proofs.Common.{◌≡◌, inl, inr, ℕ, ◌+◌, ◌<◌, List, [], ◌++◌, append-nil, sym, ◌∙◌, ap, subst, arith}
 use Rattle.std.specs.Prelude.{Contains}
 use Rattle.std.proofs.lemmas.List.Elements.{All-contains}
 use Rattle.std.proofs.lemmas.Option.{slice_get_within}
 use Rattle.disk_model.specs.Files.{Name}
 use Rattle.event_types.specs.declared.about.About.{About}
 use Rattle.event_types.specs.declared.about.State.{State}
+use Rattle.partition_names.specs.declared.part.Part.{Part}
 use Rattle.pv_catalog.specs.Rows.{KeepsRows}
 use Rattle.pv_catalog.specs.declared.row.Row.{Row}
 use Rattle.pv_catalog.proofs.Standing.{keeps_same}
@@ -14,11 +15,14 @@ use Rattle.tier_store.specs.Held.{Held, Listing, IsListed, IsListedTo, ListsStil
 use Rattle.tier_store.proofs.Growing.{file_grows}
 use Rattle.tier_store.proofs.There.{contains_map}
 use Rattle.tier_store.proofs.Three.{same_cases}
+use Rattle.tier_store.specs.Plan.{of_row}
 use Rattle.three_stores.specs.Change.{IsKnown, Registers, Switches}
 use Rattle.three_stores.specs.Limbo.{IsListedName}
+use Rattle.three_stores.specs.Moving.{GoesBeside, parts_in}
 use Rattle.three_stores.specs.Seen.{Seen}
 use Rattle.three_stores.specs.Stores.{Stores, list_at, tier, with_list, with_rows}
-use Rattle.three_stores.proofs.Places.{manifest_at, tier_other}
+use Rattle.three_stores.proofs.BesideMoves.{beside_itself}
+use Rattle.three_stores.proofs.Places.{list_other, manifest_at, tier_other}
 use Rattle.three_stores.proofs.Showing.{known_to, registers_on, switches_on}
 use Rattle.archive_core.specs.Stands.{StoresGrow}
 
@@ -53,14 +57,24 @@ rows_go_on old new s t was now grow =
 
 -- CHANGES
 
+-- the rows go on, and the lists stay
+pub rows_beside : (i row : ℕ) (held made : Stores) → made ≡ with_rows held made.rows → KeepsRows held.rows made.rows → GoesBeside i row held made
+rows_beside i row held made same keeps = record {
+  rows = keeps;
+  stands = ap (λ (s : Stores). s.stands) same;
+  listed = ap (λ (s : Stores). of_row row (list_at i s)) same;
+  parts = λ from next. ([], ap (λ (s : Stores). parts_in row (list_at from s)) same ∙ sym (append-nil (parts_in row (list_at from held))));
+}
+
 pub same_grow : (s : Stores) → StoresGrow s s
-same_grow s = record { rows = keeps_same s.rows; lists = λ place name low to. to }
+same_grow s = record { rows = keeps_same s.rows; lists = λ place name low to. to; beside = λ place row from low. beside_itself place row s }
 
 -- the rows go on, and the lists stay
 rows_grow : (at : Seen) (s made : Stores) → IsKnown at.catalogue at.manifests s → (made ≡ with_rows s made.rows) × KeepsRows s.rows made.rows → StoresGrow s made
 rows_grow at s made known on = record {
   rows = on.1;
   lists = λ place name low to. subst (λ (x : Stores). IsListedTo (listing_of (tier place x)) name 0) (sym on.0) (named place name low to);
+  beside = λ place row from low. rows_beside place row s made on.0 on.1;
 }
   where
     named : (place : ℕ) (name : Name) → place < 3 → IsListedTo (listing_of (tier place s)) name 0 → IsListedTo (listing_of (tier place (with_rows s made.rows))) name 0
@@ -84,8 +98,8 @@ still_named old new name still to =
     record { entry = more.entry; within = more.within; named = more.named ∙ to.named; longer = omega arith }
 
 -- store 1 lists all that it listed, and the others stay
-pub short_grows : (s made : Stores) → made ≡ with_list 0 made.short s → ListsStill (listing_of (tier 0 s)) (listing_of (tier 0 made)) → StoresGrow s made
-short_grows s made same_lists still = record {
+pub short_grows : (s made : Stores) → made ≡ with_list 0 made.short s → ListsStill (listing_of (tier 0 s)) (listing_of (tier 0 made)) → ((row : ℕ) → (more : List Part) × (parts_in row made.short ≡ parts_in row s.short ++ more)) → StoresGrow s made
+short_grows s made same_lists still more = record {
   rows = subst (λ (rows : List Row). KeepsRows s.rows rows) (sym (ap (λ (x : Stores). x.rows) same_lists)) (keeps_same s.rows);
   lists = λ place name low to. elim (same_cases place 0) [
     | inl is ↦ subst (λ (k : ℕ). IsListedTo (listing_of (tier k made)) name 0) (sym is) (still_named (listing_of (tier 0 s)) (listing_of (tier 0 made)) name still (subst (λ (k : ℕ). IsListedTo (listing_of (tier k s)) name 0) is to))
@@ -94,4 +108,18 @@ short_grows s made same_lists still = record {
         subst (λ (t : Held). IsListedTo (listing_of t) name 0) (sym same) to
         )
   ];
+  beside = λ place row from low.
+      let same : list_at place made ≡ list_at place s = ap (list_at place) same_lists ∙ list_other 0 place made.short s (omega arith) low (λ is. omega (arith, is, from)) in
+      record {
+        rows = subst (λ (rows : List Row). KeepsRows s.rows rows) (sym (ap (λ (x : Stores). x.rows) same_lists)) (keeps_same s.rows);
+        stands = ap (λ (x : Stores). x.stands) same_lists;
+        listed = ap (of_row row) same;
+        parts = λ before next. elim (same_cases before 0) [
+          | inl is ↦ subst (λ (k : ℕ). (others : List Part) × (parts_in row (list_at k made) ≡ parts_in row (list_at k s) ++ others)) (sym is) (more row)
+          | inr apart ↦ (
+              let others : list_at before made ≡ list_at before s = ap (list_at before) same_lists ∙ list_other 0 before made.short s (omega arith) (omega (arith, next, low)) apart in
+              ([], ap (parts_in row) others ∙ sym (append-nil (parts_in row (list_at before s))))
+              )
+        ];
+      };
 }

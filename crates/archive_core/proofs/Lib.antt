@@ -14,6 +14,11 @@ pub mod Crashes
 pub mod Making
 pub mod ListEnds
 pub mod MoveChoice
+pub mod MoveChanges
+pub mod MovesKept
+pub mod MovesMade
+pub mod MoveBegun
+pub mod MoveCopies
 pub mod Batches
 pub mod Counts
 pub mod Trimming
@@ -34,6 +39,7 @@ pub mod Asking
 pub mod PartLists
 pub mod DetailsAct
 pub mod SweepAct
+pub mod MoveAct
 pub mod LimboTying
 pub mod LimboLists
 pub mod LimboMade
@@ -50,4 +56,3 @@ pub mod FlushOver
 pub mod PartsGrow
 pub mod Beside
 pub mod Keeping
-pub mod MoveChanges

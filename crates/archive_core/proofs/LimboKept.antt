@@ -40,7 +40,7 @@ empty_limbo tells at told rows bare = record {
 
 -- ROWS CHANGE IN MEMORY
 
-tier_kept : (a b : RowState) (store : Store) → kept_of a ≡ kept_of b → tier a store ≡ tier b store
+pub tier_kept : (a b : RowState) (store : Store) → kept_of a ≡ kept_of b → tier a store ≡ tier b store
 tier_kept a b Short same = ap (λ (d : DurableRow). d.short) same
 tier_kept a b Medium same = ap (λ (d : DurableRow). d.medium) same
 tier_kept a b Long same = ap (λ (d : DurableRow). d.long) same

@@ -32,7 +32,8 @@ use Rattle.act_model.specs.Limbo.{FileState, files_of, put}
 use Rattle.act_model.specs.Machine.{Machine, Change, Publishes, Unlists}
 use Rattle.act_model.specs.Rows.{RowState, Store, Short, Medium, Long, next_store, tier, with_tier}
 use Rattle.act_model.specs.Rule.{index_of}
-use Rattle.archive_core.specs.MoveChoice.{HaveDurable, ends_from, move_end}
+use Rattle.archive_core.specs.MoveChoice.{HaveDurable, move_end}
+use Rattle.archive_core.specs.MoveTies.{ends_from}
 use Rattle.archive_core.specs.Stands.{IsDurableAt, HoldsDurable}
 use Rattle.archive_core.proofs.ListEnds.{own_entries}
 use Rattle.archive_core.proofs.Lists.{same_or_not}

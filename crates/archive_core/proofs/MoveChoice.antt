@@ -36,7 +36,8 @@ use Rattle.act_model.specs.MoveBegin.{HasMove, HasNoMove, IsFree, IsMoving, IsPa
 use Rattle.act_model.specs.Parts.{PartsFrom, AreParts}
 use Rattle.act_model.specs.Rows.{RowState, Store, Short, Medium, Long, next_store, tier, window, is_empty}
 use Rattle.act_model.specs.Rule.{Rule, IsPartition, index_of}
-use Rattle.archive_core.specs.MoveChoice.{HaveDurable, AreNumbers, GoesOnBy, ends_from, file_parts, move_end, move_rule, parts_to_move, row_files}
+use Rattle.archive_core.specs.MoveChoice.{HaveDurable, AreNumbers, GoesOnBy, file_parts, move_end, move_rule, parts_to_move, row_files}
+use Rattle.archive_core.specs.MoveTies.{ends_from}
 use Rattle.archive_core.proofs.ListEnds.{files_end, last_end, own_entries}
 use Rattle.archive_core.proofs.Lists.{element}
 use Rattle.archive_core.proofs.Making.{kept_to}
@@ -255,7 +256,7 @@ pub record RowFiles (rule : Rule) (s : Stores) (store : Store) (i : ℕ) (row : 
   pub samples : tier row store ≡ all_in (row_files s store i)
 
 module _ (catalogue : CatalogueState) (ms : List ManifestState) (s : Stores) (m : Machine) (have : HaveDurable catalogue ms s m) (told : m.told ≡ true) (i : ℕ) (row : RowState) (here : slice_get m.rows i ≡ Some row) where
-  tier_held : (store : Store) → tier row store ≡ samples_of i (list_at (index_of store) s)
+  pub tier_held : (store : Store) → tier row store ≡ samples_of i (list_at (index_of store) s)
   tier_held Short = (have.holds.each i (kept_of row) (kept_to m.rows i row here)).is.short told
   tier_held Medium = (have.holds.each i (kept_of row) (kept_to m.rows i row here)).is.medium told
   tier_held Long = (have.holds.each i (kept_of row) (kept_to m.rows i row here)).is.long told

@@ -1,5 +1,5 @@
 -- The machine of an archive that was just opened.
-use Rattle.std.proofs.Common.{◌≡◌, inl, ℕ, zero, suc, ◌+◌, List, [], ◌∷◌, length, Bool, true, false, Some, None, max, refl, sym, ◌∙◌, ap, subst, arith}
+use Rattle.std.proofs.Common.{◌≡◌, inl, ℕ, zero, suc, ◌+◌, List, [], ◌∷◌, length, Bool, true, false, Option, Some, None, max, refl, sym, ◌∙◌, ap, subst, arith}
 use Rattle.std.specs.Prelude.{◌&&◌, slice_get, map, IsTrue}
 use Rattle.std.specs.FinMap.{FinMap, get, empty, get-empty}
 use Rattle.std.specs.Ordering.{nat_cmp}
@@ -27,13 +27,18 @@ use Rattle.act_model.specs.NextLife.{opened_row, opened}
 use Rattle.act_model.specs.Rows.{RowState, Store, Short, Medium, Long, durable, tier}
 use Rattle.act_model.specs.Rule.{Rule}
 use Rattle.act_model.specs.Sound.{RowSound, IsSound}
+use Rattle.etl_mover.specs.Move.{MoveState as Moving}
+use Rattle.etl_rules.specs.Config.{ConfigState}
+use Rattle.running_moves.specs.Table as table
+use Rattle.running_moves.specs.declared.table.Running.{Running}
+use Rattle.archive_core.specs.MoveTies.{AreMovesOf}
 use Rattle.archive_core.specs.declared.memory.RowMemory.{RowMemory}
 use Rattle.archive_core.specs.LimboTies.{AreBare}
 use Rattle.archive_core.specs.Memory.{AreRowsOf, IsRowOf}
 use Rattle.archive_core.specs.Pins.{ArePinsOf}
 use Rattle.archive_core.specs.Opening.{end_at, memory_of, IsOpened}
 use Rattle.append_buffer.specs.Tails.{TailState}
-use Rattle.archive_core.specs.Stands.{Rests, TellsHeaders, IsDurable, HoldsDurable}
+use Rattle.archive_core.specs.Stands.{Rests, HasSettings, TellsHeaders, IsDurable, HoldsDurable}
 use Rattle.archive_core.proofs.KeptRows.{sampling_cell, sampling_period}
 use Rattle.archive_core.proofs.LimboKept.{empty_limbo}
 use Rattle.archive_core.proofs.ListEnds.{place_end, place_rises}
@@ -93,7 +98,7 @@ both_true true true is = refl
 both_true true false is = absurd (cc (is))
 both_true false b is = absurd (cc (is))
 
-module _ (tells : Bool) (at : Seen) (held : Stores) (has : Has tells at held) (are : AreRows at.catalogue.rows) (rule : Rule) (doors : ℕ) (same_g : rule.granularity ≡ granularities at.manifests) (headers : TellsHeaders rule) where
+module _ (tells : Bool) (at : Seen) (held : Stores) (has : Has tells at held) (are : AreRows at.catalogue.rows) (rule : Rule) (doors : ℕ) (same_g : rule.granularity ≡ granularities at.manifests) (headers : TellsHeaders rule) (config : ConfigState) (settings : HasSettings at config rule) (slots : List (Option (Running Moving))) (none_runs : (n : ℕ) → table.at slots n ≡ None) where
   abbrev ms : List ManifestState
   ms = at.manifests
 
@@ -220,7 +225,11 @@ module _ (tells : Bool) (at : Seen) (held : Stores) (has : Has tells at held) (a
   empty_pins : (told : Bool) → ArePinsOf tells (beside at []) told (rows_from told ms held 0 rows) no_pins no_own_pins
   empty_pins told = record { none = λ n none. get-empty nat_cmp n; each = λ n pin here. absurd (no_pin n pin here); stand = stand_none tells (beside at []) }
 
-  pub opened_rests : (m : Machine) × IsOpened rule m × HoldsDurable held m × Rests tells (record { at = at; limbo = []; pinned = no_own_pins; tails = []; kept = map (memory_of ms) rows; doubt = None; doors = doors }) m × (m.doors ≡ doors)
+  -- no move runs
+  empty_moves : (told : Bool) → AreMovesOf tells (beside at []) told (rows_from told ms held 0 rows) [] held no_moves slots
+  empty_moves told = record { none = λ n none. none_runs n; each = λ n move here. absurd (let nowhere : get no_moves n ≡ None = get-empty nat_cmp n in cc (nowhere, here)) }
+
+  pub opened_rests : (m : Machine) × IsOpened rule m × HoldsDurable held m × Rests tells (record { at = at; limbo = []; pinned = no_own_pins; tails = []; kept = map (memory_of ms) rows; doubt = None; doors = doors; config = config; slots = slots }) m × (m.doors ≡ doors)
   opened_rests =
       let told = tells && held.stands in
       let stands : told ≡ true → IsTrue held.stands = both_true tells held.stands in (
@@ -232,14 +241,14 @@ module _ (tells : Bool) (at : Seen) (held : Stores) (has : Has tells at held) (a
             sound = sound told stands;
             rule = record { granularity = same_g; headers = headers };
             limbo = empty_limbo tells at told (rows_from told ms held 0 rows) (bare_rows told);
-            moves = refl;
+            settings = settings;
             pins = empty_pins told;
             faults = refl;
             doors = refl;
             rows = memory told;
             doubt = tt;
             ready = tt;
-            store = record { before = held; told = refl; holds = holds told; whole = ([], none_whole 0 tells at [] held.stands (λ k d low. absurd (omega (arith, low)))); is_open = inl has };
+            store = record { before = held; told = refl; holds = holds told; whole = ([], none_whole 0 tells at [] held.stands (λ k d low. absurd (omega (arith, low)))); moves = empty_moves told; is_open = inl has };
           };
           settled = refl;
         },
@@ -248,13 +257,13 @@ module _ (tells : Bool) (at : Seen) (held : Stores) (has : Has tells at held) (a
 
   -- by what is in memory then
   pub opened_as : (limbo : List Retired) (pinned : FinMap nat_cmp PinOf) (tails : List TailState) (kept : List RowMemory) → limbo ≡ [] → pinned ≡ empty → tails ≡ [] → kept ≡ map (memory_of ms) rows
-      → (m : Machine) × IsOpened rule m × HoldsDurable held m × Rests tells (record { at = at; limbo = limbo; pinned = pinned; tails = tails; kept = kept; doubt = None; doors = doors }) m × (m.doors ≡ doors)
+      → (m : Machine) × IsOpened rule m × HoldsDurable held m × Rests tells (record { at = at; limbo = limbo; pinned = pinned; tails = tails; kept = kept; doubt = None; doors = doors; config = config; slots = slots }) m × (m.doors ≡ doors)
   opened_as limbo pinned tails kept none_retired none_pinned none is =
       let r = opened_rests in
-      let unpinned : Rests tells (record { at = at; limbo = []; pinned = pinned; tails = []; kept = map (memory_of ms) rows; doubt = None; doors = doors }) r.0 =
-      subst (λ (q : FinMap nat_cmp PinOf). Rests tells (record { at = at; limbo = []; pinned = q; tails = []; kept = map (memory_of ms) rows; doubt = None; doors = doors }) r.0) (sym none_pinned) r.3 in
-      let empty_limbo : Rests tells (record { at = at; limbo = limbo; pinned = pinned; tails = []; kept = map (memory_of ms) rows; doubt = None; doors = doors }) r.0 =
-      subst (λ (l : List Retired). Rests tells (record { at = at; limbo = l; pinned = pinned; tails = []; kept = map (memory_of ms) rows; doubt = None; doors = doors }) r.0) (sym none_retired) unpinned in
-      let empty_tails : Rests tells (record { at = at; limbo = limbo; pinned = pinned; tails = tails; kept = map (memory_of ms) rows; doubt = None; doors = doors }) r.0 =
-      subst (λ (t : List TailState). Rests tells (record { at = at; limbo = limbo; pinned = pinned; tails = t; kept = map (memory_of ms) rows; doubt = None; doors = doors }) r.0) (sym none) empty_limbo in
-      (r.0, r.1, r.2, subst (λ (k : List RowMemory). Rests tells (record { at = at; limbo = limbo; pinned = pinned; tails = tails; kept = k; doubt = None; doors = doors }) r.0) (sym is) empty_tails, r.4)
+      let unpinned : Rests tells (record { at = at; limbo = []; pinned = pinned; tails = []; kept = map (memory_of ms) rows; doubt = None; doors = doors; config = config; slots = slots }) r.0 =
+      subst (λ (q : FinMap nat_cmp PinOf). Rests tells (record { at = at; limbo = []; pinned = q; tails = []; kept = map (memory_of ms) rows; doubt = None; doors = doors; config = config; slots = slots }) r.0) (sym none_pinned) r.3 in
+      let empty_limbo : Rests tells (record { at = at; limbo = limbo; pinned = pinned; tails = []; kept = map (memory_of ms) rows; doubt = None; doors = doors; config = config; slots = slots }) r.0 =
+      subst (λ (l : List Retired). Rests tells (record { at = at; limbo = l; pinned = pinned; tails = []; kept = map (memory_of ms) rows; doubt = None; doors = doors; config = config; slots = slots }) r.0) (sym none_retired) unpinned in
+      let empty_tails : Rests tells (record { at = at; limbo = limbo; pinned = pinned; tails = tails; kept = map (memory_of ms) rows; doubt = None; doors = doors; config = config; slots = slots }) r.0 =
+      subst (λ (t : List TailState). Rests tells (record { at = at; limbo = limbo; pinned = pinned; tails = t; kept = map (memory_of ms) rows; doubt = None; doors = doors; config = config; slots = slots }) r.0) (sym none) empty_limbo in
+      (r.0, r.1, r.2, subst (λ (k : List RowMemory). Rests tells (record { at = at; limbo = limbo; pinned = pinned; tails = tails; kept = k; doubt = None; doors = doors; config = config; slots = slots }) r.0) (sym is) empty_tails, r.4)

@@ -14,6 +14,7 @@ use Rattle.store_manifest.specs.Manifest.{ManifestState}
 use Rattle.tier_store.specs.Ends.{IsFailed}
 use Rattle.three_stores.specs.Change.{Has, IsOpen, Doubts}
 use Rattle.three_stores.specs.Opening.{IsOpened, IsReaderOf, end_of_answer, refusal}
+use Rattle.three_stores.specs.Moving.{KeepsBeside, MayHold}
 use Rattle.three_stores.specs.Pinned.{SeenAll, beside}
 use Rattle.three_stores.specs.Seen.{Seen, IsSettled, granularities}
 use Rattle.three_stores.specs.Stores.{Stores}
@@ -30,9 +31,10 @@ use Rattle.archive_core.specs.Ends.{Steps}
 use Rattle.archive_core.specs.Parts.{Parts}
 use Rattle.archive_core.specs.Pins.{IsPieceOf, HasFileOf, HasPinOf, IsOpening}
 use Rattle.archive_core.specs.Stands.{Stands, InDoubt}
-use Rattle.archive_core.proofs.Keeping.{Keeps}
+use Rattle.archive_core.proofs.Keeping.{KeepsLimbo}
+use Rattle.archive_core.proofs.MovesKept.{moves_beside}
 use Rattle.archive_core.proofs.Lists.{element}
-use Rattle.archive_core.proofs.Settled.{doubt_stands}
+use Rattle.archive_core.proofs.Settled.{doubt_beside}
 
 -- a told machine's disk tells
 pub told_tells : (tells told stands : Bool) → told ≡ (tells && stands) → told ≡ true → IsTrue tells
@@ -118,7 +120,7 @@ is_opening R tells reader_tells bytes faults all asked_for i given refused lacks
 module _ (R : Type 0) (tells reader_tells : Bool) (bytes : R → List ℕ) (faults : R → ℕ) (readers : IsTrue reader_tells → IsTrue tells) (p : Parts) (who pin i : ℕ) (result : Answer R) (new : Seen)
     (refused : (e : PinErr) → asked who (get p.pinned pin) ≡ Err e → (result ≡ refusal e) × (new ≡ p.at)) (lacks : (own : PinOf) → asked who (get p.pinned pin) ≡ Ok own → slice_get own.pieces i ≡ None → (result ≡ answer.NoPiece (length own.pieces)) × (new ≡ p.at))
     (opened : (own : PinOf) (file : PinnedFile) → asked who (get p.pinned pin) ≡ Ok own → slice_get own.pieces i ≡ Some file → IsOpened tells reader_tells bytes faults (beside p.at p.limbo) file result)
-    (kept : (before after : Stores) → IsOpen tells p.at before after → IsOpen tells new before after) (same_rows : new.catalogue ≡ p.at.catalogue) (same_lists : new.manifests ≡ p.at.manifests) (shown : Keeps tells (beside p.at p.limbo) (beside new p.limbo))
+    (kept : (before after : Stores) → IsOpen tells p.at before after → IsOpen tells new before after) (same_rows : new.catalogue ≡ p.at.catalogue) (same_lists : new.manifests ≡ p.at.manifests) (shown : KeepsLimbo tells (beside p.at p.limbo) (beside new p.limbo)) (stay : KeepsBeside tells (beside p.at p.limbo) (beside new p.limbo))
     (more : p.at.faults ≤ new.faults) (cause : IsFailed (end_of_answer result) → Rose p.at.faults new.faults) where
   -- how it ends from a machine, with this answer
   abbrev EndsAs : Answer R → Machine → Type 0
@@ -126,8 +128,12 @@ module _ (R : Type 0) (tells reader_tells : Bool) (bytes : R → List ℕ) (faul
 
   -- the disk was read
   read_stands : (m : Machine) → Stands tells p m → Stands tells (record p { at = new }) (record m { faults = new.faults })
-  read_stands m s = doubt_stands tells p m s new p.kept p.doubt m.doubt (ap granularities same_lists) shown s.sound s.rows s.doubt s.ready (by_open s.store.is_open)
+  read_stands m s = doubt_beside tells p m s new p.kept p.doubt m.doubt (ap granularities same_lists) shown (moves_beside tells (beside p.at p.limbo) (beside new p.limbo) m.told m.rows m.limbo s.store.before m.moves p.slots (λ i move files runs. stay s.store.before (may_hold s.store.is_open) i move files runs) s.store.moves) s.sound s.rows s.doubt s.ready (by_open s.store.is_open)
     where
+      may_hold : Has tells p.at s.store.before ⊎ InDoubt tells p.at s.store.before m → MayHold tells p.at s.store.before
+      may_hold (inl has) = inl has
+      may_hold (inr d) = inr (d.after, inl d.doubts)
+
       by_open : Has tells p.at s.store.before ⊎ InDoubt tells p.at s.store.before m → Has tells new s.store.before ⊎ InDoubt tells new s.store.before (record m { faults = new.faults })
       by_open (inl has) = elim (kept s.store.before s.store.before (inl has)) [
         | inl still ↦ inl still

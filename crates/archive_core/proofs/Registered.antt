@@ -227,7 +227,7 @@ module _ (tells : Bool) (p : Parts) (m : Machine) (r : Rests tells p m) (name : 
   unclear rows = record { other = λ none. refl; own = λ k state is. absurd (cc (is)) }
 
   abbrev parts_with : Seen → Option Doubt → Parts
-  parts_with new d = record { at = new; limbo = p.limbo; pinned = p.pinned; tails = p.tails; kept = more_kept; doubt = d; doors = p.doors }
+  parts_with new d = record { at = new; limbo = p.limbo; pinned = p.pinned; tails = p.tails; kept = more_kept; doubt = d; doors = p.doors; config = p.config; slots = p.slots }
 
   pub row_done : (new : Seen) → Keeps tells (beside p.at p.limbo) (beside new p.limbo) → (id : ℕ) → Acts tells (registering name about) p.at new (Done id) → ChangesTo tells change p m (record p { at = new; kept = more_kept }) (Ok id) × (id ≡ length p.at.catalogue.rows)
   row_done new shown id acts = (
@@ -249,7 +249,7 @@ module _ (tells : Bool) (p : Parts) (m : Machine) (r : Rests tells p m) (name : 
       stands : Stands tells (parts_with new None) (record (made [] change m) { doubt = None; faults = new.faults })
       stands =
           let was = doubting p.at refl (keeps_itself tells (beside p.at p.limbo)) (inl (rests_has tells p m r)) in
-          (made_stands tells (record p { kept = more_kept; doubt = Some kind.Row }) (record m { doubt = Some change; faults = p.at.faults }) was new more_kept acts.costs.granularity shown p.tails change refl end.0 (grew tells p m r.stands new shown end.0 (stand end.0 end.1) (grow end.0 end.1)) (r.stands.store.told ∙ ap (λ (b : Bool). tells && b) (sym (stand end.0 end.1))) (durable end.0 end.1) (unclear new.catalogue.rows) refl end.3).stands
+          (made_stands tells (record p { kept = more_kept; doubt = Some kind.Row }) (record m { doubt = Some change; faults = p.at.faults }) was new more_kept acts.costs.granularity shown p.tails change refl end.0 (grew tells p m r.stands new acts.costs.granularity shown end.0 (stand end.0 end.1) (grow end.0 end.1)) (r.stands.store.told ∙ ap (λ (b : Bool). tells && b) (sym (stand end.0 end.1))) (durable end.0 end.1) (unclear new.catalogue.rows) refl end.3).stands
 
       machines : Stands tells (parts_with new None) (record (made [] change m) { faults = new.faults })
       machines = subst (λ (o : Option Change). Stands tells (parts_with new None) (record (made [] change m) { doubt = o; faults = new.faults })) (sym r.settled) stands

@@ -18,7 +18,11 @@ use Rattle.series_model.specs.Series.{end_of, since, IsRising}
 use Rattle.series_model.specs.declared.batch.RowSamples.{RowSamples}
 use Rattle.series_model.specs.declared.sample.Sample.{Sample}
 use Rattle.series_model.proofs.RisingLists.{RisesFrom-lower}
+use Rattle.etl_mover.specs.Move.{MoveState as Moving}
+use Rattle.etl_rules.specs.Config.{ConfigState}
+use Rattle.running_moves.specs.declared.table.Running.{Running}
 use Rattle.tier_store.specs.Held.{Filed}
+use Rattle.three_stores.specs.Beginning.{AreNested}
 use Rattle.three_stores.specs.Change.{Has, IsKnown, IsOpen, HasEither}
 use Rattle.three_stores.specs.Pinned.{beside}
 use Rattle.three_stores.specs.Revival.{AreWhole}
@@ -27,7 +31,8 @@ use Rattle.three_stores.specs.Stores.{Stores}
 use Rattle.three_stores.specs.declared.limbo.Retired.{Retired}
 use Rattle.act_model.specs.Changes.{each, at, changed, made, of_row, Settles, no_doubt, as_not_made, as_made, without_held}
 use Rattle.act_model.specs.Crash.{kept_of, kept}
-use Rattle.act_model.specs.Machine.{Machine, PinState, Change, AddsRow, SetsState, Appends, Publishes, Unlists}
+use Rattle.act_model.specs.Limbo.{FileState}
+use Rattle.act_model.specs.Machine.{Machine, MoveState, PinState, Change, AddsRow, SetsState, Appends, Publishes, Unlists}
 use Rattle.act_model.specs.Rows.{RowState, fresh_row, period_of}
 use Rattle.act_model.proofs.Rows.{Came, from_row, is_new, came, more_rows}
 use Rattle.act_model.specs.Rule.{Rule}
@@ -36,19 +41,22 @@ use Rattle.act_model.proofs.StepLaws.{settled_sound, settled_none}
 use Rattle.archive_core.specs.declared.memory.RowMemory.{RowMemory}
 use Rattle.archive_core.specs.declared.memory.Doubt.{Doubt}
 use Rattle.archive_core.specs.declared.memory.Doubt.TheVariants as kind
-use Rattle.archive_core.proofs.Keeping.{Keeps}
+use Rattle.archive_core.proofs.Keeping.{Keeps, KeepsLimbo, limbo_of_keeps}
 use Rattle.archive_core.proofs.Batches.{none_beyond, lists_or_not, holds_with, holds_without, told_stands}
 use Rattle.archive_core.proofs.Growth.{same_grow}
 use Rattle.archive_core.proofs.KeptRows.{sampling_period, sampling_cell, each_to}
 use Rattle.archive_core.proofs.LimboKept.{limbo_beside, limbo_changed, limbo_held}
-use Rattle.archive_core.proofs.Making.{kept_to, taken_later}
+use Rattle.archive_core.proofs.Making.{count_of, kept_to, taken_later}
+use Rattle.archive_core.proofs.MovesKept.{SameLater, same_later, moves_left}
+use Rattle.archive_core.proofs.MovesMade.{same_made}
 use Rattle.archive_core.proofs.PinTies.{KeepsNames, names_stay, names_made, state_name, pins_stay}
 use Rattle.archive_core.specs.Flushing.{GivesUp, ListsBatch, IsTrimmed}
 use Rattle.archive_core.specs.LimboTies.{IsLimboOf}
+use Rattle.archive_core.specs.MoveTies.{AreMovesOf}
 use Rattle.archive_core.specs.Memory.{IsRowAt, AreRowsOf, cell_in, period_in, fresh_memory, cleared, IsCleared}
 use Rattle.archive_core.specs.Parts.{Parts}
 use Rattle.archive_core.specs.Pins.{ArePinsOf}
-use Rattle.archive_core.specs.Stands.{Stands, Rests, TellsHeaders, StoresGrow, InDoubt, IsPartOf, IsReady, IsDoubtOf, AreDurable, HoldsDurable}
+use Rattle.archive_core.specs.Stands.{Stands, Rests, HasSettings, TellsHeaders, StoresGrow, InDoubt, IsPartOf, IsReady, IsDoubtOf, AreDurable, HoldsDurable}
 use Rattle.archive_core.proofs.Lists.{same_or_not, get_set_same, get_set_other, get_front}
 
 -- WHAT IS KEPT IN MEMORY ALONE
@@ -164,12 +172,13 @@ Takes (Unlists i store to) old new = new ≡ old
 
 -- THE SETTLED ARCHIVE
 
--- the stores grew from what the memory lists, and limbo is whole beside them
-pub record GrewFrom (tells : Bool) (at new : Seen) (limbo : List Retired) (after : Stores) : Type 0 where
+-- the stores grew from what the memory lists, limbo is whole beside them, and moves go on beside them
+pub record GrewFrom (tells : Bool) (at new : Seen) (retired : List Retired) (slots : List (Option (Running Moving))) (told : Bool) (rows : List RowState) (limbo : List FileState) (running : FinMap nat_cmp MoveState) (after : Stores) : Type 0 where
   pub from : Stores
   pub known : IsKnown at.catalogue at.manifests from
   pub grow : StoresGrow from after
-  pub whole : (files : List Filed) × AreWhole 0 tells new limbo after.stands files
+  pub whole : (files : List Filed) × AreWhole 0 tells new retired after.stands files
+  pub moves : (then : List RowState) (left : List FileState) → SameLater rows then limbo left → AreMovesOf tells (beside new retired) told then left after running slots
 
 -- the memory lists what was before a doubt
 pub open_known : (tells : Bool) (at : Seen) (before : Stores) (m : Machine) → Has tells at before ⊎ InDoubt tells at before m → IsKnown at.catalogue at.manifests before
@@ -182,14 +191,28 @@ open_rows tells at before m (inl has) = has.known.rows
 open_rows tells at before m (inr d) = d.doubts.known.rows
 
 -- so they do from what was before a doubt
-pub grew : (tells : Bool) (p : Parts) (m : Machine) (s : Stands tells p m) (new : Seen) → Keeps tells (beside p.at p.limbo) (beside new p.limbo) → (after : Stores) → after.stands ≡ s.store.before.stands → StoresGrow s.store.before after → GrewFrom tells p.at new p.limbo after
-grew tells p m s new keeps after stand grow =
+pub grew : (tells : Bool) (p : Parts) (m : Machine) (s : Stands tells p m) (new : Seen) → granularities new.manifests ≡ granularities p.at.manifests → Keeps tells (beside p.at p.limbo) (beside new p.limbo) → (after : Stores) → after.stands ≡ s.store.before.stands → StoresGrow s.store.before after → GrewFrom tells p.at new p.limbo p.slots m.told m.rows m.limbo m.moves after
+grew tells p m s new same_g keeps after stand grow =
     let whole = keeps.whole 0 s.store.before.stands s.store.whole.0 (omega arith) s.store.whole.1 in
-    record { from = s.store.before; known = open_known tells p.at s.store.before m s.store.is_open; grow = grow; whole = (whole.0, subst (λ (b : Bool). AreWhole 0 tells new p.limbo b whole.0) (sym stand) whole.1) }
+    record {
+      from = s.store.before;
+      known = open_known tells p.at s.store.before m s.store.is_open;
+      grow = grow;
+      whole = (whole.0, subst (λ (b : Bool). AreWhole 0 tells new p.limbo b whole.0) (sym stand) whole.1);
+      moves = λ rows left same. moves_left tells (beside p.at p.limbo) (beside new p.limbo) m.told m.rows rows m.limbo left s.store.before after same_g same (count_of s.store.before m s.store.holds) grow.beside m.moves p.slots keeps.leaves s.store.moves;
+    }
+
+-- where the stores stay, so do the moves
+pub moves_kept : (tells : Bool) (p : Parts) (m : Machine) (s : Stands tells p m) (new : Seen) → granularities new.manifests ≡ granularities p.at.manifests → Keeps tells (beside p.at p.limbo) (beside new p.limbo) → AreMovesOf tells (beside new p.limbo) m.told m.rows m.limbo s.store.before m.moves p.slots
+moves_kept tells p m s new same_g keeps = (grew tells p m s new same_g keeps s.store.before refl (same_grow s.store.before)).moves m.rows m.limbo (same_later m.rows m.limbo)
+
+-- and the settings
+pub settings_kept : (at new : Seen) (config : ConfigState) (rule : Rule) → granularities new.manifests ≡ granularities at.manifests → HasSettings at config rule → HasSettings new config rule
+settings_kept at new config rule same_g s = record { hold = s.hold; gather = s.gather; nested = λ place low. subst (AreNested place) (sym same_g) (s.nested place low) }
 
 -- the archive after the settling: other stores, memory and tails, and no doubt
 abbrev pub settled_parts : Parts → Seen → List RowMemory → List TailState → Parts
-settled_parts p at kept tails = record { at = at; limbo = p.limbo; pinned = p.pinned; tails = tails; kept = kept; doubt = None; doors = p.doors }
+settled_parts p at kept tails = record { at = at; limbo = p.limbo; pinned = p.pinned; tails = tails; kept = kept; doubt = None; doors = p.doors; config = p.config; slots = p.slots }
 
 module _ (tells : Bool) (p : Parts) (m : Machine) (s : Stands tells p m) (new : Seen) (kept : List RowMemory) (same_g : granularities new.manifests ≡ granularities p.at.manifests) (shown : Keeps tells (beside p.at p.limbo) (beside new p.limbo)) where
   -- what is left to show of the machine that the archive comes to
@@ -205,7 +228,7 @@ module _ (tells : Bool) (p : Parts) (m : Machine) (s : Stands tells p m) (new : 
     pub rule : mid.rule ≡ m.rule
     pub limbo : IsLimboOf tells (beside new p.limbo) mid.told mid.rows mid.limbo
     pub pins : mid.pins ≡ m.pins
-    pub moves : mid.moves ≡ m.moves
+    pub moves : AreMovesOf tells (beside new p.limbo) mid.told mid.rows mid.limbo held mid.moves p.slots
     pub doors : mid.doors ≡ m.doors
 
   pub rests : (tails : List TailState) (mid : Machine) (held : Stores) → Reaches tails mid held → Rests tells (settled_parts p new kept tails) (record mid { faults = new.faults })
@@ -214,14 +237,14 @@ module _ (tells : Bool) (p : Parts) (m : Machine) (s : Stands tells p m) (new : 
       sound = settled_sound r.settles s.sound;
       rule = record { granularity = ap (λ w. w.granularity) r.rule ∙ (s.rule.granularity ∙ sym same_g); headers = subst (λ (rule : Rule). TellsHeaders rule) (sym r.rule) s.rule.headers };
       limbo = r.limbo;
-      moves = r.moves ∙ s.moves;
+      settings = subst (λ (rule : Rule). HasSettings new p.config rule) (sym r.rule) (settings_kept p.at new p.config m.rule same_g s.settings);
       pins = own_pins;
       faults = refl;
       doors = r.doors ∙ s.doors;
       rows = subst (λ (rows : List Row). AreRowsOf rows kept tails mid.rows) (sym r.has.known.rows) (rows_of mid.told held kept tails mid.rows r.memory r.holds);
       doubt = subst (λ (d : Option Change). IsDoubtOf None d) (sym none) tt;
       ready = subst (λ (d : Option Change). IsReady kept mid.rows d) (sym none) tt;
-      store = record { before = held; told = r.told; holds = r.holds; whole = r.whole; is_open = inl r.has };
+      store = record { before = held; told = r.told; holds = r.holds; whole = r.whole; moves = r.moves; is_open = inl r.has };
     };
     settled = none;
   }
@@ -258,15 +281,15 @@ module _ (tells : Bool) (p : Parts) (m : Machine) (s : Stands tells p m) (new : 
   same_memory : AreKeptOf p.kept p.tails m.rows
   same_memory = kept_part p.at.catalogue.rows p.kept p.tails m.rows s.rows
 
-  still_grown : GrewFrom tells p.at new p.limbo s.store.before
-  still_grown = grew tells p m s new shown s.store.before refl (same_grow s.store.before)
+  still_grown : GrewFrom tells p.at new p.limbo p.slots m.told m.rows m.limbo m.moves s.store.before
+  still_grown = grew tells p m s new same_g shown s.store.before refl (same_grow s.store.before)
 
   -- limbo stays the machine's where the change was made in stores that grew
-  changed_limbo : (c : Change) → KeepsNames m.rows (made [] c m).rows → (held : Stores) → GrewFrom tells p.at new p.limbo held → m.told ≡ (tells && held.stands) → HoldsDurable held (made [] c m) → Has tells new held → IsLimboOf tells (beside new p.limbo) m.told (made [] c m).rows (made [] c m).limbo
+  changed_limbo : (c : Change) → KeepsNames m.rows (made [] c m).rows → (held : Stores) → GrewFrom tells p.at new p.limbo p.slots m.told m.rows m.limbo m.moves held → m.told ≡ (tells && held.stands) → HoldsDurable held (made [] c m) → Has tells new held → IsLimboOf tells (beside new p.limbo) m.told (made [] c m).rows (made [] c m).limbo
   changed_limbo c names held grow told holds has = limbo_changed tells p.at new p.limbo m grow.from held grow.known has grow.grow (told_stands tells m.told held.stands told) same_g s.rule shown.shown s.limbo c names holds
 
   -- and where it was not
-  still_limbo : (held : Stores) → GrewFrom tells p.at new p.limbo held → m.told ≡ (tells && held.stands) → HoldsDurable held m → Has tells new held → IsLimboOf tells (beside new p.limbo) m.told m.rows m.limbo
+  still_limbo : (held : Stores) → GrewFrom tells p.at new p.limbo p.slots m.told m.rows m.limbo m.moves held → m.told ≡ (tells && held.stands) → HoldsDurable held m → Has tells new held → IsLimboOf tells (beside new p.limbo) m.told m.rows m.limbo
   still_limbo held grow told holds has = limbo_held tells p.at new p.limbo m grow.from held grow.known has grow.grow (told_stands tells m.told held.stands told) same_g s.rule shown.shown s.limbo s.sound holds
 
   -- it was not made: no row has the doubted state
@@ -287,8 +310,8 @@ module _ (tells : Bool) (p : Parts) (m : Machine) (s : Stands tells p m) (new : 
       stays = subst (λ (ts : List TailState). AreKeptOf kept ts m.rows) (sym same_tails) (subst (λ (ks : List RowMemory). AreKeptOf ks p.tails m.rows) (sym same) same_memory)
 
       by_doubt : (d : Option Change) → m.doubt ≡ d → (mid : Machine) × Reaches tails mid s.store.before
-      by_doubt None is = (m, record { settles = no_doubt is; has = has; told = s.store.told; same_told = refl; names = names_stay m.rows; holds = s.store.holds; whole = still_grown.whole; memory = stays; rule = refl; limbo = still_limbo s.store.before still_grown s.store.told s.store.holds has; pins = refl; moves = refl; doors = refl })
-      by_doubt (Some c) is = (record m { doubt = None }, record { settles = as_not_made c is; has = has; told = s.store.told; same_told = refl; names = names_stay m.rows; holds = s.store.holds; whole = still_grown.whole; memory = stays; rule = refl; limbo = still_limbo s.store.before still_grown s.store.told s.store.holds has; pins = refl; moves = refl; doors = refl })
+      by_doubt None is = (m, record { settles = no_doubt is; has = has; told = s.store.told; same_told = refl; names = names_stay m.rows; holds = s.store.holds; whole = still_grown.whole; memory = stays; rule = refl; limbo = still_limbo s.store.before still_grown s.store.told s.store.holds has; pins = refl; moves = still_grown.moves m.rows m.limbo (same_later m.rows m.limbo); doors = refl })
+      by_doubt (Some c) is = (record m { doubt = None }, record { settles = as_not_made c is; has = has; told = s.store.told; same_told = refl; names = names_stay m.rows; holds = s.store.holds; whole = still_grown.whole; memory = stays; rule = refl; limbo = still_limbo s.store.before still_grown s.store.told s.store.holds has; pins = refl; moves = still_grown.moves m.rows m.limbo (same_later m.rows m.limbo); doors = refl })
 
   told_after : (after : Stores) → after.stands ≡ s.store.before.stands → m.told ≡ (tells && after.stands)
   told_after after stand = s.store.told ∙ ap (λ (b : Bool). tells && b) (sym stand)
@@ -298,7 +321,7 @@ module _ (tells : Bool) (p : Parts) (m : Machine) (s : Stands tells p m) (new : 
   with_change c = record (made [] c m) { doubt = None }
 
   -- the doubted state was set
-  made_state : (k : ℕ) (to : State) → m.doubt ≡ Some (SetsState k to) → (after : Stores) → GrewFrom tells p.at new p.limbo after → m.told ≡ (tells && after.stands) → HoldsDurable after (made [] (SetsState k to) m) → IsReady p.kept m.rows (Some (SetsState k to)) → IsCleared after.rows p.doubt p.kept kept → Has tells new after → Reaches p.tails (with_change (SetsState k to)) after
+  made_state : (k : ℕ) (to : State) → m.doubt ≡ Some (SetsState k to) → (after : Stores) → GrewFrom tells p.at new p.limbo p.slots m.told m.rows m.limbo m.moves after → m.told ≡ (tells && after.stands) → HoldsDurable after (made [] (SetsState k to) m) → IsReady p.kept m.rows (Some (SetsState k to)) → IsCleared after.rows p.doubt p.kept kept → Has tells new after → Reaches p.tails (with_change (SetsState k to)) after
   made_state k to is after grow told holds ready memory has = by_own p.doubt refl (subst (λ (d : Option Change). IsDoubtOf p.doubt d) is s.doubt)
     where
       at_row : IsRowAt p.at.catalogue.rows p.kept p.tails k ready.0
@@ -324,23 +347,23 @@ module _ (tells : Bool) (p : Parts) (m : Machine) (s : Stands tells p m) (new : 
           let named : kind.State row state ≡ kind.State k to = cc (doubt) in
           let set = memory.own k to (own ∙ ap (λ (w : Doubt). Some w) named) has_it at_row.memory at_row.there in
           let rows = kept_cleared m p.kept p.tails k to at_row.memory same_memory at_row.there in
-          record { settles = as_made (SetsState k to) [] is refl; has = has; told = told; same_told = refl; names = names_made m (SetsState k to) (state_name m k to); holds = holds; whole = grow.whole; memory = subst (λ (ks : List RowMemory). AreKeptOf ks p.tails (made [] (SetsState k to) m).rows) (sym set) rows; rule = refl; limbo = changed_limbo (SetsState k to) (names_made m (SetsState k to) (state_name m k to)) after grow told holds has; pins = refl; moves = refl; doors = refl }
+          record { settles = as_made (SetsState k to) [] is refl; has = has; told = told; same_told = refl; names = names_made m (SetsState k to) (state_name m k to); holds = holds; whole = grow.whole; memory = subst (λ (ks : List RowMemory). AreKeptOf ks p.tails (made [] (SetsState k to) m).rows) (sym set) rows; rule = refl; limbo = changed_limbo (SetsState k to) (names_made m (SetsState k to) (state_name m k to)) after grow told holds has; pins = refl; moves = grow.moves (made [] (SetsState k to) m).rows (made [] (SetsState k to) m).limbo (same_made m (SetsState k to) s.sound tt); doors = refl }
 
   -- the doubted row was added
-  made_row : (name : List ℕ) (about : About) → m.doubt ≡ Some (AddsRow name about) → (after : Stores) → GrewFrom tells p.at new p.limbo after → m.told ≡ (tells && after.stands) → HoldsDurable after (made [] (AddsRow name about) m) → IsReady p.kept m.rows (Some (AddsRow name about)) → IsCleared after.rows p.doubt p.kept kept → Has tells new after → Reaches p.tails (with_change (AddsRow name about)) after
+  made_row : (name : List ℕ) (about : About) → m.doubt ≡ Some (AddsRow name about) → (after : Stores) → GrewFrom tells p.at new p.limbo p.slots m.told m.rows m.limbo m.moves after → m.told ≡ (tells && after.stands) → HoldsDurable after (made [] (AddsRow name about) m) → IsReady p.kept m.rows (Some (AddsRow name about)) → IsCleared after.rows p.doubt p.kept kept → Has tells new after → Reaches p.tails (with_change (AddsRow name about)) after
   made_row name about is after grow told holds ready memory has =
       let doubt : IsDoubtOf p.doubt (Some (AddsRow name about)) = subst (λ (d : Option Change). IsDoubtOf p.doubt d) is s.doubt in
       let same : kept ≡ p.kept = memory.other (λ k to state has_it. let wrong = doubt_state p.doubt (Some (AddsRow name about)) doubt k to state in let plain : AddsRow name about ≡ SetsState k to = same_Some (AddsRow name about) (SetsState k to) wrong in cc (plain)) in
       let own_rows = kept_added m p.kept p.tails name about same_memory ready in
-      record { settles = as_made (AddsRow name about) [] is refl; has = has; told = told; same_told = refl; names = names_made m (AddsRow name about) (λ i r. refl); holds = holds; whole = grow.whole; memory = subst (λ (ks : List RowMemory). AreKeptOf ks p.tails (made [] (AddsRow name about) m).rows) (sym same) own_rows; rule = refl; limbo = changed_limbo (AddsRow name about) (names_made m (AddsRow name about) (λ i r. refl)) after grow told holds has; pins = refl; moves = refl; doors = refl }
+      record { settles = as_made (AddsRow name about) [] is refl; has = has; told = told; same_told = refl; names = names_made m (AddsRow name about) (λ i r. refl); holds = holds; whole = grow.whole; memory = subst (λ (ks : List RowMemory). AreKeptOf ks p.tails (made [] (AddsRow name about) m).rows) (sym same) own_rows; rule = refl; limbo = changed_limbo (AddsRow name about) (names_made m (AddsRow name about) (λ i r. refl)) after grow told holds has; pins = refl; moves = grow.moves (made [] (AddsRow name about) m).rows (made [] (AddsRow name about) m).limbo (same_made m (AddsRow name about) s.sound tt); doors = refl }
 
   -- the doubted batch was appended
-  made_batch : (batch : List RowSamples) → m.doubt ≡ Some (Appends batch) → (after : Stores) → GrewFrom tells p.at new p.limbo after → m.told ≡ (tells && after.stands) → HoldsDurable after (made [] (Appends batch) m) → kept ≡ p.kept → (tails : List TailState) → GivesUp batch p.tails tails → Has tells new after → Reaches tails (with_change (Appends batch)) after
+  made_batch : (batch : List RowSamples) → m.doubt ≡ Some (Appends batch) → (after : Stores) → GrewFrom tells p.at new p.limbo p.slots m.told m.rows m.limbo m.moves after → m.told ≡ (tells && after.stands) → HoldsDurable after (made [] (Appends batch) m) → kept ≡ p.kept → (tails : List TailState) → GivesUp batch p.tails tails → Has tells new after → Reaches tails (with_change (Appends batch)) after
   made_batch batch is after grow told holds same tails gives has =
       let ready : AllByRecursion (IsPartOf (length m.rows)) batch = subst (λ (d : Option Change). IsReady p.kept m.rows d) is s.ready in
       let may = (s.sound.doubted (Appends batch) is).0 in
       let own_rows = kept_flushed m p.kept p.tails tails batch same_memory ready (λ i r here. RisesFrom-lower 0 (end_of r.short) (of_row i batch) (taken_later m batch i r s.sound may here) (omega arith)) gives in
-      record { settles = as_made (Appends batch) [] is refl; has = has; told = told; same_told = refl; names = names_made m (Appends batch) (λ i r. refl); holds = holds; whole = grow.whole; memory = subst (λ (ks : List RowMemory). AreKeptOf ks tails (made [] (Appends batch) m).rows) (sym same) own_rows; rule = refl; limbo = changed_limbo (Appends batch) (names_made m (Appends batch) (λ i r. refl)) after grow told holds has; pins = refl; moves = refl; doors = refl }
+      record { settles = as_made (Appends batch) [] is refl; has = has; told = told; same_told = refl; names = names_made m (Appends batch) (λ i r. refl); holds = holds; whole = grow.whole; memory = subst (λ (ks : List RowMemory). AreKeptOf ks tails (made [] (Appends batch) m).rows) (sym same) own_rows; rule = refl; limbo = changed_limbo (Appends batch) (names_made m (Appends batch) (λ i r. refl)) after grow told holds has; pins = refl; moves = grow.moves (made [] (Appends batch) m).rows (made [] (Appends batch) m).limbo (same_made m (Appends batch) s.sound tt); doors = refl }
 
   -- a doubted batch leaves what is kept of rows
   same_kept : (rows : List Row) (batch : List RowSamples) → m.doubt ≡ Some (Appends batch) → IsCleared rows p.doubt p.kept kept → kept ≡ p.kept
@@ -349,7 +372,7 @@ module _ (tells : Bool) (p : Parts) (m : Machine) (s : Stands tells p m) (new : 
       cc (own))
 
   -- it was made
-  made_so : (c : Change) → m.doubt ≡ Some c → (after : Stores) → GrewFrom tells p.at new p.limbo after → m.told ≡ (tells && after.stands) → HoldsDurable after (made [] c m) → IsReady p.kept m.rows (Some c) → IsCleared after.rows p.doubt p.kept kept → (tails : List TailState) → Takes c p.tails tails → Has tells new after → Reaches tails (with_change c) after
+  made_so : (c : Change) → m.doubt ≡ Some c → (after : Stores) → GrewFrom tells p.at new p.limbo p.slots m.told m.rows m.limbo m.moves after → m.told ≡ (tells && after.stands) → HoldsDurable after (made [] c m) → IsReady p.kept m.rows (Some c) → IsCleared after.rows p.doubt p.kept kept → (tails : List TailState) → Takes c p.tails tails → Has tells new after → Reaches tails (with_change c) after
   made_so (AddsRow name about) is after grow told holds ready memory tails same has = subst (λ (ts : List TailState). Reaches ts (with_change (AddsRow name about)) after) (sym same) (made_row name about is after grow told holds ready memory has)
   made_so (SetsState k to) is after grow told holds ready memory tails same has = subst (λ (ts : List TailState). Reaches ts (with_change (SetsState k to)) after) (sym same) (made_state k to is after grow told holds ready memory has)
   made_so (Appends batch) is after grow told holds ready memory tails gives has = made_batch batch is after grow told holds (same_kept after.rows batch is memory) tails gives has
@@ -357,7 +380,7 @@ module _ (tells : Bool) (p : Parts) (m : Machine) (s : Stands tells p m) (new : 
   made_so (Unlists i store to) is after grow told holds ready memory tails same has = absurd ready
 
   -- once the stores have what is after the doubted change, the archive stands for the machine with it
-  pub made_stands : (tails : List TailState) (c : Change) → m.doubt ≡ Some c → (after : Stores) → GrewFrom tells p.at new p.limbo after → m.told ≡ (tells && after.stands) → HoldsDurable after (made [] c m) → IsCleared new.catalogue.rows p.doubt p.kept kept → Takes c p.tails tails → Has tells new after → Rests tells (settled_parts p new kept tails) (record (with_change c) { faults = new.faults })
+  pub made_stands : (tails : List TailState) (c : Change) → m.doubt ≡ Some c → (after : Stores) → GrewFrom tells p.at new p.limbo p.slots m.told m.rows m.limbo m.moves after → m.told ≡ (tells && after.stands) → HoldsDurable after (made [] c m) → IsCleared new.catalogue.rows p.doubt p.kept kept → Takes c p.tails tails → Has tells new after → Rests tells (settled_parts p new kept tails) (record (with_change c) { faults = new.faults })
   made_stands tails c is after grow told holds memory takes has =
       let ready : IsReady p.kept m.rows (Some c) = subst (λ (d : Option Change). IsReady p.kept m.rows d) is s.ready in
       let rows = subst (λ (rows : List Row). IsCleared rows p.doubt p.kept kept) has.known.rows memory in
@@ -379,7 +402,7 @@ module _ (tells : Bool) (p : Parts) (m : Machine) (s : Stands tells p m) (new : 
     same_tails no_flush = trims.other (λ batch is lists. no_flush batch (doubt_flush p.doubt m.doubt s.doubt batch is))
 
     -- A flush stood in doubt: store 1 tells whether it was made.
-    flush_ends : (batch : List RowSamples) → m.doubt ≡ Some (Appends batch) → (held : Stores) → GrewFrom tells p.at new p.limbo held → Has tells new held → m.told ≡ (tells && held.stands) → HoldsDurable held m ⊎ HoldsDurable held (made [] (Appends batch) m) → Ends
+    flush_ends : (batch : List RowSamples) → m.doubt ≡ Some (Appends batch) → (held : Stores) → GrewFrom tells p.at new p.limbo p.slots m.told m.rows m.limbo m.moves held → Has tells new held → m.told ≡ (tells && held.stands) → HoldsDurable held m ⊎ HoldsDurable held (made [] (Appends batch) m) → Ends
     flush_ends batch is held grow has told holds = elim (lists_or_not new.manifests batch) [
       | inl lists ↦ (
         with_change (Appends batch),
@@ -390,7 +413,7 @@ module _ (tells : Bool) (p : Parts) (m : Machine) (s : Stands tells p m) (new : 
         record m { doubt = None },
         as_not_made (Appends batch) is,
         rests tails (record m { doubt = None }) held
-            (record { settles = as_not_made (Appends batch) is; has = has; told = told; same_told = refl; names = names_stay m.rows; holds = without lacks; whole = grow.whole; memory = stays lacks; rule = refl; limbo = still_limbo held grow told (without lacks) has; pins = refl; moves = refl; doors = refl }),
+            (record { settles = as_not_made (Appends batch) is; has = has; told = told; same_told = refl; names = names_stay m.rows; holds = without lacks; whole = grow.whole; memory = stays lacks; rule = refl; limbo = still_limbo held grow told (without lacks) has; pins = refl; moves = grow.moves m.rows m.limbo (same_later m.rows m.limbo); doors = refl }),
       )
     ]
       where
@@ -432,7 +455,7 @@ module _ (tells : Bool) (p : Parts) (m : Machine) (s : Stands tells p m) (new : 
     as_before (Some (Unlists i store to)) is has = plain_before (other_change (Some (Unlists i store to)) is (λ batch wrong. cc (wrong))) has
 
     -- they have what is after it
-    as_after : (c : Change) → m.doubt ≡ Some c → (after : Stores) → GrewFrom tells p.at new p.limbo after → m.told ≡ (tells && after.stands) → HoldsDurable after (made [] c m) → IsReady p.kept m.rows (Some c) → Has tells new after → Ends
+    as_after : (c : Change) → m.doubt ≡ Some c → (after : Stores) → GrewFrom tells p.at new p.limbo p.slots m.told m.rows m.limbo m.moves after → m.told ≡ (tells && after.stands) → HoldsDurable after (made [] c m) → IsReady p.kept m.rows (Some c) → Has tells new after → Ends
     as_after (Appends batch) is after grow told holds ready has = flush_ends batch is after grow has told (inr holds)
     as_after (AddsRow name about) is after grow told holds ready has = (
       with_change (AddsRow name about),
@@ -458,27 +481,32 @@ module _ (tells : Bool) (p : Parts) (m : Machine) (s : Stands tells p m) (new : 
         ]
         by_open (inr d) = elim (settled s.store.before d.after (inr d.doubts)) [
           | inl has ↦ as_before m.doubt refl has
-          | inr has ↦ as_after d.change d.is d.after (grew tells p m s new shown d.after d.stand d.grow) (told_after d.after d.stand) d.holds (subst (λ (o : Option Change). IsReady p.kept m.rows o) d.is s.ready) has
+          | inr has ↦ as_after d.change d.is d.after (grew tells p m s new same_g shown d.after d.stand d.grow) (told_after d.after d.stand) d.holds (subst (λ (o : Option Change). IsReady p.kept m.rows o) d.is s.ready) has
         ]
 
 -- WHERE A DOUBT STANDS, OR NONE
 
 -- the archive stands for a machine with this doubt, where the stores are as much those of it
-pub doubt_stands : (tells : Bool) (p : Parts) (m : Machine) (s : Stands tells p m) (new : Seen) (kept : List RowMemory) (d : Option Doubt) (c : Option Change) → granularities new.manifests ≡ granularities p.at.manifests → Keeps tells (beside p.at p.limbo) (beside new p.limbo) → IsSound (record m { doubt = c }) → AreRowsOf p.at.catalogue.rows kept p.tails m.rows → IsDoubtOf d c → IsReady kept m.rows c
-    → Has tells new s.store.before ⊎ InDoubt tells new s.store.before (record m { doubt = c; faults = new.faults }) → Stands tells (record { at = new; limbo = p.limbo; pinned = p.pinned; tails = p.tails; kept = kept; doubt = d; doors = p.doors }) (record m { doubt = c; faults = new.faults })
-doubt_stands tells p m s new kept d c same_g shown sound rows doubt ready is_open = record {
+pub doubt_beside : (tells : Bool) (p : Parts) (m : Machine) (s : Stands tells p m) (new : Seen) (kept : List RowMemory) (d : Option Doubt) (c : Option Change) → granularities new.manifests ≡ granularities p.at.manifests → KeepsLimbo tells (beside p.at p.limbo) (beside new p.limbo)
+    → AreMovesOf tells (beside new p.limbo) m.told m.rows m.limbo s.store.before m.moves p.slots → IsSound (record m { doubt = c }) → AreRowsOf p.at.catalogue.rows kept p.tails m.rows → IsDoubtOf d c → IsReady kept m.rows c
+    → Has tells new s.store.before ⊎ InDoubt tells new s.store.before (record m { doubt = c; faults = new.faults }) → Stands tells (record p { at = new; kept = kept; doubt = d }) (record m { doubt = c; faults = new.faults })
+doubt_beside tells p m s new kept d c same_g shown moves sound rows doubt ready is_open = record {
   sound = sound;
   rule = record { granularity = s.rule.granularity ∙ sym same_g; headers = s.rule.headers };
   limbo = limbo_beside tells p.at new p.limbo s.store.before m.told m.rows m.limbo (open_known tells p.at s.store.before m s.store.is_open) (open_known tells new s.store.before (record m { doubt = c; faults = new.faults }) is_open) same_g shown.shown s.limbo;
-  moves = s.moves;
+  settings = settings_kept p.at new p.config m.rule same_g s.settings;
   pins = pins_stay tells (beside p.at p.limbo) (beside new p.limbo) m.told m.rows m.rows m.pins p.pinned shown.shown (names_stay m.rows) s.pins;
   faults = refl;
   doors = s.doors;
   rows = subst (λ (rows : List Row). AreRowsOf rows kept p.tails m.rows) (open_rows tells p.at s.store.before m s.store.is_open ∙ sym (open_rows tells new s.store.before (record m { doubt = c; faults = new.faults }) is_open)) rows;
   doubt = doubt;
   ready = ready;
-  store = record { before = s.store.before; told = s.store.told; holds = s.store.holds; whole = shown.whole 0 s.store.before.stands s.store.whole.0 (omega arith) s.store.whole.1; is_open = is_open };
+  store = record { before = s.store.before; told = s.store.told; holds = s.store.holds; whole = shown.whole 0 s.store.before.stands s.store.whole.0 (omega arith) s.store.whole.1; moves = moves; is_open = is_open };
 }
+
+pub doubt_stands : (tells : Bool) (p : Parts) (m : Machine) (s : Stands tells p m) (new : Seen) (kept : List RowMemory) (d : Option Doubt) (c : Option Change) → granularities new.manifests ≡ granularities p.at.manifests → Keeps tells (beside p.at p.limbo) (beside new p.limbo) → IsSound (record m { doubt = c }) → AreRowsOf p.at.catalogue.rows kept p.tails m.rows → IsDoubtOf d c → IsReady kept m.rows c
+    → Has tells new s.store.before ⊎ InDoubt tells new s.store.before (record m { doubt = c; faults = new.faults }) → Stands tells (record p { at = new; kept = kept; doubt = d }) (record m { doubt = c; faults = new.faults })
+doubt_stands tells p m s new kept d c same_g keeps sound rows doubt ready is_open = doubt_beside tells p m s new kept d c same_g (limbo_of_keeps tells (beside p.at p.limbo) (beside new p.limbo) keeps) (moves_kept tells p m s new same_g keeps) sound rows doubt ready is_open
 
 -- the doubt stands as it stood, since the stores couldn't settle it
 pub still_doubted : (tells : Bool) (p : Parts) (m : Machine) (new : Seen) → Stands tells p m → (IsSettled p.at → ⊥) → ((before after : Stores) → IsOpen tells p.at before after → IsOpen tells new before after) → granularities new.manifests ≡ granularities p.at.manifests → Keeps tells (beside p.at p.limbo) (beside new p.limbo) → Stands tells (record p { at = new }) (record m { faults = new.faults })

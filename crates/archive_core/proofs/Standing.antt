@@ -7,13 +7,13 @@ use Rattle.std.specs.Prelude.{◌==◌, slice_get, slice_set}
 use Rattle.std.proofs.lemmas.Option.{slice_get_within}
 use Rattle.append_buffer.specs.Tails.{TailState, tail_at}
 use Rattle.pv_catalog.specs.declared.row.Row.{Row}
-use Rattle.act_model.specs.Rows.{RowState}
+use Rattle.act_model.specs.Rows.{RowState, next_store, tier}
 use Rattle.pinned_pieces.specs.Pieces.{PinOf}
 use Rattle.act_model.specs.Machine.{Machine, PinState, Change, AddsRow, SetsState, Appends, Publishes, Unlists}
 use Rattle.act_model.specs.Changes.{each, at, with_rows}
 use Rattle.act_model.specs.Crash.{DurableRow, kept_of}
 use Rattle.act_model.specs.Sound.{IsSound}
-use Rattle.act_model.proofs.Rows.{length-each}
+use Rattle.act_model.proofs.Rows.{each_get, length-each}
 use Rattle.archive_core.specs.declared.memory.RowMemory.{RowMemory}
 use Rattle.archive_core.specs.Memory.{IsRowOf}
 use Rattle.archive_core.specs.Parts.{Parts}
@@ -22,7 +22,13 @@ use Rattle.archive_core.specs.Stands.{Stands, IsPartOf, IsReady, InDoubt, IsBetw
 use Rattle.archive_core.proofs.Lists.{get_set_other, set_same}
 use Rattle.archive_core.proofs.KeptRows.{each_to, rows_at, rows_spared}
 use Rattle.archive_core.proofs.Durable.{kept_each, kept_changed}
-use Rattle.archive_core.proofs.LimboKept.{limbo_rows, bare_each}
+use Rattle.archive_core.proofs.LimboKept.{limbo_rows, bare_each, tier_kept}
+use Rattle.archive_core.proofs.Making.{count_of}
+use Rattle.archive_core.proofs.MovesKept.{SameLater, moves_left}
+use Rattle.etl_mover.specs.Move.{MoveState as Moving}
+use Rattle.running_moves.specs.declared.table.Running.{Running}
+use Rattle.three_stores.proofs.BesideMoves.{beside_itself}
+use Rattle.three_stores.proofs.LeavingNames.{nothing_leaves}
 use Rattle.archive_core.proofs.PinTies.{pins_stay, names_at}
 use Rattle.three_stores.specs.Pinned.{beside}
 use Rattle.three_stores.specs.Change.{Has}
@@ -30,15 +36,24 @@ use Rattle.three_stores.specs.Seen.{Seen}
 use Rattle.three_stores.specs.declared.limbo.Retired.{Retired}
 
 -- the stores are as much those of the machine
-between_rows : (tells : Bool) (at : Seen) (limbo : List Retired) (m : Machine) (g : ℕ → RowState → RowState) → ((i : ℕ) (r : RowState) → kept_of (g i r) ≡ kept_of r) → IsBetween tells at limbo m → IsBetween tells at limbo (with_rows m g)
-between_rows tells at limbo m g stays s = record {
+between_rows : (tells : Bool) (at : Seen) (limbo : List Retired) (slots : List (Option (Running Moving))) (m : Machine) (g : ℕ → RowState → RowState) → ((i : ℕ) (r : RowState) → kept_of (g i r) ≡ kept_of r) → IsBetween tells at limbo slots m → IsBetween tells at limbo slots (with_rows m g)
+between_rows tells at limbo slots m g stays s = record {
   before = s.before;
   told = s.told;
   holds = subst (λ (ds : List DurableRow). AreDurable m.told s.before ds) (sym (kept_each g 0 m.rows stays)) s.holds;
   whole = s.whole;
+  moves = moves_left tells (beside at limbo) (beside at limbo) m.told m.rows (each g 0 m.rows) m.limbo m.limbo s.before s.before refl same (count_of s.before m s.holds) (λ place row from low. beside_itself place row s.before) m.moves slots (nothing_leaves tells (beside at limbo)) s.moves;
   is_open = by_open s.is_open;
 }
   where
+    same : SameLater m.rows (each g 0 m.rows) m.limbo m.limbo
+    same = record {
+      rows_there = λ i store row low here.
+          let from = each_get g 0 m.rows i row here in
+          (from.0, from.1, ap (λ (r : RowState). tier r (next_store store)) from.2 ∙ tier_kept (g (0 + i) from.0) from.0 (next_store store) (stays (0 + i) from.0));
+      limbo_there = λ i store. refl;
+    }
+
     by_open : Has tells at s.before ⊎ InDoubt tells at s.before m → Has tells at s.before ⊎ InDoubt tells at s.before (with_rows m g)
     by_open (inl has) = inl has
     by_open (inr d) = inr (record { change = d.change; is = d.is; after = d.after; doubts = d.doubts; stand = d.stand; grow = d.grow; holds = subst (λ (ds : List DurableRow). AreDurable m.told d.after ds) (sym (kept_changed m g d.change stays)) d.holds })
@@ -69,14 +84,14 @@ row_stands tells p m s i f memory new row r here there is others stays sound = r
   sound = sound;
   rule = s.rule;
   limbo = limbo_rows tells p.at p.limbo m.told m.rows (each (at i f) 0 m.rows) m.limbo (names_at i f m.rows stays) (λ off. bare_each (at i f) m.rows (at_stays i f stays) (s.limbo.bare off)) s.limbo;
-  moves = s.moves;
+  settings = s.settings;
   pins = pins_stay tells (beside p.at p.limbo) (beside p.at p.limbo) m.told m.rows (each (at i f) 0 m.rows) m.pins p.pinned (λ name bytes shown. shown) (names_at i f m.rows stays) s.pins;
   faults = s.faults;
   doors = s.doors;
   rows = rows_at p.at.catalogue.rows p.kept p.tails new m.rows s.rows i f memory row r here there is others;
   doubt = s.doubt;
   ready = still_ready p.kept m.rows i f memory (slice_get_within m.rows i r there) stays m.doubt s.ready;
-  store = between_rows tells p.at p.limbo m (at i f) (at_stays i f stays) s.store;
+  store = between_rows tells p.at p.limbo p.slots m (at i f) (at_stays i f stays) s.store;
 }
 
 -- spares change
@@ -85,7 +100,7 @@ spared_stands tells p m new s same = record {
   sound = s.sound;
   rule = s.rule;
   limbo = s.limbo;
-  moves = s.moves;
+  settings = s.settings;
   pins = s.pins;
   faults = s.faults;
   doors = s.doors;
@@ -108,14 +123,14 @@ doors_stand tells p m doors d same s = record {
   sound = s.sound;
   rule = s.rule;
   limbo = s.limbo;
-  moves = s.moves;
+  settings = s.settings;
   pins = s.pins;
   faults = s.faults;
   doors = same;
   rows = s.rows;
   doubt = s.doubt;
   ready = s.ready;
-  store = record { before = s.store.before; told = s.store.told; holds = s.store.holds; whole = s.store.whole; is_open = by_open s.store.is_open };
+  store = record { before = s.store.before; told = s.store.told; holds = s.store.holds; whole = s.store.whole; moves = s.store.moves; is_open = by_open s.store.is_open };
 }
   where
     by_open : Has tells p.at s.store.before ⊎ InDoubt tells p.at s.store.before m → Has tells p.at s.store.before ⊎ InDoubt tells p.at s.store.before (record m { doors = d })
@@ -128,14 +143,14 @@ pins_stand tells p m pins pinned are sound s = record {
   sound = sound;
   rule = s.rule;
   limbo = s.limbo;
-  moves = s.moves;
+  settings = s.settings;
   pins = are;
   faults = s.faults;
   doors = s.doors;
   rows = s.rows;
   doubt = s.doubt;
   ready = s.ready;
-  store = record { before = s.store.before; told = s.store.told; holds = s.store.holds; whole = s.store.whole; is_open = by_open s.store.is_open };
+  store = record { before = s.store.before; told = s.store.told; holds = s.store.holds; whole = s.store.whole; moves = s.store.moves; is_open = by_open s.store.is_open };
 }
   where
     by_open : Has tells p.at s.store.before ⊎ InDoubt tells p.at s.store.before m → Has tells p.at s.store.before ⊎ InDoubt tells p.at s.store.before (record m { pins = pins })

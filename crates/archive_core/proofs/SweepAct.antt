@@ -1,6 +1,7 @@
 -- The act that sweeps: how it ends, and what a crash within it leaves.
 use Rattle.std.proofs.Common.{◌≡◌, ◌⊎◌, inl, inr, ℕ, ◌+◌, ◌≤◌, List, [], ◌∷◌, length, Bool, true, false, Option, Some, None, Result, Ok, Err, refl, sym, ◌∙◌, ap, subst, arith}
-use Rattle.std.specs.FinMap.{FinMap, empty, get, get-empty}
+use Rattle.std.specs.FinMap.{FinMap}
+use Rattle.std.specs.List.{list_any}
 use Rattle.std.specs.Ordering.{nat_cmp}
 use Rattle.std.specs.Prelude.{◌↔◌, Contains, IfOk, IsTrue, OnErr, filter, not, slice_get}
 use Rattle.disk_model.specs.Files.{Name, Rose}
@@ -8,14 +9,18 @@ use Rattle.disk_model.specs.Past.{Passes}
 use Rattle.disk_model.specs.declared.disk.DiskErr.{DiskErr}
 use Rattle.disk_model.specs.declared.disk.DiskErr.TheVariants.{Fault, Memory}
 use Rattle.disk_model.proofs.Passing.{passes_then, passes_weaker}
+use Rattle.etl_mover.specs.Move.{MoveState as Moving}
 use Rattle.partition_names.specs.declared.granularity.Granularity.{Granularity}
 use Rattle.pinned_pieces.specs.Pieces.{PinOf}
 use Rattle.pv_catalog.specs.Catalogue.{CatalogueState}
 use Rattle.pv_catalog.specs.Rows.{KeepsRows}
+use Rattle.running_moves.specs.declared.table.Running.{Running}
+use Rattle.series_model.specs.declared.sample.Sample.{Sample}
 use Rattle.tier_store.specs.Ends.{Done, end_of_disk, IsFailed}
 use Rattle.tier_store.proofs.Acting.{rose_after}
 use Rattle.three_stores.specs.Change.{Acts as StoreActs, EndsFrom, Has, HoldsChange, IsEither, OnlyReads}
 use Rattle.three_stores.specs.Limbo.{IsListedName, IsNeeded, IsSwept as IsSweptOf, LeavesKept, LimboStands, staying}
+use Rattle.three_stores.specs.Moving.{LeavesLater, LeavesNames}
 use Rattle.three_stores.specs.Pinned.{SeenAll, beside, KeepsShown}
 use Rattle.three_stores.specs.Revival.{KeepsWhole}
 use Rattle.three_stores.specs.Seen.{Seen, IsSettled, granularities}
@@ -26,17 +31,18 @@ use Rattle.three_stores.specs.declared.removing.Swept.{Swept}
 use Rattle.act_model.specs.Changes.{no_doubt}
 use Rattle.act_model.specs.Crash.{settled_there}
 use Rattle.act_model.specs.Limbo.{FileState}
-use Rattle.act_model.specs.Machine.{Machine, MoveState}
+use Rattle.act_model.specs.Machine.{Machine}
 use Rattle.act_model.specs.OpenPiece.{name_of}
 use Rattle.act_model.specs.Outcome.{runs, faults_first, faults_between, wants_memory, wants_memory_settled}
 use Rattle.act_model.specs.Reply.{Reply}
-use Rattle.act_model.specs.Rows.{RowState}
+use Rattle.act_model.specs.Rows.{RowState, holds}
 use Rattle.act_model.specs.Sweep.{IsPinned, IsCopiedInto, IsSwept, Sweeps, SweepStep}
 use Rattle.act_model.specs.declared.acts.Answer.TheVariants as answer
 use Rattle.act_model.proofs.MoveActs.{sweep_sound}
 use Rattle.archive_core.specs.Ends.{Steps, SettlesTo, StandsStill, HoldsMachine, LeavesByAct, LeavesWithin, disk_reply}
 use Rattle.archive_core.specs.LimboTies.{AreRetired, AreUnlisted, IsLimboOf, NamesDiffer}
 use Rattle.archive_core.specs.Memory.{AreRowsOf}
+use Rattle.archive_core.specs.MoveTies.{AreMovesOf}
 use Rattle.archive_core.specs.Parts.{Parts}
 use Rattle.archive_core.specs.Pins.{ArePinsOf}
 use Rattle.archive_core.specs.Stands.{Stands, Rests}
@@ -46,10 +52,11 @@ use Rattle.archive_core.proofs.Changing.{rests_again, stands_so}
 use Rattle.archive_core.proofs.Growth.{rows_go_on, same_grow, stays_listed}
 use Rattle.archive_core.proofs.LimboSwept.{just, left_is, stay_differ, stays, swept_count, swept_ties}
 use Rattle.archive_core.proofs.LimboTying.{KeepsFiles, ListsSame}
+use Rattle.archive_core.proofs.MovesKept.{moves_fresh}
 use Rattle.archive_core.proofs.Opens.{undoubted}
 use Rattle.archive_core.proofs.PinTies.{names_stay}
 use Rattle.archive_core.proofs.PinsSwept.{pinned_stay}
-use Rattle.archive_core.proofs.Settled.{rests_has}
+use Rattle.archive_core.proofs.Settled.{rests_has, settings_kept}
 
 -- WHAT THE STORES' SWEEP COMES TO
 
@@ -57,8 +64,9 @@ use Rattle.archive_core.proofs.Settled.{rests_has}
 pub record StoresSwept (tells : Bool) (copied : List Name) (q new : Parts) (result : Result Swept DiskErr) : Type 0 where
   pub acts : StoreActs tells staying q.at new.at (end_of_disk result)
   pub swept : IfOk result (λ (s : Swept). IsSweptOf new.at q.pinned copied q.limbo new.limbo s.files)
-  pub failed : OnErr result ((new.limbo ≡ q.limbo) × KeepsShown tells (beside q.at q.limbo) (beside new.at q.limbo))
+  pub failed : OnErr result ((new.limbo ≡ q.limbo) × KeepsShown tells (beside q.at q.limbo) (beside new.at q.limbo) × LeavesLater tells (beside q.at q.limbo) (beside new.at q.limbo))
   pub leaves : LeavesKept tells q.pinned copied (beside q.at q.limbo) (beside new.at new.limbo)
+  pub left : LeavesNames [] tells (beside q.at q.limbo) (beside new.at new.limbo)
   pub whole : KeepsWhole tells (beside q.at q.limbo) (beside new.at new.limbo)
   pub stands : LimboStands new.at new.limbo
   pub pins : new.pinned ≡ q.pinned
@@ -68,14 +76,14 @@ pub record StoresSwept (tells : Bool) (copied : List Name) (q new : Parts) (resu
 abbrev pub AreCopied : List Name → Machine → Type 0
 AreCopied copied m = (f : FileState) (row : RowState) → Contains m.limbo f → slice_get m.rows f.row ≡ Some row → Contains copied (name_of row f) ↔ IsCopiedInto m f
 
--- without moves there are none
-pub none_copied : (copied : List Name) (m : Machine) → copied ≡ [] → m.moves ≡ empty → AreCopied copied m
-none_copied copied m none no_moves = λ f row there here. (
+-- of moves that have copied nothing there are none
+pub none_copied : (copied : List Name) (m : Machine) (tells : Bool) (all : SeenAll) (before : Stores) (slots : List (Option (Running Moving))) → copied ≡ [] → AreMovesOf tells all m.told m.rows m.limbo before m.moves slots → AreCopied copied m
+none_copied copied m tells all before slots none are = λ f row there here. (
   λ names. absurd (let within = subst (λ (l : List Name). Contains l (name_of row f)) none names in omega (arith, within.1)),
   λ is. absurd (
-      let nowhere : get m.moves is.number ≡ None = ap (λ (moves : FinMap nat_cmp MoveState). get moves is.number) no_moves ∙ get-empty nat_cmp is.number in
-      let both : ◌≡◌ {A = Option MoveState} None (Some is.move) = sym nowhere ∙ is.here in
-      cc (both)
+      let fresh = (are.each is.number is.move is.here).is.nothing.1 in
+      let some : ◌≡◌ {A = Bool} false true = ap (list_any (λ (s : Sample). holds f.part s.t)) (sym fresh) ∙ is.some in
+      cc (some)
       ),
 )
 
@@ -100,9 +108,9 @@ module _ (tells : Bool) (copied : List Name) (q new : Parts) (result : Result Sw
   has_still = has_by result (s.acts.settled held has)
 
   -- where limbo and all that was shown stay, the archive stands for the same machine
-  stands_still : (new.limbo ≡ q.limbo) × KeepsShown tells (beside q.at q.limbo) (beside new.at q.limbo) → Stands tells new (record m { faults = new.at.faults })
+  stands_still : (new.limbo ≡ q.limbo) × KeepsShown tells (beside q.at q.limbo) (beside new.at q.limbo) × LeavesLater tells (beside q.at q.limbo) (beside new.at q.limbo) → Stands tells new (record m { faults = new.at.faults })
   stands_still stay =
-      let again = rests_again tells q m r new.at s.acts.costs.granularity (record { shown = stay.1; whole = subst (λ (l : List Retired). KeepsWhole tells (beside q.at q.limbo) (beside new.at l)) stay.0 s.whole }) has_still in
+      let again = rests_again tells q m r new.at s.acts.costs.granularity (record { shown = stay.1; whole = subst (λ (l : List Retired). KeepsWhole tells (beside q.at q.limbo) (beside new.at l)) stay.0 s.whole; leaves = stay.2 }) has_still in
       subst (λ (p : Parts). Stands tells p (record m { faults = new.at.faults })) (sym same) (stands_so tells (record q { at = new.at }) (record m { faults = new.at.faults }) new.limbo new.pinned stay.0 s.pins again)
 
   -- at each moment the disk has what is durable
@@ -232,14 +240,14 @@ module _ (tells : Bool) (copied : List Name) (q new : Parts) (said : Swept) (s :
     sound = sweep_sound m swept_machine (answer.Swept files) r.stands.sound (runs (answer.Swept files) refl (no_doubt r.settled) refl sweeps (let same_faults : m.faults ≡ q.at.faults = r.stands.faults in let more = s.acts.costs.faults in omega (arith, same_faults, more)));
     rule = record { granularity = r.stands.rule.granularity ∙ sym s.acts.costs.granularity; headers = r.stands.rule.headers };
     limbo = left.tie;
-    moves = r.stands.moves;
+    settings = settings_kept q.at new.at q.config m.rule s.acts.costs.granularity r.stands.settings;
     pins = subst (λ (pinned : FinMap nat_cmp PinOf). ArePinsOf tells new_all m.told m.rows m.pins pinned) (sym s.pins) pins_kept;
     faults = refl;
     doors = r.stands.doors;
     rows = subst (λ (c : CatalogueState). AreRowsOf c.rows q.kept q.tails m.rows) (sym (s.nothing was.settled).0) r.stands.rows;
     doubt = r.stands.doubt;
     ready = r.stands.ready;
-    store = record { before = before; told = r.stands.store.told; holds = r.stands.store.holds; whole = s.whole 0 before.stands r.stands.store.whole.0 (omega arith) r.stands.store.whole.1; is_open = inl now };
+    store = record { before = before; told = r.stands.store.told; holds = r.stands.store.holds; whole = s.whole 0 before.stands r.stands.store.whole.0 (omega arith) r.stands.store.whole.1; moves = moves_fresh tells old_all new_all m.told m.rows m.limbo (filter left.stays m.limbo) before m.moves q.slots s.acts.costs.granularity s.left r.stands.store.moves; is_open = inl now };
   })
 
 -- THE ACT

@@ -158,16 +158,16 @@ module _ (tells : Bool) (p : Parts) (m : Machine) (r : Rests tells p m) (i : ℕ
       set : List RowMemory
       set = slice_set p.kept i (cleared memory)
 
-      stands : Stands tells (record { at = new; limbo = p.limbo; pinned = p.pinned; tails = p.tails; kept = set; doubt = None; doors = p.doors }) (record (made [] change m) { doubt = None; faults = new.faults })
+      stands : Stands tells (record { at = new; limbo = p.limbo; pinned = p.pinned; tails = p.tails; kept = set; doubt = None; doors = p.doors; config = p.config; slots = p.slots }) (record (made [] change m) { doubt = None; faults = new.faults })
       stands =
           let was = doubting p.at refl (keeps_itself tells (beside p.at p.limbo)) (inl (rests_has tells p m r)) in
-          (made_stands tells (record p { doubt = Some (kind.State i (to_of switch)) }) (record m { doubt = Some change; faults = p.at.faults }) was new set acts.costs.granularity shown p.tails change refl end.0 (grew tells p m r.stands new shown end.0 (stand end.0 end.1) (grow end.0 end.1)) (r.stands.store.told ∙ ap (λ (b : Bool). tells && b) (sym (stand end.0 end.1))) (durable end.0 end.1) (clears new.catalogue.rows i (to_of switch) p.kept memory there has_it) refl end.3).stands
+          (made_stands tells (record p { doubt = Some (kind.State i (to_of switch)) }) (record m { doubt = Some change; faults = p.at.faults }) was new set acts.costs.granularity shown p.tails change refl end.0 (grew tells p m r.stands new acts.costs.granularity shown end.0 (stand end.0 end.1) (grow end.0 end.1)) (r.stands.store.told ∙ ap (λ (b : Bool). tells && b) (sym (stand end.0 end.1))) (durable end.0 end.1) (clears new.catalogue.rows i (to_of switch) p.kept memory there has_it) refl end.3).stands
 
-      machines : Stands tells (record { at = new; limbo = p.limbo; pinned = p.pinned; tails = p.tails; kept = set; doubt = None; doors = p.doors }) (record (made [] change m) { faults = new.faults })
-      machines = subst (λ (o : Option Change). Stands tells (record { at = new; limbo = p.limbo; pinned = p.pinned; tails = p.tails; kept = set; doubt = None; doors = p.doors }) (record (made [] change m) { doubt = o; faults = new.faults })) (sym r.settled) stands
+      machines : Stands tells (record { at = new; limbo = p.limbo; pinned = p.pinned; tails = p.tails; kept = set; doubt = None; doors = p.doors; config = p.config; slots = p.slots }) (record (made [] change m) { faults = new.faults })
+      machines = subst (λ (o : Option Change). Stands tells (record { at = new; limbo = p.limbo; pinned = p.pinned; tails = p.tails; kept = set; doubt = None; doors = p.doors; config = p.config; slots = p.slots }) (record (made [] change m) { doubt = o; faults = new.faults })) (sym r.settled) stands
 
       own_doubt : Stands tells (record p { at = new; kept = set }) (record (made [] change m) { faults = new.faults })
-      own_doubt = subst (λ (d : Option Doubt). Stands tells (record { at = new; limbo = p.limbo; pinned = p.pinned; tails = p.tails; kept = set; doubt = d; doors = p.doors }) (record (made [] change m) { faults = new.faults })) (sym (no_own p.doubt (subst (λ (o : Option Change). IsDoubtOf p.doubt o) r.settled r.stands.doubt))) machines
+      own_doubt = subst (λ (d : Option Doubt). Stands tells (record { at = new; limbo = p.limbo; pinned = p.pinned; tails = p.tails; kept = set; doubt = d; doors = p.doors; config = p.config; slots = p.slots }) (record (made [] change m) { faults = new.faults })) (sym (no_own p.doubt (subst (λ (o : Option Change). IsDoubtOf p.doubt o) r.settled r.stands.doubt))) machines
 
   pub switch_failed : (new : Seen) → Keeps tells (beside p.at p.limbo) (beside new p.limbo) → Acts tells (switching switch i) p.at new Failed → ChangesTo {A = Unit {0}} tells change p m (record p { at = new; doubt = Some (kind.State i (to_of switch)) }) (Err Fault)
   switch_failed new shown acts = record {

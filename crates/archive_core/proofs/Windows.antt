@@ -57,7 +57,7 @@ pub ends_inside : (n : ℕ) (p : Part) (xs : List Sample) → n ≤ p.end → Al
 ends_inside n p [] low inside = low
 ends_inside n p (x ∷ xs) low inside = let here : Inside p x = All-head (Inside p) x xs inside in let under = here.1 in ends_inside (x.t + 1) p xs (omega (arith, under)) (All-tail (Inside p) x xs inside)
 
-before_whole : (n m : ℕ) (xs : List Sample) → RisesFrom m xs → end_from m xs ≤ n → before n xs ≡ xs
+pub before_whole : (n m : ℕ) (xs : List Sample) → RisesFrom m xs → end_from m xs ≤ n → before n xs ≡ xs
 before_whole n m [] rises low = refl
 before_whole n m (x ∷ xs) rises low =
     let more : before n xs ≡ xs = before_whole n (x.t + 1) xs rises.1 low in
@@ -65,7 +65,7 @@ before_whole n m (x ∷ xs) rises low =
     let test : nat_lt x.t n ≡ true = grind (arith, nat_tests) in
     ap (λ (b : Bool). cond b (x ∷ before n xs) (before n xs)) test ∙ ap (λ (ys : List Sample). x ∷ ys) more
 
-before-append : (n : ℕ) (xs ys : List Sample) → before n (xs ++ ys) ≡ before n xs ++ before n ys
+pub before-append : (n : ℕ) (xs ys : List Sample) → before n (xs ++ ys) ≡ before n xs ++ before n ys
 before-append n [] ys = refl
 before-append n (x ∷ xs) ys = by_test (nat_lt x.t n) (before-append n xs ys)
   where

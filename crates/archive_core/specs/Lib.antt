@@ -12,3 +12,5 @@ pub mod Describing
 pub mod Sweeping
 pub mod LimboTies
 pub mod MoveChoice
+pub mod MoveTies
+pub mod Moving

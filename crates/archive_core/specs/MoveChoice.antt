@@ -1,6 +1,6 @@
 -- Which move is to be made, as the machine has it by samples, from what the stores list.
 use Rattle.std.specs.FinMap.{get}
-use Rattle.std.specs.Prelude.{◌≡◌, ℕ, List, [], ◌∷◌, map, take, true, Option, Some, None, IsSome, IsTrue, slice_index}
+use Rattle.std.specs.Prelude.{◌≡◌, ℕ, List, map, take, true, Option, Some, None, IsSome, IsTrue, slice_index}
 use Rattle.move_choice.specs.Series.{of_series}
 use Rattle.move_choice.specs.declared.parts.MoveRule.{MoveRule}
 use Rattle.move_choice.specs.declared.series.ToMove.{ToMove}
@@ -8,7 +8,6 @@ use Rattle.move_choice.specs.declared.series.ToMove.TheVariants as chosen
 use Rattle.partition_names.specs.declared.part.Part.{Part}
 use Rattle.pv_catalog.specs.Catalogue.{CatalogueState}
 use Rattle.store_manifest.specs.Manifest.{ManifestState}
-use Rattle.store_manifest.specs.declared.entry.Entry.{Entry}
 use Rattle.tier_store.specs.Held.{Filed, entry_of}
 use Rattle.tier_store.specs.Plan.{of_row}
 use Rattle.three_stores.specs.Beginning.{parts_at}
@@ -21,6 +20,7 @@ use Rattle.act_model.specs.Outcome.{Same}
 use Rattle.act_model.specs.Rows.{Store}
 use Rattle.act_model.specs.Rule.{Rule, index_of}
 use Rattle.act_model.specs.declared.acts.Answer.TheVariants as answer
+use Rattle.archive_core.specs.MoveTies.{ends_from}
 use Rattle.archive_core.specs.Stands.{HoldsDurable}
 
 -- WHAT THE STORES LIST
@@ -49,11 +49,6 @@ move_rule rule store now = record { hold = slice_index rule.hold (index_of store
 -- how many partitions of a row are to move out of a store
 abbrev pub parts_to_move : Machine → Stores → Store → ℕ → ℕ → ℕ
 parts_to_move m s store now i = parts_at (move_rule m.rule store now) (index_of store) s i
-
--- where the last of these partitions ends, or n where there is none
-abbrev pub ends_from : ℕ → List Entry → ℕ
-ends_from n [] = n
-ends_from n (e ∷ es) = ends_from e.part.end es
 
 -- where the n oldest partitions of a row in a store end
 abbrev pub move_end : Stores → Store → ℕ → ℕ → ℕ

@@ -1,5 +1,6 @@
 -- The archive that is opened on stores: all that they list is accepted, and there is nothing else.
 use Rattle.std.specs.Prelude.{◌≡◌, ℕ, ◌+◌, ◌^◌, ◌-◌, ◌==◌, List, [], ◌∷◌, max, min, filter, Bool, true, Option, Some, None, slice_get}
+use Rattle.etl_rules.specs.Config.{ConfigState}
 use Rattle.pv_catalog.specs.declared.row.Row.{Row}
 use Rattle.store_manifest.specs.Manifest.{ManifestState}
 use Rattle.store_manifest.specs.declared.entry.Entry.{Entry}
@@ -46,8 +47,8 @@ pub record IsOpened (rule : Rule) (m : Machine) : Type 0 where
   pub of_rule : m.rule ≡ rule
   pub fresh : m.told ≡ true → m ≡ opened rule true m.doors m.faults (kept m)
 
--- whatever the stores had, the archive stands for a machine that is opened on it
-abbrev pub OpensAs : Bool → Seen → ℕ → Parts → Type 0
-OpensAs tells at doors p =
-    (held : Stores) (rule : Rule) → Has tells at held → rule.granularity ≡ granularities at.manifests → TellsHeaders rule
+-- whatever the stores had, the archive stands for a machine that is opened on it, with the settings' moves
+abbrev pub OpensAs : Bool → Seen → ConfigState → ℕ → Parts → Type 0
+OpensAs tells at config doors p =
+    (held : Stores) (rule : Rule) → Has tells at held → rule.granularity ≡ granularities at.manifests → TellsHeaders rule → rule.hold ≡ config.hold → rule.gather ≡ config.gather
     → (m : Machine) × IsOpened rule m × HoldsDurable held m × Rests tells p m × (m.doors ≡ doors)

@@ -1,11 +1,14 @@
 -- What contracts see of an archive: its stores with their disk, their limbo and their pins, its intake, what it keeps of each row, the change that stands
--- in doubt, and how many doors are open.
+-- in doubt, how many doors are open, its settings, and the moves that run.
 use Rattle.std.specs.FinMap.{FinMap}
 use Rattle.std.specs.Ordering.{nat_cmp}
 use Rattle.std.specs.Prelude.{ℕ, List, Option}
 use Rattle.disk_model.specs.declared.disk.Disk.{Ghosts}
 use Rattle.append_buffer.specs.Tails.{TailState}
+use Rattle.etl_mover.specs.Move.{MoveState}
+use Rattle.etl_rules.specs.Config.{ConfigState}
 use Rattle.pinned_pieces.specs.Pieces.{PinOf}
+use Rattle.running_moves.specs.declared.table.Running.{Running}
 use Rattle.three_stores.specs.Seen.{Seen, seen}
 use Rattle.three_stores.specs.declared.limbo.Retired.{Retired}
 use Rattle.archive_core.specs.declared.memory.RowMemory.{RowMemory}
@@ -20,7 +23,9 @@ pub record Parts : Type 1 where
   pub kept : List RowMemory
   pub doubt : Option Doubt
   pub doors : ℕ
+  pub config : ConfigState
+  pub slots : List (Option (Running MoveState))
 
 -- an archive, by the members of its disk's type
 abbrev pub parts : {D R : Type 0} → Ghosts D R → Archive D R → Parts
-parts {D} {R} disk archive = record { at = seen disk archive.store; limbo = archive.store.limbo.items; pinned = archive.store.pinned; tails = archive.intake; kept = archive.rows.items; doubt = archive.doubt; doors = archive.doors }
+parts {D} {R} disk archive = record { at = seen disk archive.store; limbo = archive.store.limbo.items; pinned = archive.store.pinned; tails = archive.intake; kept = archive.rows.items; doubt = archive.doubt; doors = archive.doors; config = archive.config; slots = archive.moves.slots.items }

@@ -1,15 +1,19 @@
 -- The machine that an archive stands for. Its memory has the machine's rows, tails and cells, and its stores have the machine's durable
 -- part, or are in doubt between that and what the doubted change makes of it.
-use Rattle.std.specs.FinMap.{empty}
 use Rattle.std.specs.List.{AllByRecursion}
-use Rattle.std.specs.Prelude.{◌≡◌, ◌≢◌, ◌⊎◌, ◌<◌, ℕ, List, [], length, Bool, true, false, ◌&&◌, Option, Some, None, Ok, slice_get}
+use Rattle.std.specs.Prelude.{◌≡◌, ◌≢◌, ◌⊎◌, ◌<◌, ◌≤◌, ℕ, List, [], length, Bool, true, false, ◌&&◌, Option, Some, None, Ok, slice_get}
 use Rattle.disk_model.specs.Files.{Name}
+use Rattle.etl_rules.specs.Config.{ConfigState}
+use Rattle.etl_mover.specs.Move.{MoveState}
 use Rattle.payload_info.specs.Info.{info_of}
 use Rattle.payload_info.specs.declared.info.PayloadInfo.{PayloadInfo}
 use Rattle.pv_catalog.specs.Rows.{KeepsRows}
 use Rattle.pv_catalog.specs.declared.row.Row.{Row}
+use Rattle.running_moves.specs.declared.table.Running.{Running}
 use Rattle.series_model.specs.declared.batch.RowSamples.{RowSamples}
 use Rattle.tier_store.specs.Held.{Filed, IsListedTo, listing_of, samples_of}
+use Rattle.three_stores.specs.Beginning.{AllNested}
+use Rattle.three_stores.specs.Moving.{GoesBeside}
 use Rattle.three_stores.specs.Stores.{Stores, tier}
 use Rattle.three_stores.specs.Seen.{Seen, granularities}
 use Rattle.three_stores.specs.Change.{Has, Doubts}
@@ -27,6 +31,7 @@ use Rattle.archive_core.specs.declared.memory.Doubt.{Doubt}
 use Rattle.archive_core.specs.declared.memory.Doubt.TheVariants as doubt
 use Rattle.archive_core.specs.LimboTies.{IsLimboOf}
 use Rattle.archive_core.specs.Memory.{AreRowsOf, fresh_memory}
+use Rattle.archive_core.specs.MoveTies.{AreMovesOf}
 use Rattle.archive_core.specs.Parts.{Parts}
 use Rattle.archive_core.specs.Pins.{ArePinsOf}
 
@@ -83,10 +88,11 @@ IsReady kept rows (Some (Unlists i store to)) = ⊥
 
 -- THE ARCHIVE
 
--- rows stand for the same variables, and each file that a store lists is listed still
+-- rows stand for the same variables, each file that a store lists is listed still, and what moves stand beside goes on as they want it
 pub record StoresGrow (before after : Stores) : Type 0 where
   pub rows : KeepsRows before.rows after.rows
   pub lists : (place : ℕ) (name : Name) → place < 3 → IsListedTo (listing_of (tier place before)) name 0 → IsListedTo (listing_of (tier place after)) name 0
+  pub beside : (place row : ℕ) → 1 ≤ place → place < 3 → GoesBeside place row before after
 
 -- A change of the stores stands in doubt, and it is the one that the machine doubts: once it is made they have what is durable of the
 -- machine with the change made.
@@ -100,12 +106,13 @@ pub record InDoubt (tells : Bool) (at : Seen) (before : Stores) (m : Machine) : 
   pub holds : HoldsDurable after (made [] change m)
 
 -- The stores have what is durable of the machine, or are in doubt whether they have it with the doubted change. The files in limbo of store 1
--- are whole beside them, so that a flush may go on in one.
-pub record IsBetween (tells : Bool) (at : Seen) (limbo : List Retired) (m : Machine) : Type 0 where
+-- are whole beside them, so that a flush may go on in one, and the moves run beside them that run in the machine.
+pub record IsBetween (tells : Bool) (at : Seen) (limbo : List Retired) (slots : List (Option (Running MoveState))) (m : Machine) : Type 0 where
   pub before : Stores
   pub told : m.told ≡ (tells && before.stands)
   pub holds : HoldsDurable before m
   pub whole : (files : List Filed) × AreWhole 0 tells at limbo before.stands files
+  pub moves : AreMovesOf tells (beside at limbo) m.told m.rows m.limbo before m.moves slots
   pub is_open : Has tells at before ⊎ InDoubt tells at before m
 
 -- the rule tells each header by its type and its year
@@ -117,19 +124,25 @@ pub record IsRuleOf (at : Seen) (rule : Rule) : Type 0 where
   pub granularity : rule.granularity ≡ granularities at.manifests
   pub headers : TellsHeaders rule
 
--- The archive stands for the machine. No act of it makes a move yet.
+-- the rule says of moves what the settings say, and each store's partitions lie in the next store's
+pub record HasSettings (at : Seen) (config : ConfigState) (rule : Rule) : Type 0 where
+  pub hold : rule.hold ≡ config.hold
+  pub gather : rule.gather ≡ config.gather
+  pub nested : AllNested (granularities at.manifests)
+
+-- The archive stands for the machine.
 pub record Stands (tells : Bool) (p : Parts) (m : Machine) : Type 0 where
   pub sound : IsSound m
   pub rule : IsRuleOf p.at m.rule
   pub limbo : IsLimboOf tells (beside p.at p.limbo) m.told m.rows m.limbo
-  pub moves : m.moves ≡ empty
+  pub settings : HasSettings p.at p.config m.rule
   pub pins : ArePinsOf tells (beside p.at p.limbo) m.told m.rows m.pins p.pinned
   pub faults : m.faults ≡ p.at.faults
   pub doors : m.doors ≡ p.doors
   pub rows : AreRowsOf p.at.catalogue.rows p.kept p.tails m.rows
   pub doubt : IsDoubtOf p.doubt m.doubt
   pub ready : IsReady p.kept m.rows m.doubt
-  pub store : IsBetween tells p.at p.limbo m
+  pub store : IsBetween tells p.at p.limbo p.slots m
 
 -- nothing stands in doubt, so the stores have what is durable of the machine
 pub record Rests (tells : Bool) (p : Parts) (m : Machine) : Type 0 where

@@ -2,10 +2,13 @@
 use crate::memory::{Doubt, RowMemory};
 use append_buffer::Intake;
 use disk_model::Disk;
+use etl_mover::Move;
+use etl_rules::Config;
+use running_moves::RunningMoves;
 use std::alloc::Global;
 use three_stores::TierStore;
 
-/// Three stores on a disk with the intake before them.
+/// Three stores on a disk with the intake before them, and the moves that run between them.
 #[derive(Drop)]
 pub struct Archive<D: Disk> {
     pub(crate) alloc: Global,
@@ -14,4 +17,6 @@ pub struct Archive<D: Disk> {
     pub(crate) rows: Vec<RowMemory>,
     pub(crate) doubt: Option<Doubt>,
     pub(crate) doors: u64,
+    pub(crate) config: Config,
+    pub(crate) moves: RunningMoves<Move>,
 }

@@ -6,17 +6,20 @@ ghost use Rattle.std.specs.Ordering.{nat_cmp};
 ghost use Rattle.append_buffer.specs.Tails.{TailState};
 ghost use Rattle.disk_model.specs.Files.{Files};
 ghost use Rattle.disk_model.specs.Past.{MayLeave};
+ghost use Rattle.etl_mover.specs.Move.{MoveState};
+ghost use Rattle.etl_rules.specs.Config.{ConfigState};
 ghost use Rattle.event_types.specs.declared.about.About.{About};
 ghost use Rattle.event_types.specs.declared.about.State.{State};
 ghost use Rattle.move_choice.specs.declared.series.ToMove.{ToMove};
 ghost use Rattle.pinned_pieces.specs.Pieces.{PinOf};
 ghost use Rattle.pv_catalog.specs.Catalogue.{CatalogueState};
 ghost use Rattle.series_model.specs.declared.batch.RowSamples.{RowSamples};
+ghost use Rattle.running_moves.specs.declared.table.Running.{Running};
 ghost use Rattle.series_model.specs.declared.sample.Sample.{Sample};
 ghost use Rattle.store_manifest.specs.Manifest.{ManifestState};
-ghost use Rattle.three_stores.specs.Beginning.{IsChoice};
 ghost use Rattle.tier_store.specs.Flush.{put_all};
 ghost use Rattle.tier_store.specs.Held.{Filed, samples_of};
+ghost use Rattle.three_stores.specs.Beginning.{IsChoice};
 ghost use Rattle.three_stores.specs.Change.{Has, IsKnown, Registers, Switches, Flushes};
 ghost use Rattle.three_stores.specs.Moving.{GoesBeside, ListsAlso};
 ghost use Rattle.three_stores.specs.Pinned.{beside};
@@ -46,8 +49,8 @@ use disk_model::Disk;
 /// Whatever a crash between acts leaves of an archive's disk holds what is durable of a machine that it stood for, or that with the
 /// change that stood in doubt.
 pub fn a_crash_leaves_what_is_durable<D: Disk>()
-    ensures { (disk : D) (catalogue : CatalogueState) (ms : List ManifestState) (limbo : List Retired) (pinned : FinMap nat_cmp PinOf) (tails : List TailState) (kept : List RowMemory) (doubt : Option Doubt) (doors : ℕ) (m : Machine) (image : Files)
-        → IsTrue D.tells → Stands D.tells (record { at = seen_on D.files D.opened D.past D.faults catalogue ms disk; limbo = limbo; pinned = pinned; tails = tails; kept = kept; doubt = doubt; doors = doors }) m → MayLeave (D.past disk) image → LeavesBetween (granularities ms) m image }
+    ensures { (disk : D) (catalogue : CatalogueState) (ms : List ManifestState) (limbo : List Retired) (pinned : FinMap nat_cmp PinOf) (tails : List TailState) (kept : List RowMemory) (doubt : Option Doubt) (doors : ℕ) (config : ConfigState) (slots : List (Option (Running MoveState))) (m : Machine) (image : Files)
+        → IsTrue D.tells → Stands D.tells (record { at = seen_on D.files D.opened D.past D.faults catalogue ms disk; limbo = limbo; pinned = pinned; tails = tails; kept = kept; doubt = doubt; doors = doors; config = config; slots = slots }) m → MayLeave (D.past disk) image → LeavesBetween (granularities ms) m image }
 {}
 
 /// What the stores make of a change is what the machine makes of it: where they held what is durable of a machine, they hold what is

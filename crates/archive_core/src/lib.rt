@@ -1,7 +1,7 @@
 //! An archive as one value: three stores on a disk, the intake of accepted samples that no store lists yet, and what sampled rows hold.
 //!
 //! [`Archive::of`] opens an archive on stores, in which all that is durable is accepted and nothing else. So far it has registrations,
-//! pauses and resumes of rows, offers, ticks, flushes, sweeps, names, details, doors, pins and their pieces. Each says which step of the
+//! pauses and resumes of rows, offers, ticks, flushes, sweeps, names, details, doors, pins and their pieces, and the beginning of moves. Each says which step of the
 //! machine of `act_model` it is: from each machine that the archive stood for (`Stands`) the act is a step, with the answer that is given,
 //! to one that the archive stands for then. An act that touches the disk also says what a crash at any moment of it leaves: what the
 //! machine says of a crash within that act (`LeavesByAct`).
@@ -18,6 +18,7 @@ mod describing;
 mod flushing;
 pub mod laws;
 mod memory;
+mod moving;
 mod offers;
 mod opening;
 mod pins;

@@ -3,7 +3,8 @@ ghost use Rattle.std.specs.FinMap as map;
 ghost use Rattle.std.specs.Prelude.{◌≡◌, ◌≤◌, ◌+◌, ◌==◌, ◌^◌, ◌-◌, [], ℕ, length, map, filter, min, IfOk, IfErr};
 ghost use Rattle.pv_catalog.specs.Rows.{AreRows};
 ghost use Rattle.three_stores.specs.Change.{Has};
-ghost use Rattle.three_stores.specs.Seen.{seen};
+ghost use Rattle.three_stores.specs.Beginning.{AllNested};
+ghost use Rattle.three_stores.specs.Seen.{seen, granularities};
 ghost use Rattle.three_stores.specs.Stores.{Stores};
 ghost use Rattle.archive_core.specs.Opening.{listed_end, end_at, memory_of, OpensAs};
 ghost use Rattle.archive_core.specs.Memory.{sampling_by};
@@ -15,6 +16,7 @@ use append_buffer::Intake;
 use disk_model::Disk;
 use event_types::Method;
 use pv_catalog::Row;
+use running_moves::RunningMoves;
 use sampler::Scan;
 use std::alloc::{AllocError, Global};
 use store_manifest::Entry;
@@ -76,17 +78,20 @@ fn open_rows<D: Disk>(alloc: Global, store: &TierStore<D>) -> Result<Vec<RowMemo
 }
 
 impl<D: Disk> Archive<D> {
-    /// The archive of stores that no change stands in doubt of and that have no pin and no file in limbo, with so many doors. All that is durable is accepted, and nothing else.
+    /// The archive of stores that no change stands in doubt of and that have no pin and no file in limbo, with so many doors. All that is
+    /// durable is accepted, and nothing else. Moves are due by the settings that the stores were opened with.
     ///
     /// `Err` comes for want of memory alone, and gives the stores back.
     pub fn of(alloc: Global, store: TierStore<D>, doors: u32) -> Result<Archive<D>, TierStore<D>>
+        requires nested { AllNested (granularities store.manifests.items) }
         requires settled { (held : Stores) × Has D.tells (seen D.Disk store) held }
         requires limbo { store.limbo.items ≡ [] }
         requires pins { store.pinned ≡ map.empty }
-        ensures opened { IfOk result (λ archive. OpensAs D.tells (seen D.Disk store) doors (parts D.Disk archive)) }
+        ensures opened { IfOk result (λ archive. OpensAs D.tells (seen D.Disk store) store.config doors (parts D.Disk archive)) }
         ensures store { IfOk result (λ archive. archive.store ≡ store) }
         ensures back { IfErr result (λ given. given ≡ store) }
     {
+        let config = store.config();
         match open_rows(alloc, &store) {
             Ok(rows) => Ok(Archive {
                 alloc,
@@ -95,6 +100,8 @@ impl<D: Disk> Archive<D> {
                 rows,
                 doubt: None,
                 doors: u64::from(doors),
+                config,
+                moves: RunningMoves::new(alloc),
             }),
             Err(_) => Err(store),
         }

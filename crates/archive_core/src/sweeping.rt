@@ -26,7 +26,7 @@ fn swept(done: Result<three_stores::Swept, DiskErr>) -> Swept
 }
 
 impl<D: Disk> Archive<D> {
-    // Sweeps the stores. No move has copied into any of their files, since there are no moves yet.
+    // Sweeps the stores. No move has copied into any of their files, since no act goes on with a move yet.
     fn sweep_stores(&mut self) -> Result<three_stores::Swept, DiskErr>
         requires stands { (m : Machine) × Stands D.tells (parts D.Disk self.old) m }
         ensures step { Steps D.tells SweepStep (parts D.Disk self.old) (sweep_reply result) (parts D.Disk self.new) }
@@ -36,8 +36,8 @@ impl<D: Disk> Archive<D> {
         self.store.sweep(&[])
     }
 
-    /// Removes the files that were retired and that nothing needs any more, and answers how many these are. As long as an archive has no
-    /// moves it retires nothing, so there are none. A change that stands in doubt is settled first. `DiskFault` comes only where the disk's
+    /// Removes the files that were retired and that nothing needs any more, and answers how many these are. As long as no act goes on
+    /// with a move none is retired, so there are none. A change that stands in doubt is settled first. `DiskFault` comes only where the disk's
     /// count of faults rose in the call, and `Memory` only from the disk; both come from the settling alone. A removal that fails is no
     /// failure of the act, and the answer doesn't tell of it: the file counts for nothing any more.
     pub fn sweep(&mut self) -> Swept

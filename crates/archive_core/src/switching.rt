@@ -4,6 +4,7 @@ ghost use Rattle.event_types.specs.declared.about.State.{State};
 ghost use Rattle.pv_catalog.specs.Catalogue.{HasState};
 ghost use Rattle.tier_store.specs.Ends.{end_of_switch};
 ghost use Rattle.three_stores.specs.Change.{Has, Acts};
+ghost use Rattle.three_stores.specs.Moving.{LeavesLater};
 ghost use Rattle.three_stores.specs.Pinned.{seen_all, KeepsShown};
 ghost use Rattle.three_stores.specs.Revival.{KeepsWhole};
 ghost use Rattle.three_stores.specs.Seen.{seen};
@@ -98,6 +99,7 @@ fn switch_in<D: Disk>(store: &mut TierStore<D>, row: u32, switch: Switch) -> Res
     ensures pins { store.new.pinned ≡ store.old.pinned }
     ensures shown { KeepsShown D.tells (seen_all D.Disk store.old) (seen_all D.Disk store.new) }
     ensures whole { KeepsWhole D.tells (seen_all D.Disk store.old) (seen_all D.Disk store.new) }
+    ensures leaves { LeavesLater D.tells (seen_all D.Disk store.old) (seen_all D.Disk store.new) }
 {
     match switch {
         Switch::Pause => store.pause(row),

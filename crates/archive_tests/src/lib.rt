@@ -10,6 +10,8 @@ mod flushing;
 #[cfg(test)]
 mod moves;
 #[cfg(test)]
+mod moving;
+#[cfg(test)]
 mod pinning;
 #[cfg(test)]
 mod pins;

@@ -193,7 +193,7 @@ fn the_least_series_without_a_running_move_begins(rt: HostRuntime) -> Result<(),
 
 // Three moves begin. The second is taken out, and the next gets its number; the first is taken out and put back.
 // A move out of store 1, told by a number alone.
-fn running(series: u32, moving: u64) -> Running<u64> {
+fn out_of_first(series: u32, moving: u64) -> Running<u64> {
     Running {
         series,
         store: 1,
@@ -205,9 +205,9 @@ fn running(series: u32, moving: u64) -> Running<u64> {
 fn a_move_has_the_least_free_number(rt: HostRuntime) -> Result<(), Fail> {
     let alloc = rt.alloc();
     let mut moves = RunningMoves::new(alloc);
-    assert_eq!(rt; moves.begin(running(5, 50))?, 0);
-    assert_eq!(rt; moves.begin(running(6, 60))?, 1);
-    assert_eq!(rt; moves.begin(running(7, 70))?, 2);
+    assert_eq!(rt; moves.begin(out_of_first(5, 50))?, 0);
+    assert_eq!(rt; moves.begin(out_of_first(6, 60))?, 1);
+    assert_eq!(rt; moves.begin(out_of_first(7, 70))?, 2);
     let Some(second) = moves.take(1) else {
         return Err("no move".into());
     };
@@ -219,13 +219,13 @@ fn a_move_has_the_least_free_number(rt: HostRuntime) -> Result<(), Fail> {
     assert_eq!(rt; by_series.len(), 2);
     assert_eq!(rt; by_series.get(&5).copied(), Some(0));
     assert_eq!(rt; by_series.get(&7).copied(), Some(2));
-    assert_eq!(rt; moves.begin(running(8, 80))?, 1);
+    assert_eq!(rt; moves.begin(out_of_first(8, 80))?, 1);
     let Some(first) = moves.take(0) else {
         return Err("no move".into());
     };
     assert_eq!(rt; (first.series, first.moving), (5, 50));
     moves.put_back(0, first);
-    assert_eq!(rt; moves.begin(running(9, 90))?, 3);
+    assert_eq!(rt; moves.begin(out_of_first(9, 90))?, 3);
     let by_series = moves.by_series()?;
     assert_eq!(rt; by_series.len(), 4);
     assert_eq!(rt; by_series.get(&5).copied(), Some(0));

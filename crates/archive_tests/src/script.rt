@@ -31,6 +31,9 @@ pub(crate) enum Ask<'a> {
     Tick(u32, u64),
     /// Whole tails of so many bytes, at least 1.
     Flush(u64),
+    /// Of a move out of store 1, at a moment; or out of store 2.
+    BeginMove(u64),
+    BeginLaterMove(u64),
     Sweep,
     DoorDone,
 }
@@ -55,6 +58,9 @@ pub(crate) enum Told {
     NotDue(u64),
     TickKept(u64),
     Flushed { samples: u64, left: u64 },
+    Begun { m: u32, row: u32, parts: u64 },
+    Busy(u32),
+    NoMove { doors: u64 },
     Swept(u64),
     Doors(u64),
     DiskFault,
@@ -122,6 +128,16 @@ fn told_of_flush(answer: act_model::Flushed) -> Told {
     }
 }
 
+fn told_of_begin(answer: act_model::MoveBegun) -> Told {
+    match answer {
+        act_model::MoveBegun::DiskFault => Told::DiskFault,
+        act_model::MoveBegun::Begun { m, row, parts } => Told::Begun { m, row, parts },
+        act_model::MoveBegun::Busy { m } => Told::Busy(m),
+        act_model::MoveBegun::Nothing { doors } => Told::NoMove { doors },
+        act_model::MoveBegun::Memory => Told::Memory,
+    }
+}
+
 fn told_of_sweep(answer: act_model::Swept) -> Told {
     match answer {
         act_model::Swept::DiskFault => Told::DiskFault,
@@ -177,6 +193,8 @@ pub(crate) fn asked(
         }
         Ask::Tick(row, now) => Ok(told_of_tick(archive.tick(row, now))),
         Ask::Flush(limit) => Ok(told_of_flush(archive.flush(limit.max(1)))),
+        Ask::BeginMove(now) => Ok(told_of_begin(archive.begin_move(1, now))),
+        Ask::BeginLaterMove(now) => Ok(told_of_begin(archive.begin_move(2, now))),
         Ask::Sweep => Ok(told_of_sweep(archive.sweep())),
         Ask::DoorDone => Ok(Told::Doors(archive.door_done().doors)),
     }

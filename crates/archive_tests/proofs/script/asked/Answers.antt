@@ -18,6 +18,12 @@ returns-in-Tick c = let next = c.tick.ensures.step c.requires.0 c.requires.1 in 
 pub returns-in-Flush : goal.returns-in-Flush
 returns-in-Flush c = let next = c.flush.ensures.step c.requires.0 c.requires.1 in (next.0, next.2)
 
+pub returns-in-BeginMove : goal.returns-in-BeginMove
+returns-in-BeginMove c = let next = c.begin_move.ensures.step c.requires.0 c.requires.1 in (next.0, next.2)
+
+pub returns-in-BeginLaterMove : goal.returns-in-BeginLaterMove
+returns-in-BeginLaterMove c = let next = c.begin_move-in-BeginLaterMove.ensures.step c.requires.0 c.requires.1 in (next.0, next.2)
+
 pub returns-in-Sweep : goal.returns-in-Sweep
 returns-in-Sweep c = let next = c.sweep.ensures.step c.requires.0 c.requires.1 in (next.0, next.2)
 

@@ -4,8 +4,10 @@ use Rattle.payload_info.specs.Info.{info_of}
 use Rattle.payload_info.specs.declared.info.PayloadInfo.{PayloadInfo}
 use Rattle.disk_model.specs.Disk.{DiskRecord}
 use Rattle.disk_model.specs.Record.{files_of, opened_of}
+use Rattle.etl_rules.specs.Config.{ConfigState}
 use Rattle.partition_names.specs.declared.granularity.Granularity.{Granularity}
 use Rattle.act_model.specs.Rule.{Rule, Header}
+use Rattle.three_stores.specs.Beginning.{AllNested}
 use Rattle.three_stores.specs.Seen.{granularities}
 use Rattle.three_reopen.specs.Reopen.{IsUnopened}
 use Rattle.archive_tests.proofs.script.opened.Goals as goal
@@ -16,14 +18,17 @@ head_of (Ok info) = Some (record { ty = info.ty; year = info.year })
 head_of (Err e) = None
 
 -- a rule with the granularities of the stores that tells headers as PB files have them
-abbrev rule_of : List Granularity → Rule
-rule_of gs = record { granularity = gs; hold = []; gather = []; header = λ line. head_of (info_of line) }
+abbrev rule_of : List Granularity → ConfigState → Rule
+rule_of gs config = record { granularity = gs; hold = config.hold; gather = config.gather; header = λ line. head_of (info_of line) }
+
+pub of-requires-clause-nested : goal.of-requires-clause-nested
+of-requires-clause-nested c = let ready = c.in-Ok.ensures.ready in subst AllNested (sym ready.granularity) ready.nested
 
 pub returns-in-Ok-of-clause-stands : goal.returns-in-Ok-of-clause-stands
 unfolding head_of
 returns-in-Ok-of-clause-stands c =
     let has = c.in-Ok.ensures.has in
-    let archive = c.in-Ok-of.ensures.opened has.0 (rule_of (granularities c.in-Ok.store.manifests.items)) has.1 refl (λ message info is. ap head_of is) in
+    let archive = c.in-Ok-of.ensures.opened has.0 (rule_of (granularities c.in-Ok.store.manifests.items) c.in-Ok.store.config) has.1 refl (λ message info is. ap head_of is) refl refl in
     (archive.0, archive.3.stands)
 
 pub returns-clause-failed : goal.returns-clause-failed

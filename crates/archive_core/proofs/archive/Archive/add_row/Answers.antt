@@ -60,7 +60,7 @@ returns-in-Ok-clause-changes g c m r =
     let p = parts g.D.Disk c.args.self.now in
     let old = c.args.self.now.rows.items in
     let new = seen g.D.Disk c.register.new.self in
-    let keeps = keeps_pins g.D.Disk.tells p new c.register.new.self.limbo.items c.register.new.self.pinned (ap (λ l. l.items) c.register.ensures.limbo) c.register.ensures.pins (record { shown = c.register.ensures.shown; whole = c.register.ensures.whole }) in
+    let keeps = keeps_pins g.D.Disk.tells p new c.register.new.self.limbo.items c.register.new.self.pinned (ap (λ l. l.items) c.register.ensures.limbo) c.register.ensures.pins (record { shown = c.register.ensures.shown; whole = c.register.ensures.whole; leaves = c.register.ensures.leaves }) in
     let rows = c.rows-count.ensures.value ∙ ap (λ x. x.rows) c.catalogue.ensures in
     let kept = c.in_ok-add_memory.ensures.ok ∙ ap (λ (rs : List Row). take (length rs) old ++ fresh_memory c.args.about.now ∷ []) rows in
     let acts = told g.D.Disk.tells c.args.name.now c.args.about.now _ _ c.register.result (Ok c.in-Ok.row) c.in-Ok.is c.register.ensures.acts in
@@ -73,7 +73,7 @@ returns-in-Ok-clause-number g c =
     let was = c.requires.rests in
     let p = parts g.D.Disk c.args.self.now in
     let new = seen g.D.Disk c.register.new.self in
-    let keeps = keeps_pins g.D.Disk.tells p new c.register.new.self.limbo.items c.register.new.self.pinned (ap (λ l. l.items) c.register.ensures.limbo) c.register.ensures.pins (record { shown = c.register.ensures.shown; whole = c.register.ensures.whole }) in
+    let keeps = keeps_pins g.D.Disk.tells p new c.register.new.self.limbo.items c.register.new.self.pinned (ap (λ l. l.items) c.register.ensures.limbo) c.register.ensures.pins (record { shown = c.register.ensures.shown; whole = c.register.ensures.whole; leaves = c.register.ensures.leaves }) in
     (row_done g.D.Disk.tells p was.0 was.1 c.args.name.now c.args.about.now c.requires.free new keeps.shown c.in-Ok.row
     (told g.D.Disk.tells c.args.name.now c.args.about.now _ _ c.register.result (Ok c.in-Ok.row) c.in-Ok.is c.register.ensures.acts)).1
 
@@ -82,7 +82,7 @@ returns-in-Err-Disk-Fault-clause-changes g c m r =
     let p = parts g.D.Disk c.args.self.now in
     let old = c.args.self.now.rows.items in
     let new = seen g.D.Disk c.register.new.self in
-    let keeps = keeps_pins g.D.Disk.tells p new c.register.new.self.limbo.items c.register.new.self.pinned (ap (λ l. l.items) c.register.ensures.limbo) c.register.ensures.pins (record { shown = c.register.ensures.shown; whole = c.register.ensures.whole }) in
+    let keeps = keeps_pins g.D.Disk.tells p new c.register.new.self.limbo.items c.register.new.self.pinned (ap (λ l. l.items) c.register.ensures.limbo) c.register.ensures.pins (record { shown = c.register.ensures.shown; whole = c.register.ensures.whole; leaves = c.register.ensures.leaves }) in
     let rows = c.rows-count.ensures.value ∙ ap (λ x. x.rows) c.catalogue.ensures in
     let kept = c.in_ok-add_memory.ensures.ok ∙ ap (λ (rs : List Row). take (length rs) old ++ fresh_memory c.args.about.now ∷ []) rows in
     let acts = told g.D.Disk.tells c.args.name.now c.args.about.now _ _ c.register.result (Err (Disk Fault)) (c.in-Err-Disk-Fault.is ∙ ap (λ (x : RegisterErr). Err x) (c.in-Err-Disk-Fault.field-0-is ∙ ap (λ (d : DiskErr). Disk d) c.in-Err-Disk-Fault.field-0-0-is)) c.register.ensures.acts in
@@ -95,7 +95,7 @@ returns-in-Err-Disk-Memory-clause-changes g c m r =
     let p = parts g.D.Disk c.args.self.now in
     let old = c.args.self.now.rows.items in
     let new = seen g.D.Disk c.register.new.self in
-    let keeps = keeps_pins g.D.Disk.tells p new c.register.new.self.limbo.items c.register.new.self.pinned (ap (λ l. l.items) c.register.ensures.limbo) c.register.ensures.pins (record { shown = c.register.ensures.shown; whole = c.register.ensures.whole }) in
+    let keeps = keeps_pins g.D.Disk.tells p new c.register.new.self.limbo.items c.register.new.self.pinned (ap (λ l. l.items) c.register.ensures.limbo) c.register.ensures.pins (record { shown = c.register.ensures.shown; whole = c.register.ensures.whole; leaves = c.register.ensures.leaves }) in
     let rows = c.rows-count.ensures.value ∙ ap (λ x. x.rows) c.catalogue.ensures in
     let kept = c.in_ok-add_memory.ensures.ok ∙ ap (λ (rs : List Row). take (length rs) old ++ fresh_memory c.args.about.now ∷ []) rows in
     let acts = told g.D.Disk.tells c.args.name.now c.args.about.now _ _ c.register.result (Err (Disk Memory)) (c.in-Err-Disk-Memory.is ∙ ap (λ (x : RegisterErr). Err x) (c.in-Err-Disk-Memory.field-0-is ∙ ap (λ (d : DiskErr). Disk d) c.in-Err-Disk-Memory.field-0-0-is)) c.register.ensures.acts in

@@ -22,7 +22,7 @@ returns-clause-describes g c = λ m r.
     let new = seen g.D.Disk c.details.new.self in
     let limbo = ap (λ l. l.items) call.limbo in
     let settles = subst (λ (xs : List Sample). SettlesAndReads g.D.Disk.tells (SaysDescribed {R = g.row.D-Reader.Denot} g.D.Disk.tells c.args.name.now xs) p.at new (end_of_answer c.details.result)) (c.in_ok-tail.ensures ∙ c.tail.ensures) (call.settles c.args.row c.requires.named) in
-    let shown = subst (λ (l : List Retired). Keeps g.D.Disk.tells (beside p.at p.limbo) (beside new l)) limbo (record { shown = call.shown; whole = call.whole }) in
+    let shown = subst (λ (l : List Retired). Keeps g.D.Disk.tells (beside p.at p.limbo) (beside new l)) limbo (record { shown = call.shown; whole = call.whole; leaves = call.leaves }) in
     let ends = details_end g.row.D-Reader.Denot g.D.Disk.tells g.D.Reader.ReadAt.tells g.D.Reader.ReadAt.bytes g.D.Reader.ReadAt.faults p m r c.args.row c.args.name.now c.requires.named c.details.result new settles shown in
     rw (call.limbo, call.pins) ends
 
@@ -34,7 +34,7 @@ returns-clause-answers g c =
     let new = seen g.D.Disk c.details.new.self in
     let limbo = ap (λ l. l.items) call.limbo in
     let settles = subst (λ (xs : List Sample). SettlesAndReads g.D.Disk.tells (SaysDescribed {R = g.row.D-Reader.Denot} g.D.Disk.tells c.args.name.now xs) p.at new (end_of_answer c.details.result)) (c.in_ok-tail.ensures ∙ c.tail.ensures) (call.settles c.args.row c.requires.named) in
-    let shown = subst (λ (l : List Retired). Keeps g.D.Disk.tells (beside p.at p.limbo) (beside new l)) limbo (record { shown = call.shown; whole = call.whole }) in
+    let shown = subst (λ (l : List Retired). Keeps g.D.Disk.tells (beside p.at p.limbo) (beside new l)) limbo (record { shown = call.shown; whole = call.whole; leaves = call.leaves }) in
     details_answer g.row.D-Reader.Denot g.D.Disk.tells g.D.Reader.ReadAt.tells g.D.Reader.ReadAt.bytes g.D.Reader.ReadAt.faults p was.0 was.1 c.args.row c.args.name.now c.requires.named c.details.result new settles shown
 
 pub returns-clause-faults : goal.returns-clause-faults

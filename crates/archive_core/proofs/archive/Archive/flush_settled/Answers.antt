@@ -37,7 +37,7 @@ pub returns-in-Ok-clause-changes : goal.returns-in-Ok-clause-changes
 returns-in-Ok-clause-changes g c = λ m r.
     let p = parts g.D.Disk c.args.self.now in
     let new = seen g.D.Disk c.flush.new.self in
-    let keeps = keeps_pins g.D.Disk.tells p new c.flush.new.self.limbo.items c.flush.new.self.pinned (ap (λ l. l.items) c.flush.ensures.limbo) c.flush.ensures.pins (record { shown = c.flush.ensures.shown; whole = c.flush.ensures.whole }) in
+    let keeps = keeps_pins g.D.Disk.tells p new c.flush.new.self.limbo.items c.flush.new.self.pinned (ap (λ l. l.items) c.flush.ensures.limbo) c.flush.ensures.pins (record { shown = c.flush.ensures.shown; whole = c.flush.ensures.whole; leaves = c.flush.ensures.leaves }) in
     let acts = flush_as g.D.Disk.tells p.at p.limbo r.stands.store.whole.0 new c.in_ok-batch.batch (batch_of c.args.limit p.tails) c.flush.result (Ok c.in-Ok.samples) c.in_ok-batch.ensures c.in-Ok.is (c.flush.ensures.acts r.stands.store.whole.0) in
     let gives = subst (λ (b : List RowSamples). GivesUp b p.tails c.give_up.new.intake) c.in_ok-batch.ensures c.give_up.ensures in
     with_pins g.D.Disk.tells (Appends (batch_of c.args.limit p.tails)) p m (record p { at = new; tails = c.give_up.new.intake }) new c.flush.new.self.limbo.items c.flush.new.self.pinned (Ok c.in-Ok.samples) keeps refl refl
@@ -54,7 +54,7 @@ pub returns-in-Err-Fault-clause-changes : goal.returns-in-Err-Fault-clause-chang
 returns-in-Err-Fault-clause-changes g c = λ m r.
     let p = parts g.D.Disk c.args.self.now in
     let new = seen g.D.Disk c.flush.new.self in
-    let keeps = keeps_pins g.D.Disk.tells p new c.flush.new.self.limbo.items c.flush.new.self.pinned (ap (λ l. l.items) c.flush.ensures.limbo) c.flush.ensures.pins (record { shown = c.flush.ensures.shown; whole = c.flush.ensures.whole }) in
+    let keeps = keeps_pins g.D.Disk.tells p new c.flush.new.self.limbo.items c.flush.new.self.pinned (ap (λ l. l.items) c.flush.ensures.limbo) c.flush.ensures.pins (record { shown = c.flush.ensures.shown; whole = c.flush.ensures.whole; leaves = c.flush.ensures.leaves }) in
     let acts = flush_as g.D.Disk.tells p.at p.limbo r.stands.store.whole.0 new c.in_ok-batch.batch (batch_of c.args.limit p.tails) c.flush.result (Err Fault) c.in_ok-batch.ensures (c.in-Err-Fault.is ∙ ap (λ (e : DiskErr). Err e) c.in-Err-Fault.field-0-is) (c.flush.ensures.acts r.stands.store.whole.0) in
     subst (λ (b : List RowSamples). ChangesTo {A = ℕ} g.D.Disk.tells (Appends (batch_of c.args.limit p.tails)) p m (record p { at = new; limbo = c.flush.new.self.limbo.items; pinned = c.flush.new.self.pinned; doubt = Some (kind.Flush b) }) (Err Fault)) (sym c.in_ok-batch.ensures)
     (with_pins {A = ℕ} g.D.Disk.tells (Appends (batch_of c.args.limit p.tails)) p m (record p { at = new; doubt = Some (kind.Flush (batch_of c.args.limit p.tails)) }) new c.flush.new.self.limbo.items c.flush.new.self.pinned (Err Fault) keeps refl refl
@@ -64,7 +64,7 @@ pub returns-in-Err-Memory-clause-changes : goal.returns-in-Err-Memory-clause-cha
 returns-in-Err-Memory-clause-changes g c = λ m r.
     let p = parts g.D.Disk c.args.self.now in
     let new = seen g.D.Disk c.flush.new.self in
-    let keeps = keeps_pins g.D.Disk.tells p new c.flush.new.self.limbo.items c.flush.new.self.pinned (ap (λ l. l.items) c.flush.ensures.limbo) c.flush.ensures.pins (record { shown = c.flush.ensures.shown; whole = c.flush.ensures.whole }) in
+    let keeps = keeps_pins g.D.Disk.tells p new c.flush.new.self.limbo.items c.flush.new.self.pinned (ap (λ l. l.items) c.flush.ensures.limbo) c.flush.ensures.pins (record { shown = c.flush.ensures.shown; whole = c.flush.ensures.whole; leaves = c.flush.ensures.leaves }) in
     let acts = flush_as g.D.Disk.tells p.at p.limbo r.stands.store.whole.0 new c.in_ok-batch.batch (batch_of c.args.limit p.tails) c.flush.result (Err Memory) c.in_ok-batch.ensures (c.in-Err-Memory.is ∙ ap (λ (e : DiskErr). Err e) c.in-Err-Memory.field-0-is) (c.flush.ensures.acts r.stands.store.whole.0) in
     with_pins {A = ℕ} g.D.Disk.tells (Appends (batch_of c.args.limit p.tails)) p m (record p { at = new }) new c.flush.new.self.limbo.items c.flush.new.self.pinned (Err Memory) keeps refl refl
     (flush_spent g.D.Disk.tells p m r c.args.limit c.requires.limit (g.met.D.Disk.seen c.args.self.now.store.disk) new keeps.shown acts)

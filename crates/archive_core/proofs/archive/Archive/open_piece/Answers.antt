@@ -1,13 +1,15 @@
-use Rattle.std.proofs.Common.{refl, ap}
+use Rattle.std.proofs.Common.{List, refl, ap, subst}
 use Rattle.std.specs.FinMap.{get}
 use Rattle.pinned_pieces.specs.Pieces.{asked}
-use Rattle.three_stores.specs.Pinned.{seen_all}
+use Rattle.three_stores.specs.Moving.{KeepsBeside}
+use Rattle.three_stores.specs.Pinned.{beside, seen_all}
+use Rattle.three_stores.specs.declared.limbo.Retired.{Retired}
 use Rattle.three_stores.specs.Seen.{seen}
 use Rattle.act_model.specs.Step.{refuse_by, change_by}
 use Rattle.act_model.specs.declared.acts.Act.TheVariants.{OpenPiece}
 use Rattle.archive_core.specs.Parts.{parts}
 use Rattle.archive_core.proofs.Acting.{crash_settling}
-use Rattle.archive_core.proofs.Changing.{keeps_pins}
+use Rattle.archive_core.proofs.Keeping.{KeepsLimbo}
 use Rattle.archive_core.proofs.Opens.{is_opening, open_ends}
 use Rattle.archive_core.proofs.Settled.{begun}
 use Rattle.archive_core.proofs.archive.Archive.open_piece.Goals as goal
@@ -31,10 +33,11 @@ returns-clause-step g c = λ m s.
     let same = call.same in
     let p = parts g.D.Disk c.args.self.now in
     let new = seen g.D.Disk c.open_piece.new.self in
-    let keeps = keeps_pins g.D.Disk.tells p new c.open_piece.new.self.limbo.items c.open_piece.new.self.pinned (ap (λ l. l.items) same.3) same.2 (record { shown = call.shown; whole = call.whole s.limbo.stands }) in
+    let shown : KeepsLimbo g.D.Disk.tells (beside p.at p.limbo) (beside new p.limbo) = subst (λ (l : List Retired). KeepsLimbo g.D.Disk.tells (beside p.at p.limbo) (beside new l)) (ap (λ l. l.items) same.3) (record { shown = call.shown; whole = call.whole s.limbo.stands }) in
+    let stay : KeepsBeside g.D.Disk.tells (beside p.at p.limbo) (beside new p.limbo) = subst (λ (l : List Retired). KeepsBeside g.D.Disk.tells (beside p.at p.limbo) (beside new l)) (ap (λ l. l.items) same.3) call.beside in
     let ends = open_ends g.row.D-Reader.Denot g.D.Disk.tells g.D.Reader.ReadAt.tells g.D.Reader.ReadAt.bytes g.D.Reader.ReadAt.faults g.met.D.Disk.readers p c.args.who c.args.pin c.args.i c.open_piece.result new
     (λ e is. let told = call.refused e is in (told.0, ap (λ store. seen g.D.Disk store) told.1)) (λ own is none. let told = call.no_piece own is none in (told.0, ap (λ store. seen g.D.Disk store) told.1)) call.piece
-    call.kept same.0 (ap (λ l. l.items) same.1) keeps.shown call.reads.faults call.reads.cause m s in
+    call.kept same.0 (ap (λ l. l.items) same.1) shown stay call.reads.faults call.reads.cause m s in
     rw (c.opened.ensures, same.2, same.3) ends
 
 pub returns-clause-crash : goal.returns-clause-crash

@@ -22,7 +22,7 @@ returns-clause-pins g c = λ m r.
     let new = seen g.D.Disk c.pin.new.self in
     let limbo = ap (λ l. l.items) call.limbo in
     let settles = subst (λ (xs : List Sample). Settles g.D.Disk.tells (SaysPinned {R = g.row.D-Reader.Denot} c.args.who c.args.name.now c.args.query xs p.pinned c.pin.new.self.pinned) p.at new (end_of_answer c.pin.result)) (c.in_ok-tail.ensures ∙ c.tail.ensures) (call.settles c.args.row c.requires.named) in
-    let shown = subst (λ (l : List Retired). Keeps g.D.Disk.tells (beside p.at p.limbo) (beside new l)) limbo (record { shown = call.shown; whole = call.whole }) in
+    let shown = subst (λ (l : List Retired). Keeps g.D.Disk.tells (beside p.at p.limbo) (beside new l)) limbo (record { shown = call.shown; whole = call.whole; leaves = call.leaves }) in
     let ends = pin_ends g.row.D-Reader.Denot g.D.Disk.tells g.D.Reader.ReadAt.tells g.D.Reader.ReadAt.bytes g.D.Reader.ReadAt.faults p m r c.args.who c.args.row c.args.name.now c.args.query c.requires.named c.pin.result new c.pin.new.self.pinned settles call.unchanged shown
     (λ was. subst (λ (l : List Retired). PinsStand g.D.Disk.tells (beside new l) c.pin.new.self.pinned) limbo (call.stand was)) (g.met.D.Disk.seen c.pin.new.self.disk) in
     rw call.limbo ends
@@ -35,7 +35,7 @@ returns-clause-answers g c =
     let new = seen g.D.Disk c.pin.new.self in
     let limbo = ap (λ l. l.items) call.limbo in
     let settles = subst (λ (xs : List Sample). Settles g.D.Disk.tells (SaysPinned {R = g.row.D-Reader.Denot} c.args.who c.args.name.now c.args.query xs p.pinned c.pin.new.self.pinned) p.at new (end_of_answer c.pin.result)) (c.in_ok-tail.ensures ∙ c.tail.ensures) (call.settles c.args.row c.requires.named) in
-    let shown = subst (λ (l : List Retired). Keeps g.D.Disk.tells (beside p.at p.limbo) (beside new l)) limbo (record { shown = call.shown; whole = call.whole }) in
+    let shown = subst (λ (l : List Retired). Keeps g.D.Disk.tells (beside p.at p.limbo) (beside new l)) limbo (record { shown = call.shown; whole = call.whole; leaves = call.leaves }) in
     pin_answers g.row.D-Reader.Denot g.D.Disk.tells g.D.Reader.ReadAt.tells g.D.Reader.ReadAt.bytes g.D.Reader.ReadAt.faults p was.0 was.1 c.args.who c.args.row c.args.name.now c.args.query c.requires.named c.pin.result new c.pin.new.self.pinned settles call.unchanged shown
     (λ stand. subst (λ (l : List Retired). PinsStand g.D.Disk.tells (beside new l) c.pin.new.self.pinned) limbo (call.stand stand)) (g.met.D.Disk.seen c.pin.new.self.disk)
 

@@ -18,7 +18,7 @@ returns-in_err-review-clause-still g c =
     let doubted : IsSettled (seen g.D.Disk c.args.self.now.store) → ⊥ = λ settled. let fine = (c.review.ensures.nothing settled).0 in let failed = c.in_err-review.was in cc (fine, failed) in
     let old = parts g.D.Disk c.args.self.now in
     let new = seen g.D.Disk c.review.new.self in
-    let keeps = keeps_pins g.D.Disk.tells old new c.review.new.self.limbo.items c.review.new.self.pinned (ap (λ l. l.items) c.review.ensures.limbo) c.review.ensures.pins (record { shown = c.review.ensures.shown; whole = c.review.ensures.whole }) in
+    let keeps = keeps_pins g.D.Disk.tells old new c.review.new.self.limbo.items c.review.new.self.pinned (ap (λ l. l.items) c.review.ensures.limbo) c.review.ensures.pins (record { shown = c.review.ensures.shown; whole = c.review.ensures.whole; leaves = c.review.ensures.leaves }) in
     rw p.1 (λ m s. stands_so g.D.Disk.tells (record old { at = new }) (record m { faults = new.faults }) c.review.new.self.limbo.items c.review.new.self.pinned keeps.limbo_is keeps.pins_are (still_doubted g.D.Disk.tells old m new s doubted c.in_err-review.ensures.still c.review.ensures.granularity keeps.shown))
 
 pub trim_flushed-requires : goal.trim_flushed-requires
@@ -33,7 +33,7 @@ pub returns-clause-settled : goal.returns-clause-settled
 returns-clause-settled g c = λ m s.
     let old = parts g.D.Disk c.args.self.now in
     let new = seen g.D.Disk c.review.new.self in
-    let keeps = keeps_pins g.D.Disk.tells old new c.review.new.self.limbo.items c.review.new.self.pinned (ap (λ l. l.items) c.review.ensures.limbo) c.review.ensures.pins (record { shown = c.review.ensures.shown; whole = c.review.ensures.whole }) in
+    let keeps = keeps_pins g.D.Disk.tells old new c.review.new.self.limbo.items c.review.new.self.pinned (ap (λ l. l.items) c.review.ensures.limbo) c.review.ensures.pins (record { shown = c.review.ensures.shown; whole = c.review.ensures.whole; leaves = c.review.ensures.leaves }) in
     let memory = subst (λ (rows : List Row). IsCleared rows c.args.self.now.doubt c.args.self.now.rows.items c.clear_set.new.kept.items) (c.rows.ensures.value ∙ ap (λ (x : CatalogueState). x.rows) c.catalogue.ensures) c.clear_set.ensures in
     let ends = settled_ends g.D.Disk.tells old m s new c.clear_set.new.kept.items c.review.ensures.granularity keeps.shown c.trim_flushed.new.intake memory c.trim_flushed.ensures c.in_ok-review.ensures.settled in
     (ends.0, ends.1, rests_so g.D.Disk.tells (settled_parts old new c.clear_set.new.kept.items c.trim_flushed.new.intake) (record ends.0 { faults = new.faults }) c.review.new.self.limbo.items c.review.new.self.pinned keeps.limbo_is keeps.pins_are ends.2)

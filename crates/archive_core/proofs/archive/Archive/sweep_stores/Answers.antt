@@ -1,6 +1,9 @@
-use Rattle.std.proofs.Common.{List, Err, Result, refl, sym, ◌∙◌, ap, subst}
+use Rattle.std.proofs.Common.{◌≤◌, List, Err, Result, refl, sym, ◌∙◌, ap, subst}
+use Rattle.std.proofs.lemmas.List.Elements.{All-nil}
 use Rattle.std.proofs.lemmas.Result.{err_from_is_err_and}
 use Rattle.disk_model.specs.declared.disk.DiskErr.{DiskErr}
+use Rattle.disk_model.specs.Files.{Name}
+use Rattle.three_stores.specs.Moving.{LeavesLater}
 use Rattle.three_stores.specs.Pinned.{beside, Shows}
 use Rattle.three_stores.specs.Seen.{seen}
 use Rattle.three_stores.specs.declared.limbo.Retired.{Retired}
@@ -42,14 +45,14 @@ returns-clause-step g c =
     let q = parts g.D.Disk c.settle.new.self in
     let call = c.sweep.ensures in
     let new = record q { at = seen g.D.Disk c.sweep.new.self; limbo = c.sweep.new.self.limbo.items; pinned = c.sweep.new.self.pinned } in
-    sweep_ends g.D.Disk.tells (parts g.D.Disk c.args.self.now) q c.in_ok-settle.ensures.settled c.settle.ensures.reads.faults new _ refl (λ m r. none_copied _ m refl r.stands.moves) c.sweep.result
-    (record { acts = call.acts; swept = call.swept; failed = on_err c.sweep.result _ _ (λ stay. (ap (λ l. l.items) stay.0, λ name bytes shown. subst (λ (l : List Retired). Shows g.D.Disk.tells (beside new.at l) name bytes) (ap (λ l. l.items) stay.0) (stay.1 name bytes shown))) call.failed; leaves = call.leaves; whole = call.whole; stands = call.stands; pins = call.pins; nothing = λ settled. (let same = call.nothing settled in (same.0, ap (λ l. l.items) same.1)) })
+    sweep_ends g.D.Disk.tells (parts g.D.Disk c.args.self.now) q c.in_ok-settle.ensures.settled c.settle.ensures.reads.faults new _ refl (λ m r. none_copied _ m g.D.Disk.tells _ r.stands.store.before _ refl r.stands.store.moves) c.sweep.result
+    (record { acts = call.acts; swept = call.swept; failed = on_err c.sweep.result _ _ (λ stay. (ap (λ l. l.items) stay.0, λ name bytes shown. subst (λ (l : List Retired). Shows g.D.Disk.tells (beside new.at l) name bytes) (ap (λ l. l.items) stay.0) (stay.1 name bytes shown), subst (λ (l : List Retired). LeavesLater g.D.Disk.tells (beside q.at q.limbo) (beside new.at l)) (ap (λ l. l.items) stay.0) stay.2)) call.failed; left = call.copied (All-nil (λ (n : Name). 2 ≤ n.0)); leaves = call.leaves; whole = call.whole; stands = call.stands; pins = call.pins; nothing = λ settled. (let same = call.nothing settled in (same.0, ap (λ l. l.items) same.1)) })
 
 pub returns-clause-crash : goal.returns-clause-crash
 returns-clause-crash g c =
     let q = parts g.D.Disk c.settle.new.self in
     let call = c.sweep.ensures in
     let new = record q { at = seen g.D.Disk c.sweep.new.self; limbo = c.sweep.new.self.limbo.items; pinned = c.sweep.new.self.pinned } in
-    crash_sweep g.D.Disk.tells (parts g.D.Disk c.args.self.now) q c.in_ok-settle.ensures.settled c.settle.ensures.reads.faults new _ refl (λ m r. none_copied _ m refl r.stands.moves) c.sweep.result
-    (record { acts = call.acts; swept = call.swept; failed = on_err c.sweep.result _ _ (λ stay. (ap (λ l. l.items) stay.0, λ name bytes shown. subst (λ (l : List Retired). Shows g.D.Disk.tells (beside new.at l) name bytes) (ap (λ l. l.items) stay.0) (stay.1 name bytes shown))) call.failed; leaves = call.leaves; whole = call.whole; stands = call.stands; pins = call.pins; nothing = λ settled. (let same = call.nothing settled in (same.0, ap (λ l. l.items) same.1)) })
+    crash_sweep g.D.Disk.tells (parts g.D.Disk c.args.self.now) q c.in_ok-settle.ensures.settled c.settle.ensures.reads.faults new _ refl (λ m r. none_copied _ m g.D.Disk.tells _ r.stands.store.before _ refl r.stands.store.moves) c.sweep.result
+    (record { acts = call.acts; swept = call.swept; failed = on_err c.sweep.result _ _ (λ stay. (ap (λ l. l.items) stay.0, λ name bytes shown. subst (λ (l : List Retired). Shows g.D.Disk.tells (beside new.at l) name bytes) (ap (λ l. l.items) stay.0) (stay.1 name bytes shown), subst (λ (l : List Retired). LeavesLater g.D.Disk.tells (beside q.at q.limbo) (beside new.at l)) (ap (λ l. l.items) stay.0) stay.2)) call.failed; left = call.copied (All-nil (λ (n : Name). 2 ≤ n.0)); leaves = call.leaves; whole = call.whole; stands = call.stands; pins = call.pins; nothing = λ settled. (let same = call.nothing settled in (same.0, ap (λ l. l.items) same.1)) })
     c.settle.ensures.reads.any_moment c.settle.ensures.granularity

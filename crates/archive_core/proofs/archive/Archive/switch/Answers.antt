@@ -44,7 +44,7 @@ pub returns-in-Ok : goal.returns-in-Ok
 returns-in-Ok g c = λ m r.
     let p = parts g.D.Disk c.args.self.now in
     let new = seen g.D.Disk c.switch_in.new.store in
-    let keeps = keeps_pins g.D.Disk.tells p new c.switch_in.new.store.limbo.items c.switch_in.new.store.pinned (ap (λ l. l.items) c.switch_in.ensures.limbo) c.switch_in.ensures.pins (record { shown = c.switch_in.ensures.shown; whole = c.switch_in.ensures.whole }) in
+    let keeps = keeps_pins g.D.Disk.tells p new c.switch_in.new.store.limbo.items c.switch_in.new.store.pinned (ap (λ l. l.items) c.switch_in.ensures.limbo) c.switch_in.ensures.pins (record { shown = c.switch_in.ensures.shown; whole = c.switch_in.ensures.whole; leaves = c.switch_in.ensures.leaves }) in
     let acts = subst (λ (x : Result (Unit {0}) StateErr). Acts g.D.Disk.tells (switching c.args.switch c.args.row) (seen g.D.Disk c.args.self.now.store) new (end_of_switch x)) c.in-Ok.is c.switch_in.ensures.acts in
     let low = memory_there c.args.self.now.store.catalogue.rows _ _ m.rows r.stands.rows c.args.row (slice_get_within c.args.self.now.store.catalogue.rows c.args.row c.requires.state.row c.requires.state.here) in
     let there = read_at c.args.self.now.rows.items c.args.row c.index_mut.result.now c.index_mut.ensures.value low in
@@ -56,7 +56,7 @@ pub returns-in-Err-Disk-Fault : goal.returns-in-Err-Disk-Fault
 returns-in-Err-Disk-Fault g c = λ m r.
     let p = parts g.D.Disk c.args.self.now in
     let new = seen g.D.Disk c.switch_in.new.store in
-    let keeps = keeps_pins g.D.Disk.tells p new c.switch_in.new.store.limbo.items c.switch_in.new.store.pinned (ap (λ l. l.items) c.switch_in.ensures.limbo) c.switch_in.ensures.pins (record { shown = c.switch_in.ensures.shown; whole = c.switch_in.ensures.whole }) in
+    let keeps = keeps_pins g.D.Disk.tells p new c.switch_in.new.store.limbo.items c.switch_in.new.store.pinned (ap (λ l. l.items) c.switch_in.ensures.limbo) c.switch_in.ensures.pins (record { shown = c.switch_in.ensures.shown; whole = c.switch_in.ensures.whole; leaves = c.switch_in.ensures.leaves }) in
     let acts = subst (λ (x : Result (Unit {0}) StateErr). Acts g.D.Disk.tells (switching c.args.switch c.args.row) (seen g.D.Disk c.args.self.now.store) new (end_of_switch x)) (c.in-Err-Disk-Fault.is ∙ ap (λ (e : StateErr). Err e) (c.in-Err-Disk-Fault.field-0-is ∙ ap (λ (e : DiskErr). Disk e) c.in-Err-Disk-Fault.field-0-0-is)) c.switch_in.ensures.acts in
     subst (λ (to : State). ChangesTo {A = Unit {0}} g.D.Disk.tells (SetsState c.args.row (to_of c.args.switch)) p m (record p { at = new; limbo = c.switch_in.new.store.limbo.items; pinned = c.switch_in.new.store.pinned; doubt = Some (kind.State c.args.row to) }) (Err Fault)) (sym c.to-to.ensures)
     (with_pins g.D.Disk.tells (SetsState c.args.row (to_of c.args.switch)) p m (record p { at = new; doubt = Some (kind.State c.args.row (to_of c.args.switch)) }) new c.switch_in.new.store.limbo.items c.switch_in.new.store.pinned (Err Fault) keeps refl refl
@@ -66,7 +66,7 @@ pub returns-in-Err-Disk-Memory : goal.returns-in-Err-Disk-Memory
 returns-in-Err-Disk-Memory g c = λ m r.
     let p = parts g.D.Disk c.args.self.now in
     let new = seen g.D.Disk c.switch_in.new.store in
-    let keeps = keeps_pins g.D.Disk.tells p new c.switch_in.new.store.limbo.items c.switch_in.new.store.pinned (ap (λ l. l.items) c.switch_in.ensures.limbo) c.switch_in.ensures.pins (record { shown = c.switch_in.ensures.shown; whole = c.switch_in.ensures.whole }) in
+    let keeps = keeps_pins g.D.Disk.tells p new c.switch_in.new.store.limbo.items c.switch_in.new.store.pinned (ap (λ l. l.items) c.switch_in.ensures.limbo) c.switch_in.ensures.pins (record { shown = c.switch_in.ensures.shown; whole = c.switch_in.ensures.whole; leaves = c.switch_in.ensures.leaves }) in
     let acts = subst (λ (x : Result (Unit {0}) StateErr). Acts g.D.Disk.tells (switching c.args.switch c.args.row) (seen g.D.Disk c.args.self.now.store) new (end_of_switch x)) (c.in-Err-Disk-Memory.is ∙ ap (λ (e : StateErr). Err e) (c.in-Err-Disk-Memory.field-0-is ∙ ap (λ (e : DiskErr). Disk e) c.in-Err-Disk-Memory.field-0-0-is)) c.switch_in.ensures.acts in
     with_pins g.D.Disk.tells (SetsState c.args.row (to_of c.args.switch)) p m (record p { at = new }) new c.switch_in.new.store.limbo.items c.switch_in.new.store.pinned (Err Memory) keeps refl refl
     (switch_spent g.D.Disk.tells p m r c.args.row c.args.switch c.requires.state new keeps.shown acts)

@@ -1,0 +1,95 @@
+//! Moves: one begins, of a row's oldest files in store 1 or 2. No act goes on with a move yet.
+ghost use Rattle.std.specs.Prelude.{◌≡◌, ◌⊎◌, ◌≤◌, ◌-◌, IfOk, IfErr, OnErr, slice_index};
+ghost use Rattle.disk_model.specs.Files.{Rose};
+ghost use Rattle.disk_model.specs.declared.disk.DiskErr.TheVariants.{Memory};
+ghost use Rattle.act_model.specs.Asks.{move_begun_reply};
+ghost use Rattle.act_model.specs.Machine.{Machine};
+ghost use Rattle.act_model.specs.MoveBegin.{Begins, MoveBeginStep};
+ghost use Rattle.act_model.specs.Step.{refuse_by, change_by, store_of};
+ghost use Rattle.act_model.specs.declared.acts.Act.TheVariants.{MoveBegin as MoveBeginAct};
+ghost use Rattle.archive_core.specs.Ends.{Steps, LeavesByAct};
+ghost use Rattle.archive_core.specs.Moving.{BeginsThere, begun_reply};
+ghost use Rattle.archive_core.specs.Parts.{parts};
+ghost use Rattle.archive_core.specs.Stands.{Stands, Rests};
+
+use crate::Archive;
+use act_model::MoveBegun;
+use disk_model::{Disk, DiskErr};
+use etl_rules::Config;
+use move_choice::MoveRule;
+use running_moves::Running;
+
+// When partitions of store 1 or 2 move on, at a moment.
+fn rule_at(config: &Config, store: u8, now: u64) -> MoveRule
+    requires first { 1 ≤ store }
+    requires last { store ≤ 2 }
+    ensures { result ≡ record { hold = slice_index config.now.hold (store - 1); gather = slice_index config.now.gather (store - 1); at = now } }
+{
+    MoveRule {
+        hold: config.hold(store),
+        gather: config.gather(store),
+        at: now,
+    }
+}
+
+impl<D: Disk> Archive<D> {
+    // Begins the move that is to be made, where nothing stands in doubt. It makes no call of the disk.
+    fn begin_chosen(&mut self, store: u8, now: u64) -> Result<MoveBegun, DiskErr>
+        requires first { 1 ≤ store }
+        requires last { store ≤ 2 }
+        requires rests { (m : Machine) × Rests D.tells (parts D.Disk self.old) m }
+        ensures begins { IfOk result (λ begun. (m : Machine) → Rests D.tells (parts D.Disk self.old) m → BeginsThere D.tells (store_of store) now m (move_begun_reply begun) (parts D.Disk self.new)) }
+        ensures spent { OnErr result ((m : Machine) → Rests D.tells (parts D.Disk self.old) m → Stands D.tells (parts D.Disk self.new) m) }
+        ensures cause { IfErr result (λ e. (e ≡ Memory) ⊎ Rose (D.faults self.old.store.disk) (D.faults self.new.store.disk)) }
+        ensures disk { self.new.store.disk ≡ self.old.store.disk }
+    {
+        let running = self.moves.by_series()?;
+        let rule = rule_at(&self.config, store, now);
+        let begun = self
+            .store
+            .begin_move(usize::from(store) - 1, &rule, &running)?;
+        match begun {
+            three_stores::MoveBegun::Begun { row, parts, moving } => {
+                let m = self.moves.begin(Running {
+                    series: row,
+                    store,
+                    moving,
+                })?;
+                Ok(MoveBegun::Begun { m, row, parts })
+            }
+            three_stores::MoveBegun::Running { number } => Ok(MoveBegun::Busy { m: number }),
+            three_stores::MoveBegun::Nothing => Ok(MoveBegun::Nothing { doors: self.doors }),
+        }
+    }
+
+    fn begin_due(&mut self, store: u8, now: u64) -> Result<MoveBegun, DiskErr>
+        requires first { 1 ≤ store }
+        requires last { store ≤ 2 }
+        requires stands { (m : Machine) × Stands D.tells (parts D.Disk self.old) m }
+        ensures step { Steps D.tells (MoveBeginStep (store_of store) now) (parts D.Disk self.old) (begun_reply result) (parts D.Disk self.new) }
+        ensures crash { LeavesByAct D.tells (refuse_by (MoveBeginAct store now)) (change_by (MoveBeginAct store now)) (parts D.Disk self.old) (parts D.Disk self.new) }
+    {
+        self.settle()?;
+        self.begin_chosen(store, now)
+    }
+
+    /// Begins the move that is to be made from store 1 or 2 to the next, at a moment in nanoseconds since 1970: of the least row that has
+    /// one to make and none running. It gets the least free number, and tells the row and how many of its oldest partitions move. Where
+    /// each row that has a move to make has one running, that of the least such row is told. Nothing is copied yet.
+    ///
+    /// A change that stands in doubt is settled first, for which the disk is read. `DiskFault` comes only where the disk's count of faults
+    /// rose in the call.
+    pub fn begin_move(&mut self, store: u8, now: u64) -> MoveBegun
+        requires first { 1 ≤ store }
+        requires last { store ≤ 2 }
+        requires stands { (m : Machine) × Stands D.tells (parts D.Disk self.old) m }
+        ensures step { Steps D.tells (MoveBeginStep (store_of store) now) (parts D.Disk self.old) (move_begun_reply result) (parts D.Disk self.new) }
+        ensures crash { LeavesByAct D.tells (refuse_by (MoveBeginAct store now)) (change_by (MoveBeginAct store now)) (parts D.Disk self.old) (parts D.Disk self.new) }
+    {
+        match self.begin_due(store, now) {
+            Ok(begun) => begun,
+            Err(DiskErr::Fault) => MoveBegun::DiskFault,
+            Err(DiskErr::Memory) => MoveBegun::Memory,
+        }
+    }
+}
