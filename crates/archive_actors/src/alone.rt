@@ -16,10 +16,11 @@ pub struct Alone<'a, X: Applies> {
 }
 
 impl<'a, X: Applies> Alone<'a, X> {
-    /// Acts on this archive under this number. It takes no memory.
+    /// Acts on this archive, which it lends, under this number. It takes no memory.
     pub fn new(archive: &'a mut X, who: u64) -> Alone<'a, X>
         ensures number { result.who ≡ who }
         ensures archive { result.archive.now ≡ archive.old }
+        ensures same_reference { result.archive.ghost_name ≡ archive.entry.ghost_name }
     {
         Alone { archive, who }
     }
@@ -32,7 +33,8 @@ impl<'a, X: Applies> Actor for Alone<'a, X> {
 
     ghost stands = { λ a m. X.stands a.archive.now m };
 
-    ghost between = { λ a entries b. (b.who ≡ a.who) × ActsAlone X.stands a.who a.archive.now entries b.archive.now };
+    // It acts on the archive that it was made with, so its lender has that archive back.
+    ghost between = { λ a entries b. (b.archive.ghost_name ≡ a.archive.ghost_name) × (b.who ≡ a.who) × ActsAlone X.stands a.who a.archive.now entries b.archive.now };
 
     ghost is_spent = { λ a. ⊥ };
 
@@ -40,13 +42,13 @@ impl<'a, X: Applies> Actor for Alone<'a, X> {
         Ok(self.archive.apply(self.who, act))
     }
 
-    ghost legal = { λ a b entries m h s. alone_legal X.stands a.who a.archive.now b.archive.now entries m h.1 s };
+    ghost legal = { λ a b entries m h s. alone_legal X.stands a.who a.archive.now b.archive.now entries m h.2 s };
 
     ghost sound = { λ a m s. X.sound a.archive.now m s };
 
-    ghost nothing = { λ a. (refl, alone_nothing X.stands a.who a.archive.now) };
+    ghost nothing = { λ a. (refl, refl, alone_nothing X.stands a.who a.archive.now) };
 
-    ghost joined = { λ a b c xs ys p q. (q.0 ∙ p.0, alone_joined X.stands a.who b.who a.archive.now b.archive.now c.archive.now xs ys p.0 p.1 q.1) };
+    ghost joined = { λ a b c xs ys p q. (q.0 ∙ p.0, q.1 ∙ p.1, alone_joined X.stands a.who b.who a.archive.now b.archive.now c.archive.now xs ys p.1 p.2 q.2) };
 
-    ghost number_stays = { λ a b entries h. h.0 };
+    ghost number_stays = { λ a b entries h. h.1 };
 }

@@ -1,5 +1,6 @@
 //! One of many who act on an archive in turns.
 ghost use Rattle.std.specs.Prelude.{◌≡◌, ℕ, ◌++◌, List, []};
+ghost use Rattle.std.proofs.Common.{refl, ◌∙◌};
 ghost use Rattle.turn_rooms.specs.Histories.{end_of};
 ghost use Rattle.turn_rooms.specs.Passes.{opened, known};
 ghost use Rattle.act_model.specs.Reply.{reply_of};
@@ -24,7 +25,7 @@ pub struct Seated<'a, R: Wait, X: Applies> {
 }
 
 impl<'a, R: Wait, X: Applies> Seated<'a, R, X> {
-    /// Acts by turns of this pass. It takes no memory.
+    /// Acts by turns of this pass, which it lends. It takes no memory.
     pub fn new(
         rt: &'a R,
         rooms: &'a Rooms<Shared<X>>,
@@ -32,6 +33,7 @@ impl<'a, R: Wait, X: Applies> Seated<'a, R, X> {
     ) -> Seated<'a, R, X>
         ensures rooms { result.rooms.now ≡ rooms.now }
         ensures pass { result.pass.now ≡ pass.old }
+        ensures same_reference { result.pass.ghost_name ≡ pass.entry.ghost_name }
     {
         Seated { rt, rooms, pass }
     }
@@ -44,7 +46,8 @@ impl<'a, R: Wait, X: Applies> Actor for Seated<'a, R, X> {
 
     ghost stands = { λ a m. StandsFor (SharedStep X.stands X.Reader.tells X.Reader.bytes X.Reader.faults) (SharedStands X.stands) a.rooms.now a.pass.now m };
 
-    ghost between = { λ a entries b. HasLearnt (SharedStep X.stands X.Reader.tells X.Reader.bytes X.Reader.faults) (reply_of X.Reader.tells X.Reader.bytes X.Reader.faults) a.rooms.now a.pass.now entries b.rooms.now b.pass.now };
+    // It acts by the pass that it was made with, so its lender has that pass back.
+    ghost between = { λ a entries b. (b.pass.ghost_name ≡ a.pass.ghost_name) × HasLearnt (SharedStep X.stands X.Reader.tells X.Reader.bytes X.Reader.faults) (reply_of X.Reader.tells X.Reader.bytes X.Reader.faults) a.rooms.now a.pass.now entries b.rooms.now b.pass.now };
 
     ghost is_spent = { λ a. KnowsAll a.pass.now };
 
@@ -55,13 +58,13 @@ impl<'a, R: Wait, X: Applies> Actor for Seated<'a, R, X> {
         }
     }
 
-    ghost legal = { λ a b entries m h s. seat_legal (SharedStep X.stands X.Reader.tells X.Reader.bytes X.Reader.faults) (SharedStands X.stands) (reply_of X.Reader.tells X.Reader.bytes X.Reader.faults) (λ old new who n act answer step. step) a.rooms.now a.pass.now entries b.rooms.now b.pass.now m h s };
+    ghost legal = { λ a b entries m h s. seat_legal (SharedStep X.stands X.Reader.tells X.Reader.bytes X.Reader.faults) (SharedStands X.stands) (reply_of X.Reader.tells X.Reader.bytes X.Reader.faults) (λ old new who n act answer step. step) a.rooms.now a.pass.now entries b.rooms.now b.pass.now m h.1 s };
 
     ghost sound = { λ a m s. X.sound (end_of (opened a.rooms.now) (known a.pass.now)).archive m s.now };
 
-    ghost nothing = { λ a. seat_nothing (SharedStep X.stands X.Reader.tells X.Reader.bytes X.Reader.faults) (reply_of X.Reader.tells X.Reader.bytes X.Reader.faults) a.rooms.now a.pass.now };
+    ghost nothing = { λ a. (refl, seat_nothing (SharedStep X.stands X.Reader.tells X.Reader.bytes X.Reader.faults) (reply_of X.Reader.tells X.Reader.bytes X.Reader.faults) a.rooms.now a.pass.now) };
 
-    ghost joined = { λ a b c xs ys p q. seat_joined (SharedStep X.stands X.Reader.tells X.Reader.bytes X.Reader.faults) (reply_of X.Reader.tells X.Reader.bytes X.Reader.faults) a.rooms.now a.pass.now xs b.rooms.now b.pass.now ys c.rooms.now c.pass.now p q };
+    ghost joined = { λ a b c xs ys p q. (q.0 ∙ p.0, seat_joined (SharedStep X.stands X.Reader.tells X.Reader.bytes X.Reader.faults) (reply_of X.Reader.tells X.Reader.bytes X.Reader.faults) a.rooms.now a.pass.now xs b.rooms.now b.pass.now ys c.rooms.now c.pass.now p.1 q.1) };
 
-    ghost number_stays = { λ a b entries h. h.same_number };
+    ghost number_stays = { λ a b entries h. h.1.same_number };
 }

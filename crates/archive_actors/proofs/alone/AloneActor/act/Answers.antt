@@ -1,4 +1,4 @@
-use Rattle.std.proofs.Common.{refl, []}
+use Rattle.std.proofs.Common.{refl, [], rules}
 use Rattle.act_model.proofs.ActsAlone.{alone_one}
 use Rattle.archive_actors.proofs.alone.AloneActor.act.Goals as goal
 
@@ -6,7 +6,7 @@ pub returns-clause-done : goal.returns-clause-done
 returns-clause-done g c =
     record {
       others = [];
-      leads = (refl, alone_one (g.X.Applies.stands) c.args.self.now.who c.args.self.now.archive.now c.apply.new.self c.args.act _ c.requires.may_ask c.apply.ensures.step);
+      leads = (search rules, refl, alone_one (g.X.Applies.stands) c.args.self.now.who c.args.self.now.archive.now c.apply.new.self c.args.act _ c.requires.may_ask c.apply.ensures.step);
       not_mine = refl;
     }
 
