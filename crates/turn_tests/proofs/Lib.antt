@@ -1,0 +1,3 @@
+mod OnBoards
+pub mod Seats
+pub mod TwoActs
