@@ -1,0 +1,42 @@
+use Rattle.std.proofs.Common.{rules, ◌≡◌, ◌∷◌, [], ◌++◌, refl, subst, arith, map}
+use Rattle.std.specs.List.{range_with_len}
+use Rattle.turn_workers.proofs.Leaving.{drawn_none, drawn_more, drawn_stays, drawn_back}
+use Rattle.turn_workers.proofs.Pushing.{passes_pushed, places_pushed}
+use Rattle.turn_workers.proofs.drawing.draw_workers.Goals as goal
+
+pub loop-place-init : goal.loop-place-init
+loop-place-init g c =
+    let none : c.in-Ok.workers.items ≡ [] = search rules in
+    record {
+      drawn = rw none (drawn_none g.R.Room.steps c.args.rooms.now c.args.pass.now c.requires.rooms c.requires.last);
+      places = rw none refl;
+      count = search rules;
+      room = search rules;
+    }
+
+pub meet_workers-requires : goal.meet_workers-requires
+meet_workers-requires g c = (drawn_stays g.R.Room.steps c.args.rooms.now c.args.pass.now c.loop-place.pass c.draw_one.new.pass _ c.loop-place.invariant.drawn c.in-Err.ensures.spent.0 c.in-Err.ensures.spent.1).left
+
+pub returns-in-Err-clause-back : goal.returns-in-Err-clause-back
+returns-in-Err-clause-back g c = λ err. (
+  c.meet_workers.ensures.rooms,
+  drawn_back g.R.Room.steps c.args.rooms.now c.args.pass.now c.draw_one.new.pass c.meet_workers.new.pass _
+      (drawn_stays g.R.Room.steps c.args.rooms.now c.args.pass.now c.loop-place.pass c.draw_one.new.pass _ c.loop-place.invariant.drawn c.in-Err.ensures.spent.0 c.in-Err.ensures.spent.1) c.meet_workers.ensures,
+)
+
+pub loop-place-preserved : goal.loop-place-preserved
+loop-place-preserved g c =
+    let w = c.in-Ok-draw_one.worker in
+    let pushed : c.push_reserved.new.self.items ≡ c.loop-place.workers.items ++ w ∷ [] = c.push_reserved.ensures.items in
+    record {
+      drawn = rw (passes_pushed c.push_reserved.new.self.items c.loop-place.workers.items w pushed)
+          (drawn_more g.R.Room.steps c.args.rooms.now c.args.pass.now c.loop-place.pass c.draw_one.new.pass _ w.pass c.loop-place.invariant.drawn c.in-Ok-draw_one.ensures.parts);
+      places = places_pushed c.push_reserved.new.self.items c.loop-place.workers.items w c.loop-place.place pushed c.in-Ok-draw_one.ensures.worker.0 c.loop-place.invariant.places;
+      count = search rules;
+      room = search rules;
+    }
+
+pub returns-clause-places : goal.returns-clause-places
+returns-clause-places g c =
+    let all : c.loop-place.place ≡ c.args.count = omega (arith, c.loop-place-test.false, c.loop-place.auto.place-end) in
+    subst (λ k. map (λ w. w.place) c.loop-place.workers.items ≡ range_with_len 0 k) all c.loop-place.invariant.places
