@@ -1,5 +1,5 @@
 -- How a link's service ended, by the end of its session.
-use Rattle.std.proofs.Common.{◌≡◌, ◌⊎◌, inl, inr, List, ℕ, Option, Some, None, Result, Ok, Err, refl, sym, subst}
+use Rattle.std.proofs.Common.{◌≡◌, inl, inr, List, ℕ, Option, Some, None, Result, Ok, Err, refl, sym, subst}
 use Rattle.std.specs.Prelude.{IsSome}
 use Rattle.series_model.specs.declared.sample.Query.{Query}
 use Rattle.act_model.specs.History.{Entry}

@@ -5,3 +5,5 @@ mod SpentActs
 mod LastLines
 mod Ends
 mod Links
+mod Servicing
+mod Tending

@@ -1,6 +1,6 @@
 -- Links that were served and came back, one after another.
-use Rattle.std.proofs.Common.{◌≡◌, ◌⊎◌, inl, inr, ℕ, ◌+◌, ◌-◌, ◌^◌, ◌<◌, ◌≤◌, List, [], ◌∷◌, ◌++◌, length, min, Bool, true, false, Option, Some, None, refl, ap, sym, subst, ◌∙◌, arith, append_assoc, append-nil}
-use Rattle.std.specs.Prelude.{◌||◌, All, IfSome, option_map}
+use Rattle.std.proofs.Common.{◌≡◌, ◌⊎◌, inl, inr, ℕ, ◌+◌, ◌<◌, ◌≤◌, List, [], ◌∷◌, ◌++◌, length, Bool, true, false, Option, Some, None, refl, ap, sym, subst, ◌∙◌, arith, append_assoc, append-nil}
+use Rattle.std.specs.Prelude.{◌||◌, IfSome, option_map}
 use Rattle.std.specs.List.{list_any}
 use Rattle.std.proofs.lemmas.List.{length-append}
 use Rattle.std.proofs.lemmas.List.Elements.{All-nil, All-push}
@@ -110,9 +110,9 @@ module _ {A D L R : Type 0} (faults : D → ℕ) (ledger : D → Option (Ledger 
   }
 
 -- the door's end, seen from its beginning
-pub end_later : {D : Type 0} (is_closed : D → Bool) (faults : D → ℕ) (a b c : D) → faults a ≤ faults b → IsAtEnd is_closed faults b c → IsAtEnd is_closed faults a c
-end_later is_closed faults a b c rise (inl closed) = inl closed
-end_later is_closed faults a b c rise (inr rose) = inr (omega arith)
+pub end_later : {D : Type 0} (is_closed : D → Bool) (faults : D → ℕ) (a b c : D) (failed : Bool) → faults a ≤ faults b → IsAtEnd is_closed faults b failed c → IsAtEnd is_closed faults a failed c
+end_later is_closed faults a b c false rise closed = closed
+end_later is_closed faults a b c true rise rose = omega arith
 
 -- A LINK
 

@@ -8,7 +8,7 @@ use Rattle.act_model.specs.declared.acts.Answer.TheVariants as answer
 use Rattle.act_model.specs.History.{Done, Entry}
 use Rattle.act_model.specs.Reply.{Reply}
 use Rattle.act_model.specs.Roles.{is_of_link}
-use Rattle.stream_merge.specs.Pieces.{Faulted, OutOfMemory}
+use Rattle.stream_merge.specs.Pieces.{OutOfMemory}
 use Rattle.http_front.specs.declared.request.HttpErr.{HttpErr}
 use Rattle.http_front.specs.declared.request.Request.{Request}
 use Rattle.http_front.specs.declared.request.WebCall.{WebCall}

@@ -22,12 +22,12 @@ use Rattle.link_service.specs.Serving.{HasReply, MakesOnly, WasSpent}
 
 -- the acts of the door's links, and then its DoorDone, unless no act was left
 abbrev pub Shift : {A : Type 0} → (A → ℕ) → (A → List Entry → A → Type 0) → A → DoorServed → A → Type 0
-Shift number between old (door.Done lacked) new = (acts : List Done) × Made number between old acts new × IsShift acts
+Shift number between old (door.Done lacked failed) new = (acts : List Done) × Made number between old acts new × IsShift acts
 Shift number between old door.Spent new = MakesOnly number between is_of_link old new
 
 -- behind its links the door was counted off by just one act, unless no act was left
 abbrev pub CountsOff : {A : Type 0} → (A → ℕ) → (A → List Entry → A → Type 0) → A → DoorServed → A → Type 0
-CountsOff number between old (door.Done lacked) new = (reply : Reply) × MadeOne number between old DoorDone reply new
+CountsOff number between old (door.Done lacked failed) new = (reply : Reply) × MadeOne number between old DoorDone reply new
 CountsOff number between old door.Spent new = Made number between old [] new
 
 -- THE LINKS
@@ -70,13 +70,14 @@ pub record LeavesTold {D L R : Type 0} (faults : D → ℕ) (ledger : D → Opti
   pub told : lacked ≡ list_any is_memory left.results
   pub are : lacked ≡ false → All Is left.links
 
--- no link comes any more, or the door has failed
-abbrev pub IsAtEnd : {D : Type 0} → (D → Bool) → (D → ℕ) → D → D → Type 0
-IsAtEnd is_closed faults old new = (is_closed new ≡ true) ⊎ Rose (faults old) (faults new)
+-- the door has failed, where that is told, and else no link comes any more
+abbrev pub IsAtEnd : {D : Type 0} → (D → Bool) → (D → ℕ) → D → Bool → D → Type 0
+IsAtEnd is_closed faults old false new = is_closed new ≡ true
+IsAtEnd is_closed faults old true new = Rose (faults old) (faults new)
 
 -- to the end of the door, unless no act was left
 abbrev pub AsksToEnd : {D L R : Type 0} → (D → Bool) → (D → ℕ) → (D → Option (Ledger L)) → (L → Type 0) → (List L → List (Served R) → Type 0) → D → DoorServed → D → Type 0
-AsksToEnd is_closed faults ledger Is Were old (door.Done lacked) new = LeavesTold faults ledger Is Were old lacked new × IsAtEnd is_closed faults old new
+AsksToEnd is_closed faults ledger Is Were old (door.Done lacked failed) new = LeavesTold faults ledger Is Were old lacked new × IsAtEnd is_closed faults old failed new
 AsksToEnd is_closed faults ledger Is Were old door.Spent new = Leaves faults ledger Were old new
 
 -- A worker's work on its door: the acts that it made, what it left of the door, and that acts were wanting where it tells so.
@@ -103,5 +104,5 @@ pub record ServesNext {D L R : Type 0} (faults : D → ℕ) (ledger : D → Opti
 -- once more; `lacked` says whether memory ran out for an earlier link
 abbrev pub AsksOn : {D L R : Type 0} → (D → Bool) → (D → ℕ) → (D → Option (Ledger L)) → (L → Type 0) → (L → Type 0) → (L → Served R → L → Type 0) → D → Bool → Asked → D → Type 0
 AsksOn is_closed faults ledger Fresh Is Serves old lacked (asked.Link now) new = (next : ServesNext faults ledger Fresh Serves old new) × (now ≡ (lacked || is_memory next.result)) × (now ≡ false → Is next.link)
-AsksOn is_closed faults ledger Fresh Is Serves old lacked asked.End new = (ledger new ≡ ledger old) × (faults old ≤ faults new) × IsAtEnd is_closed faults old new
+AsksOn is_closed faults ledger Fresh Is Serves old lacked (asked.End failed) new = (ledger new ≡ ledger old) × (faults old ≤ faults new) × IsAtEnd is_closed faults old failed new
 AsksOn is_closed faults ledger Fresh Is Serves old lacked asked.Spent new = ServesNext faults ledger Fresh Serves old new

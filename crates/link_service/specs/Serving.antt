@@ -1,5 +1,5 @@
 -- How a connection was served: what its session came to, which acts were made, and what its peer was written.
-use Rattle.std.specs.Prelude.{◌≡◌, ◌≢◌, ◌⊎◌, ℕ, List, [], ◌++◌, Option, IsSome, IsTrue, Bool, true, codes}
+use Rattle.std.specs.Prelude.{◌≡◌, ◌⊎◌, ℕ, List, [], ◌++◌, Option, IsSome, IsTrue, Bool, true, codes}
 use Rattle.std.specs.Io.KnownBytes.{Appends}
 use Rattle.edge_io.specs.Moments.{Moments}
 use Rattle.edge_io.specs.Stream.{Rose}

@@ -1,11 +1,12 @@
 // A worker: it serves its door to the end, and counts it off.
-ghost use Rattle.std.specs.Prelude.{◌≡◌};
+ghost use Rattle.std.specs.Prelude.{◌≡◌, Bool};
 ghost use Rattle.edge_io.specs.Doors.{IsFresh};
 ghost use Rattle.act_model.specs.Machine.{Machine};
 ghost use Rattle.act_model.specs.Roles.{is_of_link};
 ghost use Rattle.link_service.specs.Serving.{MakesOnly, ServesLink, WasSpent};
 ghost use Rattle.link_service.specs.Doors.{AsksOn, AsksToEnd, InTurn, IsServed, ServesDoor};
 
+use crate::gate::Gate;
 use crate::link::serve_link;
 use crate::served::{Kind, Served};
 use act_model::{Actor, Spent, ask_door_done};
@@ -16,8 +17,9 @@ use std::sync::Wait;
 /// How a door was served.
 #[derive(Clone, Copy, Debug, PartialEq, Eq)]
 pub enum DoorServed {
-    /// The door was asked to its end, each of its links was served, and it was counted off. Whether memory ran out for one of them.
-    Done { lacked: bool },
+    /// The door was asked to its end, each of its links was served, and it was counted off. Whether memory ran out for one of them, and
+    /// whether the door failed at its end; else no link comes any more.
+    Done { lacked: bool, failed: bool },
     /// No act is left.
     Spent,
 }
@@ -27,8 +29,8 @@ pub enum DoorServed {
 enum Asked {
     // A link came, and was served. Whether memory ran out for it, or for an earlier one.
     Link { lacked: bool },
-    // No link comes any more, or none could be had.
-    End,
+    // No link comes any more, or none could be had, as is told.
+    End { failed: bool },
     // A link came, for which no act was left.
     Spent,
 }
@@ -36,23 +38,27 @@ enum Asked {
 /// Serves all links of a door, each of one kind: asks the door for them to its end, serves each, gives each back, and then counts the door
 /// off. It goes on behind a fault of a link and behind want of memory.
 ///
+/// `gate` is told of each link before and after it is served, with the number `post`.
+///
 /// The acts are those of the links' sessions, one session after another, and then one `DoorDone`. `Spent` comes only where no act was left
 /// for one of them.
-pub fn serve_door<A: Actor, W: Door, C: Clock>(
+pub fn serve_door<A: Actor, W: Door, C: Clock, G: Gate>(
     rt: &impl Wait,
     alloc: Global,
     actor: &mut A,
     kind: Kind,
     door: &mut W,
     clock: &mut C,
+    gate: &G,
+    post: usize,
 ) -> DoorServed
     requires stands { (m : Machine) × A.stands actor.old m }
     ensures serves { ServesDoor A.number A.between A.is_spent (IsFresh W.L.Sink.written W.L.Source.read_faults W.L.Sink.write_faults) (IsServed kind W.L.Sink.written W.L.Source.read_faults W.L.Sink.write_faults) (ServesLink A.number A.between A.is_spent A.stands A.Reader.tells A.Reader.faults W.L.Source.left W.L.Sink.written W.L.Sink.write_faults kind) W.is_closed W.door_faults W.ledger actor.old (C.coming clock.old) door.old result actor.new (C.coming clock.new) door.new }
     ensures stands { (n : Machine) × A.stands actor.new n }
 {
-    match serve_links(rt, alloc, actor, kind, door, clock) {
-        DoorServed::Done { lacked } => match ask_door_done(actor) {
-            Ok(_) => DoorServed::Done { lacked },
+    match serve_links(rt, alloc, actor, kind, door, clock, gate, post) {
+        DoorServed::Done { lacked, failed } => match ask_door_done(actor) {
+            Ok(_) => DoorServed::Done { lacked, failed },
             Err(Spent) => DoorServed::Spent,
         },
         DoorServed::Spent => DoorServed::Spent,
@@ -60,13 +66,15 @@ pub fn serve_door<A: Actor, W: Door, C: Clock>(
 }
 
 // Serves all links of a door. At `Done` the door is still to be counted off.
-fn serve_links<A: Actor, W: Door, C: Clock>(
+fn serve_links<A: Actor, W: Door, C: Clock, G: Gate>(
     rt: &impl Wait,
     alloc: Global,
     actor: &mut A,
     kind: Kind,
     door: &mut W,
     clock: &mut C,
+    gate: &G,
+    post: usize,
 ) -> DoorServed
     requires stands { (m : Machine) × A.stands actor.old m }
     ensures acts { MakesOnly A.number A.between is_of_link actor.old actor.new }
@@ -76,9 +84,9 @@ fn serve_links<A: Actor, W: Door, C: Clock>(
 {
     let mut lacked = false;
     for _ in rt.forever() {
-        match serve_next(rt, alloc, actor, kind, door, clock, lacked) {
+        match serve_next(rt, alloc, actor, kind, door, clock, gate, post, lacked) {
             Asked::Link { lacked: now } => lacked = now,
-            Asked::End => return DoorServed::Done { lacked },
+            Asked::End { failed } => return DoorServed::Done { lacked, failed },
             Asked::Spent => return DoorServed::Spent,
         }
     }
@@ -86,25 +94,29 @@ fn serve_links<A: Actor, W: Door, C: Clock>(
 }
 
 // Asks a door for a link, serves it and gives it back. `lacked` says whether memory ran out for an earlier link.
-fn serve_next<A: Actor, W: Door, C: Clock>(
+fn serve_next<A: Actor, W: Door, C: Clock, G: Gate>(
     rt: &impl Wait,
     alloc: Global,
     actor: &mut A,
     kind: Kind,
     door: &mut W,
     clock: &mut C,
+    gate: &G,
+    post: usize,
     lacked: bool,
 ) -> Asked
     requires stands { (m : Machine) × A.stands actor.old m }
     ensures acts { MakesOnly A.number A.between is_of_link actor.old actor.new }
     ensures asked { AsksOn W.is_closed W.door_faults W.ledger (IsFresh W.L.Sink.written W.L.Source.read_faults W.L.Sink.write_faults) (IsServed kind W.L.Sink.written W.L.Source.read_faults W.L.Sink.write_faults) (λ was served link. ServesLink A.number A.between A.is_spent A.stands A.Reader.tells A.Reader.faults W.L.Source.left W.L.Sink.written W.L.Sink.write_faults kind actor.old (C.coming clock.old) was served actor.new (C.coming clock.new) link) door.old lacked result door.new }
-    ensures stays { result ≡ Asked.End → (actor.new ≡ actor.old) × (C.coming clock.new ≡ C.coming clock.old) }
+    ensures stays { (failed : Bool) → result ≡ Asked.End failed → (actor.new ≡ actor.old) × (C.coming clock.new ≡ C.coming clock.old) }
     ensures spent { result ≡ Asked.Spent → WasSpent A.between A.is_spent actor.new }
     ensures stands { (n : Machine) × A.stands actor.new n }
 {
     match door.next() {
         Next::Link(mut link) => {
+            gate.enter(post);
             let served = serve_link(rt, alloc, actor, kind, &mut link, clock);
+            gate.leave(post);
             door.back(link);
             match served {
                 Served::Spent => return Asked::Spent,
@@ -112,7 +124,7 @@ fn serve_next<A: Actor, W: Door, C: Clock>(
                 _ => return Asked::Link { lacked },
             }
         }
-        Next::Closed => Asked::End,
-        Next::Failed => Asked::End,
+        Next::Closed => Asked::End { failed: false },
+        Next::Failed => Asked::End { failed: true },
     }
 }

@@ -44,12 +44,12 @@ returns-in-End-clause-asked g c =
     let L = g.W.L in
     let C = g.C.Clock in
     let end = c.in-End.ensures.asked in
-    let same = c.serve_next.ensures.stays c.in-End.is in (
+    let same = c.serve_next.ensures.stays c.in-End.failed c.in-End.is in (
       told_end g.W.Door.door_faults g.W.Door.ledger (IsFresh L.Sink.written L.Source.read_faults L.Sink.write_faults) (IsServed c.args.kind L.Sink.written L.Source.read_faults L.Sink.write_faults)
           (ServesLink A.number A.between A.is_spent A.stands g.A.Reader.ReadAt.tells g.A.Reader.ReadAt.faults L.Source.left L.Sink.written L.Sink.write_faults c.args.kind)
           c.args.actor.now c.loop.actor c.serve_next.new.actor (C.coming c.args.clock.now) (C.coming c.loop.clock) (C.coming c.serve_next.new.clock) c.args.door.now c.loop.door c.serve_next.new.door
           c.loop.lacked c.loop.invariant.4 same.0 same.1 end.0 end.1,
-      end_later g.W.Door.is_closed g.W.Door.door_faults c.args.door.now c.loop.door c.serve_next.new.door c.loop.invariant.4.left.faults_rise end.2,
+      end_later g.W.Door.is_closed g.W.Door.door_faults c.args.door.now c.loop.door c.serve_next.new.door c.in-End.failed c.loop.invariant.4.left.faults_rise end.2,
     )
 
 pub returns-in-Spent-clause-acts : goal.returns-in-Spent-clause-acts

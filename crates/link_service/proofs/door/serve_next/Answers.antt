@@ -1,4 +1,4 @@
-use Rattle.std.proofs.Common.{◌∙◌, ap, refl, inl, inr}
+use Rattle.std.proofs.Common.{◌∙◌, ap, refl}
 use Rattle.std.specs.Prelude.{option_map}
 use Rattle.edge_io.specs.Doors.{one_back}
 use Rattle.act_model.proofs.Histories.{made_nothing}
@@ -62,16 +62,16 @@ pub returns-in-Closed-clause-acts : goal.returns-in-Closed-clause-acts
 returns-in-Closed-clause-acts g c = makes g.A.Actor.number g.A.Actor.between c.args.actor.now c.args.actor.now _ (made_nothing g.A.Actor.number g.A.Actor.between g.met.A.Actor.nothing c.args.actor.now) tt
 
 pub returns-in-Closed-clause-asked : goal.returns-in-Closed-clause-asked
-returns-in-Closed-clause-asked g c = (c.in-Closed.ensures.gives.1, c.in-Closed.ensures.faults, inl c.in-Closed.ensures.gives.0)
+returns-in-Closed-clause-asked g c = (c.in-Closed.ensures.gives.1, c.in-Closed.ensures.faults, c.in-Closed.ensures.gives.0)
 
 pub returns-in-Closed-clause-stays : goal.returns-in-Closed-clause-stays
-returns-in-Closed-clause-stays g c end = (refl, refl)
+returns-in-Closed-clause-stays g c failed end = (refl, refl)
 
 pub returns-in-Failed-clause-acts : goal.returns-in-Failed-clause-acts
 returns-in-Failed-clause-acts g c = makes g.A.Actor.number g.A.Actor.between c.args.actor.now c.args.actor.now _ (made_nothing g.A.Actor.number g.A.Actor.between g.met.A.Actor.nothing c.args.actor.now) tt
 
 pub returns-in-Failed-clause-asked : goal.returns-in-Failed-clause-asked
-returns-in-Failed-clause-asked g c = (c.in-Failed.ensures.gives.2, c.in-Failed.ensures.faults, inr c.in-Failed.ensures.gives.3)
+returns-in-Failed-clause-asked g c = (c.in-Failed.ensures.gives.2, c.in-Failed.ensures.faults, c.in-Failed.ensures.gives.3)
 
 pub returns-in-Failed-clause-stays : goal.returns-in-Failed-clause-stays
-returns-in-Failed-clause-stays g c end = (refl, refl)
+returns-in-Failed-clause-stays g c failed end = (refl, refl)
