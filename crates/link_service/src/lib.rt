@@ -11,7 +11,7 @@
 //!
 //! Caveats: a link of HTTP serves one request. A feed registers no variables.
 //!
-//! Tests: `feed_tests` and `reply_tests` run the two sessions.
+//! Tests: `feed_tests` and `reply_tests` run the two sessions; the tests here run whole services, over the board of `turn_tests`.
 #![tactic(auto)]
 
 mod door;
@@ -27,3 +27,6 @@ pub use link::serve_link;
 pub use posts::Post;
 pub use served::{FeedTold, Kind, Served};
 pub use service::{AllServed, serve_all};
+
+#[cfg(test)]
+mod tests;
