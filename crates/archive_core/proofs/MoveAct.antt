@@ -114,28 +114,31 @@ module _ (tells : Bool) (p : Parts) (m : Machine) (r : Rests tells p m) (store :
       let move : MoveState = new_move store row n (move_end held store row n) in
       let new : Machine = with_move k move m in
       let gap = free_number tells (beside p.at p.limbo) m held p.slots s.store.moves k free in
-      let ran : Begins store now m (answer.Begun k row n) new = goes (chosen.Begin row n) choice k new gap refl in
-      (new, ran, record {
-        sound = move_begin_sound store now m new (answer.Begun k row n) s.sound (runs (answer.Begun k row n) refl (no_doubt r.settled) refl ran (omega arith));
-        rule = s.rule;
-        limbo = s.limbo;
-        settings = s.settings;
-        pins = s.pins;
-        faults = s.faults;
-        doors = s.doors;
-        rows = s.rows;
-        doubt = s.doubt;
-        ready = s.ready;
-        store = record {
-          before = held;
-          told = s.store.told;
-          holds = s.store.holds;
-          whole = s.store.whole;
-          moves = more_moves tells (beside p.at p.limbo) m.told m.rows m.limbo held m.moves p.slots later k move (record { series = row; store = number; moving = moving }) with_it
-              (is_new_move tells (beside p.at p.limbo) held m has have store apart number is_store rule by row n moving choice begins_it) s.store.moves;
-          is_open = inl has;
-        };
-      })
+      let ran : Begins store now m (answer.Begun k row n) new = goes (chosen.Begin row n) choice k new gap refl in (
+        new,
+        ran,
+        record {
+          sound = move_begin_sound store now m new (answer.Begun k row n) s.sound (runs (answer.Begun k row n) refl (no_doubt r.settled) refl ran (omega arith));
+          rule = s.rule;
+          limbo = s.limbo;
+          settings = s.settings;
+          pins = s.pins;
+          faults = s.faults;
+          doors = s.doors;
+          rows = s.rows;
+          doubt = s.doubt;
+          ready = s.ready;
+          store = record {
+            before = held;
+            told = s.store.told;
+            holds = s.store.holds;
+            whole = s.store.whole;
+            moves = more_moves tells (beside p.at p.limbo) m.told m.rows m.limbo held m.moves p.slots later k move (record { series = row; store = number; moving = moving }) with_it
+                (is_new_move tells (beside p.at p.limbo) held m has have store apart number is_store rule by row n moving choice begins_it) s.store.moves;
+            is_open = inl has;
+          };
+        },
+      )
 
   -- those that are to be made run already
   pub all_there : (k : ℕ) → IsChoice rule (index_of store) by held (chosen.Running k) → BeginsThere tells store now m (answer.Busy k) p

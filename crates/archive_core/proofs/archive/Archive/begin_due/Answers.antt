@@ -38,7 +38,7 @@ returns-clause-step g c =
     let new = parts g.D.Disk c.begin_chosen.new.self in
     let call = c.begin_chosen.ensures in
     asked_ends g.D.Disk.tells (λ m. None) (Begins (store_of c.args.store) c.args.now) (λ m. None) (λ m f. refl) (λ m f. refl) (begins_goes (store_of c.args.store) c.args.now) p q (λ m s. refl) c.in_ok-settle.ensures.settled c.settle.ensures.reads.faults (λ m s. refl) new (begun_reply c.begin_chosen.result) (rw call.disk c.settle.ensures.reads.faults)
-        (begun_ends g.D.Disk.tells (store_of c.args.store) c.args.now q new c.begin_chosen.result call.begins call.spent call.cause)
+    (begun_ends g.D.Disk.tells (store_of c.args.store) c.args.now q new c.begin_chosen.result call.begins call.spent call.cause)
 
 pub returns-clause-crash : goal.returns-clause-crash
 returns-clause-crash g c = rw c.begin_chosen.ensures.disk (crash_settling g.D.Disk.tells (refuse_by (MoveBeginAct c.args.store c.args.now)) (change_by (MoveBeginAct c.args.store c.args.now)) (λ m f. refl) (λ m f. refl) (parts g.D.Disk c.args.self.now) (parts g.D.Disk c.settle.new.self) c.settle.ensures.reads.any_moment)
