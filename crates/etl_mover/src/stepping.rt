@@ -219,6 +219,14 @@ impl Move {
         }
     }
 
+    /// Goes back to a part that was passed: it and those behind it are left to copy again.
+    pub fn go_back(&mut self, at: usize)
+        requires { at ≤ self.old.at }
+        ensures { self.new ≡ record self.old { at = at } }
+    {
+        self.at = at;
+    }
+
     /// Copies lines of the next part to the destination's file of its partition, behind all that is listed there and is to be: from a
     /// place of the part's file on, of which the source lists `len` bytes. They are at most 1,048,576 bytes, or one line. A file that
     /// the destination doesn't list begins with the source's header's line, or goes on from the old entry of it that is `revived`.
