@@ -1,5 +1,5 @@
 -- A running move: how it begins beside the stores, and that what it has written stays beside them through other calls.
-use Rattle.std.proofs.Common.{◌≡◌, Bool, ℕ, ◌<◌, ◌≤◌, ◌+◌, ◌++◌, ◌==◌, List, [], ◌∷◌, Option, None, Some, length, map, filter, get_or, take, drop, refl, sym, ◌∙◌, ap, subst, arith, append-nil}
+use Rattle.std.proofs.Common.{◌≡◌, inl, inr, Bool, ℕ, ◌<◌, ◌≤◌, ◌+◌, ◌++◌, ◌==◌, List, [], ◌∷◌, Option, None, Some, length, map, filter, get_or, take, drop, refl, sym, ◌∙◌, ap, subst, arith, append-nil}
 use Rattle.std.specs.Prelude.{All, Contains, IsTrue, nat_eq, slice_get}
 use Rattle.std.proofs.lemmas.Bool.Decides.{Decides-eqb}
 use Rattle.std.proofs.lemmas.List.{append_assoc, length-map, map-append, take_at, take-append-drop, take-map}
@@ -15,19 +15,20 @@ use Rattle.store_files.specs.Fronts.{Begins}
 use Rattle.store_manifest.specs.Entries.{Place}
 use Rattle.store_manifest.specs.Manifest.{ManifestState, manifest_name}
 use Rattle.store_manifest.specs.declared.entry.Entry.{Entry}
-use Rattle.tier_store.specs.Flush.{put_all}
+use Rattle.tier_store.specs.Flush.{file_at, put_all}
 use Rattle.tier_store.specs.Held.{Filed, Held, AreFiled, IsFiled, IsIn, IsListed, bytes_of, entry_of, file_of, filed_at}
 use Rattle.tier_store.specs.Plan.{IsLastOf, of_row}
 use Rattle.tier_store.specs.Stored.{AreSafe}
 use Rattle.tier_store.proofs.Ending.{filter-map}
 use Rattle.tier_store.proofs.Growing.{file_grows, filed_still}
-use Rattle.tier_store.proofs.Listed.{all_put_all}
+use Rattle.tier_store.proofs.Listed.{all_put_all, listed_at}
 use Rattle.three_stores.specs.Stores.{Stores, list_at, with_list}
 use Rattle.three_stores.specs.Seen.{granularities}
 use Rattle.three_stores.specs.Change.{Has}
 use Rattle.three_stores.specs.Moving.{of_files, ListsParts, RunsBeside, LeavesNames, GoesBeside, names_of, parts_in}
 use Rattle.three_stores.specs.Pinned.{SeenAll}
-use Rattle.three_stores.proofs.Dropped.{contains_filter, entry_in, from_filter, one_file}
+use Rattle.three_stores.proofs.CopyPending.{put_all_in}
+use Rattle.three_stores.proofs.Dropped.{contains_filter, entry_in, from_filter, none_at, one_file}
 use Rattle.three_stores.proofs.LeavingNames.{name_in}
 use Rattle.three_stores.proofs.Places.{granularity_at, list_other, list_set, within_three}
 
@@ -128,6 +129,17 @@ module _ (i : ℕ) (tells : Bool) (old new : SeenAll) (move : MoveState) (files 
       let in_row = contains_filter (λ (x : Filed). nat_eq x.entry.series move.series) (list_at i made) h there ((Decides-eqb h.entry.series move.series).1 series) in
       from_filter (λ (x : Filed). nat_eq x.entry.series move.series) (list_at i held) h (subst (λ (l : List Filed). Contains l h) goes.listed in_row)
 
+  -- and where nothing is listed then, nothing was
+  none_before : (f : Filed) → Contains files f → file_at (filed_at f) (list_at i made) ≡ None → file_at (filed_at f) (list_at i held) ≡ None
+  none_before f within none = elim (listed_at (list_at i held) (filed_at f)) [
+    | inl before ↦ before
+    | inr (h, there, at, is) ↦
+        let series : h.entry.series ≡ move.series = ap (λ (p : Place). p.0) at ∙ of_move f within in
+        let in_row = contains_filter (λ (x : Filed). nat_eq x.entry.series move.series) (list_at i held) h there ((Decides-eqb h.entry.series move.series).1 series) in
+        let now = from_filter (λ (x : Filed). nat_eq x.entry.series move.series) (list_at i made) h (subst (λ (l : List Filed). Contains l h) (sym goes.listed) in_row) in
+        absurd (none_at (list_at i made) (filed_at f) h none now at)
+  ]
+
   pub runs_still : RunsBeside i tells new move files made
   runs_still =
       let row = goes.rows move.series runs.row runs.stands in
@@ -152,9 +164,9 @@ module _ (i : ℕ) (tells : Bool) (old new : SeenAll) (move : MoveState) (files 
               (filed_still g (of_files i held files) made.rows goes.rows (runs.ahead.filed g (ap (λ (gs : List Granularity). slice_get gs i) (sym same) ∙ here)));
           safe = safe_still;
           longer = λ h f there within at. runs.ahead.longer h f (listed_before h f there within at) within at;
-          longer_retired = λ r f there within named.
+          longer_retired = λ r f there within named none.
               let named_before : r.name ≡ file_of (i + 1, held.rows) f.entry = named ∙ name_stays f within in
-              runs.ahead.longer_retired r f (leaves.limbo r (subst (Contains (names_of (i + 1, held.rows) files)) (sym named_before) (name_in (i + 1, held.rows) files f within)) there) within named_before;
+              runs.ahead.longer_retired r f (leaves.limbo r (subst (Contains (names_of (i + 1, held.rows) files)) (sym named_before) (name_in (i + 1, held.rows) files f within)) there) within named_before (none_before f within none);
         };
       }
 
@@ -189,7 +201,7 @@ runs_begun i from tells all held source dest row n move has next here there stan
       left = λ image left stand. All-nil (IsIn (i + 1, held.rows) image);
     };
     longer = λ h f in_list in_none at. absurd (none f in_none);
-    longer_retired = λ r f in_limbo in_none named. absurd (none f in_none);
+    longer_retired = λ r f in_limbo in_none named unlisted. absurd (none f in_none);
   };
 }
   where
@@ -229,7 +241,8 @@ runs_listed i tells old new move files held same low copied leaves runs =
         filed = still.ahead.filed;
         safe = still.ahead.safe;
         longer = λ h f there within at. longer_then h (subst (λ (l : List Filed). Contains l h) (list_set i (put_all (list_at i held) files) held low) there) f within at;
-        longer_retired = still.ahead.longer_retired;
+        longer_retired = λ r f in_limbo within named unlisted.
+            absurd (none_at (put_all (list_at i held) files) (filed_at f) f (subst (λ (l : List Filed). file_at (filed_at f) l ≡ None) (list_set i (put_all (list_at i held) files) held low) unlisted) (put_all_in files (list_at i held) f runs.ahead.rise within) refl);
       };
     }
   where

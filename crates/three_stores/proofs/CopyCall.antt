@@ -1,9 +1,9 @@
 -- A step of copying that wrote lines, and what it makes of the move.
-use Rattle.std.proofs.Common.{◌≡◌, ◌≢◌, ◌⊎◌, inl, inr, Bool, ℕ, ◌<◌, ◌≤◌, ◌+◌, List, [], ◌∷◌, ◌++◌, length, get_or, map, take, drop, Option, Some, None, refl, sym, ◌∙◌, ap, subst, arith}
+use Rattle.std.proofs.Common.{◌≡◌, ◌≢◌, ◌⊎◌, inl, inr, Bool, ℕ, suc, ◌<◌, ◌≤◌, ◌+◌, List, [], ◌∷◌, ◌++◌, length, get_or, map, take, drop, Option, Some, None, refl, sym, ◌∙◌, ap, subst, arith}
 use Rattle.std.specs.Prelude.{All, Contains, IsTrue, ◌↔◌, slice_get}
 use Rattle.std.specs.List.{AllByRecursion, flat_map}
 use Rattle.std.proofs.lemmas.List.{length-append, length-set, length-take, take-append-drop, take-take}
-use Rattle.std.proofs.lemmas.List.Elements.{All-contains, Contains-get_or}
+use Rattle.std.proofs.lemmas.List.Elements.{All-contains, All-from_recursion, Contains-get_or, recursion_from_All}
 use Rattle.std.proofs.lemmas.Option.{same_Some, slice_get_within, get_or_from_slice_get}
 use Rattle.std.proofs.Math.Seq.{map-set_same}
 use Rattle.disk_model.specs.Files.{Name, Files, HasFile}
@@ -18,43 +18,45 @@ use Rattle.etl_mover.proofs.AheadFile.{copied_more}
 use Rattle.etl_mover.proofs.Onward.{still_lists}
 use Rattle.partition_names.specs.declared.granularity.Granularity.{Granularity}
 use Rattle.partition_names.specs.declared.part.Part.{Part}
-use Rattle.partition_names.specs.Part.{IsPart}
+use Rattle.partition_names.specs.Part.{HoldsMoment, IsPart}
 use Rattle.partition_names.specs.Path.{path_of}
 use Rattle.pb_lines.specs.File.{lines_of}
-use Rattle.pb_lines.proofs.FileLines.{all_rest, lines_of-append}
+use Rattle.pb_lines.proofs.FileLines.{all_front, all_rest, lines_of-append}
 use Rattle.pv_catalog.specs.Catalogue.{CatalogueState}
+use Rattle.pv_catalog.specs.declared.row.Row.{Row}
 use Rattle.series_model.specs.Series.{RisesFrom, end_of, end_from, since}
 use Rattle.series_model.specs.declared.sample.Sample.{Sample}
-use Rattle.series_model.proofs.RisingLists.{end_from-append}
-use Rattle.store_manifest.specs.Entries.{put}
+use Rattle.series_model.proofs.RisingLists.{RisesFrom-front, end_from-append, end_from-ge}
+use Rattle.store_manifest.specs.Entries.{Place, put}
 use Rattle.store_manifest.specs.Manifest.{ManifestState}
 use Rattle.store_manifest.specs.declared.entry.Entry.{Entry}
 use Rattle.tier_store.specs.Ahead.{HasCopied}
-use Rattle.tier_store.specs.Flush.{PlacesRise, put_all, start_of, with_files}
-use Rattle.tier_store.specs.Held.{Filed, Held, AreFiled, IsFiled, IsIn, IsListed, entry_of, file_of, filed_at, samples_of}
+use Rattle.tier_store.specs.Flush.{PlacesRise, file_at, put_all, start_of, with_files}
+use Rattle.tier_store.specs.Held.{Filed, Held, AreFiled, IsFiled, IsIn, IsListed, entry_of, file_of, filed_at, name_of, samples_of}
 use Rattle.tier_store.specs.Plan.{IsLastOf, of_row}
 use Rattle.tier_store.specs.Stored.{AreHeld, AreSafe}
 use Rattle.tier_store.proofs.Ahead.{put_all_has}
+use Rattle.tier_store.proofs.Names.{same_file}
 use Rattle.three_stores.specs.Stores.{Stores, list_at, tier}
 use Rattle.three_stores.specs.Seen.{seen_on}
 use Rattle.three_stores.specs.Change.{Has}
 use Rattle.three_stores.specs.Copied.{WritesNext, samples_at}
-use Rattle.three_stores.specs.Copying.{CopiesBeside, CopiesNext, IsNextPart, KnowsHeads, KnowsLengths, SaysCopied, left_of, samples_ahead}
+use Rattle.three_stores.specs.Copying.{CopiesFurther, CopiesLines, IsAllLater, IsLeft, IsNextPart, KnowsHeads, KnowsLengths, SaysLines, left_of, samples_ahead}
 use Rattle.three_stores.specs.declared.copying.CopyEnd.TheVariants as ends
-use Rattle.three_stores.specs.Finding.{SplitsAt}
+use Rattle.three_stores.specs.Finding.{BeginsAt, SplitsAt}
 use Rattle.three_stores.specs.Copied.{end_after}
 use Rattle.three_stores.specs.Moving.{MayBeListed, RunsBeside, of_files}
-use Rattle.three_stores.specs.Pinned.{SeenAll, beside, NoneOf}
+use Rattle.three_stores.specs.Pinned.{SeenAll, beside}
 use Rattle.three_stores.specs.Retiring.{oldest}
 use Rattle.three_stores.specs.declared.limbo.Retired.{Retired}
 use Rattle.three_stores.proofs.CopiedFiles.{writes_next}
-use Rattle.three_stores.proofs.CopyFrames.{Leaves, coarse, copied, name_is, of_part, placed_here, valid, where_is}
+use Rattle.three_stores.proofs.CopyFrames.{Apart, Leaves, coarse, copied, name_is, of_part, placed_here, put_cases, valid, where_is}
 use Rattle.three_stores.proofs.CopyParts.{enough, part_file_is, q_filed, q_head, source, source_there, take_at}
-use Rattle.three_stores.proofs.CopyLists.{IsLater, IsOfRowIn, PartLeft, SplitsHere, ends_later, first_files, later_all, left_is, none_rest, not_whole, now_passed, rest_back, rest_more, rise_front, rise_rest, rise_row, splits_here, still_passed, whole_where}
-use Rattle.three_stores.proofs.CopyPass.{lengths_finished}
+use Rattle.three_stores.proofs.CopyLists.{IsLater, IsOfRowIn, PartLeft, SplitsHere, earlier_all, ends_later, first_files, inside_end, inside_until, later_all, later_begins, later_left, left_is, left_now, left_of_part, none_rest, not_whole, now_passed, rise_front, rise_rest, rise_row, splits_here, still_passed, whole_where, weaker}
+use Rattle.three_stores.proofs.CopyPass.{copied_whole, lengths_finished}
 use Rattle.three_stores.proofs.CopyPending.{SetsFile, all_in, last_in, put_all_in, sets_file}
-use Rattle.three_stores.proofs.CopyPlaces.{Start, Where, end_is, last_then, long_there, place_at, row_then, samples_then, starts_before}
-use Rattle.three_stores.proofs.Dropped.{entry_in}
+use Rattle.three_stores.proofs.CopyPlaces.{GoesOnIn, Start, Where, at_file, end_is, last_then, long_there, place_at, row_then, samples_then, starts_before}
+use Rattle.three_stores.proofs.Dropped.{entry_in, none_at}
 use Rattle.three_stores.proofs.Places.{granularity_at}
 
 pub last_pushed : (xs : List Entry) (x : Entry) (o : Option Entry) → last_of (xs ++ x ∷ []) o ≡ Some x
@@ -103,7 +105,7 @@ module _ {S : Type 0} (files_of : S → Files) (opened_of : S → Name → ℕ) 
   abbrev b : Held
   b = with_files (tier (from + 1) held) files
 
-  module _ (has : Has tells old.stores held) (is : CopiesBeside from tells old move files held) (next_is : slice_get move.parts move.at ≡ Some part) (start : Start) (goes : GoesTo move None part start) (leaves : Leaves files_of opened_of past_of faults_of tells c ms limbo from m here d after seen_it move start) where
+  module _ (has : Has tells old.stores held) (is : CopiesFurther from tells old move files held) (next_is : slice_get move.parts move.at ≡ Some part) (start : Start) (goes : GoesTo move None part start) (leaves : Leaves files_of opened_of past_of faults_of tells c ms limbo from m here d after seen_it move start) where
     v : AreHeld m.granularity b
     v = valid files_of opened_of past_of faults_of tells c ms limbo from m here d after seen_it move part files held has is
 
@@ -210,7 +212,7 @@ module _ {S : Type 0} (files_of : S → Files) (opened_of : S → Name → ℕ) 
 
       -- THE MOVE THEN
 
-      module _ (back : List Sample) (grown : GrownFile m.granularity b start entry (IsTrue held.stands) (IsTrue tells) WroteBytes (CopiedOf most b back Whole)) (left : IsTrue held.stands → PartLeft q back (end_after (last_of move.pending move.listed))) (none : NoneOf ((from + 1) + 1) limbo) (longer : start.entry.len ≤ entry.len)
+      module _ (back : List Sample) (grown : GrownFile m.granularity b start entry (IsTrue held.stands) (IsTrue tells) WroteBytes (CopiedOf most b back Whole)) (left : IsTrue held.stands → PartLeft q back (end_after (last_of move.pending move.listed))) (apart_from : Apart files_of opened_of past_of faults_of tells c ms limbo from m here d after seen_it move) (longer : start.entry.len ≤ entry.len)
           (nm : MoveState) (run : IsMove is.runs.fine nm) (adv : Advances move nm None len) (sets : SetsLast entry move.pending nm.pending) where
         abbrev pub f : Filed
         f = grown.file
@@ -287,6 +289,32 @@ module _ {S : Type 0} (files_of : S → Files) (opened_of : S → Name → ℕ) 
                   omega (arith, long, longer, f_len, short)
             ]
 
+        -- what is in limbo under its name is no longer
+        abbrev IsLongAs : Filed → Type 0
+        IsLongAs x = (r : Retired) → Contains limbo r → r.name ≡ file_of ((from + 1) + 1, held.rows) x.entry → file_at (filed_at x) (list_at (from + 1) held) ≡ None → r.entry.len ≤ x.entry.len
+
+        f_long_as : IsLongAs f
+        f_long_as r within named free =
+            elim place [
+              | inr made ↦ absurd (apart_from part start goes made.at r within (named ∙ (ap (λ (rows : List Row). file_of ((from + 1) + 1, rows) f.entry) (sym has.known.rows) ∙ same_entry_name)))
+              | inl on ↦ elim (put_cases (list_at (from + 1) held) files on.file on.within) [
+                | inl listed ↦ absurd (none_at (list_at (from + 1) held) (filed_at f) on.file free listed (sym (at_on on)))
+                | inr ahead ↦
+                    let on_is = All-contains (IsListed m.granularity held.rows) files on.file (is.runs.ahead.filed m.granularity (granularity_at ms (from + 1) m here)).listed ahead in
+                    let one_name = same_file m.granularity ((from + 1) + 1) held.rows f on.file (placed_it f f_own f_part).listed on_is (at_on on) in
+                    let long = is.runs.ahead.longer_retired r on.file within ahead (named ∙ one_name) (subst (λ (p : Place). file_at p (list_at (from + 1) held) ≡ None) (at_on on) free) in
+                    let begin = ap (λ (e : Entry). e.len) on.entry in
+                    let f_len = ap (λ (e : Entry). e.len) grown.entry_is in
+                    omega (arith, long, begin, longer, f_len)
+              ]
+            ]
+          where
+            same_entry_name : file_of ((from + 1) + 1, c.rows) f.entry ≡ file_of ((from + 1) + 1, c.rows) start.entry
+            same_entry_name = ap (λ (k : ℕ). let n : Name = ((from + 1) + 1, path_of (name_of (slice_get c.rows k)) f.entry.part.name) in n) (f_own ∙ sym of_it.own) ∙ ap (λ (p : Part). let n : Name = ((from + 1) + 1, path_of (name_of (slice_get c.rows start.entry.series)) p.name) in n) f_part
+
+            at_on : (on : GoesOnIn b move.series start) → filed_at f ≡ filed_at on.file
+            at_on on = at_file m.granularity b move.series part.head_len start v of_it.own f f_own f_part on
+
         may_be_listed : MayBeListed (from + 1) tells new held more
         may_be_listed = record {
           rise = listed_then.1.rise;
@@ -300,7 +328,7 @@ module _ {S : Type 0} (files_of : S → Files) (opened_of : S → Name → ℕ) 
               });
           safe = safe_then;
           longer = λ h x there within same. All-contains IsShort more x (listed_then.1.each IsShort (λ k y lt h within same. is.runs.ahead.longer h (get_or files k y) within (Contains-get_or files k y lt) same) f_short) within h there same;
-          longer_retired = λ r x there within named. absurd (All-contains (λ (y : Retired). y.name.0 ≢ (from + 1) + 1) limbo r none there (ap (λ (n : Name). n.0) named));
+          longer_retired = λ r x there within named free. All-contains IsLongAs more x (listed_then.1.each IsLongAs (λ k y lt r there named free. is.runs.ahead.longer_retired r (get_or files k y) there (Contains-get_or files k y lt) named free) f_long_as) within r there named free;
         }
 
         pub runs_then : RunsBeside (from + 1) tells new nm more held
@@ -386,42 +414,97 @@ module _ {S : Type 0} (files_of : S → Files) (opened_of : S → Name → ℕ) 
           n_is : n ≡ end_of (samples_ahead (from + 1) move files held)
           n_is = end_is m.granularity b move.series (last_of move.pending move.listed) v stands is.last
 
-          passed_n : since n (of_parts (take move.at ps)) ≡ []
-          passed_n = ap (λ (k : ℕ). since k (of_parts (take move.at ps))) n_is ∙ (ap (λ (fs : List Filed). since (end_of (samples_ahead (from + 1) move files held)) (of_parts fs)) (sym (first_ps move.at (omega (arith, few)))) ∙ is.passed stands)
-
           rises_n : RisesFrom n ((grown.samples stands).copied ++ (grown.samples stands).more)
           rises_n = subst (RisesFrom n) (grown.samples stands).next (left stands).rises
 
           q_is : q.samples ≡ (left stands).front ++ ((grown.samples stands).copied ++ (grown.samples stands).more)
           q_is = (left stands).are ∙ ap (λ (l : List Sample). (left stands).front ++ l) (grown.samples stands).next
 
+          own_is : (g : ManifestState) × (slice_get ms from ≡ Some g) × (g.granularity ≡ is.runs.fine)
+          own_is = source tells old from move files held has is
+
+          abbrev g_own : Granularity
+          g_own = own_is.0.granularity
+
+          known : AreHeld g_own (tier from held)
+          known = (has.known.each from own_is.0 own_is.1).valid
+
+          all_parts : AllByRecursion (IsOfRowIn g_own held.rows move.series) (q_here.front ++ q ∷ q_here.back)
+          all_parts = subst (AllByRecursion (IsOfRowIn g_own held.rows move.series)) q_here.are (first_files g_own held.rows move.series (length move.parts) (list_at from held) (known.filed.filed stands))
+
+          from_q : AllByRecursion (IsOfRowIn g_own held.rows move.series) (q ∷ q_here.back)
+          from_q = all_rest (IsOfRowIn g_own held.rows move.series) q_here.front (q ∷ q_here.back) all_parts
+
+          rise_parts : PlacesRise (q_here.front ++ q ∷ q_here.back)
+          rise_parts = subst PlacesRise q_here.are (rise_front ps (drop (length move.parts) (of_row move.series (list_at from held))) (subst PlacesRise (sym (take-append-drop (length move.parts) (of_row move.series (list_at from held)))) (rise_row move.series (list_at from held) known.apart)))
+
           later_n : AllByRecursion (IsLater n) q_here.back
-          later_n =
-              let own = source tells old from move files held has is in
-              let known = (has.known.each from own.0 own.1).valid in
-              let filed = known.filed.filed stands in
-              let firsts = subst (AllByRecursion (IsOfRowIn own.0.granularity held.rows move.series)) q_here.are (first_files own.0.granularity held.rows move.series (length move.parts) (list_at from held) filed) in
-              let both = all_rest (IsOfRowIn own.0.granularity held.rows move.series) q_here.front (q ∷ q_here.back) firsts in
-              let rise_ps : PlacesRise ps = rise_front ps (drop (length move.parts) (of_row move.series (list_at from held))) (subst PlacesRise (sym (take-append-drop (length move.parts) (of_row move.series (list_at from held)))) (rise_row move.series (list_at from held) known.apart)) in
-              later_all own.0.granularity held.rows move.series q q_here.back n both.0 (ends_later q n (left stands).front back (left stands).are (left stands).some (left stands).rises both.0.0.inside) (rise_rest q_here.front (q ∷ q_here.back) (subst PlacesRise q_here.are rise_ps)) both.1
+          later_n = later_all g_own held.rows move.series q q_here.back n from_q.0 (ends_later q n (left stands).front back (left stands).are (left stands).some (left stands).rises from_q.0.0.inside) (rise_rest q_here.front (q ∷ q_here.back) rise_parts) from_q.1
 
-          abbrev left_then : List Sample
-          left_then = (grown.samples stands).more ++ of_parts q_here.back
+          -- what is copied lies in the part
+          begins_in : q.entry.part.start ≤ end_from n (grown.samples stands).copied
+          begins_in = inside_end q n (left stands).front (grown.samples stands).copied (grown.samples stands).more q_is (grown.samples stands).some rises_n from_q.0.0.inside
 
-          copies_next : CopiesNext most from move files more held (grown.samples stands).copied left_then
-          copies_next = record {
-            left = ap (λ (k : ℕ). since k (of_parts ps)) (sym n_is) ∙ left_is ps move.at q q_here n passed_n (left stands).front (grown.samples stands).copied (grown.samples stands).more q_is (left stands).earlier rises_n later_n;
-            ahead = ahead_is;
-            few = (grown.samples stands).few;
-          }
-            where
-              ahead_is : samples_ahead (from + 1) move more held ≡ samples_ahead (from + 1) move files held ++ (grown.samples stands).copied
-              ahead_is = ap (samples_of move.series) files_are ∙ samples_then m.granularity b move.series part.head_len start v of_it.own f f_own f_part place (grown.samples stands).copied (grown.samples stands).samples
+          gone_n : since (end_from n (grown.samples stands).copied) (of_parts q_here.front) ≡ []
+          gone_n = earlier_all g_own held.rows move.series q_here.front q q_here.back (end_from n (grown.samples stands).copied) from_q.0 begins_in rise_parts (all_front (IsOfRowIn g_own held.rows move.series) q_here.front (q ∷ q_here.back) all_parts)
+
+          part_in : AllByRecursion (λ (s : Sample). HoldsMoment q.entry.part s.t) ((grown.samples stands).copied ++ (grown.samples stands).more)
+          part_in = all_rest (λ (s : Sample). HoldsMoment q.entry.part s.t) (left stands).front ((grown.samples stands).copied ++ (grown.samples stands).more)
+              (subst (AllByRecursion (λ (s : Sample). HoldsMoment q.entry.part s.t)) q_is (recursion_from_All (λ (s : Sample). HoldsMoment q.entry.part s.t) q.samples from_q.0.0.inside))
+
+          copied_in : AllByRecursion (λ (s : Sample). HoldsMoment q.entry.part s.t) (grown.samples stands).copied
+          copied_in = all_front (λ (s : Sample). HoldsMoment q.entry.part s.t) (grown.samples stands).copied (grown.samples stands).more part_in
+
+          n_in : n ≤ q.entry.part.end
+          n_in = ends_later q n (left stands).front back (left stands).are (left stands).some (left stands).rises from_q.0.0.inside
+
+          later_now : AllByRecursion (IsLater (end_from n (grown.samples stands).copied)) q_here.back
+          later_now = later_all g_own held.rows move.series q q_here.back (end_from n (grown.samples stands).copied) from_q.0 (inside_until q.entry.part.end n (grown.samples stands).copied n_in (weaker (λ s. HoldsMoment q.entry.part s.t) (λ s. s.t < q.entry.part.end) (λ s in_part. in_part.1) (grown.samples stands).copied copied_in)) (rise_rest q_here.front (q ∷ q_here.back) rise_parts) from_q.1
+
+          ahead_is : samples_ahead (from + 1) move more held ≡ samples_ahead (from + 1) move files held ++ (grown.samples stands).copied
+          ahead_is = ap (samples_of move.series) files_are ∙ samples_then m.granularity b move.series part.head_len start v of_it.own f f_own f_part place (grown.samples stands).copied (grown.samples stands).samples
 
           end_then : end_of (samples_ahead (from + 1) nm more held) ≡ end_from n (grown.samples stands).copied
           end_then =
               ap (λ (x : MoveState). end_of (samples_ahead (from + 1) x more held)) same_move
-              ∙ (ap end_of copies_next.ahead ∙ (end_from-append 0 (samples_ahead (from + 1) move files held) (grown.samples stands).copied ∙ ap (λ (k : ℕ). end_from k (grown.samples stands).copied) (sym n_is)))
+              ∙ (ap end_of ahead_is ∙ (end_from-append 0 (samples_ahead (from + 1) move files held) (grown.samples stands).copied ∙ ap (λ (k : ℕ). end_from k (grown.samples stands).copied) (sym n_is)))
+
+          -- something is left of the parts from one on
+          left_from : (k : ℕ) (fs : List Filed) → drop k ps ≡ fs → AllByRecursion (λ (x : Filed). since (end_from n (grown.samples stands).copied) x.samples ≢ []) fs → All (IsLeft (from + 1) nm more held) (drop k (oldest from nm.series (length nm.parts) held))
+          left_from k fs are all =
+              subst (λ (l : List Filed). All (IsLeft (from + 1) nm more held) (drop k l)) (sym (ap (λ (x : MoveState). oldest from x.series (length nm.parts) held) same_move ∙ ap (λ (j : ℕ). oldest from move.series j held) long_then))
+              (subst (All (IsLeft (from + 1) nm more held)) (sym are) (All-from_recursion (IsLeft (from + 1) nm more held) fs (subst (λ (j : ℕ). AllByRecursion (λ (x : Filed). since j x.samples ≢ []) fs) (sym end_then) all)))
+
+          -- and they begin later
+          later_from : (k : ℕ) (fs : List Filed) → drop k ps ≡ fs → AllByRecursion (IsLater (end_from n (grown.samples stands).copied)) fs → All (IsAllLater (from + 1) nm more held) (drop k (oldest from nm.series (length nm.parts) held))
+          later_from k fs are all =
+              subst (λ (l : List Filed). All (IsAllLater (from + 1) nm more held) (drop k l)) (sym (ap (λ (x : MoveState). oldest from x.series (length nm.parts) held) same_move ∙ ap (λ (j : ℕ). oldest from move.series j held) long_then))
+              (subst (All (IsAllLater (from + 1) nm more held)) (sym are) (All-from_recursion (IsAllLater (from + 1) nm more held) fs (subst (λ (j : ℕ). AllByRecursion (λ (x : Filed). BeginsAt j x.samples) fs) (sym end_then) (later_begins (end_from n (grown.samples stands).copied) fs all))))
+
+          abbrev left_then : List Sample
+          left_then = (grown.samples stands).more ++ of_parts q_here.back
+
+          copies_next : CopiesLines most from move nm files more held (grown.samples stands).copied left_then
+          copies_next = record {
+            left = ap (λ (k : ℕ). since k (of_parts ps)) (sym n_is) ∙ (left_is ps move.at q q_here n (left stands).front (grown.samples stands).copied (grown.samples stands).more q_is (left stands).earlier rises_n later_n gone_n ∙ ap (λ (l : List Sample). l ++ ((grown.samples stands).copied ++ left_then)) before_is);
+            still = left_now_of ∙ left_now ps move.at q q_here n (left stands).front (grown.samples stands).copied (grown.samples stands).more q_is (left stands).earlier rises_n later_n gone_n later_now;
+            ahead = ahead_is;
+            few = (grown.samples stands).few;
+            some = (grown.samples stands).some;
+            further = let end = end_then in let high = end_from-ge n (grown.samples stands).copied (RisesFrom-front n (grown.samples stands).copied (grown.samples stands).more rises_n) in omega (arith, n_is, end, high);
+            within = λ r r_next.
+                let one : ◌≡◌ {A = Option Filed} (Some q) (Some r) = sym q_next.here ∙ r_next.here in
+                subst (λ (x : Filed). All (λ (s : Sample). HoldsMoment x.entry.part s.t) (grown.samples stands).copied) (same_Some q r one) (All-from_recursion (λ (s : Sample). HoldsMoment q.entry.part s.t) (grown.samples stands).copied copied_in);
+          }
+            where
+              left_now_of : left_of from nm (length nm.parts) more held ≡ since (end_from n (grown.samples stands).copied) (of_parts ps)
+              left_now_of =
+                  ap (λ (k : ℕ). since k (of_parts (oldest from nm.series (length nm.parts) held))) end_then
+                  ∙ (ap (λ (x : MoveState). since (end_from n (grown.samples stands).copied) (of_parts (oldest from x.series (length nm.parts) held))) same_move
+                  ∙ ap (λ (k : ℕ). since (end_from n (grown.samples stands).copied) (of_parts (oldest from move.series k held))) long_then)
+
+              before_is : since n (of_parts (take move.at ps)) ≡ left_of from move move.at files held
+              before_is = ap (λ (k : ℕ). since k (of_parts (take move.at ps))) n_is ∙ ap (λ (fs : List Filed). since (end_of (samples_ahead (from + 1) move files held)) (of_parts fs)) (sym (first_ps move.at (omega (arith, few))))
 
           passed_at : (k : ℕ) → k ≤ length move.parts → since (end_from n (grown.samples stands).copied) (of_parts (take k ps)) ≡ [] → left_of from nm k more held ≡ []
           passed_at k less none_left =
@@ -437,16 +520,19 @@ module _ {S : Type 0} (files_of : S → Files) (opened_of : S → Name → ℕ) 
             | inr (p, at_hand, same) ↦ inr (ap (λ (x : MoveState). x.at) same)
           ]
 
+          one_more_at : move.at + 1 ≡ suc move.at
+          one_more_at = omega arith
+
           passed_then : (stands : IsTrue held.stands) → left_of from nm nm.at more held ≡ []
           passed_then stands = elim at_cases [
             | inl same ↦ subst (λ (k : ℕ). left_of from nm k more held ≡ []) (sym same)
-                (passed_at stands move.at (omega (arith, few)) (still_passed ps move.at q q_here n (passed_n stands) (left stands).front (grown.samples stands).copied (grown.samples stands).more (q_is stands) (left stands).earlier (rises_n stands) (later_n stands)))
+                (passed_at stands move.at (omega (arith, few)) (still_passed ps move.at q q_here n (left stands).front (grown.samples stands).copied (grown.samples stands).more (q_is stands) (left stands).earlier (rises_n stands) (later_n stands) (gone_n stands)))
             | inr same ↦ subst (λ (k : ℕ). left_of from nm k more held ≡ []) (sym same)
                 (passed_at stands (move.at + 1) (omega (arith, few))
-                (now_passed ps move.at q q_here n (passed_n stands) (left stands).front (grown.samples stands).copied (grown.samples stands).more (q_is stands) (left stands).earlier (rises_n stands) (later_n stands) ((grown.samples stands).whole (whole_is.1 same))))
+                (now_passed ps move.at q q_here n (left stands).front (grown.samples stands).copied (grown.samples stands).more (q_is stands) (left stands).earlier (rises_n stands) (later_n stands) (gone_n stands) ((grown.samples stands).whole (whole_is.1 same))))
           ]
 
-          pub says_more : nm.at ≢ length nm.parts → SaysCopied most from tells new move nm files held ends.More
+          pub says_more : nm.at ≢ length nm.parts → SaysLines most from tells new move nm files held ends.More
           says_more not_all = (
             more,
             record {
@@ -463,30 +549,36 @@ module _ {S : Type 0} (files_of : S → Files) (opened_of : S → Name → ℕ) 
               (grown.samples stands).copied,
               left_then stands,
               copies_next stands,
-              (grown.samples stands).some,
               elim at_cases [
-                | inl same ↦ rest_more ps move.at q q_here n (passed_n stands) (left stands).front (grown.samples stands).copied (grown.samples stands).more (q_is stands) (left stands).earlier (rises_n stands) (later_n stands)
-                    ((grown.samples stands).others (λ whole. let on = whole_is.0 whole in omega (arith, on, same)))
-                | inr same ↦ rest_back ps move.at q q_here n (passed_n stands) (left stands).front (grown.samples stands).copied (grown.samples stands).more (q_is stands) (left stands).earlier (rises_n stands) (later_n stands)
-                    ((grown.samples stands).whole (whole_is.1 same)) (λ all. not_all (let long = long_ps in let long₂ = long_then in omega (arith, same, all, long, long₂)))
+                | inl same ↦ subst (λ (k : ℕ). All (IsLeft (from + 1) nm more held) (drop k (oldest from nm.series (length nm.parts) held))) (sym same)
+                    (left_from stands move.at (q ∷ q_here.back) q_here.dropped (
+                      λ none. (grown.samples stands).others (λ whole. let on = whole_is.0 whole in omega (arith, on, same))
+                          (sym (left_of_part ps move.at q q_here n (left stands).front (grown.samples stands).copied (grown.samples stands).more (q_is stands) (left stands).earlier (rises_n stands) (later_n stands) (gone_n stands)) ∙ none),
+                      later_left (end_from n (grown.samples stands).copied) q_here.back (later_now stands),
+                    ))
+                | inr same ↦ subst (λ (k : ℕ). All (IsLeft (from + 1) nm more held) (drop k (oldest from nm.series (length nm.parts) held))) (sym (same ∙ one_more_at))
+                    (left_from stands (suc move.at) q_here.back q_here.behind (later_left (end_from n (grown.samples stands).copied) q_here.back (later_now stands)))
+              ],
+              λ on. elim at_cases [
+                | inl same ↦ absurd (omega (arith, on, same))
+                | inr same ↦ subst (λ (k : ℕ). All (IsAllLater (from + 1) nm more held) (drop k (oldest from nm.series (length nm.parts) held))) (sym (same ∙ one_more_at)) (later_from stands (suc move.at) q_here.back q_here.behind (later_now stands))
               ],
             ),
           )
 
-          pub says_all : nm.at ≡ length nm.parts → SaysCopied most from tells new move nm files held ends.Copied
+          pub says_all : nm.at ≡ length nm.parts → SaysLines most from tells new move nm files held ends.Copied
           says_all all = (
             more,
             record {
               runs = runs_then;
               stage = ap (λ (x : MoveState). x.stage) same_move ∙ is.stage;
               all_copied = all;
-              lengths = lengths_then;
-              none_left = λ stands. subst (λ (k : ℕ). left_of from nm k more held ≡ []) all (passed_then stands);
+              parts = copied_whole from nm more held all lengths_then passed_then;
             },
             λ stands. (
               (grown.samples stands).copied,
-              subst (λ (l : List Sample). CopiesNext most from move files more held (grown.samples stands).copied l)
-                  (none_rest ps move.at q q_here n (passed_n stands) (left stands).front (grown.samples stands).copied (grown.samples stands).more (q_is stands) (left stands).earlier (rises_n stands) (later_n stands) ((grown.samples stands).whole (whole_is.1 whole)) (let long = long_ps in let long₂ = long_then in omega (arith, whole, all, long, long₂)))
+              subst (λ (l : List Sample). CopiesLines most from move nm files more held (grown.samples stands).copied l)
+                  (none_rest ps move.at q q_here n (left stands).front (grown.samples stands).copied (grown.samples stands).more (q_is stands) (left stands).earlier (rises_n stands) (later_n stands) (gone_n stands) ((grown.samples stands).whole (whole_is.1 whole)) (let long = long_ps in let long₂ = long_then in omega (arith, whole, all, long, long₂)))
                   (copies_next stands),
             ),
           )

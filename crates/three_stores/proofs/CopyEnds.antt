@@ -31,15 +31,15 @@ use Rattle.tier_store.specs.Stored.{AreHeld}
 use Rattle.tier_store.proofs.Lasts.{same_last}
 use Rattle.three_stores.specs.Change.{Has}
 use Rattle.three_stores.specs.Copied.{end_after, samples_at}
-use Rattle.three_stores.specs.Copying.{CopiesBeside, FindsLine, IsDamaged, SaysCopied}
-use Rattle.three_stores.specs.Pinned.{SeenAll, beside, NoneOf}
+use Rattle.three_stores.specs.Copying.{CopiesFurther, FindsLine, IsDamaged, SaysLines}
+use Rattle.three_stores.specs.Pinned.{SeenAll, beside}
 use Rattle.three_stores.specs.Seen.{seen_on}
 use Rattle.three_stores.specs.Stores.{Stores, list_at, tier}
 use Rattle.three_stores.specs.declared.copying.CopyEnd.TheVariants as ends
 use Rattle.three_stores.specs.declared.limbo.Retired.{Retired}
 use Rattle.three_stores.proofs.CopiedFiles.{last_file, within_row}
 use Rattle.three_stores.proofs.CopyCall.{CopiedOf, GrownFile, WroteLines, grown_bare, grown_stands, last_pushed, next_stands, says_all, says_more}
-use Rattle.three_stores.proofs.CopyFrames.{Leaves, Wrote}
+use Rattle.three_stores.proofs.CopyFrames.{Apart, Leaves, Wrote}
 use Rattle.three_stores.proofs.CopyLists.{PartLeft, apart_parts, ends_later, lines_none, part_left}
 use Rattle.three_stores.proofs.CopyPlaces.{Start}
 use Rattle.three_stores.proofs.CopyParts.{part_in, q_filed, q_part, source_there}
@@ -71,7 +71,7 @@ nowhere_before e begin start is = go (nat_eq e.part.start begin) refl (nat_lt be
     go false same false high is = absurd (cc (is))
 
 -- a file's last sample is later than its partition's start
-begins_within : (g : Granularity) (rows : List Row) (f : Filed) → IsFiled g rows f → f.entry.part.start < f.entry.last + 1
+pub begins_within : (g : Granularity) (rows : List Row) (f : Filed) → IsFiled g rows f → f.entry.part.start < f.entry.last + 1
 begins_within g rows f filed = go f.samples filed.some filed.to filed.file.rising (recursion_from_All (λ (s : Sample). HoldsMoment f.entry.part s.t) f.samples filed.inside)
   where
     go : (xs : List Sample) → xs ≡ filed.first ∷ filed.others → f.entry.last + 1 ≡ end_of xs → RisesFrom 0 xs → AllByRecursion (λ (s : Sample). HoldsMoment f.entry.part s.t) xs → f.entry.part.start < f.entry.last + 1
@@ -98,7 +98,7 @@ module _ {S : Type 0} (files_of : S → Files) (opened_of : S → Name → ℕ) 
 
   -- WHAT THE ANSWER SAYS
 
-  module _ (files : List Filed) (held : Stores) (has : Has tells old.stores held) (is : CopiesBeside from tells old move files held) (name : Name) (at len most : ℕ) (line : FindsLine from move held name at len) (none : NoneOf ((from + 1) + 1) limbo) (nm : MoveState) (run : IsMove is.runs.fine nm) (adv : Advances move nm None len) (wrote : WroteIt)
+  module _ (files : List Filed) (held : Stores) (has : Has tells old.stores held) (is : CopiesFurther from tells old move files held) (name : Name) (at len most : ℕ) (line : FindsLine from move held name at len) (apart_from : Apart files_of opened_of past_of faults_of tells c ms limbo from m here d after seen_it move) (nm : MoveState) (run : IsMove is.runs.fine nm) (adv : Advances move nm None len) (wrote : WroteIt)
       (copies : IsTrue tells → (p : Entry) (start : Start) (bytes : List ℕ) → GoesTo move None p start → files_of d (source_file move p) ≡ Some bytes → CopiesPart move nm start p at len most bytes (files_of d) (files_of after) (opened_of after) (past_of after)) where
     abbrev n : ℕ
     n = end_after (last_of move.pending move.listed)
@@ -205,15 +205,15 @@ module _ {S : Type 0} (files_of : S → Files) (opened_of : S → Name → ℕ) 
             λ s. absurd (cc (s, over)),
           )
 
-      pub more_said : nm.at ≢ length nm.parts → SaysCopied most from tells new move nm files held ends.More
+      pub more_said : nm.at ≢ length nm.parts → SaysLines most from tells new move nm files held ends.More
       more_said not_all =
           says_more files_of opened_of past_of faults_of tells c ms limbo from m here d after seen_it move part files held has is next_is to.0 to.1 to.2 line.file line.next at len most line.low line.long line.behind line.splits one.entry one.of one.own Whole one.says
-          grown.0 grown.1 grown.2 none one.longer nm run adv one.sets (λ x. x, λ x. x) not_all
+          grown.0 grown.1 grown.2 apart_from one.longer nm run adv one.sets (λ x. x, λ x. x) not_all
 
-      pub all_said : nm.at ≡ length nm.parts → SaysCopied most from tells new move nm files held ends.Copied
+      pub all_said : nm.at ≡ length nm.parts → SaysLines most from tells new move nm files held ends.Copied
       all_said all =
           says_all files_of opened_of past_of faults_of tells c ms limbo from m here d after seen_it move part files held has is next_is to.0 to.1 to.2 line.file line.next at len most line.low line.long line.behind line.splits one.entry one.of one.own Whole one.says
-          grown.0 grown.1 grown.2 none one.longer nm run adv one.sets (λ x. x, λ x. x) all
+          grown.0 grown.1 grown.2 apart_from one.longer nm run adv one.sets (λ x. x, λ x. x) all
 
     -- NO LINE WAS COPIED
 

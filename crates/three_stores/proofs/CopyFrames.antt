@@ -1,7 +1,7 @@
 -- What a step of copying leaves: all that is held, and what is to be listed.
-use Rattle.std.proofs.Common.{◌≡◌, ◌≢◌, ◌⊎◌, inl, inr, true, Bool, ℕ, zero, suc, ◌<◌, ◌≤◌, ◌+◌, List, [], Some, None, Ok, Err, Result, length, get_or, refl, sym, ◌∙◌, ap, subst, arith}
+use Rattle.std.proofs.Common.{◌≡◌, ◌⊎◌, inl, inr, true, Bool, ℕ, zero, suc, ◌<◌, ◌≤◌, ◌+◌, List, [], Some, None, Ok, Err, Result, length, get_or, refl, sym, ◌∙◌, ap, subst, arith}
 use Rattle.std.specs.Prelude.{Contains, IsTrue, slice_get}
-use Rattle.std.proofs.lemmas.List.Elements.{All-contains}
+use Rattle.std.proofs.lemmas.List.Elements.{All-contains, Contains-get_or}
 use Rattle.disk_model.specs.Files.{Name, Files, HasFile, At, Rose}
 use Rattle.disk_model.specs.Past.{Past, MayLeave, Passes}
 use Rattle.disk_model.specs.declared.disk.DiskErr.{DiskErr}
@@ -24,32 +24,33 @@ use Rattle.store_manifest.specs.Manifest.{ManifestState}
 use Rattle.store_manifest.specs.declared.entry.Entry.{Entry}
 use Rattle.tier_store.specs.Ahead.{HasCopied, IsLed}
 use Rattle.tier_store.specs.Ends.{Done, end_of_disk}
-use Rattle.tier_store.specs.Flush.{start_of, with_files}
-use Rattle.tier_store.specs.Held.{Filed, Held, IsIn, IsListed, file_of, name_of, shelf_of}
+use Rattle.tier_store.specs.Flush.{put_all, start_of, with_files}
+use Rattle.tier_store.specs.Held.{Filed, Held, IsIn, IsListed, file_of, filed_at, name_of, shelf_of}
 use Rattle.tier_store.specs.Stored.{AreHeld, AreSafe, Holds, TierStored}
-use Rattle.tier_store.proofs.Names.{name_cases}
+use Rattle.tier_store.proofs.Listed.{all_put_all, listed_at}
+use Rattle.tier_store.proofs.Names.{name_cases, same_file}
 use Rattle.tier_store.proofs.There.{contains_map}
 use Rattle.tier_store.proofs.Three.{same_cases}
 use Rattle.three_stores.specs.Stores.{Stores, list_at, tier, with_list}
 use Rattle.three_stores.specs.Seen.{seen_on}
 use Rattle.three_stores.specs.Change.{Has}
-use Rattle.three_stores.specs.Copying.{CopiesBeside, LeavesOthers}
+use Rattle.three_stores.specs.Copying.{CopiesFurther, LeavesOthers}
 use Rattle.three_stores.specs.Given.{ChangesGiven}
 use Rattle.three_stores.specs.Limbo.{staying}
 use Rattle.three_stores.specs.Moving.{of_files}
-use Rattle.three_stores.specs.Pinned.{SeenAll, beside, NoneOf, IsThereTo, KeepsFronts, KeepsShown}
-use Rattle.three_stores.specs.Revival.{KeepsWhole, store_with}
+use Rattle.three_stores.specs.Pinned.{SeenAll, beside, IsThereTo, KeepsFronts, KeepsShown}
+use Rattle.three_stores.specs.Revival.{AreWhole, KeepsWhole, store_with}
 use Rattle.three_stores.specs.declared.limbo.Retired.{Retired}
 use Rattle.three_stores.proofs.Beside.{OnStore, safe_beside}
 use Rattle.three_stores.proofs.CopyPending.{all_in}
 use Rattle.three_stores.proofs.CopyPlaces.{Start, Where, where_it_goes, placed}
+use Rattle.three_stores.proofs.Dropped.{Longer, by_files}
 use Rattle.three_stores.proofs.Left.{all_left, hold_at}
 use Rattle.three_stores.proofs.MovedFiles.{has_copied, same_size, valid_with}
 use Rattle.three_stores.proofs.OnePlace.{given_done}
-use Rattle.three_stores.proofs.Places.{set_same, one_manifest, within_three}
+use Rattle.three_stores.proofs.Places.{granularity_at, set_same, one_manifest, within_three}
 use Rattle.three_stores.proofs.ReadsThen.{has_read}
-use Rattle.three_stores.proofs.Showing.{held_same, name_listed, read_shown, shown}
-use Rattle.three_stores.proofs.WithoutLimbo.{none_whole}
+use Rattle.three_stores.proofs.Showing.{held_same, known_spares, name_listed, read_shown, shown}
 
 -- the stores with the list that a place has
 list_kept : (i : ℕ) (s : Stores) → i < 3 → with_list i (list_at i s) s ≡ s
@@ -57,6 +58,11 @@ list_kept zero s low = refl
 list_kept (suc zero) s low = refl
 list_kept (suc (suc zero)) s low = refl
 list_kept (suc (suc (suc i))) s low = absurd (omega (arith, low))
+
+-- a file that is ahead is listed or is to be
+pub put_cases : (xs fs : List Filed) (f : Filed) → Contains (put_all xs fs) f → Contains xs f ⊎ Contains fs f
+put_cases xs fs f within =
+    All-contains (λ (x : Filed). Contains xs x ⊎ Contains fs x) (put_all xs fs) f (all_put_all (λ (x : Filed). Contains xs x ⊎ Contains fs x) xs fs (λ k d lt. inl (Contains-get_or xs k d lt)) (λ k d lt. inr (Contains-get_or fs k d lt))) within
 
 module _ {S : Type 0} (files_of : S → Files) (opened_of : S → Name → ℕ) (past_of : S → Past) (faults_of : S → ℕ) (tells : Bool) (c : CatalogueState) (ms : List ManifestState) (limbo : List Retired) (from : ℕ) (m : ManifestState) (here : slice_get ms (from + 1) ≡ Some m) (d after : S)
     (seen_it : IsTrue tells → MayLeave (past_of d) (files_of d)) where
@@ -79,13 +85,17 @@ module _ {S : Type 0} (files_of : S → Files) (opened_of : S → Name → ℕ) 
   abbrev pub Wrote : MoveState → Entry → Type 0
   Wrote move part = ((start : Start) × GoesTo move None part start × Leaves move start) ⊎ (GoesNowhere move None part × Reads)
 
+  -- no file in limbo has the name of a file that is made anew
+  abbrev pub Apart : MoveState → Type 0
+  Apart move = (p : Entry) (start : Start) → GoesTo move None p start → start.at ≡ None → (r : Retired) → Contains limbo r → r.name ≡ file_of (i + 1, c.rows) start.entry → ⊥
+
   -- what it leaves of its store
   pub record Stays (files : List Filed) (held : Stores) : Type 0 where
     pub stored : TierStored m.granularity m.journal (files_of after) (opened_of after) (past_of after) (tier i held)
     pub moments : Passes (λ a b. Holds m.granularity b (tier i held)) (past_of d) (past_of after)
     pub safe : AreSafe (of_files i held files) (files_of after) (opened_of after) (past_of after)
 
-  module _ (move : MoveState) (part : Entry) (files : List Filed) (held : Stores) (has : Has tells old.stores held) (is : CopiesBeside from tells old move files held) where
+  module _ (move : MoveState) (part : Entry) (files : List Filed) (held : Stores) (has : Has tells old.stores held) (is : CopiesFurther from tells old move files held) where
     abbrev pub base : Held
     base = with_files (tier i held) files
 
@@ -160,14 +170,44 @@ module _ {S : Type 0} (files_of : S → Files) (opened_of : S → Name → ℕ) 
             }
 
         -- what is shown stays
-        fronts_goes : NoneOf (i + 1) limbo → IsTrue tells → KeepsFronts old new
-        fronts_goes none told name len there front some within begins = elim (name_cases name (file_of (shelf_of base) start.entry)) [
+        fronts_goes : Apart move → IsTrue tells → KeepsFronts old new
+        fronts_goes apart_from told name len there front some within begins = elim (name_cases name (file_of (shelf_of base) start.entry)) [
           | inl same ↦ subst (λ (n : Name). Begins front (files_of after n)) (sym same) ((call told).front front some (at_most there same) (subst (λ (n : Name). Begins front (files_of d n)) same begins))
           | inr apart ↦ subst (Begins front) (sym ((call told).elsewhere name apart)) begins
         ]
           where
             at_most : IsThereTo old name len → name ≡ file_of (shelf_of base) start.entry → length front ≤ start_of start.at
-            at_most (inr r) same = absurd (All-contains (λ (x : Retired). x.name.0 ≢ i + 1) limbo r.file none r.within (ap (λ (n : Name). n.0) (r.named ∙ same)))
+            at_most (inr r) same = by_place where_is
+              where
+                named : r.file.name ≡ file_of (i + 1, held.rows) start.entry
+                named = r.named ∙ same
+
+                -- as far as it is listed, where it is
+                listed_so : (h : Filed) → Contains (list_at i held) h → file_of (i + 1, held.rows) h.entry ≡ name → len ≤ h.entry.len
+                listed_so h h_in h_named = All-contains (Longer i held.rows name len) (list_at i held) h (by_files i held.rows (list_at i held) name len (known_spares old.stores held name len has.known r.no_shorter i (within_three ms i m has.known.three here))) h_in h_named
+
+                ahead_so : (x : Filed) → Contains files x → file_of (i + 1, held.rows) x.entry ≡ name → len ≤ x.entry.len
+                ahead_so x x_in x_named = elim (listed_at (list_at i held) (filed_at x)) [
+                  | inl free ↦
+                      let more = is.runs.ahead.longer_retired r.file x r.within x_in (r.named ∙ sym x_named) free in
+                      let longer = r.longer in
+                      omega (arith, more, longer)
+                  | inr (h, h_in, h_at, h_there) ↦
+                      let known = (has.known.each i m here).valid in
+                      let h_is = All-contains (IsListed m.granularity held.rows) (list_at i held) h known.filed.listed h_in in
+                      let x_is = All-contains (IsListed m.granularity held.rows) files x (is.runs.ahead.filed m.granularity (granularity_at ms i m here)).listed x_in in
+                      let long = listed_so h h_in (same_file m.granularity (i + 1) held.rows h x h_is x_is h_at ∙ x_named) in
+                      let more = is.runs.ahead.longer h x h_in x_in h_at in
+                      omega (arith, long, more)
+                ]
+
+                by_place : Where base move.series part.head_len start → length front ≤ start_of start.at
+                by_place (inr made) = absurd (apart_from part start goes made.at r.file r.within (named ∙ ap (λ (rows : List Row). file_of (i + 1, rows) start.entry) (sym has.known.rows)))
+                by_place (inl on) =
+                    let own : file_of (i + 1, held.rows) on.file.entry ≡ name = ap (file_of (i + 1, held.rows)) (sym on.entry) ∙ sym same in
+                    let long : len ≤ on.file.entry.len = elim (put_cases (list_at i held) files on.file on.within) [ inl listed ↦ listed_so on.file listed own | inr ahead ↦ ahead_so on.file ahead own ] in
+                    let at = ap start_of on.at in
+                    omega (arith, within, long, at)
             at_most (inl h) same =
                 let number = name_listed old.stores name len h in
                 let store : name.0 ≡ i + 1 = ap (λ (n : Name). n.0) same in
@@ -224,11 +264,11 @@ module _ {S : Type 0} (files_of : S → Files) (opened_of : S → Name → ℕ) 
     on_store (inl (start, goes, leaves)) told = on_goes start goes leaves told
     on_store (inr (nowhere, reads)) told = on_reads reads told
 
-    pub shown_still : Wrote move part → NoneOf (i + 1) limbo → KeepsShown tells old new
-    shown_still (inl (start, goes, leaves)) none =
+    pub shown_still : Wrote move part → Apart move → KeepsShown tells old new
+    shown_still (inl (start, goes, leaves)) apart_from =
         shown tells old new refl (λ name len h. held_same files_of opened_of past_of faults_of c ms d after name len h) (λ name len r. record { listed = r.no_shorter.listed; in_doubt = r.no_shorter.in_doubt; rows_in_doubt = r.no_shorter.rows_in_doubt })
-        (fronts_goes start goes leaves none)
-    shown_still (inr (nowhere, reads)) none = read_shown files_of opened_of past_of faults_of tells c ms limbo d after (λ told. (reads told).same)
+        (fronts_goes start goes leaves apart_from)
+    shown_still (inr (nowhere, reads)) apart_from = read_shown files_of opened_of past_of faults_of tells c ms limbo d after (λ told. (reads told).same)
 
   -- all other names stay
   pub leaves_others : (move : MoveState) (part : Entry) → Wrote move part → LeavesOthers move tells old new
@@ -245,10 +285,11 @@ module _ {S : Type 0} (files_of : S → Files) (opened_of : S → Name → ℕ) 
     limbo = λ r within there. there;
   }
 
-  -- files in limbo stay whole: those of another store are left, and of this one there is none
-  pub keeps_whole : NoneOf (i + 1) limbo → (IsTrue tells → OnStore (i + 1) m.journal.name (files_of d) (files_of after) (opened_of d) (opened_of after) (past_of d) (past_of after)) → KeepsWhole tells old new
-  keeps_whole none on j stands files low whole = elim (same_cases j i) [
-    | inl is ↦ ([], none_whole j tells new.stores limbo stands (subst (λ (k : ℕ). NoneOf (k + 1) limbo) (sym is) none))
+  -- files in limbo stay whole where those of this store do: those of another are left
+  pub keeps_whole : ((stands : Bool) (files : List Filed) → AreWhole i tells old.stores limbo stands files → (left : List Filed) × AreWhole i tells new.stores limbo stands left)
+      → (IsTrue tells → OnStore (i + 1) m.journal.name (files_of d) (files_of after) (opened_of d) (opened_of after) (past_of d) (past_of after)) → KeepsWhole tells old new
+  keeps_whole own on j stands files low whole = elim (same_cases j i) [
+    | inl is ↦ subst (λ (k : ℕ). (left : List Filed) × AreWhole k tells new.stores limbo stands left) (sym is) (own stands files (subst (λ (k : ℕ). AreWhole k tells old.stores limbo stands files) is whole))
     | inr apart ↦ (
       files,
       record {

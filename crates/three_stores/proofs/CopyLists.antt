@@ -2,11 +2,11 @@
 use Rattle.std.proofs.Common.{◌≡◌, ◌≢◌, inl, inr, ℕ, zero, suc, ◌+◌, ◌≤◌, ◌<◌, List, [], ◌∷◌, ◌++◌, length, take, drop, Some, refl, sym, ◌∙◌, ap, subst, arith, append_assoc, append-nil, true, false, Bool, cond}
 use Rattle.std.specs.Prelude.{All, nat_eq, nat_le, slice_get}
 use Rattle.std.specs.List.{AllByRecursion}
-use Rattle.std.proofs.lemmas.Bool.{cases_lt, cond-true, eqb-true}
+use Rattle.std.proofs.lemmas.Bool.{cases_lt, cond-false, cond-true, eqb-true}
 use Rattle.std.proofs.lemmas.Bool.Decides.{nat_tests}
 use Rattle.std.proofs.lemmas.List.{length-append, take-append-drop}
 use Rattle.std.proofs.lemmas.List.Concat.{flat_map-append}
-use Rattle.std.proofs.lemmas.List.Elements.{All-filter, All-head, All-tail, recursion_from_All}
+use Rattle.std.proofs.lemmas.List.Elements.{All-contains, All-filter, All-head, All-tail, Contains-append_right, recursion_from_All}
 use Rattle.std.proofs.lemmas.Option.{same_Some}
 use Rattle.partition_names.specs.declared.granularity.Granularity.{Granularity}
 use Rattle.partition_names.specs.declared.part.Part.{Part}
@@ -34,12 +34,14 @@ pub record SplitsHere (fs : List Filed) (at : ℕ) (q : Filed) : Type 0 where
   pub long : length front ≡ at
   pub taken : take at fs ≡ front
   pub more : take (suc at) fs ≡ front ++ q ∷ []
+  pub dropped : drop at fs ≡ q ∷ back
+  pub behind : drop (suc at) fs ≡ back
 
 pub splits_here : (fs : List Filed) (at : ℕ) (q : Filed) → slice_get fs at ≡ Some q → SplitsHere fs at q
 splits_here [] at q here = absurd (cc (here))
 splits_here (x ∷ fs) zero q here =
     let same : x ≡ q = same_Some x q here in
-    record { front = []; back = fs; are = ap (λ (f : Filed). f ∷ fs) same; long = refl; taken = refl; more = ap (λ (f : Filed). f ∷ []) same }
+    record { front = []; back = fs; are = ap (λ (f : Filed). f ∷ fs) same; long = refl; taken = refl; more = ap (λ (f : Filed). f ∷ []) same; dropped = ap (λ (f : Filed). f ∷ fs) same; behind = refl }
 splits_here (x ∷ fs) (suc at) q here =
     let rest = splits_here fs at q here in
     record {
@@ -49,6 +51,8 @@ splits_here (x ∷ fs) (suc at) q here =
       long = ap suc rest.long;
       taken = ap (λ (l : List Filed). x ∷ l) rest.taken;
       more = ap (λ (l : List Filed). x ∷ l) rest.more;
+      dropped = rest.dropped;
+      behind = rest.behind;
     }
 
 pub samples_append : (xs ys : List Filed) → of_files (xs ++ ys) ≡ of_files xs ++ of_files ys
@@ -67,19 +71,25 @@ since_later n (s ∷ xs) all =
 abbrev pub IsLater : ℕ → Filed → Type 0
 IsLater n f = AllByRecursion (λ (s : Sample). n ≤ s.t) f.samples × (f.samples ≢ [])
 
-since_files : (n : ℕ) (fs : List Filed) → AllByRecursion (IsLater n) fs → since n (of_files fs) ≡ of_files fs
+pub since_files : (n : ℕ) (fs : List Filed) → AllByRecursion (IsLater n) fs → since n (of_files fs) ≡ of_files fs
 since_files n [] all = refl
 since_files n (f ∷ fs) all =
     since-append n f.samples (of_files fs)
     ∙ (ap (λ (l : List Sample). l ++ since n (of_files fs)) (since_later n f.samples all.0.0) ∙ ap (λ (l : List Sample). f.samples ++ l) (since_files n fs all.1))
 
-some_files : (n : ℕ) (fs : List Filed) → AllByRecursion (IsLater n) fs → fs ≢ [] → of_files fs ≢ []
-some_files n [] all some = absurd (some refl)
-some_files n (f ∷ fs) all some = λ none. all.0.1 (front_none f.samples (of_files fs) none)
+-- so each begins later
+pub later_begins : (n : ℕ) (fs : List Filed) → AllByRecursion (IsLater n) fs → AllByRecursion (λ (f : Filed). BeginsAt n f.samples) fs
+later_begins n [] all = tt
+later_begins n (f ∷ fs) all = (begins f.samples all.0.0, later_begins n fs all.1)
   where
-    front_none : (xs ys : List Sample) → xs ++ ys ≡ [] → xs ≡ []
-    front_none [] ys is = refl
-    front_none (x ∷ xs) ys is = absurd (cc (is))
+    begins : (xs : List Sample) → AllByRecursion (λ (s : Sample). n ≤ s.t) xs → BeginsAt n xs
+    begins [] all = tt
+    begins (s ∷ xs) all = all.0
+
+-- so each has something that is later
+pub later_left : (n : ℕ) (fs : List Filed) → AllByRecursion (IsLater n) fs → AllByRecursion (λ (f : Filed). since n f.samples ≢ []) fs
+later_left n [] all = tt
+later_left n (f ∷ fs) all = (λ none. all.0.1 (sym (since_later n f.samples all.0.0) ∙ none), later_left n fs all.1)
 
 pub lines_none : (xs : List Sample) → length (lines_of xs) ≡ 0 → xs ≡ []
 lines_none [] is = refl
@@ -114,31 +124,39 @@ part_left g rows q n at filed split low = record {
     go [] begins rises = tt
     go (s ∷ xs) begins rises = (begins, rises.1)
 
-module _ (fs : List Filed) (at : ℕ) (q : Filed) (here : SplitsHere fs at q) (n : ℕ) (passed : since n (of_files (take at fs)) ≡ []) where
-  front_passed : since n (of_files here.front) ≡ []
-  front_passed = ap (λ (l : List Filed). since n (of_files l)) (sym here.taken) ∙ passed
+-- nothing of files is left that come before a moment
+pub since_earlier : (n : ℕ) (xs : List Sample) → AllByRecursion (λ (s : Sample). s.t < n) xs → since n xs ≡ []
+since_earlier n [] all = refl
+since_earlier n (s ∷ xs) all =
+    let high = all.0 in
+    let test : nat_le n s.t ≡ false = grind (arith, nat_tests, high) in
+    cond-false (nat_le n s.t) (s ∷ since n xs) (since n xs) test ∙ since_earlier n xs all.1
 
+pub left_all : (fs : List Filed) (at : ℕ) (q : Filed) (here : SplitsHere fs at q) (n : ℕ) → since n (of_files fs) ≡ since n (of_files (take at fs)) ++ (since n q.samples ++ since n (of_files here.back))
+left_all fs at q here n =
+    ap (λ (l : List Filed). since n (of_files l)) here.are
+    ∙ (ap (since n) (samples_append here.front (q ∷ here.back))
+    ∙ (since-append n (of_files here.front) (of_files (q ∷ here.back))
+    ∙ (ap (λ (l : List Filed). since n (of_files l) ++ since n (of_files (q ∷ here.back))) (sym here.taken) ∙ ap (λ (l : List Sample). since n (of_files (take at fs)) ++ l) (since-append n q.samples (of_files here.back)))))
+
+module _ (fs : List Filed) (at : ℕ) (q : Filed) (here : SplitsHere fs at q) (n : ℕ) where
   one_more : at + 1 ≡ suc at
   one_more = omega arith
 
   -- of one part more
-  pub left_more : since n (of_files (take (at + 1) fs)) ≡ since n q.samples
-  left_more =
+  left_of_more : since n (of_files (take (at + 1) fs)) ≡ since n (of_files here.front) ++ since n q.samples
+  left_of_more =
       ap (λ (k : ℕ). since n (of_files (take k fs))) one_more
       ∙ ap (λ (l : List Filed). since n (of_files l)) here.more
       ∙ (ap (since n) (samples_append here.front (q ∷ []))
-      ∙ (since-append n (of_files here.front) (of_files (q ∷ []))
-      ∙ (ap (λ (l : List Sample). l ++ since n (of_files (q ∷ []))) front_passed ∙ ap (since n) (append-nil q.samples))))
+      ∙ (since-append n (of_files here.front) (of_files (q ∷ [])) ∙ ap (λ (l : List Sample). since n (of_files here.front) ++ since n l) (append-nil q.samples)))
 
-  left_all : since n (of_files fs) ≡ since n q.samples ++ since n (of_files here.back)
-  left_all =
-      ap (λ (l : List Filed). since n (of_files l)) here.are
-      ∙ (ap (since n) (samples_append here.front (q ∷ here.back))
-      ∙ (since-append n (of_files here.front) (of_files (q ∷ here.back))
-      ∙ (ap (λ (l : List Sample). l ++ since n (of_files (q ∷ here.back))) front_passed ∙ since-append n q.samples (of_files here.back))))
+  -- where nothing is left of the parts before it
+  pub left_more : since n (of_files (take at fs)) ≡ [] → since n (of_files (take (at + 1) fs)) ≡ since n q.samples
+  left_more passed = left_of_more ∙ ap (λ (l : List Sample). l ++ since n q.samples) (ap (λ (l : List Filed). since n (of_files l)) (sym here.taken) ∙ passed)
 
   -- some of the part was copied
-  module _ (front copied more : List Sample) (q_is : q.samples ≡ front ++ (copied ++ more)) (earlier : since n front ≡ []) (rises : RisesFrom n (copied ++ more)) (later : AllByRecursion (IsLater n) here.back) where
+  module _ (front copied more : List Sample) (q_is : q.samples ≡ front ++ (copied ++ more)) (earlier : since n front ≡ []) (rises : RisesFrom n (copied ++ more)) (later : AllByRecursion (IsLater n) here.back) (gone : since (end_from n copied) (of_files here.front) ≡ []) where
     left_of_q : since n q.samples ≡ copied ++ more
     left_of_q =
         ap (since n) q_is
@@ -148,35 +166,45 @@ module _ (fs : List Filed) (at : ℕ) (q : Filed) (here : SplitsHere fs at q) (n
     abbrev pub rest : List Sample
     rest = more ++ of_files here.back
 
-    pub left_is : since n (of_files fs) ≡ copied ++ rest
-    left_is = left_all ∙ (ap (λ (l : List Sample). l ++ since n (of_files here.back)) left_of_q ∙ (ap (λ (l : List Sample). (copied ++ more) ++ l) (since_files n here.back later) ∙ append_assoc copied more (of_files here.back)))
+    pub left_is : since n (of_files fs) ≡ since n (of_files (take at fs)) ++ (copied ++ rest)
+    left_is =
+        left_all fs at q here n
+        ∙ ap (λ (l : List Sample). since n (of_files (take at fs)) ++ l)
+        (ap (λ (l : List Sample). l ++ since n (of_files here.back)) left_of_q ∙ (ap (λ (l : List Sample). (copied ++ more) ++ l) (since_files n here.back later) ∙ append_assoc copied more (of_files here.back)))
 
     low : n ≤ end_from n copied
     low = end_from-ge n copied (RisesFrom-front n copied more rises)
 
     -- nothing more is left of the parts before it
     pub still_passed : since (end_from n copied) (of_files (take at fs)) ≡ []
-    still_passed = sym (since-since (end_from n copied) n (of_files (take at fs)) low) ∙ ap (since (end_from n copied)) passed
+    still_passed = ap (λ (l : List Filed). since (end_from n copied) (of_files l)) here.taken ∙ gone
 
-    pub rest_more : more ≢ [] → rest ≢ []
-    rest_more some none = some (front_none more (of_files here.back) none)
-      where
-        front_none : (xs ys : List Sample) → xs ++ ys ≡ [] → xs ≡ []
-        front_none [] ys is = refl
-        front_none (x ∷ xs) ys is = absurd (cc (is))
+    -- what is left then
+    pub left_of_part : since (end_from n copied) q.samples ≡ more
+    left_of_part =
+        sym (since-since (end_from n copied) n q.samples low)
+        ∙ (ap (since (end_from n copied)) left_of_q
+        ∙ (since-append (end_from n copied) copied more
+        ∙ (ap (λ (l : List Sample). l ++ since (end_from n copied) more) (since_none (end_from n copied) n copied (RisesFrom-front n copied more rises) (omega arith)) ∙ since_all (end_from n copied) (end_from n copied) more (RisesFrom-rest n copied more rises) (omega arith))))
+
+    pub left_now : AllByRecursion (IsLater (end_from n copied)) here.back → since (end_from n copied) (of_files fs) ≡ rest
+    left_now then =
+        left_all fs at q here (end_from n copied)
+        ∙ (ap (λ (l : List Sample). l ++ (since (end_from n copied) q.samples ++ since (end_from n copied) (of_files here.back))) still_passed
+        ∙ (ap (λ (l : List Sample). l ++ since (end_from n copied) (of_files here.back)) left_of_part ∙ ap (λ (l : List Sample). more ++ l) (since_files (end_from n copied) here.back then)))
 
     -- or it was copied whole
     module _ (whole : more ≡ []) where
       pub now_passed : since (end_from n copied) (of_files (take (at + 1) fs)) ≡ []
-      now_passed =
-          sym (since-since (end_from n copied) n (of_files (take (at + 1) fs)) low)
-          ∙ (ap (since (end_from n copied)) (left_more ∙ (left_of_q ∙ (ap (λ (l : List Sample). copied ++ l) whole ∙ append-nil copied)))
-          ∙ since_none (end_from n copied) n copied (RisesFrom-front n copied more rises) (omega arith))
-
-      pub rest_back : at + 1 ≢ length fs → rest ≢ []
-      rest_back apart none =
-          let back_none : of_files here.back ≡ [] = sym (ap (λ (l : List Sample). l ++ of_files here.back) whole) ∙ none in
-          some_files n here.back later (λ is. apart (let size = ap length here.are in let empty = ap length is in let long = here.long in omega (arith, size, empty, long, length-append here.front (q ∷ here.back)))) back_none
+      now_passed = more_passed ∙ (sym (since-since (end_from n copied) n q.samples low) ∙ (ap (since (end_from n copied)) (left_of_q ∙ (ap (λ (l : List Sample). copied ++ l) whole ∙ append-nil copied)) ∙ since_none (end_from n copied) n copied (RisesFrom-front n copied more rises) (omega arith)))
+        where
+          more_passed : since (end_from n copied) (of_files (take (at + 1) fs)) ≡ since (end_from n copied) q.samples
+          more_passed =
+              ap (λ (k : ℕ). since (end_from n copied) (of_files (take k fs))) one_more
+              ∙ ap (λ (l : List Filed). since (end_from n copied) (of_files l)) here.more
+              ∙ (ap (since (end_from n copied)) (samples_append here.front (q ∷ []))
+              ∙ (since-append (end_from n copied) (of_files here.front) (of_files (q ∷ []))
+              ∙ (ap (λ (l : List Sample). l ++ since (end_from n copied) (of_files (q ∷ []))) gone ∙ ap (since (end_from n copied)) (append-nil q.samples))))
 
       pub none_rest : at + 1 ≡ length fs → rest ≡ []
       none_rest all =
@@ -228,7 +256,7 @@ apart_parts g p r is is₂ less = elim (cases_lt r.start p.end) [
 start_less : (q r : Filed) → q.entry.series ≡ r.entry.series → Comes q r → q.entry.part.start < r.entry.part.start
 start_less q r own lt = grind (arith, nat_tests, own, lt)
 
-weaker : (P Q : Sample → Type 0) → ((s : Sample) → P s → Q s) → (xs : List Sample) → AllByRecursion P xs → AllByRecursion Q xs
+pub weaker : (P Q : Sample → Type 0) → ((s : Sample) → P s → Q s) → (xs : List Sample) → AllByRecursion P xs → AllByRecursion Q xs
 weaker P Q step [] all = tt
 weaker P Q step (s ∷ xs) all = (step s all.0, weaker P Q step xs all.1)
 
@@ -245,6 +273,17 @@ later_all g rows row q (r ∷ back) n filed end rise all =
       later_all g rows row q back n filed end (All-tail (Comes q) r back rise.0, rise.1.1) all.1,
     )
 
+-- and the parts before one
+pub earlier_all : (g : Granularity) (rows : List Row) (row : ℕ) (front : List Filed) (q : Filed) (back : List Filed) (n : ℕ) → IsOfRowIn g rows row q → q.entry.part.start ≤ n → PlacesRise (front ++ q ∷ back) → AllByRecursion (IsOfRowIn g rows row) front → since n (of_files front) ≡ []
+earlier_all g rows row [] q back n filed begin rise all = refl
+earlier_all g rows row (f ∷ front) q back n filed begin rise all =
+    let before = All-contains (Comes f) (front ++ q ∷ back) q rise.0 (Contains-append_right front (q ∷ back) q (0, omega arith, refl)) in
+    let less = start_less f q (all.0.1 ∙ sym filed.1) before in
+    let clear = apart_parts g f.entry.part q.entry.part all.0.0.part filed.0.part less in
+    let high : f.entry.part.end ≤ n = omega (arith, clear, begin) in
+    let none = since_earlier n f.samples (weaker (λ s. HoldsMoment f.entry.part s.t) (λ s. s.t < n) (λ s in_part. let end = in_part.1 in omega (arith, high, end)) f.samples (recursion_from_All (λ (s : Sample). HoldsMoment f.entry.part s.t) f.samples all.0.0.inside)) in
+    since-append n f.samples (of_files front) ∙ (ap (λ (l : List Sample). l ++ since n (of_files front)) none ∙ earlier_all g rows row front q back n filed begin rise.1 all.1)
+
 -- a sample that isn't earlier lies in the part
 pub ends_later : (q : Filed) (n : ℕ) (front back : List Sample) → q.samples ≡ front ++ back → back ≢ [] → RisesFrom n back → All (λ (s : Sample). HoldsMoment q.entry.part s.t) q.samples → n ≤ q.entry.part.end
 ends_later q n front [] are some rises inside = absurd (some refl)
@@ -253,6 +292,20 @@ ends_later q n front (s ∷ back) are some rises inside =
     let high = all.0.1 in
     let low = rises.0 in
     omega (arith, high, low)
+
+-- samples of it end no later than it
+pub inside_until : (e : ℕ) (n : ℕ) (xs : List Sample) → n ≤ e → AllByRecursion (λ (s : Sample). s.t < e) xs → end_from n xs ≤ e
+inside_until e n [] low all = low
+inside_until e n (s ∷ xs) low all = inside_until e (s.t + 1) xs (let high = all.0 in omega (arith, high)) all.1
+
+-- and behind its start
+pub inside_end : (q : Filed) (n : ℕ) (front copied more : List Sample) → q.samples ≡ front ++ (copied ++ more) → copied ≢ [] → RisesFrom n (copied ++ more) → All (λ (s : Sample). HoldsMoment q.entry.part s.t) q.samples → q.entry.part.start ≤ end_from n copied
+inside_end q n front [] more are some rises inside = absurd (some refl)
+inside_end q n front (s ∷ copied) more are some rises inside =
+    let all = all_rest (λ (x : Sample). HoldsMoment q.entry.part x.t) front (s ∷ (copied ++ more)) (subst (AllByRecursion (λ (x : Sample). HoldsMoment q.entry.part x.t)) are (recursion_from_All (λ (x : Sample). HoldsMoment q.entry.part x.t) q.samples inside)) in
+    let begin = all.0.0 in
+    let high = end_from-ge (s.t + 1) copied (RisesFrom-front (s.t + 1) copied more rises.1) in
+    omega (arith, begin, high)
 
 -- the files of a row, the first so many
 pub first_files : (g : Granularity) (rows : List Row) (row n : ℕ) (xs : List Filed) → All (IsFiled g rows) xs → AllByRecursion (IsOfRowIn g rows row) (take n (of_row row xs))

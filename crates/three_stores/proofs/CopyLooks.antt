@@ -16,7 +16,8 @@ use Rattle.tier_store.proofs.Acting.{rose_after}
 use Rattle.tier_store.proofs.Stays.{same_then}
 use Rattle.three_stores.specs.Stores.{Stores}
 use Rattle.three_stores.specs.Seen.{Seen, granularities}
-use Rattle.three_stores.specs.Copying.{CopiesBeside, CopiesOrHas, OnlyLooks}
+use Rattle.three_stores.specs.Copying.{CopiesBeside, CopiesFurther, CopiesOrHas, OnlyLooks}
+use Rattle.three_stores.specs.Limbo.{LimboStands}
 use Rattle.three_stores.specs.Moving.{LeavesLater, RunsBeside, names_of}
 use Rattle.three_stores.specs.Pinned.{SeenAll, IsHeldTo}
 use Rattle.three_stores.specs.Revival.{AreWhole, KeepsWhole}
@@ -25,6 +26,7 @@ use Rattle.three_stores.proofs.Acting.{nothing_read}
 use Rattle.three_stores.proofs.BesideMoves.{beside_itself, runs_still}
 use Rattle.three_stores.proofs.LeavingNames.{later_names, leaves_then, nothing_leaves}
 use Rattle.three_stores.proofs.RevivalShown.{read_whole}
+use Rattle.three_stores.proofs.Staying.{limbo_kept}
 
 pub looks_none : {A E : Type 0} (tells : Bool) (all : SeenAll) (end : End A E) → (IsFailed end → ⊥) → OnlyLooks tells all all end
 looks_none {A} {E} tells all end not_failed = record {
@@ -109,12 +111,29 @@ copies_on from tells old new move files held same leaves is = record {
   told = is.told;
 }
 
+pub further_on : (from : ℕ) (tells : Bool) (old new : SeenAll) (move : MoveState) (files : List Filed) (held : Stores) → granularities new.stores.manifests ≡ granularities old.stores.manifests → LeavesLater tells old new → CopiesFurther from tells old move files held → CopiesFurther from tells new move files held
+further_on from tells old new move files held same leaves is = record {
+  runs = runs_on (from + 1) tells old new move files held same leaves is.runs;
+  stage = is.stage;
+  left = is.left;
+  heads = is.heads;
+  lengths = is.lengths;
+  last = is.last;
+  told = is.told;
+}
+
+-- limbo has its names still
+pub looks_stands : {A E : Type 0} (tells : Bool) (old new : SeenAll) (end : End A E) → OnlyLooks tells old new end → LimboStands old.stores old.limbo → LimboStands new.stores new.limbo
+looks_stands {A} {E} tells old new end looks stands =
+    subst (LimboStands new.stores) (sym looks.limbo)
+    (limbo_kept old.stores new.stores old.limbo (subst (λ (rows : List Row). KeepsRows old.stores.catalogue.rows rows) (sym (ap (λ (c : CatalogueState). c.rows) looks.catalogue)) (keeps_same old.stores.catalogue.rows)) (ap granularities looks.manifests) stands)
+
 pub copies_or_on : (from : ℕ) (tells : Bool) (old new : SeenAll) (move : MoveState) (files : List Filed) (held : Stores) → granularities new.stores.manifests ≡ granularities old.stores.manifests → LeavesLater tells old new → CopiesOrHas from tells old move files held → CopiesOrHas from tells new move files held
 copies_or_on from tells old new move files held same leaves (inl is) = inl (copies_on from tells old new move files held same leaves is)
 copies_or_on from tells old new move files held same leaves (inr is) = inr (record { runs = runs_on (from + 1) tells old new move files held same leaves is.runs; stage = is.stage; all_copied = is.all_copied; lengths = is.lengths; none_left = is.none_left })
 
 -- what the memory lists is listed still
-held_kept : (old new : Seen) → new.catalogue ≡ old.catalogue → new.manifests ≡ old.manifests → (name : Name) (len : ℕ) → IsHeldTo old name len → IsHeldTo new name len
+pub held_kept : (old new : Seen) → new.catalogue ≡ old.catalogue → new.manifests ≡ old.manifests → (name : Name) (len : ℕ) → IsHeldTo old name len → IsHeldTo new name len
 held_kept old new catalogue manifests name len h = record {
   place = h.place;
   manifest = h.manifest;

@@ -24,7 +24,7 @@ use Rattle.three_stores.specs.Stores.{Stores, list_at}
 use Rattle.three_stores.specs.Seen.{granularities}
 use Rattle.three_stores.specs.Change.{Has, IsListedIn}
 use Rattle.three_stores.specs.Copied.{IsPartFile, end_after}
-use Rattle.three_stores.specs.Copying.{CopiesBeside, FindsPart, IsNextPart}
+use Rattle.three_stores.specs.Copying.{CopiesBeside, CopiesFurther, FindsPart, IsNextPart}
 use Rattle.three_stores.specs.Finding.{IsFrom, IsNext, IsUpTo}
 use Rattle.three_stores.specs.declared.finding.LaterLines.{LaterLines}
 use Rattle.three_stores.specs.Pinned.{SeenAll}
@@ -32,12 +32,19 @@ use Rattle.three_stores.specs.Retiring.{oldest}
 use Rattle.three_stores.proofs.Dropped.{entry_in, from_filter, one_file}
 use Rattle.three_stores.proofs.Places.{manifest_of}
 
+-- a move that copies beside the stores copies further
+abbrev pub further : (from : ℕ) (tells : Bool) (all : SeenAll) (move : MoveState) (files : List Filed) (held : Stores) → CopiesBeside from tells all move files held → CopiesFurther from tells all move files held
+further from tells all move files held is = record { runs = is.runs; stage = is.stage; left = is.left; heads = is.heads; lengths = is.lengths; last = is.last; told = is.told }
+
 -- LISTS AT A PLACE
 
 pub some_at : {A : Type 0} (xs : List A) (k : ℕ) → k < length xs → (x : A) × (slice_get xs k ≡ Some x)
 some_at [] k low = absurd (omega (arith, low))
 some_at (x ∷ xs) zero low = (x, refl)
 some_at (x ∷ xs) (suc k) low = some_at xs k (omega (arith, low))
+
+pub some_entry : (xs : List Entry) (k : ℕ) → k < length xs → (x : Entry) × (slice_get xs k ≡ Some x)
+some_entry xs k low = some_at xs k low
 
 pub entry_at : (fs : List Filed) (k : ℕ) (q : Filed) → slice_get fs k ≡ Some q → slice_get (map entry_of fs) k ≡ Some q.entry
 entry_at [] k q here = absurd (cc (here))
@@ -82,7 +89,7 @@ part_in from move held q low next = in_list (oldest from move.series (length mov
 
 -- THE PART
 
-module _ (tells : Bool) (all : SeenAll) (from : ℕ) (move : MoveState) (files : List Filed) (held : Stores) (has : Has tells all.stores held) (is : CopiesBeside from tells all move files held) where
+module _ (tells : Bool) (all : SeenAll) (from : ℕ) (move : MoveState) (files : List Filed) (held : Stores) (has : Has tells all.stores held) (is : CopiesFurther from tells all move files held) where
   from_is : is.runs.from ≡ from
   from_is = let next = is.runs.next in omega (arith, next)
 

@@ -14,7 +14,7 @@ use Rattle.tier_store.proofs.Ahead.{put_all_has, put_itself}
 use Rattle.tier_store.proofs.Lasts.{last_view, same_last}
 use Rattle.tier_store.proofs.PutFile.{All-front, Comes, put_all-push, put_twice, rise_behind, rise_over}
 
-map_append : (xs ys : List Filed) → map entry_of (xs ++ ys) ≡ map entry_of xs ++ map entry_of ys
+pub map_append : (xs ys : List Filed) → map entry_of (xs ++ ys) ≡ map entry_of xs ++ map entry_of ys
 map_append [] ys = refl
 map_append (x ∷ xs) ys = ap (λ (l : List Entry). x.entry ∷ l) (map_append xs ys)
 
@@ -36,8 +36,8 @@ module _ (row : ℕ) (files : List Filed) (f : Filed) (old pending : List Entry)
   own_of : (rest : List Filed) (l : Filed) → files ≡ rest ++ l ∷ [] → l.entry.series ≡ f.entry.series
   own_of rest l are = All-contains (λ (x : Filed). x.entry.series ≡ row) files l all (subst (λ (fs : List Filed). Contains fs l) (sym are) (last_in rest l)) ∙ sym own
 
-  behind : StandsBehind f.entry old pending → SetsFile files (files ++ f ∷ []) f pending
-  behind stands = record {
+  pub stands_behind : StandsBehind f.entry old pending → SetsFile files (files ++ f ∷ []) f pending
+  stands_behind stands = record {
     are = stands.becomes ∙ (ap (λ (l : List Entry). l ++ f.entry ∷ []) old_is ∙ sym (map_append files (f ∷ [])));
     put = λ xs. put_all-push xs files f;
     rise = elim (last_view files) [
@@ -62,7 +62,7 @@ module _ (row : ℕ) (files : List Filed) (f : Filed) (old pending : List Entry)
       }
 
   pub sets_file : SetsLast f.entry old pending → (more : List Filed) × SetsFile files more f pending
-  sets_file (inr stands) = (files ++ f ∷ [], behind stands)
+  sets_file (inr stands) = (files ++ f ∷ [], stands_behind stands)
   sets_file (inl takes) = elim (last_view files) [
     | inl none ↦ absurd (let long = ap length (sym (old_is ∙ ap (map entry_of) none) ∙ takes.are) in omega (arith, long, length-append takes.rest (takes.last ∷ [])))
     | inr (rest, l, are) ↦ (rest ++ f ∷ [], in_place takes rest l are)

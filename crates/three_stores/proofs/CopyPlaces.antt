@@ -90,7 +90,7 @@ in_before n [] l all (k, low, is) = absurd (omega (arith, low))
 in_before n (x ∷ xs) l all (zero, low, is) = subst (λ (f : Filed). f.entry.part.start < n) is all.0
 in_before n (x ∷ xs) l all (suc k, low, is) = in_before n xs l all.1 (k, omega (arith, low), is)
 
-last_or : (earlier : List Filed) (x l : Filed) → Contains (earlier ++ x ∷ []) l → Contains earlier l ⊎ (x ≡ l)
+pub last_or : (earlier : List Filed) (x l : Filed) → Contains (earlier ++ x ∷ []) l → Contains earlier l ⊎ (x ≡ l)
 last_or [] x l (zero, low, is) = inr is
 last_or [] x l (suc k, low, is) = absurd (omega (arith, low))
 last_or (y ∷ ys) x l (zero, low, is) = inl (zero, omega arith, is)
@@ -139,7 +139,7 @@ module _ (g : Granularity) (base : Held) (row head_len : ℕ) (start : Start) (v
   place_of : filed_at f ≡ (row, start.entry.part.start)
   place_of = λ i. (f_own i, (f_part i).start)
 
-  at_file : (on : GoesOnIn base row start) → filed_at f ≡ filed_at on.file
+  pub at_file : (on : GoesOnIn base row start) → filed_at f ≡ filed_at on.file
   at_file on =
       let series : row ≡ on.file.entry.series = sym own ∙ ap (λ (e : Entry). e.series) on.entry in
       let at : ◌≡◌ {A = Place} (row, start.entry.part.start) (filed_at on.file) = λ i. (series i, (on.entry i).part.start) in

@@ -1,5 +1,5 @@
 -- A step of copying behind the look for what is left.
-use Rattle.std.proofs.Common.{◌≡◌, inl, inr, Bool, ℕ, ◌≤◌, ◌+◌, ◌++◌, List, [], None, length, Ok, Err, Result, refl, sym, ◌∙◌, ap, subst, arith, append-nil}
+use Rattle.std.proofs.Common.{◌≡◌, inl, inr, Bool, ℕ, ◌≤◌, ◌+◌, ◌++◌, List, [], Option, length, Ok, Err, Result, refl, sym, ◌∙◌, ap, subst, arith, append-nil}
 use Rattle.std.specs.Prelude.{Contains, IfOk, IsTrue, OnErr}
 use Rattle.std.proofs.lemmas.List.{length-set}
 use Rattle.disk_model.specs.Files.{Name, Files}
@@ -10,24 +10,30 @@ use Rattle.disk_model.proofs.Passing.{passes_then, passes_weaker}
 use Rattle.etl_mover.specs.Move.{MoveState, part_file}
 use Rattle.etl_mover.specs.Step.{Advances}
 use Rattle.partition_names.specs.declared.granularity.Granularity.{Granularity}
+use Rattle.series_model.specs.Series.{end_of}
 use Rattle.series_model.specs.declared.sample.Sample.{Sample}
 use Rattle.store_manifest.specs.declared.entry.Entry.{Entry}
 use Rattle.tier_store.specs.Ends.{End, Done, Failed, Spent, end_of_disk}
+use Rattle.tier_store.specs.Flush.{put_all}
 use Rattle.tier_store.specs.Held.{Filed}
 use Rattle.tier_store.proofs.Acting.{rose_after}
-use Rattle.three_stores.specs.Stores.{Stores}
+use Rattle.three_stores.specs.Stores.{Stores, list_at}
 use Rattle.three_stores.specs.Stored.{HoldsAll}
 use Rattle.three_stores.specs.Seen.{Seen, granularities}
 use Rattle.three_stores.specs.Change.{Has, HoldsBy}
-use Rattle.three_stores.specs.Copying.{CopiesNext, HasCopiedAll, IsDamaged, LeavesOthers, MovesOn, OnlyLooks, PassesParts, SaysCopied, left_of, left_to_copy, samples_ahead}
+use Rattle.three_stores.specs.Copying.{CopiesNext, HasPassedAll, IsDamaged, LeavesOthers, MovesOn, OnlyLooks, PassesParts, SaysCopied, SaysPart, left_of, samples_ahead}
 use Rattle.three_stores.specs.Given.{ChangesGiven}
 use Rattle.three_stores.specs.Limbo.{staying}
 use Rattle.three_stores.specs.Moving.{LeavesLater}
 use Rattle.three_stores.specs.Pinned.{SeenAll}
 use Rattle.three_stores.specs.Retiring.{oldest}
+use Rattle.three_stores.specs.Revival.{revived}
+use Rattle.three_stores.specs.Reviving.{AreBack, free_of, past}
 use Rattle.three_stores.specs.declared.copying.CopyEnd.{CopyEnd}
 use Rattle.three_stores.specs.declared.copying.CopyEnd.TheVariants as ends
+use Rattle.three_stores.specs.declared.limbo.Retired.{Retired}
 use Rattle.three_stores.proofs.CopyLooks.{looks_ends}
+use Rattle.three_stores.proofs.CopyPass.{copied_whole}
 use Rattle.three_stores.proofs.Left.{all_left}
 use Rattle.three_stores.proofs.LeavingNames.{names_then}
 
@@ -82,16 +88,21 @@ zero_least n = omega arith
 
 -- passing parts leaves what is left to copy
 module _ (from : ℕ) (move mid : MoveState) (files : List Filed) (held : Stores) (passes : PassesParts move mid) where
-  left_same : left_to_copy from mid files held ≡ left_to_copy from move files held
+  pub left_same : left_of from mid (length mid.parts) files held ≡ left_of from move (length move.parts) files held
   left_same = ap (λ (x : MoveState). left_of from x (length mid.parts) files held) passes.is ∙ ap (λ (k : ℕ). left_of from move k files held) passes.long
 
-  ahead_same : (more : List Filed) → samples_ahead (from + 1) mid more held ≡ samples_ahead (from + 1) move more held
+  pub ahead_same : (more : List Filed) → samples_ahead (from + 1) mid more held ≡ samples_ahead (from + 1) move more held
   ahead_same more = ap (λ (x : MoveState). samples_ahead (from + 1) x more held) passes.is
 
-  next_same : (most : ℕ) (more : List Filed) (copied rest : List Sample) → CopiesNext most from mid files more held copied rest → CopiesNext most from move files more held copied rest
-  next_same most more copied rest next = record {
-    left = sym left_same ∙ next.left;
-    ahead = sym (ahead_same more) ∙ (next.ahead ∙ ap (λ (l : List Sample). l ++ copied) (ahead_same files));
+  pub series_same : mid.series ≡ move.series
+  series_same = ap (λ (x : MoveState). x.series) passes.is
+
+  abbrev next_same : (most : ℕ) (limbo : List Retired) (retired more : List Filed) (copied rest : List Sample) → CopiesNext most from limbo retired mid files more held copied rest → CopiesNext most from limbo retired move files more held copied rest
+  next_same most limbo retired more copied rest next = record {
+    back = next.back;
+    in_limbo = next.in_limbo;
+    left = sym (ap (λ (k : ℕ). past next.back k (left_of from mid (length mid.parts) files held)) series_same ∙ ap (past next.back move.series) left_same) ∙ next.left;
+    ahead = sym (ahead_same more) ∙ (next.ahead ∙ (ap (λ (l : List Sample). l ++ (revived next.back mid.series copied ++ copied)) (ahead_same files) ∙ ap (λ (k : ℕ). samples_ahead (from + 1) move files held ++ (revived next.back k copied ++ copied)) series_same));
     few = next.few;
   }
 
@@ -107,17 +118,33 @@ module _ (from : ℕ) (move mid : MoveState) (files : List Filed) (held : Stores
     never = damaged.never;
   }
 
-  pub says_from : (most : ℕ) (tells : Bool) (all : SeenAll) (new : MoveState) (end : CopyEnd) → SaysCopied most from tells all mid new files held end → SaysCopied most from tells all move new files held end
-  says_from most tells all new ends.More (more, is, said) = (more, is, λ stands. let s = said stands in (s.0, s.1, next_same most more s.0 s.1 s.2, s.3, s.4))
-  says_from most tells all new ends.Copied (more, is, said) = (more, is, λ stands. let s = said stands in (s.0, next_same most more s.0 [] s.1))
-  says_from most tells all new (ends.Damaged name at) damaged = damaged_same name at damaged
+  pub says_from : (most : ℕ) (tells : Bool) (all : SeenAll) (retired : List Filed) (new : MoveState) (end : CopyEnd) → SaysCopied most from tells all retired mid new files held end → SaysCopied most from tells all retired move new files held end
+  says_from most tells all retired new ends.More (more, is, said) = (more, is, λ stands. let s = said stands in (s.0, s.1, next_same most all.limbo retired more s.0 s.1 s.2, s.3, s.4))
+  says_from most tells all retired new ends.Copied (more, is, said) = (more, is, λ stands. let s = said stands in (s.0, next_same most all.limbo retired more s.0 [] s.1))
+  says_from most tells all retired new (ends.Damaged name at) damaged = damaged_same name at damaged
+
+  pub part_from : (most : ℕ) (tells : Bool) (all : SeenAll) (k : ℕ) (retired : List Filed) (new : MoveState) (end : CopyEnd) → SaysPart most from tells all k retired mid new files held end → SaysPart most from tells all k retired move new files held end
+  part_from most tells all k retired new ends.More (more, is, said) = (
+    more,
+    is,
+    λ stands.
+        let s = said stands in
+        (s.0, s.1, next_same most all.limbo retired more s.0 s.1 s.2, s.3, s.4 ∙ ap (λ (j : ℕ). past (free_of (put_all (list_at (from + 1) held) files) retired) j (left_of from new (length new.parts) more held)) series_same, s.5, s.6, subst (λ (l : List Sample). end_of l ≤ end_of (samples_ahead (from + 1) new more held)) (ahead_same files) s.7),
+  )
+  part_from most tells all k retired new ends.Copied (more, is, said) = (more, is, λ stands. let s = said stands in (s.0, next_same most all.limbo retired more s.0 [] s.1))
+  part_from most tells all k retired new (ends.Damaged name at) damaged = damaged_same name at damaged
 
   -- all its parts were passed
-  pub says_ended : (most : ℕ) (tells : Bool) (all : SeenAll) → HasCopiedAll from tells all mid files held → SaysCopied most from tells all move mid files held ends.Copied
-  says_ended most tells all is = (
+  pub says_ended : (most : ℕ) (tells : Bool) (all : SeenAll) (retired back : List Filed) → AreBack (from + 1) all.limbo retired (put_all (list_at (from + 1) held) files) back → HasPassedAll from tells all mid files held → SaysCopied most from tells all retired move mid files held ends.Copied
+  says_ended most tells all retired back in_limbo is = (
     files,
-    is,
-    λ stands. ([], record { left = sym left_same ∙ is.none_left stands; ahead = sym (append-nil (samples_ahead (from + 1) move files held)); few = inl (zero_least most) }),
+    record {
+      runs = is.runs;
+      stage = is.stage;
+      all_copied = is.all_copied;
+      parts = copied_whole from mid files held is.all_copied is.lengths (λ stands. subst (λ (k : ℕ). left_of from mid k files held ≡ []) (sym is.all_copied) (is.none_left stands));
+    },
+    λ stands. ([], record { back = back; in_limbo = in_limbo; left = ap (past back move.series) (sym left_same ∙ is.none_left stands); ahead = sym (append-nil (samples_ahead (from + 1) move files held)); few = inl (zero_least most) }),
   )
 
 -- WHAT MAY HAVE CHANGED OF THE MOVE
@@ -137,8 +164,8 @@ moves_then old mid new one two = record {
   long = two.long ∙ one.long;
 }
 
-pub moves_advance : (move new : MoveState) (len : ℕ) → Advances move new None len → MovesOn move new
-moves_advance move new len adv = elim adv.is [
+pub moves_advance : (move new : MoveState) (revived : Option Entry) (len : ℕ) → Advances move new revived len → MovesOn move new
+moves_advance move new revived len adv = elim adv.is [
   | inl same ↦ record {
     is = subst (λ (x : MoveState). x ≡ record move { parts = x.parts; at = x.at; pending = x.pending }) (sym same) refl;
     long = ap (λ (x : MoveState). length x.parts) same;
@@ -172,3 +199,7 @@ on_err_then {A} {P} {Q} (Err e) holds to = to holds
 pub on_ok : {A : Type 0} {P Q : A → Type 0} (r : Result A DiskErr) → IfOk r P → ((a : A) → P a → Q a) → IfOk r Q
 on_ok {A} {P} {Q} (Ok a) holds to = to a holds
 on_ok {A} {P} {Q} (Err e) holds to = tt
+
+pub both_err : {A : Type 0} (P Q : Type 0) (r : Result A DiskErr) → OnErr r P → OnErr r Q → OnErr r (P × Q)
+both_err {A} P Q (Ok a) one two = tt
+both_err {A} P Q (Err e) one two = (one, two)

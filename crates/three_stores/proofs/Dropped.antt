@@ -97,7 +97,7 @@ cond_none : (b : Bool) (x : Filed) (rest : Option Filed) → cond b (Some x) res
 cond_none true x rest none = absurd (cc (none))
 cond_none false x rest none = (refl, none)
 
-none_at : (ps : List Filed) (q : Place) (p : Filed) → file_at q ps ≡ None → Contains ps p → filed_at p ≡ q → ⊥
+pub none_at : (ps : List Filed) (q : Place) (p : Filed) → file_at q ps ≡ None → Contains ps p → filed_at p ≡ q → ⊥
 none_at [] q p none (k, lt, is) same = omega (arith, lt)
 none_at (x ∷ xs) q p none (zero, lt, is) same =
     let no = (cond_none (is_place (filed_at x) q) x (file_at q xs) none).0 in

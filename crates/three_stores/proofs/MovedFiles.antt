@@ -17,7 +17,7 @@ use Rattle.tier_store.specs.Flush.{put_all, with_files}
 use Rattle.tier_store.specs.Held.{Filed, Held, Shelf, AreFiled, IsFiled, IsIn, IsListed, IsListedTo, ListsStill, bytes_of, entry_of, file_of, filed_at, listing_of}
 use Rattle.tier_store.specs.Stored.{AreHeld}
 use Rattle.tier_store.proofs.Ahead.{put_all_has}
-use Rattle.tier_store.proofs.Listed.{all_put_all, rise_put_all}
+use Rattle.tier_store.proofs.Listed.{all_put_all, listed_at, rise_put_all}
 use Rattle.tier_store.proofs.Names.{same_file}
 use Rattle.tier_store.proofs.Stays.{safe_both}
 use Rattle.tier_store.proofs.Three.{same_cases}
@@ -82,7 +82,17 @@ module _ (i : ℕ) (tells : Bool) (all : SeenAll) (held : Stores) (files : List 
   spares_with name len r within named longer short =
       to_files i held.rows (put_all (list_at i held) files) name len
       (all_put_all (Longer i held.rows name len) (list_at i held) files (by_files i held.rows (list_at i held) name len short)
-      (λ k d lt same. let more = ahead.longer_retired r (get_or files k d) within (Contains-get_or files k d lt) (named ∙ sym same) in omega (arith, more, longer)))
+      (λ k d lt same.
+      let f : Filed = get_or files k d in
+      let f_in = Contains-get_or files k d lt in
+      elim (listed_at (list_at i held) (filed_at f)) [
+        | inl none ↦ let more = ahead.longer_retired r f within f_in (named ∙ sym same) none in omega (arith, more, longer)
+        | inr (h, h_in, h_at, there) ↦
+            let at_h : file_of (i + 1, held.rows) h.entry ≡ name = sym (one_name h f (All-contains (IsListed m.granularity held.rows) (list_at i held) h known.valid.filed.listed h_in) f_in h_at) ∙ same in
+            let long = All-contains (Longer i held.rows name len) (list_at i held) h (by_files i held.rows (list_at i held) name len short) h_in at_h in
+            let more = ahead.longer h f h_in f_in h_at in
+            omega (arith, more, long)
+      ]))
 
   -- THE DISK
 

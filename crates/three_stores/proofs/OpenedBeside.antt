@@ -15,10 +15,10 @@ use Rattle.pv_catalog.specs.declared.row.Row.{Row}
 use Rattle.pv_catalog.proofs.Standing.{keeps_same}
 use Rattle.store_manifest.specs.declared.entry.Entry.{Entry}
 use Rattle.store_manifest.specs.Manifest.{ManifestState}
-use Rattle.tier_store.specs.Held.{Filed, Listing, IsListed, IsListedTo, entry_of, file_of}
+use Rattle.tier_store.specs.Held.{Filed, Listing, IsListed, IsListedTo, entry_of, file_of, filed_at}
 use Rattle.tier_store.specs.Stored.{AreHeld, AreUnopened, KeysDiffer}
-use Rattle.tier_store.proofs.Listed.{rise_filter}
-use Rattle.tier_store.proofs.Names.{name_cases, same_place}
+use Rattle.tier_store.proofs.Listed.{listed_at, rise_filter}
+use Rattle.tier_store.proofs.Names.{name_cases, same_file, same_place}
 use Rattle.tier_store.proofs.Reading.{safe_read}
 use Rattle.tier_store.proofs.There.{contains_map}
 use Rattle.three_stores.specs.Stores.{Stores, list_at, tier}
@@ -26,13 +26,13 @@ use Rattle.three_stores.specs.Seen.{Seen, seen_on}
 use Rattle.three_stores.specs.Change.{Has, IsKnown, IsListedIn, IsOpen}
 use Rattle.three_stores.specs.Limbo.{LimboStands}
 use Rattle.three_stores.specs.Moving.{of_files, KeepsBeside, MayHold, RunsBeside}
-use Rattle.three_stores.specs.Pinned.{beside, IsHeldTo, IsThereTo}
+use Rattle.three_stores.specs.Pinned.{beside, IsHeldTo, IsNoShorter, IsThereTo}
 use Rattle.three_stores.specs.Revival.{AreWhole, IsAmong, IsOfLimbo}
 use Rattle.three_stores.specs.declared.limbo.Retired.{Retired}
-use Rattle.three_stores.proofs.Dropped.{contains_filter, entry_in, from_filter, one_file}
-use Rattle.three_stores.proofs.Places.{manifest_at, manifest_of}
+use Rattle.three_stores.proofs.Dropped.{Longer, by_files, contains_filter, entry_in, from_filter, one_file}
+use Rattle.three_stores.proofs.Places.{manifest_at, manifest_of, within_three}
 use Rattle.three_stores.proofs.RevivalShown.{known_open, limbo_name}
-use Rattle.three_stores.proofs.Showing.{ListsTo, after_to, doubts_held, has_held, known_to, name_listed}
+use Rattle.three_stores.proofs.Showing.{ListsTo, Spares, after_spares, after_to, doubts_held, has_held, known_spares, known_to, name_listed}
 use Rattle.three_stores.proofs.Staying.{own_name, same_name}
 use Rattle.three_stores.proofs.WholeCalls.{filed_fewer, name_at, safe_fewer, spared_whole}
 
@@ -221,14 +221,37 @@ module _ {S : Type 0} (files_of : S → Files) (opened_of : S → Name → ℕ) 
   may_valid held (inr (other, inl doubt)) i m at_place = (doubt.known.each i m at_place).valid
   may_valid held (inr (other, inr doubt)) i m at_place = doubt.valid_after i m at_place
 
+  may_three : (held : Stores) → MayHold tells at held → length ms ≡ 3
+  may_three held (inl has) = has.known.three
+  may_three held (inr (other, inl doubt)) = doubt.known.three
+  may_three held (inr (other, inr doubt)) = doubt.known.three
+
+  -- and where it lists the name, it does so no shorter
+  may_spares : (held : Stores) → MayHold tells at held → IsNoShorter at name len → Spares held name len
+  may_spares held (inl has) short = known_spares at held name len has.known short
+  may_spares held (inr (other, inl doubt)) short = known_spares at held name len doubt.known short
+  may_spares held (inr (other, inr doubt)) short = after_spares tells at other held name len doubt short
+
   module _ (held : Stores) (may : MayHold tells at held) (i : ℕ) (move : MoveState) (files : List Filed) (runs : RunsBeside i tells (beside at limbo) move files held) where
     -- a file that is opened so far is to be listed at least so far
     reaches : (f : Filed) → Contains files f → file_of (i + 1, held.rows) f.entry ≡ name → len ≤ f.entry.len
     reaches f within is = elim there [
-      | inr r ↦
-          let longer = r.longer in
-          let more = runs.ahead.longer_retired r.file f r.within within (r.named ∙ sym is) in
-          omega (arith, longer, more)
+      | inr r ↦ elim (listed_at (list_at i held) (filed_at f)) [
+        | inl none ↦
+            let longer = r.longer in
+            let more = runs.ahead.longer_retired r.file f r.within within (r.named ∙ sym is) none in
+            omega (arith, longer, more)
+        | inr (h, h_in, h_at, there) ↦
+            let m = manifest_of ms i move.granularity runs.to_coarse in
+            let valid = subst (λ (g : Granularity). AreHeld g (tier i held)) m.2 (may_valid held may i m.0 m.1) in
+            let h_is = All-contains (IsListed move.granularity held.rows) (list_at i held) h valid.filed.listed h_in in
+            let f_is = All-contains (IsListed move.granularity held.rows) files f (runs.ahead.filed move.granularity runs.to_coarse).listed within in
+            let named : file_of (i + 1, held.rows) h.entry ≡ name = same_file move.granularity (i + 1) held.rows h f h_is f_is h_at ∙ is in
+            let short = may_spares held may r.no_shorter i (within_three ms i m.0 (may_three held may) m.1) in
+            let long = All-contains (Longer i held.rows name len) (list_at i held) h (by_files i held.rows (list_at i held) name len short) h_in named in
+            let more = runs.ahead.longer h f h_in within h_at in
+            omega (arith, long, more)
+      ]
       | inl h ↦
           let own = name_listed at name len h in
           let number : i + 1 ≡ name.0 = ap (λ (n : Name). n.0) is in

@@ -180,7 +180,7 @@ holds_true f row t is = (grind (arith, nat_tests, is), (grind (arith, nat_tests,
 true_holds : (f : Filed) (row t : ℕ) → f.entry.series ≡ row → f.entry.part.start ≤ t → t < f.entry.part.end → holds_at f row t ≡ true
 true_holds f row t own from to = grind (arith, nat_tests, own, from, to)
 
-none_at : (limbo : List Filed) (row t : ℕ) → ((l : Filed) → Contains limbo l → l.entry.series ≡ row → HoldsMoment l.entry.part t → ⊥) → samples_at limbo row t ≡ []
+pub none_at : (limbo : List Filed) (row t : ℕ) → ((l : Filed) → Contains limbo l → l.entry.series ≡ row → HoldsMoment l.entry.part t → ⊥) → samples_at limbo row t ≡ []
 none_at [] row t none = refl
 none_at (l ∷ limbo) row t none = by_test (holds_at l row t) refl (none_at limbo row t (λ x within. none x (let k = within.0 in let low = within.1 in (suc k, omega (arith, low), within.2))))
   where
@@ -188,7 +188,7 @@ none_at (l ∷ limbo) row t none = by_test (holds_at l row t) refl (none_at limb
     by_test true is rest = let holds = holds_true l row t is in absurd (none l (0, omega arith, refl) holds.0 holds.1)
     by_test false is rest = rest
 
-found_at : (limbo : List Filed) (row t : ℕ) (x : Filed) → Contains limbo x → x.entry.series ≡ row → HoldsMoment x.entry.part t → ((l : Filed) → Contains limbo l → l.entry.series ≡ row → HoldsMoment l.entry.part t → l ≡ x) → samples_at limbo row t ≡ x.samples
+pub found_at : (limbo : List Filed) (row t : ℕ) (x : Filed) → Contains limbo x → x.entry.series ≡ row → HoldsMoment x.entry.part t → ((l : Filed) → Contains limbo l → l.entry.series ≡ row → HoldsMoment l.entry.part t → l ≡ x) → samples_at limbo row t ≡ x.samples
 found_at [] row t x (k, low, is) own holds one = absurd (omega (arith, low))
 found_at (l ∷ limbo) row t x within own holds one = by_test (holds_at l row t) refl within (λ there. found_at limbo row t x there own holds (λ y there_y. one y (let k = there_y.0 in let low = there_y.1 in (suc k, omega (arith, low), there_y.2))))
   where
@@ -219,7 +219,7 @@ all_of_files P [] all = λ k d lt. absurd (omega (arith, lt))
 all_of_files P (f ∷ fs) all = All-append P f.samples (of_files fs) all.0 (all_of_files P fs all.1)
 
 -- where none of limbo is of the first of the samples, nothing comes back
-none_revived : (limbo : List Filed) (row : ℕ) (samples : List Sample) → All (λ (s : Sample). samples_at limbo row s.t ≡ []) samples → revived limbo row samples ≡ []
+pub none_revived : (limbo : List Filed) (row : ℕ) (samples : List Sample) → All (λ (s : Sample). samples_at limbo row s.t ≡ []) samples → revived limbo row samples ≡ []
 none_revived limbo row [] none = refl
 none_revived limbo row (s ∷ samples) none = All-head (λ (x : Sample). samples_at limbo row x.t ≡ []) s samples none
 

@@ -1,11 +1,12 @@
 -- A running move that copies: what stays true of it between its steps, and what one step copies.
-use Rattle.std.specs.Prelude.{◌≡◌, ◌≢◌, ◌⊎◌, ◌<◌, ◌≤◌, ◌++◌, ◌+◌, ℕ, Bool, List, [], All, Contains, IsTrue, length, map, take, Option, None, Some, slice_get}
+use Rattle.std.specs.Prelude.{◌≡◌, ◌≢◌, ◌⊎◌, ◌<◌, ◌≤◌, ◌++◌, ◌+◌, ℕ, zero, suc, Bool, List, [], ◌∷◌, All, Contains, IsTrue, length, map, take, drop, nat_lt, if◌then◌else◌, Option, None, Some, slice_get}
 use Rattle.std.specs.List.{flat_map}
 use Rattle.disk_model.specs.Files.{Name}
 use Rattle.etl_mover.specs.Copying.{last_of}
 use Rattle.etl_mover.specs.Move.{MoveState, part_file}
 use Rattle.etl_mover.specs.Step.{AreFew}
 use Rattle.etl_mover.specs.declared.moving.Stage.TheVariants.{Copying}
+use Rattle.partition_names.specs.Part.{HoldsMoment}
 use Rattle.pb_lines.specs.File.{lines_of}
 use Rattle.series_model.specs.Series.{since, end_of}
 use Rattle.series_model.specs.declared.sample.Sample.{Sample}
@@ -16,16 +17,21 @@ use Rattle.tier_store.specs.Held.{Filed, entry_of, file_of, samples_of}
 use Rattle.tier_store.specs.Plan.{IsLastOf, of_row}
 use Rattle.three_stores.specs.Change.{Has, IsEither, IsOpen, OnlyReads}
 use Rattle.three_stores.specs.Copied.{end_after}
-use Rattle.three_stores.specs.Finding.{SplitsAt, IsFrom, IsNext, IsUpTo}
+use Rattle.three_stores.specs.Finding.{BeginsAt, SplitsAt, IsFrom, IsNext, IsUpTo}
 use Rattle.three_stores.specs.Moving.{RunsBeside, LeavesNames, LeavesLater}
 use Rattle.three_stores.specs.Pinned.{SeenAll, KeepsShown}
 use Rattle.three_stores.specs.Retiring.{oldest}
+use Rattle.three_stores.specs.Revival.{AreWhole, revived}
+use Rattle.three_stores.specs.Reviving.{AreBack, free_of, past}
 use Rattle.three_stores.specs.Stores.{Stores, list_at}
 use Rattle.three_stores.specs.declared.copying.CopyEnd.{CopyEnd}
 use Rattle.three_stores.specs.declared.copying.CopyEnd.TheVariants as ends
 use Rattle.three_stores.specs.declared.copying.NextLine.{NextLine}
 use Rattle.three_stores.specs.declared.copying.NextLine.TheVariants as next
 use Rattle.three_stores.specs.declared.copying.PartLines.{PartLines}
+use Rattle.three_stores.specs.declared.finding.LaterLines.{LaterLines}
+use Rattle.three_stores.specs.declared.finding.LaterLines.TheVariants.{At, Damaged}
+use Rattle.three_stores.specs.declared.limbo.Retired.{Retired}
 
 -- WHAT IS LEFT TO COPY
 
@@ -41,8 +47,9 @@ samples_of_parts from move n held = flat_map (λ (f : Filed). f.samples) (oldest
 abbrev pub left_of : ℕ → MoveState → ℕ → List Filed → Stores → List Sample
 left_of from move n files held = since (end_of (samples_ahead (from + 1) move files held)) (samples_of_parts from move n held)
 
-abbrev pub left_to_copy : ℕ → MoveState → List Filed → Stores → List Sample
-left_to_copy from move files held = left_of from move (length move.parts) files held
+-- and of those of all parts what is later than the files in limbo of their partitions
+abbrev pub left_to_copy : ℕ → MoveState → List Filed → List Filed → Stores → List Sample
+left_to_copy from move back files held = past back move.series (left_of from move (length move.parts) files held)
 
 -- BETWEEN STEPS
 
@@ -66,16 +73,47 @@ pub record CopiesBeside (from : ℕ) (tells : Bool) (all : SeenAll) (move : Move
   pub passed : IsTrue held.stands → left_of from move move.at files held ≡ []
   pub told : IsTrue held.stands → IsTrue tells
 
--- all its parts are copied, and nothing is left of them
+-- the same, but of the parts that are copied some may be left
+pub record CopiesFurther (from : ℕ) (tells : Bool) (all : SeenAll) (move : MoveState) (files : List Filed) (held : Stores) : Type 0 where
+  pub runs : RunsBeside (from + 1) tells all move files held
+  pub stage : move.stage ≡ Copying
+  pub left : move.at ≢ length move.parts
+  pub heads : KnowsHeads from move held
+  pub lengths : KnowsLengths from move held
+  pub last : IsLastOf (map entry_of (put_all (list_at (from + 1) held) files)) move.series (last_of move.pending move.listed)
+  pub told : IsTrue held.stands → IsTrue tells
+
+-- a file begins later than all that the store at a place will hold
+abbrev pub IsAllLater : ℕ → MoveState → List Filed → Stores → Filed → Type 0
+IsAllLater i move files held f = BeginsAt (end_of (samples_ahead i move files held)) f.samples
+
+-- Of the first so many parts all is ahead, and the move knows how long they are listed. Of the others, which files in limbo have, nothing is, and
+-- nothing but their headers is copied.
+pub record KnowsCopied (from : ℕ) (move : MoveState) (files : List Filed) (held : Stores) : Type 0 where
+  pub whole : ℕ
+  pub most : whole ≤ length move.parts
+  pub lengths : map (λ (f : Filed). f.entry.len) (oldest from move.series whole held) ≡ map (λ (e : Entry). e.len) (take whole move.parts)
+  pub heads : map (λ (f : Filed). f.entry.head_len) (drop whole (oldest from move.series (length move.parts) held)) ≡ map (λ (e : Entry). e.len) (drop whole move.parts)
+  pub none_left : IsTrue held.stands → left_of from move whole files held ≡ []
+  pub later : IsTrue held.stands → All (IsAllLater (from + 1) move files held) (drop whole (oldest from move.series (length move.parts) held))
+
+-- all its parts are copied
 pub record HasCopiedAll (from : ℕ) (tells : Bool) (all : SeenAll) (move : MoveState) (files : List Filed) (held : Stores) : Type 0 where
   pub runs : RunsBeside (from + 1) tells all move files held
   pub stage : move.stage ≡ Copying
   pub all_copied : move.at ≡ length move.parts
+  pub parts : KnowsCopied from move files held
+
+-- all its parts were passed: nothing is left of them, wherever limbo stands
+pub record HasPassedAll (from : ℕ) (tells : Bool) (all : SeenAll) (move : MoveState) (files : List Filed) (held : Stores) : Type 0 where
+  pub runs : RunsBeside (from + 1) tells all move files held
+  pub stage : move.stage ≡ Copying
+  pub all_copied : move.at ≡ length move.parts
   pub lengths : KnowsLengths from move held
-  pub none_left : IsTrue held.stands → left_to_copy from move files held ≡ []
+  pub none_left : IsTrue held.stands → left_of from move (length move.parts) files held ≡ []
 
 abbrev pub CopiesOrHas : ℕ → Bool → SeenAll → MoveState → List Filed → Stores → Type 0
-CopiesOrHas from tells all move files held = CopiesBeside from tells all move files held ⊎ HasCopiedAll from tells all move files held
+CopiesOrHas from tells all move files held = CopiesBeside from tells all move files held ⊎ HasPassedAll from tells all move files held
 
 -- what may have changed of a move is how long its parts are copied, how many of them are, and what it is to list
 pub record MovesOn (old new : MoveState) : Type 0 where
@@ -86,6 +124,16 @@ pub record MovesOn (old new : MoveState) : Type 0 where
 pub record PassesParts (old new : MoveState) : Type 0 where
   pub is : new ≡ record old { parts = new.parts; at = new.at }
   pub long : length new.parts ≡ length old.parts
+
+-- from the n-th part on, with the headers' lengths
+abbrev pub with_heads : ℕ → List Entry → List Entry
+with_heads zero parts = map (λ (e : Entry). record e { len = e.head_len }) parts
+with_heads (suc n) [] = []
+with_heads (suc n) (e ∷ parts) = e ∷ with_heads n parts
+
+-- the parts that were left are passed, of which nothing but the headers is copied
+abbrev pub PassesRest : MoveState → MoveState → Type 0
+PassesRest old new = new ≡ record old { parts = with_heads old.at old.parts; at = length old.parts }
 
 -- WHERE A STEP GOES ON
 
@@ -103,6 +151,18 @@ pub record FindsPart (from : ℕ) (move : MoveState) (held : Stores) (lines : Pa
   pub behind : IsFrom file.entry.head_len lines.later
   pub within : IsUpTo file.entry.len lines.later
   pub splits : IsTrue held.stands → IsNext file.samples (end_after (last_of move.pending move.listed)) file.entry.head_len lines.later
+
+-- the line with which a part goes on, of which one is left
+abbrev pub of_line : PartLines → LaterLines → NextLine
+of_line part (At at) = if nat_lt at part.len then next.Line part.name at part.len else next.Damaged part.name part.len
+of_line part (Damaged at) = next.Damaged part.name at
+
+abbrev pub line_of : PartLines → NextLine
+line_of part = of_line part part.later
+
+-- some samples of the next part are later than all that is ahead
+abbrev pub HasLater : ℕ → MoveState → Stores → Type 0
+HasLater from move held = (q : Filed) → IsNextPart from move held q → since (end_after (last_of move.pending move.listed)) q.samples ≢ []
 
 -- a line is left of the next part, and it begins here
 pub record FindsLine (from : ℕ) (move : MoveState) (held : Stores) (name : Name) (at len : ℕ) : Type 0 where
@@ -122,9 +182,15 @@ pub record IsDamaged (from : ℕ) (move : MoveState) (held : Stores) (name : Nam
   pub within : at ≤ file.entry.len
   pub never : IsTrue held.stands → ⊥
 
+-- such a line is left, or damaged
+abbrev pub SaysLine : ℕ → MoveState → Stores → NextLine → Type 0
+SaysLine from move held (next.Line name at len) = FindsLine from move held name at len
+SaysLine from move held next.End = Unit {0}
+SaysLine from move held (next.Damaged name at) = IsDamaged from move held name at
+
 abbrev pub SaysNext : ℕ → Bool → SeenAll → MoveState → List Filed → Stores → NextLine → Type 0
 SaysNext from tells all move files held (next.Line name at len) = CopiesBeside from tells all move files held × FindsLine from move held name at len
-SaysNext from tells all move files held next.End = HasCopiedAll from tells all move files held
+SaysNext from tells all move files held next.End = HasPassedAll from tells all move files held
 SaysNext from tells all move files held (next.Damaged name at) = IsDamaged from move held name at
 
 -- the next part was passed, or it has a line that is left or is damaged
@@ -145,21 +211,64 @@ pub record OnlyLooks {A E : Type 0} (tells : Bool) (old new : SeenAll) (end : En
 
 -- WHAT A STEP COPIES
 
--- These samples were copied, the first of those that were left, and these are left still. Their lines take so many bytes at most, or are one.
-pub record CopiesNext (most from : ℕ) (move : MoveState) (files more : List Filed) (held : Stores) (copied rest : List Sample) : Type 0 where
-  pub left : left_to_copy from move files held ≡ copied ++ rest
+-- These samples were copied of the part at hand and these are left of it and of those behind it, beside those that are left of the parts before
+-- it. Their lines take so many bytes at most, or are one.
+pub record CopiesLines (most from : ℕ) (move new : MoveState) (files more : List Filed) (held : Stores) (copied rest : List Sample) : Type 0 where
+  pub left : left_of from move (length move.parts) files held ≡ left_of from move move.at files held ++ (copied ++ rest)
+  pub still : left_of from new (length new.parts) more held ≡ rest
   pub ahead : samples_ahead (from + 1) move more held ≡ samples_ahead (from + 1) move files held ++ copied
   pub few : AreFew most (lines_of copied)
+  pub some : copied ≢ []
+  pub further : end_of (samples_ahead (from + 1) move files held) ≤ end_of (samples_ahead (from + 1) new more held)
+  pub within : (q : Filed) → IsNextPart from move held q → All (λ (s : Sample). HoldsMoment q.entry.part s.t) copied
+
+-- something of a part is later than all that is ahead
+abbrev pub IsLeft : ℕ → MoveState → List Filed → Stores → Filed → Type 0
+IsLeft i move files held f = since (end_of (samples_ahead i move files held)) f.samples ≢ []
+
+-- what copying lines says
+abbrev pub SaysLines : ℕ → ℕ → Bool → SeenAll → MoveState → MoveState → List Filed → Stores → CopyEnd → Type 0
+SaysLines most from tells all move new files held ends.More =
+    (more : List Filed) × CopiesBeside from tells all new more held
+    × (IsTrue held.stands → (copied : List Sample) × (rest : List Sample) × CopiesLines most from move new files more held copied rest × All (IsLeft (from + 1) new more held) (drop new.at (oldest from new.series (length new.parts) held))
+    × (move.at < new.at → All (IsAllLater (from + 1) new more held) (drop new.at (oldest from new.series (length new.parts) held))))
+SaysLines most from tells all move new files held ends.Copied =
+    (more : List Filed) × HasCopiedAll from tells all new more held × (IsTrue held.stands → (copied : List Sample) × CopiesLines most from move new files more held copied [])
+SaysLines most from tells all move new files held (ends.Damaged name at) = IsDamaged from move held name at
+
+-- These samples were copied, the first of those that were left, and these are left still. Where the first of them comes into the partition of a file
+-- in limbo, what that has comes in front of it. Their lines take so many bytes at most, or are one.
+pub record CopiesNext (most from : ℕ) (limbo : List Retired) (retired : List Filed) (move : MoveState) (files more : List Filed) (held : Stores) (copied rest : List Sample) : Type 0 where
+  pub back : List Filed
+  pub in_limbo : AreBack (from + 1) limbo retired (put_all (list_at (from + 1) held) files) back
+  pub left : left_to_copy from move back files held ≡ copied ++ rest
+  pub ahead : samples_ahead (from + 1) move more held ≡ samples_ahead (from + 1) move files held ++ (revived back move.series copied ++ copied)
+  pub few : AreFew most (lines_of copied)
+
+-- what copying the k-th part says, with which of the samples that were left are so still
+abbrev pub SaysPart : ℕ → ℕ → Bool → SeenAll → ℕ → List Filed → MoveState → MoveState → List Filed → Stores → CopyEnd → Type 0
+SaysPart most from tells all k retired move new files held ends.More =
+    (more : List Filed) × CopiesBeside from tells all new more held
+    × (IsTrue held.stands → (copied : List Sample) × (rest : List Sample) × (next : CopiesNext most from all.limbo retired move files more held copied rest) × (copied ≢ [])
+    × (rest ≡ past (free_of (put_all (list_at (from + 1) held) files) retired) move.series (left_of from new (length new.parts) more held)) × All (IsLeft (from + 1) new more held) (drop new.at (oldest from new.series (length new.parts) held))
+    × (k < new.at → All (IsAllLater (from + 1) new more held) (drop new.at (oldest from new.series (length new.parts) held))) × (end_of (samples_ahead (from + 1) move files held) ≤ end_of (samples_ahead (from + 1) new more held)))
+SaysPart most from tells all k retired move new files held ends.Copied =
+    (more : List Filed) × HasCopiedAll from tells all new more held × (IsTrue held.stands → (copied : List Sample) × CopiesNext most from all.limbo retired move files more held copied [])
+SaysPart most from tells all k retired move new files held (ends.Damaged name at) = IsDamaged from move held name at
 
 -- What an answer says: some samples were copied and some are left, or all that was left was copied. A file is told as damaged only where
 -- what is held doesn't stand.
-abbrev pub SaysCopied : ℕ → ℕ → Bool → SeenAll → MoveState → MoveState → List Filed → Stores → CopyEnd → Type 0
-SaysCopied most from tells all move new files held ends.More =
+abbrev pub SaysCopied : ℕ → ℕ → Bool → SeenAll → List Filed → MoveState → MoveState → List Filed → Stores → CopyEnd → Type 0
+SaysCopied most from tells all retired move new files held ends.More =
     (more : List Filed) × CopiesBeside from tells all new more held
-    × (IsTrue held.stands → (copied : List Sample) × (rest : List Sample) × CopiesNext most from move files more held copied rest × (copied ≢ []) × (rest ≢ []))
-SaysCopied most from tells all move new files held ends.Copied =
-    (more : List Filed) × HasCopiedAll from tells all new more held × (IsTrue held.stands → (copied : List Sample) × CopiesNext most from move files more held copied [])
-SaysCopied most from tells all move new files held (ends.Damaged name at) = IsDamaged from move held name at
+    × (IsTrue held.stands → (copied : List Sample) × (rest : List Sample) × CopiesNext most from all.limbo retired move files more held copied rest × (copied ≢ []) × (rest ≢ []))
+SaysCopied most from tells all retired move new files held ends.Copied =
+    (more : List Filed) × HasCopiedAll from tells all new more held × (IsTrue held.stands → (copied : List Sample) × CopiesNext most from all.limbo retired move files more held copied [])
+SaysCopied most from tells all retired move new files held (ends.Damaged name at) = IsDamaged from move held name at
+
+-- a move copies beside the stores, and these are their files in limbo of the store to which it copies
+abbrev pub CopiesAmong : ℕ → Bool → SeenAll → List Filed → MoveState → List Filed → Stores → Type 0
+CopiesAmong from tells all retired move files held = CopiesBeside from tells all move files held × AreWhole (from + 1) tells all.stores all.limbo held.stands retired
 
 -- After an error the move copies beside the stores still: under the doubt that stood before, or beside what was found when that was settled.
 abbrev pub StillCopies : ℕ → Bool → SeenAll → MoveState → List Filed → Stores → Stores → Type 0

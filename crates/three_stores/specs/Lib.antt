@@ -13,6 +13,7 @@ pub mod Pinned
 pub mod Pinning
 pub mod Retiring
 pub mod Revival
+pub mod Reviving
 pub mod Seen
 pub mod Settling
 pub mod Stored

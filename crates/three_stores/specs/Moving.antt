@@ -1,5 +1,5 @@
 -- Running moves over the three stores: what one has written to the next store and not listed yet, and what a call leaves of that.
-use Rattle.std.specs.Prelude.{◌≡◌, ◌≢◌, ◌⊎◌, ◌≤◌, ◌+◌, ℕ, Bool, List, ◌++◌, All, Contains, IsTrue, length, map, Some, slice_get}
+use Rattle.std.specs.Prelude.{◌≡◌, ◌≢◌, ◌⊎◌, ◌≤◌, ◌+◌, ℕ, Bool, List, ◌++◌, All, Contains, IsTrue, length, map, None, Some, slice_get}
 use Rattle.disk_model.specs.Files.{Name}
 use Rattle.disk_model.specs.Past.{Passes}
 use Rattle.etl_mover.specs.Move.{MoveState, IsMove, StillLists}
@@ -8,7 +8,7 @@ use Rattle.partition_names.specs.declared.part.Part.{Part}
 use Rattle.pv_catalog.specs.Rows.{KeepsRows}
 use Rattle.pv_catalog.specs.declared.row.Row.{Row}
 use Rattle.store_manifest.specs.Manifest.{ManifestState}
-use Rattle.tier_store.specs.Flush.{PlacesRise, put_all}
+use Rattle.tier_store.specs.Flush.{PlacesRise, file_at, put_all}
 use Rattle.tier_store.specs.Held.{Filed, Held, Shelf, AreFiled, entry_of, file_of, filed_at}
 use Rattle.tier_store.specs.Plan.{IsLastOf, of_row}
 use Rattle.tier_store.specs.Stored.{AreSafe}
@@ -28,18 +28,18 @@ of_files i s files = record { store = i + 1; rows = s.rows; files = files; stand
 abbrev pub NoneShortened : List Filed → List Filed → Type 0
 NoneShortened listed files = (h f : Filed) → Contains listed h → Contains files f → filed_at h ≡ filed_at f → h.entry.len ≤ f.entry.len
 
--- or than what is in limbo under its name
-abbrev pub NoneRetiredShortened : Shelf → List Retired → List Filed → Type 0
-NoneRetiredShortened shelf limbo files = (r : Retired) (f : Filed) → Contains limbo r → Contains files f → r.name ≡ file_of shelf f.entry → r.entry.len ≤ f.entry.len
+-- or, where nothing is listed in its place, than what is in limbo under its name
+abbrev pub NoneRetiredShortened : Shelf → List Retired → List Filed → List Filed → Type 0
+NoneRetiredShortened shelf limbo listed files = (r : Retired) (f : Filed) → Contains limbo r → Contains files f → r.name ≡ file_of shelf f.entry → file_at (filed_at f) listed ≡ None → r.entry.len ≤ f.entry.len
 
 -- Files that may be listed at a place, each in the place of what is listed there or beside it. They are in order, each is one of its row and
--- partition, and they are safe on the disk. What is listed of one, or is in limbo, goes on in it.
+-- partition, and they are safe on the disk. What is listed of one goes on in it, and where nothing is, what is in limbo.
 pub record MayBeListed (i : ℕ) (tells : Bool) (all : SeenAll) (held : Stores) (files : List Filed) : Type 0 where
   pub rise : PlacesRise files
   pub filed : (g : Granularity) → slice_get (granularities all.stores.manifests) i ≡ Some g → AreFiled g (of_files i held files)
   pub safe : IsTrue tells → AreSafe (of_files i held files) all.stores.files all.stores.opened all.stores.past
   pub longer : NoneShortened (list_at i held) files
-  pub longer_retired : NoneRetiredShortened (i + 1, held.rows) all.limbo files
+  pub longer_retired : NoneRetiredShortened (i + 1, held.rows) all.limbo (list_at i held) files
 
 -- THE MOVE
 

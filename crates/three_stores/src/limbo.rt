@@ -1,10 +1,11 @@
 // Retired files that are still on the disk, and which of them a store lists again.
-ghost use Rattle.std.specs.Prelude.{◌≡◌, ◌≤◌, ℕ, true, false, nat_lt, length, IfOk};
+ghost use Rattle.std.specs.Prelude.{◌≡◌, ◌≤◌, ◌<◌, ℕ, true, false, nat_lt, length, IfOk, IfSome};
 ghost use Rattle.std.specs.List.Sorted.{IsPartitionPoint};
 ghost use Rattle.store_manifest.specs.Entries.{InOrder, is_listed};
 ghost use Rattle.store_manifest.specs.Listing.{OfSeries};
 ghost use Rattle.three_stores.specs.Limbo.{ListsPlace, Stay};
 ghost use Rattle.three_stores.specs.Revival.{AreUnlistedIn, IsUnlistedOf};
+ghost use Rattle.three_stores.specs.Reviving.{IsBehind, SaysBehind};
 ghost use Rattle.three_stores.specs.Seen.{AtEach};
 
 use disk_model::FileName;
@@ -53,6 +54,48 @@ fn is_unlisted_of(manifests: &[Manifest], file: &Retired, store: u8) -> bool
     ensures other { AtEach manifests.now (λ i m. InOrder m.entries) → result ≡ false → IsUnlistedOf manifests.now store file.now → ⊥ }
 {
     file.name.store == store && is_unlisted(manifests, file)
+}
+
+// The entry of the file in limbo of a store, of a row, and of the partition that holds a moment, where that lies behind the row's last entry.
+pub(crate) fn entry_behind(
+    limbo: &[Retired],
+    store: u8,
+    row: u32,
+    last: Option<Entry>,
+    t: u64,
+) -> Option<Entry>
+    ensures { SaysBehind limbo.now store row last t result }
+{
+    for file in limbo {
+        if is_behind(file, store, row, &last, t) {
+            return Some(file.entry);
+        }
+    }
+    None
+}
+
+// Whether it is this one.
+fn is_behind(file: &Retired, store: u8, row: u32, last: &Option<Entry>, t: u64) -> bool
+    ensures behind { result ≡ true → IsBehind store row last.now t file.now }
+    ensures other { result ≡ false → IsBehind store row last.now t file.now → ⊥ }
+{
+    let part = file.entry.part;
+    file.name.store == store
+        && file.entry.series == row
+        && part.start <= t
+        && t < part.end
+        && begins_behind(last, part.start)
+}
+
+// Whether the partition of an entry, if there is one, begins before this moment.
+fn begins_behind(last: &Option<Entry>, start: u64) -> bool
+    ensures behind { result ≡ true → IfSome last.now (λ e. e.part.start < start) }
+    ensures other { result ≡ false → IfSome last.now (λ e. e.part.start < start) → ⊥ }
+{
+    match last {
+        Some(last) => last.part.start < start,
+        None => true,
+    }
 }
 
 // Whether the manifest of a file's store lists none of its row and partition.

@@ -8,6 +8,7 @@ use Rattle.tier_store.specs.Ends.{IsFailed, end_of_disk}
 use Rattle.tier_store.specs.Held.{Filed, file_of}
 use Rattle.three_stores.specs.Finding.{IsNext}
 use Rattle.three_stores.specs.Pinned.{beside}
+use Rattle.three_stores.specs.Reviving.{reviving}
 use Rattle.three_stores.specs.Seen.{seen_on}
 use Rattle.three_stores.specs.Stores.{list_at}
 use Rattle.three_stores.proofs.CopyLooks.{looks_err, looks_none}
@@ -16,7 +17,7 @@ use Rattle.three_stores.proofs.There.{row_listed}
 use Rattle.three_stores.proofs.store.TierStore.part_lines.Goals as goal
 
 pub manifest-requires-clause-last : goal.manifest-requires-clause-last
-manifest-requires-clause-last g c = let three = c.requires.runs.2.known.three in omega (arith, three, c.requires.within)
+manifest-requires-clause-last g c = let three = c.requires.runs.3.known.three in omega (arith, three, c.requires.within)
 
 pub unreachable-requires : goal.unreachable-requires
 unreachable-requires g c =
@@ -24,8 +25,8 @@ unreachable-requires g c =
     let self = c.args.self.now in
     let runs = c.requires.runs in
     let all = beside (seen_on disk.files disk.opened disk.past disk.faults self.catalogue self.manifests.items self.disk) self.limbo.items in
-    let q = next_file disk.tells all c.args.place c.args.moving.now runs.0 runs.1 runs.2 runs.3 in
-    let some = next_entry disk.tells all c.args.place c.args.moving.now runs.0 runs.1 runs.2 runs.3 q.0 q.1 c.manifest.result.now (c.manifest.ensures c.args.place refl) c.next_entry.result c.next_entry.ensures in
+    let q = next_file disk.tells all c.args.place (reviving c.args.moving.now runs.0) runs.1 runs.2 runs.3 runs.4 in
+    let some = next_entry disk.tells all c.args.place (reviving c.args.moving.now runs.0) runs.1 runs.2 runs.3 runs.4 q.0 q.1 c.manifest.result.now (c.manifest.ensures c.args.place refl) c.next_entry.result c.next_entry.ensures in
     absurd (cc (some, c.in_default.is))
 
 pub file_name-requires : goal.file_name-requires
@@ -35,11 +36,11 @@ file_name-requires g c =
     let runs = c.requires.runs in
     let at = seen_on disk.files disk.opened disk.past disk.faults self.catalogue self.manifests.items self.disk in
     let all = beside at self.limbo.items in
-    let q = next_file disk.tells all c.args.place c.args.moving.now runs.0 runs.1 runs.2 runs.3 in
-    let some = next_entry disk.tells all c.args.place c.args.moving.now runs.0 runs.1 runs.2 runs.3 q.0 q.1 c.manifest.result.now (c.manifest.ensures c.args.place refl) c.next_entry.result c.next_entry.ensures in
+    let q = next_file disk.tells all c.args.place (reviving c.args.moving.now runs.0) runs.1 runs.2 runs.3 runs.4 in
+    let some = next_entry disk.tells all c.args.place (reviving c.args.moving.now runs.0) runs.1 runs.2 runs.3 runs.4 q.0 q.1 c.manifest.result.now (c.manifest.ensures c.args.place refl) c.next_entry.result c.next_entry.ensures in
     let both : ◌≡◌ {A = Option Entry} (Some c.in-Some.entry) (Some q.0.entry) = sym c.in-Some.is ∙ some in
     let same : c.in-Some.entry ≡ q.0.entry = cc (both) in
-    subst (λ (rs : List Row). c.in-Some.entry.series < length rs) (sym c.rows.ensures.value) (row_listed disk.tells at runs.1 (c.args.place + 1) c.in-Some.entry runs.2 (lists_it disk.tells all c.args.place c.args.moving.now runs.0 runs.1 runs.2 runs.3 q.0 q.1 c.in-Some.entry same))
+    subst (λ (rs : List Row). c.in-Some.entry.series < length rs) (sym c.rows.ensures.value) (row_listed disk.tells at runs.2 (c.args.place + 1) c.in-Some.entry runs.3 (lists_it disk.tells all c.args.place (reviving c.args.moving.now runs.0) runs.1 runs.2 runs.3 runs.4 q.0 q.1 c.in-Some.entry same))
 
 pub find_later-requires-clause-listed : goal.find_later-requires-clause-listed
 find_later-requires-clause-listed g c =
@@ -47,28 +48,28 @@ find_later-requires-clause-listed g c =
     let self = c.args.self.now in
     let runs = c.requires.runs in
     let all = beside (seen_on disk.files disk.opened disk.past disk.faults self.catalogue self.manifests.items self.disk) self.limbo.items in
-    let q = next_file disk.tells all c.args.place c.args.moving.now runs.0 runs.1 runs.2 runs.3 in
-    let some = next_entry disk.tells all c.args.place c.args.moving.now runs.0 runs.1 runs.2 runs.3 q.0 q.1 c.manifest.result.now (c.manifest.ensures c.args.place refl) c.next_entry.result c.next_entry.ensures in
+    let q = next_file disk.tells all c.args.place (reviving c.args.moving.now runs.0) runs.1 runs.2 runs.3 runs.4 in
+    let some = next_entry disk.tells all c.args.place (reviving c.args.moving.now runs.0) runs.1 runs.2 runs.3 runs.4 q.0 q.1 c.manifest.result.now (c.manifest.ensures c.args.place refl) c.next_entry.result c.next_entry.ensures in
     let both : ◌≡◌ {A = Option Entry} (Some c.in-Some.entry) (Some q.0.entry) = sym c.in-Some.is ∙ some in
     let same : c.in-Some.entry ≡ q.0.entry = cc (both) in
-    lists_it disk.tells all c.args.place c.args.moving.now runs.0 runs.1 runs.2 runs.3 q.0 q.1 c.in-Some.entry same
+    lists_it disk.tells all c.args.place (reviving c.args.moving.now runs.0) runs.1 runs.2 runs.3 runs.4 q.0 q.1 c.in-Some.entry same
 
 pub find_later-requires-clause-has : goal.find_later-requires-clause-has
-find_later-requires-clause-has g c = let runs = c.requires.runs in (runs.1, runs.2)
+find_later-requires-clause-has g c = let runs = c.requires.runs in (runs.2, runs.3)
 
 pub returns-clause-finds : goal.returns-clause-finds
-returns-clause-finds g c files held has is =
+returns-clause-finds g c revived files held after has is =
     let disk = g.D.Disk in
     let self = c.args.self.now in
     let all = beside (seen_on disk.files disk.opened disk.past disk.faults self.catalogue self.manifests.items self.disk) self.limbo.items in
-    let q = next_file disk.tells all c.args.place c.args.moving.now files held has is in
-    let some = next_entry disk.tells all c.args.place c.args.moving.now files held has is q.0 q.1 c.manifest.result.now (c.manifest.ensures c.args.place refl) c.next_entry.result c.next_entry.ensures in
+    let q = next_file disk.tells all c.args.place (reviving c.args.moving.now revived) files held has is in
+    let some = next_entry disk.tells all c.args.place (reviving c.args.moving.now revived) files held has is q.0 q.1 c.manifest.result.now (c.manifest.ensures c.args.place refl) c.next_entry.result c.next_entry.ensures in
     let both : ◌≡◌ {A = Option Entry} (Some c.in-Some.entry) (Some q.0.entry) = sym c.in-Some.is ∙ some in
     let same : c.in-Some.entry ≡ q.0.entry = cc (both) in
     let named : c.in_ok-name.name ≡ file_of (c.args.place + 1, held.rows) c.in-Some.entry = c.in_ok-name.ensures ∙ ap (λ (r : List Row). file_of (c.args.place + 1, r) c.in-Some.entry) (c.rows.ensures.value ∙ has.known.rows) in
-    part_finds disk.tells all c.args.place c.args.moving.now files held has is q.0 q.1 c.in_ok-name.name c.in-Some.entry.len c.in_ok-later.later c.in-Some.entry same named refl c.in_ok-later.ensures.behind c.in_ok-later.ensures.within
+    part_finds disk.tells all c.args.place (reviving c.args.moving.now revived) files held has is q.0 q.1 c.in_ok-name.name c.in-Some.entry.len c.in_ok-later.later c.in-Some.entry same named refl c.in_ok-later.ensures.behind c.in_ok-later.ensures.within
     (λ stands.
-    subst (λ (k : ℕ). (i : ℕ) × (c.args.place + 1 ≡ i + 1) × (f : Filed) × Contains (list_at i held) f × (f.entry ≡ c.in-Some.entry) × IsNext f.samples k c.in-Some.entry.head_len c.in_ok-later.later) c.last_moment.ensures
+    subst (λ (k : ℕ). (i : ℕ) × (c.args.place + 1 ≡ i + 1) × (f : Filed) × Contains (list_at i held) f × (f.entry ≡ c.in-Some.entry) × IsNext f.samples k c.in-Some.entry.head_len c.in_ok-later.later) after
     (c.in_ok-later.ensures.found (is.told stands) held stands has))
 
 pub returns-in_err-name-clause-looks : goal.returns-in_err-name-clause-looks

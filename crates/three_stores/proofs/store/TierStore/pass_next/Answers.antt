@@ -1,13 +1,18 @@
-use Rattle.std.proofs.Common.{Err, ◌∙◌, ap, sym, arith}
+use Rattle.std.proofs.Common.{Err, None, ◌∙◌, ap, sym, arith}
 use Rattle.std.proofs.lemmas.Result.{err_from_is_err_and}
 use Rattle.disk_model.specs.declared.disk.DiskErr.{DiskErr}
 use Rattle.etl_mover.specs.Move.{MoveState}
 use Rattle.three_stores.specs.Pinned.{beside}
 use Rattle.three_stores.specs.Seen.{granularities, seen_on}
 use Rattle.three_stores.proofs.CopyLooks.{copies_on, copies_or_on, err_says, looks_ends, looks_err}
-use Rattle.three_stores.proofs.CopyParts.{low, next_part}
+use Rattle.three_stores.proofs.CopyParts.{further, low, next_part}
 use Rattle.three_stores.proofs.CopyPass.{damaged_part, line_left, part_passed, passes_finished, passes_none}
 use Rattle.three_stores.proofs.store.TierStore.pass_next.Goals as goal
+
+pub part_lines-requires-clause-runs : goal.part_lines-requires-clause-runs
+part_lines-requires-clause-runs g c =
+    let runs = c.requires.runs in
+    (None, runs.0, runs.1, runs.2, further c.args.place g.D.Disk.tells _ c.args.moving.now runs.0 runs.1 runs.3)
 
 pub pass-requires-clause-running : goal.pass-requires-clause-running
 pass-requires-clause-running g c = let runs = c.requires.runs.3.runs in (runs.fine, runs.running)
@@ -35,7 +40,7 @@ returns-in_err-part-clause-looks g c =
     looks_err g.D.Disk.tells _ _ c.part_lines.result c.from_residual.result _ (c.in_err-part.was ∙ ap (λ (x : DiskErr). Err x) (sym p.2)) p.1 c.part_lines.ensures.looks
 
 pub returns-in-Damaged-clause-finds : goal.returns-in-Damaged-clause-finds
-returns-in-Damaged-clause-finds g c files held has is = (damaged_part c.args.place c.args.moving.now held c.in_ok-part.part c.in-Damaged.at (low g.D.Disk.tells _ c.args.place c.args.moving.now files held has is) c.in-Damaged.is (c.in_ok-part.ensures.finds files held has is), tt)
+returns-in-Damaged-clause-finds g c files held has is = (damaged_part c.args.place c.args.moving.now held c.in_ok-part.part c.in-Damaged.at (low g.D.Disk.tells _ c.args.place c.args.moving.now files held has (further c.args.place g.D.Disk.tells _ c.args.moving.now files held is)) c.in-Damaged.is (c.in_ok-part.ensures.finds None files held c.last_moment-last.ensures has (further c.args.place g.D.Disk.tells _ c.args.moving.now files held is)), tt)
 
 pub returns-in-Damaged-clause-passes : goal.returns-in-Damaged-clause-passes
 returns-in-Damaged-clause-passes g c = passes_none c.args.moving.now
@@ -48,7 +53,7 @@ returns-then-at-part-clause-finds g c files held has is =
     let looks = c.in_ok-part.ensures.looks in (
       (
         copies_on c.args.place g.D.Disk.tells _ _ c.args.moving.now files held (ap granularities looks.manifests) looks.leaves is,
-        line_left c.args.place c.args.moving.now held c.in_ok-part.part c.in-At.at c.in-At.is c.if-at-part.true (c.in_ok-part.ensures.finds files held has is),
+        line_left c.args.place c.args.moving.now held c.in_ok-part.part c.in-At.at c.in-At.is c.if-at-part.true (c.in_ok-part.ensures.finds None files held c.last_moment-last.ensures has (further c.args.place g.D.Disk.tells _ c.args.moving.now files held is)),
       ),
       tt,
     )
@@ -66,9 +71,9 @@ returns-else-at-part-clause-finds g c files held has is =
     let old = beside (seen_on disk.files disk.opened disk.past disk.faults self.catalogue self.manifests.items self.disk) self.limbo.items in
     let looks = c.in_ok-part.ensures.looks in
     let move = c.args.moving.now in
-    let part = next_part disk.tells old c.args.place move files held has is in (
+    let part = next_part disk.tells old c.args.place move files held has (further c.args.place disk.tells old move files held is) in (
       copies_or_on c.args.place disk.tells old _ c.pass.new.self files held (ap granularities looks.manifests) looks.leaves
-          (part_passed disk.tells old c.args.place move c.pass.new.self files held has is part.0 part.1 c.in_ok-part.part c.in-At.at c.in-At.is (λ low. absurd (omega (arith, low, c.if-at-part.false))) (c.in_ok-part.ensures.finds files held has is)
+          (part_passed disk.tells old c.args.place move c.pass.new.self files held has is part.0 part.1 c.in_ok-part.part c.in-At.at c.in-At.is (λ low. absurd (omega (arith, low, c.if-at-part.false))) (c.in_ok-part.ensures.finds None files held c.last_moment-last.ensures has (further c.args.place g.D.Disk.tells _ c.args.moving.now files held is))
           (c.pass.ensures.passed part.0 part.1) (c.pass.ensures.running is.runs.fine is.runs.running)),
       tt,
     )
@@ -79,7 +84,7 @@ returns-else-at-part-clause-passes g c =
     let self = c.args.self.now in
     let runs = c.requires.runs in
     let old = beside (seen_on disk.files disk.opened disk.past disk.faults self.catalogue self.manifests.items self.disk) self.limbo.items in
-    let part = next_part disk.tells old c.args.place c.args.moving.now runs.0 runs.1 runs.2 runs.3 in
+    let part = next_part disk.tells old c.args.place c.args.moving.now runs.0 runs.1 runs.2 (further c.args.place disk.tells old c.args.moving.now runs.0 runs.1 runs.3) in
     passes_finished c.args.moving.now c.pass.new.self part.0 c.in_ok-part.part.len (c.pass.ensures.passed part.0 part.1)
 
 pub returns-else-at-part-clause-further : goal.returns-else-at-part-clause-further
@@ -88,7 +93,7 @@ returns-else-at-part-clause-further g c is =
     let self = c.args.self.now in
     let runs = c.requires.runs in
     let old = beside (seen_on disk.files disk.opened disk.past disk.faults self.catalogue self.manifests.items self.disk) self.limbo.items in
-    let part = next_part disk.tells old c.args.place c.args.moving.now runs.0 runs.1 runs.2 runs.3 in
+    let part = next_part disk.tells old c.args.place c.args.moving.now runs.0 runs.1 runs.2 (further c.args.place disk.tells old c.args.moving.now runs.0 runs.1 runs.3) in
     ap (λ (x : MoveState). x.at) (c.pass.ensures.passed part.0 part.1)
 
 pub returns-else-at-part-clause-looks : goal.returns-else-at-part-clause-looks
