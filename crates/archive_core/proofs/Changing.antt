@@ -17,7 +17,7 @@ use Rattle.act_model.specs.Changes.{made}
 use Rattle.act_model.specs.Machine.{Machine, Change}
 use Rattle.archive_core.specs.Ends.{HoldsChanged, ChangesTo}
 use Rattle.archive_core.specs.Parts.{Parts}
-use Rattle.archive_core.specs.Stands.{Stands, Rests, StoresGrow, InDoubt, HoldsDurable}
+use Rattle.archive_core.specs.Stands.{Stands, Rests, StoresGo, InDoubt, HoldsDurable}
 use Rattle.archive_core.proofs.Keeping.{Keeps}
 use Rattle.archive_core.proofs.Settled.{rests_has, doubt_stands}
 
@@ -36,10 +36,10 @@ module _ {A E : Type 0} (tells : Bool) (call : Call A E) (c : Change) (p : Parts
       own from (inr is) = is
 
   -- after a fault it may stand in doubt
-  pub call_failed : (new : Seen) → ((after : Stores) → call.by r.stands.store.before after → after.stands ≡ r.stands.store.before.stands) → ((after : Stores) → call.by r.stands.store.before after → StoresGrow r.stands.store.before after) → EndsFrom tells call new r.stands.store.before Failed
-      → Has tells new r.stands.store.before ⊎ InDoubt tells new r.stands.store.before (record m { doubt = Some c; faults = new.faults })
-  call_failed new stand grow (inl has) = inl has
-  call_failed new stand grow (inr (after, by, doubts)) = inr (record { change = c; is = refl; after = after; doubts = doubts; stand = stand after by; grow = grow after by; holds = durable after by })
+  pub call_failed : (new : Seen) → ((after : Stores) → call.by r.stands.store.before after → after.stands ≡ r.stands.store.before.stands) → ((after : Stores) → call.by r.stands.store.before after → StoresGo tells (beside new p.limbo) m.told m.rows m.moves r.stands.store.before after c) → EndsFrom tells call new r.stands.store.before Failed
+      → Has tells new r.stands.store.before ⊎ InDoubt tells new p.limbo r.stands.store.before (record m { doubt = Some c; faults = new.faults })
+  call_failed new stand go (inl has) = inl has
+  call_failed new stand go (inr (after, by, doubts)) = inr (record { change = c; is = refl; after = after; doubts = doubts; stand = stand after by; go = go after by; holds = durable after by })
 
 -- all is as it was
 pub rests_again : (tells : Bool) (p : Parts) (m : Machine) (r : Rests tells p m) (new : Seen) → granularities new.manifests ≡ granularities p.at.manifests → Keeps tells (beside p.at p.limbo) (beside new p.limbo) → Has tells new r.stands.store.before → Stands tells (record p { at = new }) (record m { faults = new.faults })

@@ -1,5 +1,5 @@
 -- A batch is flushed: as the machine has it, and in memory.
-use Rattle.std.proofs.Common.{◌≡◌, ◌⊎◌, inl, inr, ℕ, ◌+◌, ◌≤◌, List, [], ◌∷◌, length, Bool, true, Option, Some, None, Result, Ok, Err, refl, sym, ◌∙◌, ap, subst, arith}
+use Rattle.std.proofs.Common.{◌≡◌, ◌⊎◌, inl, inr, ℕ, ◌+◌, ◌<◌, ◌≤◌, List, [], ◌∷◌, length, Bool, true, Option, Some, None, Result, Ok, Err, refl, sym, ◌∙◌, ap, subst, arith}
 use Rattle.std.specs.List.{AllByRecursion}
 use Rattle.std.specs.Prelude.{◌&&◌, All, IsTrue, slice_get}
 use Rattle.std.proofs.lemmas.List.Elements.{recursion_from_All}
@@ -42,6 +42,7 @@ use Rattle.archive_core.specs.Stands.{Stands, Rests, IsDoubtOf, IsPartOf, Stores
 use Rattle.archive_core.proofs.Keeping.{Keeps, keeps_itself}
 use Rattle.archive_core.proofs.FlushOver.{IsFiledAt, both_below, flush_over_holds, then_below}
 use Rattle.archive_core.proofs.Beside.{more_parts}
+use Rattle.archive_core.proofs.FlushOn.{flush_on}
 use Rattle.archive_core.proofs.Growth.{short_grows}
 use Rattle.archive_core.proofs.Reviving.{batch_over}
 use Rattle.archive_core.proofs.Batches.{parts_there, can_flush, told_stands}
@@ -66,6 +67,10 @@ short_there tells at held has =
     let m = manifest_at at.manifests 0 (omega (arith, three)) in
     files_there m.0.granularity held.rows held.short (has.known.each 0 m.0 m.1).valid.filed.listed
 
+-- store 1 is one of the three
+pub first_low : 0 < 3
+first_low = omega arith
+
 -- what the stores' call did of stores beside which these files in limbo are whole
 abbrev pub FlushActs : Bool → Seen → List Retired → List Filed → List RowSamples → Seen → End ℕ ⊥ → Type 0
 FlushActs tells old limbo files batch new end = ActsGiven (λ (s : Stores). AreWhole 0 tells old limbo s.stands files) tells (flushing_over limbo files batch) old new end
@@ -87,10 +92,10 @@ module _ (tells : Bool) (p : Parts) (m : Machine) (r : Rests tells p m) (limit :
 
   -- the files in limbo of store 1, which are whole
   abbrev pub files : List Filed
-  files = r.stands.store.whole.0
+  files = (r.stands.store.whole 0 first_low).0
 
   whole : AreWhole 0 tells p.at p.limbo held.stands files
-  whole = r.stands.store.whole.1
+  whole = (r.stands.store.whole 0 first_low).1
 
   own : batch_of limit m ≡ batch
   own = sym (batch_is limit p.at.catalogue.rows p.kept p.tails m some r.stands.rows)
@@ -123,9 +128,11 @@ module _ (tells : Bool) (p : Parts) (m : Machine) (r : Rests tells p m) (limit :
   stand : (after : Stores) → FlushesOver p.limbo files batch held after → after.stands ≡ held.stands
   stand after by = ap (λ (s : Stores). s.stands) by.same
 
-  grow : (after : Stores) → FlushesOver p.limbo files batch held after → IsFiledAt (granularities p.at.manifests) 0 (tier 0 after) → StoresGrow held after
+  grow : (after : Stores) → FlushesOver p.limbo files batch held after → IsFiledAt (granularities p.at.manifests) 0 (tier 0 after) → StoresGrow m.moves held after
   grow after by filed =
-      short_grows held after by.same by.flushed.still (more_parts p.at.catalogue p.at.manifests p.limbo files batch held after has.known by filed)
+      short_grows m.moves held after by.same by.flushed.still (more_parts p.at.catalogue p.at.manifests p.limbo files batch held after has.known by filed) (λ row (k, move, here, own).
+      let there = element m.rows move.row (r.stands.sound.each_move k move here).here in
+      flush_on tells p.at p.limbo m held has seen_now r.stands.sound r.stands.store.told r.stands.store.disk r.stands.store.holds r.stands.limbo files whole batch may after by filed row there.0 (ap (slice_get m.rows) (sym own) ∙ there.1))
 
   -- at each moment the disk has what is durable, or that with the batch
   passes : (new : Seen) (end : End ℕ ⊥) → Acted new end → IsTrue tells → Passes (λ a image. HoldsChanged (granularities p.at.manifests) change m image) p.at.past new.past
@@ -139,7 +146,7 @@ module _ (tells : Bool) (p : Parts) (m : Machine) (r : Rests tells p m) (limit :
       own_from from (inl is) = is
       own_from from (inr is) = is
 
-  doubting : (new : Seen) → granularities new.manifests ≡ granularities p.at.manifests → Keeps tells (beside p.at p.limbo) (beside new p.limbo) → Has tells new held ⊎ InDoubt tells new held (record m { doubt = Some change; faults = new.faults })
+  doubting : (new : Seen) → granularities new.manifests ≡ granularities p.at.manifests → Keeps tells (beside p.at p.limbo) (beside new p.limbo) → Has tells new held ⊎ InDoubt tells new p.limbo held (record m { doubt = Some change; faults = new.faults })
       → Stands tells (record p { at = new; doubt = Some (kind.Flush batch) }) (record m { doubt = Some change; faults = new.faults })
   doubting new same_g shown is_open =
       let s = r.stands in
@@ -201,9 +208,9 @@ module _ (tells : Bool) (p : Parts) (m : Machine) (r : Rests tells p m) (limit :
     cause = λ is. acts.costs.cause tt;
   }
     where
-      by_end : EndsFrom tells (flushing_over p.limbo files batch) new held Failed → Has tells new held ⊎ InDoubt tells new held (record m { doubt = Some change; faults = new.faults })
+      by_end : EndsFrom tells (flushing_over p.limbo files batch) new held Failed → Has tells new held ⊎ InDoubt tells new p.limbo held (record m { doubt = Some change; faults = new.faults })
       by_end (inl has) = inl has
-      by_end (inr (after, by, doubts)) = inr (record { change = change; is = refl; after = after; doubts = doubts; stand = stand after by; grow = grow after by (of_each new after acts.costs.granularity (λ n here. (doubts.valid_after 0 n here).filed)); holds = durable after by (of_each new after acts.costs.granularity (λ n here. (doubts.valid_after 0 n here).filed)) })
+      by_end (inr (after, by, doubts)) = inr (record { change = change; is = refl; after = after; doubts = doubts; stand = stand after by; go = grow after by (of_each new after acts.costs.granularity (λ n here. (doubts.valid_after 0 n here).filed)); holds = durable after by (of_each new after acts.costs.granularity (λ n here. (doubts.valid_after 0 n here).filed)) })
 
   pub flush_spent : (new : Seen) → Keeps tells (beside p.at p.limbo) (beside new p.limbo) → Acted new Spent → ChangesTo {A = ℕ} tells change p m (record p { at = new }) (Err Memory)
   flush_spent new shown acts = record {

@@ -20,7 +20,7 @@ use Rattle.act_model.specs.Sound.{IsSound, IsUnlisted}
 use Rattle.act_model.proofs.Rows.{each_get}
 use Rattle.archive_core.specs.LimboTies.{AreRetired, AreUnlisted, AreBare, IsLimboOf}
 use Rattle.archive_core.specs.Stands.{IsRuleOf, StoresGrow, HoldsDurable}
-use Rattle.archive_core.proofs.Growth.{stays_listed, rows_go_on, same_grow}
+use Rattle.archive_core.proofs.Growth.{no_moves, stays_listed, rows_go_on, same_grow}
 use Rattle.archive_core.proofs.LimboMade.{goes_on_same, limbo_made, unlisted_ties}
 use Rattle.archive_core.proofs.LimboTying.{KeepsFiles, ListsSame, limbo_stays, retired_stays}
 use Rattle.archive_core.proofs.PinTies.{KeepsNames, names_stay}
@@ -64,10 +64,10 @@ pub limbo_beside : (tells : Bool) (old new : Seen) (retired : List Retired) (s :
 limbo_beside tells old new retired s told rows limbo was now same_g shown tie = limbo_stays tells old new retired told rows rows limbo keeps lists tie.bare tie
   where
     keeps : KeepsFiles tells (beside old retired) (beside new retired) rows rows
-    keeps = record { shown = λ file bytes there. shown file.name bytes; variables = rows_go_on old new s s was now (same_grow s); names = names_stay rows; granularity = same_g }
+    keeps = record { shown = λ file bytes there. shown file.name bytes; variables = rows_go_on old new s s was now (same_grow no_moves s); names = names_stay rows; granularity = same_g }
 
     lists : ListsSame old new retired
-    lists = λ file there. (λ listed. stays_listed new old s s file.name now was (same_grow s) listed, λ listed. stays_listed old new s s file.name was now (same_grow s) listed)
+    lists = λ file there. (λ listed. stays_listed new old s s file.name now was (same_grow no_moves s) listed, λ listed. stays_listed old new s s file.name was now (same_grow no_moves s) listed)
 
 -- THE STORES GROW
 
@@ -76,7 +76,7 @@ all_unlisted : (rows : List RowState) (files : List FileState) → AllByRecursio
 all_unlisted rows [] all = refl
 all_unlisted rows (f ∷ files) all = let own = all.0 in rw own (ap (λ (fs : List FileState). f ∷ fs) (all_unlisted rows files all.1))
 
-module _ (tells : Bool) (old new : Seen) (retired : List Retired) (m : Machine) (before held : Stores) (was : IsKnown old.catalogue old.manifests before) (has : Has tells new held) (grow : StoresGrow before held) (stands : m.told ≡ true → IsTrue held.stands)
+module _ (tells : Bool) (old new : Seen) (retired : List Retired) (m : Machine) (before held : Stores) (was : IsKnown old.catalogue old.manifests before) (has : Has tells new held) (grow : StoresGrow m.moves before held) (stands : m.told ≡ true → IsTrue held.stands)
     (same_g : granularities new.manifests ≡ granularities old.manifests) (rule : IsRuleOf old m.rule) (shown : KeepsShown tells (beside old retired) (beside new retired)) (tie : IsLimboOf tells (beside old retired) m.told m.rows m.limbo) where
   variables : KeepsRows old.catalogue.rows new.catalogue.rows
   variables = rows_go_on old new before held was has.known grow

@@ -47,7 +47,7 @@ starts_or_not start (h ∷ files) = elim (same_or_not h.entry.part.start start) 
 ]
 
 -- where none does, there is no sample of the partition
-none_starts : (g : Granularity) (rows : List Row) (p : Part) (files : List Filed) → IsPart g p → All (IsFiled g rows) files → AllByRecursion (λ (h : Filed). h.entry.part.start ≢ p.start) files → window p (all_in files) ≡ []
+pub none_starts : (g : Granularity) (rows : List Row) (p : Part) (files : List Filed) → IsPart g p → All (IsFiled g rows) files → AllByRecursion (λ (h : Filed). h.entry.part.start ≢ p.start) files → window p (all_in files) ≡ []
 none_starts g rows p [] part filed none = refl
 none_starts g rows p (h ∷ files) part filed none =
     window-append p h.samples (all_in files) ∙ (ap (λ (xs : List Sample). xs ++ window p (all_in files)) (window_apart g rows h p (All-head (IsFiled g rows) h files filed) part none.0) ∙ none_starts g rows p files part (All-tail (IsFiled g rows) h files filed) none.1)

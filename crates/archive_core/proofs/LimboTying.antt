@@ -1,23 +1,17 @@
 -- The stores' limbo stays the machine's.
 use Rattle.std.proofs.Common.{◌≡◌, ℕ, ◌≤◌, zero, suc, List, [], ◌∷◌, Bool, true, false, cond, Option, Some, None, refl, sym, ◌∙◌, ap, subst}
 use Rattle.std.specs.List.{AllByRecursion}
-use Rattle.std.specs.Prelude.{◌↔◌, ◌==◌, Contains, map, slice_get}
-use Rattle.std.specs.Option.{option_map}
-use Rattle.std.proofs.lemmas.Option.{slice_get-map, same_Some}
+use Rattle.std.specs.Prelude.{◌↔◌, ◌==◌, Contains, slice_get}
+use Rattle.std.proofs.lemmas.Option.{same_Some}
 use Rattle.event_types.specs.declared.about.About.{About}
 use Rattle.disk_model.specs.Files.{Name}
 use Rattle.pv_catalog.specs.Rows.{KeepsRows}
-use Rattle.store_manifest.specs.Manifest.{ManifestState}
-use Rattle.store_manifest.specs.declared.entry.Entry.{Entry}
 use Rattle.tier_store.proofs.Growing.{filed_grows}
-use Rattle.three_stores.specs.Change.{IsKnown}
-use Rattle.three_stores.specs.Limbo.{LimboStands, IsOfPlace, ListsPlace, IsListedName}
+use Rattle.three_stores.specs.Limbo.{IsListedName}
 use Rattle.three_stores.specs.Pinned.{SeenAll, beside, Shows}
 use Rattle.three_stores.specs.Seen.{Seen, granularities}
-use Rattle.three_stores.specs.Stores.{Stores}
 use Rattle.three_stores.specs.declared.limbo.Retired.{Retired}
-use Rattle.three_stores.proofs.Staying.{limbo_kept, listed_place, place_listed}
-use Rattle.std.proofs.lemmas.List.Elements.{All-contains}
+use Rattle.three_stores.proofs.Staying.{limbo_kept}
 use Rattle.act_model.specs.Changes.{changed, changed_rows, added, without_held, Retires}
 use Rattle.act_model.specs.Limbo.{FileState, tier_at, IsThere, files_of}
 use Rattle.act_model.specs.Machine.{Machine, Change, AddsRow, SetsState, Appends, Publishes, Unlists}
@@ -79,30 +73,6 @@ limbo_stays tells old new retired told rows later limbo keeps lists bare tie = r
   where
     stays : (f : FileState) (file : Retired) → Contains retired file → IsRetiredOf tells (beside old retired) rows f file → IsRetiredOf tells (beside new retired) later f file
     stays f file there is = retired_stays tells (beside old retired) (beside new retired) rows later f file keeps there is
-
--- WHERE THE LISTS ARE THE SAME
-
--- the manifests list the same
-abbrev pub SameEntries : List ManifestState → List ManifestState → Type 0
-SameEntries old new = map (λ (m : ManifestState). m.entries) new ≡ map (λ (m : ManifestState). m.entries) old
-
--- what lists these entries
-lister : (ms : List ManifestState) (k : ℕ) (entries : List Entry) → slice_get (map (λ (m : ManifestState). m.entries) ms) k ≡ Some entries → (m : ManifestState) × (slice_get ms k ≡ Some m) × (m.entries ≡ entries)
-lister [] k entries here = absurd (cc (here))
-lister (m ∷ ms) zero entries here = (m, refl, same_Some m.entries entries here)
-lister (m ∷ ms) (suc k) entries here = lister ms k entries here
-
-place_kept : (old new : List ManifestState) (file : Retired) → SameEntries old new → ListsPlace new file → ListsPlace old file
-place_kept old new file same lists =
-    let got : slice_get (map (λ (m : ManifestState). m.entries) new) lists.place ≡ Some lists.manifest.entries = slice_get-map (λ (m : ManifestState). m.entries) new lists.place ∙ ap (λ (o : Option ManifestState). option_map (λ (m : ManifestState). m.entries) o) lists.here in
-    let was = lister old lists.place lists.manifest.entries (ap (λ (l : List (List Entry)). slice_get l lists.place) (sym same) ∙ got) in
-    record { place = lists.place; manifest = was.0; store = lists.store; here = was.1; entry = lists.entry; within = subst (λ (l : List Entry). Contains l lists.entry) (sym was.2) lists.within; series = lists.series; start = lists.start }
-
-pub lists_same : (old new : Seen) (retired : List Retired) (s t : Stores) → IsKnown old.catalogue old.manifests s → IsKnown new.catalogue new.manifests t → LimboStands old retired → KeepsRows old.catalogue.rows new.catalogue.rows → SameEntries old.manifests new.manifests → granularities new.manifests ≡ granularities old.manifests → ListsSame old new retired
-lists_same old new retired s t was now stands rows same same_g file within =
-    let before = All-contains (IsOfPlace old) retired file stands within in
-    let after = All-contains (IsOfPlace new) retired file (limbo_kept old new retired rows same_g stands) within in
-    (λ listed. place_listed old s file was before (place_kept old.manifests new.manifests file same (listed_place new t file now after listed)), λ listed. place_listed new t file now after (place_kept new.manifests old.manifests file (sym same) (listed_place old s file was before listed)))
 
 -- WHERE THE MACHINE ISN'T TOLD
 

@@ -1,5 +1,6 @@
 -- The act that begins a move: how it ends.
 use Rattle.std.proofs.Common.{◌≡◌, ◌≢◌, ◌⊎◌, inl, inr, Result, Ok, Err, sym, ℕ, ◌+◌, ◌-◌, ◌≤◌, List, Bool, true, false, cond, Option, Some, None, refl, ◌∙◌, subst, arith}
+use Rattle.std.specs.FinMap.{insert}
 use Rattle.std.specs.Prelude.{IfErr, IfOk, IsSome, OnErr, ◌==◌, slice_index}
 use Rattle.std.proofs.lemmas.Bool.Decides.{nat_tests}
 use Rattle.disk_model.specs.Files.{Rose}
@@ -23,7 +24,7 @@ use Rattle.three_stores.specs.Stores.{Stores}
 use Rattle.act_model.specs.Asks.{move_begun_reply}
 use Rattle.act_model.specs.Changes.{no_doubt}
 use Rattle.act_model.specs.Limbo.{FileState}
-use Rattle.act_model.specs.Machine.{Machine, MoveState}
+use Rattle.act_model.specs.Machine.{Machine, MoveState, Change}
 use Rattle.act_model.specs.MoveBegin.{Begins, begins, all_run, none_to_make, new_move, with_move}
 use Rattle.act_model.specs.Outcome.{runs}
 use Rattle.act_model.specs.Reply.{Reply}
@@ -38,7 +39,7 @@ use Rattle.archive_core.specs.MoveTies.{AreMovesOf}
 use Rattle.archive_core.specs.Ends.{AskEnds, is_spent, is_failed, is_answered}
 use Rattle.archive_core.specs.Moving.{BeginsThere, begun_reply}
 use Rattle.archive_core.specs.Parts.{Parts}
-use Rattle.archive_core.specs.Stands.{Stands, Rests}
+use Rattle.archive_core.specs.Stands.{Stands, Rests, IsReady}
 use Rattle.archive_core.proofs.Batches.{told_stands}
 use Rattle.archive_core.proofs.MoveBegun.{free_number, is_new_move, more_moves, numbers_are}
 use Rattle.archive_core.proofs.MoveChoice.{goes_on}
@@ -90,7 +91,7 @@ slots_stand tells p m later same r =
       rows = s.rows;
       doubt = s.doubt;
       ready = s.ready;
-      store = record { before = s.store.before; told = s.store.told; holds = s.store.holds; whole = s.store.whole; moves = moves_told tells (beside p.at p.limbo) m.told m.rows m.limbo s.store.before m p.slots later same s.store.moves; is_open = s.store.is_open };
+      store = record { before = s.store.before; told = s.store.told; disk = s.store.disk; holds = s.store.holds; whole = s.store.whole; moves = moves_told tells (beside p.at p.limbo) m.told m.rows m.limbo s.store.before m p.slots later same s.store.moves; is_open = s.store.is_open };
     }
 
 module _ (tells : Bool) (p : Parts) (m : Machine) (r : Rests tells p m) (store : Store) (apart : store ≢ Long) (now : ℕ) (rule : MoveRule) (same_rule : rule ≡ move_rule m.rule store now) (by : ℕ → Option ℕ) (runs_by : (row n : ℕ) → by row ≡ Some n → table.IsOf p.slots n row) (every : (row n : ℕ) → table.IsOf p.slots n row → IsSome (by row)) where
@@ -127,14 +128,15 @@ module _ (tells : Bool) (p : Parts) (m : Machine) (r : Rests tells p m) (store :
           doors = s.doors;
           rows = s.rows;
           doubt = s.doubt;
-          ready = s.ready;
+          ready = subst (λ (d : Option Change). IsReady p.kept m.rows (insert m.moves k move) d) (sym r.settled) tt;
           store = record {
             before = held;
             told = s.store.told;
+            disk = s.store.disk;
             holds = s.store.holds;
             whole = s.store.whole;
             moves = more_moves tells (beside p.at p.limbo) m.told m.rows m.limbo held m.moves p.slots later k move (record { series = row; store = number; moving = moving }) with_it
-                (is_new_move tells (beside p.at p.limbo) held m has have store apart number is_store rule by row n moving choice begins_it) s.store.moves;
+                (is_new_move tells (beside p.at p.limbo) held m s.store.disk has have store apart number is_store rule by row n moving choice begins_it) s.store.moves;
             is_open = inl has;
           };
         },

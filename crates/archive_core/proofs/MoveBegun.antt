@@ -2,7 +2,7 @@
 use Rattle.std.proofs.Common.{◌≡◌, ◌≢◌, inl, inr, ℕ, ◌+◌, ◌≤◌, List, [], length, map, take, min, Bool, true, false, cond, Option, Some, None, refl, sym, ◌∙◌, ap, subst, arith}
 use Rattle.std.specs.FinMap.{FinMap, get, insert, get-insert}
 use Rattle.std.specs.Ordering.{nat_cmp, eq_by_cmp}
-use Rattle.std.specs.Prelude.{IsSome, ◌==◌, slice_get}
+use Rattle.std.specs.Prelude.{IsSome, IsTrue, ◌==◌, slice_get}
 use Rattle.std.proofs.lemmas.Bool.Decides.{nat_tests}
 use Rattle.std.proofs.lemmas.Cmp.{nat_cmp_total}
 use Rattle.std.proofs.lemmas.List.{length-take}
@@ -17,26 +17,29 @@ use Rattle.store_manifest.specs.declared.entry.Entry.{Entry}
 use Rattle.tier_store.specs.Held.{entry_of}
 use Rattle.three_stores.specs.Beginning.{BeginsMove, IsChoice, parts_at}
 use Rattle.three_stores.specs.Change.{Has}
+use Rattle.three_stores.specs.Copying.{CopiesBeside}
 use Rattle.three_stores.specs.Moving.{RunsBeside}
 use Rattle.three_stores.specs.Pinned.{SeenAll}
 use Rattle.three_stores.specs.Stores.{Stores, list_at}
 use Rattle.three_stores.proofs.Beginning.{parts_listed}
 use Rattle.three_stores.proofs.BesideMoves.{runs_begun}
+use Rattle.three_stores.proofs.CopyBegun.{copies_begun}
 use Rattle.act_model.specs.Limbo.{FileState}
 use Rattle.act_model.specs.Machine.{Machine, MoveState}
 use Rattle.act_model.specs.MoveBegin.{new_move}
-use Rattle.act_model.specs.Rows.{RowState, Store, Short, Medium, Long, next_store}
+use Rattle.act_model.specs.Rows.{RowState, Store, Long, next_store}
 use Rattle.act_model.specs.Rule.{index_of}
 use Rattle.archive_core.specs.MoveChoice.{AreNumbers, HaveDurable, move_end}
 use Rattle.archive_core.specs.MoveTies.{IsMoveOf, HasMoveOf, AreMovesOf, ends_from}
 use Rattle.archive_core.proofs.Lists.{same_or_not}
 use Rattle.archive_core.proofs.MoveChoice.{tier_held}
+use Rattle.archive_core.proofs.MoveRows.{next_place}
 
 -- THE NUMBERS
 
 module _ (tells : Bool) (all : SeenAll) (m : Machine) (before : Stores) (slots : List (Option (Running Moving))) (are : AreMovesOf tells all m.told m.rows m.limbo before m.moves slots) where
   -- the move of this number is the machine's
-  moves_at : (n : ℕ) (running : Running Moving) → at slots n ≡ Some running → (move : MoveState) × (get m.moves n ≡ Some move) × IsMoveOf tells all m.told m.rows m.limbo before move running
+  pub moves_at : (n : ℕ) (running : Running Moving) → at slots n ≡ Some running → (move : MoveState) × (get m.moves n ≡ Some move) × IsMoveOf tells all m.told m.rows m.limbo before move running
   moves_at n running there = by_move (get m.moves n) refl
     where
       by_move : (o : Option MoveState) → get m.moves n ≡ o → (move : MoveState) × (get m.moves n ≡ Some move) × IsMoveOf tells all m.told m.rows m.limbo before move running
@@ -65,13 +68,7 @@ module _ (tells : Bool) (all : SeenAll) (m : Machine) (before : Stores) (slots :
 
 -- THE NEW MOVE
 
--- the place behind a store's is that of the next store
-next_place : (store : Store) → store ≢ Long → index_of (next_store store) ≡ index_of store + 1
-next_place Short apart = refl
-next_place Medium apart = refl
-next_place Long apart = absurd (apart refl)
-
-module _ (tells : Bool) (all : SeenAll) (held : Stores) (m : Machine) (has : Has tells all.stores held) (have : HaveDurable all.stores.catalogue all.stores.manifests held m) (store : Store) (apart : store ≢ Long) (number : ℕ) (is_store : number ≡ index_of store + 1) (rule : MoveRule) (running : ℕ → Option ℕ) (row n : ℕ) (moving : Moving) (choice : IsChoice rule (index_of store) running held (Begin row n)) (begins : BeginsMove tells (index_of store) all.stores.manifests held row n moving) where
+module _ (tells : Bool) (all : SeenAll) (held : Stores) (m : Machine) (disk : IsTrue held.stands → IsTrue tells) (has : Has tells all.stores held) (have : HaveDurable all.stores.catalogue all.stores.manifests held m) (store : Store) (apart : store ≢ Long) (number : ℕ) (is_store : number ≡ index_of store + 1) (rule : MoveRule) (running : ℕ → Option ℕ) (row n : ℕ) (moving : Moving) (choice : IsChoice rule (index_of store) running held (Begin row n)) (begins : BeginsMove tells (index_of store) all.stores.manifests held row n moving) where
   listed : begins.source.entries ≡ map entry_of (list_at (index_of store) held)
   listed = (has.known.each (index_of store) begins.source begins.from).entries
 
@@ -84,13 +81,12 @@ module _ (tells : Bool) (all : SeenAll) (held : Stores) (m : Machine) (has : Has
       let few : min n (length own) ≡ n = omega (arith, long, is) in
       ap length (begins.begun.parts ∙ ap (λ (es : List Entry). take n (of_series row es)) listed) ∙ (length-take n own ∙ few)
 
-  some_parts : moving.at ≢ length moving.parts
-  some_parts same =
+  some_parts : 1 ≤ length moving.parts
+  some_parts =
       let some = choice.0.some in
       let is : n ≡ parts_at rule (index_of store) held row = choice.1 in
       let count = parts_count in
-      let zero_at = begins.begun.at in
-      omega (arith, same, some, is, count, zero_at)
+      omega (arith, some, is, count)
 
   beside_begun : RunsBeside (index_of (next_store store)) tells all moving [] held
   beside_begun =
@@ -100,25 +96,31 @@ module _ (tells : Bool) (all : SeenAll) (held : Stores) (m : Machine) (has : Has
       (ap (slice_get all.stores.manifests) next ∙ begins.to) (ap (slice_get held.rows) series ∙ begins.here)
       (subst (λ (k : ℕ). HasBegun begins.source begins.destination k begins.own.name n moving) (sym series) begins.begun) begins.goes_on begins.lists
 
+  copies_nothing : CopiesBeside (index_of store) tells all moving [] held
+  copies_nothing =
+      let series = begins.begun.series in
+      copies_begun (index_of store) tells all held begins.source begins.destination begins.own n moving disk has begins.from begins.to (ap (slice_get held.rows) series ∙ begins.here)
+      (subst (λ (k : ℕ). HasBegun begins.source begins.destination k begins.own.name n moving) (sym series) begins.begun) begins.goes_on begins.lists some_parts
+
   -- it has copied nothing
   pub is_new_move : IsMoveOf tells all m.told m.rows m.limbo held (new_move store row n (move_end held store row n)) (record { series = row; store = number; moving = moving })
   is_new_move = record {
     series = refl;
     own = begins.begun.series;
     store = is_store;
+    moves = apart;
     files = [];
     beside = beside_begun;
     parts = parts_count;
     to = λ told. ap (λ (es : List Entry). ends_from 0 (take n (of_series row es))) (sym listed) ∙ ap (ends_from 0) (sym begins.begun.parts);
-    stage = (begins.begun.stage, some_parts);
+    stage = copies_nothing;
     copied = λ told copying r here. sym (tier_held all.stores.catalogue all.stores.manifests held m have told row r here (next_store store));
-    nothing = (refl, refl);
-    into = λ told copying f (k, lt, is). absurd (omega (arith, lt));
+    into = λ told. record { each = tt; just = tt };
   }
 
 -- THE TABLE WITH IT
 
-number_tests : (j k : ℕ) → eq_by_cmp nat_cmp j k ≡ (j == k)
+pub number_tests : (j k : ℕ) → eq_by_cmp nat_cmp j k ≡ (j == k)
 number_tests j k = elim (same_or_not j k) [
   | inl same ↦
       let one : eq_by_cmp nat_cmp j k ≡ true = grind (arith, nat_tests, same) in

@@ -1,7 +1,7 @@
 -- What the stores make of a publication and of a retirement is what the machine makes of it.
 use Rattle.std.proofs.Common.{◌≡◌, ◌≢◌, ◌⊎◌, inl, inr, ℕ, zero, suc, ◌+◌, ◌<◌, ◌≤◌, List, [], ◌∷◌, ◌++◌, length, map, take, drop, Bool, true, false, cond, Some, refl, sym, ◌∙◌, ap, subst, arith, append-nil}
 use Rattle.std.specs.List.{AllByRecursion}
-use Rattle.std.specs.Prelude.{All, IsTrue, filter, nat_eq, slice_get, ◌==◌}
+use Rattle.std.specs.Prelude.{All, filter, nat_eq, slice_get, ◌==◌}
 use Rattle.std.proofs.lemmas.Bool.{cases_order}
 use Rattle.std.proofs.lemmas.Bool.Decides.{nat_tests}
 use Rattle.std.proofs.lemmas.List.Elements.{All-head, All-tail, filter-append}
@@ -28,7 +28,7 @@ use Rattle.three_stores.proofs.Places.{manifest_at}
 use Rattle.three_stores.proofs.Rising.{own_series}
 use Rattle.act_model.specs.Changes.{added, at, changed, made}
 use Rattle.act_model.specs.Crash.{DurableRow, kept_of}
-use Rattle.act_model.specs.Limbo.{FileState, files_of, put}
+use Rattle.act_model.specs.Limbo.{files_of, put}
 use Rattle.act_model.specs.Machine.{Machine, Change, Publishes, Unlists}
 use Rattle.act_model.specs.Rows.{RowState, Store, Short, Medium, Long, next_store, tier, with_tier}
 use Rattle.act_model.specs.Rule.{index_of}
@@ -81,7 +81,7 @@ list_holds m c store k xs fs old new is none same own others holds = subst (λ (
 
 -- A PUBLICATION
 
-other_rows : (i k : ℕ) (files : List Filed) → i ≢ k → AllByRecursion (λ (f : Filed). f.entry.series ≡ k) files → AllByRecursion (λ (f : Filed). i ≢ f.entry.series) files
+pub other_rows : (i k : ℕ) (files : List Filed) → i ≢ k → AllByRecursion (λ (f : Filed). f.entry.series ≡ k) files → AllByRecursion (λ (f : Filed). i ≢ f.entry.series) files
 other_rows i k [] apart own = tt
 other_rows i k (f ∷ files) apart own = (λ is. apart (is ∙ own.0), other_rows i k files apart own.1)
 

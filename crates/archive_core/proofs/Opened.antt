@@ -27,8 +27,8 @@ use Rattle.act_model.specs.NextLife.{opened_row, opened}
 use Rattle.act_model.specs.Rows.{RowState, Store, Short, Medium, Long, durable, tier}
 use Rattle.act_model.specs.Rule.{Rule}
 use Rattle.act_model.specs.Sound.{RowSound, IsSound}
-use Rattle.etl_mover.specs.Move.{MoveState as Moving}
 use Rattle.etl_rules.specs.Config.{ConfigState}
+use Rattle.etl_mover.specs.Move.{MoveState as Moving}
 use Rattle.running_moves.specs.Table as table
 use Rattle.running_moves.specs.declared.table.Running.{Running}
 use Rattle.archive_core.specs.MoveTies.{AreMovesOf}
@@ -98,7 +98,7 @@ both_true true true is = refl
 both_true true false is = absurd (cc (is))
 both_true false b is = absurd (cc (is))
 
-module _ (tells : Bool) (at : Seen) (held : Stores) (has : Has tells at held) (are : AreRows at.catalogue.rows) (rule : Rule) (doors : ℕ) (same_g : rule.granularity ≡ granularities at.manifests) (headers : TellsHeaders rule) (config : ConfigState) (settings : HasSettings at config rule) (slots : List (Option (Running Moving))) (none_runs : (n : ℕ) → table.at slots n ≡ None) where
+module _ (tells : Bool) (at : Seen) (held : Stores) (disk : IsTrue held.stands → IsTrue tells) (has : Has tells at held) (are : AreRows at.catalogue.rows) (rule : Rule) (doors : ℕ) (same_g : rule.granularity ≡ granularities at.manifests) (headers : TellsHeaders rule) (config : ConfigState) (settings : HasSettings at config rule) (slots : List (Option (Running Moving))) (none_runs : (n : ℕ) → table.at slots n ≡ None) where
   abbrev ms : List ManifestState
   ms = at.manifests
 
@@ -248,22 +248,63 @@ module _ (tells : Bool) (at : Seen) (held : Stores) (has : Has tells at held) (a
             rows = memory told;
             doubt = tt;
             ready = tt;
-            store = record { before = held; told = refl; holds = holds told; whole = ([], none_whole 0 tells at [] held.stands (λ k d low. absurd (omega (arith, low)))); moves = empty_moves told; is_open = inl has };
+            store = record { before = held; told = refl; disk = disk; holds = holds told; whole = λ i within. ([], none_whole i tells at [] held.stands (λ k d low. absurd (omega (arith, low)))); moves = empty_moves told; is_open = inl has };
           };
           settled = refl;
         },
         refl,
       )
 
-  -- by what is in memory then
-  pub opened_as : (limbo : List Retired) (pinned : FinMap nat_cmp PinOf) (tails : List TailState) (kept : List RowMemory) → limbo ≡ [] → pinned ≡ empty → tails ≡ [] → kept ≡ map (memory_of ms) rows
-      → (m : Machine) × IsOpened rule m × HoldsDurable held m × Rests tells (record { at = at; limbo = limbo; pinned = pinned; tails = tails; kept = kept; doubt = None; doors = doors; config = config; slots = slots }) m × (m.doors ≡ doors)
-  opened_as limbo pinned tails kept none_retired none_pinned none is =
-      let r = opened_rests in
-      let unpinned : Rests tells (record { at = at; limbo = []; pinned = pinned; tails = []; kept = map (memory_of ms) rows; doubt = None; doors = doors; config = config; slots = slots }) r.0 =
-      subst (λ (q : FinMap nat_cmp PinOf). Rests tells (record { at = at; limbo = []; pinned = q; tails = []; kept = map (memory_of ms) rows; doubt = None; doors = doors; config = config; slots = slots }) r.0) (sym none_pinned) r.3 in
-      let empty_limbo : Rests tells (record { at = at; limbo = limbo; pinned = pinned; tails = []; kept = map (memory_of ms) rows; doubt = None; doors = doors; config = config; slots = slots }) r.0 =
-      subst (λ (l : List Retired). Rests tells (record { at = at; limbo = l; pinned = pinned; tails = []; kept = map (memory_of ms) rows; doubt = None; doors = doors; config = config; slots = slots }) r.0) (sym none_retired) unpinned in
-      let empty_tails : Rests tells (record { at = at; limbo = limbo; pinned = pinned; tails = tails; kept = map (memory_of ms) rows; doubt = None; doors = doors; config = config; slots = slots }) r.0 =
-      subst (λ (t : List TailState). Rests tells (record { at = at; limbo = limbo; pinned = pinned; tails = t; kept = map (memory_of ms) rows; doubt = None; doors = doors; config = config; slots = slots }) r.0) (sym none) empty_limbo in
-      (r.0, r.1, r.2, subst (λ (k : List RowMemory). Rests tells (record { at = at; limbo = limbo; pinned = pinned; tails = tails; kept = k; doubt = None; doors = doors; config = config; slots = slots }) r.0) (sym is) empty_tails, r.4)
+-- STORES OF A DISK THAT TELLS NOTHING
+
+-- they don't stand
+abbrev lowered : Bool → Stores → Stores
+lowered tells held = record held { stands = tells && held.stands }
+
+lowered_has : (tells : Bool) (at : Seen) (held : Stores) → Has tells at held → Has tells at (lowered tells held)
+lowered_has true at held has = has
+lowered_has false at held has = record {
+  known = record {
+    three = has.known.three;
+    rows = has.known.rows;
+    each = λ i m here.
+        let is = has.known.each i m here in
+        record {
+          entries = is.entries;
+          valid = record { keys = is.valid.keys; filed = record { numbered = is.valid.filed.numbered; listed = is.valid.filed.listed; filed = λ stands. absurd (cc (stands)) }; apart = is.valid.apart };
+        };
+  };
+  settled = has.settled;
+  disk = λ told. absurd (cc (told));
+}
+
+lowered_stands : (tells : Bool) (held : Stores) → IsTrue (lowered tells held).stands → IsTrue tells
+lowered_stands true held stands = refl
+lowered_stands false held stands = absurd (cc (stands))
+
+-- what they hold is the same
+lowered_holds : (tells : Bool) (held : Stores) (m : Machine) → HoldsDurable (lowered tells held) m → HoldsDurable held m
+lowered_holds tells held m holds = record {
+  count = holds.count;
+  each = λ i r here.
+      let is = holds.each i r here in
+      record { row = is.row; here = is.here; is = record { name = is.is.name; about = is.is.about; state = is.is.state; short = is.is.short; medium = is.is.medium; long = is.is.long } };
+}
+
+-- THE ARCHIVE
+
+-- by what is in memory then
+pub opened_as : (tells : Bool) (at : Seen) (held : Stores) → Has tells at held → AreRows at.catalogue.rows → (rule : Rule) (doors : ℕ) → rule.granularity ≡ granularities at.manifests → TellsHeaders rule → (config : ConfigState) → HasSettings at config rule → (slots : List (Option (Running Moving))) → ((n : ℕ) → table.at slots n ≡ None)
+    → (limbo : List Retired) (pinned : FinMap nat_cmp PinOf) (tails : List TailState) (kept : List RowMemory) → limbo ≡ [] → pinned ≡ empty → tails ≡ [] → kept ≡ map (memory_of at.manifests) at.catalogue.rows
+    → (m : Machine) × IsOpened rule m × HoldsDurable held m × Rests tells (record { at = at; limbo = limbo; pinned = pinned; tails = tails; kept = kept; doubt = None; doors = doors; config = config; slots = slots }) m × (m.doors ≡ doors)
+opened_as tells at held has are rule doors same_g headers config settings slots none_runs limbo pinned tails kept none_retired none_pinned none is =
+    let r = opened_rests tells at (lowered tells held) (lowered_stands tells held) (lowered_has tells at held has) are rule doors same_g headers config settings slots none_runs in
+    let rows = at.catalogue.rows in
+    let own = map (memory_of at.manifests) rows in
+    let unpinned : Rests tells (record { at = at; limbo = []; pinned = pinned; tails = []; kept = own; doubt = None; doors = doors; config = config; slots = slots }) r.0 =
+    subst (λ (q : FinMap nat_cmp PinOf). Rests tells (record { at = at; limbo = []; pinned = q; tails = []; kept = own; doubt = None; doors = doors; config = config; slots = slots }) r.0) (sym none_pinned) r.3 in
+    let empty_limbo : Rests tells (record { at = at; limbo = limbo; pinned = pinned; tails = []; kept = own; doubt = None; doors = doors; config = config; slots = slots }) r.0 =
+    subst (λ (l : List Retired). Rests tells (record { at = at; limbo = l; pinned = pinned; tails = []; kept = own; doubt = None; doors = doors; config = config; slots = slots }) r.0) (sym none_retired) unpinned in
+    let empty_tails : Rests tells (record { at = at; limbo = limbo; pinned = pinned; tails = tails; kept = own; doubt = None; doors = doors; config = config; slots = slots }) r.0 =
+    subst (λ (t : List TailState). Rests tells (record { at = at; limbo = limbo; pinned = pinned; tails = t; kept = own; doubt = None; doors = doors; config = config; slots = slots }) r.0) (sym none) empty_limbo in
+    (r.0, r.1, lowered_holds tells held r.0 r.2, subst (λ (k : List RowMemory). Rests tells (record { at = at; limbo = limbo; pinned = pinned; tails = tails; kept = k; doubt = None; doors = doors; config = config; slots = slots }) r.0) (sym is) empty_tails, r.4)

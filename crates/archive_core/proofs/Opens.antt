@@ -35,6 +35,7 @@ use Rattle.archive_core.proofs.Keeping.{KeepsLimbo}
 use Rattle.archive_core.proofs.MovesKept.{moves_beside}
 use Rattle.archive_core.proofs.Lists.{element}
 use Rattle.archive_core.proofs.Settled.{doubt_beside}
+use Rattle.archive_core.proofs.StoresGoing.{go_beside}
 
 -- a told machine's disk tells
 pub told_tells : (tells told stands : Bool) → told ≡ (tells && stands) → told ≡ true → IsTrue tells
@@ -130,18 +131,18 @@ module _ (R : Type 0) (tells reader_tells : Bool) (bytes : R → List ℕ) (faul
   read_stands : (m : Machine) → Stands tells p m → Stands tells (record p { at = new }) (record m { faults = new.faults })
   read_stands m s = doubt_beside tells p m s new p.kept p.doubt m.doubt (ap granularities same_lists) shown (moves_beside tells (beside p.at p.limbo) (beside new p.limbo) m.told m.rows m.limbo s.store.before m.moves p.slots (λ i move files runs. stay s.store.before (may_hold s.store.is_open) i move files runs) s.store.moves) s.sound s.rows s.doubt s.ready (by_open s.store.is_open)
     where
-      may_hold : Has tells p.at s.store.before ⊎ InDoubt tells p.at s.store.before m → MayHold tells p.at s.store.before
+      may_hold : Has tells p.at s.store.before ⊎ InDoubt tells p.at p.limbo s.store.before m → MayHold tells p.at s.store.before
       may_hold (inl has) = inl has
       may_hold (inr d) = inr (d.after, inl d.doubts)
 
-      by_open : Has tells p.at s.store.before ⊎ InDoubt tells p.at s.store.before m → Has tells new s.store.before ⊎ InDoubt tells new s.store.before (record m { faults = new.faults })
+      by_open : Has tells p.at s.store.before ⊎ InDoubt tells p.at p.limbo s.store.before m → Has tells new s.store.before ⊎ InDoubt tells new p.limbo s.store.before (record m { faults = new.faults })
       by_open (inl has) = elim (kept s.store.before s.store.before (inl has)) [
         | inl still ↦ inl still
         | inr doubts ↦ absurd (undoubted tells p.at new s.store.before s.store.before has.settled same_rows same_lists doubts)
       ]
       by_open (inr d) = elim (kept s.store.before d.after (inr d.doubts)) [
         | inl still ↦ inl still
-        | inr doubts ↦ inr (record { change = d.change; is = d.is; after = d.after; doubts = doubts; stand = d.stand; grow = d.grow; holds = d.holds })
+        | inr doubts ↦ inr (record { change = d.change; is = d.is; after = d.after; doubts = doubts; stand = d.stand; go = go_beside tells p.at new p.limbo m.told m.rows m.moves s.store.before d.after d.doubts.known doubts.known (ap granularities same_lists) shown.shown d.change d.go; holds = d.holds })
       ]
 
   -- it wasn't called

@@ -16,18 +16,18 @@ use Rattle.archive_core.proofs.SameNames.{contains_cases, contains_head, contain
 abbrev IsSeen : Sample → List Sample → Type 0
 IsSeen s xs = (part : Part) → holds part s.t ≡ true → is_empty (window part xs) ≡ false
 
-some_front : (xs ys : List Sample) → is_empty xs ≡ false → is_empty (xs ++ ys) ≡ false
+pub some_front : (xs ys : List Sample) → is_empty xs ≡ false → is_empty (xs ++ ys) ≡ false
 some_front [] ys some = absurd (cc (some))
 some_front (x ∷ xs) ys some = refl
 
-some_back : (xs ys : List Sample) → is_empty ys ≡ false → is_empty (xs ++ ys) ≡ false
+pub some_back : (xs ys : List Sample) → is_empty ys ≡ false → is_empty (xs ++ ys) ≡ false
 some_back [] ys some = some
 some_back (x ∷ xs) ys some = refl
 
 pub holds_at : (part : Part) (t : ℕ) → part.start ≤ t → t < part.end → holds part t ≡ true
 holds_at part t from to = grind (arith, nat_tests, from, to)
 
-window_own : (part : Part) (s : Sample) → holds part s.t ≡ true → window part (s ∷ []) ≡ s ∷ []
+pub window_own : (part : Part) (s : Sample) → holds part s.t ≡ true → window part (s ∷ []) ≡ s ∷ []
 window_own part s is =
     let to : s.t < part.end = grind (arith, nat_tests, is) in
     let from : part.start ≤ s.t = grind (arith, nat_tests, is) in

@@ -209,10 +209,10 @@ module _ (tells : Bool) (p : Parts) (m : Machine) (r : Rests tells p m) (name : 
   stand : (after : Stores) → (registering name about).by r.stands.store.before after → after.stands ≡ r.stands.store.before.stands
   stand after by = ap (λ (s : Stores). s.stands) by.1
 
-  grow : (after : Stores) → (registering name about).by r.stands.store.before after → StoresGrow r.stands.store.before after
-  grow after by = register_grows p.at name about r.stands.store.before after (rests_has tells p m r).known by
+  grow : (after : Stores) → (registering name about).by r.stands.store.before after → StoresGrow m.moves r.stands.store.before after
+  grow after by = register_grows m.moves p.at name about r.stands.store.before after (rests_has tells p m r).known by
 
-  doubting : (new : Seen) → granularities new.manifests ≡ granularities p.at.manifests → Keeps tells (beside p.at p.limbo) (beside new p.limbo) → Has tells new r.stands.store.before ⊎ InDoubt tells new r.stands.store.before (record m { doubt = Some change; faults = new.faults })
+  doubting : (new : Seen) → granularities new.manifests ≡ granularities p.at.manifests → Keeps tells (beside p.at p.limbo) (beside new p.limbo) → Has tells new r.stands.store.before ⊎ InDoubt tells new p.limbo r.stands.store.before (record m { doubt = Some change; faults = new.faults })
       → Stands tells (record p { at = new; kept = more_kept; doubt = Some kind.Row }) (record m { doubt = Some change; faults = new.faults })
   doubting new same_g shown is_open =
       let s = r.stands in
@@ -220,8 +220,8 @@ module _ (tells : Bool) (p : Parts) (m : Machine) (r : Rests tells p m) (name : 
       doubt_stands tells p m s new more_kept (Some kind.Row) (Some change) same_g shown sound more_rows (name, about, refl) fresh_there is_open
 
   -- nothing stands in doubt: of the machine's doubt
-  undoubted : (kept : List RowMemory) → IsReady kept m.rows m.doubt
-  undoubted kept = subst (λ (o : Option Change). IsReady kept m.rows o) (sym r.settled) tt
+  undoubted : (kept : List RowMemory) → IsReady kept m.rows m.moves m.doubt
+  undoubted kept = subst (λ (o : Option Change). IsReady kept m.rows m.moves o) (sym r.settled) tt
 
   unclear : (rows : List Row) → IsCleared rows (Some kind.Row) more_kept more_kept
   unclear rows = record { other = λ none. refl; own = λ k state is. absurd (cc (is)) }

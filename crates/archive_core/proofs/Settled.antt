@@ -1,9 +1,9 @@
 -- The archive once a doubt is settled.
-use Rattle.std.proofs.Common.{◌≡◌, ◌≢◌, ◌⊎◌, inl, inr, ℕ, zero, suc, ◌+◌, ◌≤◌, List, [], ◌∷◌, length, Bool, true, false, Option, Some, None, refl, sym, ◌∙◌, ap, subst, arith}
+use Rattle.std.proofs.Common.{◌≡◌, ◌≢◌, ◌⊎◌, inl, inr, ℕ, zero, suc, ◌+◌, ◌<◌, ◌≤◌, List, [], ◌∷◌, length, Bool, true, false, Option, Some, None, refl, sym, ◌∙◌, ap, subst, arith}
 use Rattle.std.specs.FinMap.{FinMap}
 use Rattle.std.specs.List.{AllByRecursion}
 use Rattle.std.specs.Ordering.{nat_cmp}
-use Rattle.std.specs.Prelude.{◌==◌, ◌&&◌, slice_get, slice_set, map}
+use Rattle.std.specs.Prelude.{◌==◌, ◌&&◌, IsTrue, slice_get, slice_set, map}
 use Rattle.std.proofs.lemmas.Bool.Decides.{nat_tests}
 use Rattle.std.proofs.lemmas.List.{length-map}
 use Rattle.std.proofs.lemmas.Option.{same_Some}
@@ -18,24 +18,25 @@ use Rattle.series_model.specs.Series.{end_of, since, IsRising}
 use Rattle.series_model.specs.declared.batch.RowSamples.{RowSamples}
 use Rattle.series_model.specs.declared.sample.Sample.{Sample}
 use Rattle.series_model.proofs.RisingLists.{RisesFrom-lower}
-use Rattle.etl_mover.specs.Move.{MoveState as Moving}
 use Rattle.etl_rules.specs.Config.{ConfigState}
+use Rattle.etl_mover.specs.Move.{MoveState as Moving}
 use Rattle.running_moves.specs.declared.table.Running.{Running}
 use Rattle.tier_store.specs.Held.{Filed}
+use Rattle.tier_store.specs.Plan.{of_row as files_in}
 use Rattle.three_stores.specs.Beginning.{AreNested}
 use Rattle.three_stores.specs.Change.{Has, IsKnown, IsOpen, HasEither}
 use Rattle.three_stores.specs.Pinned.{beside}
 use Rattle.three_stores.specs.Revival.{AreWhole}
 use Rattle.three_stores.specs.Seen.{Seen, IsSettled, granularities}
-use Rattle.three_stores.specs.Stores.{Stores}
+use Rattle.three_stores.specs.Stores.{Stores, list_at, samples_in}
 use Rattle.three_stores.specs.declared.limbo.Retired.{Retired}
 use Rattle.act_model.specs.Changes.{each, at, changed, made, of_row, Settles, no_doubt, as_not_made, as_made, without_held}
 use Rattle.act_model.specs.Crash.{kept_of, kept}
 use Rattle.act_model.specs.Limbo.{FileState}
 use Rattle.act_model.specs.Machine.{Machine, MoveState, PinState, Change, AddsRow, SetsState, Appends, Publishes, Unlists}
-use Rattle.act_model.specs.Rows.{RowState, fresh_row, period_of}
+use Rattle.act_model.specs.Rows.{RowState, Store, fresh_row, next_store, period_of}
 use Rattle.act_model.proofs.Rows.{Came, from_row, is_new, came, more_rows}
-use Rattle.act_model.specs.Rule.{Rule}
+use Rattle.act_model.specs.Rule.{Rule, index_of}
 use Rattle.act_model.specs.Sound.{IsSound, MayMake}
 use Rattle.act_model.proofs.StepLaws.{settled_sound, settled_none}
 use Rattle.archive_core.specs.declared.memory.RowMemory.{RowMemory}
@@ -46,17 +47,28 @@ use Rattle.archive_core.proofs.Batches.{none_beyond, lists_or_not, holds_with, h
 use Rattle.archive_core.proofs.Growth.{same_grow}
 use Rattle.archive_core.proofs.KeptRows.{sampling_period, sampling_cell, each_to}
 use Rattle.archive_core.proofs.LimboKept.{limbo_beside, limbo_changed, limbo_held}
-use Rattle.archive_core.proofs.Making.{count_of, kept_to, taken_later}
-use Rattle.archive_core.proofs.MovesKept.{SameLater, same_later, moves_left}
+use Rattle.archive_core.proofs.Making.{kept_to, taken_later}
+use Rattle.archive_core.proofs.ListedRows.{listed_same}
+use Rattle.archive_core.proofs.MoveEnds.{reach_ends, source_ends}
+use Rattle.archive_core.proofs.MoveRows.{next_high, next_low, store_low}
+use Rattle.archive_core.proofs.MovesKept.{SameLater, leaves_ahead, moves_stay, same_later, same_put}
+use Rattle.archive_core.proofs.StageKept.{reach, source_on}
 use Rattle.archive_core.proofs.MovesMade.{same_made}
 use Rattle.archive_core.proofs.PinTies.{KeepsNames, names_stay, names_made, state_name, pins_stay}
 use Rattle.archive_core.specs.Flushing.{GivesUp, ListsBatch, IsTrimmed}
+use Rattle.archive_core.specs.Growing.{HasRunning}
 use Rattle.archive_core.specs.LimboTies.{IsLimboOf}
 use Rattle.archive_core.specs.MoveTies.{AreMovesOf}
 use Rattle.archive_core.specs.Memory.{IsRowAt, AreRowsOf, cell_in, period_in, fresh_memory, cleared, IsCleared}
 use Rattle.archive_core.specs.Parts.{Parts}
 use Rattle.archive_core.specs.Pins.{ArePinsOf}
-use Rattle.archive_core.specs.Stands.{Stands, Rests, HasSettings, TellsHeaders, StoresGrow, InDoubt, IsPartOf, IsReady, IsDoubtOf, AreDurable, HoldsDurable}
+use Rattle.archive_core.specs.Stands.{Stands, Rests, HasSettings, TellsHeaders, StoresGo, StoresGrow, InDoubt, IsPartOf, IsReady, IsDoubtOf, AreDurable, HoldsDurable}
+use Rattle.archive_core.specs.Retiring.{IsRetiring, SettlesRetired}
+use Rattle.archive_core.proofs.RetiredBeside.{moves_settled}
+use Rattle.archive_core.proofs.RetiredDoubt.{settled_retired}
+use Rattle.archive_core.proofs.RetiredLimbo.{names_unlisted}
+use Rattle.archive_core.proofs.RetiredRows.{row_came, unlisted_there}
+use Rattle.archive_core.proofs.StoresGoing.{go_beside}
 use Rattle.archive_core.proofs.Lists.{same_or_not, get_set_same, get_set_other, get_front}
 
 -- WHAT IS KEPT IN MEMORY ALONE
@@ -144,6 +156,33 @@ kept_cleared m kept ts k to memory are there = record {
     by_row i r (from_row was here made_is) = subst (λ (q : RowState). (own : RowMemory) × (slice_get (slice_set kept k (cleared memory)) i ≡ Some own) × IsKeptOf ts i own q) (sym made_is) (by_place i was here (same_or_not i k))
     by_row i r (is_new j at_is here) = absurd (cc (here))
 
+-- what a move had copied was listed
+kept_listed : (m : Machine) (kept : List RowMemory) (ts : List TailState) (k : ℕ) (store : Store) (copied : List Sample) → AreKeptOf kept ts m.rows → AreKeptOf kept ts (made [] (Publishes k store copied) m).rows
+kept_listed m kept ts k store copied are = record {
+  each = λ i r here. by_row i r (came m.told m.limbo (Publishes k store copied) m.rows i r here);
+  beyond = λ i high. are.beyond i (let more = more_rows m.told m.limbo (Publishes k store copied) m.rows in omega (arith, high, more));
+}
+  where
+    by_row : (i : ℕ) (r : RowState) → Came m.told m.limbo (Publishes k store copied) m.rows i r → (memory : RowMemory) × (slice_get kept i ≡ Some memory) × IsKeptOf ts i memory r
+    by_row i r (from_row was here made_is) =
+        let old = are.each i was here in
+        let same = listed_same m k store copied i was in
+        subst (λ (q : RowState). (memory : RowMemory) × (slice_get kept i ≡ Some memory) × IsKeptOf ts i memory q) (sym made_is)
+        (old.0, old.1, record { next = same.next ∙ old.2.next; cell = same.cell ∙ old.2.cell; period = old.2.period ∙ sym (ap (λ (a : About). period_of a.method) same.about); tail = same.tail ∙ old.2.tail })
+    by_row i r (is_new j at_is here) = absurd (cc (here))
+
+-- the oldest files of a row have left a store
+kept_unlisted : (m : Machine) (kept : List RowMemory) (ts : List TailState) (k : ℕ) (store : Store) (to : ℕ) → AreKeptOf kept ts m.rows → AreKeptOf kept ts (made [] (Unlists k store to) m).rows
+kept_unlisted m kept ts k store to are = record {
+  each = λ i r here.
+      let came = row_came m k store to i r here in
+      let old = are.each i came.0 came.1 in
+      let same = unlisted_there m k store to i came.0 in
+      subst (λ (q : RowState). (memory : RowMemory) × (slice_get kept i ≡ Some memory) × IsKeptOf ts i memory q) (sym came.2)
+      (old.0, old.1, record { next = same.next ∙ old.2.next; cell = same.cell ∙ old.2.cell; period = old.2.period ∙ sym (ap (λ (a : About). period_of a.method) same.about); tail = same.tail ∙ old.2.tail });
+  beyond = λ i high. are.beyond i (let more = more_rows m.told m.limbo (Unlists k store to) m.rows in omega (arith, high, more));
+}
+
 -- what each row has of a batch that is given up rises in time
 kept_flushed : (m : Machine) (kept : List RowMemory) (old new : List TailState) (batch : List RowSamples) → AreKeptOf kept old m.rows → AllByRecursion (IsPartOf (length m.rows)) batch → ((i : ℕ) (r : RowState) → slice_get m.rows i ≡ Some r → IsRising (of_row i batch)) → GivesUp batch old new → AreKeptOf kept new (made [] (Appends batch) m).rows
 kept_flushed m kept old new batch are all rising gives = record {
@@ -168,7 +207,7 @@ Takes (AddsRow name about) old new = new ≡ old
 Takes (SetsState k to) old new = new ≡ old
 Takes (Appends batch) old new = GivesUp batch old new
 Takes (Publishes i store copied) old new = new ≡ old
-Takes (Unlists i store to) old new = new ≡ old
+Takes (Unlists i store to) old new = ⊥
 
 -- THE SETTLED ARCHIVE
 
@@ -176,35 +215,50 @@ Takes (Unlists i store to) old new = new ≡ old
 pub record GrewFrom (tells : Bool) (at new : Seen) (retired : List Retired) (slots : List (Option (Running Moving))) (told : Bool) (rows : List RowState) (limbo : List FileState) (running : FinMap nat_cmp MoveState) (after : Stores) : Type 0 where
   pub from : Stores
   pub known : IsKnown at.catalogue at.manifests from
-  pub grow : StoresGrow from after
-  pub whole : (files : List Filed) × AreWhole 0 tells new retired after.stands files
-  pub moves : (then : List RowState) (left : List FileState) → SameLater rows then limbo left → AreMovesOf tells (beside new retired) told then left after running slots
+  pub disk : IsTrue after.stands → IsTrue tells
+  pub grow : StoresGrow running from after
+  pub whole : (i : ℕ) → i < 3 → (files : List Filed) × AreWhole i tells new retired after.stands files
+  pub moves : (then : List RowState) (left : List FileState) → SameLater (HasRunning running) rows then limbo left → AreMovesOf tells (beside new retired) told then left after running slots
 
 -- the memory lists what was before a doubt
-pub open_known : (tells : Bool) (at : Seen) (before : Stores) (m : Machine) → Has tells at before ⊎ InDoubt tells at before m → IsKnown at.catalogue at.manifests before
-open_known tells at before m (inl has) = has.known
-open_known tells at before m (inr d) = d.doubts.known
+pub open_known : {limbo : List Retired} (tells : Bool) (at : Seen) (before : Stores) (m : Machine) → Has tells at before ⊎ InDoubt tells at limbo before m → IsKnown at.catalogue at.manifests before
+open_known {limbo} tells at before m (inl has) = has.known
+open_known {limbo} tells at before m (inr d) = d.doubts.known
 
 -- the rows in memory are those from before a doubt
-pub open_rows : (tells : Bool) (at : Seen) (before : Stores) (m : Machine) → Has tells at before ⊎ InDoubt tells at before m → at.catalogue.rows ≡ before.rows
-open_rows tells at before m (inl has) = has.known.rows
-open_rows tells at before m (inr d) = d.doubts.known.rows
+pub open_rows : {limbo : List Retired} (tells : Bool) (at : Seen) (before : Stores) (m : Machine) → Has tells at before ⊎ InDoubt tells at limbo before m → at.catalogue.rows ≡ before.rows
+open_rows {limbo} tells at before m (inl has) = has.known.rows
+open_rows {limbo} tells at before m (inr d) = d.doubts.known.rows
 
 -- so they do from what was before a doubt
-pub grew : (tells : Bool) (p : Parts) (m : Machine) (s : Stands tells p m) (new : Seen) → granularities new.manifests ≡ granularities p.at.manifests → Keeps tells (beside p.at p.limbo) (beside new p.limbo) → (after : Stores) → after.stands ≡ s.store.before.stands → StoresGrow s.store.before after → GrewFrom tells p.at new p.limbo p.slots m.told m.rows m.limbo m.moves after
+pub grew : (tells : Bool) (p : Parts) (m : Machine) (s : Stands tells p m) (new : Seen) → granularities new.manifests ≡ granularities p.at.manifests → Keeps tells (beside p.at p.limbo) (beside new p.limbo) → (after : Stores) → after.stands ≡ s.store.before.stands → StoresGrow m.moves s.store.before after → GrewFrom tells p.at new p.limbo p.slots m.told m.rows m.limbo m.moves after
 grew tells p m s new same_g keeps after stand grow =
-    let whole = keeps.whole 0 s.store.before.stands s.store.whole.0 (omega arith) s.store.whole.1 in
+    let stands_now = told_stands tells m.told s.store.before.stands s.store.told in
     record {
       from = s.store.before;
       known = open_known tells p.at s.store.before m s.store.is_open;
+      disk = λ stands. s.store.disk (subst IsTrue stand stands);
       grow = grow;
-      whole = (whole.0, subst (λ (b : Bool). AreWhole 0 tells new p.limbo b whole.0) (sym stand) whole.1);
-      moves = λ rows left same. moves_left tells (beside p.at p.limbo) (beside new p.limbo) m.told m.rows rows m.limbo left s.store.before after same_g same (count_of s.store.before m s.store.holds) grow.beside m.moves p.slots keeps.leaves s.store.moves;
+      whole = λ i low.
+          let was = s.store.whole i low in
+          let whole = keeps.whole i s.store.before.stands was.0 low was.1 in
+          (whole.0, subst (λ (b : Bool). AreWhole i tells new p.limbo b whole.0) (sym stand) whole.1);
+      moves = λ rows left same. moves_stay tells (beside p.at p.limbo) (beside new p.limbo) m.told m.rows rows m.limbo left s.store.before after same_g stands_now m.moves p.slots (λ n move running here there is.
+          let place = index_of (next_store move.store) in
+          let runs : HasRunning m.moves move.row = (n, move, here, refl) in
+          let end = end_of (samples_in move.row s.store.before) in
+          record {
+            goes = grow.beside place move.row runs (next_low move.store) (next_high move.store);
+            on = source_on m.told s.store.before.stands (reach place is.files s.store.before running.moving move.stage) end (files_in move.row (list_at (index_of move.store) s.store.before)) (files_in move.row (list_at (index_of move.store) after))
+                (λ told. (reach_ends tells (beside p.at p.limbo) m s.store.before s.sound s.store.holds told n move here running is, source_ends tells (beside p.at p.limbo) m s.store.before s.sound s.store.holds told n move here running is)) (grow.sources (index_of move.store) move.row runs (store_low move.store));
+            puts = λ on copying. same_put (HasRunning m.moves) m.rows rows m.limbo left same move runs (s.sound.each_move n move here).here;
+            leaves = leaves_ahead tells (beside p.at p.limbo) (beside new p.limbo) s.store.before move.store is.files keeps.leaves;
+          }) s.store.moves;
     }
 
 -- where the stores stay, so do the moves
 pub moves_kept : (tells : Bool) (p : Parts) (m : Machine) (s : Stands tells p m) (new : Seen) → granularities new.manifests ≡ granularities p.at.manifests → Keeps tells (beside p.at p.limbo) (beside new p.limbo) → AreMovesOf tells (beside new p.limbo) m.told m.rows m.limbo s.store.before m.moves p.slots
-moves_kept tells p m s new same_g keeps = (grew tells p m s new same_g keeps s.store.before refl (same_grow s.store.before)).moves m.rows m.limbo (same_later m.rows m.limbo)
+moves_kept tells p m s new same_g keeps = (grew tells p m s new same_g keeps s.store.before refl (same_grow m.moves s.store.before)).moves m.rows m.limbo (same_later (HasRunning m.moves) m.rows m.limbo)
 
 -- and the settings
 pub settings_kept : (at new : Seen) (config : ConfigState) (rule : Rule) → granularities new.manifests ≡ granularities at.manifests → HasSettings at config rule → HasSettings new config rule
@@ -220,10 +274,11 @@ module _ (tells : Bool) (p : Parts) (m : Machine) (s : Stands tells p m) (new : 
     pub settles : Settles m mid
     pub has : Has tells new held
     pub told : mid.told ≡ (tells && held.stands)
+    pub disk : IsTrue held.stands → IsTrue tells
     pub same_told : mid.told ≡ m.told
     pub names : KeepsNames m.rows mid.rows
     pub holds : HoldsDurable held mid
-    pub whole : (files : List Filed) × AreWhole 0 tells new p.limbo held.stands files
+    pub whole : (i : ℕ) → i < 3 → (files : List Filed) × AreWhole i tells new p.limbo held.stands files
     pub memory : AreKeptOf kept tails mid.rows
     pub rule : mid.rule ≡ m.rule
     pub limbo : IsLimboOf tells (beside new p.limbo) mid.told mid.rows mid.limbo
@@ -231,23 +286,27 @@ module _ (tells : Bool) (p : Parts) (m : Machine) (s : Stands tells p m) (new : 
     pub moves : AreMovesOf tells (beside new p.limbo) mid.told mid.rows mid.limbo held mid.moves p.slots
     pub doors : mid.doors ≡ m.doors
 
-  pub rests : (tails : List TailState) (mid : Machine) (held : Stores) → Reaches tails mid held → Rests tells (settled_parts p new kept tails) (record mid { faults = new.faults })
-  rests tails mid held r = record {
-    stands = record {
-      sound = settled_sound r.settles s.sound;
-      rule = record { granularity = ap (λ w. w.granularity) r.rule ∙ (s.rule.granularity ∙ sym same_g); headers = subst (λ (rule : Rule). TellsHeaders rule) (sym r.rule) s.rule.headers };
-      limbo = r.limbo;
-      settings = subst (λ (rule : Rule). HasSettings new p.config rule) (sym r.rule) (settings_kept p.at new p.config m.rule same_g s.settings);
-      pins = own_pins;
-      faults = refl;
-      doors = r.doors ∙ s.doors;
-      rows = subst (λ (rows : List Row). AreRowsOf rows kept tails mid.rows) (sym r.has.known.rows) (rows_of mid.told held kept tails mid.rows r.memory r.holds);
-      doubt = subst (λ (d : Option Change). IsDoubtOf None d) (sym none) tt;
-      ready = subst (λ (d : Option Change). IsReady kept mid.rows d) (sym none) tt;
-      store = record { before = held; told = r.told; holds = r.holds; whole = r.whole; moves = r.moves; is_open = inl r.has };
-    };
-    settled = none;
-  }
+  -- and the stores have then what was reached
+  pub rests_at : (tails : List TailState) (mid : Machine) (held : Stores) → Reaches tails mid held → (r : Rests tells (settled_parts p new kept tails) (record mid { faults = new.faults })) × (r.stands.store.before ≡ held)
+  rests_at tails mid held r = (
+    record {
+      stands = record {
+        sound = settled_sound r.settles s.sound;
+        rule = record { granularity = ap (λ w. w.granularity) r.rule ∙ (s.rule.granularity ∙ sym same_g); headers = subst (λ (rule : Rule). TellsHeaders rule) (sym r.rule) s.rule.headers };
+        limbo = r.limbo;
+        settings = subst (λ (rule : Rule). HasSettings new p.config rule) (sym r.rule) (settings_kept p.at new p.config m.rule same_g s.settings);
+        pins = own_pins;
+        faults = refl;
+        doors = r.doors ∙ s.doors;
+        rows = subst (λ (rows : List Row). AreRowsOf rows kept tails mid.rows) (sym r.has.known.rows) (rows_of mid.told held kept tails mid.rows r.memory r.holds);
+        doubt = subst (λ (d : Option Change). IsDoubtOf None d) (sym none) tt;
+        ready = subst (λ (d : Option Change). IsReady kept mid.rows mid.moves d) (sym none) tt;
+        store = record { before = held; told = r.told; disk = r.disk; holds = r.holds; whole = r.whole; moves = r.moves; is_open = inl r.has };
+      };
+      settled = none;
+    },
+    refl,
+  )
     where
       none : mid.doubt ≡ None
       none = settled_none r.settles
@@ -258,17 +317,22 @@ module _ (tells : Bool) (p : Parts) (m : Machine) (s : Stands tells p m) (new : 
           let told_ones = subst (λ (t : Bool). ArePinsOf tells (beside new p.limbo) t mid.rows m.pins p.pinned) (sym r.same_told) stay in
           subst (λ (pins : FinMap nat_cmp PinState). ArePinsOf tells (beside new p.limbo) mid.told mid.rows pins p.pinned) (sym r.pins) told_ones
 
+  pub rests : (tails : List TailState) (mid : Machine) (held : Stores) → Reaches tails mid held → Rests tells (settled_parts p new kept tails) (record mid { faults = new.faults })
+  rests tails mid held r = (rests_at tails mid held r).0
+
   doubt_state : (o : Option Doubt) (d : Option Change) → IsDoubtOf o d → (k : ℕ) (to : State) → o ≡ Some (kind.State k to) → d ≡ Some (SetsState k to)
   doubt_state None d doubt k to is = absurd (cc (is))
   doubt_state (Some kind.Row) d doubt k to is = absurd (cc (is))
   doubt_state (Some (kind.State row state)) None doubt k to is = absurd doubt
   doubt_state (Some (kind.Flush batch)) d doubt k to is = absurd (cc (is))
+  doubt_state (Some kind.Published) d doubt k to is = absurd (cc (is))
   doubt_state (Some (kind.State row state)) (Some c) doubt k to is = let own : kind.State row state ≡ kind.State k to = same_Some (kind.State row state) (kind.State k to) is in cc (own, doubt)
 
   doubt_flush : (o : Option Doubt) (d : Option Change) → IsDoubtOf o d → (batch : List RowSamples) → o ≡ Some (kind.Flush batch) → d ≡ Some (Appends batch)
   doubt_flush None d doubt batch is = absurd (cc (is))
   doubt_flush (Some kind.Row) d doubt batch is = absurd (cc (is))
   doubt_flush (Some (kind.State row state)) d doubt batch is = absurd (cc (is))
+  doubt_flush (Some kind.Published) d doubt batch is = absurd (cc (is))
   doubt_flush (Some (kind.Flush own)) None doubt batch is = absurd doubt
   doubt_flush (Some (kind.Flush own)) (Some c) doubt batch is = let same : kind.Flush own ≡ kind.Flush batch = same_Some (kind.Flush own) (kind.Flush batch) is in cc (same, doubt)
 
@@ -276,13 +340,14 @@ module _ (tells : Bool) (p : Parts) (m : Machine) (s : Stands tells p m) (new : 
   flush_doubt None batch doubt = absurd doubt
   flush_doubt (Some kind.Row) batch doubt = absurd (let wrong = doubt.2 in cc (wrong))
   flush_doubt (Some (kind.State row state)) batch doubt = absurd (cc (doubt))
+  flush_doubt (Some kind.Published) batch doubt = absurd (let wrong = doubt.3 in cc (wrong))
   flush_doubt (Some (kind.Flush own)) batch doubt = cc (doubt)
 
   same_memory : AreKeptOf p.kept p.tails m.rows
   same_memory = kept_part p.at.catalogue.rows p.kept p.tails m.rows s.rows
 
   still_grown : GrewFrom tells p.at new p.limbo p.slots m.told m.rows m.limbo m.moves s.store.before
-  still_grown = grew tells p m s new same_g shown s.store.before refl (same_grow s.store.before)
+  still_grown = grew tells p m s new same_g shown s.store.before refl (same_grow m.moves s.store.before)
 
   -- limbo stays the machine's where the change was made in stores that grew
   changed_limbo : (c : Change) → KeepsNames m.rows (made [] c m).rows → (held : Stores) → GrewFrom tells p.at new p.limbo p.slots m.told m.rows m.limbo m.moves held → m.told ≡ (tells && held.stands) → HoldsDurable held (made [] c m) → Has tells new held → IsLimboOf tells (beside new p.limbo) m.told (made [] c m).rows (made [] c m).limbo
@@ -298,7 +363,7 @@ module _ (tells : Bool) (p : Parts) (m : Machine) (s : Stands tells p m) (new : 
     where
       unset : (k : ℕ) (to : State) → p.doubt ≡ Some (kind.State k to) → HasState s.store.before.rows k to → ⊥
       unset k to is has_it =
-          let ready = subst (λ (d : Option Change). IsReady p.kept m.rows d) (doubt_state p.doubt m.doubt s.doubt k to is) s.ready in
+          let ready = subst (λ (d : Option Change). IsReady p.kept m.rows m.moves d) (doubt_state p.doubt m.doubt s.doubt k to is) s.ready in
           let at = s.store.holds.each k (kept_of ready.0) (kept_to m.rows k ready.0 ready.1) in
           let same : at.row ≡ has_it.row = same_Some at.row has_it.row (sym at.here ∙ has_it.here) in
           ready.2 (at.is.state ∙ (ap (λ (w : Row). w.state) same ∙ has_it.is))
@@ -310,8 +375,8 @@ module _ (tells : Bool) (p : Parts) (m : Machine) (s : Stands tells p m) (new : 
       stays = subst (λ (ts : List TailState). AreKeptOf kept ts m.rows) (sym same_tails) (subst (λ (ks : List RowMemory). AreKeptOf ks p.tails m.rows) (sym same) same_memory)
 
       by_doubt : (d : Option Change) → m.doubt ≡ d → (mid : Machine) × Reaches tails mid s.store.before
-      by_doubt None is = (m, record { settles = no_doubt is; has = has; told = s.store.told; same_told = refl; names = names_stay m.rows; holds = s.store.holds; whole = still_grown.whole; memory = stays; rule = refl; limbo = still_limbo s.store.before still_grown s.store.told s.store.holds has; pins = refl; moves = still_grown.moves m.rows m.limbo (same_later m.rows m.limbo); doors = refl })
-      by_doubt (Some c) is = (record m { doubt = None }, record { settles = as_not_made c is; has = has; told = s.store.told; same_told = refl; names = names_stay m.rows; holds = s.store.holds; whole = still_grown.whole; memory = stays; rule = refl; limbo = still_limbo s.store.before still_grown s.store.told s.store.holds has; pins = refl; moves = still_grown.moves m.rows m.limbo (same_later m.rows m.limbo); doors = refl })
+      by_doubt None is = (m, record { settles = no_doubt is; has = has; told = s.store.told; disk = still_grown.disk; same_told = refl; names = names_stay m.rows; holds = s.store.holds; whole = still_grown.whole; memory = stays; rule = refl; limbo = still_limbo s.store.before still_grown s.store.told s.store.holds has; pins = refl; moves = still_grown.moves m.rows m.limbo (same_later (HasRunning m.moves) m.rows m.limbo); doors = refl })
+      by_doubt (Some c) is = (record m { doubt = None }, record { settles = as_not_made c is; has = has; told = s.store.told; disk = still_grown.disk; same_told = refl; names = names_stay m.rows; holds = s.store.holds; whole = still_grown.whole; memory = stays; rule = refl; limbo = still_limbo s.store.before still_grown s.store.told s.store.holds has; pins = refl; moves = still_grown.moves m.rows m.limbo (same_later (HasRunning m.moves) m.rows m.limbo); doors = refl })
 
   told_after : (after : Stores) → after.stands ≡ s.store.before.stands → m.told ≡ (tells && after.stands)
   told_after after stand = s.store.told ∙ ap (λ (b : Bool). tells && b) (sym stand)
@@ -321,7 +386,7 @@ module _ (tells : Bool) (p : Parts) (m : Machine) (s : Stands tells p m) (new : 
   with_change c = record (made [] c m) { doubt = None }
 
   -- the doubted state was set
-  made_state : (k : ℕ) (to : State) → m.doubt ≡ Some (SetsState k to) → (after : Stores) → GrewFrom tells p.at new p.limbo p.slots m.told m.rows m.limbo m.moves after → m.told ≡ (tells && after.stands) → HoldsDurable after (made [] (SetsState k to) m) → IsReady p.kept m.rows (Some (SetsState k to)) → IsCleared after.rows p.doubt p.kept kept → Has tells new after → Reaches p.tails (with_change (SetsState k to)) after
+  made_state : (k : ℕ) (to : State) → m.doubt ≡ Some (SetsState k to) → (after : Stores) → GrewFrom tells p.at new p.limbo p.slots m.told m.rows m.limbo m.moves after → m.told ≡ (tells && after.stands) → HoldsDurable after (made [] (SetsState k to) m) → IsReady p.kept m.rows m.moves (Some (SetsState k to)) → IsCleared after.rows p.doubt p.kept kept → Has tells new after → Reaches p.tails (with_change (SetsState k to)) after
   made_state k to is after grow told holds ready memory has = by_own p.doubt refl (subst (λ (d : Option Change). IsDoubtOf p.doubt d) is s.doubt)
     where
       at_row : IsRowAt p.at.catalogue.rows p.kept p.tails k ready.0
@@ -343,27 +408,80 @@ module _ (tells : Bool) (p : Parts) (m : Machine) (s : Stands tells p m) (new : 
       by_own None own doubt = absurd doubt
       by_own (Some kind.Row) own doubt = absurd (let wrong = doubt.2 in cc (wrong))
       by_own (Some (kind.Flush batch)) own doubt = absurd (cc (doubt))
+      by_own (Some kind.Published) own doubt = absurd (let wrong = doubt.3 in cc (wrong))
       by_own (Some (kind.State row state)) own doubt =
           let named : kind.State row state ≡ kind.State k to = cc (doubt) in
           let set = memory.own k to (own ∙ ap (λ (w : Doubt). Some w) named) has_it at_row.memory at_row.there in
           let rows = kept_cleared m p.kept p.tails k to at_row.memory same_memory at_row.there in
-          record { settles = as_made (SetsState k to) [] is refl; has = has; told = told; same_told = refl; names = names_made m (SetsState k to) (state_name m k to); holds = holds; whole = grow.whole; memory = subst (λ (ks : List RowMemory). AreKeptOf ks p.tails (made [] (SetsState k to) m).rows) (sym set) rows; rule = refl; limbo = changed_limbo (SetsState k to) (names_made m (SetsState k to) (state_name m k to)) after grow told holds has; pins = refl; moves = grow.moves (made [] (SetsState k to) m).rows (made [] (SetsState k to) m).limbo (same_made m (SetsState k to) s.sound tt); doors = refl }
+          record { settles = as_made (SetsState k to) [] is refl; has = has; told = told; disk = grow.disk; same_told = refl; names = names_made m (SetsState k to) (state_name m k to); holds = holds; whole = grow.whole; memory = subst (λ (ks : List RowMemory). AreKeptOf ks p.tails (made [] (SetsState k to) m).rows) (sym set) rows; rule = refl; limbo = changed_limbo (SetsState k to) (names_made m (SetsState k to) (state_name m k to)) after grow told holds has; pins = refl; moves = grow.moves (made [] (SetsState k to) m).rows (made [] (SetsState k to) m).limbo (same_made (HasRunning m.moves) m (SetsState k to) s.sound tt); doors = refl }
 
   -- the doubted row was added
-  made_row : (name : List ℕ) (about : About) → m.doubt ≡ Some (AddsRow name about) → (after : Stores) → GrewFrom tells p.at new p.limbo p.slots m.told m.rows m.limbo m.moves after → m.told ≡ (tells && after.stands) → HoldsDurable after (made [] (AddsRow name about) m) → IsReady p.kept m.rows (Some (AddsRow name about)) → IsCleared after.rows p.doubt p.kept kept → Has tells new after → Reaches p.tails (with_change (AddsRow name about)) after
+  made_row : (name : List ℕ) (about : About) → m.doubt ≡ Some (AddsRow name about) → (after : Stores) → GrewFrom tells p.at new p.limbo p.slots m.told m.rows m.limbo m.moves after → m.told ≡ (tells && after.stands) → HoldsDurable after (made [] (AddsRow name about) m) → IsReady p.kept m.rows m.moves (Some (AddsRow name about)) → IsCleared after.rows p.doubt p.kept kept → Has tells new after → Reaches p.tails (with_change (AddsRow name about)) after
   made_row name about is after grow told holds ready memory has =
       let doubt : IsDoubtOf p.doubt (Some (AddsRow name about)) = subst (λ (d : Option Change). IsDoubtOf p.doubt d) is s.doubt in
       let same : kept ≡ p.kept = memory.other (λ k to state has_it. let wrong = doubt_state p.doubt (Some (AddsRow name about)) doubt k to state in let plain : AddsRow name about ≡ SetsState k to = same_Some (AddsRow name about) (SetsState k to) wrong in cc (plain)) in
       let own_rows = kept_added m p.kept p.tails name about same_memory ready in
-      record { settles = as_made (AddsRow name about) [] is refl; has = has; told = told; same_told = refl; names = names_made m (AddsRow name about) (λ i r. refl); holds = holds; whole = grow.whole; memory = subst (λ (ks : List RowMemory). AreKeptOf ks p.tails (made [] (AddsRow name about) m).rows) (sym same) own_rows; rule = refl; limbo = changed_limbo (AddsRow name about) (names_made m (AddsRow name about) (λ i r. refl)) after grow told holds has; pins = refl; moves = grow.moves (made [] (AddsRow name about) m).rows (made [] (AddsRow name about) m).limbo (same_made m (AddsRow name about) s.sound tt); doors = refl }
+      record { settles = as_made (AddsRow name about) [] is refl; has = has; told = told; disk = grow.disk; same_told = refl; names = names_made m (AddsRow name about) (λ i r. refl); holds = holds; whole = grow.whole; memory = subst (λ (ks : List RowMemory). AreKeptOf ks p.tails (made [] (AddsRow name about) m).rows) (sym same) own_rows; rule = refl; limbo = changed_limbo (AddsRow name about) (names_made m (AddsRow name about) (λ i r. refl)) after grow told holds has; pins = refl; moves = grow.moves (made [] (AddsRow name about) m).rows (made [] (AddsRow name about) m).limbo (same_made (HasRunning m.moves) m (AddsRow name about) s.sound tt); doors = refl }
 
   -- the doubted batch was appended
   made_batch : (batch : List RowSamples) → m.doubt ≡ Some (Appends batch) → (after : Stores) → GrewFrom tells p.at new p.limbo p.slots m.told m.rows m.limbo m.moves after → m.told ≡ (tells && after.stands) → HoldsDurable after (made [] (Appends batch) m) → kept ≡ p.kept → (tails : List TailState) → GivesUp batch p.tails tails → Has tells new after → Reaches tails (with_change (Appends batch)) after
   made_batch batch is after grow told holds same tails gives has =
-      let ready : AllByRecursion (IsPartOf (length m.rows)) batch = subst (λ (d : Option Change). IsReady p.kept m.rows d) is s.ready in
+      let ready : AllByRecursion (IsPartOf (length m.rows)) batch = subst (λ (d : Option Change). IsReady p.kept m.rows m.moves d) is s.ready in
       let may = (s.sound.doubted (Appends batch) is).0 in
       let own_rows = kept_flushed m p.kept p.tails tails batch same_memory ready (λ i r here. RisesFrom-lower 0 (end_of r.short) (of_row i batch) (taken_later m batch i r s.sound may here) (omega arith)) gives in
-      record { settles = as_made (Appends batch) [] is refl; has = has; told = told; same_told = refl; names = names_made m (Appends batch) (λ i r. refl); holds = holds; whole = grow.whole; memory = subst (λ (ks : List RowMemory). AreKeptOf ks tails (made [] (Appends batch) m).rows) (sym same) own_rows; rule = refl; limbo = changed_limbo (Appends batch) (names_made m (Appends batch) (λ i r. refl)) after grow told holds has; pins = refl; moves = grow.moves (made [] (Appends batch) m).rows (made [] (Appends batch) m).limbo (same_made m (Appends batch) s.sound tt); doors = refl }
+      record { settles = as_made (Appends batch) [] is refl; has = has; told = told; disk = grow.disk; same_told = refl; names = names_made m (Appends batch) (λ i r. refl); holds = holds; whole = grow.whole; memory = subst (λ (ks : List RowMemory). AreKeptOf ks tails (made [] (Appends batch) m).rows) (sym same) own_rows; rule = refl; limbo = changed_limbo (Appends batch) (names_made m (Appends batch) (λ i r. refl)) after grow told holds has; pins = refl; moves = grow.moves (made [] (Appends batch) m).rows (made [] (Appends batch) m).limbo (same_made (HasRunning m.moves) m (Appends batch) s.sound tt); doors = refl }
+
+  -- what a move had copied was listed
+  made_listed : (i : ℕ) (store : Store) (copied : List Sample) → m.doubt ≡ Some (Publishes i store copied) → (after : Stores) → GrewFrom tells p.at new p.limbo p.slots m.told m.rows m.limbo m.moves after → m.told ≡ (tells && after.stands) → HoldsDurable after (made [] (Publishes i store copied) m) → IsReady p.kept m.rows m.moves (Some (Publishes i store copied)) → IsCleared after.rows p.doubt p.kept kept → Has tells new after
+      → Reaches p.tails (with_change (Publishes i store copied)) after
+  made_listed i store copied is after grow told holds ready memory has =
+      let change = Publishes i store copied in
+      let doubt : IsDoubtOf p.doubt (Some change) = subst (λ (d : Option Change). IsDoubtOf p.doubt d) is s.doubt in
+      let same : kept ≡ p.kept = memory.other (λ k to state has_it. let wrong = doubt_state p.doubt (Some change) doubt k to state in let plain : Publishes i store copied ≡ SetsState k to = same_Some (Publishes i store copied) (SetsState k to) wrong in cc (plain)) in
+      let own_rows = kept_listed m p.kept p.tails i store copied same_memory in
+      record { settles = as_made change [] is refl; has = has; told = told; disk = grow.disk; same_told = refl; names = names_made m change (λ k r. (listed_same m i store copied k r).name); holds = holds; whole = grow.whole; memory = subst (λ (ks : List RowMemory). AreKeptOf ks p.tails (made [] change m).rows) (sym same) own_rows; rule = refl; limbo = changed_limbo change (names_made m change (λ k r. (listed_same m i store copied k r).name)) after grow told holds has; pins = refl; moves = grow.moves (made [] change m).rows (made [] change m).limbo (same_made (HasRunning m.moves) m change s.sound ready); doors = refl }
+
+  -- stores that grew
+  grown : (after : Stores) → after.stands ≡ s.store.before.stands → StoresGrow m.moves s.store.before after → GrewFrom tells p.at new p.limbo p.slots m.told m.rows m.limbo m.moves after
+  grown after stand grow = grew tells p m s new same_g shown after stand grow
+
+  -- the machine with its doubted change made and these files in limbo
+  abbrev with_files : List FileState → Change → Machine
+  with_files into c = record (made into c m) { doubt = None }
+
+  -- the doubted parts have left, and all of them are in limbo
+  unlisted_settles : (i : ℕ) (store : Store) (to : ℕ) → m.doubt ≡ Some (Unlists i store to) → (after : Stores) → after.stands ≡ s.store.before.stands → IsRetiring tells (beside p.at p.limbo) m.told m.rows s.store.before after i store to → HoldsDurable after (made [] (Unlists i store to) m) → Has tells new after
+      → SettlesRetired tells (beside new p.limbo) m i store to
+  unlisted_settles i store to is after stand go holds has =
+      let may = (s.sound.doubted (Unlists i store to) is).0 in
+      settled_retired tells p.at new p.limbo m s.sound s.store.before after (open_known tells p.at s.store.before m s.store.is_open) s.store.holds s.rule (told_stands tells m.told s.store.before.stands s.store.told) s.limbo i store may.moves may.here to go has holds same_g shown.shown
+
+  made_unlisted : (i : ℕ) (store : Store) (to : ℕ) (is : m.doubt ≡ Some (Unlists i store to)) (after : Stores) (stand : after.stands ≡ s.store.before.stands) (go : IsRetiring tells (beside p.at p.limbo) m.told m.rows s.store.before after i store to) → m.told ≡ (tells && after.stands) → (holds : HoldsDurable after (made [] (Unlists i store to) m))
+      → IsReady p.kept m.rows m.moves (Some (Unlists i store to)) → IsCleared after.rows p.doubt p.kept kept → (has : Has tells new after) → Reaches p.tails (with_files (unlisted_settles i store to is after stand go holds has).into (Unlists i store to)) after
+  made_unlisted i store to is after stand go told holds ready memory has =
+      let change = Unlists i store to in
+      let left = unlisted_settles i store to is after stand go holds has in
+      let doubt : IsDoubtOf p.doubt (Some change) = subst (λ (d : Option Change). IsDoubtOf p.doubt d) is s.doubt in
+      let same : kept ≡ p.kept = memory.other (λ k state own has_it. let wrong = doubt_state p.doubt (Some change) doubt k state own in let plain : Unlists i store to ≡ SetsState k state = same_Some (Unlists i store to) (SetsState k state) wrong in cc (plain)) in
+      record {
+        settles = as_made change left.into is left.retires;
+        has = has;
+        told = told;
+        disk = λ stands. s.store.disk (subst IsTrue stand stands);
+        same_told = refl;
+        names = names_unlisted m i store to;
+        holds = holds;
+        whole = λ i low.
+            let was = s.store.whole i low in
+            let whole = shown.whole i s.store.before.stands was.0 low was.1 in
+            (whole.0, subst (λ (b : Bool). AreWhole i tells new p.limbo b whole.0) (sym stand) whole.1);
+        memory = subst (λ (ks : List RowMemory). AreKeptOf ks p.tails (made [] change m).rows) (sym same) (kept_unlisted m p.kept p.tails i store to same_memory);
+        rule = refl;
+        limbo = left.limbo;
+        pins = refl;
+        moves = moves_settled tells p.at new p.limbo m s.sound s.store.before after (told_stands tells m.told s.store.before.stands s.store.told) (open_known tells p.at s.store.before m s.store.is_open) same_g shown.leaves i store to go left.into left.retires (λ n move here own. ready (n, move, here, own)) p.slots s.store.moves;
+        doors = refl;
+      }
 
   -- a doubted batch leaves what is kept of rows
   same_kept : (rows : List Row) (batch : List RowSamples) → m.doubt ≡ Some (Appends batch) → IsCleared rows p.doubt p.kept kept → kept ≡ p.kept
@@ -372,19 +490,27 @@ module _ (tells : Bool) (p : Parts) (m : Machine) (s : Stands tells p m) (new : 
       cc (own))
 
   -- it was made
-  made_so : (c : Change) → m.doubt ≡ Some c → (after : Stores) → GrewFrom tells p.at new p.limbo p.slots m.told m.rows m.limbo m.moves after → m.told ≡ (tells && after.stands) → HoldsDurable after (made [] c m) → IsReady p.kept m.rows (Some c) → IsCleared after.rows p.doubt p.kept kept → (tails : List TailState) → Takes c p.tails tails → Has tells new after → Reaches tails (with_change c) after
+  made_so : (c : Change) → m.doubt ≡ Some c → (after : Stores) → GrewFrom tells p.at new p.limbo p.slots m.told m.rows m.limbo m.moves after → m.told ≡ (tells && after.stands) → HoldsDurable after (made [] c m) → IsReady p.kept m.rows m.moves (Some c) → IsCleared after.rows p.doubt p.kept kept → (tails : List TailState) → Takes c p.tails tails → Has tells new after → Reaches tails (with_change c) after
   made_so (AddsRow name about) is after grow told holds ready memory tails same has = subst (λ (ts : List TailState). Reaches ts (with_change (AddsRow name about)) after) (sym same) (made_row name about is after grow told holds ready memory has)
   made_so (SetsState k to) is after grow told holds ready memory tails same has = subst (λ (ts : List TailState). Reaches ts (with_change (SetsState k to)) after) (sym same) (made_state k to is after grow told holds ready memory has)
   made_so (Appends batch) is after grow told holds ready memory tails gives has = made_batch batch is after grow told holds (same_kept after.rows batch is memory) tails gives has
-  made_so (Publishes i store copied) is after grow told holds ready memory tails same has = absurd ready
-  made_so (Unlists i store to) is after grow told holds ready memory tails same has = absurd ready
+  made_so (Publishes i store copied) is after grow told holds ready memory tails same has = subst (λ (ts : List TailState). Reaches ts (with_change (Publishes i store copied)) after) (sym same) (made_listed i store copied is after grow told holds ready memory has)
+  made_so (Unlists i store to) is after grow told holds ready memory tails none has = absurd none
 
   -- once the stores have what is after the doubted change, the archive stands for the machine with it
   pub made_stands : (tails : List TailState) (c : Change) → m.doubt ≡ Some c → (after : Stores) → GrewFrom tells p.at new p.limbo p.slots m.told m.rows m.limbo m.moves after → m.told ≡ (tells && after.stands) → HoldsDurable after (made [] c m) → IsCleared new.catalogue.rows p.doubt p.kept kept → Takes c p.tails tails → Has tells new after → Rests tells (settled_parts p new kept tails) (record (with_change c) { faults = new.faults })
   made_stands tails c is after grow told holds memory takes has =
-      let ready : IsReady p.kept m.rows (Some c) = subst (λ (d : Option Change). IsReady p.kept m.rows d) is s.ready in
+      let ready : IsReady p.kept m.rows m.moves (Some c) = subst (λ (d : Option Change). IsReady p.kept m.rows m.moves d) is s.ready in
       let rows = subst (λ (rows : List Row). IsCleared rows p.doubt p.kept kept) has.known.rows memory in
       rests tails (with_change c) after (made_so c is after grow told holds ready rows tails takes has)
+
+  -- and they have just that
+  pub made_at : (tails : List TailState) (c : Change) → m.doubt ≡ Some c → (after : Stores) → GrewFrom tells p.at new p.limbo p.slots m.told m.rows m.limbo m.moves after → m.told ≡ (tells && after.stands) → HoldsDurable after (made [] c m) → IsCleared new.catalogue.rows p.doubt p.kept kept → Takes c p.tails tails → Has tells new after
+      → (r : Rests tells (settled_parts p new kept tails) (record (with_change c) { faults = new.faults })) × (r.stands.store.before ≡ after)
+  made_at tails c is after grow told holds memory takes has =
+      let ready : IsReady p.kept m.rows m.moves (Some c) = subst (λ (d : Option Change). IsReady p.kept m.rows m.moves d) is s.ready in
+      let rows = subst (λ (rows : List Row). IsCleared rows p.doubt p.kept kept) has.known.rows memory in
+      rests_at tails (with_change c) after (made_so c is after grow told holds ready rows tails takes has)
 
   module _ (tails : List TailState) (memory : IsCleared new.catalogue.rows p.doubt p.kept kept) (trims : IsTrimmed new.manifests p.doubt p.tails tails) where
     -- what the archive comes to once its doubt is settled
@@ -413,7 +539,7 @@ module _ (tells : Bool) (p : Parts) (m : Machine) (s : Stands tells p m) (new : 
         record m { doubt = None },
         as_not_made (Appends batch) is,
         rests tails (record m { doubt = None }) held
-            (record { settles = as_not_made (Appends batch) is; has = has; told = told; same_told = refl; names = names_stay m.rows; holds = without lacks; whole = grow.whole; memory = stays lacks; rule = refl; limbo = still_limbo held grow told (without lacks) has; pins = refl; moves = grow.moves m.rows m.limbo (same_later m.rows m.limbo); doors = refl }),
+            (record { settles = as_not_made (Appends batch) is; has = has; told = told; disk = grow.disk; same_told = refl; names = names_stay m.rows; holds = without lacks; whole = grow.whole; memory = stays lacks; rule = refl; limbo = still_limbo held grow told (without lacks) has; pins = refl; moves = grow.moves m.rows m.limbo (same_later (HasRunning m.moves) m.rows m.limbo); doors = refl }),
       )
     ]
       where
@@ -427,7 +553,7 @@ module _ (tells : Bool) (p : Parts) (m : Machine) (s : Stands tells p m) (new : 
         may = (s.sound.doubted (Appends batch) is).0
 
         ready : AllByRecursion (IsPartOf (length m.rows)) batch
-        ready = subst (λ (d : Option Change). IsReady p.kept m.rows d) is s.ready
+        ready = subst (λ (d : Option Change). IsReady p.kept m.rows m.moves d) is s.ready
 
         without : (ListsBatch new.manifests batch → ⊥) → HoldsDurable held m
         without lacks = holds_without tells new m s.sound held has told batch may ready lacks holds
@@ -455,41 +581,53 @@ module _ (tells : Bool) (p : Parts) (m : Machine) (s : Stands tells p m) (new : 
     as_before (Some (Unlists i store to)) is has = plain_before (other_change (Some (Unlists i store to)) is (λ batch wrong. cc (wrong))) has
 
     -- they have what is after it
-    as_after : (c : Change) → m.doubt ≡ Some c → (after : Stores) → GrewFrom tells p.at new p.limbo p.slots m.told m.rows m.limbo m.moves after → m.told ≡ (tells && after.stands) → HoldsDurable after (made [] c m) → IsReady p.kept m.rows (Some c) → Has tells new after → Ends
-    as_after (Appends batch) is after grow told holds ready has = flush_ends batch is after grow has told (inr holds)
-    as_after (AddsRow name about) is after grow told holds ready has = (
+    as_after : (c : Change) → m.doubt ≡ Some c → (after : Stores) → after.stands ≡ s.store.before.stands → StoresGo tells (beside p.at p.limbo) m.told m.rows m.moves s.store.before after c → m.told ≡ (tells && after.stands) → HoldsDurable after (made [] c m) → IsReady p.kept m.rows m.moves (Some c) → Has tells new after → Ends
+    as_after (Appends batch) is after stand go told holds ready has = flush_ends batch is after (grown after stand go) has told (inr holds)
+    as_after (AddsRow name about) is after stand go told holds ready has = (
       with_change (AddsRow name about),
       as_made (AddsRow name about) [] is refl,
-      made_stands tails (AddsRow name about) is after grow told holds memory (same_tails (other_change (Some (AddsRow name about)) is (λ batch wrong. cc (wrong)))) has,
+      made_stands tails (AddsRow name about) is after (grown after stand go) told holds memory (same_tails (other_change (Some (AddsRow name about)) is (λ batch wrong. cc (wrong)))) has,
     )
-    as_after (SetsState k to) is after grow told holds ready has = (
+    as_after (SetsState k to) is after stand go told holds ready has = (
       with_change (SetsState k to),
       as_made (SetsState k to) [] is refl,
-      made_stands tails (SetsState k to) is after grow told holds memory (same_tails (other_change (Some (SetsState k to)) is (λ batch wrong. cc (wrong)))) has,
+      made_stands tails (SetsState k to) is after (grown after stand go) told holds memory (same_tails (other_change (Some (SetsState k to)) is (λ batch wrong. cc (wrong)))) has,
     )
-    as_after (Publishes i store copied) is after grow told holds ready has = absurd ready
-    as_after (Unlists i store to) is after grow told holds ready has = absurd ready
+    as_after (Publishes i store copied) is after stand go told holds ready has = (
+      with_change (Publishes i store copied),
+      as_made (Publishes i store copied) [] is refl,
+      made_stands tails (Publishes i store copied) is after (grown after stand go) told holds memory (same_tails (other_change (Some (Publishes i store copied)) is (λ batch wrong. cc (wrong)))) has,
+    )
+    as_after (Unlists i store to) is after stand go told holds ready has =
+        let change = Unlists i store to in
+        let left = unlisted_settles i store to is after stand go holds has in
+        let rows = subst (λ (rows : List Row). IsCleared rows p.doubt p.kept kept) has.known.rows memory in
+        let same = same_tails (other_change (Some change) is (λ batch wrong. cc (wrong))) in (
+          with_files left.into change,
+          as_made change left.into is left.retires,
+          rests tails (with_files left.into change) after (subst (λ (ts : List TailState). Reaches ts (with_files left.into change) after) (sym same) (made_unlisted i store to is after stand go told holds ready rows has)),
+        )
 
     -- once the stores have settled their doubt, so has the archive
     pub settled_ends : ((before after : Stores) → IsOpen tells p.at before after → HasEither tells new before after) → Ends
     settled_ends settled = by_open s.store.is_open
       where
-        by_open : Has tells p.at s.store.before ⊎ InDoubt tells p.at s.store.before m → Ends
+        by_open : Has tells p.at s.store.before ⊎ InDoubt tells p.at p.limbo s.store.before m → Ends
         by_open (inl was) = elim (settled s.store.before s.store.before (inl was)) [
           | inl has ↦ as_before m.doubt refl has
           | inr has ↦ as_before m.doubt refl has
         ]
         by_open (inr d) = elim (settled s.store.before d.after (inr d.doubts)) [
           | inl has ↦ as_before m.doubt refl has
-          | inr has ↦ as_after d.change d.is d.after (grew tells p m s new same_g shown d.after d.stand d.grow) (told_after d.after d.stand) d.holds (subst (λ (o : Option Change). IsReady p.kept m.rows o) d.is s.ready) has
+          | inr has ↦ as_after d.change d.is d.after d.stand d.go (told_after d.after d.stand) d.holds (subst (λ (o : Option Change). IsReady p.kept m.rows m.moves o) d.is s.ready) has
         ]
 
 -- WHERE A DOUBT STANDS, OR NONE
 
 -- the archive stands for a machine with this doubt, where the stores are as much those of it
 pub doubt_beside : (tells : Bool) (p : Parts) (m : Machine) (s : Stands tells p m) (new : Seen) (kept : List RowMemory) (d : Option Doubt) (c : Option Change) → granularities new.manifests ≡ granularities p.at.manifests → KeepsLimbo tells (beside p.at p.limbo) (beside new p.limbo)
-    → AreMovesOf tells (beside new p.limbo) m.told m.rows m.limbo s.store.before m.moves p.slots → IsSound (record m { doubt = c }) → AreRowsOf p.at.catalogue.rows kept p.tails m.rows → IsDoubtOf d c → IsReady kept m.rows c
-    → Has tells new s.store.before ⊎ InDoubt tells new s.store.before (record m { doubt = c; faults = new.faults }) → Stands tells (record p { at = new; kept = kept; doubt = d }) (record m { doubt = c; faults = new.faults })
+    → AreMovesOf tells (beside new p.limbo) m.told m.rows m.limbo s.store.before m.moves p.slots → IsSound (record m { doubt = c }) → AreRowsOf p.at.catalogue.rows kept p.tails m.rows → IsDoubtOf d c → IsReady kept m.rows m.moves c
+    → Has tells new s.store.before ⊎ InDoubt tells new p.limbo s.store.before (record m { doubt = c; faults = new.faults }) → Stands tells (record p { at = new; kept = kept; doubt = d }) (record m { doubt = c; faults = new.faults })
 doubt_beside tells p m s new kept d c same_g shown moves sound rows doubt ready is_open = record {
   sound = sound;
   rule = record { granularity = s.rule.granularity ∙ sym same_g; headers = s.rule.headers };
@@ -501,29 +639,29 @@ doubt_beside tells p m s new kept d c same_g shown moves sound rows doubt ready 
   rows = subst (λ (rows : List Row). AreRowsOf rows kept p.tails m.rows) (open_rows tells p.at s.store.before m s.store.is_open ∙ sym (open_rows tells new s.store.before (record m { doubt = c; faults = new.faults }) is_open)) rows;
   doubt = doubt;
   ready = ready;
-  store = record { before = s.store.before; told = s.store.told; holds = s.store.holds; whole = shown.whole 0 s.store.before.stands s.store.whole.0 (omega arith) s.store.whole.1; moves = moves; is_open = is_open };
+  store = record { before = s.store.before; told = s.store.told; disk = s.store.disk; holds = s.store.holds; whole = λ i low. (let was = s.store.whole i low in shown.whole i s.store.before.stands was.0 low was.1); moves = moves; is_open = is_open };
 }
 
-pub doubt_stands : (tells : Bool) (p : Parts) (m : Machine) (s : Stands tells p m) (new : Seen) (kept : List RowMemory) (d : Option Doubt) (c : Option Change) → granularities new.manifests ≡ granularities p.at.manifests → Keeps tells (beside p.at p.limbo) (beside new p.limbo) → IsSound (record m { doubt = c }) → AreRowsOf p.at.catalogue.rows kept p.tails m.rows → IsDoubtOf d c → IsReady kept m.rows c
-    → Has tells new s.store.before ⊎ InDoubt tells new s.store.before (record m { doubt = c; faults = new.faults }) → Stands tells (record p { at = new; kept = kept; doubt = d }) (record m { doubt = c; faults = new.faults })
+pub doubt_stands : (tells : Bool) (p : Parts) (m : Machine) (s : Stands tells p m) (new : Seen) (kept : List RowMemory) (d : Option Doubt) (c : Option Change) → granularities new.manifests ≡ granularities p.at.manifests → Keeps tells (beside p.at p.limbo) (beside new p.limbo) → IsSound (record m { doubt = c }) → AreRowsOf p.at.catalogue.rows kept p.tails m.rows → IsDoubtOf d c → IsReady kept m.rows m.moves c
+    → Has tells new s.store.before ⊎ InDoubt tells new p.limbo s.store.before (record m { doubt = c; faults = new.faults }) → Stands tells (record p { at = new; kept = kept; doubt = d }) (record m { doubt = c; faults = new.faults })
 doubt_stands tells p m s new kept d c same_g keeps sound rows doubt ready is_open = doubt_beside tells p m s new kept d c same_g (limbo_of_keeps tells (beside p.at p.limbo) (beside new p.limbo) keeps) (moves_kept tells p m s new same_g keeps) sound rows doubt ready is_open
 
 -- the doubt stands as it stood, since the stores couldn't settle it
 pub still_doubted : (tells : Bool) (p : Parts) (m : Machine) (new : Seen) → Stands tells p m → (IsSettled p.at → ⊥) → ((before after : Stores) → IsOpen tells p.at before after → IsOpen tells new before after) → granularities new.manifests ≡ granularities p.at.manifests → Keeps tells (beside p.at p.limbo) (beside new p.limbo) → Stands tells (record p { at = new }) (record m { faults = new.faults })
 still_doubted tells p m new s doubted still same_g shown = doubt_stands tells p m s new p.kept p.doubt m.doubt same_g shown s.sound s.rows s.doubt s.ready (by_open s.store.is_open)
   where
-    by_open : Has tells p.at s.store.before ⊎ InDoubt tells p.at s.store.before m → Has tells new s.store.before ⊎ InDoubt tells new s.store.before (record m { faults = new.faults })
+    by_open : Has tells p.at s.store.before ⊎ InDoubt tells p.at p.limbo s.store.before m → Has tells new s.store.before ⊎ InDoubt tells new p.limbo s.store.before (record m { faults = new.faults })
     by_open (inl has) = absurd (doubted has.settled)
     by_open (inr d) = elim (still s.store.before d.after (inr d.doubts)) [
       | inl has ↦ inl has
-      | inr doubts ↦ inr (record { change = d.change; is = d.is; after = d.after; doubts = doubts; stand = d.stand; grow = d.grow; holds = d.holds })
+      | inr doubts ↦ inr (record { change = d.change; is = d.is; after = d.after; doubts = doubts; stand = d.stand; go = go_beside tells p.at new p.limbo m.told m.rows m.moves s.store.before d.after d.doubts.known doubts.known same_g shown.shown d.change d.go; holds = d.holds })
     ]
 
 -- where nothing stands in doubt, the stores have what is durable
 pub rests_has : (tells : Bool) (p : Parts) (m : Machine) (r : Rests tells p m) → Has tells p.at r.stands.store.before
 rests_has tells p m r = by_open r.stands.store.is_open
   where
-    by_open : Has tells p.at r.stands.store.before ⊎ InDoubt tells p.at r.stands.store.before m → Has tells p.at r.stands.store.before
+    by_open : Has tells p.at r.stands.store.before ⊎ InDoubt tells p.at p.limbo r.stands.store.before m → Has tells p.at r.stands.store.before
     by_open (inl has) = has
     by_open (inr d) = absurd (let none = r.settled in let some = d.is in let both : ◌≡◌ {A = Option Change} None (Some d.change) = sym none ∙ some in cc (both))
 
@@ -531,7 +669,7 @@ rests_has tells p m r = by_open r.stands.store.is_open
 pub begun : (tells : Bool) (p : Parts) (m : Machine) → Stands tells p m → (before : Stores) × (after : Stores) × IsOpen tells p.at before after
 begun tells p m s = by_open s.store.is_open
   where
-    by_open : Has tells p.at s.store.before ⊎ InDoubt tells p.at s.store.before m → (before : Stores) × (after : Stores) × IsOpen tells p.at before after
+    by_open : Has tells p.at s.store.before ⊎ InDoubt tells p.at p.limbo s.store.before m → (before : Stores) × (after : Stores) × IsOpen tells p.at before after
     by_open (inl has) = (s.store.before, s.store.before, inl has)
     by_open (inr d) = (s.store.before, d.after, inr d.doubts)
 

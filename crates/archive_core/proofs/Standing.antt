@@ -9,12 +9,13 @@ use Rattle.append_buffer.specs.Tails.{TailState, tail_at}
 use Rattle.pv_catalog.specs.declared.row.Row.{Row}
 use Rattle.act_model.specs.Rows.{RowState, next_store, tier}
 use Rattle.pinned_pieces.specs.Pieces.{PinOf}
-use Rattle.act_model.specs.Machine.{Machine, PinState, Change, AddsRow, SetsState, Appends, Publishes, Unlists}
+use Rattle.act_model.specs.Machine.{Machine, MoveState, PinState, Change, AddsRow, SetsState, Appends, Publishes, Unlists}
 use Rattle.act_model.specs.Changes.{each, at, with_rows}
 use Rattle.act_model.specs.Crash.{DurableRow, kept_of}
 use Rattle.act_model.specs.Sound.{IsSound}
 use Rattle.act_model.proofs.Rows.{each_get, length-each}
 use Rattle.archive_core.specs.declared.memory.RowMemory.{RowMemory}
+use Rattle.archive_core.specs.Growing.{HasRunning}
 use Rattle.archive_core.specs.Memory.{IsRowOf}
 use Rattle.archive_core.specs.Parts.{Parts}
 use Rattle.archive_core.specs.Pins.{ArePinsOf}
@@ -23,40 +24,42 @@ use Rattle.archive_core.proofs.Lists.{get_set_other, set_same}
 use Rattle.archive_core.proofs.KeptRows.{each_to, rows_at, rows_spared}
 use Rattle.archive_core.proofs.Durable.{kept_each, kept_changed}
 use Rattle.archive_core.proofs.LimboKept.{limbo_rows, bare_each, tier_kept}
+use Rattle.archive_core.proofs.Batches.{told_stands}
 use Rattle.archive_core.proofs.Making.{count_of}
 use Rattle.archive_core.proofs.MovesKept.{SameLater, moves_left}
 use Rattle.etl_mover.specs.Move.{MoveState as Moving}
 use Rattle.running_moves.specs.declared.table.Running.{Running}
-use Rattle.three_stores.proofs.BesideMoves.{beside_itself}
 use Rattle.three_stores.proofs.LeavingNames.{nothing_leaves}
-use Rattle.archive_core.proofs.PinTies.{pins_stay, names_at}
+use Rattle.archive_core.proofs.PinTies.{KeepsNames, pins_stay, names_at}
+use Rattle.archive_core.proofs.StoresGoing.{go_named}
 use Rattle.three_stores.specs.Pinned.{beside}
 use Rattle.three_stores.specs.Change.{Has}
 use Rattle.three_stores.specs.Seen.{Seen}
 use Rattle.three_stores.specs.declared.limbo.Retired.{Retired}
 
 -- the stores are as much those of the machine
-between_rows : (tells : Bool) (at : Seen) (limbo : List Retired) (slots : List (Option (Running Moving))) (m : Machine) (g : ℕ → RowState → RowState) → ((i : ℕ) (r : RowState) → kept_of (g i r) ≡ kept_of r) → IsBetween tells at limbo slots m → IsBetween tells at limbo slots (with_rows m g)
-between_rows tells at limbo slots m g stays s = record {
+between_rows : (tells : Bool) (at : Seen) (limbo : List Retired) (slots : List (Option (Running Moving))) (m : Machine) (g : ℕ → RowState → RowState) → KeepsNames m.rows (each g 0 m.rows) → ((i : ℕ) (r : RowState) → kept_of (g i r) ≡ kept_of r) → IsBetween tells at limbo slots m → IsBetween tells at limbo slots (with_rows m g)
+between_rows tells at limbo slots m g names stays s = record {
   before = s.before;
   told = s.told;
+  disk = s.disk;
   holds = subst (λ (ds : List DurableRow). AreDurable m.told s.before ds) (sym (kept_each g 0 m.rows stays)) s.holds;
   whole = s.whole;
-  moves = moves_left tells (beside at limbo) (beside at limbo) m.told m.rows (each g 0 m.rows) m.limbo m.limbo s.before s.before refl same (count_of s.before m s.holds) (λ place row from low. beside_itself place row s.before) m.moves slots (nothing_leaves tells (beside at limbo)) s.moves;
+  moves = moves_left tells (beside at limbo) (beside at limbo) m.told m.rows (each g 0 m.rows) m.limbo m.limbo s.before refl (told_stands tells m.told s.before.stands s.told) m.moves slots same (count_of s.before m s.holds) (nothing_leaves tells (beside at limbo)) s.moves;
   is_open = by_open s.is_open;
 }
   where
-    same : SameLater m.rows (each g 0 m.rows) m.limbo m.limbo
+    same : SameLater (HasRunning m.moves) m.rows (each g 0 m.rows) m.limbo m.limbo
     same = record {
-      rows_there = λ i store row low here.
+      rows_there = λ i store row of low here.
           let from = each_get g 0 m.rows i row here in
           (from.0, from.1, ap (λ (r : RowState). tier r (next_store store)) from.2 ∙ tier_kept (g (0 + i) from.0) from.0 (next_store store) (stays (0 + i) from.0));
-      limbo_there = λ i store. refl;
+      limbo_there = λ i store of. refl;
     }
 
-    by_open : Has tells at s.before ⊎ InDoubt tells at s.before m → Has tells at s.before ⊎ InDoubt tells at s.before (with_rows m g)
+    by_open : Has tells at s.before ⊎ InDoubt tells at limbo s.before m → Has tells at s.before ⊎ InDoubt tells at limbo s.before (with_rows m g)
     by_open (inl has) = inl has
-    by_open (inr d) = inr (record { change = d.change; is = d.is; after = d.after; doubts = d.doubts; stand = d.stand; grow = d.grow; holds = subst (λ (ds : List DurableRow). AreDurable m.told d.after ds) (sym (kept_changed m g d.change stays)) d.holds })
+    by_open (inr d) = inr (record { change = d.change; is = d.is; after = d.after; doubts = d.doubts; stand = d.stand; go = go_named tells at limbo m.told m.rows (each g 0 m.rows) m.moves s.before d.after names d.change d.go; holds = subst (λ (ds : List DurableRow). AreDurable m.told d.after ds) (sym (kept_changed m g d.change stays)) d.holds })
 
 at_stays : (k : ℕ) (f : RowState → RowState) → ((r : RowState) → kept_of (f r) ≡ kept_of r) → (i : ℕ) (r : RowState) → kept_of (at k f i r) ≡ kept_of r
 at_stays k f stays i r = by_test (i == k) refl
@@ -65,16 +68,16 @@ at_stays k f stays i r = by_test (i == k) refl
     by_test true is = rw is (stays r)
     by_test false is = rw is refl
 
-still_ready : (kept : List RowMemory) (rows : List RowState) (i : ℕ) (f : RowState → RowState) (memory : RowMemory) → i < length rows → ((r : RowState) → kept_of (f r) ≡ kept_of r) → (d : Option Change) → IsReady kept rows d → IsReady (slice_set kept i memory) (each (at i f) 0 rows) d
-still_ready kept rows i f memory low stays None ready = tt
-still_ready kept rows i f memory low stays (Some (AddsRow name about)) ready =
+still_ready : (kept : List RowMemory) (rows : List RowState) (i : ℕ) (f : RowState → RowState) (memory : RowMemory) → i < length rows → ((r : RowState) → kept_of (f r) ≡ kept_of r) → (moves : FinMap nat_cmp MoveState) (d : Option Change) → IsReady kept rows moves d → IsReady (slice_set kept i memory) (each (at i f) 0 rows) moves d
+still_ready kept rows i f memory low stays moves None ready = tt
+still_ready kept rows i f memory low stays moves (Some (AddsRow name about)) ready =
     ap (slice_get (slice_set kept i memory)) (length-each (at i f) 0 rows) ∙ (get_set_other kept i (length rows) memory (λ same. omega (arith, low, same)) ∙ ready)
-still_ready kept rows i f memory low stays (Some (SetsState k state)) ready =
+still_ready kept rows i f memory low stays moves (Some (SetsState k state)) ready =
     let same : (at i f (0 + k) ready.0).state ≡ ready.0.state = ap (λ (d : DurableRow). d.state) (at_stays i f stays (0 + k) ready.0) in
     (at i f (0 + k) ready.0, each_to (at i f) 0 rows k ready.0 ready.1, λ is. ready.2 (sym same ∙ is))
-still_ready kept rows i f memory low stays (Some (Appends batch)) ready = subst (λ (n : ℕ). AllByRecursion (IsPartOf n) batch) (sym (length-each (at i f) 0 rows)) ready
-still_ready kept rows i f memory low stays (Some (Publishes k store copied)) ready = ready
-still_ready kept rows i f memory low stays (Some (Unlists k store to)) ready = ready
+still_ready kept rows i f memory low stays moves (Some (Appends batch)) ready = subst (λ (n : ℕ). AllByRecursion (IsPartOf n) batch) (sym (length-each (at i f) 0 rows)) ready
+still_ready kept rows i f memory low stays moves (Some (Publishes k store copied)) ready = ready
+still_ready kept rows i f memory low stays moves (Some (Unlists k store to)) ready = ready
 
 -- one row changes, with what is kept of it and its tail
 pub row_stands : (tells : Bool) (p : Parts) (m : Machine) → Stands tells p m → (i : ℕ) (f : RowState → RowState) (memory : RowMemory) (new : List TailState) (row : Row) (r : RowState)
@@ -90,8 +93,8 @@ row_stands tells p m s i f memory new row r here there is others stays sound = r
   doors = s.doors;
   rows = rows_at p.at.catalogue.rows p.kept p.tails new m.rows s.rows i f memory row r here there is others;
   doubt = s.doubt;
-  ready = still_ready p.kept m.rows i f memory (slice_get_within m.rows i r there) stays m.doubt s.ready;
-  store = between_rows tells p.at p.limbo p.slots m (at i f) (at_stays i f stays) s.store;
+  ready = still_ready p.kept m.rows i f memory (slice_get_within m.rows i r there) stays m.moves m.doubt s.ready;
+  store = between_rows tells p.at p.limbo p.slots m (at i f) (names_at i f m.rows stays) (at_stays i f stays) s.store;
 }
 
 -- spares change
@@ -130,12 +133,12 @@ doors_stand tells p m doors d same s = record {
   rows = s.rows;
   doubt = s.doubt;
   ready = s.ready;
-  store = record { before = s.store.before; told = s.store.told; holds = s.store.holds; whole = s.store.whole; moves = s.store.moves; is_open = by_open s.store.is_open };
+  store = record { before = s.store.before; told = s.store.told; disk = s.store.disk; holds = s.store.holds; whole = s.store.whole; moves = s.store.moves; is_open = by_open s.store.is_open };
 }
   where
-    by_open : Has tells p.at s.store.before ⊎ InDoubt tells p.at s.store.before m → Has tells p.at s.store.before ⊎ InDoubt tells p.at s.store.before (record m { doors = d })
+    by_open : Has tells p.at s.store.before ⊎ InDoubt tells p.at p.limbo s.store.before m → Has tells p.at s.store.before ⊎ InDoubt tells p.at p.limbo s.store.before (record m { doors = d })
     by_open (inl has) = inl has
-    by_open (inr f) = inr (record { change = f.change; is = f.is; after = f.after; doubts = f.doubts; stand = f.stand; grow = f.grow; holds = f.holds })
+    by_open (inr f) = inr (record { change = f.change; is = f.is; after = f.after; doubts = f.doubts; stand = f.stand; go = f.go; holds = f.holds })
 
 -- and so they are of one with other pins
 pub pins_stand : (tells : Bool) (p : Parts) (m : Machine) (pins : FinMap nat_cmp PinState) (pinned : FinMap nat_cmp PinOf) → ArePinsOf tells (beside p.at p.limbo) m.told m.rows pins pinned → IsSound (record m { pins = pins }) → Stands tells p m → Stands tells (record p { pinned = pinned }) (record m { pins = pins })
@@ -150,9 +153,9 @@ pins_stand tells p m pins pinned are sound s = record {
   rows = s.rows;
   doubt = s.doubt;
   ready = s.ready;
-  store = record { before = s.store.before; told = s.store.told; holds = s.store.holds; whole = s.store.whole; moves = s.store.moves; is_open = by_open s.store.is_open };
+  store = record { before = s.store.before; told = s.store.told; disk = s.store.disk; holds = s.store.holds; whole = s.store.whole; moves = s.store.moves; is_open = by_open s.store.is_open };
 }
   where
-    by_open : Has tells p.at s.store.before ⊎ InDoubt tells p.at s.store.before m → Has tells p.at s.store.before ⊎ InDoubt tells p.at s.store.before (record m { pins = pins })
+    by_open : Has tells p.at s.store.before ⊎ InDoubt tells p.at p.limbo s.store.before m → Has tells p.at s.store.before ⊎ InDoubt tells p.at p.limbo s.store.before (record m { pins = pins })
     by_open (inl has) = inl has
-    by_open (inr f) = inr (record { change = f.change; is = f.is; after = f.after; doubts = f.doubts; stand = f.stand; grow = f.grow; holds = f.holds })
+    by_open (inr f) = inr (record { change = f.change; is = f.is; after = f.after; doubts = f.doubts; stand = f.stand; go = f.go; holds = f.holds })

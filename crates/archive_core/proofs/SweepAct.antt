@@ -1,7 +1,6 @@
 -- The act that sweeps: how it ends, and what a crash within it leaves.
-use Rattle.std.proofs.Common.{◌≡◌, ◌⊎◌, inl, inr, ℕ, ◌+◌, ◌≤◌, List, [], ◌∷◌, length, Bool, true, false, Option, Some, None, Result, Ok, Err, refl, sym, ◌∙◌, ap, subst, arith}
+use Rattle.std.proofs.Common.{◌≡◌, ◌⊎◌, inl, inr, ℕ, ◌≤◌, List, [], ◌∷◌, length, Bool, true, false, Some, None, Result, Ok, Err, refl, sym, ◌∙◌, ap, subst, arith}
 use Rattle.std.specs.FinMap.{FinMap}
-use Rattle.std.specs.List.{list_any}
 use Rattle.std.specs.Ordering.{nat_cmp}
 use Rattle.std.specs.Prelude.{◌↔◌, Contains, IfOk, IsTrue, OnErr, filter, not, slice_get}
 use Rattle.disk_model.specs.Files.{Name, Rose}
@@ -9,21 +8,18 @@ use Rattle.disk_model.specs.Past.{Passes}
 use Rattle.disk_model.specs.declared.disk.DiskErr.{DiskErr}
 use Rattle.disk_model.specs.declared.disk.DiskErr.TheVariants.{Fault, Memory}
 use Rattle.disk_model.proofs.Passing.{passes_then, passes_weaker}
-use Rattle.etl_mover.specs.Move.{MoveState as Moving}
 use Rattle.partition_names.specs.declared.granularity.Granularity.{Granularity}
 use Rattle.pinned_pieces.specs.Pieces.{PinOf}
 use Rattle.pv_catalog.specs.Catalogue.{CatalogueState}
 use Rattle.pv_catalog.specs.Rows.{KeepsRows}
-use Rattle.running_moves.specs.declared.table.Running.{Running}
-use Rattle.series_model.specs.declared.sample.Sample.{Sample}
-use Rattle.tier_store.specs.Ends.{Done, end_of_disk, IsFailed}
+use Rattle.tier_store.specs.Ends.{end_of_disk, IsFailed}
 use Rattle.tier_store.proofs.Acting.{rose_after}
 use Rattle.three_stores.specs.Change.{Acts as StoreActs, EndsFrom, Has, HoldsChange, IsEither, OnlyReads}
 use Rattle.three_stores.specs.Limbo.{IsListedName, IsNeeded, IsSwept as IsSweptOf, LeavesKept, LimboStands, staying}
 use Rattle.three_stores.specs.Moving.{LeavesLater, LeavesNames}
 use Rattle.three_stores.specs.Pinned.{SeenAll, beside, KeepsShown}
 use Rattle.three_stores.specs.Revival.{KeepsWhole}
-use Rattle.three_stores.specs.Seen.{Seen, IsSettled, granularities}
+use Rattle.three_stores.specs.Seen.{IsSettled, granularities}
 use Rattle.three_stores.specs.Stored.{HoldsAll}
 use Rattle.three_stores.specs.Stores.{Stores}
 use Rattle.three_stores.specs.declared.limbo.Retired.{Retired}
@@ -47,12 +43,15 @@ use Rattle.archive_core.specs.Parts.{Parts}
 use Rattle.archive_core.specs.Pins.{ArePinsOf}
 use Rattle.archive_core.specs.Stands.{Stands, Rests}
 use Rattle.archive_core.specs.Sweeping.{sweep_reply}
+use Rattle.archive_core.specs.Written.{AreWritten}
 use Rattle.archive_core.proofs.Acting.{crash_settling}
 use Rattle.archive_core.proofs.Changing.{rests_again, stands_so}
 use Rattle.archive_core.proofs.Growth.{rows_go_on, same_grow, stays_listed}
 use Rattle.archive_core.proofs.LimboSwept.{just, left_is, stay_differ, stays, swept_count, swept_ties}
 use Rattle.archive_core.proofs.LimboTying.{KeepsFiles, ListsSame}
-use Rattle.archive_core.proofs.MovesKept.{moves_fresh}
+use Rattle.archive_core.proofs.Batches.{told_stands}
+use Rattle.archive_core.proofs.MovesKept.{goes_still, moves_stay}
+use Rattle.archive_core.proofs.SweptMoves.{copied_named, names_left, swept_put}
 use Rattle.archive_core.proofs.Opens.{undoubted}
 use Rattle.archive_core.proofs.PinTies.{names_stay}
 use Rattle.archive_core.proofs.PinsSwept.{pinned_stay}
@@ -66,7 +65,7 @@ pub record StoresSwept (tells : Bool) (copied : List Name) (q new : Parts) (resu
   pub swept : IfOk result (λ (s : Swept). IsSweptOf new.at q.pinned copied q.limbo new.limbo s.files)
   pub failed : OnErr result ((new.limbo ≡ q.limbo) × KeepsShown tells (beside q.at q.limbo) (beside new.at q.limbo) × LeavesLater tells (beside q.at q.limbo) (beside new.at q.limbo))
   pub leaves : LeavesKept tells q.pinned copied (beside q.at q.limbo) (beside new.at new.limbo)
-  pub left : LeavesNames [] tells (beside q.at q.limbo) (beside new.at new.limbo)
+  pub left : LeavesNames copied tells (beside q.at q.limbo) (beside new.at new.limbo)
   pub whole : KeepsWhole tells (beside q.at q.limbo) (beside new.at new.limbo)
   pub stands : LimboStands new.at new.limbo
   pub pins : new.pinned ≡ q.pinned
@@ -75,17 +74,6 @@ pub record StoresSwept (tells : Bool) (copied : List Name) (q new : Parts) (resu
 -- these are just the files that running moves have copied into
 abbrev pub AreCopied : List Name → Machine → Type 0
 AreCopied copied m = (f : FileState) (row : RowState) → Contains m.limbo f → slice_get m.rows f.row ≡ Some row → Contains copied (name_of row f) ↔ IsCopiedInto m f
-
--- of moves that have copied nothing there are none
-pub none_copied : (copied : List Name) (m : Machine) (tells : Bool) (all : SeenAll) (before : Stores) (slots : List (Option (Running Moving))) → copied ≡ [] → AreMovesOf tells all m.told m.rows m.limbo before m.moves slots → AreCopied copied m
-none_copied copied m tells all before slots none are = λ f row there here. (
-  λ names. absurd (let within = subst (λ (l : List Name). Contains l (name_of row f)) none names in omega (arith, within.1)),
-  λ is. absurd (
-      let fresh = (are.each is.number is.move is.here).is.nothing.1 in
-      let some : ◌≡◌ {A = Bool} false true = ap (list_any (λ (s : Sample). holds f.part s.t)) (sym fresh) ∙ is.some in
-      cc (some)
-      ),
-)
 
 module _ (tells : Bool) (copied : List Name) (q new : Parts) (result : Result Swept DiskErr) (s : StoresSwept tells copied q new result) (same : new ≡ record q { at = new.at; limbo = new.limbo; pinned = new.pinned }) (m : Machine) (r : Rests tells q m) where
   abbrev held : Stores
@@ -124,7 +112,10 @@ module _ (tells : Bool) (copied : List Name) (q new : Parts) (result : Result Sw
       own from (inl is) = is
       own from (inr is) = is
 
-module _ (tells : Bool) (copied : List Name) (q new : Parts) (said : Swept) (s : StoresSwept tells copied q new (Ok said)) (same : new ≡ record q { at = new.at; limbo = new.limbo; pinned = new.pinned }) (m : Machine) (r : Rests tells q m) (copied_is : AreCopied copied m) where
+module _ (tells : Bool) (copied : List Name) (q new : Parts) (said : Swept) (s : StoresSwept tells copied q new (Ok said)) (same : new ≡ record q { at = new.at; limbo = new.limbo; pinned = new.pinned }) (m : Machine) (r : Rests tells q m) (written : AreWritten q.at.catalogue.rows q.slots copied) where
+  copied_is : AreCopied copied m
+  copied_is = copied_named tells q m r copied written
+
   abbrev before : Stores
   before = r.stands.store.before
 
@@ -147,10 +138,10 @@ module _ (tells : Bool) (copied : List Name) (q new : Parts) (said : Swept) (s :
   swept = s.swept
 
   variables : KeepsRows q.at.catalogue.rows new.at.catalogue.rows
-  variables = rows_go_on q.at new.at before before was.known now.known (same_grow before)
+  variables = rows_go_on q.at new.at before before was.known now.known (same_grow m.moves before)
 
   lists : ListsSame q.at new.at q.limbo
-  lists = λ file there. (λ listed. stays_listed new.at q.at before before file.name now.known was.known (same_grow before) listed, λ listed. stays_listed q.at new.at before before file.name was.known now.known (same_grow before) listed)
+  lists = λ file there. (λ listed. stays_listed new.at q.at before before file.name now.known was.known (same_grow m.moves before) listed, λ listed. stays_listed q.at new.at before before file.name was.known now.known (same_grow m.moves before) listed)
 
   -- no two files left in limbo have one name
   left_apart : NamesDiffer (λ (file : Retired). file.name) new.limbo
@@ -235,6 +226,15 @@ module _ (tells : Bool) (copied : List Name) (q new : Parts) (said : Swept) (s :
   pub sweeps : Sweeps m (answer.Swept files) swept_machine
   sweeps = record { stays = left.stays; just = left.just; files = files; number = left.number; answered = refl; same = refl }
 
+  -- what running moves have written stays
+  moves_then : AreMovesOf tells new_all m.told m.rows (filter left.stays m.limbo) before m.moves q.slots
+  moves_then =
+      let stands_now = told_stands tells m.told before.stands r.stands.store.told in
+      moves_stay tells old_all new_all m.told m.rows m.rows m.limbo (filter left.stays m.limbo) before before s.acts.costs.granularity stands_now m.moves q.slots
+      (λ n move running here there is. goes_still tells old_all new_all m.told m.rows m.rows m.limbo (filter left.stays m.limbo) before s.acts.costs.granularity stands_now move running is.files
+      (λ on copying. swept_put m left.stays n move here left.just) (names_left tells q m r copied written new_all s.left n move running there is))
+      r.stands.store.moves
+
   pub swept_stands : Stands tells new swept_machine
   swept_stands = subst (λ (p : Parts). Stands tells p swept_machine) (sym same) (record {
     sound = sweep_sound m swept_machine (answer.Swept files) r.stands.sound (runs (answer.Swept files) refl (no_doubt r.settled) refl sweeps (let same_faults : m.faults ≡ q.at.faults = r.stands.faults in let more = s.acts.costs.faults in omega (arith, same_faults, more)));
@@ -247,7 +247,7 @@ module _ (tells : Bool) (copied : List Name) (q new : Parts) (said : Swept) (s :
     rows = subst (λ (c : CatalogueState). AreRowsOf c.rows q.kept q.tails m.rows) (sym (s.nothing was.settled).0) r.stands.rows;
     doubt = r.stands.doubt;
     ready = r.stands.ready;
-    store = record { before = before; told = r.stands.store.told; holds = r.stands.store.holds; whole = s.whole 0 before.stands r.stands.store.whole.0 (omega arith) r.stands.store.whole.1; moves = moves_fresh tells old_all new_all m.told m.rows m.limbo (filter left.stays m.limbo) before m.moves q.slots s.acts.costs.granularity s.left r.stands.store.moves; is_open = inl now };
+    store = record { before = before; told = r.stands.store.told; disk = r.stands.store.disk; holds = r.stands.store.holds; whole = λ i low. (let limbo_was = r.stands.store.whole i low in s.whole i before.stands limbo_was.0 low limbo_was.1); moves = moves_then; is_open = inl now };
   })
 
 -- THE ACT
@@ -279,17 +279,24 @@ module _ (tells : Bool) (p : Parts) where
       let more = reads.faults in
       (record m { faults = q.at.faults }, wants_memory refl (omega (arith, was, more)), still m s)
 
-  module _ (q : Parts) (settles : SettlesTo tells p q) (more : p.at.faults ≤ q.at.faults) (new : Parts) (copied : List Name) (same : new ≡ record q { at = new.at; limbo = new.limbo; pinned = new.pinned }) (copied_is : (m : Machine) → Rests tells q m → AreCopied copied m) where
+  -- there was no memory for the names
+  pub sweep_unnamed : (q : Parts) → SettlesTo tells p q → p.at.faults ≤ q.at.faults → SweepEnds answer.Memory q
+  sweep_unnamed q settles more = λ m s.
+      let mid = settles m s in
+      let was : m.faults ≡ p.at.faults = s.faults in
+      (record mid.0 { faults = q.at.faults }, wants_memory_settled refl mid.1 refl (omega (arith, was, more)), mid.2.stands)
+
+  module _ (q : Parts) (settles : SettlesTo tells p q) (more : p.at.faults ≤ q.at.faults) (new : Parts) (copied : List Name) (same : new ≡ record q { at = new.at; limbo = new.limbo; pinned = new.pinned }) (written : AreWritten q.at.catalogue.rows q.slots copied) where
     pub sweep_ends : (result : Result Swept DiskErr) → StoresSwept tells copied q new result → SweepEnds (sweep_reply result) new
     sweep_ends (Ok said) swept = λ m s.
         let mid = settles m s in
         let n : Machine = record mid.0 { faults = q.at.faults } in
         let was : m.faults ≡ p.at.faults = s.faults in
         let later = swept.acts.costs.faults in
-        let own = left tells copied q new said swept same n mid.2 (copied_is n mid.2) in
-        let after = swept_machine tells copied q new said swept same n mid.2 (copied_is n mid.2) in
+        let own = left tells copied q new said swept same n mid.2 written in
+        let after = swept_machine tells copied q new said swept same n mid.2 written in
         let ran : Sweeps mid.0 (answer.Swept said.files) after = record { stays = own.stays; just = swept_goes mid.0 q.at.faults own.stays mid.0.limbo own.just; files = said.files; number = own.number; answered = refl; same = refl } in
-        (after, runs (answer.Swept said.files) refl mid.1 refl ran (omega (arith, was, more, later)), swept_stands tells copied q new said swept same n mid.2 (copied_is n mid.2))
+        (after, runs (answer.Swept said.files) refl mid.1 refl ran (omega (arith, was, more, later)), swept_stands tells copied q new said swept same n mid.2 written)
     sweep_ends (Err Fault) swept = λ m s.
         let mid = settles m s in
         let n : Machine = record mid.0 { faults = q.at.faults } in

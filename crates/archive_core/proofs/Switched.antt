@@ -121,11 +121,11 @@ module _ (tells : Bool) (p : Parts) (m : Machine) (r : Rests tells p m) (i : ℕ
   stand : (after : Stores) → (switching switch i).by r.stands.store.before after → after.stands ≡ r.stands.store.before.stands
   stand after by = ap (λ (s : Stores). s.stands) (switches_by switch i r.stands.store.before after by).1
 
-  grow : (after : Stores) → (switching switch i).by r.stands.store.before after → StoresGrow r.stands.store.before after
-  grow after by = switch_grows p.at i (from_of switch) (to_of switch) r.stands.store.before after (rests_has tells p m r).known (switches_by switch i r.stands.store.before after by)
+  grow : (after : Stores) → (switching switch i).by r.stands.store.before after → StoresGrow m.moves r.stands.store.before after
+  grow after by = switch_grows m.moves p.at i (from_of switch) (to_of switch) r.stands.store.before after (rests_has tells p m r).known (switches_by switch i r.stands.store.before after by)
 
   -- with the change in doubt
-  doubting : (new : Seen) → granularities new.manifests ≡ granularities p.at.manifests → Keeps tells (beside p.at p.limbo) (beside new p.limbo) → Has tells new r.stands.store.before ⊎ InDoubt tells new r.stands.store.before (record m { doubt = Some change; faults = new.faults })
+  doubting : (new : Seen) → granularities new.manifests ≡ granularities p.at.manifests → Keeps tells (beside p.at p.limbo) (beside new p.limbo) → Has tells new r.stands.store.before ⊎ InDoubt tells new p.limbo r.stands.store.before (record m { doubt = Some change; faults = new.faults })
       → Stands tells (record p { at = new; doubt = Some (kind.State i (to_of switch)) }) (record m { doubt = Some change; faults = new.faults })
   doubting new same_g shown is_open =
       let s = r.stands in

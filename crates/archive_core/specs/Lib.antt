@@ -13,4 +13,9 @@ pub mod Sweeping
 pub mod LimboTies
 pub mod MoveChoice
 pub mod MoveTies
+pub mod Written
+pub mod Growing
 pub mod Moving
+pub mod Taking
+pub mod Stepping
+pub mod Retiring

@@ -5,9 +5,9 @@ use Rattle.std.specs.Ordering.{nat_cmp}
 use Rattle.std.specs.Prelude.{ℕ, List, Option}
 use Rattle.disk_model.specs.declared.disk.Disk.{Ghosts}
 use Rattle.append_buffer.specs.Tails.{TailState}
-use Rattle.etl_mover.specs.Move.{MoveState}
 use Rattle.etl_rules.specs.Config.{ConfigState}
 use Rattle.pinned_pieces.specs.Pieces.{PinOf}
+use Rattle.etl_mover.specs.Move.{MoveState as Moving}
 use Rattle.running_moves.specs.declared.table.Running.{Running}
 use Rattle.three_stores.specs.Seen.{Seen, seen}
 use Rattle.three_stores.specs.declared.limbo.Retired.{Retired}
@@ -24,7 +24,7 @@ pub record Parts : Type 1 where
   pub doubt : Option Doubt
   pub doors : ℕ
   pub config : ConfigState
-  pub slots : List (Option (Running MoveState))
+  pub slots : List (Option (Running Moving))
 
 -- an archive, by the members of its disk's type
 abbrev pub parts : {D R : Type 0} → Ghosts D R → Archive D R → Parts

@@ -1,27 +1,32 @@
 -- The machine that an archive stands for. Its memory has the machine's rows, tails and cells, and its stores have the machine's durable
 -- part, or are in doubt between that and what the doubted change makes of it.
+use Rattle.std.specs.FinMap.{FinMap}
 use Rattle.std.specs.List.{AllByRecursion}
-use Rattle.std.specs.Prelude.{◌≡◌, ◌≢◌, ◌⊎◌, ◌<◌, ◌≤◌, ℕ, List, [], length, Bool, true, false, ◌&&◌, Option, Some, None, Ok, slice_get}
+use Rattle.std.specs.Ordering.{nat_cmp}
+use Rattle.std.specs.Prelude.{◌≡◌, ◌≢◌, ◌⊎◌, ◌<◌, ◌≤◌, ℕ, List, [], length, Bool, true, false, ◌&&◌, IsTrue, Option, Some, None, Ok, slice_get}
 use Rattle.disk_model.specs.Files.{Name}
 use Rattle.etl_rules.specs.Config.{ConfigState}
-use Rattle.etl_mover.specs.Move.{MoveState}
 use Rattle.payload_info.specs.Info.{info_of}
 use Rattle.payload_info.specs.declared.info.PayloadInfo.{PayloadInfo}
 use Rattle.pv_catalog.specs.Rows.{KeepsRows}
 use Rattle.pv_catalog.specs.declared.row.Row.{Row}
+use Rattle.etl_mover.specs.Move.{MoveState as Moving}
 use Rattle.running_moves.specs.declared.table.Running.{Running}
+use Rattle.series_model.specs.Series.{end_of}
 use Rattle.series_model.specs.declared.batch.RowSamples.{RowSamples}
+use Rattle.series_model.specs.declared.sample.Sample.{Sample}
 use Rattle.tier_store.specs.Held.{Filed, IsListedTo, listing_of, samples_of}
+use Rattle.tier_store.specs.Plan.{of_row}
 use Rattle.three_stores.specs.Beginning.{AllNested}
 use Rattle.three_stores.specs.Moving.{GoesBeside}
-use Rattle.three_stores.specs.Stores.{Stores, tier}
+use Rattle.three_stores.specs.Stores.{Stores, list_at, samples_in, tier}
 use Rattle.three_stores.specs.Seen.{Seen, granularities}
 use Rattle.three_stores.specs.Change.{Has, Doubts}
-use Rattle.three_stores.specs.Pinned.{beside}
+use Rattle.three_stores.specs.Pinned.{SeenAll, beside}
 use Rattle.three_stores.specs.Revival.{AreWhole}
 use Rattle.three_stores.specs.declared.limbo.Retired.{Retired}
-use Rattle.act_model.specs.Rows.{RowState, is_empty}
-use Rattle.act_model.specs.Machine.{Machine, Change, AddsRow, SetsState, Appends, Publishes, Unlists}
+use Rattle.act_model.specs.Rows.{RowState, Store, is_empty}
+use Rattle.act_model.specs.Machine.{Machine, MoveState, Change, AddsRow, SetsState, Appends, Publishes, Unlists}
 use Rattle.act_model.specs.Changes.{made}
 use Rattle.act_model.specs.Crash.{DurableRow, kept}
 use Rattle.act_model.specs.Rule.{Rule}
@@ -29,11 +34,13 @@ use Rattle.act_model.specs.Sound.{IsSound}
 use Rattle.archive_core.specs.declared.memory.RowMemory.{RowMemory}
 use Rattle.archive_core.specs.declared.memory.Doubt.{Doubt}
 use Rattle.archive_core.specs.declared.memory.Doubt.TheVariants as doubt
+use Rattle.archive_core.specs.Growing.{FilesGoOn, HasRunning}
 use Rattle.archive_core.specs.LimboTies.{IsLimboOf}
 use Rattle.archive_core.specs.Memory.{AreRowsOf, fresh_memory}
 use Rattle.archive_core.specs.MoveTies.{AreMovesOf}
 use Rattle.archive_core.specs.Parts.{Parts}
 use Rattle.archive_core.specs.Pins.{ArePinsOf}
+use Rattle.archive_core.specs.Retiring.{IsRetiring}
 
 -- WHAT STORES HOLD OF A MACHINE
 
@@ -63,57 +70,75 @@ HoldsDurable s m = AreDurable m.told s (kept m)
 
 -- THE DOUBT
 
--- what the archive keeps of a doubted change tells which change it is
+-- What the archive keeps of a doubted change tells which change it is. Of a retirement it keeps nothing, since nothing is to be done in memory
+-- once that turns out to be made.
 abbrev pub IsDoubtOf : Option Doubt → Option Change → Type 0
 IsDoubtOf None None = Unit {0}
-IsDoubtOf None (Some change) = ⊥
+IsDoubtOf None (Some (AddsRow name about)) = ⊥
+IsDoubtOf None (Some (SetsState row to)) = ⊥
+IsDoubtOf None (Some (Appends batch)) = ⊥
+IsDoubtOf None (Some (Publishes row store copied)) = ⊥
+IsDoubtOf None (Some (Unlists row store to)) = Unit {0}
 IsDoubtOf (Some kept) None = ⊥
 IsDoubtOf (Some doubt.Row) (Some change) = (name : List ℕ) × (about : _) × (change ≡ AddsRow name about)
 IsDoubtOf (Some (doubt.State row to)) (Some change) = change ≡ SetsState row to
 IsDoubtOf (Some (doubt.Flush batch)) (Some change) = change ≡ Appends batch
+IsDoubtOf (Some doubt.Published) (Some change) = (row : ℕ) × (store : Store) × (copied : List Sample) × (change ≡ Publishes row store copied)
 
 -- a part of a batch is of one of so many rows, and has samples
 pub record IsPartOf (count : ℕ) (part : RowSamples) : Type 0 where
   pub here : part.row < count
   pub some : is_empty part.samples ≡ false
 
--- A doubted row's memory is there already. A doubted state is another than the row has. A doubted batch is of rows that are there.
-abbrev pub IsReady : List RowMemory → List RowState → Option Change → Type 0
-IsReady kept rows None = Unit {0}
-IsReady kept rows (Some (AddsRow name about)) = slice_get kept (length rows) ≡ Some (fresh_memory about)
-IsReady kept rows (Some (SetsState i state)) = (r : RowState) × (slice_get rows i ≡ Some r) × (r.state ≢ state)
-IsReady kept rows (Some (Appends batch)) = AllByRecursion (IsPartOf (length rows)) batch
-IsReady kept rows (Some (Publishes i store copied)) = ⊥
-IsReady kept rows (Some (Unlists i store to)) = ⊥
+-- A doubted row's memory is there already. A doubted state is another than the row has. A doubted batch is of rows that are there. Of a row whose
+-- doubted copies may be listed, or whose doubted parts may have left, no move runs.
+abbrev pub IsReady : List RowMemory → List RowState → FinMap nat_cmp MoveState → Option Change → Type 0
+IsReady kept rows moves None = Unit {0}
+IsReady kept rows moves (Some (AddsRow name about)) = slice_get kept (length rows) ≡ Some (fresh_memory about)
+IsReady kept rows moves (Some (SetsState i state)) = (r : RowState) × (slice_get rows i ≡ Some r) × (r.state ≢ state)
+IsReady kept rows moves (Some (Appends batch)) = AllByRecursion (IsPartOf (length rows)) batch
+IsReady kept rows moves (Some (Publishes i store copied)) = HasRunning moves i → ⊥
+IsReady kept rows moves (Some (Unlists i store to)) = HasRunning moves i → ⊥
 
 -- THE ARCHIVE
 
--- rows stand for the same variables, each file that a store lists is listed still, and what moves stand beside goes on as they want it
-pub record StoresGrow (before after : Stores) : Type 0 where
+-- Rows stand for the same variables, each file that a store lists is listed still, and what moves stand beside goes on as they want it: what
+-- their destination lists of their row stays, and their source lists what it did, and later samples behind all that is held of the row.
+pub record StoresGrow (moves : FinMap nat_cmp MoveState) (before after : Stores) : Type 0 where
   pub rows : KeepsRows before.rows after.rows
   pub lists : (place : ℕ) (name : Name) → place < 3 → IsListedTo (listing_of (tier place before)) name 0 → IsListedTo (listing_of (tier place after)) name 0
-  pub beside : (place row : ℕ) → 1 ≤ place → place < 3 → GoesBeside place row before after
+  pub beside : (place row : ℕ) → HasRunning moves row → 1 ≤ place → place < 3 → GoesBeside place row before after
+  pub sources : (place row : ℕ) → HasRunning moves row → place < 3 → FilesGoOn before.stands (end_of (samples_in row before)) (of_row row (list_at place before)) (of_row row (list_at place after))
+
+-- So it is once a change is made, but for a retirement, which takes files from a list: each of these is in limbo.
+abbrev pub StoresGo : Bool → SeenAll → Bool → List RowState → FinMap nat_cmp MoveState → Stores → Stores → Change → Type 0
+StoresGo tells all told rows moves before after (AddsRow name about) = StoresGrow moves before after
+StoresGo tells all told rows moves before after (SetsState row to) = StoresGrow moves before after
+StoresGo tells all told rows moves before after (Appends batch) = StoresGrow moves before after
+StoresGo tells all told rows moves before after (Publishes row store copied) = StoresGrow moves before after
+StoresGo tells all told rows moves before after (Unlists row store to) = IsRetiring tells all told rows before after row store to
 
 -- A change of the stores stands in doubt, and it is the one that the machine doubts: once it is made they have what is durable of the
 -- machine with the change made.
-pub record InDoubt (tells : Bool) (at : Seen) (before : Stores) (m : Machine) : Type 0 where
+pub record InDoubt (tells : Bool) (at : Seen) (limbo : List Retired) (before : Stores) (m : Machine) : Type 0 where
   pub change : Change
   pub is : m.doubt ≡ Some change
   pub after : Stores
   pub doubts : Doubts tells at before after
   pub stand : after.stands ≡ before.stands
-  pub grow : StoresGrow before after
+  pub go : StoresGo tells (beside at limbo) m.told m.rows m.moves before after change
   pub holds : HoldsDurable after (made [] change m)
 
--- The stores have what is durable of the machine, or are in doubt whether they have it with the doubted change. The files in limbo of store 1
--- are whole beside them, so that a flush may go on in one, and the moves run beside them that run in the machine.
-pub record IsBetween (tells : Bool) (at : Seen) (limbo : List Retired) (slots : List (Option (Running MoveState))) (m : Machine) : Type 0 where
+-- The stores have what is durable of the machine, or are in doubt whether they have it with the doubted change. The files in limbo of each
+-- store are whole beside them, so that a flush or a copy may go on in one, and the moves run beside them that run in the machine.
+pub record IsBetween (tells : Bool) (at : Seen) (limbo : List Retired) (slots : List (Option (Running Moving))) (m : Machine) : Type 0 where
   pub before : Stores
   pub told : m.told ≡ (tells && before.stands)
+  pub disk : IsTrue before.stands → IsTrue tells
   pub holds : HoldsDurable before m
-  pub whole : (files : List Filed) × AreWhole 0 tells at limbo before.stands files
+  pub whole : (i : ℕ) → i < 3 → (files : List Filed) × AreWhole i tells at limbo before.stands files
   pub moves : AreMovesOf tells (beside at limbo) m.told m.rows m.limbo before m.moves slots
-  pub is_open : Has tells at before ⊎ InDoubt tells at before m
+  pub is_open : Has tells at before ⊎ InDoubt tells at limbo before m
 
 -- the rule tells each header by its type and its year
 abbrev pub TellsHeaders : Rule → Type 0
@@ -141,7 +166,7 @@ pub record Stands (tells : Bool) (p : Parts) (m : Machine) : Type 0 where
   pub doors : m.doors ≡ p.doors
   pub rows : AreRowsOf p.at.catalogue.rows p.kept p.tails m.rows
   pub doubt : IsDoubtOf p.doubt m.doubt
-  pub ready : IsReady p.kept m.rows m.doubt
+  pub ready : IsReady p.kept m.rows m.moves m.doubt
   pub store : IsBetween tells p.at p.limbo p.slots m
 
 -- nothing stands in doubt, so the stores have what is durable of the machine

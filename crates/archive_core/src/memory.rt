@@ -12,7 +12,8 @@ pub struct RowMemory {
     pub scan: Option<Scan>,
 }
 
-/// The change that a failed write may have made: what is to be done in memory where it turns out to be made.
+/// The change that a failed write may have made: what is to be done in memory where it turns out to be made. Of a retirement nothing is kept,
+/// since nothing is to be done there.
 #[derive(Drop)]
 pub enum Doubt {
     /// A row was added, whose memory is there already.
@@ -21,4 +22,6 @@ pub enum Doubt {
     State { row: u32, to: State },
     /// A batch was flushed, which the intake still holds.
     Flush(Batch),
+    /// What a move had copied was listed. The move has ended.
+    Published,
 }

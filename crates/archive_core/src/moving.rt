@@ -1,4 +1,4 @@
-//! Moves: one begins, of a row's oldest files in store 1 or 2. No act goes on with a move yet.
+//! Moves: one begins, of a row's oldest files in store 1 or 2.
 ghost use Rattle.std.specs.Prelude.{◌≡◌, ◌⊎◌, ◌≤◌, ◌-◌, IfOk, IfErr, OnErr, slice_index};
 ghost use Rattle.disk_model.specs.Files.{Rose};
 ghost use Rattle.disk_model.specs.declared.disk.DiskErr.TheVariants.{Memory};

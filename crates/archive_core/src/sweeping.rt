@@ -1,5 +1,5 @@
 // Sweeping: files that were retired, and that nothing needs any more, are removed.
-ghost use Rattle.std.specs.Prelude.{◌≡◌};
+ghost use Rattle.std.specs.Prelude.{◌≡◌, IfOk};
 ghost use Rattle.act_model.specs.Asks.{swept_reply};
 ghost use Rattle.act_model.specs.Machine.{Machine};
 ghost use Rattle.act_model.specs.Step.{refuse_by, change_by};
@@ -7,12 +7,15 @@ ghost use Rattle.act_model.specs.Sweep.{SweepStep};
 ghost use Rattle.act_model.specs.declared.acts.Act.TheVariants.{Sweep as SweepAct};
 ghost use Rattle.archive_core.specs.Ends.{Steps, LeavesByAct};
 ghost use Rattle.archive_core.specs.Parts.{parts};
-ghost use Rattle.archive_core.specs.Stands.{Stands};
+ghost use Rattle.archive_core.specs.Stands.{Stands, Rests};
 ghost use Rattle.archive_core.specs.Sweeping.{sweep_reply};
+ghost use Rattle.archive_core.specs.Written.{AreWritten};
 
 use crate::Archive;
+use crate::written::written_names;
 use act_model::Swept;
-use disk_model::{Disk, DiskErr};
+use disk_model::{Disk, DiskErr, FileName};
+use std::alloc::AllocError;
 
 // The stores' answer to a sweep, in the act's own type.
 fn swept(done: Result<three_stores::Swept, DiskErr>) -> Swept
@@ -26,20 +29,33 @@ fn swept(done: Result<three_stores::Swept, DiskErr>) -> Swept
 }
 
 impl<D: Disk> Archive<D> {
-    // Sweeps the stores. No move has copied into any of their files, since no act goes on with a move yet.
+    // The names of the files that running moves have written to and not listed yet.
+    fn written_names(&self) -> Result<Vec<FileName>, AllocError>
+        requires rests { (m : Machine) × Rests D.tells (parts D.Disk self.now) m }
+        ensures { IfOk result (λ names. AreWritten self.now.store.catalogue.rows self.now.moves.slots.items names.items) }
+    {
+        written_names(
+            self.alloc,
+            self.store.catalogue().rows(),
+            self.moves.slots(),
+        )
+    }
+
+    // Sweeps the stores, but for the files that running moves have written to.
     fn sweep_stores(&mut self) -> Result<three_stores::Swept, DiskErr>
         requires stands { (m : Machine) × Stands D.tells (parts D.Disk self.old) m }
         ensures step { Steps D.tells SweepStep (parts D.Disk self.old) (sweep_reply result) (parts D.Disk self.new) }
         ensures crash { LeavesByAct D.tells (refuse_by SweepAct) (change_by SweepAct) (parts D.Disk self.old) (parts D.Disk self.new) }
     {
         self.settle()?;
-        self.store.sweep(&[])
+        let written = self.written_names()?;
+        self.store.sweep(&written)
     }
 
-    /// Removes the files that were retired and that nothing needs any more, and answers how many these are. As long as no act goes on
-    /// with a move none is retired, so there are none. A change that stands in doubt is settled first. `DiskFault` comes only where the disk's
-    /// count of faults rose in the call, and `Memory` only from the disk; both come from the settling alone. A removal that fails is no
-    /// failure of the act, and the answer doesn't tell of it: the file counts for nothing any more.
+    /// Removes the files that were retired and that nothing needs any more, and answers how many these are: those that no pin names, and
+    /// into which no running move has copied. A change that stands in doubt is settled first. `DiskFault` comes only where the disk's count
+    /// of faults rose in the call, and only from the settling. A removal that fails is no failure of the act, and the answer doesn't
+    /// tell of it: the file counts for nothing any more.
     pub fn sweep(&mut self) -> Swept
         requires stands { (m : Machine) × Stands D.tells (parts D.Disk self.old) m }
         ensures step { Steps D.tells SweepStep (parts D.Disk self.old) (swept_reply result) (parts D.Disk self.new) }

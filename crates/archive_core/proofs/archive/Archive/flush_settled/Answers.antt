@@ -12,7 +12,7 @@ use Rattle.archive_core.specs.Ends.{ChangesTo}
 use Rattle.archive_core.specs.Flushing.{GivesUp}
 use Rattle.archive_core.specs.Parts.{parts}
 use Rattle.archive_core.proofs.Changing.{keeps_pins, with_pins}
-use Rattle.archive_core.proofs.Flushed.{flush_as, can, flush_done, flush_counts, flush_failed, flush_spent, flush_unmade}
+use Rattle.archive_core.proofs.Flushed.{first_low, flush_as, can, flush_done, flush_counts, flush_failed, flush_spent, flush_unmade}
 use Rattle.archive_core.proofs.Settled.{rests_has}
 use Rattle.archive_core.proofs.archive.Archive.flush_settled.Goals as goal
 
@@ -30,7 +30,7 @@ flush-requires g c =
     record {
       can = subst (λ (b : List RowSamples). CanFlush c.args.self.now.store.catalogue.rows b) (sym c.in_ok-batch.ensures) (can g.D.Disk.tells p was.0 was.1 c.args.limit c.requires.limit (g.met.D.Disk.seen c.args.self.now.store.disk));
       stands = was.1.stands.limbo.stands;
-      begun = (held, held, was.1.stands.store.whole.0, inl (rests_has g.D.Disk.tells p was.0 was.1), was.1.stands.store.whole.1);
+      begun = (held, held, (was.1.stands.store.whole 0 first_low).0, inl (rests_has g.D.Disk.tells p was.0 was.1), (was.1.stands.store.whole 0 first_low).1);
     }
 
 pub returns-in-Ok-clause-changes : goal.returns-in-Ok-clause-changes
@@ -38,7 +38,7 @@ returns-in-Ok-clause-changes g c = λ m r.
     let p = parts g.D.Disk c.args.self.now in
     let new = seen g.D.Disk c.flush.new.self in
     let keeps = keeps_pins g.D.Disk.tells p new c.flush.new.self.limbo.items c.flush.new.self.pinned (ap (λ l. l.items) c.flush.ensures.limbo) c.flush.ensures.pins (record { shown = c.flush.ensures.shown; whole = c.flush.ensures.whole; leaves = c.flush.ensures.leaves }) in
-    let acts = flush_as g.D.Disk.tells p.at p.limbo r.stands.store.whole.0 new c.in_ok-batch.batch (batch_of c.args.limit p.tails) c.flush.result (Ok c.in-Ok.samples) c.in_ok-batch.ensures c.in-Ok.is (c.flush.ensures.acts r.stands.store.whole.0) in
+    let acts = flush_as g.D.Disk.tells p.at p.limbo (r.stands.store.whole 0 first_low).0 new c.in_ok-batch.batch (batch_of c.args.limit p.tails) c.flush.result (Ok c.in-Ok.samples) c.in_ok-batch.ensures c.in-Ok.is (c.flush.ensures.acts (r.stands.store.whole 0 first_low).0) in
     let gives = subst (λ (b : List RowSamples). GivesUp b p.tails c.give_up.new.intake) c.in_ok-batch.ensures c.give_up.ensures in
     with_pins g.D.Disk.tells (Appends (batch_of c.args.limit p.tails)) p m (record p { at = new; tails = c.give_up.new.intake }) new c.flush.new.self.limbo.items c.flush.new.self.pinned (Ok c.in-Ok.samples) keeps refl refl
     (flush_done g.D.Disk.tells p m r c.args.limit c.requires.limit (g.met.D.Disk.seen c.args.self.now.store.disk) new keeps.shown c.in-Ok.samples c.give_up.new.intake gives acts)
@@ -47,7 +47,7 @@ pub returns-in-Ok-clause-count : goal.returns-in-Ok-clause-count
 returns-in-Ok-clause-count g c = λ m r told.
     let p = parts g.D.Disk c.args.self.now in
     let new = seen g.D.Disk c.flush.new.self in
-    let acts = flush_as g.D.Disk.tells p.at p.limbo r.stands.store.whole.0 new c.in_ok-batch.batch (batch_of c.args.limit p.tails) c.flush.result (Ok c.in-Ok.samples) c.in_ok-batch.ensures c.in-Ok.is (c.flush.ensures.acts r.stands.store.whole.0) in
+    let acts = flush_as g.D.Disk.tells p.at p.limbo (r.stands.store.whole 0 first_low).0 new c.in_ok-batch.batch (batch_of c.args.limit p.tails) c.flush.result (Ok c.in-Ok.samples) c.in_ok-batch.ensures c.in-Ok.is (c.flush.ensures.acts (r.stands.store.whole 0 first_low).0) in
     flush_counts g.D.Disk.tells p m r c.args.limit c.requires.limit (g.met.D.Disk.seen c.args.self.now.store.disk) new c.in-Ok.samples acts told
 
 pub returns-in-Err-Fault-clause-changes : goal.returns-in-Err-Fault-clause-changes
@@ -55,7 +55,7 @@ returns-in-Err-Fault-clause-changes g c = λ m r.
     let p = parts g.D.Disk c.args.self.now in
     let new = seen g.D.Disk c.flush.new.self in
     let keeps = keeps_pins g.D.Disk.tells p new c.flush.new.self.limbo.items c.flush.new.self.pinned (ap (λ l. l.items) c.flush.ensures.limbo) c.flush.ensures.pins (record { shown = c.flush.ensures.shown; whole = c.flush.ensures.whole; leaves = c.flush.ensures.leaves }) in
-    let acts = flush_as g.D.Disk.tells p.at p.limbo r.stands.store.whole.0 new c.in_ok-batch.batch (batch_of c.args.limit p.tails) c.flush.result (Err Fault) c.in_ok-batch.ensures (c.in-Err-Fault.is ∙ ap (λ (e : DiskErr). Err e) c.in-Err-Fault.field-0-is) (c.flush.ensures.acts r.stands.store.whole.0) in
+    let acts = flush_as g.D.Disk.tells p.at p.limbo (r.stands.store.whole 0 first_low).0 new c.in_ok-batch.batch (batch_of c.args.limit p.tails) c.flush.result (Err Fault) c.in_ok-batch.ensures (c.in-Err-Fault.is ∙ ap (λ (e : DiskErr). Err e) c.in-Err-Fault.field-0-is) (c.flush.ensures.acts (r.stands.store.whole 0 first_low).0) in
     subst (λ (b : List RowSamples). ChangesTo {A = ℕ} g.D.Disk.tells (Appends (batch_of c.args.limit p.tails)) p m (record p { at = new; limbo = c.flush.new.self.limbo.items; pinned = c.flush.new.self.pinned; doubt = Some (kind.Flush b) }) (Err Fault)) (sym c.in_ok-batch.ensures)
     (with_pins {A = ℕ} g.D.Disk.tells (Appends (batch_of c.args.limit p.tails)) p m (record p { at = new; doubt = Some (kind.Flush (batch_of c.args.limit p.tails)) }) new c.flush.new.self.limbo.items c.flush.new.self.pinned (Err Fault) keeps refl refl
     (flush_failed g.D.Disk.tells p m r c.args.limit c.requires.limit (g.met.D.Disk.seen c.args.self.now.store.disk) new keeps.shown acts))
@@ -65,6 +65,6 @@ returns-in-Err-Memory-clause-changes g c = λ m r.
     let p = parts g.D.Disk c.args.self.now in
     let new = seen g.D.Disk c.flush.new.self in
     let keeps = keeps_pins g.D.Disk.tells p new c.flush.new.self.limbo.items c.flush.new.self.pinned (ap (λ l. l.items) c.flush.ensures.limbo) c.flush.ensures.pins (record { shown = c.flush.ensures.shown; whole = c.flush.ensures.whole; leaves = c.flush.ensures.leaves }) in
-    let acts = flush_as g.D.Disk.tells p.at p.limbo r.stands.store.whole.0 new c.in_ok-batch.batch (batch_of c.args.limit p.tails) c.flush.result (Err Memory) c.in_ok-batch.ensures (c.in-Err-Memory.is ∙ ap (λ (e : DiskErr). Err e) c.in-Err-Memory.field-0-is) (c.flush.ensures.acts r.stands.store.whole.0) in
+    let acts = flush_as g.D.Disk.tells p.at p.limbo (r.stands.store.whole 0 first_low).0 new c.in_ok-batch.batch (batch_of c.args.limit p.tails) c.flush.result (Err Memory) c.in_ok-batch.ensures (c.in-Err-Memory.is ∙ ap (λ (e : DiskErr). Err e) c.in-Err-Memory.field-0-is) (c.flush.ensures.acts (r.stands.store.whole 0 first_low).0) in
     with_pins {A = ℕ} g.D.Disk.tells (Appends (batch_of c.args.limit p.tails)) p m (record p { at = new }) new c.flush.new.self.limbo.items c.flush.new.self.pinned (Err Memory) keeps refl refl
     (flush_spent g.D.Disk.tells p m r c.args.limit c.requires.limit (g.met.D.Disk.seen c.args.self.now.store.disk) new keeps.shown acts)

@@ -1,8 +1,6 @@
-use Rattle.std.proofs.Common.{◌≤◌, List, Err, Result, refl, sym, ◌∙◌, ap, subst}
-use Rattle.std.proofs.lemmas.List.Elements.{All-nil}
+use Rattle.std.proofs.Common.{List, Err, Result, refl, sym, ◌∙◌, ap, subst}
 use Rattle.std.proofs.lemmas.Result.{err_from_is_err_and}
 use Rattle.disk_model.specs.declared.disk.DiskErr.{DiskErr}
-use Rattle.disk_model.specs.Files.{Name}
 use Rattle.three_stores.specs.Moving.{LeavesLater}
 use Rattle.three_stores.specs.Pinned.{beside, Shows}
 use Rattle.three_stores.specs.Seen.{seen}
@@ -12,9 +10,11 @@ use Rattle.three_stores.proofs.Removals.{on_err}
 use Rattle.archive_core.specs.Ends.{Steps}
 use Rattle.archive_core.specs.Parts.{parts}
 use Rattle.archive_core.specs.Sweeping.{sweep_reply}
+use Rattle.archive_core.specs.Written.{AreWritten}
 use Rattle.act_model.specs.Sweep.{SweepStep}
 use Rattle.archive_core.proofs.Settled.{begun}
-use Rattle.archive_core.proofs.SweepAct.{none_copied, sweep_cut, sweep_ends, crash_sweep, crash_sweep_cut}
+use Rattle.archive_core.proofs.SweepAct.{sweep_cut, sweep_ends, sweep_unnamed, crash_sweep, crash_sweep_cut}
+use Rattle.archive_core.proofs.SweptMoves.{names_later}
 use Rattle.archive_core.proofs.archive.Archive.sweep_stores.Goals as goal
 
 pub returns-in_err-settle-clause-step : goal.returns-in_err-settle-clause-step
@@ -28,6 +28,12 @@ returns-in_err-settle-clause-step g c =
 pub returns-in_err-settle-clause-crash : goal.returns-in_err-settle-clause-crash
 returns-in_err-settle-clause-crash g c = crash_sweep_cut g.D.Disk.tells (parts g.D.Disk c.args.self.now) (parts g.D.Disk c.settle.new.self) c.settle.ensures.reads.any_moment
 
+pub written_names-requires : goal.written_names-requires
+written_names-requires g c =
+    let was = c.requires.stands in
+    let then = c.in_ok-settle.ensures.settled was.0 was.1 in
+    record { rests = (record then.0 { faults = (parts g.D.Disk c.settle.new.self).at.faults }, then.2) }
+
 pub sweep-requires-clause-begun : goal.sweep-requires-clause-begun
 sweep-requires-clause-begun g c =
     let was = c.requires.stands in
@@ -40,19 +46,37 @@ sweep-requires-clause-stands g c =
     let then = c.in_ok-settle.ensures.settled was.0 was.1 in
     then.2.stands.limbo.stands
 
+pub returns-in_err-written-clause-step : goal.returns-in_err-written-clause-step
+returns-in_err-written-clause-step g c =
+    let e = err_from_is_err_and c.from_residual-in_err-written.result c.from_residual-in_err-written.ensures.1 in
+    let old = parts g.D.Disk c.args.self.now in
+    let q = parts g.D.Disk c.settle.new.self in
+    subst (λ (r : Result Swept DiskErr). Steps g.D.Disk.tells SweepStep old (sweep_reply r) q) (sym (e.1 ∙ ap (λ (d : DiskErr). Err d) e.2)) (sweep_unnamed g.D.Disk.tells old q c.in_ok-settle.ensures.settled c.settle.ensures.reads.faults)
+
+pub returns-in_err-written-clause-crash : goal.returns-in_err-written-clause-crash
+returns-in_err-written-clause-crash g c = crash_sweep_cut g.D.Disk.tells (parts g.D.Disk c.args.self.now) (parts g.D.Disk c.settle.new.self) c.settle.ensures.reads.any_moment
+
 pub returns-clause-step : goal.returns-clause-step
 returns-clause-step g c =
     let q = parts g.D.Disk c.settle.new.self in
     let call = c.sweep.ensures in
+    let written : AreWritten q.at.catalogue.rows q.slots c.deref.result.now = subst (AreWritten q.at.catalogue.rows q.slots) (sym c.deref.ensures.value) c.in_ok-written.ensures in
+    let was = c.requires.stands in
+    let then = c.in_ok-settle.ensures.settled was.0 was.1 in
+    let later = names_later g.D.Disk.tells q (record then.0 { faults = q.at.faults }) then.2 c.deref.result.now written in
     let new = record q { at = seen g.D.Disk c.sweep.new.self; limbo = c.sweep.new.self.limbo.items; pinned = c.sweep.new.self.pinned } in
-    sweep_ends g.D.Disk.tells (parts g.D.Disk c.args.self.now) q c.in_ok-settle.ensures.settled c.settle.ensures.reads.faults new _ refl (λ m r. none_copied _ m g.D.Disk.tells _ r.stands.store.before _ refl r.stands.store.moves) c.sweep.result
-    (record { acts = call.acts; swept = call.swept; failed = on_err c.sweep.result _ _ (λ stay. (ap (λ l. l.items) stay.0, λ name bytes shown. subst (λ (l : List Retired). Shows g.D.Disk.tells (beside new.at l) name bytes) (ap (λ l. l.items) stay.0) (stay.1 name bytes shown), subst (λ (l : List Retired). LeavesLater g.D.Disk.tells (beside q.at q.limbo) (beside new.at l)) (ap (λ l. l.items) stay.0) stay.2)) call.failed; left = call.copied (All-nil (λ (n : Name). 2 ≤ n.0)); leaves = call.leaves; whole = call.whole; stands = call.stands; pins = call.pins; nothing = λ settled. (let same = call.nothing settled in (same.0, ap (λ l. l.items) same.1)) })
+    sweep_ends g.D.Disk.tells (parts g.D.Disk c.args.self.now) q c.in_ok-settle.ensures.settled c.settle.ensures.reads.faults new c.deref.result.now refl written c.sweep.result
+    (record { acts = call.acts; swept = call.swept; failed = on_err c.sweep.result _ _ (λ stay. (ap (λ l. l.items) stay.0, λ name bytes shown. subst (λ (l : List Retired). Shows g.D.Disk.tells (beside new.at l) name bytes) (ap (λ l. l.items) stay.0) (stay.1 name bytes shown), subst (λ (l : List Retired). LeavesLater g.D.Disk.tells (beside q.at q.limbo) (beside new.at l)) (ap (λ l. l.items) stay.0) stay.2)) call.failed; left = call.copied later; leaves = call.leaves; whole = call.whole; stands = call.stands; pins = call.pins; nothing = λ settled. (let same = call.nothing settled in (same.0, ap (λ l. l.items) same.1)) })
 
 pub returns-clause-crash : goal.returns-clause-crash
 returns-clause-crash g c =
     let q = parts g.D.Disk c.settle.new.self in
     let call = c.sweep.ensures in
+    let written : AreWritten q.at.catalogue.rows q.slots c.deref.result.now = subst (AreWritten q.at.catalogue.rows q.slots) (sym c.deref.ensures.value) c.in_ok-written.ensures in
+    let was = c.requires.stands in
+    let then = c.in_ok-settle.ensures.settled was.0 was.1 in
+    let later = names_later g.D.Disk.tells q (record then.0 { faults = q.at.faults }) then.2 c.deref.result.now written in
     let new = record q { at = seen g.D.Disk c.sweep.new.self; limbo = c.sweep.new.self.limbo.items; pinned = c.sweep.new.self.pinned } in
-    crash_sweep g.D.Disk.tells (parts g.D.Disk c.args.self.now) q c.in_ok-settle.ensures.settled c.settle.ensures.reads.faults new _ refl (λ m r. none_copied _ m g.D.Disk.tells _ r.stands.store.before _ refl r.stands.store.moves) c.sweep.result
-    (record { acts = call.acts; swept = call.swept; failed = on_err c.sweep.result _ _ (λ stay. (ap (λ l. l.items) stay.0, λ name bytes shown. subst (λ (l : List Retired). Shows g.D.Disk.tells (beside new.at l) name bytes) (ap (λ l. l.items) stay.0) (stay.1 name bytes shown), subst (λ (l : List Retired). LeavesLater g.D.Disk.tells (beside q.at q.limbo) (beside new.at l)) (ap (λ l. l.items) stay.0) stay.2)) call.failed; left = call.copied (All-nil (λ (n : Name). 2 ≤ n.0)); leaves = call.leaves; whole = call.whole; stands = call.stands; pins = call.pins; nothing = λ settled. (let same = call.nothing settled in (same.0, ap (λ l. l.items) same.1)) })
+    crash_sweep g.D.Disk.tells (parts g.D.Disk c.args.self.now) q c.in_ok-settle.ensures.settled c.settle.ensures.reads.faults new c.deref.result.now refl written c.sweep.result
+    (record { acts = call.acts; swept = call.swept; failed = on_err c.sweep.result _ _ (λ stay. (ap (λ l. l.items) stay.0, λ name bytes shown. subst (λ (l : List Retired). Shows g.D.Disk.tells (beside new.at l) name bytes) (ap (λ l. l.items) stay.0) (stay.1 name bytes shown), subst (λ (l : List Retired). LeavesLater g.D.Disk.tells (beside q.at q.limbo) (beside new.at l)) (ap (λ l. l.items) stay.0) stay.2)) call.failed; left = call.copied later; leaves = call.leaves; whole = call.whole; stands = call.stands; pins = call.pins; nothing = λ settled. (let same = call.nothing settled in (same.0, ap (λ l. l.items) same.1)) })
     c.settle.ensures.reads.any_moment c.settle.ensures.granularity

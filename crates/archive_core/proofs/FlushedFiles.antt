@@ -1,0 +1,326 @@
+-- What a flush makes of the files of a row: they stay, or the last of them goes on, and others stand behind them.
+use Rattle.std.proofs.Common.{◌≡◌, ◌⊎◌, inl, inr, ℕ, zero, suc, ◌<◌, ◌≤◌, Bool, true, false, cond, List, [], ◌∷◌, ◌++◌, length, get_or, refl, sym, ◌∙◌, ap, subst, arith, append-nil, append_assoc, Some}
+use Rattle.std.specs.Prelude.{nat_eq, nat_lt, All, Contains, IsTrue}
+use Rattle.std.specs.List.{AllByRecursion}
+use Rattle.std.proofs.lemmas.Bool.{cases_lt}
+use Rattle.std.proofs.lemmas.Bool.Decides.{nat_tests}
+use Rattle.std.proofs.lemmas.List.{append_cancel_left, length-append}
+use Rattle.std.proofs.lemmas.List.Concat.{flat_map-append}
+use Rattle.std.proofs.lemmas.List.Elements.{All-contains, All-filter, All-from_recursion, All-head, All-tail, Contains-append_right, Contains-get_or, filter_passes}
+use Rattle.partition_names.specs.declared.granularity.Granularity.{Granularity}
+use Rattle.partition_names.proofs.PartLemmas.{one_part, within}
+use Rattle.pb_lines.specs.File.{lines_of}
+use Rattle.pb_lines.proofs.FileLines.{lines_of-append}
+use Rattle.pv_catalog.specs.declared.row.Row.{Row}
+use Rattle.series_model.specs.Series.{RisesFrom}
+use Rattle.series_model.specs.declared.sample.Sample.{Sample}
+use Rattle.series_model.proofs.RisingLists.{RisesFrom-front}
+use Rattle.store_manifest.specs.Entries.{Place, comes_before, put}
+use Rattle.tier_store.specs.Flush.{EndsRow, PlacesRise, file_at, put_all}
+use Rattle.tier_store.specs.Held.{Filed, IsFiled, IsListed, filed_at, samples_of}
+use Rattle.tier_store.specs.Plan.{of_row}
+use Rattle.tier_store.specs.Revival.{AreUnlisted}
+use Rattle.tier_store.proofs.Listed.{all_put, found, rise_filter, rise_put_all}
+use Rattle.tier_store.proofs.PutFile.{later, put_other, put_own, sooner}
+use Rattle.tier_store.proofs.Revival.{listed_stays, one_of_place}
+use Rattle.tier_store.proofs.Steps.{of_files}
+use Rattle.archive_core.specs.Growing.{FilesGoOn, HasMore}
+
+abbrev Comes : Filed → Filed → Type 0
+Comes f h = IsTrue (comes_before (filed_at f) (filed_at h))
+
+-- THE FILES OF A ROW
+
+-- those before the first of others
+abbrev cut : List Filed → List Filed → List Filed
+cut [] xs = xs
+cut (f ∷ fs) xs = sooner f.entry.part.start xs
+
+sooner_same : (n : ℕ) (xs : List Filed) → AllByRecursion (λ (k : Filed). k.entry.part.start < n) xs → sooner n xs ≡ xs
+sooner_same n [] all = refl
+sooner_same n (x ∷ xs) all =
+    let lt : x.entry.part.start < n = all.0 in
+    let test : nat_lt x.entry.part.start n ≡ true = grind (arith, nat_tests, lt) in
+    rw test (ap (λ (l : List Filed). x ∷ l) (sooner_same n xs all.1))
+
+later_none : (n : ℕ) (xs : List Filed) → AllByRecursion (λ (k : Filed). k.entry.part.start ≤ n) xs → later n xs ≡ []
+later_none n [] all = refl
+later_none n (x ∷ xs) all =
+    let le : x.entry.part.start ≤ n = all.0 in
+    let test : nat_lt n x.entry.part.start ≡ false = grind (arith, nat_tests, le) in
+    rw test (later_none n xs all.1)
+
+-- files that start before n, and another that does, all start before any m behind
+sooner_all : (n m : ℕ) (xs : List Filed) (w : Filed) → w.entry.part.start ≡ n → n < m → AllByRecursion (λ (k : Filed). k.entry.part.start < m) (sooner n xs ++ w ∷ [])
+sooner_all n m [] w start lt = (omega (arith, start, lt), tt)
+sooner_all n m (x ∷ xs) w start lt = by_test (nat_lt x.entry.part.start n) refl (sooner_all n m xs w start lt)
+  where
+    by_test : (b : Bool) → nat_lt x.entry.part.start n ≡ b → AllByRecursion (λ (k : Filed). k.entry.part.start < m) (sooner n xs ++ w ∷ []) → AllByRecursion (λ (k : Filed). k.entry.part.start < m) (cond b (x ∷ sooner n xs) (sooner n xs) ++ w ∷ [])
+    by_test true is rest = (let less : x.entry.part.start < n = grind (arith, nat_tests, is) in omega (arith, less, lt), rest)
+    by_test false is rest = rest
+
+-- of the row all start no later than n, where all of the row do
+row_within : (row n : ℕ) (xs : List Filed) → All (λ (k : Filed). k.entry.series ≡ row → k.entry.part.start ≤ n) xs → AllByRecursion (λ (k : Filed). k.entry.part.start ≤ n) (of_row row xs)
+row_within row n [] all = tt
+row_within row n (x ∷ xs) all = by_test (nat_eq x.entry.series row) refl (row_within row n xs (All-tail (λ (k : Filed). k.entry.series ≡ row → k.entry.part.start ≤ n) x xs all))
+  where
+    first : x.entry.series ≡ row → x.entry.part.start ≤ n
+    first = All-head (λ (k : Filed). k.entry.series ≡ row → k.entry.part.start ≤ n) x xs all
+
+    by_test : (b : Bool) → nat_eq x.entry.series row ≡ b → AllByRecursion (λ (k : Filed). k.entry.part.start ≤ n) (of_row row xs) → AllByRecursion (λ (k : Filed). k.entry.part.start ≤ n) (cond b (x ∷ of_row row xs) (of_row row xs))
+    by_test true is rest = (first (grind (arith, nat_tests, is)), rest)
+    by_test false is rest = rest
+
+-- files of one row, of which the first is behind w
+cut_behind : (row : ℕ) (w : Filed) (fs xs : List Filed) → w.entry.series ≡ row → All (Comes w) fs → cut (of_row row fs) (sooner w.entry.part.start xs ++ w ∷ []) ≡ sooner w.entry.part.start xs ++ w ∷ []
+cut_behind row w [] xs own before = refl
+cut_behind row w (f ∷ fs) xs own before = by_test (nat_eq f.entry.series row) refl (cut_behind row w fs xs own (All-tail (Comes w) f fs before))
+  where
+    first : Comes w f
+    first = All-head (Comes w) f fs before
+
+    by_test : (b : Bool) → nat_eq f.entry.series row ≡ b → cut (of_row row fs) (sooner w.entry.part.start xs ++ w ∷ []) ≡ sooner w.entry.part.start xs ++ w ∷ [] → cut (cond b (f ∷ of_row row fs) (of_row row fs)) (sooner w.entry.part.start xs ++ w ∷ []) ≡ sooner w.entry.part.start xs ++ w ∷ []
+    by_test true is rest =
+        let lt : w.entry.part.start < f.entry.part.start = grind (arith, nat_tests, is, own, first) in
+        sooner_same f.entry.part.start (sooner w.entry.part.start xs ++ w ∷ []) (sooner_all w.entry.part.start f.entry.part.start xs w refl lt)
+    by_test false is rest = rest
+
+-- files that end their rows stand behind those before them
+row_put_all : (row : ℕ) (fs xs : List Filed) → PlacesRise fs → All (EndsRow xs) fs → of_row row (put_all xs fs) ≡ cut (of_row row fs) (of_row row xs) ++ of_row row fs
+row_put_all row [] xs rise ends = sym (append-nil (of_row row xs))
+row_put_all row (w ∷ fs) xs rise ends = by_test (nat_eq w.entry.series row) refl (row_put_all row fs (put filed_at w xs) rise.1 ends_then)
+  where
+    ends_then : All (EndsRow (put filed_at w xs)) fs
+    ends_then k d lt =
+        let v : Filed = get_or fs k d in
+        let before : Comes w v = rise.0 k d lt in
+        all_put (λ (k : Filed). k.entry.series ≡ v.entry.series → k.entry.part.start ≤ v.entry.part.start) filed_at w xs (All-tail (EndsRow xs) w fs ends k d lt) (λ same. grind (arith, nat_tests, before, same))
+
+    by_test : (b : Bool) → nat_eq w.entry.series row ≡ b → of_row row (put_all (put filed_at w xs) fs) ≡ cut (of_row row fs) (of_row row (put filed_at w xs)) ++ of_row row fs
+        → of_row row (put_all (put filed_at w xs) fs) ≡ cut (cond b (w ∷ of_row row fs) (of_row row fs)) (of_row row xs) ++ cond b (w ∷ of_row row fs) (of_row row fs)
+    by_test true is rest =
+        let own : w.entry.series ≡ row = grind (arith, nat_tests, is) in
+        let all : All (λ (k : Filed). k.entry.series ≡ row → k.entry.part.start ≤ w.entry.part.start) xs = subst (λ (r : ℕ). All (λ (k : Filed). k.entry.series ≡ r → k.entry.part.start ≤ w.entry.part.start) xs) own (All-head (EndsRow xs) w fs ends) in
+        let now : of_row row (put filed_at w xs) ≡ sooner w.entry.part.start (of_row row xs) ++ w ∷ [] = put_own row w xs own ∙ ap (λ (l : List Filed). sooner w.entry.part.start (of_row row xs) ++ (w ∷ l)) (later_none w.entry.part.start (of_row row xs) (row_within row w.entry.part.start xs all)) in
+        rest
+        ∙ (ap (λ (l : List Filed). cut (of_row row fs) l ++ of_row row fs) now
+        ∙ (ap (λ (l : List Filed). l ++ of_row row fs) (cut_behind row w fs (of_row row xs) own rise.0) ∙ append_assoc (sooner w.entry.part.start (of_row row xs)) (w ∷ []) (of_row row fs)))
+    by_test false is rest = rest ∙ ap (λ (l : List Filed). cut (of_row row fs) l ++ of_row row fs) (put_other row w xs (λ same. absurd (let test : nat_eq w.entry.series row ≡ true = grind (arith, nat_tests, same) in cc (test, is))))
+
+-- of rising files of one row that start no later than n, all start before it, or the last alone starts there
+split : (row n : ℕ) (ys : List Filed) → PlacesRise ys → All (λ (k : Filed). nat_eq k.entry.series row ≡ true) ys → AllByRecursion (λ (k : Filed). k.entry.part.start ≤ n) ys
+    → ((sooner n ys ≡ ys) × AllByRecursion (λ (k : Filed). k.entry.part.start < n) ys) ⊎ ((x : Filed) × (x.entry.part.start ≡ n) × Contains ys x × (ys ≡ sooner n ys ++ x ∷ []))
+split row n [] rise own all = inl (refl, tt)
+split row n (y ∷ ys) rise own all = by_test (nat_lt y.entry.part.start n) refl (split row n ys rise.1 (All-tail (λ (k : Filed). nat_eq k.entry.series row ≡ true) y ys own) all.1)
+  where
+    -- nothing stands behind one that starts at n
+    alone : (zs : List Filed) → n ≤ y.entry.part.start → All (Comes y) zs → All (λ (k : Filed). nat_eq k.entry.series row ≡ true) zs → AllByRecursion (λ (k : Filed). k.entry.part.start ≤ n) zs → zs ≡ []
+    alone [] ge before own all = refl
+    alone (z ∷ zs) ge before own_zs all_zs =
+        let first : Comes y z = All-head (Comes y) z zs before in
+        let mine : nat_eq y.entry.series row ≡ true = All-head (λ (k : Filed). nat_eq k.entry.series row ≡ true) y ys own in
+        let its : nat_eq z.entry.series row ≡ true = All-head (λ (k : Filed). nat_eq k.entry.series row ≡ true) z zs own_zs in
+        let lt : y.entry.part.start < z.entry.part.start = grind (arith, nat_tests, first, mine, its) in
+        let le = all_zs.0 in
+        absurd (omega (arith, lt, le, ge))
+
+    by_test : (b : Bool) → nat_lt y.entry.part.start n ≡ b → ((sooner n ys ≡ ys) × AllByRecursion (λ (k : Filed). k.entry.part.start < n) ys) ⊎ ((x : Filed) × (x.entry.part.start ≡ n) × Contains ys x × (ys ≡ sooner n ys ++ x ∷ []))
+        → ((cond b (y ∷ sooner n ys) (sooner n ys) ≡ y ∷ ys) × AllByRecursion (λ (k : Filed). k.entry.part.start < n) (y ∷ ys)) ⊎ ((x : Filed) × (x.entry.part.start ≡ n) × Contains (y ∷ ys) x × (y ∷ ys ≡ cond b (y ∷ sooner n ys) (sooner n ys) ++ x ∷ []))
+    by_test true is (inl rest) = inl (ap (λ (l : List Filed). y ∷ l) rest.0, (grind (arith, nat_tests, is), rest.1))
+    by_test true is (inr (x, start, (k, low, at), are)) = inr (x, start, (suc k, omega (arith, low), at), ap (λ (l : List Filed). y ∷ l) are)
+    by_test false is rest =
+        let ge : n ≤ y.entry.part.start = grind (arith, nat_tests, is) in
+        let le = all.0 in
+        let none : ys ≡ [] = alone ys ge rise.0 (All-tail (λ (k : Filed). nat_eq k.entry.series row ≡ true) y ys own) all.1 in
+        inr (y, omega (arith, ge, le), (0, omega arith, refl), ap (λ (l : List Filed). y ∷ l) none ∙ ap (λ (l : List Filed). sooner n l ++ y ∷ []) (sym none))
+
+-- a file of the row is among the row's files
+passes_in : (row : ℕ) (xs : List Filed) (f : Filed) → nat_eq f.entry.series row ≡ true → Contains xs f → Contains (of_row row xs) f
+passes_in row [] f own (k, low, is) = absurd (omega (arith, low))
+passes_in row (x ∷ xs) f own within = by_test (nat_eq x.entry.series row) refl within (λ rest. passes_in row xs f own rest)
+  where
+    by_test : (b : Bool) → nat_eq x.entry.series row ≡ b → Contains (x ∷ xs) f → (Contains xs f → Contains (of_row row xs) f) → Contains (cond b (x ∷ of_row row xs) (of_row row xs)) f
+    by_test true is (zero, low, at) rest = (0, omega arith, at)
+    by_test true is (suc k, low, at) rest = Contains-append_right (x ∷ []) (of_row row xs) f (rest (k, omega (arith, low), at))
+    by_test false is (zero, low, at) rest = absurd (let yes : nat_eq x.entry.series row ≡ true = ap (λ (y : Filed). nat_eq y.entry.series row) at ∙ own in cc (yes, is))
+    by_test false is (suc k, low, at) rest = rest (k, omega (arith, low), at)
+
+-- LISTS OF SAMPLES
+
+-- of two fronts of one list the longer begins with the shorter
+longer_front : (xs ys us vs : List Sample) → xs ++ us ≡ ys ++ vs → length ys ≤ length xs → (rest : List Sample) × (xs ≡ ys ++ rest)
+longer_front xs [] us vs is le = (xs, refl)
+longer_front [] (y ∷ ys) us vs is le = absurd (omega (arith, le))
+longer_front (x ∷ xs) (y ∷ ys) us vs is le =
+    let head : x ≡ y = cc in
+    let tail : xs ++ us ≡ ys ++ vs = cc in
+    let rest = longer_front xs ys us vs tail (omega (arith, le)) in
+    (rest.0, ap (λ (l : List Sample). x ∷ l) rest.1 ∙ ap (λ (z : Sample). z ∷ (ys ++ rest.0)) head)
+
+lines_within : (xs rest : List Sample) → length (lines_of xs) ≤ length (lines_of (xs ++ rest))
+lines_within xs rest = omega (arith, ap length (lines_of-append xs rest), length-append (lines_of xs) (lines_of rest))
+
+-- THE FLUSH
+
+-- each file that was listed at its place, or was in limbo, is shorter
+abbrev pub AreLonger : List Filed → List Filed → Type 0
+AreLonger both written = All (λ (f : Filed). (old : Filed) → file_at (filed_at f) both ≡ Some old → old.entry.len < f.entry.len) written
+
+-- and the header of one that was there is as long
+abbrev pub HeadsStay : List Filed → List Filed → Type 0
+HeadsStay both written = All (λ (f : Filed). (old : Filed) → file_at (filed_at f) both ≡ Some old → f.entry.head_len ≡ old.entry.head_len) written
+
+-- what is known of a flush of a row where the stores stand: what was there and what is written are files of their rows, headers stay, and the row
+-- gets these samples behind its own
+pub record FlushedTo (g : Granularity) (rows : List Row) (listed limbo written : List Filed) (row : ℕ) (more : List Sample) : Type 0 where
+  pub listed_are : All (IsFiled g rows) listed
+  pub written_are : All (IsFiled g rows) written
+  pub heads : All (λ (f : Filed). (old : Filed) → file_at (filed_at f) (put_all listed limbo) ≡ Some old → f.head ≡ old.head) written
+  pub samples : samples_of row (put_all (put_all listed limbo) written) ≡ samples_of row (put_all listed limbo) ++ more
+
+module _ (g : Granularity) (rows : List Row) (listed limbo written : List Filed) (row : ℕ) (rise : PlacesRise listed) (unlisted : AreUnlisted listed limbo) (rises : PlacesRise written) (ends : All (EndsRow (put_all listed limbo)) written) (longer : AreLonger (put_all listed limbo) written) (same_heads : HeadsStay (put_all listed limbo) written)
+    (listed_of : All (IsListed g rows) listed) (written_of : All (IsListed g rows) written) (stands : Bool) (end : ℕ) (more : List Sample) (later_than : IsTrue stands → RisesFrom end more) (to : IsTrue stands → FlushedTo g rows listed limbo written row more) where
+  abbrev both : List Filed
+  both = put_all listed limbo
+
+  both_rise : PlacesRise both
+  both_rise = rise_put_all listed limbo rise
+
+  listed_in : (f : Filed) → Contains listed f → Contains both f
+  listed_in f within = listed_stays listed limbo f rise unlisted within
+
+  ends_listed : All (EndsRow listed) written
+  ends_listed k d lt i e low = All-contains (λ (x : Filed). x.entry.series ≡ (get_or written k d).entry.series → x.entry.part.start ≤ (get_or written k d).entry.part.start) both (get_or listed i e) (ends k d lt) (listed_in (get_or listed i e) (Contains-get_or listed i e low))
+
+  in_row : (xs : List Filed) (f : Filed) → Contains (of_row row xs) f → Contains xs f × (f.entry.series ≡ row)
+  in_row xs f within = (
+    All-contains (Contains xs) (of_row row xs) f (All-filter (λ (x : Filed). nat_eq x.entry.series row) (Contains xs) xs (λ k d lt. Contains-get_or xs k d lt)) within,
+    (let test : nat_eq f.entry.series row ≡ true = All-contains (λ (x : Filed). nat_eq x.entry.series row ≡ true) (of_row row xs) f (filter_passes (λ (x : Filed). nat_eq x.entry.series row) xs) within in grind (arith, nat_tests, test)),
+  )
+
+  own_split : (xs : List Filed) (n : ℕ) → PlacesRise xs → All (λ (k : Filed). k.entry.series ≡ row → k.entry.part.start ≤ n) xs
+      → ((sooner n (of_row row xs) ≡ of_row row xs) × AllByRecursion (λ (k : Filed). k.entry.part.start < n) (of_row row xs)) ⊎ ((x : Filed) × (x.entry.part.start ≡ n) × Contains (of_row row xs) x × (of_row row xs ≡ sooner n (of_row row xs) ++ x ∷ []))
+  own_split xs n up all = split row n (of_row row xs) (rise_filter (λ (x : Filed). nat_eq x.entry.series row) xs up) (filter_passes (λ (x : Filed). nat_eq x.entry.series row) xs) (row_within row n xs all)
+
+  module _ (f : Filed) (fs : List Filed) (are : of_row row written ≡ f ∷ fs) where
+    abbrev n : ℕ
+    n = f.entry.part.start
+
+    f_in : Contains written f × (f.entry.series ≡ row)
+    f_in = in_row written f (subst (λ (l : List Filed). Contains l f) (sym are) (0, omega arith, refl))
+
+    up_to : All (λ (k : Filed). k.entry.series ≡ row → k.entry.part.start ≤ n) both
+    up_to = subst (λ (r : ℕ). All (λ (k : Filed). k.entry.series ≡ r → k.entry.part.start ≤ n) both) f_in.1 (All-contains (EndsRow both) written f ends f_in.0)
+
+    listed_up_to : All (λ (k : Filed). k.entry.series ≡ row → k.entry.part.start ≤ n) listed
+    listed_up_to k d lt = All-contains (λ (x : Filed). x.entry.series ≡ row → x.entry.part.start ≤ n) both (get_or listed k d) up_to (listed_in (get_or listed k d) (Contains-get_or listed k d lt))
+
+    now : of_row row (put_all listed written) ≡ sooner n (of_row row listed) ++ (f ∷ fs)
+    now = subst (λ (l : List Filed). of_row row (put_all listed written) ≡ cut l (of_row row listed) ++ l) are (row_put_all row written listed rises ends_listed)
+
+    -- the row's last listed file, in whose partition the first of the written files is
+    module _ (y : Filed) (start : y.entry.part.start ≡ n) (y_in : Contains listed y) (y_row : y.entry.series ≡ row) where
+      same_place : filed_at f ≡ filed_at y
+      same_place = λ i. ((f_in.1 ∙ sym y_row) i, sym start i)
+
+      here : file_at (filed_at f) both ≡ Some y
+      here = ap (λ (p : Place). file_at p both) same_place ∙ All-contains (λ (k : Filed). file_at (filed_at k) both ≡ Some k) both y (found both both_rise) (listed_in y y_in)
+
+      longer_now : y.entry.len < f.entry.len
+      longer_now = All-contains (λ (k : Filed). (old : Filed) → file_at (filed_at k) both ≡ Some old → old.entry.len < k.entry.len) written f longer f_in.0 y here
+
+      head_now : f.entry.head_len ≡ y.entry.head_len
+      head_now = All-contains (λ (k : Filed). (old : Filed) → file_at (filed_at k) both ≡ Some old → k.entry.head_len ≡ old.entry.head_len) written f same_heads f_in.0 y here
+
+      same_part : f.entry.part ≡ y.entry.part
+      same_part =
+          let f_part = (All-contains (IsListed g rows) written f written_of f_in.0).part in
+          let y_part = (All-contains (IsListed g rows) listed y listed_of y_in).part in
+          let mine = (within g f.entry.part f_part).1 in
+          let its = (within g y.entry.part y_part).1 in
+          one_part g f.entry.part y.entry.part n f_part y_part (omega arith, mine) (omega (arith, start), omega (arith, its, start))
+
+      module _ (stand : IsTrue stands) (both_are : of_row row both ≡ sooner n (of_row row both) ++ y ∷ []) where
+        f_is : IsFiled g rows f
+        f_is = All-contains (IsFiled g rows) written f (to stand).written_are f_in.0
+
+        y_is : IsFiled g rows y
+        y_is = All-contains (IsFiled g rows) listed y (to stand).listed_are y_in
+
+        same_head : f.head ≡ y.head
+        same_head = All-contains (λ (k : Filed). (old : Filed) → file_at (filed_at k) both ≡ Some old → k.head ≡ old.head) written f (to stand).heads f_in.0 y here
+
+        was : of_files (of_row row both) ≡ of_files (sooner n (of_row row both)) ++ y.samples
+        was = ap of_files both_are ∙ (flat_map-append (λ (k : Filed). k.samples) (sooner n (of_row row both)) (y ∷ []) ∙ ap (λ (l : List Sample). of_files (sooner n (of_row row both)) ++ l) (append-nil y.samples))
+
+        is : of_files (of_row row (put_all both written)) ≡ of_files (sooner n (of_row row both)) ++ of_files (f ∷ fs)
+        is =
+            subst (λ (l : List Filed). of_files (of_row row (put_all both written)) ≡ of_files (cut l (of_row row both)) ++ of_files l) are
+            (ap of_files (row_put_all row written both rises ends) ∙ flat_map-append (λ (k : Filed). k.samples) (cut (of_row row written) (of_row row both)) (of_row row written))
+
+        -- the first written file begins with what was there
+        begins : f.samples ++ of_files fs ≡ y.samples ++ more
+        begins =
+            append_cancel_left (of_files (sooner n (of_row row both))) (f.samples ++ of_files fs) (y.samples ++ more)
+            (sym is ∙ ((to stand).samples ∙ (ap (λ (l : List Sample). l ++ more) was ∙ append_assoc (of_files (sooner n (of_row row both))) y.samples more)))
+
+        not_within : length f.samples ≤ length y.samples → ⊥
+        not_within le =
+            let rest = longer_front y.samples f.samples more (of_files fs) (sym begins) le in
+            let len = longer_now in
+            let mine = y_is.len in
+            let its = f_is.len in
+            let heads = ap length same_head in
+            let lines : length (lines_of f.samples) ≤ length (lines_of y.samples) = subst (λ (l : List Sample). length (lines_of f.samples) ≤ length (lines_of l)) (sym rest.1) (lines_within f.samples rest.0) in
+            omega (arith, len, mine, its, length-append y.head (10 ∷ lines_of y.samples), length-append f.head (10 ∷ lines_of f.samples), heads, lines)
+
+        more_now : HasMore end y f
+        more_now = elim (cases_lt (length y.samples) (length f.samples)) [
+          | inr le ↦ absurd (not_within le)
+          | inl lt ↦
+              let rest = longer_front f.samples y.samples (of_files fs) more begins (omega (arith, lt)) in
+              let behind : rest.0 ++ of_files fs ≡ more = append_cancel_left y.samples (rest.0 ++ of_files fs) more (sym (append_assoc y.samples rest.0 (of_files fs)) ∙ (ap (λ (l : List Sample). l ++ of_files fs) (sym rest.1) ∙ begins)) in
+              record {
+                back = rest.0;
+                samples = rest.1;
+                later = RisesFrom-front end rest.0 (of_files fs) (subst (RisesFrom end) (sym behind) (later_than stand));
+              }
+        ]
+
+    both_last : (y : Filed) → y.entry.part.start ≡ n → Contains listed y → y.entry.series ≡ row → of_row row both ≡ sooner n (of_row row both) ++ y ∷ []
+    both_last y start y_in y_row = go (own_split both n both_rise up_to)
+      where
+        there : Contains (of_row row both) y
+        there = passes_in row both y (grind (arith, nat_tests, y_row)) (listed_in y y_in)
+
+        go : ((sooner n (of_row row both) ≡ of_row row both) × AllByRecursion (λ (k : Filed). k.entry.part.start < n) (of_row row both)) ⊎ ((x : Filed) × (x.entry.part.start ≡ n) × Contains (of_row row both) x × (of_row row both ≡ sooner n (of_row row both) ++ x ∷ [])) → of_row row both ≡ sooner n (of_row row both) ++ y ∷ []
+        go (inl before) = let lt = All-contains (λ (k : Filed). k.entry.part.start < n) (of_row row both) y (All-from_recursion (λ (k : Filed). k.entry.part.start < n) (of_row row both) before.1) there in absurd (omega (arith, lt, start))
+        go (inr (x, x_start, x_in, x_are)) =
+            let of = in_row both x x_in in
+            let same : x ≡ y = one_of_place both y x both_rise (listed_in y y_in) of.0 (λ i. ((of.1 ∙ sym y_row) i, (x_start ∙ sym start) i)) in
+            subst (λ (z : Filed). of_row row both ≡ sooner n (of_row row both) ++ z ∷ []) same x_are
+
+    goes_some : FilesGoOn stands end (of_row row listed) (of_row row (put_all listed written))
+    goes_some = go (own_split listed n rise listed_up_to)
+      where
+        go : ((sooner n (of_row row listed) ≡ of_row row listed) × AllByRecursion (λ (k : Filed). k.entry.part.start < n) (of_row row listed)) ⊎ ((x : Filed) × (x.entry.part.start ≡ n) × Contains (of_row row listed) x × (of_row row listed ≡ sooner n (of_row row listed) ++ x ∷ [])) → FilesGoOn stands end (of_row row listed) (of_row row (put_all listed written))
+        go (inl all) = inl (f ∷ fs, now ∙ ap (λ (l : List Filed). l ++ (f ∷ fs)) all.0)
+        go (inr (y, start, y_within, y_are)) =
+            let of = in_row listed y y_within in
+            let len = longer_now y start of.0 of.1 in
+            inr (record {
+              front = sooner n (of_row row listed);
+              last = y;
+              grown = f;
+              more = fs;
+              were = y_are;
+              are = now;
+              further = record { part = same_part y start of.0 of.1; head_len = head_now y start of.0 of.1; len = omega (arith, len); more = λ stand. more_now y start of.0 of.1 stand (both_last y start of.0 of.1) };
+            })
+
+  goes : (fs : List Filed) → of_row row written ≡ fs → FilesGoOn stands end (of_row row listed) (of_row row (put_all listed written))
+  goes [] are = inl ([], row_put_all row written listed rises ends_listed ∙ ap (λ (l : List Filed). cut l (of_row row listed) ++ l) are)
+  goes (f ∷ fs) are = goes_some f fs are
+
+  pub files_go_on : FilesGoOn stands end (of_row row listed) (of_row row (put_all listed written))
+  files_go_on = goes (of_row row written) refl

@@ -1,0 +1,347 @@
+-- A step of copying: what is left to copy is what remains, and what is ahead then is what the machine puts there.
+use Rattle.std.proofs.Common.{◌≡◌, ◌⊎◌, inl, inr, ℕ, ◌<◌, ◌≤◌, List, [], ◌∷◌, ◌++◌, map, take, Bool, true, false, Some, None, refl, sym, ◌∙◌, ap, subst, arith, append-nil}
+use Rattle.std.specs.List.{list_any}
+use Rattle.std.specs.Prelude.{◌||◌, All, Contains, IsTrue, filter, nat_eq, nat_le, slice_get}
+use Rattle.std.proofs.lemmas.Bool.Decides.{nat_tests}
+use Rattle.std.proofs.lemmas.List.Elements.{All-contains, Contains-append_cases, Contains-append_left, Contains-append_right}
+use Rattle.etl_mover.specs.Move.{MoveState as Moving}
+use Rattle.partition_names.specs.declared.granularity.Granularity.{Granularity}
+use Rattle.partition_names.specs.declared.part.Part.{Part}
+use Rattle.partition_names.specs.Part.{HoldsMoment}
+use Rattle.partition_names.proofs.PartLemmas.{one_part, within}
+use Rattle.series_model.specs.Series.{before, end_from, end_of, since, IsRising, RisesFrom}
+use Rattle.series_model.specs.declared.sample.Sample.{Sample}
+use Rattle.store_manifest.specs.Entries.{Place}
+use Rattle.store_manifest.specs.Manifest.{ManifestState}
+use Rattle.store_manifest.specs.declared.entry.Entry.{Entry}
+use Rattle.tier_store.specs.Flush.{PlacesRise, file_at, put_all}
+use Rattle.tier_store.specs.Held.{Filed, IsFiled, entry_of, filed_at, samples_of}
+use Rattle.tier_store.specs.Plan.{of_row}
+use Rattle.tier_store.proofs.Listed.{all_put_all, found, listed_at, rise_put_all}
+use Rattle.three_stores.specs.Moving.{RunsBeside}
+use Rattle.three_stores.specs.Pinned.{SeenAll, beside}
+use Rattle.three_stores.specs.Retiring.{oldest}
+use Rattle.three_stores.specs.Revival.{AreWhole, samples_at}
+use Rattle.three_stores.specs.Revival as revival
+use Rattle.three_stores.specs.Seen.{Seen, granularities}
+use Rattle.three_stores.specs.Stores.{Stores, list_at}
+use Rattle.three_stores.specs.declared.limbo.Retired.{Retired}
+use Rattle.three_stores.proofs.Places.{granularity_at}
+use Rattle.act_model.specs.Limbo.{FileState, Fits, files_of, put, revived}
+use Rattle.act_model.specs.Machine.{Machine, MoveState}
+use Rattle.act_model.specs.MoveStep.{is_later, remaining}
+use Rattle.act_model.specs.Rows.{RowState, Store, Short, Medium, Long, holds, next_store, tier}
+use Rattle.act_model.specs.Rule.{index_of}
+use Rattle.act_model.specs.Sound.{CopiesOf}
+use Rattle.archive_core.specs.MoveChoice.{move_end}
+use Rattle.archive_core.specs.MoveTies.{GetsOne, GoInto, HasCopies, ends_from}
+use Rattle.archive_core.proofs.Batches.{told_stands}
+use Rattle.archive_core.proofs.LimboLists.{contains_filter, from_filter}
+use Rattle.archive_core.proofs.ListEnds.{own_entries}
+use Rattle.archive_core.proofs.MoveChanges.{starts_low}
+use Rattle.archive_core.proofs.MoveChoice.{files_held}
+use Rattle.archive_core.proofs.MoveCopies.{before_oldest, end_put}
+use Rattle.archive_core.proofs.MoveLimbo.{HaveMachine, from_put, have_durable, later_same, none_put, own_free, own_part, same_back, has_file}
+use Rattle.archive_core.proofs.MovePuts.{GoTogether, put_append, put_together, rises_before, same_filter, since_late, RevivesAs, revives}
+use Rattle.archive_core.proofs.SameNames.{all_of, contains_cases, contains_head, contains_tail, of_all}
+use Rattle.archive_core.proofs.Windows.{all_in}
+use Rattle.archive_core.proofs.MoveRows.{ahead_own}
+use Rattle.archive_core.proofs.PutFirst.{holds_at}
+use Rattle.tier_store.proofs.Revival.{put_all_new}
+use Rattle.three_stores.specs.Reviving.{AreBack, past}
+
+-- TESTS OF LISTS
+
+any_from : {A : Type 0} (p : A → Bool) (xs : List A) → list_any p xs ≡ true → (x : A) × Contains xs x × (p x ≡ true)
+any_from {A} p [] is = absurd (cc (is))
+any_from {A} p (x ∷ xs) is = by_test (p x) refl is (any_from p xs)
+  where
+    by_test : (b : Bool) → p x ≡ b → (b || list_any p xs) ≡ true → (list_any p xs ≡ true → (y : A) × Contains xs y × (p y ≡ true)) → (y : A) × Contains (x ∷ xs) y × (p y ≡ true)
+    by_test true own all more = (x, contains_head x xs, own)
+    by_test false other all more = let rest = more all in (rest.0, contains_tail x xs rest.0 rest.1, rest.2)
+
+any_to : {A : Type 0} (p : A → Bool) (xs : List A) (x : A) → Contains xs x → p x ≡ true → list_any p xs ≡ true
+any_to {A} p [] x there is = absurd (let low = there.1 in omega (arith, low))
+any_to {A} p (y ∷ xs) x there is = elim (contains_cases y xs x there) [
+  | inl own ↦ (let yes : p y ≡ true = ap p own ∙ is in ap (λ (b : Bool). b || list_any p xs) yes)
+  | inr later ↦ by_rest (p y) (any_to p xs x later is)
+]
+  where
+    by_rest : (b : Bool) → list_any p xs ≡ true → (b || list_any p xs) ≡ true
+    by_rest true rest = refl
+    by_rest false rest = rest
+
+-- what is put is there
+put_keeps : (xs : List Sample) (limbo : List FileState) (listed : List Sample) (s : Sample) → Contains listed s → Contains (put xs limbo listed) s
+put_keeps [] limbo listed s there = there
+put_keeps (x ∷ xs) limbo listed s there = let more = revived limbo listed x ++ x ∷ [] in put_keeps xs limbo (listed ++ more) s (Contains-append_left listed more s there)
+
+put_has : (xs : List Sample) (limbo : List FileState) (listed : List Sample) (s : Sample) → Contains xs s → Contains (put xs limbo listed) s
+put_has [] limbo listed s there = absurd (let low = there.1 in omega (arith, low))
+put_has (x ∷ xs) limbo listed s there = elim (contains_cases x xs s there) [
+  | inl own ↦ subst (λ (y : Sample). Contains (put (x ∷ xs) limbo listed) y) own (put_keeps xs limbo (listed ++ (back ++ x ∷ [])) x (Contains-append_right listed (back ++ x ∷ []) x (Contains-append_right back (x ∷ []) x (contains_head x []))))
+  | inr later ↦ put_has xs limbo (listed ++ (back ++ x ∷ [])) s later
+]
+  where
+    back : List Sample
+    back = revived limbo listed x
+
+-- a sample that is put is one of those, or of a file of limbo into whose partition one of those comes
+data PutFor (xs : List Sample) (limbo : List FileState) (y : Sample) : Type 0 where
+  is_put : Contains xs y → PutFor xs limbo y
+  comes_back : (x : Sample) (g : FileState) → Contains xs x → Contains limbo g → holds g.part x.t ≡ true → Contains g.samples y → PutFor xs limbo y
+
+put_more_for : (x : Sample) (xs : List Sample) (limbo : List FileState) (y : Sample) → PutFor xs limbo y → PutFor (x ∷ xs) limbo y
+put_more_for x xs limbo y (is_put there) = is_put (contains_tail x xs y there)
+put_more_for x xs limbo y (comes_back z g there among lies has) = comes_back z g (contains_tail x xs z there) among lies has
+
+revived_for : (x : Sample) (xs : List Sample) (limbo : List FileState) (listed : List Sample) (y : Sample) → Contains (revived limbo listed x) y → PutFor (x ∷ xs) limbo y
+revived_for x xs limbo listed y there = by_case (revives limbo listed x) there
+  where
+    never : {ys : List Sample} → ys ≡ [] → Contains ys y → PutFor (x ∷ xs) limbo y
+    never {ys} none has = absurd (let low = (subst (λ (zs : List Sample). Contains zs y) none has).1 in omega (arith, low))
+
+    by_case : {ys : List Sample} → RevivesAs limbo listed x ys → Contains ys y → PutFor (x ∷ xs) limbo y
+    by_case {ys} (inl (g, among, lies, inl (bare, are))) has = comes_back x g (contains_head x xs) among lies (subst (λ (zs : List Sample). Contains zs y) are has)
+    by_case {ys} (inl (g, among, lies, inr (some, none))) has = never none has
+    by_case {ys} (inr (others, none)) has = never none has
+
+put_from : (xs : List Sample) (limbo : List FileState) (listed : List Sample) (y : Sample) → Contains (put xs limbo listed) y → Contains listed y ⊎ PutFor xs limbo y
+put_from [] limbo listed y there = inl there
+put_from (x ∷ xs) limbo listed y there = elim (put_from xs limbo (listed ++ (revived limbo listed x ++ x ∷ [])) y there) [
+  | inl among ↦ elim (Contains-append_cases listed (revived limbo listed x ++ x ∷ []) y among) [
+    | inl was ↦ inl was
+    | inr new ↦ inr (elim (Contains-append_cases (revived limbo listed x) (x ∷ []) y new) [
+      | inl back ↦ revived_for x xs limbo listed y back
+      | inr own ↦ elim (contains_cases x [] y own) [
+        | inl same ↦ is_put (subst (λ (z : Sample). Contains (x ∷ xs) z) same (contains_head x xs))
+        | inr none ↦ absurd (let low = none.1 in omega (arith, low))
+      ]
+    ])
+  ]
+  | inr later ↦ inr (put_more_for x xs limbo y later)
+]
+
+-- a sample of all files is one of a file
+pub in_one : (fs : List Filed) (s : Sample) → Contains (all_in fs) s → (f : Filed) × Contains fs f × Contains f.samples s
+in_one [] s there = absurd (let low = there.1 in omega (arith, low))
+in_one (f ∷ fs) s there = elim (Contains-append_cases f.samples (all_in fs) s there) [
+  | inl own ↦ (f, contains_head f fs, own)
+  | inr later ↦ (let rest = in_one fs s later in (rest.0, contains_tail f fs rest.0 rest.1, rest.2))
+]
+
+pub in_all : (fs : List Filed) (f : Filed) (s : Sample) → Contains fs f → Contains f.samples s → Contains (all_in fs) s
+in_all [] f s there has = absurd (let low = there.1 in omega (arith, low))
+in_all (x ∷ fs) f s there has = elim (contains_cases x fs f there) [
+  | inl own ↦ Contains-append_left x.samples (all_in fs) s (subst (λ (h : Filed). Contains h.samples s) (sym own) has)
+  | inr later ↦ Contains-append_right x.samples (all_in fs) s (in_all fs f s later has)
+]
+
+module _ (tells : Bool) (at : Seen) (limbo : List Retired) (m : Machine) (held : Stores) (have : HaveMachine tells at limbo m held) (told : m.told ≡ true) (move : MoveState) (n : ManifestState) (managed : slice_get at.manifests (index_of (next_store move.store)) ≡ Some n) (r : RowState) (here : slice_get m.rows move.row ≡ Some r) where
+  abbrev to : Store
+  to = next_store move.store
+
+  abbrev place : ℕ
+  place = index_of to
+
+  abbrev listed : List Filed
+  listed = list_at place held
+
+  stands : IsTrue held.stands
+  stands = told_stands tells m.told held.stands have.told_is told
+
+  rise_listed : PlacesRise listed
+  rise_listed = (have.has.known.each place n managed).valid.apart
+
+  listed_filed : All (IsFiled n.granularity held.rows) listed
+  listed_filed = (have.has.known.each place n managed).valid.filed.filed stands
+
+  own_tier : tier r to ≡ samples_of move.row listed
+  own_tier = (files_held at.catalogue at.manifests held m (have_durable tells at limbo m held have) told move.row r here to).samples
+
+  abbrev own : List FileState
+  own = files_of move.row to m.limbo
+
+  tier_rises : (store : Store) → IsRising (tier r store)
+  tier_rises Short = (have.sound.each_row move.row r here).short
+  tier_rises Medium = (have.sound.each_row move.row r here).medium
+  tier_rises Long = (have.sound.each_row move.row r here).long
+
+  module _ (all : SeenAll) (same_g : granularities all.stores.manifests ≡ granularities at.manifests) (moving : Moving) (files : List Filed) (runs : RunsBeside place tells all moving files held) where
+    -- files that a move is to list are such of the store
+    pub files_filed : All (IsFiled n.granularity held.rows) files
+    files_filed = (runs.ahead.filed n.granularity (ap (λ (gs : List Granularity). slice_get gs place) same_g ∙ granularity_at at.manifests place n managed)).filed stands
+
+    pub ahead_filed : All (IsFiled n.granularity held.rows) (put_all listed files)
+    ahead_filed = all_put_all (IsFiled n.granularity held.rows) listed files listed_filed files_filed
+
+  module _ (moving : Moving) (series : moving.series ≡ move.row) (files : List Filed) (runs : RunsBeside place tells (beside at limbo) moving files held) (copies : HasCopies held m.limbo r move files) (into : GoInto (list_at place held) move.copied files) (right : CopiesOf m.limbo r move.row move.store move.copied)
+      (retired : List Filed) (whole : AreWhole place tells at limbo held.stands retired) (back : List Filed) (in_limbo : AreBack place limbo retired (put_all listed files) back) where
+    abbrev ahead : List Filed
+    ahead = put_all listed files
+
+    leads : (p : Place) → file_at p ahead ≡ None → file_at p listed ≡ None
+    leads p = none_put files listed p rise_listed
+
+    filed : All (IsFiled n.granularity held.rows) ahead
+    filed = ahead_filed (beside at limbo) refl moving files runs
+
+    -- what is ahead ends where the machine's copies do
+    ahead_end : end_of (samples_of move.row ahead) ≡ end_from (end_of (tier r to)) move.copied
+    ahead_end = ap end_of copies ∙ end_put move.copied own (tier r to)
+
+    -- and no sooner than a file in limbo into whose partition the move has copied
+    covers : (f : FileState) (g : Filed) → Contains own f → file_at (move.row, f.part.start) ahead ≡ Some g → end_from f.part.start f.samples ≤ end_of (samples_of move.row ahead)
+    covers f g there stands_there = by_place (listed_at ahead (move.row, f.part.start))
+      where
+        by_file : (h : Filed) → Contains files h → filed_at h ≡ (move.row, f.part.start) → end_from f.part.start f.samples ≤ end_of (samples_of move.row ahead)
+        by_file h new at_place =
+            let free = ap (λ (q : Place). file_at q listed) at_place ∙ own_free tells at limbo m held have told to n managed move.row r here retired whole ahead leads back in_limbo f there in
+            let one = any_from (λ (s : Sample). holds h.entry.part s.t) move.copied (of_all (GetsOne listed move.copied) files h into.just new free) in
+            let s : Sample = one.0 in
+            let h_part = (All-contains (IsFiled n.granularity held.rows) files h (files_filed (beside at limbo) refl moving files runs) new).part in
+            let f_part = own_part tells at limbo m held have told to n managed move.row r here retired whole ahead leads back in_limbo f there in
+            let start : h.entry.part.start ≡ f.part.start = ap (λ (q : Place). q.1) at_place in
+            let mine = (within n.granularity h.entry.part h_part).1 in
+            let theirs = (within n.granularity f.part f_part).1 in
+            let same : h.entry.part ≡ f.part = one_part n.granularity h.entry.part f.part f.part.start h_part f_part (omega (arith, start), omega (arith, start, mine)) (omega arith, theirs) in
+            let lies : holds f.part s.t ≡ true = ap (λ (p : Part). holds p s.t) (sym same) ∙ one.2 in
+            let fits : Fits own s = of_all (Fits own) move.copied s right.fits one.1 in
+            let behind = of_all (λ (x : FileState). holds x.part s.t ≡ true → end_from x.part.start x.samples ≤ s.t) own f fits there lies in
+            let before_end = (of_all (λ (x : Sample). (end_of (tier r to) ≤ x.t) × (x.t < end_from (end_of (tier r to)) move.copied)) move.copied s (rises_before (end_of (tier r to)) move.copied right.rises) one.1).1 in
+            let end = ahead_end in
+            omega (arith, behind, before_end, end)
+
+        by_place : (file_at (move.row, f.part.start) ahead ≡ None) ⊎ ((h : Filed) × Contains ahead h × (filed_at h ≡ (move.row, f.part.start)) × (file_at (move.row, f.part.start) ahead ≡ Some h)) → end_from f.part.start f.samples ≤ end_of (samples_of move.row ahead)
+        by_place (inl none) = absurd (cc (none, stands_there))
+        by_place (inr (h, inside, at_place, is)) = elim (from_put files listed h inside) [
+          | inl was ↦ absurd (
+              let free = own_free tells at limbo m held have told to n managed move.row r here retired whole ahead leads back in_limbo f there in
+              let found_it = All-contains (λ (x : Filed). file_at (filed_at x) listed ≡ Some x) listed h (found listed rise_listed) was in
+              let there_too : file_at (move.row, f.part.start) listed ≡ Some h = ap (λ (q : Place). file_at q listed) (sym at_place) ∙ found_it in
+              cc (free, there_too)
+              )
+          | inr new ↦ by_file h new at_place
+        ]
+
+    -- WHAT IS LEFT IS WHAT REMAINS
+
+    -- the same samples are held back
+    pub past_is : (xs : List Sample) → past back move.row (since (end_of (samples_of move.row ahead)) xs) ≡ filter (is_later own) (since (end_of (samples_of move.row ahead)) xs)
+    past_is xs =
+        let end = end_of (samples_of move.row ahead) in
+        let later = since end xs in
+        same_filter (λ (s : Sample). nat_le (end_of (samples_at back move.row s.t)) s.t) (is_later own) later
+        (all_of (λ (s : Sample). nat_le (end_of (samples_at back move.row s.t)) s.t ≡ is_later own s) later (λ s there.
+        later_same tells at limbo m held have told to n managed move.row r here retired whole ahead leads back in_limbo end covers s (of_all (λ (x : Sample). end ≤ x.t) later s (since_late end xs) there)))
+
+    pub left_remains : (count : ℕ) → move.to ≡ move_end held move.store move.row count
+        → past back move.row (since (end_of (samples_of move.row ahead)) (all_in (oldest (index_of move.store) move.row count held))) ≡ remaining m r move
+    left_remains count ends =
+        let source = list_at (index_of move.store) held in
+        let fs = of_row move.row source in
+        let is = files_held at.catalogue at.manifests held m (have_durable tells at limbo m held have) told move.row r here move.store in
+        let last : move.to ≡ ends_from 0 (take count (map entry_of fs)) = ends ∙ ap (λ (es : List Entry). ends_from 0 (take count es)) (sym (own_entries move.row source)) in
+        let front : all_in (take count fs) ≡ before move.to (tier r move.store) = sym (before_oldest is.unit held.rows 0 count fs is.filed is.apart (starts_low fs)) ∙ (λ k. before (sym last k) (sym is.samples k)) in
+        past_is (all_in (take count fs)) ∙ (λ k. filter (is_later own) (since (ahead_end k) (front k)))
+
+    -- WHAT IS PUT
+
+    pub put_more : (copied : List Sample) → GoTogether own (samples_of move.row ahead) copied → samples_of move.row ahead ++ (revival.revived back move.row copied ++ copied) ≡ put (move.copied ++ copied) own (tier r to)
+    put_more [] together = append-nil (samples_of move.row ahead) ∙ (copies ∙ sym (put_append move.copied [] own (tier r to)))
+    put_more (s ∷ xs) together =
+        let all = samples_of move.row ahead in
+        let back_is : samples_at back move.row s.t ≡ revived own all s = same_back tells at limbo m held have told to n managed move.row r here retired whole ahead leads back in_limbo filed (rise_put_all listed files rise_listed) s in
+        ap (λ (ys : List Sample). all ++ (ys ++ s ∷ xs)) back_is
+        ∙ (sym (put_together s xs own all together) ∙ (ap (put (s ∷ xs) own) copies ∙ sym (put_append move.copied (s ∷ xs) own (tier r to))))
+
+    -- WHERE IT GOES
+
+    module _ (copied : List Sample) (rises : RisesFrom (end_of (tier r to)) (move.copied ++ copied)) (all : SeenAll) (same_g : granularities all.stores.manifests ≡ granularities at.manifests) (new : Moving) (more : List Filed) (then : RunsBeside place tells all new more held) (more_is : samples_of move.row (put_all listed more) ≡ put (move.copied ++ copied) own (tier r to)) where
+      -- a sample that is copied stands in a file that is to be listed
+      one_into : (s : Sample) → Contains (move.copied ++ copied) s → list_any (λ (f : Filed). holds f.entry.part s.t) more ≡ true
+      one_into s there =
+          let inside : Contains (all_in (of_row move.row (put_all listed more))) s = subst (λ (xs : List Sample). Contains xs s) (sym more_is) (put_has (move.copied ++ copied) own (tier r to) s there) in
+          let one = in_one (of_row move.row (put_all listed more)) s inside in
+          by_file one.0 one.1 one.2
+        where
+          late : end_of (tier r to) ≤ s.t
+          late = (of_all (λ (x : Sample). (end_of (tier r to) ≤ x.t) × (x.t < end_from (end_of (tier r to)) (move.copied ++ copied))) (move.copied ++ copied) s (rises_before (end_of (tier r to)) (move.copied ++ copied) rises) there).0
+
+          was_listed : (h : Filed) → Contains listed h → h.entry.series ≡ move.row → Contains h.samples s → ⊥
+          was_listed h was own_row has =
+              let inside = contains_filter (λ (x : Filed). nat_eq x.entry.series move.row) listed h was (grind (arith, nat_tests, own_row)) in
+              let in_tier : Contains (tier r to) s = subst (λ (xs : List Sample). Contains xs s) (sym own_tier) (in_all (of_row move.row listed) h s inside has) in
+              let early = (of_all (λ (x : Sample). (0 ≤ x.t) × (x.t < end_of (tier r to))) (tier r to) s (rises_before 0 (tier r to) (tier_rises to)) in_tier).1 in
+              omega (arith, early, late)
+
+          by_file : (h : Filed) → Contains (of_row move.row (put_all listed more)) h → Contains h.samples s → list_any (λ (f : Filed). holds f.entry.part s.t) more ≡ true
+          by_file h among has =
+              let from = from_filter (λ (x : Filed). nat_eq x.entry.series move.row) (put_all listed more) h among in
+              let test = from.1 in
+              elim (from_put more listed h from.0) [
+                | inl was ↦ absurd (was_listed h was (grind (arith, nat_tests, test)) has)
+                | inr written ↦ (
+                    let is = All-contains (IsFiled n.granularity held.rows) more h (files_filed all same_g new more then) written in
+                    let lies : HoldsMoment h.entry.part s.t = All-contains (λ (x : Sample). HoldsMoment h.entry.part x.t) h.samples s is.inside has in
+                    let low = lies.0 in
+                    let high = lies.1 in
+                    any_to (λ (f : Filed). holds f.entry.part s.t) more h written (grind (arith, nat_tests, low, high))
+                    )
+              ]
+
+      -- Where nothing is listed in the place of a file that is to be, one of all copied samples lies in its partition.
+      into_free : new.series ≡ move.row → (f : Filed) → Contains more f → file_at (filed_at f) listed ≡ None → list_any (λ (s : Sample). holds f.entry.part s.t) (move.copied ++ copied) ≡ true
+      into_free new_series f written free = by_case (put_from (move.copied ++ copied) own (tier r to) y (subst (λ (xs : List Sample). Contains xs y) more_is (in_all (of_row move.row (put_all listed more)) f y among in_f)))
+        where
+          f_is : IsFiled n.granularity held.rows f
+          f_is = All-contains (IsFiled n.granularity held.rows) more f (files_filed all same_g new more then) written
+
+          y : Sample
+          y = f_is.first
+
+          in_f : Contains f.samples y
+          in_f = subst (λ (ys : List Sample). Contains ys y) (sym f_is.some) (contains_head y f_is.others)
+
+          y_lies : HoldsMoment f.entry.part y.t
+          y_lies = All-contains (λ (z : Sample). HoldsMoment f.entry.part z.t) f.samples y f_is.inside in_f
+
+          own_row : f.entry.series ≡ move.row
+          own_row = of_all (λ (h : Filed). h.entry.series ≡ new.series) more f (ahead_own place tells all new more held then) written ∙ new_series
+
+          among : Contains (of_row move.row (put_all listed more)) f
+          among = contains_filter (λ (h : Filed). nat_eq h.entry.series move.row) (put_all listed more) f (put_all_new more listed f then.ahead.rise written) (grind (arith, nat_tests, own_row))
+
+          was_listed : Contains (tier r to) y → ⊥
+          was_listed there =
+              let one = in_one (of_row move.row listed) y (subst (λ (xs : List Sample). Contains xs y) own_tier there) in
+              let h : Filed = one.0 in
+              let from = from_filter (λ (x : Filed). nat_eq x.entry.series move.row) listed h one.1 in
+              let test = from.1 in
+              let h_is = All-contains (IsFiled n.granularity held.rows) listed h listed_filed from.0 in
+              let lies : HoldsMoment h.entry.part y.t = All-contains (λ (z : Sample). HoldsMoment h.entry.part z.t) h.samples y h_is.inside one.2 in
+              let same : h.entry.part ≡ f.entry.part = one_part n.granularity h.entry.part f.entry.part y.t h_is.part f_is.part lies y_lies in
+              let its_row : h.entry.series ≡ move.row = grind (arith, nat_tests, test) in
+              let one_row : h.entry.series ≡ f.entry.series = its_row ∙ sym own_row in
+              let start : h.entry.part.start ≡ f.entry.part.start = ap (λ (p : Part). p.start) same in
+              let at_place : filed_at h ≡ filed_at f = λ j. (one_row j, start j) in
+              let found_it = All-contains (λ (x : Filed). file_at (filed_at x) listed ≡ Some x) listed h (found listed rise_listed) from.0 in
+              let there_too : file_at (filed_at f) listed ≡ Some h = ap (λ (q : Place). file_at q listed) (sym at_place) ∙ found_it in
+              cc (free, there_too)
+
+          by_case : Contains (tier r to) y ⊎ PutFor (move.copied ++ copied) own y → list_any (λ (s : Sample). holds f.entry.part s.t) (move.copied ++ copied) ≡ true
+          by_case (inl there) = absurd (was_listed there)
+          by_case (inr (is_put there)) = any_to (λ (s : Sample). holds f.entry.part s.t) (move.copied ++ copied) y there (holds_at f.entry.part y.t y_lies.0 y_lies.1)
+          by_case (inr (comes_back x g there of_limbo lies has)) =
+              let file = has_file tells at limbo m held have told to n managed move.row r here retired whole ahead leads back in_limbo g of_limbo in
+              let inside : HoldsMoment file.file.entry.part y.t = All-contains (λ (z : Sample). HoldsMoment file.file.entry.part z.t) g.samples y file.is.filed.inside has in
+              let g_lies : HoldsMoment g.part y.t = subst (λ (p : Part). HoldsMoment p y.t) file.is.part inside in
+              let g_part = own_part tells at limbo m held have told to n managed move.row r here retired whole ahead leads back in_limbo g of_limbo in
+              let same : g.part ≡ f.entry.part = one_part n.granularity g.part f.entry.part y.t g_part f_is.part g_lies y_lies in
+              any_to (λ (s : Sample). holds f.entry.part s.t) (move.copied ++ copied) x there (ap (λ (p : Part). holds p x.t) (sym same) ∙ lies)
+
+      pub go_into : new.series ≡ move.row → GoInto listed (move.copied ++ copied) more
+      go_into new_series = record {
+        each = all_of (λ (s : Sample). list_any (λ (f : Filed). holds f.entry.part s.t) more ≡ true) (move.copied ++ copied) one_into;
+        just = all_of (GetsOne listed (move.copied ++ copied)) more (into_free new_series);
+      }

@@ -1,0 +1,246 @@
+-- The act by which a move goes on: how it ends, and what a crash within it leaves.
+use Rattle.std.proofs.Common.{◌≡◌, ◌≢◌, ◌⊎◌, inl, inr, ℕ, ◌≤◌, ◌+◌, List, [], ◌∷◌, Bool, true, false, cond, Option, Some, None, refl, sym, ◌∙◌, ap, subst, arith}
+use Rattle.std.specs.FinMap.{FinMap, get, remove, get-remove}
+use Rattle.std.specs.Cmp.{nat_cmp_total}
+use Rattle.std.specs.Ordering.{nat_cmp}
+use Rattle.std.specs.Option.{is_some}
+use Rattle.std.specs.Prelude.{IsTrue, ◌==◌}
+use Rattle.std.proofs.lemmas.Bool.Decides.{nat_tests}
+use Rattle.std.specs.List.{AllByRecursion}
+use Rattle.disk_model.specs.Files.{Rose}
+use Rattle.disk_model.specs.Past.{Passes}
+use Rattle.disk_model.specs.declared.disk.DiskErr.TheVariants.{Memory}
+use Rattle.disk_model.proofs.Passing.{passes_then}
+use Rattle.etl_mover.specs.Move.{MoveState as Moving}
+use Rattle.partition_names.specs.declared.granularity.Granularity.{Granularity}
+use Rattle.running_moves.specs.Table as table
+use Rattle.running_moves.specs.declared.table.Running.{Running}
+use Rattle.tier_store.proofs.Acting.{rose_after}
+use Rattle.three_stores.specs.Pinned.{SeenAll, beside}
+use Rattle.three_stores.specs.Change.{Has}
+use Rattle.three_stores.specs.Seen.{Seen, granularities}
+use Rattle.three_stores.specs.Stores.{Stores}
+use Rattle.three_stores.specs.declared.limbo.Retired.{Retired}
+use Rattle.act_model.specs.Changes.{Settles, made, IsRetired}
+use Rattle.act_model.specs.Crash.{settled_there, with_change}
+use Rattle.act_model.specs.Limbo.{FileState}
+use Rattle.act_model.specs.Machine.{Machine, MoveState, Change, AddsRow, SetsState, Appends, Publishes, Unlists}
+use Rattle.act_model.specs.MoveStep.{GoesOn, MoveStepStep, change_of, copies, has_copied, publishes, retires, again, damaged, no_move, without_move}
+use Rattle.act_model.specs.Outcome.{faults_first, faults_between, faults_within, refused, refused_at_once, runs, wants_memory, wants_memory_settled}
+use Rattle.act_model.specs.Reply.{Reply}
+use Rattle.act_model.specs.Rows.{RowState}
+use Rattle.act_model.specs.Sound.{IsSound}
+use Rattle.act_model.specs.Sweep.{IsPinned}
+use Rattle.act_model.specs.declared.acts.Answer.TheVariants as answer
+use Rattle.act_model.proofs.MoveActs.{move_step_sound}
+use Rattle.archive_core.specs.Ends.{LeavesByAct, LeavesWithin, SettlesTo, StandsStill, Steps}
+use Rattle.archive_core.specs.declared.memory.RowMemory.{RowMemory}
+use Rattle.archive_core.specs.Growing.{HasRunning}
+use Rattle.archive_core.specs.MoveTies.{AreMovesOf, HasMoveOf}
+use Rattle.archive_core.specs.Parts.{Parts}
+use Rattle.archive_core.specs.Stands.{IsReady, Stands, Rests, InDoubt}
+use Rattle.archive_core.specs.Stepping.{HoldsStep, StepEnds, StepsOn, with_slots, is_doubted, has_failed, was_spent, went_on}
+use Rattle.archive_core.proofs.Acting.{crash_none, crash_settling}
+use Rattle.archive_core.proofs.StoresGoing.{go_fewer}
+use Rattle.archive_core.proofs.Lists.{same_or_not}
+use Rattle.archive_core.proofs.MoveAct.{slots_stand}
+use Rattle.archive_core.proofs.MoveBegun.{number_tests}
+
+-- WHERE THE DISK HAS COUNTED ANOTHER NUMBER
+
+-- the count of faults is nothing to a step
+module _ (n : ℕ) (m : Machine) (f : ℕ) where
+  abbrev counted : Machine
+  counted = record m { faults = f }
+
+  retired_goes : (i to : ℕ) (store : _) (x : FileState) → IsRetired counted i store to x → IsRetired m i store to x
+  retired_goes i to store x is = record { row = is.row; here = is.here; own_store = is.own_store; moves = is.moves; whole = is.whole; before = is.before; partition = is.partition; samples = is.samples; some = is.some }
+
+  all_retired : (i to : ℕ) (store : _) (into : List FileState) → AllByRecursion (IsRetired counted i store to) into → AllByRecursion (IsRetired m i store to) into
+  all_retired i to store [] all = tt
+  all_retired i to store (x ∷ into) all = (retired_goes i to store x all.0, all_retired i to store into all.1)
+
+  pinned_goes : (into : List FileState) → AllByRecursion (IsPinned counted) into → AllByRecursion (IsPinned m) into
+  pinned_goes [] all = tt
+  pinned_goes (x ∷ into) all = (record { number = all.0.number; pin = all.0.pin; here = all.0.here; names = all.0.names }, pinned_goes into all.1)
+
+  pub step_goes : (given : Reply) (new : Machine) → GoesOn n counted given new → GoesOn n m given new
+  step_goes _ new (copies move first more next rest here stage left same) = copies move first more next rest here stage left same
+  step_goes _ new (has_copied move xs here stage left same) = has_copied move xs here stage left same
+  step_goes _ new (publishes move here stage same) = publishes move here stage same
+  step_goes _ new (retires move into here stage covered may pinned same) = retires move into here stage covered
+      (all_retired move.row move.to move.store into may.0, record { stays = may.1.stays }, may.2) (λ told. pinned_goes into (pinned told)) same
+  step_goes _ new (again move len copied here stage grown less part same) = again move len copied here stage grown less
+      (λ told row at_row. let is = part told row at_row in record { part = is.part; head_len = is.head_len; partition = is.partition; of_move = is.of_move; older = is.older; grew = is.grew; listed = is.listed; published = is.published }) same
+  step_goes _ new (damaged name at never same) = damaged name at never same
+
+-- THE MOVE THAT WAS TAKEN OUT
+
+pub moves_without : (tells : Bool) (all : SeenAll) (told : Bool) (rows : List RowState) (limbo : List FileState) (before : Stores) (moves : FinMap nat_cmp MoveState) (slots later : List (Option (Running Moving))) (n : ℕ)
+    → ((k : ℕ) → table.at later k ≡ cond (k == n) None (table.at slots k)) → AreMovesOf tells all told rows limbo before moves slots → AreMovesOf tells all told rows limbo before (remove moves n) later
+moves_without tells all told rows limbo before moves slots later n left are = record {
+  none = λ k none. left k ∙ by_none k (k == n) (ap (λ (b : Bool). cond b None (get moves k)) (sym (number_tests k n)) ∙ (sym (get-remove nat_cmp_total moves n k) ∙ none));
+  each = λ k move here. by_each k move (k == n) refl (ap (λ (b : Bool). cond b None (get moves k)) (sym (number_tests k n)) ∙ (sym (get-remove nat_cmp_total moves n k) ∙ here));
+}
+  where
+    by_none : (k : ℕ) (b : Bool) → cond b None (get moves k) ≡ None → cond b None (table.at slots k) ≡ None
+    by_none k true none = refl
+    by_none k false none = are.none k none
+
+    by_each : (k : ℕ) (move : MoveState) (b : Bool) → (k == n) ≡ b → cond b None (get moves k) ≡ Some move → HasMoveOf tells all told rows limbo before later k move
+    by_each k move true test here = absurd (cc (here))
+    by_each k move false test here =
+        let has = are.each k move here in
+        record { running = has.running; there = left k ∙ (ap (λ (b : Bool). cond b None (table.at slots k)) test ∙ has.there); is = has.is }
+
+-- those that are left are among those that were
+pub left_was : (moves : FinMap nat_cmp MoveState) (n k : ℕ) (other : MoveState) → get (remove moves n) k ≡ Some other → ((k == n) ≡ false) × (get moves k ≡ Some other)
+left_was moves n k other here = by_test (k == n) refl (ap (λ (b : Bool). cond b None (get moves k)) (sym (number_tests k n)) ∙ (sym (get-remove nat_cmp_total moves n k) ∙ here))
+  where
+    by_test : (b : Bool) → (k == n) ≡ b → cond b None (get moves k) ≡ Some other → ((k == n) ≡ false) × (get moves k ≡ Some other)
+    by_test true is gone = absurd (cc (gone))
+    by_test false is there = (is, there)
+
+pub had_running : (moves : FinMap nat_cmp MoveState) (n row : ℕ) → HasRunning (remove moves n) row → HasRunning moves row
+had_running moves n row (k, other, there, same) = (k, other, (left_was moves n k other there).1, same)
+
+-- what is ready stays so
+pub ready_fewer : (kept : List RowMemory) (rows : List RowState) (moves : FinMap nat_cmp MoveState) (n : ℕ) (d : Option Change) → IsReady kept rows moves d → IsReady kept rows (remove moves n) d
+ready_fewer kept rows moves n None ready = tt
+ready_fewer kept rows moves n (Some (AddsRow name about)) ready = ready
+ready_fewer kept rows moves n (Some (SetsState i state)) ready = ready
+ready_fewer kept rows moves n (Some (Appends batch)) ready = ready
+ready_fewer kept rows moves n (Some (Publishes i store copied)) ready = λ runs. ready (had_running moves n i runs)
+ready_fewer kept rows moves n (Some (Unlists i store to)) ready = λ runs. ready (had_running moves n i runs)
+
+-- a sound machine is so without one of its moves
+without_sound : (n : ℕ) (m : Machine) → IsSound m → no_move (get m.moves n) ≡ None → IsSound (without_move n m)
+without_sound n m sound runs_it = move_step_sound n m (record (without_move n m) { faults = m.faults + 1 }) answer.DiskFault sound (faults_first runs_it refl (omega arith))
+
+-- a doubt is no matter of it
+doubt_without : (tells : Bool) (n : ℕ) (at : Seen) (limbo : List Retired) (before : Stores) (m : Machine) → Has tells at before ⊎ InDoubt tells at limbo before m → Has tells at before ⊎ InDoubt tells at limbo before (without_move n m)
+doubt_without tells n at limbo before m (inl has) = inl has
+doubt_without tells n at limbo before m (inr d) = inr (record { change = d.change; is = d.is; after = d.after; doubts = d.doubts; stand = d.stand; go = go_fewer tells (beside at limbo) m.told m.rows m.moves (remove m.moves n) before d.after (λ row runs. had_running m.moves n row runs) d.change d.go; holds = d.holds })
+
+-- so the archive stands for what it stood for, without the move
+pub stands_without : (tells : Bool) (n : ℕ) (p : Parts) (left : List (Option (Running Moving))) (m : Machine) → ((k : ℕ) → table.at left k ≡ cond (k == n) None (table.at p.slots k)) → no_move (get m.moves n) ≡ None → Stands tells p m → Stands tells (with_slots left p) (without_move n m)
+stands_without tells n p left m others runs_it s = record {
+  sound = without_sound n m s.sound runs_it;
+  rule = s.rule;
+  limbo = s.limbo;
+  settings = s.settings;
+  pins = s.pins;
+  faults = s.faults;
+  doors = s.doors;
+  rows = s.rows;
+  doubt = s.doubt;
+  ready = ready_fewer p.kept m.rows m.moves n m.doubt s.ready;
+  store = record { before = s.store.before; told = s.store.told; disk = s.store.disk; holds = s.store.holds; whole = s.store.whole; moves = moves_without tells (beside p.at p.limbo) m.told m.rows m.limbo s.store.before m.moves p.slots left n others s.store.moves; is_open = doubt_without tells n p.at p.limbo s.store.before m s.store.is_open };
+}
+
+-- WHETHER IT RUNS
+
+module _ (tells : Bool) (n : ℕ) (p : Parts) where
+  abbrev refuse : Machine → Option Reply
+  refuse m = no_move (get m.moves n)
+
+  abbrev change : Machine → Option Change
+  change m = change_of m (get m.moves n)
+
+  abbrev pub StepsAs : Reply → Parts → Type 0
+  StepsAs given q = Steps tells (MoveStepStep n) p given q
+
+  -- a move that isn't in the table isn't the machine's
+  pub none_runs : (q : Parts) → table.at q.slots n ≡ None → (m : Machine) → Stands tells q m → refuse m ≡ Some answer.NoMove
+  none_runs q none m s = by_get (get m.moves n) refl
+    where
+      by_get : (o : Option MoveState) → get m.moves n ≡ o → no_move o ≡ Some answer.NoMove
+      by_get None is = refl
+      by_get (Some move) is = let has = s.store.moves.each n move is in absurd (let bad = sym none ∙ has.there in cc (bad))
+
+  -- one that is, is
+  pub one_runs : (q : Parts) → is_some (table.at q.slots n) ≡ true → (m : Machine) → Stands tells q m → refuse m ≡ None
+  one_runs q some m s = by_get (get m.moves n) refl
+    where
+      by_get : (o : Option MoveState) → get m.moves n ≡ o → no_move o ≡ None
+      by_get None is = absurd (let bad = sym some ∙ ap is_some (s.store.moves.none n is) in cc (bad))
+      by_get (Some move) is = refl
+
+  pub not_running : is_some (table.at p.slots n) ≡ false → StepsAs answer.NoMove p
+  not_running none = λ m s. (m, refused_at_once answer.NoMove (none_runs p (is_none (table.at p.slots n) none) m s), s)
+    where
+      is_none : (o : Option (Running Moving)) → is_some o ≡ false → o ≡ None
+      is_none None is = refl
+      is_none (Some running) is = absurd (cc (is))
+
+  pub crash_not_running : LeavesByAct tells refuse change p p
+  crash_not_running = crash_none tells refuse change (λ m f. refl) (λ m f. refl) p
+
+  module _ (there : is_some (table.at p.slots n) ≡ true) where
+    passed : (m : Machine) → Stands tells p m → refuse m ≡ None
+    passed = one_runs p there
+
+    -- THE DOUBT COULDN'T BE SETTLED
+
+    pub cut_by_fault : (q : Parts) (left : List (Option (Running Moving))) → StandsStill tells p q → ((k : ℕ) → table.at left k ≡ cond (k == n) None (table.at q.slots k)) → Rose p.at.faults q.at.faults → StepsAs answer.DiskFault (with_slots left q)
+    cut_by_fault q left still others rose = λ m s.
+        let rises : Rose m.faults q.at.faults = rw s.faults rose in
+        (record (without_move n m) { faults = q.at.faults }, faults_first (passed m s) refl rises, stands_without tells n q left (record m { faults = q.at.faults }) others (passed m s) (still m s))
+
+    pub cut_by_memory : (q : Parts) → StandsStill tells p q → p.at.faults ≤ q.at.faults → StepsAs answer.Memory q
+    cut_by_memory q still more = λ m s.
+        let was : m.faults ≡ p.at.faults = s.faults in
+        (record m { faults = q.at.faults }, wants_memory refl (omega (arith, was, more)), still m s)
+
+    pub crash_cut : (q : Parts) → (IsTrue tells → Passes (λ a b. b ≡ a) p.at.past q.at.past) → LeavesByAct tells refuse change p q
+    crash_cut q reads = crash_settling tells refuse change (λ m f. refl) (λ m f. refl) p q reads
+
+    -- IT WAS SETTLED
+
+    module _ (q : Parts) (settles : SettlesTo tells p q) (more : p.at.faults ≤ q.at.faults) where
+      pub gone_then : (left : List (Option (Running Moving))) → ((k : ℕ) → table.at left k ≡ cond (k == n) None (table.at q.slots k)) → table.at q.slots n ≡ None → StepsAs answer.NoMove (with_slots left q)
+      gone_then left others none = λ m s.
+          let mid = settles m s in
+          let at_q : Machine = record mid.0 { faults = q.at.faults } in
+          let was : m.faults ≡ p.at.faults = s.faults in
+          (at_q, refused answer.NoMove (passed m s) mid.1 (none_runs q none at_q mid.2.stands) refl (omega (arith, was, more)), slots_stand tells q at_q left (λ k. others k ∙ by_number k (same_or_not k n)) mid.2)
+        where
+          by_number : (k : ℕ) → (k ≡ n) ⊎ (k ≢ n) → cond (k == n) None (table.at q.slots k) ≡ table.at q.slots k
+          by_number k (inl same) = let test : (k == n) ≡ true = grind (arith, nat_tests, same) in rw test (sym (ap (table.at q.slots) same ∙ none))
+          by_number k (inr apart) = let test : (k == n) ≡ false = grind (arith, nat_tests, apart) in rw test refl
+
+      module _ (running : Running Moving) (out : table.at q.slots n ≡ Some running) (new : Parts) (given : Reply) (on : (m : Machine) → Rests tells q m → StepsOn tells n q m new given) where
+        pub went : StepsAs given new
+        went = λ m s.
+            let mid = settles m s in
+            let at_q : Machine = record mid.0 { faults = q.at.faults } in
+            let step = on at_q mid.2 in
+            by_end m s mid.0 mid.1 (one_runs q (ap is_some out) at_q mid.2.stands) given step.faults step.cause step.ends
+          where
+            by_end : (m : Machine) → Stands tells p m → (mid : Machine) → Settles m mid → refuse mid ≡ None → (r : Reply) → q.at.faults ≤ new.at.faults → (r ≡ answer.DiskFault → Rose q.at.faults new.at.faults) → StepEnds tells n (record mid { faults = q.at.faults }) new r
+                → (next : Machine) × MoveStepStep n m r next × Stands tells new next
+            by_end m s mid settled free _ later cause (was_spent stands) =
+                let was : m.faults ≡ p.at.faults = s.faults in
+                (record mid { faults = new.at.faults }, wants_memory_settled (passed m s) settled refl (omega (arith, was, more, later)), stands)
+            by_end m s mid settled free _ later cause (has_failed stands) =
+                let rises : Rose m.faults new.at.faults = rw s.faults (rose_after p.at.faults q.at.faults new.at.faults more (cause refl)) in
+                (record (without_move n mid) { faults = new.at.faults }, faults_between (passed m s) settled refl rises, stands)
+            by_end m s mid settled free _ later cause (is_doubted c own stands) =
+                let rises : Rose m.faults new.at.faults = rw s.faults (rose_after p.at.faults q.at.faults new.at.faults more (cause refl)) in
+                (record (without_move n mid) { doubt = Some c; faults = new.at.faults }, faults_within c (passed m s) settled free own refl rises, stands)
+            by_end m s mid settled free r later cause (went_on next goes stands) =
+                let was : m.faults ≡ p.at.faults = s.faults in
+                let now : next.faults ≡ new.at.faults = stands.faults in
+                (next, runs r (passed m s) settled free (step_goes n mid q.at.faults r next goes) (omega (arith, was, more, later, now)), stands)
+
+        pub crash_went : (IsTrue tells → Passes (λ a b. b ≡ a) p.at.past q.at.past) → granularities q.at.manifests ≡ granularities p.at.manifests → LeavesByAct tells refuse change p new
+        crash_went reads same_g = λ m told s.
+            let mid = settles m s in
+            let at_q : Machine = record mid.0 { faults = q.at.faults } in
+            let gs = granularities p.at.manifests in
+            let second = subst (λ (g : List Granularity). Passes (λ a image. HoldsStep g n at_q image) q.at.past new.at.past) same_g ((on at_q mid.2).any_moment told) in
+            let free : refuse mid.0 ≡ None = one_runs q (ap is_some out) at_q mid.2.stands in
+            passes_then (λ a image. LeavesWithin refuse change gs m image) (λ a image. HoldsStep gs n at_q image) p.at.past q.at.past new.at.past (crash_cut q reads m told s) second (λ a b image was within left holds. elim holds [
+              | inl same ↦ (mid.0, settled_there mid.1, same)
+              | inr with_it ↦ (made [] with_it.0 mid.0, with_change with_it.0 mid.1 free with_it.1, with_it.2)
+            ])

@@ -1,0 +1,52 @@
+use Rattle.std.proofs.Common.{Err, ap, refl, sym, subst, ◌∙◌}
+use Rattle.disk_model.specs.declared.disk.DiskErr.{DiskErr}
+use Rattle.std.specs.Prelude.{IsSome}
+use Rattle.tier_store.specs.Ends.{IsFailed, end_of_disk}
+use Rattle.archive_core.specs.Parts.{parts}
+use Rattle.archive_core.specs.Stepping.{TakesMove, stepped_reply}
+use Rattle.archive_core.proofs.MoveStepping.{crash_cut, crash_not_running, crash_went, cut_by_fault, cut_by_memory, gone_then, not_running, went}
+use Rattle.archive_core.proofs.archive.Archive.step_move.Goals as goal
+
+pub returns-then-not-runs-clause-step : goal.returns-then-not-runs-clause-step
+returns-then-not-runs-clause-step g c = not_running g.D.Disk.tells c.args.number (parts g.D.Disk c.args.self.now) (sym c.runs.ensures ∙ c.if-not-runs.true)
+
+pub returns-then-not-runs-clause-crash : goal.returns-then-not-runs-clause-crash
+returns-then-not-runs-clause-crash g c = crash_not_running g.D.Disk.tells c.args.number (parts g.D.Disk c.args.self.now)
+
+pub returns-in-Err-Fault-clause-step : goal.returns-in-Err-Fault-clause-step
+returns-in-Err-Fault-clause-step g c =
+    cut_by_fault g.D.Disk.tells c.args.number (parts g.D.Disk c.args.self.now) (sym c.runs.ensures ∙ c.if-not-runs.false) (parts g.D.Disk c.settle.new.self) c.take.new.self.slots.items c.in-Err-Fault.ensures.still c.take.ensures.others
+    (c.settle.ensures.reads.cause (subst (λ r. IsFailed (end_of_disk r)) (sym (c.in-Err-Fault.is ∙ ap (λ (d : DiskErr). Err d) c.in-Err-Fault.field-0-is)) tt))
+
+pub returns-in-Err-Fault-clause-crash : goal.returns-in-Err-Fault-clause-crash
+returns-in-Err-Fault-clause-crash g c = crash_cut g.D.Disk.tells c.args.number (parts g.D.Disk c.args.self.now) (sym c.runs.ensures ∙ c.if-not-runs.false) (parts g.D.Disk c.settle.new.self) c.settle.ensures.reads.any_moment
+
+pub returns-in-Err-Memory-clause-step : goal.returns-in-Err-Memory-clause-step
+returns-in-Err-Memory-clause-step g c = cut_by_memory g.D.Disk.tells c.args.number (parts g.D.Disk c.args.self.now) (sym c.runs.ensures ∙ c.if-not-runs.false) (parts g.D.Disk c.settle.new.self) c.in-Err-Memory.ensures.still c.settle.ensures.reads.faults
+
+pub returns-in-Err-Memory-clause-crash : goal.returns-in-Err-Memory-clause-crash
+returns-in-Err-Memory-clause-crash g c = crash_cut g.D.Disk.tells c.args.number (parts g.D.Disk c.args.self.now) (sym c.runs.ensures ∙ c.if-not-runs.false) (parts g.D.Disk c.settle.new.self) c.settle.ensures.reads.any_moment
+
+pub returns-in_default-clause-step : goal.returns-in_default-clause-step
+returns-in_default-clause-step g c = gone_then g.D.Disk.tells c.args.number (parts g.D.Disk c.args.self.now) (sym c.runs.ensures ∙ c.if-not-runs.false) (parts g.D.Disk c.settle.new.self) c.in-Ok.ensures.settled c.settle.ensures.reads.faults c.take-2.new.self.slots.items c.take-2.ensures.others (sym c.take-2.ensures.taken ∙ c.in_default.is)
+
+pub returns-in_default-clause-crash : goal.returns-in_default-clause-crash
+returns-in_default-clause-crash g c = crash_cut g.D.Disk.tells c.args.number (parts g.D.Disk c.args.self.now) (sym c.runs.ensures ∙ c.if-not-runs.false) (parts g.D.Disk c.settle.new.self) c.settle.ensures.reads.any_moment
+
+pub go_on-requires : goal.go_on-requires
+go_on-requires g c =
+    let was = c.requires.stands in
+    let then = c.in-Ok.ensures.settled was.0 was.1 in
+    record { taken = (c.settle.new.self.moves.slots.items, record then.0 { faults = (parts g.D.Disk c.settle.new.self).at.faults }, record { ran = sym c.take-2.ensures.taken ∙ c.in-Some.is; others = c.take-2.ensures.others }, then.2); room = c.take-2.ensures.room (subst IsSome (sym c.in-Some.is) refl) }
+
+pub returns-clause-step : goal.returns-clause-step
+returns-clause-step g c =
+    let takes : TakesMove c.args.number c.in-Some.running c.settle.new.self.moves.slots.items c.take-2.new.self.slots.items = record { ran = sym c.take-2.ensures.taken ∙ c.in-Some.is; others = c.take-2.ensures.others } in
+    went g.D.Disk.tells c.args.number (parts g.D.Disk c.args.self.now) (sym c.runs.ensures ∙ c.if-not-runs.false) (parts g.D.Disk c.settle.new.self) c.in-Ok.ensures.settled c.settle.ensures.reads.faults c.in-Some.running takes.ran (parts g.D.Disk c.go_on.new.self) (stepped_reply c.go_on.result)
+    (λ m r. c.go_on.ensures.on c.settle.new.self.moves.slots.items m takes r)
+
+pub returns-clause-crash : goal.returns-clause-crash
+returns-clause-crash g c =
+    let takes : TakesMove c.args.number c.in-Some.running c.settle.new.self.moves.slots.items c.take-2.new.self.slots.items = record { ran = sym c.take-2.ensures.taken ∙ c.in-Some.is; others = c.take-2.ensures.others } in
+    crash_went g.D.Disk.tells c.args.number (parts g.D.Disk c.args.self.now) (sym c.runs.ensures ∙ c.if-not-runs.false) (parts g.D.Disk c.settle.new.self) c.in-Ok.ensures.settled c.settle.ensures.reads.faults c.in-Some.running takes.ran (parts g.D.Disk c.go_on.new.self) (stepped_reply c.go_on.result)
+    (λ m r. c.go_on.ensures.on c.settle.new.self.moves.slots.items m takes r) c.settle.ensures.reads.any_moment c.settle.ensures.granularity

@@ -1,0 +1,178 @@
+// The act by which a move goes on: it copies, lists what it has copied, and retires its parts.
+ghost use Rattle.std.specs.Prelude.{◌≡◌, ◌≢◌, ◌<◌, IfOk, length};
+ghost use Rattle.act_model.specs.Asks.{move_stepped_reply};
+ghost use Rattle.act_model.specs.Machine.{Machine};
+ghost use Rattle.act_model.specs.MoveStep.{MoveStepStep};
+ghost use Rattle.act_model.specs.Step.{refuse_by, change_by};
+ghost use Rattle.act_model.specs.declared.acts.Act.TheVariants.{MoveStep as MoveStepAct};
+ghost use Rattle.etl_mover.specs.Move.{IsCopied};
+ghost use Rattle.etl_mover.specs.declared.moving.Stage.TheVariants.{Copying as IsCopying, Published as IsPublished};
+ghost use Rattle.archive_core.specs.Ends.{Steps, LeavesByAct};
+ghost use Rattle.archive_core.specs.Parts.{parts};
+ghost use Rattle.archive_core.specs.Retiring.{lengths_of};
+ghost use Rattle.archive_core.specs.Stands.{Stands};
+ghost use Rattle.archive_core.specs.Stepping.{GoesOnWith, HasTaken, stepped_reply};
+
+use crate::Archive;
+use crate::memory::Doubt;
+use act_model::MoveStepped;
+use disk_model::{Disk, DiskErr};
+use etl_mover::{Move, Stage};
+use running_moves::Running;
+use std::alloc::{AllocError, Global};
+use three_stores::{CopyEnd, RetireEnd};
+
+// The lengths up to which a move's parts are published.
+fn published_lengths(alloc: Global, moving: &Move) -> Result<Vec<u64>, AllocError>
+    ensures { IfOk result (λ lengths. lengths.items ≡ lengths_of moving.now.parts) }
+{
+    moving.parts().iter().map(|part| part.len).collect(alloc)
+}
+
+impl<D: Disk> Archive<D> {
+    // Copies more of the parts of a move that was taken out of the table, where nothing stands in doubt, and puts the move back under its
+    // number. After a fault, or where a file is damaged, it isn't put back.
+    fn copy_taken(
+        &mut self,
+        number: u32,
+        mut running: Running<Move>,
+    ) -> Result<MoveStepped, DiskErr>
+        requires taken { HasTaken D.tells number running (parts D.Disk self.old) }
+        requires copies { running.moving.stage ≡ IsCopying }
+        requires left { running.moving.at ≢ length running.moving.parts }
+        requires room { number < length self.old.moves.slots.items }
+        ensures on { GoesOnWith D.tells number running (parts D.Disk self.old) (parts D.Disk self.new) result }
+    {
+        let place = usize::from(running.store) - 1;
+        match self.store.copy(place, &mut running.moving) {
+            Ok(CopyEnd::More) => {
+                self.moves.put_back(number, running);
+                Ok(MoveStepped::Copying)
+            }
+            Ok(CopyEnd::Copied) => {
+                self.moves.put_back(number, running);
+                Ok(MoveStepped::Copied)
+            }
+            Ok(CopyEnd::Damaged { name, at }) => Ok(MoveStepped::Damaged { name, at }),
+            Err(DiskErr::Fault) => Err(DiskErr::Fault),
+            Err(DiskErr::Memory) => {
+                self.moves.put_back(number, running);
+                Err(DiskErr::Memory)
+            }
+        }
+    }
+
+    // Lists what a move has copied that was taken out of the table, where nothing stands in doubt, and puts it back under its number. After a
+    // fault it isn't put back.
+    fn publish_taken(
+        &mut self,
+        number: u32,
+        mut running: Running<Move>,
+    ) -> Result<MoveStepped, DiskErr>
+        requires taken { HasTaken D.tells number running (parts D.Disk self.old) }
+        requires copied { IsCopied running.moving }
+        requires room { number < length self.old.moves.slots.items }
+        ensures on { GoesOnWith D.tells number running (parts D.Disk self.old) (parts D.Disk self.new) result }
+    {
+        match self
+            .store
+            .publish(usize::from(running.store), &mut running.moving)
+        {
+            Ok(()) => {
+                self.moves.put_back(number, running);
+                Ok(MoveStepped::Published)
+            }
+            Err(DiskErr::Fault) => {
+                self.doubt = Some(Doubt::Published);
+                Err(DiskErr::Fault)
+            }
+            Err(DiskErr::Memory) => {
+                self.moves.put_back(number, running);
+                Err(DiskErr::Memory)
+            }
+        }
+    }
+
+    // Retires the parts of a move that was taken out of the table and whose copies are listed, where nothing stands in doubt. The move has
+    // ended then, whether its parts have left their store or one of them has grown, and after a fault. Where memory was wanting it is put
+    // back. Of a doubted retirement nothing is kept: all that it changes in memory is the stores'.
+    fn retire_taken(&mut self, number: u32, running: Running<Move>) -> Result<MoveStepped, DiskErr>
+        requires taken { HasTaken D.tells number running (parts D.Disk self.old) }
+        requires published { running.moving.stage ≡ IsPublished }
+        requires room { number < length self.old.moves.slots.items }
+        ensures on { GoesOnWith D.tells number running (parts D.Disk self.old) (parts D.Disk self.new) result }
+    {
+        let Ok(lengths) = published_lengths(self.alloc, &running.moving) else {
+            self.moves.put_back(number, running);
+            return Err(DiskErr::Memory);
+        };
+        match self
+            .store
+            .retire(usize::from(running.store) - 1, running.series, &lengths)
+        {
+            Ok(RetireEnd::Retired { .. }) => Ok(MoveStepped::Retired {
+                parts: lengths.len() as u64,
+            }),
+            Ok(RetireEnd::Again { len, copied }) => Ok(MoveStepped::Again { len, copied }),
+            Err(DiskErr::Fault) => Err(DiskErr::Fault),
+            Err(DiskErr::Memory) => {
+                self.moves.put_back(number, running);
+                Err(DiskErr::Memory)
+            }
+        }
+    }
+
+    // Goes on with a move that was taken out of the table, where nothing stands in doubt.
+    fn go_on(&mut self, number: u32, running: Running<Move>) -> Result<MoveStepped, DiskErr>
+        requires taken { HasTaken D.tells number running (parts D.Disk self.old) }
+        requires room { number < length self.old.moves.slots.items }
+        ensures on { GoesOnWith D.tells number running (parts D.Disk self.old) (parts D.Disk self.new) result }
+    {
+        match running.moving.stage() {
+            Stage::Published => self.retire_taken(number, running),
+            _ if running.moving.at().is_none() => self.publish_taken(number, running),
+            _ => self.copy_taken(number, running),
+        }
+    }
+
+    fn step_move(&mut self, number: u32) -> Result<MoveStepped, DiskErr>
+        requires stands { (m : Machine) × Stands D.tells (parts D.Disk self.old) m }
+        ensures step { Steps D.tells (MoveStepStep number) (parts D.Disk self.old) (stepped_reply result) (parts D.Disk self.new) }
+        ensures crash { LeavesByAct D.tells (refuse_by (MoveStepAct number)) (change_by (MoveStepAct number)) (parts D.Disk self.old) (parts D.Disk self.new) }
+    {
+        if !self.moves.runs(number) {
+            return Ok(MoveStepped::NoMove);
+        }
+        match self.settle() {
+            Ok(()) => {}
+            Err(DiskErr::Fault) => {
+                self.moves.take(number);
+                return Err(DiskErr::Fault);
+            }
+            Err(DiskErr::Memory) => return Err(DiskErr::Memory),
+        }
+        let Some(running) = self.moves.take(number) else {
+            return Ok(MoveStepped::NoMove);
+        };
+        self.go_on(number, running)
+    }
+
+    /// Goes on with the move of this number by one step. A move copies what the next store lacks of its parts, at most 1,048,576 bytes of
+    /// lines a step or one longer line, then it is listed what was copied, and then the parts leave their store. What is accepted and what
+    /// is durable stay as they are. The step tells what it came to; where a part has grown since it was copied, nothing is retired, and
+    /// the move has ended, as it has once its parts are retired.
+    ///
+    /// A change that stands in doubt is settled first. `DiskFault` comes only where the disk's count of faults rose in the call; the move
+    /// has ended then. `Memory` leaves it as it was.
+    pub fn move_step(&mut self, number: u32) -> MoveStepped
+        requires stands { (m : Machine) × Stands D.tells (parts D.Disk self.old) m }
+        ensures step { Steps D.tells (MoveStepStep number) (parts D.Disk self.old) (move_stepped_reply result) (parts D.Disk self.new) }
+        ensures crash { LeavesByAct D.tells (refuse_by (MoveStepAct number)) (change_by (MoveStepAct number)) (parts D.Disk self.old) (parts D.Disk self.new) }
+    {
+        match self.step_move(number) {
+            Ok(stepped) => stepped,
+            Err(DiskErr::Fault) => MoveStepped::DiskFault,
+            Err(DiskErr::Memory) => MoveStepped::Memory,
+        }
+    }
+}
