@@ -1,5 +1,5 @@
 // Worked scripts over an archive, and what is left where one call of the disk fails, or the machine stops at it.
-ghost use Rattle.std.specs.Prelude.{◌≡◌, length};
+ghost use Rattle.std.specs.Prelude.{◌≡◌, ◌≤◌, length};
 ghost use Rattle.disk_model.specs.Record.{files_of, opened_of};
 ghost use Rattle.three_reopen.specs.Reopen.{IsUnopened};
 
@@ -121,18 +121,20 @@ const ROWS: [&str; 7] = [
     "A:B Monitor Running 0; C:D Scan { period: 10000000000 } Running 0; ",
 ];
 
-// How many samples store 1 lists of a row.
-fn listed(store: &TierStore<MemDisk>, row: u32) -> u64
-    requires { length store.now.manifests.items ≡ 3 }
+// How many samples a store lists of a row.
+fn listed(store: &TierStore<MemDisk>, number: u8, row: u32) -> u64
+    requires known { length store.now.manifests.items ≡ 3 }
+    requires number { 1 ≤ number }
+    requires three { number ≤ 3 }
 {
     let mut count = 0u64;
-    for entry in store.manifest(1).entries(row) {
+    for entry in store.manifest(number).entries(row) {
         count = count.saturating_add(entry.count);
     }
     count
 }
 
-// The rows of what a crash leaves of a disk, each with the number of its samples in store 1.
+// The rows of what a crash leaves of a disk, each with the number of its samples in store 1, and where store 2 has any of theirs.
 fn rows_left(alloc: Global, disk: &MemDisk, choice: u64) -> Result<String, Fail> {
     let image = disk.crash(alloc, choice)?;
     let Ok(store) = reopen(alloc, image, &Config::shipped()) else {
@@ -142,12 +144,17 @@ fn rows_left(alloc: Global, disk: &MemDisk, choice: u64) -> Result<String, Fail>
     let mut number = 0u32;
     for row in store.catalogue().rows() {
         let name = str::from_utf8(row.name.bytes())?;
-        let count = listed(&store, number);
+        let count = listed(&store, 1, number);
         write!(
             text,
-            "{name} {:?} {:?} {count}; ",
+            "{name} {:?} {:?} {count}",
             row.about.method, row.state
         )?;
+        let later = listed(&store, 2, number);
+        if later > 0 {
+            write!(text, " + {later}")?;
+        }
+        text.push_str("; ")?;
         number = number.saturating_add(1);
     }
     Ok(text)
@@ -214,11 +221,12 @@ fn compare_images(
 }
 
 /// Runs a script with a stop and with a failure at each of so many first calls of the disk, and three calls on, when nothing fails. Of what
-/// each run leaves six crash images are compared with what is left after each of the script's changes, by this table. It tells how many
-/// images have the change that failed, and what is wrong.
+/// each run leaves six crash images are compared with what is left after each of the script's changes, by this table. The second script is
+/// for acts that are asked for once more after a fault. It tells how many images have the change that failed, and what is wrong.
 pub(crate) fn at_each_call(
     alloc: Global,
     script: &[(Ask<'_>, Told)],
+    again_script: &[(Ask<'_>, Told)],
     table: &[&str],
     calls: u64,
 ) -> Result<(u64, String), Fail> {
@@ -229,7 +237,11 @@ pub(crate) fn at_each_call(
             let failing = [if stops { 0 } else { call }];
             let stop = if stops { Some(call) } else { None };
             let disk = MemDisk::new(alloc, &failing, stop)?;
-            let end = ended(alloc, disk, script, again)?;
+            let end = if again {
+                ended(alloc, disk, again_script, true)?
+            } else {
+                ended(alloc, disk, script, false)?
+            };
             let is_told = end.other == None || end.other == Some(DiskFault);
             let is_whole = end.made.saturating_add(1) == table.len() as u64;
             if !is_told || (!is_whole && (again || call > calls)) {
@@ -247,7 +259,7 @@ pub(crate) fn at_each_call(
 fn a_fault_or_a_stop_at_any_call_leaves_the_rows_that_were_told_or_the_next_change(
     rt: HostRuntime,
 ) -> Result<(), Fail> {
-    let (ahead, wrong) = at_each_call(rt.alloc(), &worked(), &ROWS, 56)?;
+    let (ahead, wrong) = at_each_call(rt.alloc(), &worked(), &worked(), &ROWS, 56)?;
     assert_eq!(rt; wrong.as_str(), "");
     assert!(rt; ahead >= 12, "{ahead}");
     Ok(())

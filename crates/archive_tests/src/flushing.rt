@@ -92,7 +92,7 @@ const LEFT: [&str; 9] = [
 // other counts. All is flushed at the end.
 #[test]
 fn a_fault_or_a_stop_at_any_call_leaves_whole_flushes(rt: HostRuntime) -> Result<(), Fail> {
-    let (ahead, wrong) = at_each_call(rt.alloc(), &worked(), &LEFT, 100)?;
+    let (ahead, wrong) = at_each_call(rt.alloc(), &worked(), &worked(), &LEFT, 100)?;
     assert_eq!(rt; wrong.as_str(), "");
     assert!(rt; ahead >= 12, "{ahead}");
     Ok(())

@@ -90,7 +90,82 @@ const LEFT: [&str; 7] = [
 
 #[test]
 fn a_move_begins_beside_other_acts(rt: HostRuntime) -> Result<(), Fail> {
-    let (ahead, wrong) = at_each_call(rt.alloc(), &worked(), &LEFT, 100)?;
+    let (ahead, wrong) = at_each_call(rt.alloc(), &worked(), &worked(), &LEFT, 100)?;
+    assert_eq!(rt; wrong.as_str(), "");
+    assert!(rt; ahead >= 12, "{ahead}");
+    Ok(())
+}
+
+// A row with a sample in each of five ended hours, of which three move into a day.
+fn filled(ahead: &mut Vec<(Ask<'static>, Told)>) -> Result<(), Fail> {
+    ahead.push((Register(b"A:B", Monitor), Registered(0)))?;
+    for line in [S0, S5400, S7200, S10800, S14400] {
+        ahead.push((Offer(b"A:B", line, FIVE), Kept))?;
+    }
+    ahead.push((
+        Flush(ALL),
+        Flushed {
+            samples: 5,
+            left: 0,
+        },
+    ))?;
+    Ok(())
+}
+
+// Behind it: what has moved isn't moved again, and no file is left to be swept.
+fn behind(script: &mut Vec<(Ask<'static>, Told)>) -> Result<(), Fail> {
+    script.push((BeginMove(FIVE), NoMove { doors: 2 }))?;
+    script.push((Sweep, Swept(0)))?;
+    script.push((Offer(b"A:B", S18000, FIVE), Kept))?;
+    script.push((
+        Flush(ALL),
+        Flushed {
+            samples: 1,
+            left: 0,
+        },
+    ))?;
+    Ok(())
+}
+
+const MOVED: [&str; 6] = [
+    "",
+    "A:B Monitor Running 0; ",
+    "A:B Monitor Running 5; ",
+    "A:B Monitor Running 5 + 3; ",
+    "A:B Monitor Running 2 + 3; ",
+    "A:B Monitor Running 3 + 3; ",
+];
+
+// A move copies each part, lists what it has copied, and retires the parts; then it has ended.
+#[test]
+fn a_move_goes_on_to_its_end(rt: HostRuntime) -> Result<(), Fail> {
+    let alloc = rt.alloc();
+    let mut script = Vec::new(alloc);
+    filled(&mut script)?;
+    let begun = Begun {
+        m: 0,
+        row: 0,
+        parts: 3,
+    };
+    let steps = [
+        (BeginMove(FIVE), begun),
+        (StepMove(1), NotRunningMove),
+        (StepMove(0), Copying),
+        (StepMove(0), Copying),
+        (StepMove(0), Copied),
+        (BeginMove(FIVE), Busy(0)),
+        (Sweep, Swept(0)),
+        (StepMove(0), Published),
+        (StepMove(0), Retired(3)),
+        (StepMove(0), NotRunningMove),
+    ];
+    script.extend_from_slice(&steps)?;
+    behind(&mut script)?;
+    let mut again = Vec::new(alloc);
+    filled(&mut again)?;
+    again.push((Move(FIVE), Retired(3)))?;
+    behind(&mut again)?;
+    let (ahead, wrong) = at_each_call(alloc, &script, &again, &MOVED, 120)?;
     assert_eq!(rt; wrong.as_str(), "");
     assert!(rt; ahead >= 12, "{ahead}");
     Ok(())

@@ -34,6 +34,10 @@ pub(crate) enum Ask<'a> {
     /// Of a move out of store 1, at a moment; or out of store 2.
     BeginMove(u64),
     BeginLaterMove(u64),
+    /// Of the move of this number one step.
+    StepMove(u32),
+    /// A move out of store 1 that is due at a moment, from its beginning to its end.
+    Move(u64),
     Sweep,
     DoorDone,
 }
@@ -61,6 +65,13 @@ pub(crate) enum Told {
     Begun { m: u32, row: u32, parts: u64 },
     Busy(u32),
     NoMove { doors: u64 },
+    NotRunningMove,
+    Damaged(u64),
+    Copying,
+    Copied,
+    Published,
+    Retired(u64),
+    Again { len: u64, copied: u64 },
     Swept(u64),
     Doors(u64),
     DiskFault,
@@ -138,6 +149,20 @@ fn told_of_begin(answer: act_model::MoveBegun) -> Told {
     }
 }
 
+fn told_of_step(answer: act_model::MoveStepped) -> Told {
+    match answer {
+        act_model::MoveStepped::NoMove => Told::NotRunningMove,
+        act_model::MoveStepped::DiskFault => Told::DiskFault,
+        act_model::MoveStepped::Damaged { at, .. } => Told::Damaged(at),
+        act_model::MoveStepped::Copying => Told::Copying,
+        act_model::MoveStepped::Copied => Told::Copied,
+        act_model::MoveStepped::Published => Told::Published,
+        act_model::MoveStepped::Retired { parts } => Told::Retired(parts),
+        act_model::MoveStepped::Again { len, copied } => Told::Again { len, copied },
+        act_model::MoveStepped::Memory => Told::Memory,
+    }
+}
+
 fn told_of_sweep(answer: act_model::Swept) -> Told {
     match answer {
         act_model::Swept::DiskFault => Told::DiskFault,
@@ -169,6 +194,26 @@ fn sample(alloc: Global, line: &[u8]) -> Result<Sample, Fail>
     Ok(Sample { t, line })
 }
 
+// What the last step of a move is answered that begins and goes on to its end, or the beginning where none begins. It takes at most a hundred
+// steps.
+fn moved(archive: &mut Archive<MemDisk>, now: u64) -> Told
+    requires { (m : Machine) × Stands true (parts ⟦<MemDisk as Disk>⟧ archive.old) m }
+    ensures { (m : Machine) × Stands true (parts ⟦<MemDisk as Disk>⟧ archive.new) m }
+{
+    let number = match archive.begin_move(1, now) {
+        act_model::MoveBegun::Begun { m, .. } => m,
+        other => return told_of_begin(other),
+    };
+    let mut told = Told::Copying;
+    for _ in 0..100u64 {
+        told = told_of_step(archive.move_step(number));
+        if !matches!(told, Told::Copying | Told::Copied | Told::Published) {
+            break;
+        }
+    }
+    told
+}
+
 /// What one act is answered.
 pub(crate) fn asked(
     alloc: Global,
@@ -195,6 +240,8 @@ pub(crate) fn asked(
         Ask::Flush(limit) => Ok(told_of_flush(archive.flush(limit.max(1)))),
         Ask::BeginMove(now) => Ok(told_of_begin(archive.begin_move(1, now))),
         Ask::BeginLaterMove(now) => Ok(told_of_begin(archive.begin_move(2, now))),
+        Ask::StepMove(number) => Ok(told_of_step(archive.move_step(number))),
+        Ask::Move(now) => Ok(moved(archive, now)),
         Ask::Sweep => Ok(told_of_sweep(archive.sweep())),
         Ask::DoorDone => Ok(Told::Doors(archive.door_done().doors)),
     }
@@ -228,20 +275,31 @@ fn asked_again(
 }
 
 // Whether an answer is the script's. Where acts are asked for once more after a fault, a flush may take other tails than the script's: the
-// first had been made then.
+// first had been made then, and a move may have ended.
 fn is_wanted(told: Told, want: Told, again: bool) -> bool {
     match (told, want) {
-        (Told::Flushed { .. }, Told::Flushed { .. }) if again => true,
+        (Told::Flushed { .. }, Told::Flushed { .. })
+        | (Told::NoMove { .. }, Told::Retired(_))
+        | (Told::Swept(_), Told::Swept(_))
+            if again => { true }
         _ => told == want,
     }
 }
 
-// Whether it is told that a change was made.
-fn is_made(told: Told) -> bool {
-    matches!(
-        told,
-        Told::Registered(_) | Told::Done | Told::Flushed { .. }
-    )
+// How many changes it is told of an act that were made: a whole move lists what it has copied, and then retires its parts.
+fn changes(ask: Ask<'_>, told: Told) -> u64 {
+    match (ask, told) {
+        (Ask::Move(_), _) => 2,
+        (
+            _,
+            Told::Registered(_)
+            | Told::Done
+            | Told::Flushed { .. }
+            | Told::Published
+            | Told::Retired(_),
+        ) => 1,
+        _ => 0,
+    }
 }
 
 /// How a script ended.
@@ -271,7 +329,7 @@ pub(crate) fn run(
             other = Some(told);
             break;
         }
-        made = made.saturating_add(u64::from(is_made(told)));
+        made = made.saturating_add(changes(*ask, told));
     }
     let disk = archive.into_store().into_disk();
     Ok(Ended { made, other, disk })

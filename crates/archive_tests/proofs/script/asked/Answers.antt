@@ -29,3 +29,6 @@ returns-in-Sweep c = let next = c.sweep.ensures.step c.requires.0 c.requires.1 i
 
 pub returns-in-DoorDone : goal.returns-in-DoorDone
 returns-in-DoorDone c = let next = c.door_done.ensures.step c.requires.0 c.requires.1 in (next.0, next.2)
+
+pub returns-in-StepMove : goal.returns-in-StepMove
+returns-in-StepMove c = let next = c.move_step.ensures.step c.requires.0 c.requires.1 in (next.0, next.2)
