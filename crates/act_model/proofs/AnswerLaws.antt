@@ -190,8 +190,8 @@ module _ (i now : ℕ) (m : Machine) where
 -- MOVES, PINS AND PIECES
 
 begins_says : {store : _} (number now : ℕ) {mid new : Machine} {answer : Reply} → Begins store now mid answer new → is_answer_to (MoveBegin number now) answer ≡ true
-begins_says number now (begins n i parts to apart low free empty has passed same) = refl
-begins_says number now (all_run n i moving passed has same) = refl
+begins_says number now (begins n i parts to apart low free empty least has passed same) = refl
+begins_says number now (all_run n i moving made passed has same) = refl
 begins_says number now (none_to_make has same) = refl
 
 goes_says : {n : ℕ} {mid new : Machine} {answer : Reply} → GoesOn n mid answer new → is_answer_to (MoveStep n) answer ≡ true

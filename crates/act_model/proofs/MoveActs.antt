@@ -100,11 +100,11 @@ move_edge rule rows store now i n to low has = by_row (slice_get rows i) refl
         record { part = l.2; partition = middle (IsPartition rule store) l.0 l.1 l.2 each_one; end = l.5 }
 
 begins_sound : {store : Store} {now : ℕ} {mid new : Machine} {answer : Reply} → IsSound mid → mid.doubt ≡ None → Begins store now mid answer new → IsSound new
-begins_sound {store} {now} {mid} {new} s none (begins n i parts to apart low free empty has passed same) =
+begins_sound {store} {now} {mid} {new} s none (begins n i parts to apart low free empty least has passed same) =
     let move = new_move store i parts to in
     let own : MoveSound mid.rule mid.told mid.rows mid.limbo move = record { here = low; moves = apart; edge = λ t. move_edge mid.rule mid.rows store now i parts to low (has t); copied = λ row here t copies. no_copies (files_of i (next_store store) mid.limbo) (deep row (next_store store)) (tier row (next_store store)) (tier row store) } in
     same_sound (with_move n move mid) new same (insert_sound mid.rule mid.told mid.rows mid.limbo mid.pins mid.moves mid.doubt s none n move own (λ k other here differ. free k other here))
-begins_sound {mid = mid} {new = new} s none (all_run n i moving passed has same) = same_sound mid new same s
+begins_sound {mid = mid} {new = new} s none (all_run n i moving made passed has same) = same_sound mid new same s
 begins_sound {mid = mid} {new = new} s none (none_to_make has same) = same_sound mid new same s
 
 all_fewer : (moves : FinMap nat_cmp MoveState) (n : ℕ) (move : MoveState) → get (all_go moves) n ≡ Some move → get moves n ≡ Some move

@@ -73,8 +73,8 @@ module _ (refuse : Machine → Option Reply) (run : Machine → Reply → Machin
   Acts-alike step = Acts-pins refuse run change stopped Alike (λ old new is. is) (λ old mid new a b. b ∙ a) run_pins step
 
 begins_pins : {store : _} {now : ℕ} {mid new : Machine} {answer : Reply} → Begins store now mid answer new → Alike mid new
-begins_pins {mid = mid} {new = new} (begins n i parts to apart low free empty has passed same) = ap (λ (m : Machine). m.pins) same
-begins_pins {mid = mid} {new = new} (all_run n i moving passed has same) = alike_same mid new same
+begins_pins {mid = mid} {new = new} (begins n i parts to apart low free empty least has passed same) = ap (λ (m : Machine). m.pins) same
+begins_pins {mid = mid} {new = new} (all_run n i moving made passed has same) = alike_same mid new same
 begins_pins {mid = mid} {new = new} (none_to_make has same) = alike_same mid new same
 
 goes_pins : {n : ℕ} {mid new : Machine} {answer : Reply} → GoesOn n mid answer new → Alike mid new

@@ -94,8 +94,8 @@ module _ (act : Act) (refuse : Machine → Option Reply) (run : Machine → Repl
   Acts-left {old} {new} (wants_memory_settled {mid = mid} p settles same q) = settled_left new settles (same_kept mid new same)
 
 begins_leave : {store now : _} {act : Act} {mid new : Machine} {answer : Reply} → Begins store now mid answer new → Leaves act mid new
-begins_leave (begins n i parts to apart low free empty has passed same) = leaves (sym (ap (λ (m : Machine). kept m) same))
-begins_leave (all_run n i moving passed has same) = leaves (sym (ap (λ (m : Machine). kept m) same))
+begins_leave (begins n i parts to apart low free empty least has passed same) = leaves (sym (ap (λ (m : Machine). kept m) same))
+begins_leave (all_run n i moving made passed has same) = leaves (sym (ap (λ (m : Machine). kept m) same))
 begins_leave (none_to_make has same) = leaves (sym (ap (λ (m : Machine). kept m) same))
 
 goes_leave : {n : ℕ} {mid new : Machine} {answer : Reply} → no_move (get mid.moves n) ≡ None → GoesOn n mid answer new → Leaves (MoveStep n) mid new

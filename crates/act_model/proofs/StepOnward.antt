@@ -62,8 +62,8 @@ ends_onward end old new answer on (inl p) = subst (λ m. Onward old m) (sym p.1)
 ends_onward end old new answer on (inr p) = subst (λ m. Onward old m) (sym p.1) (onward_refl old)
 
 begins_onward : {store : Store} {now : ℕ} {mid new : Machine} {answer : Reply} → Begins store now mid answer new → Onward mid new
-begins_onward {mid = mid} {new = new} (begins n i parts to apart low free empty has passed same) = onward_same mid new (ap (λ (m : Machine). m.told) same) (ap (λ (m : Machine). m.rule) same) (ap (λ (m : Machine). m.rows) same)
-begins_onward {mid = mid} {new = new} (all_run n i moving passed has same) = onward_counts mid new same
+begins_onward {mid = mid} {new = new} (begins n i parts to apart low free empty least has passed same) = onward_same mid new (ap (λ (m : Machine). m.told) same) (ap (λ (m : Machine). m.rule) same) (ap (λ (m : Machine). m.rows) same)
+begins_onward {mid = mid} {new = new} (all_run n i moving made passed has same) = onward_counts mid new same
 begins_onward {mid = mid} {new = new} (none_to_make has same) = onward_counts mid new same
 
 goes_onward : {n : ℕ} {mid new : Machine} {answer : Reply} → IsSound mid → GoesOn n mid answer new → Onward mid new

@@ -45,12 +45,12 @@ abbrev IsBegun : ℕ → ℕ → ℕ → Machine → Machine → Type 0
 IsBegun n row parts old new = (get old.moves n ≡ None) × ((move : MoveState) × (get new.moves n ≡ Some move) × (move.row ≡ row) × (move.parts ≡ parts))
 
 begins_new : {store : Store} {now : ℕ} {mid new : Machine} {reply : Reply} (n row parts : ℕ) → Begins store now mid reply new → reply ≡ Begun n row parts → IsBegun n row parts mid new
-begins_new {store} {now} {mid} {new} n row parts (begins k i some to apart low free empty has passed same) is =
+begins_new {store} {now} {mid} {new} n row parts (begins k i some to apart low free empty least has passed same) is =
     let own = same_begun is in
     let move = new_move store i some to in
     let there : get new.moves k ≡ Some move = ap (λ (m : Machine). get m.moves k) same ∙ put_move mid.moves k move in
     (subst (λ x. get mid.moves x ≡ None) own.0 empty, (move, subst (λ x. get new.moves x ≡ Some move) own.0 there, own.1.0, own.1.1))
-begins_new n row parts (all_run k i moving passed has same) is = absurd cc
+begins_new n row parts (all_run k i moving made passed has same) is = absurd cc
 begins_new n row parts (none_to_make has same) is = absurd cc
 
 pub begun_new : (store now n row parts : ℕ) (old new : Machine) (answer : Reply) → MoveBeginStep (store_of store) now old answer new → answer ≡ Begun n row parts → IsBegun n row parts old new

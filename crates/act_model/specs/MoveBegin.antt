@@ -1,7 +1,7 @@
 -- MoveBegin: the least row that has a move to make, and none running, begins one. A move is of the row's oldest partitions in a store:
 -- as many as the rule of the stores chooses of those that are over, or as the next store covers already, where that is more.
 use Rattle.std.specs.FinMap.{get, insert}
-use Rattle.std.specs.Prelude.{◌≡◌, ◌≢◌, ◌⊎◌, ℕ, ◌+◌, ◌<◌, ◌==◌, List, [], ◌∷◌, ◌++◌, length, max, min, Bool, true, if◌then◌else◌, nat_le, Some, None, slice_get, slice_index}
+use Rattle.std.specs.Prelude.{◌≡◌, ◌≢◌, ◌⊎◌, ℕ, ◌+◌, ◌<◌, ◌==◌, List, [], ◌∷◌, ◌++◌, length, max, min, Bool, true, if◌then◌else◌, nat_le, Some, None, IsSome, slice_get, slice_index}
 use Rattle.partition_names.specs.declared.part.Part.{Part}
 use Rattle.series_model.specs.Series.{end_of}
 use Rattle.act_model.specs.Machine.{Machine, MoveState, Copies}
@@ -62,13 +62,15 @@ with_move n move m = record m { moves = insert m.moves n move }
 
 -- how a move begins, once a doubt is settled
 pub data Begins (store : Store) (now : ℕ) : Machine → Reply → Machine → Type 0 where
-  -- a move begins, of a row that has one to make and none running; each row before it has none to make, or one running
-  begins : {mid new : Machine} (n i parts to : ℕ) → store ≢ Long → i < length mid.rows → IsFree mid i → get mid.moves n ≡ None
+  -- a move begins under the least number that none has, of a row that has one to make and none running; each row before it has none to
+  -- make, or one running
+  begins : {mid new : Machine} (n i parts to : ℕ) → store ≢ Long → i < length mid.rows → IsFree mid i → get mid.moves n ≡ None → ((k : ℕ) → k < n → IsSome (get mid.moves k))
       → (mid.told ≡ true → (row : RowState) → slice_get mid.rows i ≡ Some row → HasMove mid.rule store now row parts to)
       → (mid.told ≡ true → (j : ℕ) → j < i → IsPassed mid store now j)
       → Same (with_move n (new_move store i parts to) mid) new → Begins store now mid (Begun n i parts) new
   -- each row that has a move to make has one running; the least of these is told
-  all_run : {mid new : Machine} (n i : ℕ) → IsMoving mid i n → (mid.told ≡ true → (j : ℕ) → IsPassed mid store now j)
+  all_run : {mid new : Machine} (n i : ℕ) → IsMoving mid i n → (mid.told ≡ true → (row : RowState) → slice_get mid.rows i ≡ Some row → (parts : ℕ) × (to : ℕ) × HasMove mid.rule store now row parts to)
+      → (mid.told ≡ true → (j : ℕ) → IsPassed mid store now j)
       → (mid.told ≡ true → (j : ℕ) → j < i → (row : RowState) → slice_get mid.rows j ≡ Some row → HasNoMove mid.rule store now row)
       → Same mid new → Begins store now mid (Busy n) new
   -- no row has a move to make

@@ -1,6 +1,6 @@
 -- The act that begins a move: how it ends.
-use Rattle.std.proofs.Common.{◌≡◌, ◌≢◌, ◌⊎◌, inl, inr, Result, Ok, Err, sym, ℕ, ◌+◌, ◌-◌, ◌≤◌, List, Bool, true, false, cond, Option, Some, None, refl, ◌∙◌, subst, arith}
-use Rattle.std.specs.FinMap.{insert}
+use Rattle.std.proofs.Common.{◌≡◌, ◌≢◌, ◌⊎◌, inl, inr, Result, Ok, Err, sym, ℕ, ◌+◌, ◌-◌, ◌≤◌, ◌<◌, List, Bool, true, false, cond, Option, Some, None, refl, ◌∙◌, subst, arith}
+use Rattle.std.specs.FinMap.{get, insert}
 use Rattle.std.specs.Prelude.{IfErr, IfOk, IsSome, OnErr, ◌==◌, slice_index}
 use Rattle.std.proofs.lemmas.Bool.Decides.{nat_tests}
 use Rattle.disk_model.specs.Files.{Rose}
@@ -41,14 +41,14 @@ use Rattle.archive_core.specs.Moving.{BeginsThere, begun_reply}
 use Rattle.archive_core.specs.Parts.{Parts}
 use Rattle.archive_core.specs.Stands.{Stands, Rests, IsReady}
 use Rattle.archive_core.proofs.Batches.{told_stands}
-use Rattle.archive_core.proofs.MoveBegun.{free_number, is_new_move, more_moves, numbers_are}
+use Rattle.archive_core.proofs.MoveBegun.{free_number, taken_number, is_new_move, more_moves, numbers_are}
 use Rattle.archive_core.proofs.MoveChoice.{goes_on}
 use Rattle.archive_core.proofs.Settled.{rests_has}
 
 -- the count of faults is nothing to the choice
 pub begins_goes : (store : Store) (now : ℕ) (m : Machine) (f : ℕ) (given : Reply) (new : Machine) → Begins store now (record m { faults = f }) given new → Begins store now m given new
-begins_goes store now m f _ new (begins n i parts to apart low free gap has passed same) = begins n i parts to apart low free gap has passed same
-begins_goes store now m f _ new (all_run n i moving passed none same) = all_run n i moving passed none same
+begins_goes store now m f _ new (begins n i parts to apart low free gap least has passed same) = begins n i parts to apart low free gap least has passed same
+begins_goes store now m f _ new (all_run n i moving made passed none same) = all_run n i moving made passed none same
 begins_goes store now m f _ new (none_to_make none same) = none_to_make none same
 
 pub not_long : (number : ℕ) → store_of number ≢ Long
@@ -108,14 +108,15 @@ module _ (tells : Bool) (p : Parts) (m : Machine) (r : Rests tells p m) (store :
   goes choice is = goes_on p.at.catalogue p.at.manifests held m have store now apart by (numbers_are tells (beside p.at p.limbo) m held p.slots r.stands.store.moves by runs_by every) choice (subst (λ (x : MoveRule). IsChoice x (index_of store) by held choice) same_rule is)
 
   -- a move begins
-  pub begun_there : (number : ℕ) → number ≡ index_of store + 1 → (k row n : ℕ) (moving : Moving) (later : List (Option (Running Moving))) → IsChoice rule (index_of store) by held (chosen.Begin row n) → BeginsMove tells (index_of store) p.at.manifests held row n moving → table.at p.slots k ≡ None
+  pub begun_there : (number : ℕ) → number ≡ index_of store + 1 → (k row n : ℕ) (moving : Moving) (later : List (Option (Running Moving))) → IsChoice rule (index_of store) by held (chosen.Begin row n) → BeginsMove tells (index_of store) p.at.manifests held row n moving → table.at p.slots k ≡ None → ((j : ℕ) → j < k → IsSome (table.at p.slots j))
       → ((j : ℕ) → table.at later j ≡ cond (j == k) (Some (record { series = row; store = number; moving = moving })) (table.at p.slots j)) → BeginsThere tells store now m (answer.Begun k row n) (record p { slots = later })
-  begun_there number is_store k row n moving later choice begins_it free with_it =
+  begun_there number is_store k row n moving later choice begins_it free least with_it =
       let s = r.stands in
       let move : MoveState = new_move store row n (move_end held store row n) in
       let new : Machine = with_move k move m in
       let gap = free_number tells (beside p.at p.limbo) m held p.slots s.store.moves k free in
-      let ran : Begins store now m (answer.Begun k row n) new = goes (chosen.Begin row n) choice k new gap refl in (
+      let below : (j : ℕ) → j < k → IsSome (get m.moves j) = λ j lt. taken_number tells (beside p.at p.limbo) m held p.slots s.store.moves j (least j lt) in
+      let ran : Begins store now m (answer.Begun k row n) new = goes (chosen.Begin row n) choice k new gap below refl in (
         new,
         ran,
         record {

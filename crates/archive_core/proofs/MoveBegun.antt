@@ -56,6 +56,14 @@ module _ (tells : Bool) (all : SeenAll) (m : Machine) (before : Stores) (slots :
       by_move None is = refl
       by_move (Some move) here = let has = (are.each n move here).there in absurd (cc (none, has))
 
+  -- a number of the table's is one of the machine's
+  pub taken_number : (n : ℕ) → IsSome (at slots n) → IsSome (get m.moves n)
+  taken_number n some = by_move (get m.moves n) refl
+    where
+      by_move : (o : Option MoveState) → get m.moves n ≡ o → IsSome o
+      by_move None is = let no = are.none n is in absurd (cc (no, some))
+      by_move (Some move) is = refl
+
   -- the moves by their rows are the machine's
   pub numbers_are : (by : ℕ → Option ℕ) → ((row n : ℕ) → by row ≡ Some n → IsOf slots n row) → ((row n : ℕ) → IsOf slots n row → IsSome (by row)) → AreNumbers m by
   numbers_are by runs every = record {

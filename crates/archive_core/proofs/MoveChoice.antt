@@ -358,13 +358,15 @@ module _ (catalogue : CatalogueState) (ms : List ManifestState) (s : Stores) (m 
 
   -- as it is chosen, so the machine goes on
   pub goes_on : (choice : ToMove) → IsChoice (move_rule m.rule store now) (index_of store) running s choice → GoesOnBy m s store now choice
-  goes_on (Begin i n) (free, number) = λ k new gap same.
+  goes_on (Begin i n) (free, number) = λ k new gap least same.
       let low = free.within in
       let many = count_is in
-      begins k i n (move_end s store i n) apart (omega (arith, low, many)) (is_free i free.none_runs) gap
+      begins k i n (move_end s store i n) apart (omega (arith, low, many)) (is_free i free.none_runs) gap least
       (λ told row here. has_move catalogue ms s m have told i row here store now n apart number (let some = free.some in omega (arith, some, number)))
       (λ told j lt. passed told j (free.least j lt)) same
   goes_on (Running k) all = λ new same.
-      all_run k all.series (numbers.runs all.series k all.runs) (λ told j row here. passed told j (all.all j (row_held j row here)) row here)
+      all_run k all.series (numbers.runs all.series k all.runs)
+      (λ told row here. (parts_to_move m s store now all.series, move_end s store all.series (parts_to_move m s store now all.series), has_move catalogue ms s m have told all.series row here store now (parts_to_move m s store now all.series) apart refl all.some))
+      (λ told j row here. passed told j (all.all j (row_held j row here)) row here)
       (λ told j lt row here. has_no_move catalogue ms s m have told j row here store now apart (all.least j lt)) same
   goes_on Nothing none = λ new same. none_to_make (λ told j row here. has_no_move catalogue ms s m have told j row here store now apart (none j (row_held j row here))) same

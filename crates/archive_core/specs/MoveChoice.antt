@@ -1,6 +1,6 @@
 -- Which move is to be made, as the machine has it by samples, from what the stores list.
 use Rattle.std.specs.FinMap.{get}
-use Rattle.std.specs.Prelude.{◌≡◌, ℕ, List, map, take, true, Option, Some, None, IsSome, IsTrue, slice_index}
+use Rattle.std.specs.Prelude.{◌≡◌, ◌<◌, ℕ, List, map, take, true, Option, Some, None, IsSome, IsTrue, slice_index}
 use Rattle.move_choice.specs.Series.{of_series}
 use Rattle.move_choice.specs.declared.parts.MoveRule.{MoveRule}
 use Rattle.move_choice.specs.declared.series.ToMove.{ToMove}
@@ -59,8 +59,8 @@ pub record AreNumbers (m : Machine) (running : ℕ → Option ℕ) : Type 0 wher
   pub runs : (i n : ℕ) → running i ≡ Some n → IsMoving m i n
   pub all : (n : ℕ) (move : MoveState) → get m.moves n ≡ Some move → IsSome (running move.row)
 
--- The machine goes on as chosen: the move begins under any number that is free, or none does.
+-- The machine goes on as chosen: the move begins under the least number that is free, or none does.
 abbrev pub GoesOnBy : Machine → Stores → Store → ℕ → ToMove → Type 0
-GoesOnBy m s store now (chosen.Begin i n) = (k : ℕ) (new : Machine) → get m.moves k ≡ None → Same (with_move k (new_move store i n (move_end s store i n)) m) new → Begins store now m (answer.Begun k i n) new
+GoesOnBy m s store now (chosen.Begin i n) = (k : ℕ) (new : Machine) → get m.moves k ≡ None → ((j : ℕ) → j < k → IsSome (get m.moves j)) → Same (with_move k (new_move store i n (move_end s store i n)) m) new → Begins store now m (answer.Begun k i n) new
 GoesOnBy m s store now (chosen.Running k) = (new : Machine) → Same m new → Begins store now m (answer.Busy k) new
 GoesOnBy m s store now chosen.Nothing = (new : Machine) → Same m new → Begins store now m (answer.Nothing m.doors) new

@@ -86,8 +86,8 @@ ends_keeps end old new answer on (inl p) = subst (λ m. Keeps old m) (sym p.1) o
 ends_keeps end old new answer on (inr p) = subst (λ m. Keeps old m) (sym p.1) (keeps_refl old)
 
 begins_keeps : {store : _} {now : ℕ} {mid new : Machine} {answer : Reply} → Begins store now mid answer new → Keeps mid new
-begins_keeps {mid = mid} {new = new} (begins n i parts to apart low free empty has passed same) = keeps_same mid new (ap (λ (m : Machine). m.rows) same) (ap (λ (m : Machine). m.doors) same)
-begins_keeps {mid = mid} {new = new} (all_run n i moving passed has same) = keeps_counts mid new same
+begins_keeps {mid = mid} {new = new} (begins n i parts to apart low free empty least has passed same) = keeps_same mid new (ap (λ (m : Machine). m.rows) same) (ap (λ (m : Machine). m.doors) same)
+begins_keeps {mid = mid} {new = new} (all_run n i moving made passed has same) = keeps_counts mid new same
 begins_keeps {mid = mid} {new = new} (none_to_make has same) = keeps_counts mid new same
 
 goes_keeps : {n : ℕ} {mid new : Machine} {answer : Reply} → GoesOn n mid answer new → Keeps mid new

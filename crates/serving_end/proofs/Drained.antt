@@ -95,8 +95,8 @@ module _ (refuse : Machine → Option Reply) (run : Machine → Reply → Machin
   Acts-drained {old} {new} (wants_memory_settled {mid = mid} p settles same q) d = drained_same mid new (ap (λ (m : Machine). m.rows) same) (drained_settled settles d)
 
 begins_drained : {store : Store} {now : ℕ} {mid new : Machine} {answer : Reply} → Begins store now mid answer new → IsDrained mid → IsDrained new
-begins_drained {mid = mid} {new = new} (begins n i parts to apart low free empty has passed same) = drained_same mid new (ap (λ (m : Machine). m.rows) same)
-begins_drained {mid = mid} {new = new} (all_run n i moving passed has same) = drained_same mid new (ap (λ (m : Machine). m.rows) same)
+begins_drained {mid = mid} {new = new} (begins n i parts to apart low free empty least has passed same) = drained_same mid new (ap (λ (m : Machine). m.rows) same)
+begins_drained {mid = mid} {new = new} (all_run n i moving made passed has same) = drained_same mid new (ap (λ (m : Machine). m.rows) same)
 begins_drained {mid = mid} {new = new} (none_to_make has same) = drained_same mid new (ap (λ (m : Machine). m.rows) same)
 
 goes_drained : {n : ℕ} {mid new : Machine} {answer : Reply} → GoesOn n mid answer new → IsDrained mid → IsDrained new

@@ -39,7 +39,7 @@ returns-in-Begun-clause-begins g c = λ m r.
     let rule = c.rule_at-rule.ensures ∙ rule_is m.rule c.args.self.now.config c.args.store c.args.now c.requires.first c.requires.last r.stands.settings.hold r.stands.settings.gather in
     let by = get nat_cmp c.in_ok-running.running in
     let said = says_there g.D.Disk.tells p m r (c.from.result - 1) (index_of store) c.rule_at-rule.result by (seen g.D.Disk c.begin_move.new.self) c.begin_move.result (begun.Begun c.in-Begun.row c.in-Begun.parts c.in-Begun.moving) (c.in_ok-begun.was ∙ ap (λ (b : own.MoveBegun). Ok b) c.in-Begun.is) (ap (seen g.D.Disk) same) place c.begin_move.ensures.settles in
-    rw same (begun_there g.D.Disk.tells p m r store (not_long c.args.store) c.args.now c.rule_at-rule.result rule by c.in_ok-running.ensures.runs c.in_ok-running.ensures.all c.args.store (place_next c.args.store c.requires.first c.requires.last) c.in_ok-m-in-Begun.m c.in-Begun.row c.in-Begun.parts c.in-Begun.moving c.begin.new.self.slots.items said.0 said.1 c.in_ok-m-in-Begun.ensures.free c.in_ok-m-in-Begun.ensures.begun)
+    rw same (begun_there g.D.Disk.tells p m r store (not_long c.args.store) c.args.now c.rule_at-rule.result rule by c.in_ok-running.ensures.runs c.in_ok-running.ensures.all c.args.store (place_next c.args.store c.requires.first c.requires.last) c.in_ok-m-in-Begun.m c.in-Begun.row c.in-Begun.parts c.in-Begun.moving c.begin.new.self.slots.items said.0 said.1 c.in_ok-m-in-Begun.ensures.free c.in_ok-m-in-Begun.ensures.least c.in_ok-m-in-Begun.ensures.begun)
 
 pub returns-in-Running-clause-begins : goal.returns-in-Running-clause-begins
 returns-in-Running-clause-begins g c = λ m r.
