@@ -20,11 +20,11 @@ use Rattle.act_model.proofs.NextLife.{next_life_sound, next_life_between, lives,
 -- WHAT A STOP LEAVES
 
 -- rows go on to what is left, as to any later state
-left_on_between : (old left : Machine) → IsSound old → LeftBetween old left → Onward old left
+pub left_on_between : (old left : Machine) → IsSound old → LeftBetween old left → Onward old left
 left_on_between old left s as_it_is = onward_refl old
 left_on_between old left s (with_doubt change is) = onward_made old [] change s (s.doubted change is).0
 
-left_on : (act : Act) (old left : Machine) → IsSound old → LeftWithin (refuse_by act) (change_by act) old left → Onward old left
+pub left_on : (act : Act) (old left : Machine) → IsSound old → LeftWithin (refuse_by act) (change_by act) old left → Onward old left
 left_on act old left s (before_it is) = left_on_between old left s is
 left_on act old left s (settled_there settles) = onward_settled s settles
 left_on act old left s (with_change {mid} one settles free is) =

@@ -61,8 +61,8 @@ fn serve_seated<R: Wait, X: Applies, C: Clock, W: Door, G: Gate>(
     gate: &G,
     post: usize,
 ) -> Ended
-    requires stands { (m : Machine) × StandsFor (SharedStep X.stands X.Reader.tells X.Reader.bytes X.Reader.faults) (SharedStands X.stands) rooms.now pass.old m }
-    ensures acts { ShiftEnds (SharedStep X.stands X.Reader.tells X.Reader.bytes X.Reader.faults) (reply_of X.Reader.tells X.Reader.bytes X.Reader.faults) rooms.now pass.old result pass.new }
+    requires stands { (m : Machine) × StandsFor (SharedStep X.stands X.crash X.Reader.tells X.Reader.bytes X.Reader.faults) (SharedStands X.stands) rooms.now pass.old m }
+    ensures acts { ShiftEnds (SharedStep X.stands X.crash X.Reader.tells X.Reader.bytes X.Reader.faults) (reply_of X.Reader.tells X.Reader.bytes X.Reader.faults) rooms.now pass.old result pass.new }
     ensures door { DoorLeft W.is_closed W.door_faults W.ledger (IsServed kind W.L.Sink.written W.L.Source.read_faults W.L.Sink.write_faults) door.old result door.new }
 {
     let mut actor = Seated::new(rt, rooms, pass);
@@ -80,8 +80,8 @@ fn tend_seated<R: Wait, X: Applies, C: Clock>(
     task: Task,
     clock: &mut C,
 ) -> Ended
-    requires stands { (m : Machine) × StandsFor (SharedStep X.stands X.Reader.tells X.Reader.bytes X.Reader.faults) (SharedStands X.stands) rooms.now pass.old m }
-    ensures { TaskEnds (SharedStep X.stands X.Reader.tells X.Reader.bytes X.Reader.faults) (reply_of X.Reader.tells X.Reader.bytes X.Reader.faults) rooms.now task pass.old result pass.new }
+    requires stands { (m : Machine) × StandsFor (SharedStep X.stands X.crash X.Reader.tells X.Reader.bytes X.Reader.faults) (SharedStands X.stands) rooms.now pass.old m }
+    ensures { TaskEnds (SharedStep X.stands X.crash X.Reader.tells X.Reader.bytes X.Reader.faults) (reply_of X.Reader.tells X.Reader.bytes X.Reader.faults) rooms.now task pass.old result pass.new }
 {
     let mut actor = Seated::new(rt, rooms, pass);
     match task {
@@ -105,8 +105,8 @@ pub(crate) fn serve_post<R: Wait, X: Applies, C: Clock, W: Door, G: Gate>(
     worker: &mut Worker<Shared<X>, C, Ended>,
     post: &mut Post<W>,
 )
-    requires stands { (m : Machine) × StandsFor (SharedStep X.stands X.Reader.tells X.Reader.bytes X.Reader.faults) (SharedStands X.stands) rooms.now worker.old.pass m }
-    ensures acts { ShiftEnds (SharedStep X.stands X.Reader.tells X.Reader.bytes X.Reader.faults) (reply_of X.Reader.tells X.Reader.bytes X.Reader.faults) rooms.now worker.old.pass worker.new.end worker.new.pass }
+    requires stands { (m : Machine) × StandsFor (SharedStep X.stands X.crash X.Reader.tells X.Reader.bytes X.Reader.faults) (SharedStands X.stands) rooms.now worker.old.pass m }
+    ensures acts { ShiftEnds (SharedStep X.stands X.crash X.Reader.tells X.Reader.bytes X.Reader.faults) (reply_of X.Reader.tells X.Reader.bytes X.Reader.faults) rooms.now worker.old.pass worker.new.end worker.new.pass }
     ensures door { DoorLeft W.is_closed W.door_faults W.ledger (IsServed post.old.kind W.L.Sink.written W.L.Source.read_faults W.L.Sink.write_faults) post.old.door worker.new.end post.new.door }
     ensures kind { post.new.kind ≡ post.old.kind }
 {
@@ -130,8 +130,8 @@ pub(crate) fn tend<R: Wait, X: Applies, C: Clock>(
     worker: &mut Worker<Shared<X>, C, Ended>,
     task: &mut Task,
 )
-    requires stands { (m : Machine) × StandsFor (SharedStep X.stands X.Reader.tells X.Reader.bytes X.Reader.faults) (SharedStands X.stands) rooms.now worker.old.pass m }
-    ensures { TaskEnds (SharedStep X.stands X.Reader.tells X.Reader.bytes X.Reader.faults) (reply_of X.Reader.tells X.Reader.bytes X.Reader.faults) rooms.now task.old worker.old.pass worker.new.end worker.new.pass }
+    requires stands { (m : Machine) × StandsFor (SharedStep X.stands X.crash X.Reader.tells X.Reader.bytes X.Reader.faults) (SharedStands X.stands) rooms.now worker.old.pass m }
+    ensures { TaskEnds (SharedStep X.stands X.crash X.Reader.tells X.Reader.bytes X.Reader.faults) (reply_of X.Reader.tells X.Reader.bytes X.Reader.faults) rooms.now task.old worker.old.pass worker.new.end worker.new.pass }
 {
     worker.end = tend_seated(rt, rooms, &mut worker.pass, *task, &mut worker.clock);
 }

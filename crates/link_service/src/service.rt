@@ -104,9 +104,9 @@ fn work_all<
 where
     X::Reader: Send,
     W::L: Send,
-    requires stand { All (CanWork (SharedStep X.stands X.Reader.tells X.Reader.bytes X.Reader.faults) (SharedStands X.stands) rooms.now) workers.old }
+    requires stand { All (CanWork (SharedStep X.stands X.crash X.Reader.tells X.Reader.bytes X.Reader.faults) (SharedStands X.stands) rooms.now) workers.old }
     requires as_many { length workers.old ≡ length posts.old + 2 }
-    ensures { WorkDone (SharedStep X.stands X.Reader.tells X.Reader.bytes X.Reader.faults) (reply_of X.Reader.tells X.Reader.bytes X.Reader.faults) rooms.now W.is_closed W.door_faults W.ledger (λ kind l. IsServed kind W.L.Sink.written W.L.Source.read_faults W.L.Sink.write_faults l) workers.old posts.old workers.new posts.new }
+    ensures { WorkDone (SharedStep X.stands X.crash X.Reader.tells X.Reader.bytes X.Reader.faults) (reply_of X.Reader.tells X.Reader.bytes X.Reader.faults) rooms.now W.is_closed W.door_faults W.ledger (λ kind l. IsServed kind W.L.Sink.written W.L.Source.read_faults W.L.Sink.write_faults l) workers.old posts.old workers.new posts.new }
 {
     let at_posts = posts.len();
     let (at_doors, beside) = workers.split_at_mut(at_posts);
@@ -114,14 +114,14 @@ where
     run_with(
         rt,
         &|worker: &mut Worker<Shared<X>, C, Ended>, task: &mut Task|
-            requires { (m : Machine) × StandsFor (SharedStep X.stands X.Reader.tells X.Reader.bytes X.Reader.faults) (SharedStands X.stands) rooms.now worker.now.pass m }
-            ensures { TaskEnds (SharedStep X.stands X.Reader.tells X.Reader.bytes X.Reader.faults) (reply_of X.Reader.tells X.Reader.bytes X.Reader.faults) rooms.entry.now task.entry.now worker.entry.now.pass worker.exit.now.end worker.exit.now.pass }
+            requires { (m : Machine) × StandsFor (SharedStep X.stands X.crash X.Reader.tells X.Reader.bytes X.Reader.faults) (SharedStands X.stands) rooms.now worker.now.pass m }
+            ensures { TaskEnds (SharedStep X.stands X.crash X.Reader.tells X.Reader.bytes X.Reader.faults) (reply_of X.Reader.tells X.Reader.bytes X.Reader.faults) rooms.entry.now task.entry.now worker.entry.now.pass worker.exit.now.end worker.exit.now.pass }
         { tend(rt, rooms, worker, task) },
         beside,
         &mut tasks,
         &|worker: &mut Worker<Shared<X>, C, Ended>, post: &mut Post<W>|
-            requires { (m : Machine) × StandsFor (SharedStep X.stands X.Reader.tells X.Reader.bytes X.Reader.faults) (SharedStands X.stands) rooms.now worker.now.pass m }
-            ensures acts { ShiftEnds (SharedStep X.stands X.Reader.tells X.Reader.bytes X.Reader.faults) (reply_of X.Reader.tells X.Reader.bytes X.Reader.faults) rooms.entry.now worker.entry.now.pass worker.exit.now.end worker.exit.now.pass }
+            requires { (m : Machine) × StandsFor (SharedStep X.stands X.crash X.Reader.tells X.Reader.bytes X.Reader.faults) (SharedStands X.stands) rooms.now worker.now.pass m }
+            ensures acts { ShiftEnds (SharedStep X.stands X.crash X.Reader.tells X.Reader.bytes X.Reader.faults) (reply_of X.Reader.tells X.Reader.bytes X.Reader.faults) rooms.entry.now worker.entry.now.pass worker.exit.now.end worker.exit.now.pass }
             ensures door { DoorLeft W.is_closed W.door_faults W.ledger (IsServed post.entry.now.kind W.L.Sink.written W.L.Source.read_faults W.L.Sink.write_faults) post.entry.now.door worker.exit.now.end post.exit.now.door }
             ensures kind { post.exit.now.kind ≡ post.entry.now.kind }
         { serve_post(rt, alloc, rooms, gate, worker, post) },
@@ -153,17 +153,17 @@ pub fn serve_all<
 where
     X::Reader: Send,
     W::L: Send,
-    requires stands { (m : Machine) × StandsFor (SharedStep X.stands X.Reader.tells X.Reader.bytes X.Reader.faults) (SharedStands X.stands) rooms.now pass.old m }
+    requires stands { (m : Machine) × StandsFor (SharedStep X.stands X.crash X.Reader.tells X.Reader.bytes X.Reader.faults) (SharedStands X.stands) rooms.now pass.old m }
     requires last { IsLast pass.old }
     requires few { length posts.old < 2 ^ 32 }
-    ensures rooms { IsPassOf (SharedStep X.stands X.Reader.tells X.Reader.bytes X.Reader.faults) rooms.now pass.new }
+    ensures rooms { IsPassOf (SharedStep X.stands X.crash X.Reader.tells X.Reader.bytes X.Reader.faults) rooms.now pass.new }
     ensures back { IsBack pass.old pass.new }
     ensures posts { PostsLeft W.is_closed W.door_faults W.ledger (λ kind l. IsServed kind W.L.Sink.written W.L.Source.read_faults W.L.Sink.write_faults l) result posts.old posts.new }
     ensures spent { result.spent ≡ true → (most_acts ≤ length (known pass.new)) ⊎ (drained pass.old < drained pass.new) }
     ensures disk_fault { result.disk_fault ≡ true → HasFlushFault (reply_of X.Reader.tells X.Reader.bytes X.Reader.faults) pass.old pass.new }
-    ensures ends { (m : Machine) → StandsFor (SharedStep X.stands X.Reader.tells X.Reader.bytes X.Reader.faults) (SharedStands X.stands) rooms.now pass.old m → m.doors ≡ length posts.old
+    ensures ends { (m : Machine) → StandsFor (SharedStep X.stands X.crash X.Reader.tells X.Reader.bytes X.Reader.faults) (SharedStands X.stands) rooms.now pass.old m → m.doors ≡ length posts.old
         → result.spent ≡ false → result.memory ≡ false → result.disk_fault ≡ false
-        → (mover : ℕ) × EndsInTurns (SharedStep X.stands X.Reader.tells X.Reader.bytes X.Reader.faults) (SharedStands X.stands) (reply_of X.Reader.tells X.Reader.bytes X.Reader.faults) rooms.now pass.old pass.new m mover }
+        → (mover : ℕ) × EndsInTurns (SharedStep X.stands X.crash X.Reader.tells X.Reader.bytes X.Reader.faults) (SharedStands X.stands) (reply_of X.Reader.tells X.Reader.bytes X.Reader.faults) rooms.now pass.old pass.new m mover }
 {
     match draw_workers(
         rt,

@@ -24,6 +24,10 @@ pub record BoardStands (board : Board) (m : Machine) : Type 0 where
   pub doors : m.doors ≡ board.doors
   pub certain : m.doubt ≡ None
 
+-- nothing of a board is on a disk, so a crash leaves nothing of it
+abbrev pub BoardCrash : Board → Act → Board → Type 0
+BoardCrash old act new = Unit {0}
+
 -- this act with this answer leads from each state that the one stands for to one that the other stands for
 abbrev pub StepsTo : ℕ → Act → Board → Reply → Board → Type 0
 StepsTo who act old reply new = (m : Machine) → BoardStands old m → (n : Machine) × Step who act m reply n × BoardStands new n

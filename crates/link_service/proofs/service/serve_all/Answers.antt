@@ -12,7 +12,7 @@ work_all-requires-clause-stand g c κs within =
     let W = g.W.Door in
     let L = g.W.L in
     rw c.as_mut_slice.ensures.value
-    (drawn_can _ _ _ g.row.W.Denot g.row.W-L.Denot (SharedStep g.X.Applies.stands R.tells R.bytes R.faults) (reply_of R.tells R.bytes R.faults) c.args.rooms.now W.is_closed W.door_faults W.ledger (λ kind l. IsServed {L = g.row.W-L.Denot} kind L.Sink.written L.Source.read_faults L.Sink.write_faults l)
+    (drawn_can _ _ _ g.row.W.Denot g.row.W-L.Denot (SharedStep g.X.Applies.stands g.X.Applies.crash R.tells R.bytes R.faults) (reply_of R.tells R.bytes R.faults) c.args.rooms.now W.is_closed W.door_faults W.ledger (λ kind l. IsServed {L = g.row.W-L.Denot} kind L.Sink.written L.Source.read_faults L.Sink.write_faults l)
     (SharedStands g.X.Applies.stands) c.args.pass.now c.draw_workers.new.pass c.in-Ok.workers.items c.in-Ok.ensures.drawn c.requires.stands)
 
 pub work_all-requires-clause-as_many : goal.work_all-requires-clause-as_many
@@ -61,7 +61,7 @@ returns-in-Ok-clause-ends g c = λ m here doors spent memory fault.
     let met = met_all _ _ _ _ _ _ _ _ _ _ _ _ _ _ _ _ done _ back c.draw_workers.new.pass c.meet_workers.new.pass c.meet_workers.ensures in
     let many = placed (λ w. w.place) c.in-Ok.workers.items (length c.args.posts.now + 2) c.in-Ok.ensures.places in
     all_end _ _ _ _ _ _ _ _ _ _ _ _ _ _ _ _ done c.args.pass.now c.draw_workers.new.pass c.meet_workers.new.pass c.in-Ok.ensures.drawn met (SharedStands g.X.Applies.stands)
-    (λ before after who n act answer step. step) (λ s m stood. g.X.Applies.sound s.archive m stood) many m here doors (rw told at spent) (rw told at memory) (rw told at fault)
+    (λ before after who n act answer step. step.0) (λ s m stood. g.X.Applies.sound s.archive m stood) many m here doors (rw told at spent) (rw told at memory) (rw told at fault)
 
 pub returns-in-Err-Spent-clause-posts : goal.returns-in-Err-Spent-clause-posts
 returns-in-Err-Spent-clause-posts g c = none_left _ _ _ _ _ (λ spent memory. absurd cc) c.args.posts.now refl

@@ -11,7 +11,7 @@ use Rattle.link_service.proofs.service.work_all.Goals as goal
 pub run_with-requires-clause-first : goal.run_with-requires-clause-first
 run_with-requires-clause-first g c κs within =
     let R = g.X.Reader.ReadAt in
-    let Can = CanWork (SharedStep g.X.Applies.stands R.tells R.bytes R.faults) (SharedStands g.X.Applies.stands) c.args.rooms.now in
+    let Can = CanWork (SharedStep g.X.Applies.stands g.X.Applies.crash R.tells R.bytes R.faults) (SharedStands g.X.Applies.stands) c.args.rooms.now in
     let front = c.split_at_mut-at_doors.result.0.now in
     let back = c.split_at_mut-at_doors.result.1.now in
     let both = all_parts Can front back (rw (← c.split_at_mut-at_doors.ensures.value) c.requires.stand) in
@@ -20,7 +20,7 @@ run_with-requires-clause-first g c κs within =
 pub run_with-requires-clause-second : goal.run_with-requires-clause-second
 run_with-requires-clause-second g c κs within =
     let R = g.X.Reader.ReadAt in
-    let Can = CanWork (SharedStep g.X.Applies.stands R.tells R.bytes R.faults) (SharedStands g.X.Applies.stands) c.args.rooms.now in
+    let Can = CanWork (SharedStep g.X.Applies.stands g.X.Applies.crash R.tells R.bytes R.faults) (SharedStands g.X.Applies.stands) c.args.rooms.now in
     let front = c.split_at_mut-at_doors.result.0.now in
     let back = c.split_at_mut-at_doors.result.1.now in
     let both = all_parts Can front back (rw (← c.split_at_mut-at_doors.ensures.value) c.requires.stand) in
@@ -31,7 +31,7 @@ returns g c =
     let R = g.X.Reader.ReadAt in
     let W = g.W.Door in
     let L = g.W.L in
-    let steps = SharedStep g.X.Applies.stands R.tells R.bytes R.faults in
+    let steps = SharedStep g.X.Applies.stands g.X.Applies.crash R.tells R.bytes R.faults in
     let reply = reply_of R.tells R.bytes R.faults in
     let rooms = c.args.rooms.now in
     let front = c.split_at_mut-at_doors.result.0.now in

@@ -7,7 +7,7 @@ turn_once-requires-2-clause-stands g c = (both_seated _ _ c.args.rooms.now c.tur
 
 pub returns-clause-stands : goal.returns-clause-stands
 returns-clause-stands g c =
-    met_seated _ _ _ (λ old new who n act answer step. step) c.args.rooms.now c.part.new.pass c.meet.new.pass c.turn_once-2.new.pass c.meet.ensures
+    met_seated _ _ _ (λ old new who n act answer step. step.0) c.args.rooms.now c.part.new.pass c.meet.new.pass c.turn_once-2.new.pass c.meet.ensures
     (both_seated _ _ c.args.rooms.now c.turn_once.new.pass c.part.new.pass c.in-Ok.note c.in-Ok.ensures.parts c.turn_once.ensures.stands).0
 
 pub returns-clause-last : goal.returns-clause-last
