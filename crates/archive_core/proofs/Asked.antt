@@ -1,5 +1,5 @@
 -- An act, by what was asked: each is the act of its own method.
-use Rattle.std.proofs.Common.{◌≡◌, ℕ, Bool, refl, sym, subst}
+use Rattle.std.proofs.Common.{◌≡◌, ℕ, Bool, sym, subst}
 use Rattle.disk_model.specs.Past.{Past, Passes}
 use Rattle.act_model.specs.Machine.{Machine}
 use Rattle.act_model.specs.Reply.{Reply}

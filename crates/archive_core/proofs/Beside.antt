@@ -21,7 +21,7 @@ use Rattle.three_stores.specs.Change.{IsKnown, Registers, Switches}
 use Rattle.three_stores.specs.Moving.{GoesBeside, parts_in}
 use Rattle.three_stores.specs.Revival.{FlushesOver}
 use Rattle.three_stores.specs.Seen.{granularities}
-use Rattle.three_stores.specs.Stores.{Stores, list_at, tier, with_rows}
+use Rattle.three_stores.specs.Stores.{Stores, list_at, tier}
 use Rattle.three_stores.specs.declared.limbo.Retired.{Retired}
 use Rattle.three_stores.proofs.Places.{granularity_at, list_other, manifest_at, manifest_of}
 use Rattle.three_stores.proofs.Showing.{registers_on, switches_on}

@@ -4,12 +4,9 @@ use Rattle.std.specs.Prelude.{IsTrue, slice_get, slice_index}
 use Rattle.std.proofs.lemmas.List.{length-map}
 use Rattle.std.proofs.lemmas.Option.{same_Some}
 use Rattle.append_buffer.specs.Tails.{tail_at}
-use Rattle.event_types.specs.declared.about.About.{About}
-use Rattle.event_types.specs.declared.about.State.{State}
-use Rattle.partition_names.specs.declared.part.Part.{Part}
 use Rattle.pv_catalog.specs.Rows.{HasName}
 use Rattle.pv_catalog.specs.declared.row.Row.{Row}
-use Rattle.series_model.specs.Series.{end_of, over}
+use Rattle.series_model.specs.Series.{end_of}
 use Rattle.series_model.specs.declared.sample.Sample.{Sample}
 use Rattle.series_model.proofs.RisingLists.{since_all}
 use Rattle.tier_store.specs.Ends.{End, IsFailed}
@@ -19,7 +16,6 @@ use Rattle.three_stores.specs.Change.{Has}
 use Rattle.three_stores.specs.Details.{AreCounted, IsDescribed, SaysDescribed, none_has, is_described}
 use Rattle.three_stores.specs.Opening.{end_of_answer}
 use Rattle.three_stores.specs.Pinned.{beside}
-use Rattle.three_stores.specs.Pinning.{HasNoName}
 use Rattle.three_stores.specs.Seen.{Seen, granularities}
 use Rattle.three_stores.specs.Settling.{SettlesAndReads, ReadsOf}
 use Rattle.three_stores.specs.Stores.{Stores, list_at, samples_in}
@@ -28,9 +24,8 @@ use Rattle.act_model.specs.declared.acts.Answer.TheVariants as answer
 use Rattle.act_model.specs.declared.details.Details.{Details}
 use Rattle.act_model.specs.Details.{Describes, IsDetails, first_time, last_time}
 use Rattle.act_model.specs.Machine.{Machine, find_row}
-use Rattle.act_model.specs.Parts.{AreParts}
 use Rattle.act_model.specs.Reply.{Reply, reply_of}
-use Rattle.act_model.specs.Rows.{RowState, Store, Short, Medium, Long, durable, accepted, tier}
+use Rattle.act_model.specs.Rows.{RowState, Store, Short, Medium, Long, durable, accepted}
 use Rattle.act_model.specs.Rule.{index_of}
 use Rattle.archive_core.specs.Describing.{IsDescribing}
 use Rattle.archive_core.specs.Ends.{AskEnds, is_spent, is_failed, is_answered}

@@ -25,7 +25,7 @@ use Rattle.three_stores.specs.Seen.{Seen, granularities}
 use Rattle.three_stores.specs.Stores.{Stores, tier}
 use Rattle.three_stores.specs.declared.limbo.Retired.{Retired}
 use Rattle.three_stores.proofs.Left.{has_left}
-use Rattle.three_stores.proofs.Places.{granularity_at, manifest_at, manifest_of}
+use Rattle.three_stores.proofs.Places.{manifest_at, manifest_of}
 use Rattle.act_model.specs.Changes.{made}
 use Rattle.act_model.specs.Flush.{batch_of, count_in}
 use Rattle.act_model.specs.Machine.{Machine, Change, Appends}

@@ -86,3 +86,4 @@ pub mod MovePuts
 pub mod MoveSteps
 pub mod MoveTogether
 pub mod CopyTaken
+pub mod RunOfActs

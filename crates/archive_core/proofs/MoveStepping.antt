@@ -9,7 +9,6 @@ use Rattle.std.proofs.lemmas.Bool.Decides.{nat_tests}
 use Rattle.std.specs.List.{AllByRecursion}
 use Rattle.disk_model.specs.Files.{Rose}
 use Rattle.disk_model.specs.Past.{Passes}
-use Rattle.disk_model.specs.declared.disk.DiskErr.TheVariants.{Memory}
 use Rattle.disk_model.proofs.Passing.{passes_then}
 use Rattle.etl_mover.specs.Move.{MoveState as Moving}
 use Rattle.partition_names.specs.declared.granularity.Granularity.{Granularity}

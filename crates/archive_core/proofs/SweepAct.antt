@@ -31,7 +31,7 @@ use Rattle.act_model.specs.Machine.{Machine}
 use Rattle.act_model.specs.OpenPiece.{name_of}
 use Rattle.act_model.specs.Outcome.{runs, faults_first, faults_between, wants_memory, wants_memory_settled}
 use Rattle.act_model.specs.Reply.{Reply}
-use Rattle.act_model.specs.Rows.{RowState, holds}
+use Rattle.act_model.specs.Rows.{RowState}
 use Rattle.act_model.specs.Sweep.{IsPinned, IsCopiedInto, IsSwept, Sweeps, SweepStep}
 use Rattle.act_model.specs.declared.acts.Answer.TheVariants as answer
 use Rattle.act_model.proofs.MoveActs.{sweep_sound}

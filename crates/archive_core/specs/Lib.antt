@@ -19,3 +19,4 @@ pub mod Moving
 pub mod Taking
 pub mod Stepping
 pub mod Retiring
+pub mod Running

@@ -1,10 +1,9 @@
 //! An archive as one value: three stores on a disk, the intake of accepted samples that no store lists yet, and what sampled rows hold.
 //!
-//! [`Archive::of`] opens an archive on stores, in which all that is durable is accepted and nothing else. So far it has registrations,
-//! pauses and resumes of rows, offers, ticks, flushes, sweeps, names, details, doors, pins and their pieces, and moves. Each says which
-//! step of the machine of `act_model` it is: from each machine that the archive stood for (`Stands`) the act is a step, with the answer
-//! that is given, to one that the archive stands for then. An act that touches the disk also says what a crash at any moment of it leaves:
-//! what the machine says of a crash within that act (`LeavesByAct`).
+//! [`Archive::of`] opens an archive on stores, in which all that is durable is accepted and nothing else. Each act says which step of the
+//! machine of `act_model` it is: from each machine that the archive stood for (`Stands`) the act is a step, with the answer that is given,
+//! to one that the archive stands for then. An act that touches the disk also says what a crash at any moment of it leaves: what the
+//! machine says of a crash within that act (`LeavesByAct`). [`Archive::apply`] makes any act, and [`run_acts`] a list of them.
 //!
 //! `Stands` also says what the memory and the stores are while a change stands in doubt: the stores have what is durable of the machine,
 //! or that with the doubted change, and it isn't known which. The change is a new row, a row's state, a flush, the listing of what a move
@@ -25,6 +24,7 @@ mod offers;
 mod opening;
 mod pins;
 mod registering;
+mod running;
 mod settling;
 mod stepping;
 mod sweeping;
@@ -35,3 +35,4 @@ mod widening;
 mod written;
 
 pub use archive::Archive;
+pub use running::run_acts;

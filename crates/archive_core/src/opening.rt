@@ -79,7 +79,7 @@ fn open_rows<D: Disk>(alloc: Global, store: &TierStore<D>) -> Result<Vec<RowMemo
 
 impl<D: Disk> Archive<D> {
     /// The archive of stores that no change stands in doubt of and that have no pin and no file in limbo, with so many doors. All that is
-    /// durable is accepted, and nothing else. Moves are due by the settings that the stores were opened with.
+    /// durable is accepted, and nothing else. Moves are due by the settings that the stores have then.
     ///
     /// `Err` comes for want of memory alone, and gives the stores back.
     pub fn of(alloc: Global, store: TierStore<D>, doors: u32) -> Result<Archive<D>, TierStore<D>>

@@ -70,7 +70,7 @@ impl<D: Disk> TierStore<D> {
         }
     }
 
-    /// The settings that it was opened with. They say when files of stores 1 and 2 are to move on.
+    /// The settings that it has, which say when files of stores 1 and 2 are to move on. A store that is opened has those that it was opened by.
     pub fn config(&self) -> Config
         ensures { result ≡ self.now.config }
     {

@@ -1,0 +1,43 @@
+-- Acts that are made on an archive one after another, by anyone: they run in the machine, and what a crash at any moment since the first may
+-- leave lies between what was durable before them and what is accepted after them.
+use Rattle.std.specs.Prelude.{◌≡◌, ℕ, List, [], map, Bool, Some, true, IsTrue, slice_get}
+use Rattle.disk_model.specs.Files.{Files}
+use Rattle.disk_model.specs.Past.{Passes}
+use Rattle.partition_names.specs.declared.granularity.Granularity.{Granularity}
+use Rattle.series_model.specs.Archive.{IsPrefix}
+use Rattle.three_stores.specs.Seen.{granularities}
+use Rattle.act_model.specs.declared.acts.Act.{Act}
+use Rattle.act_model.specs.History.{Entry, Runs}
+use Rattle.act_model.specs.Machine.{Machine}
+use Rattle.act_model.specs.Reply.{Reply}
+use Rattle.act_model.specs.Rows.{RowState, accepted, durable}
+use Rattle.archive_core.specs.Ends.{HoldsMachine}
+use Rattle.archive_core.specs.Parts.{Parts}
+use Rattle.archive_core.specs.Stands.{Stands}
+
+-- The image holds each row of the start with no less than was durable of it then; and what it holds of a row, where that is anything, is a
+-- front of what is accepted of it at the end.
+pub record HoldsBetween (gs : List Granularity) (start end : Machine) (image : Files) : Type 0 where
+  pub left : Machine
+  pub holds : HoldsMachine gs image left
+  pub extends : (i : ℕ) (first : RowState) → slice_get start.rows i ≡ Some first → (row : RowState) × (slice_get left.rows i ≡ Some row) × IsPrefix (durable first) (durable row)
+  pub extended : (i : ℕ) (row : RowState) → slice_get left.rows i ≡ Some row → (durable row ≡ [] → ⊥) → (last : RowState) × (slice_get end.rows i ≡ Some last) × IsPrefix (durable row) (accepted last)
+
+-- From a state that the archive stood for these entries ran to one that it stands for. Where its samples are told, each image that a crash
+-- since then may have left holds what lies between the two.
+pub record RunsOn (tells : Bool) (old : Parts) (m : Machine) (entries : List Entry) (new : Parts) : Type 0 where
+  pub after : Machine
+  pub runs : Runs m entries after
+  pub stands : Stands tells new after
+  pub any_moment : IsTrue tells → m.told ≡ true → Passes (λ a image. HoldsBetween (granularities old.at.manifests) m after image) old.at.past new.at.past
+
+-- what was asked, and under which number
+abbrev pub asked : Entry → ℕ × Act
+asked e = (e.who, e.act)
+
+-- Just these acts were made, in order, and answered so, and from whatever the archive stood for they ran on.
+pub record MakesAll (tells : Bool) (old : Parts) (acts : List (ℕ × Act)) (answers : List Reply) (new : Parts) : Type 0 where
+  pub entries : List Entry
+  pub acts_are : map asked entries ≡ acts
+  pub answers_are : map (λ (e : Entry). e.answer) entries ≡ answers
+  pub run : (m : Machine) → Stands tells old m → RunsOn tells old m entries new
