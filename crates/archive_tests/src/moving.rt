@@ -167,6 +167,6 @@ fn a_move_goes_on_to_its_end(rt: HostRuntime) -> Result<(), Fail> {
     behind(&mut again)?;
     let (ahead, wrong) = at_each_call(alloc, &script, &again, &MOVED, 120)?;
     assert_eq!(rt; wrong.as_str(), "");
-    assert!(rt; ahead >= 12, "{ahead}");
+    assert!(rt; ahead >= 8, "{ahead}");
     Ok(())
 }
