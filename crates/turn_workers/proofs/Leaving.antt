@@ -6,13 +6,14 @@ use Rattle.std.proofs.lemmas.Bool.Decides.{nat_tests}
 use Rattle.std.proofs.lemmas.List.Elements.{All-nil, All-cons, All-head, All-tail, All-push, All-weaker, Contains-append_left, Contains-append_right, Contains-append_cases}
 use Rattle.std.proofs.lemmas.Grind.{flat_map-append}
 use mathlib.Core.List.{IsPrefix}
+use Rattle.turn_rooms.specs.declared.room.Entry.{Entry}
 use Rattle.turn_rooms.specs.declared.rooms.Pass.{Pass}
 use Rattle.turn_rooms.specs.declared.rooms.Rooms.{Rooms}
 use Rattle.turn_rooms.specs.declared.view.Seen.{Seen}
 use Rattle.turn_rooms.specs.declared.view.Standing.{Standing}
 use Rattle.turn_rooms.specs.Histories.{by}
 use Rattle.turn_rooms.specs.Passes.{IsPassOf, IsLast, Goes, Stays, Parts, Meets, KnowsAllOf, known, stands, gave, drained}
-use Rattle.turn_rooms.proofs.Lists.{no_element, has_first, cons_cases, cons_more, prefix_self, prefix_trans, by_none}
+use Rattle.turn_rooms.proofs.Lists.{no_element, has_first, cons_cases, cons_more, prefix_self, prefix_trans, by_behind, by_none}
 use Rattle.turn_rooms.proofs.Ended.{ended_meets, ended_still}
 use Rattle.turn_workers.specs.Left.{all_stands, IsNew, IsBack, LeftWith, Drawn, Met}
 
@@ -44,6 +45,17 @@ has_or_not q (x ∷ xs) = by_test (x == q) refl (has_or_not q xs)
     by_test true hit rest = let same : x ≡ q = grind (arith, nat_tests) in inl (subst (λ (z : ℕ). Contains (x ∷ xs) z) same (has_first x xs))
     by_test false miss (inl c) = inl (cons_more x xs q c)
     by_test false miss (inr none) = inr (λ c. ⊎_elim {C = ⊥} (λ same. let bad : ⊥ = grind (arith, nat_tests) in bad) none (cons_cases x xs q c))
+
+-- what goes on from a history, with no more entries of any number, is that history
+same_numbers : {S A B : Type 0} (xs ys : List (Entry S A B)) → IsPrefix xs ys → ((q : ℕ) → by q ys ≡ by q xs) → ys ≡ xs
+same_numbers {S} {A} {B} xs ys p same = by_rest p.0 p.1
+  where
+    by_rest : (rest : List (Entry S A B)) → xs ++ rest ≡ ys → ys ≡ xs
+    by_rest [] is = sym is ∙ append-nil xs
+    by_rest (e ∷ rest) is =
+        let more = by_behind xs e rest in
+        let none : length (by e.who (xs ++ e ∷ rest)) ≡ length (by e.who xs) = ap (λ (h : List (Entry S A B)). length (by e.who h)) is ∙ ap length (same e.who) in
+        absurd (omega arith)
 
 module _ {S A B : Type 0} where
   more_stands : (ns : List (Pass S A B)) (n : Pass S A B) → flat_map (λ (n : Pass S A B). stands n) (ns ++ n ∷ []) ≡ flat_map (λ (n : Pass S A B). stands n) ns ++ stands n
@@ -203,6 +215,28 @@ module _ {S A B : Type 0} (steps : S → ℕ → ℕ → A → B → S → Type 
     drained_rises = let low = d.drained_rises in let more = met.back.drained_rises in omega arith;
   }
 
+  -- a number that one of these stands for has no act since they were drawn, or none of them stands for it
+  drawn_acts : (o b : Q) (q : ℕ) (ns : List Q) → All (λ (n : Q). IsNew o n) ns → All (λ (n : Q). KnowsAllOf n b) ns → (by q (known b) ≡ by q (known o)) ⊎ All (λ (n : Q). ¬ Contains (stands n) q) ns
+  drawn_acts o b q [] fresh knows = inr (All-nil (λ (n : Q). ¬ Contains (stands n) q))
+  drawn_acts o b q (n ∷ ns) fresh knows =
+      ⊎_elim {C = (by q (known b) ≡ by q (known o)) ⊎ All (λ (k : Q). ¬ Contains (stands k) q) (n ∷ ns)}
+      (λ c. inl ((All-head (λ (k : Q). KnowsAllOf k b) n ns knows).acts q c ∙ ap (λ (h : List (Entry S A B)). by q h) (All-head (λ (k : Q). IsNew o k) n ns fresh).knows))
+      (λ no. ⊎_elim {C = (by q (known b) ≡ by q (known o)) ⊎ All (λ (k : Q). ¬ Contains (stands k) q) (n ∷ ns)}
+      (λ same. inl same)
+      (λ none. inr (All-cons (λ (k : Q). ¬ Contains (stands k) q) n ns no none))
+      (drawn_acts o b q ns (All-tail (λ (k : Q). IsNew o k) n ns fresh) (All-tail (λ (k : Q). KnowsAllOf k b) n ns knows)))
+      (has_or_not q (stands n))
+
+  -- those who made no act have told the pass nothing
+  pub nothing_told : (o a b : Q) (ns : List Q) → Drawn steps r o a ns → Met steps r a b ns → known b ≡ known o
+  nothing_told o a b [] d met = ap (λ (p : Q). known p) (met.none refl) ∙ d.knows
+  nothing_told o a b (n ∷ ns) d met =
+      same_numbers (known o) (known b) (drawn_back o a b (n ∷ ns) d met).goes_on
+      (λ q. ⊎_elim {C = by q (known b) ≡ by q (known o)}
+      (λ same. same)
+      (λ none. met.only (omega arith) q none ∙ ap (λ (h : List (Entry S A B)). by q h) d.knows)
+      (drawn_acts o b q (n ∷ ns) d.each met.each))
+
   -- MET
 
   -- These ended so far in a pass, beside which others may be left.
@@ -216,6 +250,7 @@ module _ {S A B : Type 0} (steps : S → ℕ → ℕ → A → B → S → Type 
     pub stays : (q : ℕ) → Contains (stands old) q → by q (known new) ≡ by q (known old)
     pub no_more : (q : ℕ) → Contains (stands new) q → ¬ Contains (stands old) q → All (λ (n : Q). ¬ Contains (stands n) q) met → ⊥
     pub whole : 0 < length met → IsLast new → (q : ℕ) → ¬ Contains (stands new) q → by q (known new) ≡ []
+    pub none : met ≡ [] → new ≡ old
 
   pub met_none : (p : Q) → MetSoFar p p []
   met_none p = record {
@@ -228,6 +263,7 @@ module _ {S A B : Type 0} (steps : S → ℕ → ℕ → A → B → S → Type 
     stays = λ q c. refl;
     no_more = λ q c none all. none c;
     whole = λ some. absurd (omega (arith, some));
+    none = λ is. refl;
   }
 
   met_more : (o a b : Q) (met : List Q) (n : Q) → IsPassOf steps r a → MetSoFar o a met → Meets steps r a b n → MetSoFar o b (n ∷ met)
@@ -245,6 +281,7 @@ module _ {S A B : Type 0} (steps : S → ℕ → ℕ → A → B → S → Type 
         (λ x. All-head (λ (k : Q). ¬ Contains (stands k) q) n met all x)
         (Contains-append_cases (stands a) (stands n) q (subst (λ (xs : List ℕ). Contains xs q) meets.stands_for c));
     whole = λ some. meets.whole;
+    none = λ is. absurd cc;
   }
 
   -- one more of the others ended
@@ -281,4 +318,5 @@ module _ {S A B : Type 0} (steps : S → ℕ → ℕ → A → B → S → Type 
             (λ c. f.stays q c)
             (λ no. let gone : by q (known p) ≡ [] = f.whole many last q (λ c. f.no_more q c no all) in gone ∙ sym (by_none q (known o) (known p) f.goes_on gone))
             (has_or_not q (stands o));
+        none = λ is. f.none (sym so.are ∙ is);
       }

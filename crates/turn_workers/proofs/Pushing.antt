@@ -1,7 +1,8 @@
--- One worker more or less.
-use Rattle.std.proofs.Common.{◌≡◌, ℕ, zero, suc, ◌+◌, List, [], ◌∷◌, ◌++◌, map, sym, ap, ◌∙◌, arith}
+-- One worker more or less, and a clock that gave no moment.
+use Rattle.std.proofs.Common.{◌≡◌, ℕ, zero, suc, ◌+◌, List, [], ◌∷◌, ◌++◌, Option, Some, None, map, sym, ap, ◌∙◌, arith}
 use Rattle.std.specs.List.{range_with_len}
 use Rattle.std.proofs.lemmas.List.{map-append}
+use Rattle.edge_io.specs.Moments.{Moments, Gives}
 use Rattle.turn_workers.specs.declared.worker.Worker.{Worker}
 
 module _ {R C E A B : Type 0} where
@@ -20,3 +21,7 @@ module _ {R C E A B : Type 0} where
       range_more : (a n j : ℕ) → a + n ≡ j → range_with_len a (n + 1) ≡ range_with_len a n ++ j ∷ []
       range_more a zero j is = let same : a ≡ j = omega arith in ap (λ (k : ℕ). k ∷ []) same
       range_more a (suc n) j is = let long : suc n + 1 ≡ suc (n + 1) = omega arith in rw long (ap (λ (l : List ℕ). a ∷ l) (range_more (a + 1) n j (omega arith)))
+
+pub gives_none : (clock : Option Moments) → Gives clock clock []
+gives_none None = tt
+gives_none (Some coming) = (tt, λ k. ap coming (omega arith))

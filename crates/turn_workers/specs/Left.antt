@@ -45,11 +45,12 @@ module _ {S A B : Type 0} (steps : S → ℕ → ℕ → A → B → S → Type 
     pub drained_rises : drained old ≤ drained new
     pub each : All (λ (n : Pass S A B). IsNew old n) notes
 
-  -- These ended in a pass, beside which no other is left. It knows all acts of theirs, and where there were some, no other act but those
-  -- that it knew.
+  -- These ended in a pass, beside which no other is left. It knows all acts of theirs, and no other act but those that it knew; where
+  -- there were none, it is as it was.
   pub record Met (old new : Pass S A B) (notes : List (Pass S A B)) : Type 0 where
     pub rooms : IsPassOf steps r new
     pub back : IsBack old new
     pub each : All (λ (n : Pass S A B). KnowsAllOf n new) notes
     pub knows_more : All (λ (n : Pass S A B). IsPrefix (known n) (known new)) notes
     pub only : 0 < length notes → (q : ℕ) → All (λ (n : Pass S A B). ¬ Contains (stands n) q) notes → by q (known new) ≡ by q (known old)
+    pub none : notes ≡ [] → new ≡ old

@@ -1,7 +1,8 @@
 use Rattle.std.proofs.Common.{rules, ◌≡◌, ◌∷◌, [], ◌++◌, refl, subst, arith, map}
 use Rattle.std.specs.List.{range_with_len}
-use Rattle.turn_workers.proofs.Leaving.{drawn_none, drawn_more, drawn_stays, drawn_back}
-use Rattle.turn_workers.proofs.Pushing.{passes_pushed, places_pushed}
+use Rattle.turn_workers.proofs.Leaving.{drawn_none, drawn_more, drawn_stays, drawn_back, nothing_told}
+use Rattle.edge_io.proofs.Clocks.{gives_on}
+use Rattle.turn_workers.proofs.Pushing.{gives_none, passes_pushed, places_pushed}
 use Rattle.turn_workers.proofs.drawing.draw_workers.Goals as goal
 
 pub loop-place-init : goal.loop-place-init
@@ -12,17 +13,22 @@ loop-place-init g c =
       places = rw none refl;
       count = search rules;
       room = search rules;
+      clock = gives_none (g.C.Clock.coming c.args.clock.now);
     }
 
 pub meet_workers-requires : goal.meet_workers-requires
 meet_workers-requires g c = (drawn_stays g.R.Room.steps c.args.rooms.now c.args.pass.now c.loop-place.pass c.draw_one.new.pass _ c.loop-place.invariant.drawn c.in-Err.ensures.spent.0 c.in-Err.ensures.spent.1).left
 
 pub returns-in-Err-clause-back : goal.returns-in-Err-clause-back
-returns-in-Err-clause-back g c = λ err. (
-  c.meet_workers.ensures.rooms,
-  drawn_back g.R.Room.steps c.args.rooms.now c.args.pass.now c.draw_one.new.pass c.meet_workers.new.pass _
-      (drawn_stays g.R.Room.steps c.args.rooms.now c.args.pass.now c.loop-place.pass c.draw_one.new.pass _ c.loop-place.invariant.drawn c.in-Err.ensures.spent.0 c.in-Err.ensures.spent.1) c.meet_workers.ensures,
-)
+returns-in-Err-clause-back g c = λ err.
+    let drawn = drawn_stays g.R.Room.steps c.args.rooms.now c.args.pass.now c.loop-place.pass c.draw_one.new.pass _ c.loop-place.invariant.drawn c.in-Err.ensures.spent.0 c.in-Err.ensures.spent.1 in (
+      c.meet_workers.ensures.rooms,
+      drawn_back g.R.Room.steps c.args.rooms.now c.args.pass.now c.draw_one.new.pass c.meet_workers.new.pass _ drawn c.meet_workers.ensures,
+      nothing_told g.R.Room.steps c.args.rooms.now c.args.pass.now c.draw_one.new.pass c.meet_workers.new.pass _ drawn c.meet_workers.ensures,
+    )
+
+pub returns-in-Err-clause-clock : goal.returns-in-Err-clause-clock
+returns-in-Err-clause-clock g c = gives_on _ _ _ [] [] c.loop-place.invariant.clock c.draw_one.ensures.clock
 
 pub loop-place-preserved : goal.loop-place-preserved
 loop-place-preserved g c =
@@ -34,6 +40,7 @@ loop-place-preserved g c =
       places = places_pushed c.push_reserved.new.self.items c.loop-place.workers.items w c.loop-place.place pushed c.in-Ok-draw_one.ensures.worker.0 c.loop-place.invariant.places;
       count = search rules;
       room = search rules;
+      clock = gives_on _ _ _ [] [] c.loop-place.invariant.clock c.draw_one.ensures.clock;
     }
 
 pub returns-clause-places : goal.returns-clause-places

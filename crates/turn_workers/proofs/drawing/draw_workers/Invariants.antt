@@ -1,5 +1,6 @@
-use Rattle.std.proofs.Common.{◌≡◌, ◌≤◌, vec_len, vec_capacity, map}
+use Rattle.std.proofs.Common.{◌≡◌, ◌≤◌, [], vec_len, vec_capacity, map}
 use Rattle.std.specs.List.{range_with_len}
+use Rattle.edge_io.specs.Moments.{Gives}
 use Rattle.turn_workers.specs.Left.{Drawn}
 use Rattle.turn_workers.proofs.drawing.draw_workers.Given as goal
 
@@ -9,4 +10,5 @@ invariant-loop-place g l = record {
   places : map (λ w. w.place) l.workers.items ≡ range_with_len 0 l.place;
   count : vec_len l.workers ≡ l.place;
   room : l.count ≤ vec_capacity l.workers;
+  clock : Gives (g.C.Clock.coming l.fn.clock) (g.C.Clock.coming l.clock) [];
 }
