@@ -5,5 +5,6 @@ mod SpentActs
 mod LastLines
 mod Ends
 mod Links
+mod Seating
 mod Servicing
 mod Tending

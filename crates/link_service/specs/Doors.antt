@@ -6,6 +6,7 @@ use Rattle.edge_io.specs.Moments.{Moments}
 use Rattle.edge_io.specs.Stream.{Rose}
 use Rattle.act_model.specs.declared.acts.Act.TheVariants.{DoorDone}
 use Rattle.act_model.specs.History.{Done, Entry, Made, MadeOne}
+use Rattle.act_model.specs.Machine.{Machine}
 use Rattle.act_model.specs.Reply.{Reply}
 use Rattle.act_model.specs.Roles.{is_of_link}
 use Rattle.serving_end.specs.Rounds.{IsShift}
@@ -16,7 +17,7 @@ use Rattle.link_service.specs.declared.door.DoorServed.TheVariants as door
 use Rattle.link_service.specs.declared.served.Kind.{Kind}
 use Rattle.link_service.specs.declared.served.Served.{Served}
 use Rattle.link_service.specs.declared.served.Served.TheVariants as served
-use Rattle.link_service.specs.Serving.{HasReply, MakesOnly, WasSpent}
+use Rattle.link_service.specs.Serving.{HasReply, MakesOnly, ServesLink, WasSpent}
 
 -- THE ACTS
 
@@ -44,6 +45,14 @@ pub data InTurn {A L R : Type 0} (Fresh : L → Type 0) (Serves : A → Option M
   no_link : InTurn Fresh Serves old clock [] [] old clock
   one_more_link : {links : List L} {results : List (Served R)} {mid : A} {moments : Option Moments} (was l : L) (result : Served R) (new : A) (clock' : Option Moments)
       → InTurn Fresh Serves old clock links results mid moments → Fresh was → Serves mid moments was result new clock' l → InTurn Fresh Serves old clock (links ++ l ∷ []) (results ++ result ∷ []) new clock'
+
+-- A link was served, by its kind, and the gate was told of it.
+abbrev pub ServesLinkTold : {A L R : Type 0} → (A → ℕ) → (A → List Entry → A → Type 0) → (A → Type 0) → (A → Machine → Type 0) → Bool → (R → ℕ) → (L → Option (List ℕ)) → (L → Option (List ℕ)) → (L → ℕ) → Type 0 → Kind → A → Option Moments → L → Served R → A → Option Moments → L → Type 0
+ServesLinkTold number between is_spent stands tells faults left written write_faults Told kind old clock was result new clock' l = ServesLink number between is_spent stands tells faults left written write_faults kind old clock was result new clock' l × Told
+
+-- the gate was told of a link at this post before it was served, and after that
+abbrev pub IsTold : {G : Type 0} → (G → ℕ → Type 0) → (G → ℕ → Type 0) → G → ℕ → Type 0
+IsTold entered left gate post = entered gate post × left gate post
 
 -- memory ran out for a link
 abbrev pub is_memory : {R : Type 0} → Served R → Bool
@@ -88,6 +97,12 @@ pub record ServesDoor {A D L R : Type 0} (number : A → ℕ) (between : A → L
   pub asked : AsksToEnd is_closed faults ledger Is (λ links results. InTurn Fresh Serves old clock links results mid clock') was result now
   pub counted : CountsOff number between mid result new
   pub spent : result ≡ door.Spent → WasSpent between is_spent new
+
+-- So a door was served whose links are of one kind and come to this post, each of which the gate was told of.
+abbrev pub ServesDoorAt : {A D L R : Type 0} → (A → ℕ) → (A → List Entry → A → Type 0) → (A → Type 0) → (A → Machine → Type 0) → Bool → (R → ℕ) → (L → Option (List ℕ)) → (L → Option (List ℕ)) → (L → ℕ) → (L → ℕ) → (D → Bool) → (D → ℕ) → (D → Option (Ledger L)) → (ℕ → Type 0)
+    → Kind → ℕ → A → Option Moments → D → DoorServed → A → Option Moments → D → Type 0
+ServesDoorAt number between is_spent stands tells faults left written read_faults write_faults is_closed door_faults ledger Told kind post old clock was result new clock' now =
+    ServesDoor number between is_spent (IsFresh written read_faults write_faults) (IsServed kind written read_faults write_faults) (ServesLinkTold number between is_spent stands tells faults left written write_faults (Told post) kind) is_closed door_faults ledger old clock was result new clock' now
 
 -- ONE LINK MORE
 

@@ -1,3 +1,4 @@
 pub mod Serving
 pub mod Doors
 pub mod Service
+pub mod Seats

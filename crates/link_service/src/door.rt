@@ -3,8 +3,8 @@ ghost use Rattle.std.specs.Prelude.{◌≡◌, Bool};
 ghost use Rattle.edge_io.specs.Doors.{IsFresh};
 ghost use Rattle.act_model.specs.Machine.{Machine};
 ghost use Rattle.act_model.specs.Roles.{is_of_link};
-ghost use Rattle.link_service.specs.Serving.{MakesOnly, ServesLink, WasSpent};
-ghost use Rattle.link_service.specs.Doors.{AsksOn, AsksToEnd, InTurn, IsServed, ServesDoor};
+ghost use Rattle.link_service.specs.Serving.{MakesOnly, WasSpent};
+ghost use Rattle.link_service.specs.Doors.{AsksOn, AsksToEnd, InTurn, IsServed, IsTold, ServesDoorAt, ServesLinkTold};
 
 use crate::gate::Gate;
 use crate::link::serve_link;
@@ -53,7 +53,7 @@ pub fn serve_door<A: Actor, W: Door, C: Clock, G: Gate>(
     post: usize,
 ) -> DoorServed
     requires stands { (m : Machine) × A.stands actor.old m }
-    ensures serves { ServesDoor A.number A.between A.is_spent (IsFresh W.L.Sink.written W.L.Source.read_faults W.L.Sink.write_faults) (IsServed kind W.L.Sink.written W.L.Source.read_faults W.L.Sink.write_faults) (ServesLink A.number A.between A.is_spent A.stands A.Reader.tells A.Reader.faults W.L.Source.left W.L.Sink.written W.L.Sink.write_faults kind) W.is_closed W.door_faults W.ledger actor.old (C.coming clock.old) door.old result actor.new (C.coming clock.new) door.new }
+    ensures serves { ServesDoorAt A.number A.between A.is_spent A.stands A.Reader.tells A.Reader.faults W.L.Source.left W.L.Sink.written W.L.Source.read_faults W.L.Sink.write_faults W.is_closed W.door_faults W.ledger (IsTold G.entered G.left gate.now) kind post actor.old (C.coming clock.old) door.old result actor.new (C.coming clock.new) door.new }
     ensures stands { (n : Machine) × A.stands actor.new n }
 {
     match serve_links(rt, alloc, actor, kind, door, clock, gate, post) {
@@ -78,7 +78,7 @@ fn serve_links<A: Actor, W: Door, C: Clock, G: Gate>(
 ) -> DoorServed
     requires stands { (m : Machine) × A.stands actor.old m }
     ensures acts { MakesOnly A.number A.between is_of_link actor.old actor.new }
-    ensures asked { AsksToEnd W.is_closed W.door_faults W.ledger (IsServed kind W.L.Sink.written W.L.Source.read_faults W.L.Sink.write_faults) (λ links results. InTurn (IsFresh W.L.Sink.written W.L.Source.read_faults W.L.Sink.write_faults) (ServesLink A.number A.between A.is_spent A.stands A.Reader.tells A.Reader.faults W.L.Source.left W.L.Sink.written W.L.Sink.write_faults kind) actor.old (C.coming clock.old) links results actor.new (C.coming clock.new)) door.old result door.new }
+    ensures asked { AsksToEnd W.is_closed W.door_faults W.ledger (IsServed kind W.L.Sink.written W.L.Source.read_faults W.L.Sink.write_faults) (λ links results. InTurn (IsFresh W.L.Sink.written W.L.Source.read_faults W.L.Sink.write_faults) (ServesLinkTold A.number A.between A.is_spent A.stands A.Reader.tells A.Reader.faults W.L.Source.left W.L.Sink.written W.L.Sink.write_faults (IsTold G.entered G.left gate.now post) kind) actor.old (C.coming clock.old) links results actor.new (C.coming clock.new)) door.old result door.new }
     ensures spent { result ≡ DoorServed.Spent → WasSpent A.between A.is_spent actor.new }
     ensures stands { (n : Machine) × A.stands actor.new n }
 {
@@ -107,7 +107,7 @@ fn serve_next<A: Actor, W: Door, C: Clock, G: Gate>(
 ) -> Asked
     requires stands { (m : Machine) × A.stands actor.old m }
     ensures acts { MakesOnly A.number A.between is_of_link actor.old actor.new }
-    ensures asked { AsksOn W.is_closed W.door_faults W.ledger (IsFresh W.L.Sink.written W.L.Source.read_faults W.L.Sink.write_faults) (IsServed kind W.L.Sink.written W.L.Source.read_faults W.L.Sink.write_faults) (λ was served link. ServesLink A.number A.between A.is_spent A.stands A.Reader.tells A.Reader.faults W.L.Source.left W.L.Sink.written W.L.Sink.write_faults kind actor.old (C.coming clock.old) was served actor.new (C.coming clock.new) link) door.old lacked result door.new }
+    ensures asked { AsksOn W.is_closed W.door_faults W.ledger (IsFresh W.L.Sink.written W.L.Source.read_faults W.L.Sink.write_faults) (IsServed kind W.L.Sink.written W.L.Source.read_faults W.L.Sink.write_faults) (λ was served link. ServesLinkTold A.number A.between A.is_spent A.stands A.Reader.tells A.Reader.faults W.L.Source.left W.L.Sink.written W.L.Sink.write_faults (IsTold G.entered G.left gate.now post) kind actor.old (C.coming clock.old) was served actor.new (C.coming clock.new) link) door.old lacked result door.new }
     ensures stays { (failed : Bool) → result ≡ Asked.End failed → (actor.new ≡ actor.old) × (C.coming clock.new ≡ C.coming clock.old) }
     ensures spent { result ≡ Asked.Spent → WasSpent A.between A.is_spent actor.new }
     ensures stands { (n : Machine) × A.stands actor.new n }

@@ -1,12 +1,21 @@
 // What is told of links as they are served.
+ghost use Rattle.std.specs.Prelude.{ℕ};
 
 /// Is told of each link that is served.
 pub trait Gate {
+    // It was told that a link is to be served at this post.
+    ghost entered: { Self → ℕ → Type 0 };
+
+    // It was told that a link was served at this post.
+    ghost left: { Self → ℕ → Type 0 };
+
     /// A link is to be served at this post.
-    fn enter(&self, post: usize);
+    fn enter(&self, post: usize)
+        ensures told { entered self.now post };
 
     /// The link was served.
-    fn leave(&self, post: usize);
+    fn leave(&self, post: usize)
+        ensures told { left self.now post };
 }
 
 /// Does nothing of it.
@@ -14,6 +23,10 @@ pub trait Gate {
 pub struct NoGate;
 
 impl Gate for NoGate {
+    ghost entered = { λ gate post. Unit {0} };
+
+    ghost left = { λ gate post. Unit {0} };
+
     fn enter(&self, _post: usize) {}
 
     fn leave(&self, _post: usize) {}

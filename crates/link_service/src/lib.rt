@@ -6,8 +6,8 @@
 //! flushes and one who moves, each in a thread of its own and by turns of a pass of its own.
 //!
 //! Model: `specs/Serving.antt` says what the service of a link came to, by what its session says (`feed_session`, `http_replies`), and
-//! what its peer was written; `specs/Doors.antt` what a worker leaves of its door; `specs/Service.antt` what all who worked leave, and what
-//! is told of them.
+//! what its peer was written; `specs/Doors.antt` what a worker leaves of its door, and `specs/Seats.antt` the same where it acts by turns of
+//! a pass; `specs/Service.antt` what all who worked leave, and what is told of them.
 //!
 //! Caveats: a link of HTTP serves one request. A feed registers no variables.
 //!

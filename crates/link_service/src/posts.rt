@@ -1,18 +1,17 @@
 // The posts of a service, and the tasks beside them.
 ghost use Rattle.std.specs.Prelude.{◌≡◌};
-ghost use Rattle.edge_io.specs.Doors.{IsFresh};
 ghost use Rattle.act_model.specs.Machine.{Machine};
 ghost use Rattle.act_model.specs.Reply.{reply_of};
 ghost use Rattle.archive_actors.specs.Seats.{StandsFor};
 ghost use Rattle.archive_actors.specs.Steps.{SharedStands, SharedStep};
-ghost use Rattle.link_service.specs.Doors.{IsServed, ServesDoor};
-ghost use Rattle.link_service.specs.Serving.{ServesLink};
-ghost use Rattle.link_service.specs.Service.{DoorLeft, ShiftEnds, TaskEnds};
+ghost use Rattle.link_service.specs.Doors.{IsTold};
+ghost use Rattle.link_service.specs.Seats.{ServesDoorSeated, seat_pass, seat_rooms};
+ghost use Rattle.link_service.specs.Service.{DoorEnds, ShiftEnds, TaskEnds};
 
 use crate::door::{DoorServed, serve_door};
 use crate::gate::Gate;
 use crate::served::Kind;
-use act_model::Spent;
+use act_model::{Actor, Spent};
 use archive_actors::{Applies, Seated, Shared};
 use edge_io::{Clock, Door};
 use serving_end::{FlushEnd, MoverEnd};
@@ -63,7 +62,7 @@ fn serve_seated<R: Wait, X: Applies, C: Clock, W: Door, G: Gate>(
 ) -> Ended
     requires stands { (m : Machine) × StandsFor (SharedStep X.stands X.crash X.Reader.tells X.Reader.bytes X.Reader.faults) (SharedStands X.stands) rooms.now pass.old m }
     ensures acts { ShiftEnds (SharedStep X.stands X.crash X.Reader.tells X.Reader.bytes X.Reader.faults) (reply_of X.Reader.tells X.Reader.bytes X.Reader.faults) rooms.now pass.old result pass.new }
-    ensures door { DoorLeft W.is_closed W.door_faults W.ledger (IsServed kind W.L.Sink.written W.L.Source.read_faults W.L.Sink.write_faults) door.old result door.new }
+    ensures door { DoorEnds (ServesDoorSeated rt.now (SharedStep X.stands X.crash X.Reader.tells X.Reader.bytes X.Reader.faults) (SharedStands X.stands) (reply_of X.Reader.tells X.Reader.bytes X.Reader.faults) X.Reader.tells X.Reader.faults W.L.Source.left W.L.Sink.written W.L.Source.read_faults W.L.Sink.write_faults W.is_closed W.door_faults W.ledger (IsTold G.entered G.left gate.now)) seat_pass seat_rooms rooms.now kind post pass.old (C.coming clock.old) door.old result pass.new (C.coming clock.new) door.new }
 {
     let mut actor = Seated::new(rt, rooms, pass);
     match serve_door(rt, alloc, &mut actor, kind, door, clock, gate, post) {
@@ -81,7 +80,7 @@ fn tend_seated<R: Wait, X: Applies, C: Clock>(
     clock: &mut C,
 ) -> Ended
     requires stands { (m : Machine) × StandsFor (SharedStep X.stands X.crash X.Reader.tells X.Reader.bytes X.Reader.faults) (SharedStands X.stands) rooms.now pass.old m }
-    ensures { TaskEnds (SharedStep X.stands X.crash X.Reader.tells X.Reader.bytes X.Reader.faults) (reply_of X.Reader.tells X.Reader.bytes X.Reader.faults) rooms.now task pass.old result pass.new }
+    ensures { TaskEnds (SharedStep X.stands X.crash X.Reader.tells X.Reader.bytes X.Reader.faults) (reply_of X.Reader.tells X.Reader.bytes X.Reader.faults) rooms.now task pass.old (C.coming clock.old) result pass.new (C.coming clock.new) }
 {
     let mut actor = Seated::new(rt, rooms, pass);
     match task {
@@ -107,7 +106,7 @@ pub(crate) fn serve_post<R: Wait, X: Applies, C: Clock, W: Door, G: Gate>(
 )
     requires stands { (m : Machine) × StandsFor (SharedStep X.stands X.crash X.Reader.tells X.Reader.bytes X.Reader.faults) (SharedStands X.stands) rooms.now worker.old.pass m }
     ensures acts { ShiftEnds (SharedStep X.stands X.crash X.Reader.tells X.Reader.bytes X.Reader.faults) (reply_of X.Reader.tells X.Reader.bytes X.Reader.faults) rooms.now worker.old.pass worker.new.end worker.new.pass }
-    ensures door { DoorLeft W.is_closed W.door_faults W.ledger (IsServed post.old.kind W.L.Sink.written W.L.Source.read_faults W.L.Sink.write_faults) post.old.door worker.new.end post.new.door }
+    ensures door { DoorEnds (ServesDoorSeated rt.now (SharedStep X.stands X.crash X.Reader.tells X.Reader.bytes X.Reader.faults) (SharedStands X.stands) (reply_of X.Reader.tells X.Reader.bytes X.Reader.faults) X.Reader.tells X.Reader.faults W.L.Source.left W.L.Sink.written W.L.Source.read_faults W.L.Sink.write_faults W.is_closed W.door_faults W.ledger (IsTold G.entered G.left gate.now)) seat_pass seat_rooms rooms.now post.old.kind worker.old.place worker.old.pass (C.coming worker.old.clock) post.old.door worker.new.end worker.new.pass (C.coming worker.new.clock) post.new.door }
     ensures kind { post.new.kind ≡ post.old.kind }
 {
     worker.end = serve_seated(
@@ -131,7 +130,7 @@ pub(crate) fn tend<R: Wait, X: Applies, C: Clock>(
     task: &mut Task,
 )
     requires stands { (m : Machine) × StandsFor (SharedStep X.stands X.crash X.Reader.tells X.Reader.bytes X.Reader.faults) (SharedStands X.stands) rooms.now worker.old.pass m }
-    ensures { TaskEnds (SharedStep X.stands X.crash X.Reader.tells X.Reader.bytes X.Reader.faults) (reply_of X.Reader.tells X.Reader.bytes X.Reader.faults) rooms.now task.old worker.old.pass worker.new.end worker.new.pass }
+    ensures { TaskEnds (SharedStep X.stands X.crash X.Reader.tells X.Reader.bytes X.Reader.faults) (reply_of X.Reader.tells X.Reader.bytes X.Reader.faults) rooms.now task.old worker.old.pass (C.coming worker.old.clock) worker.new.end worker.new.pass (C.coming worker.new.clock) }
 {
     worker.end = tend_seated(rt, rooms, &mut worker.pass, *task, &mut worker.clock);
 }

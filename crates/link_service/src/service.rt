@@ -1,6 +1,6 @@
 // All doors of a service at once, beside one who flushes and one who moves.
-ghost use Rattle.std.specs.Prelude.{◌≡◌, ◌<◌, ◌^◌, ◌-◌, ◌+◌, ◌≤◌, ◌⊎◌, ℕ, All, length, true, false, map};
-ghost use Rattle.edge_io.specs.Doors.{IsFresh};
+ghost use Rattle.std.specs.Prelude.{◌≡◌, ◌<◌, ◌^◌, ◌-◌, ◌+◌, ◌≤◌, ◌⊎◌, ℕ, [], All, length, true, false, map};
+ghost use Rattle.edge_io.specs.Moments.{Gives};
 ghost use Rattle.turn_rooms.specs.Histories.{most_acts};
 ghost use Rattle.turn_rooms.specs.Passes.{IsLast, IsPassOf, drained, known};
 ghost use Rattle.turn_workers.specs.Left.{IsBack};
@@ -8,13 +8,15 @@ ghost use Rattle.act_model.specs.Machine.{Machine};
 ghost use Rattle.act_model.specs.Reply.{reply_of};
 ghost use Rattle.archive_actors.specs.Seats.{StandsFor};
 ghost use Rattle.archive_actors.specs.Steps.{SharedStands, SharedStep};
-ghost use Rattle.link_service.specs.Doors.{IsServed};
-ghost use Rattle.link_service.specs.Service.{CanWork, DoorLeft, PostsLeft, ShiftEnds, TaskEnds, WorkDone, told_of, with_end};
+ghost use Rattle.link_service.specs.Doors.{IsTold};
+ghost use Rattle.link_service.specs.Seats.{ServesDoorSeated, seat_pass, seat_rooms};
+ghost use Rattle.link_service.specs.Service.{CanWork, DoorEnds, ServesAll, ShiftEnds, TaskEnds, WorkDone, told_of, with_end};
 ghost use Rattle.turns_end.specs.Acting.{EndsInTurns, HasFlushFault};
 
 use crate::gate::Gate;
 use crate::posts::{Ended, Post, Task, serve_post, tend};
-use archive_actors::{Applies, Shared};
+use act_model::Actor;
+use archive_actors::{Applies, Seated, Shared};
 use edge_io::{Clock, Door};
 use pair_work::run_with;
 use serving_end::{FlushEnd, MoverEnd};
@@ -106,7 +108,7 @@ where
     W::L: Send,
     requires stand { All (CanWork (SharedStep X.stands X.crash X.Reader.tells X.Reader.bytes X.Reader.faults) (SharedStands X.stands) rooms.now) workers.old }
     requires as_many { length workers.old ≡ length posts.old + 2 }
-    ensures { WorkDone (SharedStep X.stands X.crash X.Reader.tells X.Reader.bytes X.Reader.faults) (reply_of X.Reader.tells X.Reader.bytes X.Reader.faults) rooms.now W.is_closed W.door_faults W.ledger (λ kind l. IsServed kind W.L.Sink.written W.L.Source.read_faults W.L.Sink.write_faults l) workers.old posts.old workers.new posts.new }
+    ensures { WorkDone (ServesDoorSeated rt.now (SharedStep X.stands X.crash X.Reader.tells X.Reader.bytes X.Reader.faults) (SharedStands X.stands) (reply_of X.Reader.tells X.Reader.bytes X.Reader.faults) X.Reader.tells X.Reader.faults W.L.Source.left W.L.Sink.written W.L.Source.read_faults W.L.Sink.write_faults W.is_closed W.door_faults W.ledger (IsTold G.entered G.left gate.now)) seat_pass seat_rooms C.coming (SharedStep X.stands X.crash X.Reader.tells X.Reader.bytes X.Reader.faults) (reply_of X.Reader.tells X.Reader.bytes X.Reader.faults) rooms.now workers.old posts.old workers.new posts.new }
 {
     let at_posts = posts.len();
     let (at_doors, beside) = workers.split_at_mut(at_posts);
@@ -115,14 +117,14 @@ where
         rt,
         &|worker: &mut Worker<Shared<X>, C, Ended>, task: &mut Task|
             requires { (m : Machine) × StandsFor (SharedStep X.stands X.crash X.Reader.tells X.Reader.bytes X.Reader.faults) (SharedStands X.stands) rooms.now worker.now.pass m }
-            ensures { TaskEnds (SharedStep X.stands X.crash X.Reader.tells X.Reader.bytes X.Reader.faults) (reply_of X.Reader.tells X.Reader.bytes X.Reader.faults) rooms.entry.now task.entry.now worker.entry.now.pass worker.exit.now.end worker.exit.now.pass }
+            ensures { TaskEnds (SharedStep X.stands X.crash X.Reader.tells X.Reader.bytes X.Reader.faults) (reply_of X.Reader.tells X.Reader.bytes X.Reader.faults) rooms.entry.now task.entry.now worker.entry.now.pass (C.coming worker.entry.now.clock) worker.exit.now.end worker.exit.now.pass (C.coming worker.exit.now.clock) }
         { tend(rt, rooms, worker, task) },
         beside,
         &mut tasks,
         &|worker: &mut Worker<Shared<X>, C, Ended>, post: &mut Post<W>|
             requires { (m : Machine) × StandsFor (SharedStep X.stands X.crash X.Reader.tells X.Reader.bytes X.Reader.faults) (SharedStands X.stands) rooms.now worker.now.pass m }
             ensures acts { ShiftEnds (SharedStep X.stands X.crash X.Reader.tells X.Reader.bytes X.Reader.faults) (reply_of X.Reader.tells X.Reader.bytes X.Reader.faults) rooms.entry.now worker.entry.now.pass worker.exit.now.end worker.exit.now.pass }
-            ensures door { DoorLeft W.is_closed W.door_faults W.ledger (IsServed post.entry.now.kind W.L.Sink.written W.L.Source.read_faults W.L.Sink.write_faults) post.entry.now.door worker.exit.now.end post.exit.now.door }
+            ensures door { DoorEnds (ServesDoorSeated rt.entry.now (SharedStep X.stands X.crash X.Reader.tells X.Reader.bytes X.Reader.faults) (SharedStands X.stands) (reply_of X.Reader.tells X.Reader.bytes X.Reader.faults) X.Reader.tells X.Reader.faults W.L.Source.left W.L.Sink.written W.L.Source.read_faults W.L.Sink.write_faults W.is_closed W.door_faults W.ledger (IsTold G.entered G.left gate.entry.now)) seat_pass seat_rooms rooms.entry.now post.entry.now.kind worker.entry.now.place worker.entry.now.pass (C.coming worker.entry.now.clock) post.entry.now.door worker.exit.now.end worker.exit.now.pass (C.coming worker.exit.now.clock) post.exit.now.door }
             ensures kind { post.exit.now.kind ≡ post.entry.now.kind }
         { serve_post(rt, alloc, rooms, gate, worker, post) },
         at_doors,
@@ -130,11 +132,13 @@ where
     );
 }
 
-/// Serves all posts: one worker at each asks its door for links to the end and serves them, one who flushes also ticks all rows, and one
-/// moves, each in a thread of its own and by turns of a pass of its own, up to their ends. Where no thread can be made, the doors are served
-/// one after another, and then all is flushed and moved. `gate` is told of each link with its post's place.
+/// Serves all posts: one worker at each asks its door for links to the end and serves them as [`serve_door`](crate::serve_door) does, one who
+/// flushes also ticks all rows, and one moves, each in a thread of its own, by turns of a pass of its own and at the moments of a clock of its
+/// own, up to their ends. Where no thread can be made, the doors are served one after another, and then all is flushed and moved. `gate` is
+/// told of each link with its post's place.
 ///
-/// No other pass may be left, and none is at the end.
+/// What is told is how each of them ended, and of each door it holds whatever became of the others. Where no passes could be drawn for them,
+/// nothing was done. No other pass may be left, and none is at the end.
 pub fn serve_all<
     R: Threads + Wait + Sync,
     X: Applies + Send,
@@ -158,7 +162,8 @@ where
     requires few { length posts.old < 2 ^ 32 }
     ensures rooms { IsPassOf (SharedStep X.stands X.crash X.Reader.tells X.Reader.bytes X.Reader.faults) rooms.now pass.new }
     ensures back { IsBack pass.old pass.new }
-    ensures posts { PostsLeft W.is_closed W.door_faults W.ledger (λ kind l. IsServed kind W.L.Sink.written W.L.Source.read_faults W.L.Sink.write_faults l) result posts.old posts.new }
+    ensures served { ServesAll (ServesDoorSeated rt.now (SharedStep X.stands X.crash X.Reader.tells X.Reader.bytes X.Reader.faults) (SharedStands X.stands) (reply_of X.Reader.tells X.Reader.bytes X.Reader.faults) X.Reader.tells X.Reader.faults W.L.Source.left W.L.Sink.written W.L.Source.read_faults W.L.Sink.write_faults W.is_closed W.door_faults W.ledger (IsTold G.entered G.left gate.now)) seat_pass seat_rooms C.coming (SharedStep X.stands X.crash X.Reader.tells X.Reader.bytes X.Reader.faults) (reply_of X.Reader.tells X.Reader.bytes X.Reader.faults) rooms.now result pass.old pass.new posts.old posts.new }
+    ensures clock { Gives (C.coming clock.old) (C.coming clock.new) [] }
     ensures spent { result.spent ≡ true → (most_acts ≤ length (known pass.new)) ⊎ (drained pass.old < drained pass.new) }
     ensures disk_fault { result.disk_fault ≡ true → HasFlushFault (reply_of X.Reader.tells X.Reader.bytes X.Reader.faults) pass.old pass.new }
     ensures ends { (m : Machine) → StandsFor (SharedStep X.stands X.crash X.Reader.tells X.Reader.bytes X.Reader.faults) (SharedStands X.stands) rooms.now pass.old m → m.doors ≡ length posts.old

@@ -54,6 +54,10 @@ impl Meeting {
 }
 
 impl Gate for Meeting {
+    ghost entered = { λ gate post. Unit {0} };
+
+    ghost left = { λ gate post. Unit {0} };
+
     fn enter(&self, post: usize) {
         let (own, other) = if post == 0 {
             (&self.first_came, &self.second_came)
@@ -121,6 +125,10 @@ struct Resting<'a> {
 }
 
 impl Gate for Resting<'_> {
+    ghost entered = { λ gate post. Unit {0} };
+
+    ghost left = { λ gate post. Unit {0} };
+
     fn enter(&self, _post: usize) {
         if was_seen(&self.rests.flusher) && was_seen(&self.rests.mover) {
             self.seen.fetch_add(1, Ordering::SeqCst);

@@ -1,3 +1,4 @@
 mod Joins
 mod Moving
 mod Dues
+pub mod Timed

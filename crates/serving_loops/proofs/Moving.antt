@@ -1,6 +1,6 @@
 -- Moves, stores and rounds of the mover, put together of what was done in them.
 use Rattle.std.proofs.Common.{◌≡◌, ◌≢◌, ℕ, ◌+◌, ◌-◌, ◌^◌, List, [], ◌∷◌, ◌++◌, Bool, true, false, Option, Some, None, Ok, Err, IfOk, OnErr, min, refl, ap, sym, ◌∙◌, arith, subst, inl, inr, append_assoc, append-nil}
-use Rattle.std.specs.Prelude.{◌⊎◌, All, Contains}
+use Rattle.std.specs.Prelude.{◌⊎◌, Contains}
 use Rattle.std.proofs.lemmas.List.Sums.{sum_by-append}
 use Rattle.std.proofs.lemmas.List.Elements.{All-push, All-head, All-tail, Contains-push, Contains-append_left, Contains-append_right}
 use Rattle.act_model.specs.declared.acts.Act.TheVariants.{Doors, MoveBegin, MoveStep, Sweep}
@@ -9,15 +9,15 @@ use Rattle.act_model.specs.Reply.{Reply}
 use Rattle.act_model.specs.History.{Entry, Done}
 use Rattle.serving_end.specs.declared.ends.MoverEnd.{MoverEnd}
 use Rattle.serving_end.specs.declared.ends.MoverEnd.TheVariants.{Rests, MeetsFault, MeetsNoMemory}
-use Rattle.serving_end.specs.Rounds.{IsFault, IsMemory, GoesOn, IsOver, IsMove, BeginsMove, AreMoves, no_move, one_more_move, CutsMove, EndsMoves, at_its_begin, at_a_step, IsOfStore, EndsStore, IsMoveRound}
+use Rattle.serving_end.specs.Rounds.{IsFault, IsMemory, GoesOn, IsOver, IsMove, BeginsMove, AreMoves, no_move, one_more_move, CutsMove, EndsMoves, at_its_begin, at_a_step, IsOfStore, EndsStore, EndsSo}
 use Rattle.serving_loops.specs.declared.moves.Begun.TheVariants as begun
 use Rattle.serving_loops.specs.declared.moves.MoveErr.{MoveErr}
 use Rattle.serving_loops.specs.declared.moves.MoveErr.TheVariants as err
 use Rattle.serving_loops.specs.declared.moves.OneMove.TheVariants as one
 use Rattle.serving_loops.specs.declared.moves.StoreMoved.{StoreMoved}
-use Rattle.serving_loops.specs.Does.{Does, Anything, AsksDoors}
+use Rattle.serving_loops.specs.Does.{Does, AreNone, AsksDoors}
 use Rattle.serving_loops.proofs.Joins.{does_as}
-use Rattle.serving_loops.specs.Moves.{parts_in, retired_by, shown, StoppedBy, IsStepOn, AreStepsOn, IsBegun, none_begun, one_begun, BeginsSo, StepsSo, MovesSo, OneMoveSo, StoreMovesSo, IsSwept, end_met, EndsStoreSo, StoreSo, SweptSo, SweepsSo, fault_of, first_of, met_in, end_of_round, EndsRoundSo, IsMoverRoundSo}
+use Rattle.serving_loops.specs.Moves.{parts_in, retired_by, shown, StoppedBy, IsStepOn, AreStepsOn, IsBegun, none_begun, one_begun, BeginsSo, StepsSo, MovesSo, OneMoveSo, StoreMovesSo, IsSwept, end_met, EndsStoreSo, StoreSo, SweptSo, SweepsSo, fault_of, first_of, met_in, end_of_round, AreSoFar, MoveRoundAt, IsMoverRoundSo, MovesCutAt, no_doors_asked, short_begun, medium_begun, sweep_ahead}
 
 -- partitions that were retired by acts and then by others
 retired-append : (xs ys : List Done) → retired_by (xs ++ ys) ≡ retired_by xs + retired_by ys
@@ -187,11 +187,12 @@ module _ {A : Type 0} (number : A → ℕ) (between : A → List Entry → A →
   sweep_met err.Spent p = tt
   sweep_met err.Memory p = does_as number between (IsSwept (Err err.Memory)) (SweepsSo (Some MeetsNoMemory)) (λ ds q. q) old new p
 
-  pub spent_met : (is_spent : A → Type 0) (P : List Done → Type 0) (why : MoveErr) → (why ≡ err.Spent → is_spent new) → Does number between old P new → OnErr (end_met why) (Does number between old Anything new × is_spent new)
-  spent_met is_spent P err.DiskFault spent p = tt
-  spent_met is_spent P (err.Damaged name at) spent p = tt
-  spent_met is_spent P err.Spent spent p = (does_as number between P Anything (λ ds q. tt) old new p, spent refl)
-  spent_met is_spent P err.Memory spent p = tt
+  pub spent_met : (is_spent : A → Type 0) (P Q : List Done → Type 0) (why : MoveErr) → (why ≡ err.Spent → is_spent new) → (why ≡ err.Spent → (ds : List Done) → P ds → Q ds) → Does number between old P new
+      → OnErr (end_met why) (Does number between old Q new × is_spent new)
+  spent_met is_spent P Q err.DiskFault spent go p = tt
+  spent_met is_spent P Q (err.Damaged name at) spent go p = tt
+  spent_met is_spent P Q err.Spent spent go p = (does_as number between P Q (go refl) old new p, spent refl)
+  spent_met is_spent P Q err.Memory spent go p = tt
 
 -- ROUNDS
 
@@ -249,6 +250,32 @@ BothAfter now shut short medium ds = (xs : List Done) × (ys : List Done) × (ds
 
 pub both_after : (now : ℕ) (shut : Bool) (short medium : Option MoverEnd) (xs ys : List Done) → ShortAfter now shut short xs → StoreSo 2 now medium ys → BothAfter now shut short medium (xs ++ ys)
 both_after now shut short medium xs ys p q = (xs, ys, refl, p, q)
+
+-- where no act was left within a round
+
+pub cut_at_doors : (now : ℕ) (ds : List Done) → AreNone ds → MovesCutAt now ds
+cut_at_doors now ds none = subst (λ w. MovesCutAt now w) (sym none) no_doors_asked
+
+pub cut_in_short : (now : ℕ) (shut : Bool) (xs ys : List Done) → AsksDoors shut xs → AreSoFar 1 now ys → MovesCutAt now (xs ++ ys)
+cut_in_short now shut xs ys p q = subst (λ w. MovesCutAt now (w ++ ys)) (sym p.1) (short_begun (record { act = Doors; answer = p.0 }) refl q)
+
+first_and_short : (now : ℕ) (shut : Bool) (short : Option MoverEnd) (ds : List Done) (a : ShortAfter now shut short ds) → ds ≡ record { act = Doors; answer = a.3.0 } ∷ a.1
+first_and_short now shut short ds a = a.2 ∙ ap (λ (w : List Done). w ++ a.1) a.3.1
+
+pub cut_in_medium : (now : ℕ) (shut : Bool) (short : Option MoverEnd) (xs ys : List Done) → ShortAfter now shut short xs → AreSoFar 2 now ys → MovesCutAt now (xs ++ ys)
+cut_in_medium now shut short xs ys a q =
+    subst (λ w. MovesCutAt now (w ++ ys)) (sym (first_and_short now shut short xs a)) (medium_begun (record { act = Doors; answer = a.3.0 }) refl (any_store short 1 now a.1 a.4) q)
+
+pub cut_at_sweep : (now : ℕ) (shut : Bool) (short medium : Option MoverEnd) (ds : List Done) → BothAfter now shut short medium ds → MovesCutAt now ds
+cut_at_sweep now shut short medium ds b =
+    let a = b.3 in
+    subst (λ w. MovesCutAt now w) (sym (b.2 ∙ ap (λ (w : List Done). w ++ b.1) (first_and_short now shut short b.0 a)))
+    (sweep_ahead (record { act = Doors; answer = a.3.0 }) refl (any_store short 1 now a.1 a.4) (any_store medium 2 now b.1 b.4))
+
+-- where an end is told, the round ended so
+abbrev EndsRoundSo : Option MoverEnd → List Done → Type 0
+EndsRoundSo None ds = Unit {0}
+EndsRoundSo (Some end) ds = EndsSo end ds
 
 -- the parts of a round
 record Parts (now : ℕ) (shut : Bool) (short medium swept : Option MoverEnd) (ds : List Done) : Type 0 where
@@ -313,8 +340,9 @@ ends_met (Some MeetsFault) first rest ds is shut m = record { first = first; res
 ends_met (Some MeetsNoMemory) first rest ds is shut m = record { first = first; rest = rest; is = is; shut = shut; met = m.0; among = m.1; such = m.2 }
 
 module _ (now : ℕ) (shut : Bool) (short medium swept : Option MoverEnd) (ds : List Done) (p : Parts now shut short medium swept ds) where
-  whole_round : IsMoveRound ds
-  whole_round = record { first = p.first; now = now; short = p.one; medium = p.two; sweep = p.sweep; is = p.is; asks = p.asks; of_short = any_store short 1 now p.one p.of_short; of_medium = any_store medium 2 now p.two p.of_medium; sweeps = p.sweeps }
+  whole_round : MoveRoundAt now ds
+  whole_round =
+      (record { first = p.first; now = now; short = p.one; medium = p.two; sweep = p.sweep; is = p.is; asks = p.asks; of_short = any_store short 1 now p.one p.of_short; of_medium = any_store medium 2 now p.two p.of_medium; sweeps = p.sweeps }, refl)
 
   abbrev rest : List Done
   rest = p.one ++ (p.two ++ p.sweep ∷ [])
@@ -354,7 +382,11 @@ ends_so now shut None medium swept ds p = met_ends now shut None medium swept ds
 ends_so now shut (Some MeetsFault) medium swept ds p = met_ends now shut (Some MeetsFault) medium swept ds p shut refl
 ends_so now shut (Some MeetsNoMemory) medium swept ds p = met_ends now shut (Some MeetsNoMemory) medium swept ds p shut refl
 
-pub round_so : (now : ℕ) (shut : Bool) (short medium swept : Option MoverEnd) (xs ys : List Done) → BothAfter now shut short medium xs → SweepsSo swept ys → IsMoverRoundSo (end_of_round shut short medium swept) (xs ++ ys)
+so_told : (now : ℕ) (end : Option MoverEnd) (ds : List Done) → MoveRoundAt now ds → EndsRoundSo end ds → IsMoverRoundSo now end ds
+so_told now None ds round ends = round
+so_told now (Some end) ds round ends = (round, ends)
+
+pub round_so : (now : ℕ) (shut : Bool) (short medium swept : Option MoverEnd) (xs ys : List Done) → BothAfter now shut short medium xs → SweepsSo swept ys → IsMoverRoundSo now (end_of_round shut short medium swept) (xs ++ ys)
 round_so now shut short medium swept xs ys b q =
     let p = parts_of now shut short medium swept xs ys b q in
-    (whole_round now shut short medium swept (xs ++ ys) p, ends_so now shut short medium swept (xs ++ ys) p)
+    so_told now (end_of_round shut short medium swept) (xs ++ ys) (whole_round now shut short medium swept (xs ++ ys) p) (ends_so now shut short medium swept (xs ++ ys) p)

@@ -9,9 +9,9 @@ use Rattle.act_model.specs.History.{Entry, Done, Made}
 abbrev pub Does : {A : Type 0} → (A → ℕ) → (A → List Entry → A → Type 0) → A → (List Done → Type 0) → A → Type 0
 Does number between old Such new = (ds : List Done) × Made number between old ds new × Such ds
 
--- any acts
-abbrev pub Anything : List Done → Type 0
-Anything ds = Unit {0}
+-- no act
+abbrev pub AreNone : List Done → Type 0
+AreNone ds = ds ≡ []
 
 -- the one act that asks for the doors, and whether it found none
 abbrev pub AsksDoors : Bool → List Done → Type 0

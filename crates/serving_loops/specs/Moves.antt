@@ -1,14 +1,14 @@
 -- What the mover did, by how it ended. First moves of a store, which are made to their ends; then the rounds of the mover.
 use Rattle.std.specs.Prelude.{◌≡◌, ◌≢◌, ℕ, ◌-◌, ◌^◌, List, [], ◌∷◌, ◌++◌, All, Bool, true, false, Option, Some, None, Result, Ok, Err, min}
 use Rattle.std.specs.List.{sum_by}
-use Rattle.act_model.specs.declared.acts.Act.TheVariants.{MoveBegin, MoveStep, Sweep}
+use Rattle.act_model.specs.declared.acts.Act.TheVariants.{Doors, MoveBegin, MoveStep, Sweep}
 use Rattle.act_model.specs.declared.acts.Answer.TheVariants as answer
 use Rattle.act_model.specs.declared.actor.Spent.{Spent}
 use Rattle.act_model.specs.Reply.{Reply}
 use Rattle.act_model.specs.History.{Done}
 use Rattle.serving_end.specs.declared.ends.MoverEnd.{MoverEnd}
 use Rattle.serving_end.specs.declared.ends.MoverEnd.TheVariants.{Rests, MeetsFault, MeetsNoMemory}
-use Rattle.serving_end.specs.Rounds.{IsFault, IsMemory, GoesOn, IsOver, IsMove, BeginsMove, AreMoves, EndsMoves, IsOfStore, IsMoveRound, EndsSo}
+use Rattle.serving_end.specs.Rounds.{IsFault, IsMemory, GoesOn, IsOver, IsMove, BeginsMove, AreMoves, EndsMoves, IsOfStore, EndsStore, IsMoveRound, EndsSo}
 use Rattle.serving_loops.specs.declared.moves.Begun.{Begun}
 use Rattle.serving_loops.specs.declared.moves.Begun.TheVariants as begun
 use Rattle.serving_loops.specs.declared.moves.MoveErr.{MoveErr}
@@ -16,6 +16,8 @@ use Rattle.serving_loops.specs.declared.moves.MoveErr.TheVariants as err
 use Rattle.serving_loops.specs.declared.moves.OneMove.{OneMove}
 use Rattle.serving_loops.specs.declared.moves.OneMove.TheVariants as one
 use Rattle.serving_loops.specs.declared.moves.StoreMoved.{StoreMoved}
+use Rattle.serving_loops.specs.Does.{AreNone}
+use Rattle.serving_loops.specs.Timed.{RoundsAt}
 
 -- PARTITIONS THAT WERE RETIRED
 
@@ -66,10 +68,6 @@ pub record AreSoFar (store now : ℕ) (ds : List Done) : Type 0 where
   pub is : ds ≡ before ++ rest
   pub moves : AreMoves store now before
   pub goes : IsBegun store now rest
-
--- no act
-abbrev pub AreNone : List Done → Type 0
-AreNone ds = ds ≡ []
 
 -- the one act that begins a move, by its answer
 abbrev pub BegunSo : ℕ → ℕ → Result Begun MoveErr → Done → Type 0
@@ -186,10 +184,27 @@ end_of_round shut None medium swept = met_in shut None medium swept
 end_of_round shut (Some MeetsFault) medium swept = met_in shut (Some MeetsFault) medium swept
 end_of_round shut (Some MeetsNoMemory) medium swept = met_in shut (Some MeetsNoMemory) medium swept
 
--- a round, the last one where an end is told
-abbrev pub EndsRoundSo : Option MoverEnd → List Done → Type 0
-EndsRoundSo None ds = Unit {0}
-EndsRoundSo (Some end) ds = EndsSo end ds
+-- a round, all at this moment
+abbrev pub MoveRoundAt : ℕ → List Done → Type 0
+MoveRoundAt now ds = (round : IsMoveRound ds) × (round.now ≡ now)
 
-abbrev pub IsMoverRoundSo : Option MoverEnd → List Done → Type 0
-IsMoverRoundSo end ds = IsMoveRound ds × EndsRoundSo end ds
+-- the last round, at this moment
+abbrev pub LastMovesAt : MoverEnd → ℕ → List Done → Type 0
+LastMovesAt end now ds = MoveRoundAt now ds × EndsSo end ds
+
+-- a round, the last one where an end is told
+abbrev pub IsMoverRoundSo : ℕ → Option MoverEnd → List Done → Type 0
+IsMoverRoundSo now None ds = MoveRoundAt now ds
+IsMoverRoundSo now (Some end) ds = LastMovesAt end now ds
+
+-- a beginning of a round, behind which no act was left
+pub data MovesCutAt (now : ℕ) : List Done → Type 0 where
+  no_doors_asked : MovesCutAt now []
+  short_begun : {short : List Done} (first : Done) → first.act ≡ Doors → AreSoFar 1 now short → MovesCutAt now (first ∷ short)
+  medium_begun : {short medium : List Done} (first : Done) → first.act ≡ Doors → IsOfStore EndsStore 1 now short → AreSoFar 2 now medium → MovesCutAt now (first ∷ (short ++ medium))
+  sweep_ahead : {short medium : List Done} (first : Done) → first.act ≡ Doors → IsOfStore EndsStore 1 now short → IsOfStore EndsStore 2 now medium → MovesCutAt now (first ∷ (short ++ medium))
+
+-- The mover's rounds at these moments, of which the last ended so, or had no act left.
+abbrev pub MovesTo : Result MoverEnd Spent → List ℕ → List Done → Type 0
+MovesTo (Ok end) moments ds = RoundsAt MoveRoundAt (LastMovesAt end) moments ds
+MovesTo (Err spent) moments ds = RoundsAt MoveRoundAt MovesCutAt moments ds

@@ -1,9 +1,10 @@
 // The flusher: round after round it ticks each row and flushes all.
-ghost use Rattle.std.specs.Prelude.{◌≡◌, ℕ, List, IfOk, OnErr, None, Some};
+ghost use Rattle.std.specs.Prelude.{◌≡◌, ℕ, List, IfOk, IsErr, OnErr, None, Some};
 ghost use Rattle.act_model.specs.Machine.{Machine};
-ghost use Rattle.serving_loops.specs.Does.{Does, Anything, AsksDoors};
-ghost use Rattle.serving_end.specs.Rounds.{IsFlushing};
-ghost use Rattle.serving_loops.specs.Flushes.{TicksRow, TicksAll, FlushesAll, IsRoundSo};
+ghost use Rattle.serving_end.specs.Rounds.{AreTicks};
+ghost use Rattle.serving_loops.specs.Does.{Does, AreNone, AsksDoors};
+ghost use Rattle.serving_loops.specs.Flushes.{TicksRow, TicksAll, FlushesAll, FlushesTo, FlushCutAt, IsRoundSo};
+ghost use Rattle.serving_loops.specs.Timed.{DoesAt};
 
 use act_model::{Actor, Flushed as FlushAnswer, Spent, Ticked, ask_doors, ask_flush, ask_tick};
 use edge_io::Clock;
@@ -23,7 +24,7 @@ pub const FLUSHER_RESTS: u64 = 100_000_000;
 pub(crate) fn are_doors_shut<A: Actor>(actor: &mut A) -> Result<bool, Spent>
     requires stands { (m : Machine) × A.stands actor.old m }
     ensures asks { IfOk result (λ none. Does A.number A.between actor.old (AsksDoors none) actor.new) }
-    ensures spent { OnErr result (Does A.number A.between actor.old Anything actor.new × A.is_spent actor.new) }
+    ensures spent { OnErr result (Does A.number A.between actor.old AreNone actor.new × A.is_spent actor.new) }
     ensures stands { (n : Machine) × A.stands actor.new n }
 {
     match ask_doors(actor) {
@@ -36,7 +37,7 @@ pub(crate) fn are_doors_shut<A: Actor>(actor: &mut A) -> Result<bool, Spent>
 fn tick_row<A: Actor>(actor: &mut A, row: u32, now: u64) -> Result<bool, Spent>
     requires stands { (m : Machine) × A.stands actor.old m }
     ensures ticks { IfOk result (λ none. Does A.number A.between actor.old (TicksRow now row none) actor.new) }
-    ensures spent { OnErr result (Does A.number A.between actor.old Anything actor.new × A.is_spent actor.new) }
+    ensures spent { OnErr result (Does A.number A.between actor.old AreNone actor.new × A.is_spent actor.new) }
     ensures stands { (n : Machine) × A.stands actor.new n }
 {
     match ask_tick(actor, row, now) {
@@ -50,7 +51,7 @@ fn tick_row<A: Actor>(actor: &mut A, row: u32, now: u64) -> Result<bool, Spent>
 fn tick_all<A: Actor>(actor: &mut A, now: u64) -> Result<(), Spent>
     requires stands { (m : Machine) × A.stands actor.old m }
     ensures ticks { IfOk result (λ done. Does A.number A.between actor.old (TicksAll now) actor.new) }
-    ensures spent { OnErr result (Does A.number A.between actor.old Anything actor.new × A.is_spent actor.new) }
+    ensures spent { OnErr result (Does A.number A.between actor.old (AreTicks now 0) actor.new × A.is_spent actor.new) }
     ensures stands { (n : Machine) × A.stands actor.new n }
 {
     for row in 0..ROWS {
@@ -67,7 +68,7 @@ fn tick_all<A: Actor>(actor: &mut A, now: u64) -> Result<(), Spent>
 fn flush_all<A: Actor>(actor: &mut A) -> Result<Option<FlushEnd>, Spent>
     requires stands { (m : Machine) × A.stands actor.old m }
     ensures flushes { IfOk result (λ end. Does A.number A.between actor.old (FlushesAll end) actor.new) }
-    ensures spent { OnErr result (Does A.number A.between actor.old Anything actor.new × A.is_spent actor.new) }
+    ensures spent { OnErr result (Does A.number A.between actor.old AreNone actor.new × A.is_spent actor.new) }
     ensures stands { (n : Machine) × A.stands actor.new n }
 {
     match ask_flush(actor, ALL) {
@@ -82,8 +83,8 @@ fn flush_all<A: Actor>(actor: &mut A) -> Result<Option<FlushEnd>, Spent>
 // Ticks each row and flushes all. It tells how that ended where no doors were left before it.
 fn flush_round<A: Actor>(actor: &mut A, now: u64) -> Result<Option<FlushEnd>, Spent>
     requires stands { (m : Machine) × A.stands actor.old m }
-    ensures round { IfOk result (λ end. Does A.number A.between actor.old (IsRoundSo end) actor.new) }
-    ensures spent { OnErr result (Does A.number A.between actor.old Anything actor.new × A.is_spent actor.new) }
+    ensures round { IfOk result (λ end. Does A.number A.between actor.old (IsRoundSo now end) actor.new) }
+    ensures spent { OnErr result (Does A.number A.between actor.old (FlushCutAt now) actor.new × A.is_spent actor.new) }
     ensures stands { (n : Machine) × A.stands actor.new n }
 {
     let shut = match are_doors_shut(actor) {
@@ -106,19 +107,21 @@ fn flush_round<A: Actor>(actor: &mut A, now: u64) -> Result<Option<FlushEnd>, Sp
 }
 
 /// The flusher's work, to its end: rounds, of which the last begins when no doors are left, and leaves nothing that isn't durable, fails,
-/// or lacks memory. Each round is at one moment of the clock, and between two it rests. `Spent` comes where no act is left.
+/// or lacks memory. The clock gives one moment for each round, at which the round ticks all rows, and between two rounds it rests. `Spent`
+/// comes only where no act is left, within the last of the rounds.
 pub fn flush_to_end<A: Actor, C: Clock>(
     rt: &impl Wait,
     actor: &mut A,
     clock: &mut C,
 ) -> Result<FlushEnd, Spent>
     requires stands { (m : Machine) × A.stands actor.old m }
-    ensures flushed { IfOk result (λ end. Does A.number A.between actor.old (IsFlushing end) actor.new) }
-    ensures spent { OnErr result (Does A.number A.between actor.old Anything actor.new × A.is_spent actor.new) }
+    ensures flushes { DoesAt A.number A.between actor.old (C.coming clock.old) (FlushesTo result) actor.new (C.coming clock.new) }
+    ensures spent { IsErr result → A.is_spent actor.new }
     ensures stands { (n : Machine) × A.stands actor.new n }
 {
     for _ in rt.forever() {
-        match flush_round(actor, clock.now()) {
+        let now = clock.now();
+        match flush_round(actor, now) {
             Ok(Some(end)) => return Ok(end),
             Ok(None) => clock.rest(FLUSHER_RESTS),
             Err(spent) => return Err(spent),

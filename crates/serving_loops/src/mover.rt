@@ -1,9 +1,9 @@
 // The mover: round after round it moves what is ripe, and sweeps.
-ghost use Rattle.std.specs.Prelude.{◌≡◌, ◌≤◌, ℕ, List, IfOk, OnErr, Option};
+ghost use Rattle.std.specs.Prelude.{◌≡◌, ◌≤◌, ℕ, List, IfOk, IsErr, OnErr, Option};
 ghost use Rattle.act_model.specs.Machine.{Machine};
-ghost use Rattle.serving_end.specs.Rounds.{IsMoving};
-ghost use Rattle.serving_loops.specs.Does.{Does, Anything};
-ghost use Rattle.serving_loops.specs.Moves.{StoreSo, SweepsSo, end_met, fault_of, first_of, end_of_round, IsMoverRoundSo};
+ghost use Rattle.serving_loops.specs.Does.{Does, AreNone};
+ghost use Rattle.serving_loops.specs.Moves.{AreSoFar, StoreSo, SweepsSo, end_met, fault_of, first_of, end_of_round, IsMoverRoundSo, MovesCutAt, MovesTo};
+ghost use Rattle.serving_loops.specs.Timed.{DoesAt};
 
 use crate::flusher::are_doors_shut;
 use crate::moves::{MoveErr, move_store, sweep};
@@ -39,7 +39,7 @@ fn move_in_round<A: Actor>(
     requires low { 1 ≤ store }
     requires high { store ≤ 2 }
     ensures moves { IfOk result (λ end. Does A.number A.between actor.old (StoreSo store now end) actor.new) }
-    ensures spent { OnErr result (Does A.number A.between actor.old Anything actor.new × A.is_spent actor.new) }
+    ensures spent { OnErr result (Does A.number A.between actor.old (AreSoFar store now) actor.new × A.is_spent actor.new) }
     ensures stands { (n : Machine) × A.stands actor.new n }
 {
     match move_store(rt, actor, store, now) {
@@ -57,7 +57,7 @@ fn move_in_round<A: Actor>(
 fn sweep_in_round<A: Actor>(actor: &mut A) -> Result<Option<MoverEnd>, Spent>
     requires stands { (m : Machine) × A.stands actor.old m }
     ensures sweeps { IfOk result (λ end. Does A.number A.between actor.old (SweepsSo end) actor.new) }
-    ensures spent { OnErr result (Does A.number A.between actor.old Anything actor.new × A.is_spent actor.new) }
+    ensures spent { OnErr result (Does A.number A.between actor.old AreNone actor.new × A.is_spent actor.new) }
     ensures stands { (n : Machine) × A.stands actor.new n }
 {
     match sweep(actor) {
@@ -111,8 +111,8 @@ fn round_end(
 // Moves what is ripe in both stores, and sweeps. It tells how that ended, if it is the last round.
 fn move_round<A: Actor>(rt: &impl Wait, actor: &mut A, now: u64) -> Result<Option<MoverEnd>, Spent>
     requires stands { (m : Machine) × A.stands actor.old m }
-    ensures round { IfOk result (λ end. Does A.number A.between actor.old (IsMoverRoundSo end) actor.new) }
-    ensures spent { OnErr result (Does A.number A.between actor.old Anything actor.new × A.is_spent actor.new) }
+    ensures round { IfOk result (λ end. Does A.number A.between actor.old (IsMoverRoundSo now end) actor.new) }
+    ensures spent { OnErr result (Does A.number A.between actor.old (MovesCutAt now) actor.new × A.is_spent actor.new) }
     ensures stands { (n : Machine) × A.stands actor.new n }
 {
     let shut = match are_doors_shut(actor) {
@@ -134,20 +134,21 @@ fn move_round<A: Actor>(rt: &impl Wait, actor: &mut A, now: u64) -> Result<Optio
 }
 
 /// The mover's work, to its end: rounds, up to one in which both stores had nothing to move and no doors were left, or one that began
-/// when no doors were left and met a fault or lacked memory. Each round is at one moment of the clock, and between two it rests. `Spent`
-/// comes where no act is left.
+/// when no doors were left and met a fault or lacked memory. The clock gives one moment for each round, at which all its moves begin, and
+/// between two rounds it rests. `Spent` comes only where no act is left, within the last of the rounds.
 pub fn move_to_end<A: Actor, C: Clock>(
     rt: &impl Wait,
     actor: &mut A,
     clock: &mut C,
 ) -> Result<MoverEnd, Spent>
     requires stands { (m : Machine) × A.stands actor.old m }
-    ensures moved { IfOk result (λ end. Does A.number A.between actor.old (IsMoving end) actor.new) }
-    ensures spent { OnErr result (Does A.number A.between actor.old Anything actor.new × A.is_spent actor.new) }
+    ensures moves { DoesAt A.number A.between actor.old (C.coming clock.old) (MovesTo result) actor.new (C.coming clock.new) }
+    ensures spent { IsErr result → A.is_spent actor.new }
     ensures stands { (n : Machine) × A.stands actor.new n }
 {
     for _ in rt.forever() {
-        match move_round(rt, actor, clock.now()) {
+        let now = clock.now();
+        match move_round(rt, actor, now) {
             Ok(Some(end)) => return Ok(end),
             Ok(None) => clock.rest(MOVER_RESTS),
             Err(spent) => return Err(spent),

@@ -1,7 +1,6 @@
 use Rattle.edge_io.specs.Doors.{IsFresh}
 use Rattle.act_model.proofs.Histories.{made_nothing}
-use Rattle.link_service.specs.Doors.{IsServed}
-use Rattle.link_service.specs.Serving.{ServesLink}
+use Rattle.link_service.specs.Doors.{IsServed, IsTold, ServesLinkTold}
 use Rattle.link_service.proofs.Acts.{makes, makes_more}
 use Rattle.link_service.proofs.Links.{end_later, leaves_more, leaves_none, told_end, told_more}
 use Rattle.link_service.proofs.door.serve_links.Goals as goal
@@ -15,7 +14,7 @@ loop-init g c =
       c.requires.stands,
       makes A.number A.between c.args.actor.now c.args.actor.now _ (made_nothing A.number A.between g.met.A.Actor.nothing c.args.actor.now) tt,
       leaves_none g.W.Door.door_faults g.W.Door.ledger (IsFresh L.Sink.written L.Source.read_faults L.Sink.write_faults) (IsServed c.args.kind L.Sink.written L.Source.read_faults L.Sink.write_faults)
-          (ServesLink A.number A.between A.is_spent A.stands g.A.Reader.ReadAt.tells g.A.Reader.ReadAt.faults L.Source.left L.Sink.written L.Sink.write_faults c.args.kind)
+          (ServesLinkTold A.number A.between A.is_spent A.stands g.A.Reader.ReadAt.tells g.A.Reader.ReadAt.faults L.Source.left L.Sink.written L.Sink.write_faults (IsTold g.G.Gate.entered g.G.Gate.left c.args.gate.now c.args.post) c.args.kind)
           c.args.actor.now (g.C.Clock.coming c.args.clock.now) c.args.door.now,
     )
 
@@ -30,7 +29,7 @@ loop-preserved g c =
       c.serve_next.ensures.stands,
       makes_more A.number A.between g.met.A.Actor.joined g.met.A.Actor.number_stays c.args.actor.now c.loop.actor c.serve_next.new.actor c.loop.invariant.3 c.serve_next.ensures.acts,
       told_more g.W.Door.door_faults g.W.Door.ledger (IsFresh L.Sink.written L.Source.read_faults L.Sink.write_faults) (IsServed c.args.kind L.Sink.written L.Source.read_faults L.Sink.write_faults)
-          (ServesLink A.number A.between A.is_spent A.stands g.A.Reader.ReadAt.tells g.A.Reader.ReadAt.faults L.Source.left L.Sink.written L.Sink.write_faults c.args.kind)
+          (ServesLinkTold A.number A.between A.is_spent A.stands g.A.Reader.ReadAt.tells g.A.Reader.ReadAt.faults L.Source.left L.Sink.written L.Sink.write_faults (IsTold g.G.Gate.entered g.G.Gate.left c.args.gate.now c.args.post) c.args.kind)
           c.args.actor.now c.loop.actor c.serve_next.new.actor (C.coming c.args.clock.now) (C.coming c.loop.clock) (C.coming c.serve_next.new.clock) c.args.door.now c.loop.door c.serve_next.new.door
           c.loop.lacked c.in-Link.now c.loop.invariant.4 one.0 one.1 one.2,
     )
@@ -46,7 +45,7 @@ returns-in-End-clause-asked g c =
     let end = c.in-End.ensures.asked in
     let same = c.serve_next.ensures.stays c.in-End.failed c.in-End.is in (
       told_end g.W.Door.door_faults g.W.Door.ledger (IsFresh L.Sink.written L.Source.read_faults L.Sink.write_faults) (IsServed c.args.kind L.Sink.written L.Source.read_faults L.Sink.write_faults)
-          (ServesLink A.number A.between A.is_spent A.stands g.A.Reader.ReadAt.tells g.A.Reader.ReadAt.faults L.Source.left L.Sink.written L.Sink.write_faults c.args.kind)
+          (ServesLinkTold A.number A.between A.is_spent A.stands g.A.Reader.ReadAt.tells g.A.Reader.ReadAt.faults L.Source.left L.Sink.written L.Sink.write_faults (IsTold g.G.Gate.entered g.G.Gate.left c.args.gate.now c.args.post) c.args.kind)
           c.args.actor.now c.loop.actor c.serve_next.new.actor (C.coming c.args.clock.now) (C.coming c.loop.clock) (C.coming c.serve_next.new.clock) c.args.door.now c.loop.door c.serve_next.new.door
           c.loop.lacked c.loop.invariant.4 same.0 same.1 end.0 end.1,
       end_later g.W.Door.is_closed g.W.Door.door_faults c.args.door.now c.loop.door c.serve_next.new.door c.in-End.failed c.loop.invariant.4.left.faults_rise end.2,
@@ -61,7 +60,7 @@ returns-in-Spent-clause-asked g c =
     let L = g.W.L in
     let C = g.C.Clock in
     leaves_more g.W.Door.door_faults g.W.Door.ledger (IsFresh L.Sink.written L.Source.read_faults L.Sink.write_faults) (IsServed c.args.kind L.Sink.written L.Source.read_faults L.Sink.write_faults)
-    (ServesLink A.number A.between A.is_spent A.stands g.A.Reader.ReadAt.tells g.A.Reader.ReadAt.faults L.Source.left L.Sink.written L.Sink.write_faults c.args.kind)
+    (ServesLinkTold A.number A.between A.is_spent A.stands g.A.Reader.ReadAt.tells g.A.Reader.ReadAt.faults L.Source.left L.Sink.written L.Sink.write_faults (IsTold g.G.Gate.entered g.G.Gate.left c.args.gate.now c.args.post) c.args.kind)
     c.args.actor.now c.loop.actor c.serve_next.new.actor (C.coming c.args.clock.now) (C.coming c.loop.clock) (C.coming c.serve_next.new.clock) c.args.door.now c.loop.door c.serve_next.new.door
     c.loop.invariant.4.left c.in-Spent.ensures.asked
 

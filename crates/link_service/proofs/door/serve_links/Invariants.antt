@@ -1,8 +1,8 @@
 use Rattle.edge_io.specs.Doors.{IsFresh}
 use Rattle.act_model.specs.Machine.{Machine}
 use Rattle.act_model.specs.Roles.{is_of_link}
-use Rattle.link_service.specs.Doors.{InTurn, IsServed, LeavesTold}
-use Rattle.link_service.specs.Serving.{MakesOnly, ServesLink}
+use Rattle.link_service.specs.Doors.{InTurn, IsServed, IsTold, LeavesTold, ServesLinkTold}
+use Rattle.link_service.specs.Serving.{MakesOnly}
 use Rattle.link_service.proofs.door.serve_links.Given as goal
 
 abbrev pub invariant-loop : goal.invariant-loop
@@ -16,5 +16,5 @@ invariant-loop g l =
     × ((m : Machine) × A.stands l.actor m)
     × MakesOnly A.number A.between is_of_link l.fn.actor l.actor
     × LeavesTold W.door_faults W.ledger (IsServed l.kind L.Sink.written L.Source.read_faults L.Sink.write_faults)
-    (λ links results. InTurn (IsFresh L.Sink.written L.Source.read_faults L.Sink.write_faults) (ServesLink A.number A.between A.is_spent A.stands R.tells R.faults L.Source.left L.Sink.written L.Sink.write_faults l.kind) l.fn.actor (C.coming l.fn.clock) links results l.actor (C.coming l.clock))
+    (λ links results. InTurn (IsFresh L.Sink.written L.Source.read_faults L.Sink.write_faults) (ServesLinkTold A.number A.between A.is_spent A.stands R.tells R.faults L.Source.left L.Sink.written L.Sink.write_faults (IsTold g.G.Gate.entered g.G.Gate.left l.gate l.post) l.kind) l.fn.actor (C.coming l.fn.clock) links results l.actor (C.coming l.clock))
     l.fn.door l.lacked l.door

@@ -3,8 +3,7 @@ use Rattle.act_model.specs.Reply.{reply_of}
 use Rattle.archive_actors.specs.Steps.{SharedStands, SharedStep}
 use Rattle.pair_work.proofs.Halves.{give_map}
 use Rattle.link_service.specs.declared.posts.Task.TheVariants.{Flush, Move}
-use Rattle.link_service.specs.Doors.{IsServed}
-use Rattle.link_service.specs.Service.{CanWork, DoorLeft, ShiftEnds, TaskEnds}
+use Rattle.link_service.specs.Service.{CanWork, TaskEnds}
 use Rattle.link_service.proofs.Tending.{all_parts, are_two, became_two, can_all}
 use Rattle.link_service.proofs.service.work_all.Goals as goal
 
@@ -29,8 +28,7 @@ run_with-requires-clause-second g c κs within =
 pub returns : goal.returns
 returns g c =
     let R = g.X.Reader.ReadAt in
-    let W = g.W.Door in
-    let L = g.W.L in
+    let coming = g.C.Clock.coming in
     let steps = SharedStep g.X.Applies.stands g.X.Applies.crash R.tells R.bytes R.faults in
     let reply = reply_of R.tells R.bytes R.faults in
     let rooms = c.args.rooms.now in
@@ -38,12 +36,12 @@ returns g c =
     let back = c.split_at_mut-at_doors.result.1.now in
     let many : length back ≡ 2 = search rules in
     let two = are_two back many in
-    let tends = give_map _ (λ w t w' t'. TaskEnds steps reply rooms t w.pass w'.end w'.pass) back (Flush ∷ Move ∷ []) c.run_with.new.ss c.run_with.new.ts
+    let tends = give_map _ (λ w t w' t'. TaskEnds steps reply rooms t w.pass (coming w.clock) w'.end w'.pass (coming w'.clock)) back (Flush ∷ Move ∷ []) c.run_with.new.ss c.run_with.new.ts
     (λ x y x' y' gives.
-    let s : TaskEnds steps reply rooms gives.second.now gives.first.now.pass gives.first_after.now.end gives.first_after.now.pass = search rules in
+    let s : TaskEnds steps reply rooms gives.second.now gives.first.now.pass (coming gives.first.now.clock) gives.first_after.now.end gives.first_after.now.pass (coming gives.first_after.now.clock) = search rules in
     rw (← gives.first_is, ← gives.second_is, ← gives.first_left) s)
     c.run_with.ensures.first in
-    let became = became_two (λ w t w' t'. TaskEnds steps reply rooms t w.pass w'.end w'.pass) two.0 two.1 Flush Move c.run_with.new.ss c.run_with.new.ts (rw (← two.2) tends) in
+    let became = became_two (λ w t w' t'. TaskEnds steps reply rooms t w.pass (coming w.clock) w'.end w'.pass (coming w'.clock)) two.0 two.1 Flush Move c.run_with.new.ss c.run_with.new.ts (rw (← two.2) tends) in
     record {
       at = front;
       at' = c.run_with.new.us;
@@ -54,11 +52,7 @@ returns g c =
       old_is = c.split_at_mut-at_doors.ensures.value ∙ ap (λ l. front ++ l) two.2;
       new_is = ap (λ l. c.run_with.new.us ++ l) became.are;
       doors = give_map _ _ front c.args.posts.now c.run_with.new.us c.run_with.new.vs
-          (λ x y x' y' gives.
-          let s : ShiftEnds steps reply rooms gives.first.now.pass gives.first_after.now.end gives.first_after.now.pass = search rules in
-          let d : DoorLeft W.is_closed W.door_faults W.ledger (IsServed {L = g.row.W-L.Denot} gives.second.now.kind L.Sink.written L.Source.read_faults L.Sink.write_faults) gives.second.now.door gives.first_after.now.end gives.second_after.now.door = search rules in
-          let k : gives.second_after.now.kind ≡ gives.second.now.kind = search rules in
-          rw (← gives.first_is, ← gives.second_is, ← gives.first_left, ← gives.second_left) (s, d, k))
+          (λ x y x' y' gives. rw (← gives.first_is, ← gives.second_is, ← gives.first_left, ← gives.second_left) (record { acts = search rules; door = search rules; kind = search rules }))
           c.run_with.ensures.second;
       flushes = became.first;
       moves = became.second;

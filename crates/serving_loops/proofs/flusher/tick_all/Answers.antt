@@ -1,7 +1,8 @@
 use Rattle.std.proofs.Common.{◌+◌, true, false, subst}
+use Rattle.serving_end.specs.Rounds.{AreTicks}
 use Rattle.serving_loops.specs.Does.{Does}
 use Rattle.serving_loops.specs.Flushes.{TicksRow, TicksAll}
-use Rattle.serving_loops.proofs.Joins.{join, join_any, TicksTo, tick_goes, tick_ends}
+use Rattle.serving_loops.proofs.Joins.{does_as, join, join_none, TicksTo, tick_goes, tick_ends}
 use Rattle.serving_loops.proofs.flusher.tick_all.Goals as goal
 
 pub returns-in-Ok-true-clause-ticks : goal.returns-in-Ok-true-clause-ticks
@@ -12,7 +13,12 @@ returns-in-Ok-true-clause-ticks g c =
 
 pub returns-in-Err-clause-spent : goal.returns-in-Err-clause-spent
 returns-in-Err-clause-spent g c =
-    (join_any g.A.Actor.number g.A.Actor.between g.met.A.Actor.joined g.met.A.Actor.number_stays (TicksTo c.args.now c.loop-row.row) c.args.actor.now c.loop-row.actor c.tick_row.new.actor c.loop-row.invariant.1 c.in-Err.ensures.spent.0, c.in-Err.ensures.spent.1)
+    let number = g.A.Actor.number in
+    let between = g.A.Actor.between in (
+      does_as number between (TicksTo c.args.now c.loop-row.row) (AreTicks c.args.now 0) (λ ds p. p.0) c.args.actor.now c.tick_row.new.actor
+          (join_none number between g.met.A.Actor.joined g.met.A.Actor.number_stays (TicksTo c.args.now c.loop-row.row) c.args.actor.now c.loop-row.actor c.tick_row.new.actor c.loop-row.invariant.1 c.in-Err.ensures.spent.0),
+      c.in-Err.ensures.spent.1,
+    )
 
 pub loop-row-preserved : goal.loop-row-preserved
 loop-row-preserved g c = (

@@ -1,8 +1,8 @@
 use Rattle.std.proofs.Common.{subst, sym, ap, ◌∙◌}
 use Rattle.std.specs.Prelude.{Ok, Err, Some, None, IfOk, OnErr}
 use Rattle.serving_end.specs.declared.ends.MoverEnd.TheVariants.{Rests}
-use Rattle.serving_loops.specs.Does.{Does, Anything}
-use Rattle.serving_loops.specs.Moves.{StoreMovesSo, StoreSo}
+use Rattle.serving_loops.specs.Does.{Does}
+use Rattle.serving_loops.specs.Moves.{AreSoFar, StoreMovesSo, StoreSo}
 use Rattle.serving_loops.proofs.Joins.{does_as}
 use Rattle.serving_loops.proofs.Moving.{rests_so, waits_so, store_met, spent_met}
 use Rattle.serving_loops.proofs.mover.move_in_round.Goals as goal
@@ -33,6 +33,7 @@ pub returns-in-Err-clause-spent : goal.returns-in-Err-clause-spent
 returns-in-Err-clause-spent g c =
     let number = g.A.Actor.number in
     let between = g.A.Actor.between in
-    subst (λ r. OnErr r (Does number between c.args.actor.now Anything c.move_store.new.actor × g.A.Actor.is_spent c.move_store.new.actor)) (sym c.end_met.ensures)
-    (spent_met number between c.args.actor.now c.move_store.new.actor g.A.Actor.is_spent (StoreMovesSo c.args.store c.args.now (Err c.in-Err.err)) c.in-Err.err (λ is. c.move_store.ensures.spent (c.in-Err.is ∙ ap Err is))
+    subst (λ r. OnErr r (Does number between c.args.actor.now (AreSoFar c.args.store c.args.now) c.move_store.new.actor × g.A.Actor.is_spent c.move_store.new.actor)) (sym c.end_met.ensures)
+    (spent_met number between c.args.actor.now c.move_store.new.actor g.A.Actor.is_spent (StoreMovesSo c.args.store c.args.now (Err c.in-Err.err)) (AreSoFar c.args.store c.args.now) c.in-Err.err (λ is. c.move_store.ensures.spent (c.in-Err.is ∙ ap Err is))
+    (λ is ds p. subst (λ e. StoreMovesSo c.args.store c.args.now (Err e) ds) is p)
     (subst (λ e. Does number between c.args.actor.now (StoreMovesSo c.args.store c.args.now e) c.move_store.new.actor) c.in-Err.is c.move_store.ensures.moves))

@@ -1,6 +1,6 @@
 use Rattle.std.proofs.Common.{subst, sym, ap, ◌∙◌}
 use Rattle.std.specs.Prelude.{Ok, Err, None, IfOk, OnErr}
-use Rattle.serving_loops.specs.Does.{Does, Anything}
+use Rattle.serving_loops.specs.Does.{Does, AreNone}
 use Rattle.serving_loops.specs.Moves.{IsSwept, SweepsSo}
 use Rattle.serving_loops.proofs.Joins.{does_as}
 use Rattle.serving_loops.proofs.Moving.{sweep_met, spent_met}
@@ -25,6 +25,7 @@ pub returns-in-Err-clause-spent : goal.returns-in-Err-clause-spent
 returns-in-Err-clause-spent g c =
     let number = g.A.Actor.number in
     let between = g.A.Actor.between in
-    subst (λ r. OnErr r (Does number between c.args.actor.now Anything c.sweep.new.actor × g.A.Actor.is_spent c.sweep.new.actor)) (sym c.end_met.ensures)
-    (spent_met number between c.args.actor.now c.sweep.new.actor g.A.Actor.is_spent (IsSwept (Err c.in-Err.err)) c.in-Err.err (λ is. c.sweep.ensures.spent (c.in-Err.is ∙ ap Err is))
+    subst (λ r. OnErr r (Does number between c.args.actor.now AreNone c.sweep.new.actor × g.A.Actor.is_spent c.sweep.new.actor)) (sym c.end_met.ensures)
+    (spent_met number between c.args.actor.now c.sweep.new.actor g.A.Actor.is_spent (IsSwept (Err c.in-Err.err)) AreNone c.in-Err.err (λ is. c.sweep.ensures.spent (c.in-Err.is ∙ ap Err is))
+    (λ is ds p. subst (λ e. IsSwept (Err e) ds) is p)
     (subst (λ e. Does number between c.args.actor.now (IsSwept e) c.sweep.new.actor) c.in-Err.is c.sweep.ensures.sweeps))
