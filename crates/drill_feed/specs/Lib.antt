@@ -1,0 +1,4 @@
+pub mod Workload
+pub mod Feeds
+pub mod Tiers
+pub mod Report
