@@ -1,1 +1,2 @@
+pub mod AllAsked
 pub mod Usable

@@ -1,12 +1,21 @@
 //! The tests of an archive: acts on one, pins of its stores, and which of its partitions move.
 //!
-//! They stand apart from the crates that they test, since a crate with tests of its own is proved twice.
+//! Scripts of acts are asked of an archive by `Archive::apply`, and each answer is compared with a worked one. They stand apart from the
+//! crates that they test, since a crate with tests of its own is proved twice.
 #![tactic(auto)]
 
 #[cfg(test)]
 mod acting;
 #[cfg(test)]
+mod asking;
+#[cfg(test)]
+mod crashes;
+#[cfg(test)]
 mod flushing;
+#[cfg(test)]
+mod limbo;
+#[cfg(test)]
+mod moments;
 #[cfg(test)]
 mod moves;
 #[cfg(test)]
@@ -17,3 +26,5 @@ mod pinning;
 mod pins;
 #[cfg(test)]
 mod script;
+#[cfg(test)]
+mod told;

@@ -6,7 +6,7 @@ ghost use Rattle.tier_store.specs.Flush.{IsOfRow, CanFlush};
 ghost use Rattle.three_stores.specs.Pinned.{seen_all};
 ghost use Rattle.archive_tests.specs.Usable.{IsUsable};
 
-use crate::script::about;
+use crate::asking::about;
 use act_model::Answer;
 use disk_model::{Disk, FileName, MemDisk, MemFile, ReadAt};
 use etl_rules::Config;

@@ -1,249 +1,67 @@
-// Scripts: acts that are asked of an archive on a disk in memory, and what each is answered.
+// Scripts: acts that are asked of an archive on a disk in memory, by several owners, and what each is answered.
+ghost use Rattle.std.specs.List.{AllByRecursion};
 ghost use Rattle.std.specs.Prelude.{◌≡◌, IfErr, IfOk, OnOk, true};
 ghost use Rattle.disk_model.specs.Record.{files_of, opened_of};
-ghost use Rattle.act_model.specs.Event.{IsEvent};
 ghost use Rattle.act_model.specs.Machine.{Machine};
+ghost use Rattle.act_model.specs.Step.{MayAsk};
 ghost use Rattle.archive_core.specs.Parts.{parts};
 ghost use Rattle.archive_core.specs.Stands.{Stands};
 ghost use Rattle.three_reopen.specs.Reopen.{IsUnopened, disk_in};
 
-use archive_core::Archive;
+use crate::asking::{Ask, act_of};
+use crate::told::{Told, as_told};
+use act_model::Act;
+use archive_core::{Archive, run_acts};
 use disk_model::{Disk, MemDisk};
 use etl_rules::Config;
-use event_types::{About, Method, PayloadType};
-use pb_lines::sample_of;
-use pv_name::PvName;
-use series_model::{Blob, Pairs, Reason, Sample};
-use std::alloc::Global;
+use std::alloc::{AllocError, Global};
 use std::test::Fail;
 use three_reopen::{ReopenErr, reopen};
 
-/// What is asked. All rows are of SCALAR_INT.
-#[derive(Clone, Copy)]
-pub(crate) enum Ask<'a> {
-    /// A row of this name.
-    Register(&'a [u8], Method),
-    Pause(&'a [u8]),
-    Resume(&'a [u8]),
-    /// To the row of this name a line of 2024, at a moment.
-    Offer(&'a [u8], &'a [u8], u64),
-    /// Of the row of this number, at a moment.
-    Tick(u32, u64),
-    /// Whole tails of so many bytes, at least 1.
-    Flush(u64),
-    /// Of a move out of store 1, at a moment; or out of store 2.
-    BeginMove(u64),
-    BeginLaterMove(u64),
-    /// Of the move of this number one step.
-    StepMove(u32),
-    /// A move out of store 1 that is due at a moment, from its beginning to its end.
-    Move(u64),
-    Sweep,
-    DoorDone,
-}
+/// Who asks, what is asked, and what is told.
+pub(crate) type Row<'a> = (u64, Ask<'a>, Told);
 
-/// What is answered.
-#[derive(Clone, Copy, Debug, PartialEq, Eq)]
-pub(crate) enum Told {
-    Registered(u32),
-    NameTaken(u32),
-    KeyTaken(u32),
-    CatalogueFull,
-    NoSuchVariable,
-    NotRunning,
-    NotPaused,
-    Done,
-    Dropped(Reason),
-    IntakeFull(u64),
-    Kept,
-    Held,
-    NoRow,
-    TickNone,
-    NotDue(u64),
-    TickKept(u64),
-    Flushed { samples: u64, left: u64 },
-    Begun { m: u32, row: u32, parts: u64 },
-    Busy(u32),
-    NoMove { doors: u64 },
-    NotRunningMove,
-    Damaged(u64),
-    Copying,
-    Copied,
-    Published,
-    Retired(u64),
-    Again { len: u64, copied: u64 },
-    Swept(u64),
-    Doors(u64),
-    DiskFault,
-    Memory,
-}
-
-fn told_of_register(answer: act_model::Registered) -> Told {
-    match answer {
-        act_model::Registered::Registered { row } => Told::Registered(row),
-        act_model::Registered::NameTaken { row } => Told::NameTaken(row),
-        act_model::Registered::KeyTaken { row } => Told::KeyTaken(row),
-        act_model::Registered::CatalogueFull => Told::CatalogueFull,
-        act_model::Registered::DiskFault => Told::DiskFault,
-        act_model::Registered::Memory => Told::Memory,
-    }
-}
-
-fn told_of_pause(answer: act_model::Paused) -> Told {
-    match answer {
-        act_model::Paused::NoSuchVariable => Told::NoSuchVariable,
-        act_model::Paused::NotRunning => Told::NotRunning,
-        act_model::Paused::Done => Told::Done,
-        act_model::Paused::DiskFault => Told::DiskFault,
-        act_model::Paused::Memory => Told::Memory,
-    }
-}
-
-fn told_of_resume(answer: act_model::Resumed) -> Told {
-    match answer {
-        act_model::Resumed::NoSuchVariable => Told::NoSuchVariable,
-        act_model::Resumed::NotPaused => Told::NotPaused,
-        act_model::Resumed::Done => Told::Done,
-        act_model::Resumed::DiskFault => Told::DiskFault,
-        act_model::Resumed::Memory => Told::Memory,
-    }
-}
-
-fn told_of_offer(answer: act_model::Offered) -> Told {
-    match answer {
-        act_model::Offered::Dropped(reason) => Told::Dropped(reason),
-        act_model::Offered::IntakeFull { held } => Told::IntakeFull(held),
-        act_model::Offered::Kept => Told::Kept,
-        act_model::Offered::Held => Told::Held,
-        act_model::Offered::Memory => Told::Memory,
-    }
-}
-
-fn told_of_tick(answer: act_model::Ticked) -> Told {
-    match answer {
-        act_model::Ticked::NoRow => Told::NoRow,
-        act_model::Ticked::TickNone => Told::TickNone,
-        act_model::Ticked::NotDue { due } => Told::NotDue(due),
-        act_model::Ticked::Dropped(reason) => Told::Dropped(reason),
-        act_model::Ticked::IntakeFull { held } => Told::IntakeFull(held),
-        act_model::Ticked::TickKept { t } => Told::TickKept(t),
-        act_model::Ticked::Memory => Told::Memory,
-    }
-}
-
-fn told_of_flush(answer: act_model::Flushed) -> Told {
-    match answer {
-        act_model::Flushed::DiskFault => Told::DiskFault,
-        act_model::Flushed::Flushed { samples, left, .. } => Told::Flushed { samples, left },
-        act_model::Flushed::Memory => Told::Memory,
-    }
-}
-
-fn told_of_begin(answer: act_model::MoveBegun) -> Told {
-    match answer {
-        act_model::MoveBegun::DiskFault => Told::DiskFault,
-        act_model::MoveBegun::Begun { m, row, parts } => Told::Begun { m, row, parts },
-        act_model::MoveBegun::Busy { m } => Told::Busy(m),
-        act_model::MoveBegun::Nothing { doors } => Told::NoMove { doors },
-        act_model::MoveBegun::Memory => Told::Memory,
-    }
-}
-
-fn told_of_step(answer: act_model::MoveStepped) -> Told {
-    match answer {
-        act_model::MoveStepped::NoMove => Told::NotRunningMove,
-        act_model::MoveStepped::DiskFault => Told::DiskFault,
-        act_model::MoveStepped::Damaged { at, .. } => Told::Damaged(at),
-        act_model::MoveStepped::Copying => Told::Copying,
-        act_model::MoveStepped::Copied => Told::Copied,
-        act_model::MoveStepped::Published => Told::Published,
-        act_model::MoveStepped::Retired { parts } => Told::Retired(parts),
-        act_model::MoveStepped::Again { len, copied } => Told::Again { len, copied },
-        act_model::MoveStepped::Memory => Told::Memory,
-    }
-}
-
-fn told_of_sweep(answer: act_model::Swept) -> Told {
-    match answer {
-        act_model::Swept::DiskFault => Told::DiskFault,
-        act_model::Swept::Swept { files } => Told::Swept(files),
-        act_model::Swept::Memory => Told::Memory,
-    }
-}
-
-/// What is kept of a variable that is sampled so.
-pub(crate) fn about(alloc: Global, method: Method) -> About {
-    About {
-        ty: PayloadType::ScalarInt,
-        method,
-        count: None,
-        headers: Pairs::from(Vec::new(alloc)),
-    }
-}
-
-// The sample of a line of 2024.
-fn sample(alloc: Global, line: &[u8]) -> Result<Sample, Fail>
-    ensures { IfOk result (λ s. IsEvent PayloadType.ScalarInt s) }
+// Makes one act, and tells its answer.
+fn applied(alloc: Global, archive: &mut Archive<MemDisk>, who: u64, act: Act) -> Result<Told, Fail>
+    requires stands { (m : Machine) × Stands true (parts ⟦<MemDisk as Disk>⟧ archive.old) m }
+    requires may_ask { MayAsk act }
+    ensures { OnOk result ((m : Machine) × Stands true (parts ⟦<MemDisk as Disk>⟧ archive.new) m) }
 {
-    if line.contains(&b'\n') {
-        return Err("two lines".into());
-    }
-    let mut work = Vec::new(alloc);
-    let t = sample_of(PayloadType::ScalarInt, 2024, line, &mut work)?;
-    let line = Blob::from(line.to_vec(alloc)?);
-    Ok(Sample { t, line })
+    let answer = archive.apply(who, act);
+    as_told(alloc, answer)
 }
 
-// What the last step of a move is answered that begins and goes on to its end, or the beginning where none begins. It takes at most a hundred
-// steps.
-fn moved(archive: &mut Archive<MemDisk>, now: u64) -> Told
+// Goes on with a move to its end, in at most a hundred steps.
+fn moved(alloc: Global, archive: &mut Archive<MemDisk>, who: u64, m: u32) -> Result<Told, Fail>
     requires { (m : Machine) × Stands true (parts ⟦<MemDisk as Disk>⟧ archive.old) m }
-    ensures { (m : Machine) × Stands true (parts ⟦<MemDisk as Disk>⟧ archive.new) m }
+    ensures { OnOk result ((m : Machine) × Stands true (parts ⟦<MemDisk as Disk>⟧ archive.new) m) }
 {
-    let number = match archive.begin_move(1, now) {
-        act_model::MoveBegun::Begun { m, .. } => m,
-        other => return told_of_begin(other),
-    };
-    let mut told = Told::Copying;
     for _ in 0..100u64 {
-        told = told_of_step(archive.move_step(number));
+        let told = applied(alloc, archive, who, Act::MoveStep { m })?;
         if !matches!(told, Told::Copying | Told::Copied | Told::Published) {
-            break;
+            return Ok(told);
         }
     }
-    told
+    Ok(Told::Copying)
 }
 
-/// What one act is answered.
-pub(crate) fn asked(
+// What one act is answered; of a whole move what its last step is, or its beginning, where none begins.
+fn asked(
     alloc: Global,
     archive: &mut Archive<MemDisk>,
+    who: u64,
     ask: Ask<'_>,
 ) -> Result<Told, Fail>
     requires { (m : Machine) × Stands true (parts ⟦<MemDisk as Disk>⟧ archive.old) m }
     ensures { OnOk result ((m : Machine) × Stands true (parts ⟦<MemDisk as Disk>⟧ archive.new) m) }
 {
-    match ask {
-        Ask::Register(name, method) => {
-            let name = PvName::new(alloc, name)?;
-            let about = about(alloc, method);
-            Ok(told_of_register(archive.register(&name, &about)))
-        }
-        Ask::Pause(name) => Ok(told_of_pause(archive.pause(name))),
-        Ask::Resume(name) => Ok(told_of_resume(archive.resume(name))),
-        Ask::Offer(name, line, now) => {
-            let sample = sample(alloc, line)?;
-            let answer = archive.offer(name, PayloadType::ScalarInt, sample, now);
-            Ok(told_of_offer(answer))
-        }
-        Ask::Tick(row, now) => Ok(told_of_tick(archive.tick(row, now))),
-        Ask::Flush(limit) => Ok(told_of_flush(archive.flush(limit.max(1)))),
-        Ask::BeginMove(now) => Ok(told_of_begin(archive.begin_move(1, now))),
-        Ask::BeginLaterMove(now) => Ok(told_of_begin(archive.begin_move(2, now))),
-        Ask::StepMove(number) => Ok(told_of_step(archive.move_step(number))),
-        Ask::Move(now) => Ok(moved(archive, now)),
-        Ask::Sweep => Ok(told_of_sweep(archive.sweep())),
-        Ask::DoorDone => Ok(Told::Doors(archive.door_done().doors)),
+    let Some(act) = act_of(alloc, ask) else {
+        return Err("no act".into());
+    };
+    let told = applied(alloc, archive, who, act)?;
+    match (ask, told) {
+        (Ask::Move(_) | Ask::LaterMove(_), Told::Begun { m, .. }) => moved(alloc, archive, who, m),
+        _ => Ok(told),
     }
 }
 
@@ -260,17 +78,18 @@ fn as_made(told: Told) -> Told {
 fn asked_again(
     alloc: Global,
     archive: &mut Archive<MemDisk>,
+    who: u64,
     ask: Ask<'_>,
     again: bool,
 ) -> Result<Told, Fail>
     requires { (m : Machine) × Stands true (parts ⟦<MemDisk as Disk>⟧ archive.old) m }
     ensures { OnOk result ((m : Machine) × Stands true (parts ⟦<MemDisk as Disk>⟧ archive.new) m) }
 {
-    let told = asked(alloc, archive, ask)?;
+    let told = asked(alloc, archive, who, ask)?;
     if !again || told != Told::DiskFault {
         return Ok(told);
     }
-    let told = asked(alloc, archive, ask)?;
+    let told = asked(alloc, archive, who, ask)?;
     Ok(as_made(told))
 }
 
@@ -279,7 +98,7 @@ fn asked_again(
 fn is_wanted(told: Told, want: Told, again: bool) -> bool {
     match (told, want) {
         (Told::Flushed { .. }, Told::Flushed { .. })
-        | (Told::NoMove { .. }, Told::Retired(_))
+        | (Told::Nothing { .. }, Told::Retired(_))
         | (Told::Swept(_), Told::Swept(_))
             if again => { true }
         _ => told == want,
@@ -289,7 +108,7 @@ fn is_wanted(told: Told, want: Told, again: bool) -> bool {
 // How many changes it is told of an act that were made: a whole move lists what it has copied, and then retires its parts.
 fn changes(ask: Ask<'_>, told: Told) -> u64 {
     match (ask, told) {
-        (Ask::Move(_), _) => 2,
+        (Ask::Move(_) | Ask::LaterMove(_), _) => 2,
         (
             _,
             Told::Registered(_)
@@ -307,8 +126,8 @@ fn changes(ask: Ask<'_>, told: Told) -> u64 {
 pub(crate) struct Ended {
     /// How many changes were told to be made.
     pub(crate) made: u64,
-    /// The first answer that isn't the script's, which ended it.
-    pub(crate) other: Option<Told>,
+    /// The first answer that isn't the script's, which ended it, with the place of its act from 0 on.
+    pub(crate) other: Option<(u64, Told)>,
     pub(crate) disk: MemDisk,
 }
 
@@ -316,35 +135,109 @@ pub(crate) struct Ended {
 pub(crate) fn run(
     alloc: Global,
     mut archive: Archive<MemDisk>,
-    script: &[(Ask<'_>, Told)],
+    script: &[Row<'_>],
     again: bool,
 ) -> Result<Ended, Fail>
     requires { (m : Machine) × Stands true (parts ⟦<MemDisk as Disk>⟧ archive) m }
 {
     let mut made = 0u64;
+    let mut place = 0u64;
     let mut other = None;
-    for (ask, want) in script {
-        let told = asked_again(alloc, &mut archive, *ask, again)?;
+    for (who, ask, want) in script {
+        let told = asked_again(alloc, &mut archive, *who, *ask, again)?;
         if !is_wanted(told, *want, again) {
-            other = Some(told);
+            other = Some((place, told));
             break;
         }
         made = made.saturating_add(changes(*ask, told));
+        place = place.saturating_add(1);
     }
     let disk = archive.into_store().into_disk();
     Ok(Ended { made, other, disk })
+}
+
+// The acts of a script, each with who asks for it.
+fn acts_of(alloc: Global, script: &[Row<'_>]) -> Result<Vec<(u64, Act)>, Fail>
+    ensures { IfOk result (λ acts. AllByRecursion (λ asked. MayAsk asked.1) acts.items) }
+{
+    let mut acts = Vec::new(alloc);
+    for (who, ask, _) in script {
+        let Some(act) = act_of(alloc, *ask) else {
+            return Err("no act".into());
+        };
+        acts.push((*who, act))?;
+    }
+    Ok(acts)
+}
+
+/// Makes the acts of a script as one list, and tells the first answer that isn't the script's, with its place from 0 on. Pieces are read when
+/// all acts are made.
+pub(crate) fn run_list(
+    alloc: Global,
+    mut archive: Archive<MemDisk>,
+    script: &[Row<'_>],
+) -> Result<(Option<(u64, Told)>, MemDisk), Fail>
+    requires { (m : Machine) × Stands true (parts ⟦<MemDisk as Disk>⟧ archive) m }
+{
+    let acts = acts_of(alloc, script)?;
+    let answers = run_acts(&mut archive, acts)?;
+    let disk = archive.into_store().into_disk();
+    let mut place = 0u64;
+    for (answer, (_, _, want)) in answers.into_iter().zip(script) {
+        let told = as_told(alloc, answer)?;
+        if told != *want {
+            return Ok((Some((place, told)), disk));
+        }
+        place = place.saturating_add(1);
+    }
+    Ok((None, disk))
+}
+
+// Puts a row behind others, a whole move step by step.
+fn put_steps<'a>(steps: &mut Vec<Row<'a>>, row: Row<'a>) -> Result<(), AllocError> {
+    let (who, ask, want) = row;
+    let (begin, parts) = match (ask, want) {
+        (Ask::Move(now), Told::Retired(parts)) => (Ask::BeginMove(now), parts),
+        (Ask::LaterMove(now), Told::Retired(parts)) => (Ask::BeginLaterMove(now), parts),
+        _ => {
+            steps.push(row)?;
+            return Ok(());
+        }
+    };
+    let (m, row) = (0, 0);
+    steps.push((who, begin, Told::Begun { m, row, parts }))?;
+    for _ in 1..parts {
+        steps.push((who, Ask::StepMove(0), Told::Copying))?;
+    }
+    steps.push((who, Ask::StepMove(0), Told::Copied))?;
+    steps.push((who, Ask::StepMove(0), Told::Published))?;
+    steps.push((who, Ask::StepMove(0), want))?;
+    Ok(())
+}
+
+/// The same script with each step of its whole moves, which are of row 0 and begin where no other runs.
+pub(crate) fn step_by_step<'a>(
+    alloc: Global,
+    script: &[Row<'a>],
+) -> Result<Vec<Row<'a>>, AllocError> {
+    let mut steps = Vec::new(alloc);
+    for row in script {
+        put_steps(&mut steps, *row)?;
+    }
+    Ok(steps)
 }
 
 /// An archive with two doors on a disk, or the disk, where it failed.
 pub(crate) fn opened(
     alloc: Global,
     disk: MemDisk,
+    config: &Config,
 ) -> Result<Result<Archive<MemDisk>, MemDisk>, Fail>
     requires { IsUnopened (files_of disk.calls) (opened_of disk.calls) }
     ensures stands { IfOk result (λ r. IfOk r (λ archive. (m : Machine) × Stands true (parts ⟦<MemDisk as Disk>⟧ archive) m)) }
     ensures failed { IfOk result (λ r. IfErr r (λ disk. IsUnopened (files_of disk.calls) (opened_of disk.calls))) }
 {
-    match reopen(alloc, disk, &Config::shipped()) {
+    match reopen(alloc, disk, config) {
         Ok(store) => match Archive::of(alloc, store, 2) {
             Ok(archive) => Ok(Ok(archive)),
             Err(_) => Err("want of memory".into()),

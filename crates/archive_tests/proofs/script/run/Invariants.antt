@@ -5,5 +5,5 @@ use Rattle.archive_core.specs.Parts.{parts}
 use Rattle.archive_core.specs.Stands.{Stands}
 use Rattle.archive_tests.proofs.script.run.Given as goal
 
-abbrev pub invariant-loop-ask : goal.invariant-loop-ask
-invariant-loop-ask l = (m : Machine) × Stands true (parts ghosts l.archive) m
+abbrev pub invariant-loop-who : goal.invariant-loop-who
+invariant-loop-who l = (m : Machine) × Stands true (parts ghosts l.archive) m
