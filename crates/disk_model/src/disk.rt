@@ -173,6 +173,9 @@ pub trait Disk: Drop {
 
     /// Its opened files tell their bytes only where it tells its files.
     ghost readers: { IsTrue Self.Reader.tells → IsTrue tells };
+
+    /// Its opened files tell their bytes where it tells its files.
+    ghost readers_tell: { IsTrue tells → IsTrue Self.Reader.tells };
 }
 
 impl From<AllocError> for DiskErr {

@@ -153,6 +153,8 @@ impl<R: Files<File = File> + Drop> Disk for FolderDisk<R> {
 
     ghost readers = { λ tells. tells };
 
+    ghost readers_tell = { λ tells. tells };
+
     fn create(&mut self, name: &FileName) -> Result<(), DiskErr> {
         let answer = self.folders.create(name);
         self.counted(Some(name), answer)

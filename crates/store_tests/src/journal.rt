@@ -105,6 +105,8 @@ impl Disk for OneFile {
 
     ghost readers = { λ tells. tells };
 
+    ghost readers_tell = { λ tells. tells };
+
     fn create(&mut self, _: &FileName) -> Result<(), DiskErr> {
         self.note(b'c')
     }
