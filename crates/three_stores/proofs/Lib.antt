@@ -38,6 +38,7 @@ pub mod FindingLines
 pub mod FlushCall
 pub mod Handing
 pub mod Holding
+pub mod LeavingFronts
 pub mod LeavingNames
 pub mod Leaving
 pub mod ListedTallies

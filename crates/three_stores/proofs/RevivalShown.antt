@@ -1,5 +1,5 @@
--- What is shown stays so through a flush beside files in limbo, and these stay whole while a doubt is settled.
-use Rattle.std.proofs.Common.{◌≡◌, ◌≢◌, inl, inr, Bool, ℕ, ◌<◌, ◌≤◌, ◌+◌, List, map, length, get_or, Some, Ok, Err, sym, ◌∙◌, ap, subst, arith}
+-- What is listed stays so through a flush beside files in limbo, and these stay whole while a doubt is settled.
+use Rattle.std.proofs.Common.{◌≡◌, inl, inr, Bool, ℕ, ◌<◌, ◌≤◌, ◌+◌, List, map, length, get_or, Some, Ok, Err, sym, ◌∙◌, ap, subst, arith}
 use Rattle.std.specs.Prelude.{All, Contains, IsTrue, OnErr, OnOk, Result, slice_get}
 use Rattle.std.proofs.lemmas.List.Elements.{All-contains}
 use Rattle.disk_model.specs.Files.{Name}
@@ -9,13 +9,11 @@ use Rattle.partition_names.specs.declared.granularity.Granularity.{Granularity}
 use Rattle.pv_catalog.specs.Rows.{KeepsRows}
 use Rattle.pv_catalog.specs.declared.row.Row.{Row}
 use Rattle.series_model.specs.declared.batch.RowSamples.{RowSamples}
-use Rattle.store_files.specs.Fronts.{Begins, Keeps}
 use Rattle.store_manifest.specs.declared.entry.Entry.{Entry}
 use Rattle.store_manifest.specs.Entries.{place}
 use Rattle.store_manifest.specs.Manifest.{ManifestState}
-use Rattle.tier_store.specs.Ends.{End}
-use Rattle.tier_store.specs.Flush.{PlacesRise, put_all, with_files}
-use Rattle.tier_store.specs.Held.{Filed, Held, AreFiled, AreIn, IsListed, KeepsListed, ListsStill, entry_of, file_of, filed_at, listing_of, shelf_of}
+use Rattle.tier_store.specs.Flush.{PlacesRise, put_all}
+use Rattle.tier_store.specs.Held.{Filed, Held, AreFiled, AreIn, IsListed, ListsStill, entry_of, file_of, filed_at, listing_of, shelf_of}
 use Rattle.tier_store.specs.Revival.{ListsNoShorter}
 use Rattle.tier_store.specs.Stored.{AreLong}
 use Rattle.tier_store.proofs.Ahead.{contains_entry}
@@ -28,13 +26,13 @@ use Rattle.tier_store.proofs.There.{contains_map}
 use Rattle.tier_store.proofs.Three.{same_cases}
 use Rattle.three_stores.specs.Stores.{Stores, list_at, tier}
 use Rattle.three_stores.specs.Seen.{Seen, granularities}
-use Rattle.three_stores.specs.Change.{IsKnownAt, IsKnown, Has, IsOpen, HasEither, EndsFrom}
+use Rattle.three_stores.specs.Change.{IsKnown, Has, IsOpen, HasEither}
 use Rattle.three_stores.specs.Limbo.{IsOfPlace, LimboStands}
-use Rattle.three_stores.specs.Pinned.{SeenAll, IsHeldTo, NoneShorter, IsThereTo, KeepsShown, KeepsFronts}
-use Rattle.three_stores.specs.Revival.{AreWhole, AreInLimbo, FlushesOver, KeepsWhole, flushing_over, store_with}
+use Rattle.three_stores.specs.Pinned.{SeenAll, IsHeldTo, NoneShorter}
+use Rattle.three_stores.specs.Revival.{AreWhole, AreInLimbo, FlushesOver, KeepsWhole, store_with}
 use Rattle.three_stores.specs.declared.limbo.Retired.{Retired}
-use Rattle.three_stores.proofs.Places.{granularity_at, manifest_at, manifest_of, one_manifest, tier_other}
-use Rattle.three_stores.proofs.Showing.{GoesOn, Spares, ends_held, ends_spares, known_spares, name_listed, numbered, settled_held, shown, still_held, still_itself}
+use Rattle.three_stores.proofs.Places.{granularity_at, manifest_at, manifest_of, tier_other}
+use Rattle.three_stores.proofs.Showing.{GoesOn, Spares, settled_held, still_held, still_itself}
 use Rattle.three_stores.proofs.Staying.{as_filed, retired_listed}
 
 -- WHAT IS LISTED
@@ -58,7 +56,7 @@ pub record IsHere (held : Stores) (back : List Filed) (name : Name) (len : ℕ) 
   pub longer : len ≤ file.entry.len
 
 -- such a one isn't listed shorter then, and one of another store stays
-over_spares : (limbo : List Retired) (files : List Filed) (batch : List RowSamples) (held made : Stores) (name : Name) (len : ℕ) (by : FlushesOver limbo files batch held made) → (name.0 ≡ 1 → IsHere held by.back name len) → Spares held name len → Spares made name len
+pub over_spares : (limbo : List Retired) (files : List Filed) (batch : List RowSamples) (held made : Stores) (name : Name) (len : ℕ) (by : FlushesOver limbo files batch held made) → (name.0 ≡ 1 → IsHere held by.back name len) → Spares held name len → Spares made name len
 over_spares limbo files batch held made name len by is_here spares k low = elim (same_cases k 0) [
   | inl is ↦ subst (λ (j : ℕ). NoneShorter (listing_of (tier j made)) name len) (sym is) here
   | inr apart ↦
@@ -102,7 +100,7 @@ place_named i tells at limbo held m here stands has r within number h there same
     same_file m.granularity (i + 1) held.rows h (as_filed r) h_is r_is same ∙ own_name i tells at limbo held stands has r within number
 
 -- what is in limbo of store 1 is here
-is_here : (tells : Bool) (at : Seen) (limbo : List Retired) (files : List Filed) (held : Stores) (m : ManifestState) → slice_get at.manifests 0 ≡ Some m → LimboStands at limbo → Has tells at held → PlacesRise files → (back : List Filed) → AreInLimbo limbo files held back
+pub is_here : (tells : Bool) (at : Seen) (limbo : List Retired) (files : List Filed) (held : Stores) (m : ManifestState) → slice_get at.manifests 0 ≡ Some m → LimboStands at limbo → Has tells at held → PlacesRise files → (back : List Filed) → AreInLimbo limbo files held back
     → (name : Name) (len : ℕ) (r : Retired) → Contains limbo r → r.name ≡ name → len ≤ r.entry.len → Spares held name len → name.0 ≡ 1 → IsHere held back name len
 is_here tells at limbo files held m here stands has rise back in_limbo name len r within named longer spares number =
     let own : r.name.0 ≡ 1 = ap (λ (n : Name). n.0) named ∙ number in
@@ -121,55 +119,6 @@ is_here tells at limbo files held m here stands has rise back in_limbo name len 
           let name_is : file_of (1, held.rows) h.entry ≡ name = place_named 0 tells at limbo held m here stands has r within own h there same ∙ named in
           let le = All-contains (λ (e : Entry). file_of (1, held.rows) e ≡ name → len ≤ e.len) (map entry_of held.short) h.entry (spares 0 (omega arith)) (contains_entry held.short h there) name_is in
           record { file = h; within = listed_stays held.short back h (has.known.each 0 m here).valid.apart in_limbo.unlisted there; named = name_is; longer = le }
-    ]
-
--- SHOWN
-
-pub over_shown : (tells : Bool) (files : List Filed) (batch : List RowSamples) (old new : SeenAll) (end : End ℕ ⊥) → new.limbo ≡ old.limbo → LimboStands old.stores old.limbo → (held : Stores) → Has tells old.stores held → PlacesRise files → EndsFrom tells (flushing_over old.limbo files batch) new.stores held end
-    → (m : ManifestState) → slice_get old.stores.manifests 0 ≡ Some m → (back : List Filed) → AreInLimbo old.limbo files held back → (IsTrue tells → KeepsListed (listing_of (with_files (tier 0 held) back)) old.stores.files new.stores.files)
-    → (IsTrue tells → (n : Name) → n.0 ≢ 1 → n ≢ m.journal.name → new.stores.files n ≡ old.stores.files n) → KeepsShown tells old new
-over_shown tells files batch old new end limbo stands held has rise ends m here back in_limbo keeps elsewhere =
-    shown tells old new limbo (λ name len h. ends_held tells (flushing_over old.limbo files batch) old.stores new.stores held end name len has (λ made by. over_on old.limbo files batch held made by) ends h)
-    (λ name len r. ends_spares tells (flushing_over old.limbo files batch) old.stores new.stores held end name len has
-    (λ made by spares. over_spares old.limbo files batch held made name len by (is_here tells old.stores old.limbo files held m here stands has rise by.back by.in_limbo name len r.file r.within r.named r.longer spares) spares)
-    ends r.no_shorter)
-    fronts
-  where
-    -- another store's file
-    beside_it : IsTrue tells → (name : Name) (len : ℕ) → IsThereTo old name len → name.0 ≢ 1 → Keeps len (old.stores.files name) (new.stores.files name)
-    beside_it told name len there apart front some within begins =
-        let number = numbered old name len there in
-        let zero_store : m.journal.name.0 ≡ 0 = ap (λ (n : Name). n.0) ((has.disk told).each 0 m here).named in
-        subst (Begins front) (sym (elsewhere told name apart (λ is. let at_zero : name.0 ≡ m.journal.name.0 = ap (λ (n : Name). n.0) is in absurd (omega (arith, at_zero, zero_store, number))))) begins
-
-    -- what is here begins as it did
-    keeps_here : IsTrue tells → (name : Name) (len : ℕ) → IsHere held back name len → Keeps len (old.stores.files name) (new.stores.files name)
-    keeps_here told name len h front some within begins =
-        let both = put_all held.short back in
-        let f = h.file in
-        let kept = All-contains (λ (e : Entry). Keeps e.len (old.stores.files (file_of (1, held.rows) e)) (new.stores.files (file_of (1, held.rows) e))) (map entry_of both) f.entry (keeps told) (contains_entry both f h.within) in
-        let longer = h.longer in
-        subst (λ (n : Name). Begins front (new.stores.files n)) h.named (kept front some (omega (arith, within, longer)) (subst (λ (n : Name). Begins front (old.stores.files n)) (sym h.named) begins))
-
-    known : IsKnownAt m (tier 0 held)
-    known = has.known.each 0 m here
-
-    fronts : IsTrue tells → KeepsFronts old new
-    fronts told name len (inr r) = elim (same_cases name.0 1) [
-      | inl number ↦ keeps_here told name len (is_here tells old.stores old.limbo files held m here stands has rise back in_limbo name len r.file r.within r.named r.longer (known_spares old.stores held name len has.known r.no_shorter) number)
-      | inr apart ↦ beside_it told name len (inr r) apart
-    ]
-    fronts told name len (inl h) = elim (same_cases h.place 0) [
-      | inl is ↦
-          let own : h.manifest ≡ m = one_manifest old.stores.manifests 0 h.place m h.manifest is here h.here in
-          let e = h.listed.entry in
-          let listed : Contains m.entries e = subst (λ (x : ManifestState). Contains x.entries e) own h.listed.within in
-          let f = contains_map held.short e (subst (λ (es : List Entry). Contains es e) known.entries listed) in
-          let named : file_of (1, held.rows) e ≡ name = ap (λ (r : List Row). file_of (1, r) e) (sym has.known.rows) ∙ (ap (λ (k : ℕ). file_of (k + 1, old.stores.catalogue.rows) e) (sym is) ∙ h.listed.named) in
-          let longer = h.listed.longer in
-          let len_is = ap (λ (x : Entry). x.len) f.2 in
-          keeps_here told name len (record { file = f.0; within = listed_stays held.short back f.0 known.valid.apart in_limbo.unlisted f.1; named = ap (λ (x : Entry). file_of (1, held.rows) x) f.2 ∙ named; longer = omega (arith, longer, len_is) })
-      | inr apart ↦ beside_it told name len (inl h) (λ is. let number = name_listed old.stores name len h in apart (omega (arith, is, number)))
     ]
 
 -- WHOLE

@@ -1,10 +1,9 @@
 -- What is listed to a length stays listed to it, and keeps its bytes, through the calls that change the stores.
-use Rattle.std.proofs.Common.{◌≡◌, ◌≢◌, ◌⊎◌, inl, inr, false, Bool, ℕ, zero, suc, ◌<◌, ◌≤◌, ◌+◌, ◌++◌, List, [], ◌∷◌, length, map, get_or, Some, Ok, Err, refl, sym, ◌∙◌, ap, subst, arith}
-use Rattle.std.specs.Prelude.{Contains, IsTrue, slice_get, Result, OnOk, OnErr}
+use Rattle.std.proofs.Common.{◌≡◌, ◌≢◌, ◌⊎◌, inl, inr, false, Bool, ℕ, zero, suc, ◌<◌, ◌≤◌, ◌+◌, ◌++◌, List, [], ◌∷◌, length, map, get_or, Some, refl, sym, ◌∙◌, ap, subst, arith}
+use Rattle.std.specs.Prelude.{Contains, IsTrue, slice_get}
 use Rattle.std.proofs.lemmas.List.Elements.{All-contains, Contains-get_or}
 use Rattle.disk_model.specs.Files.{Name, Files}
 use Rattle.disk_model.specs.Past.{Past}
-use Rattle.disk_model.specs.declared.disk.DiskErr.{DiskErr}
 use Rattle.event_types.specs.declared.about.About.{About}
 use Rattle.event_types.specs.declared.about.State.{State}
 use Rattle.pv_catalog.specs.Catalogue.{CatalogueState, registered}
@@ -307,7 +306,7 @@ ends_spares {A} {E} tells call old new held end name len has goes ends short = g
     go Spent now = has_spares tells new held name len now spares
 
 -- rows that go on name no listed file anew
-grown_spares : (at : Seen) (held : Stores) (later : List Row) (name : Name) (len : ℕ) → IsKnown at.catalogue at.manifests held → KeepsRows held.rows later → Spares held name len → Spares (with_rows held later) name len
+pub grown_spares : (at : Seen) (held : Stores) (later : List Row) (name : Name) (len : ℕ) → IsKnown at.catalogue at.manifests held → KeepsRows held.rows later → Spares held name len → Spares (with_rows held later) name len
 grown_spares at held later name len known keeps spares k low j e lt named =
     let m = manifest_at at.manifests k (let three = known.three in omega (arith, low, three)) in
     let f = contains_map (list_at k held) (get_or (map entry_of (list_at k held)) j e) (Contains-get_or (map entry_of (list_at k held)) j e lt) in
@@ -316,12 +315,14 @@ grown_spares at held later name len known keeps spares k low j e lt named =
 
 -- SHOWN
 
+-- files in limbo are the same, and what is listed is so still
+pub there_still : (old new : SeenAll) → new.limbo ≡ old.limbo → ((name : Name) (len : ℕ) → IsHeldTo old.stores name len → IsHeldTo new.stores name len) → ((name : Name) (len : ℕ) → IsRetiredTo old name len → IsNoShorter new.stores name len) → (name : Name) (len : ℕ) → IsThereTo old name len → IsThereTo new name len
+there_still old new limbo held spares name len (inl h) = inl (held name len h)
+there_still old new limbo held spares name len (inr r) = inr (record { file = r.file; within = subst (λ (rs : List Retired). Contains rs r.file) (sym limbo) r.within; named = r.named; longer = r.longer; numbered = r.numbered; no_shorter = spares name len r })
+
 pub shown : (tells : Bool) (old new : SeenAll) → new.limbo ≡ old.limbo → ((name : Name) (len : ℕ) → IsHeldTo old.stores name len → IsHeldTo new.stores name len) → ((name : Name) (len : ℕ) → IsRetiredTo old name len → IsNoShorter new.stores name len) → (IsTrue tells → KeepsFronts old new) → KeepsShown tells old new
 shown tells old new limbo held spares fronts name bytes was = record {
-  held = elim was.held [
-    | inl h ↦ inl (held name (length bytes) h)
-    | inr r ↦ inr (record { file = r.file; within = subst (λ (rs : List Retired). Contains rs r.file) (sym limbo) r.within; named = r.named; longer = r.longer; numbered = r.numbered; no_shorter = spares name (length bytes) r })
-  ];
+  held = there_still old new limbo held spares name (length bytes) was.held;
   some = was.some;
   front = λ told. fronts told name (length bytes) was.held bytes was.some (omega arith) (was.front told);
 }
@@ -337,11 +338,16 @@ pub numbered : (all : SeenAll) (name : Name) (len : ℕ) → IsThereTo all name 
 numbered all name len (inl h) = let number = name_listed all.stores name len h in omega (arith, number)
 numbered all name len (inr r) = r.numbered
 
+-- it is no journal's
+pub not_journal : (all : SeenAll) (journal : Name) → journal.0 ≡ 0 → (name : Name) (len : ℕ) → IsThereTo all name len → name ≢ journal
+not_journal all journal zero_store name len there is =
+    let number = numbered all name len there in
+    let at_zero : name.0 ≡ journal.0 = ap (λ (n : Name). n.0) is in
+    omega (arith, at_zero, zero_store, number)
+
 -- calls that leave all names but one of store 0 as they were
 pub fronts_beside : (old new : SeenAll) (journal : Name) → journal.0 ≡ 0 → ((n : Name) → n ≢ journal → new.stores.files n ≡ old.stores.files n) → KeepsFronts old new
-fronts_beside old new journal zero_store same name len held front some within begins =
-    let number = numbered old name len held in
-    subst (Begins front) (sym (same name (λ is. let at_zero : name.0 ≡ journal.0 = ap (λ (n : Name). n.0) is in absurd (omega (arith, at_zero, zero_store, number))))) begins
+fronts_beside old new journal zero_store same name len held front some within begins = subst (Begins front) (sym (same name (not_journal old journal zero_store name len held))) begins
 
 -- the memory is the same
 pub held_same : {S : Type 0} (files_of : S → Files) (opened_of : S → Name → ℕ) (past_of : S → Past) (faults_of : S → ℕ) (c : CatalogueState) (ms : List ManifestState) (d after : S) (name : Name) (len : ℕ) → IsHeldTo (seen_on files_of opened_of past_of faults_of c ms d) name len → IsHeldTo (seen_on files_of opened_of past_of faults_of c ms after) name len
@@ -361,17 +367,6 @@ read_shown {S} files_of opened_of past_of faults_of tells c ms limbo d after sam
 
 -- THE CALLS
 
--- the settling of a doubt
-pub review_shown : {B : Type 0} (tells : Bool) (old new : SeenAll) (r : Result B DiskErr) → new.limbo ≡ old.limbo → (before : Stores) × (after : Stores) × IsOpen tells old.stores before after → ((x y : Stores) → IsOpen tells old.stores x y → OnOk r (HasEither tells new.stores x y)) → ((x y : Stores) → IsOpen tells old.stores x y → OnErr r (IsOpen tells new.stores x y))
-    → (IsTrue tells → new.stores.files ≡ old.stores.files) → KeepsShown tells old new
-review_shown {B} tells old new r limbo begun settled still same = go r settled still
-  where
-    go : (r : Result B DiskErr) → ((x y : Stores) → IsOpen tells old.stores x y → OnOk r (HasEither tells new.stores x y)) → ((x y : Stores) → IsOpen tells old.stores x y → OnErr r (IsOpen tells new.stores x y)) → KeepsShown tells old new
-    go (Ok a) settled still =
-        shown tells old new limbo (λ name len h. settled_held tells old.stores new.stores begun.0 begun.1 name len begun.2 settled h) (λ name len r. settled_spares tells old.stores new.stores begun.0 begun.1 name len begun.2 settled r.no_shorter) (λ told. fronts_same old new (same told))
-    go (Err e) settled still =
-        shown tells old new limbo (λ name len h. still_held tells old.stores new.stores begun.0 begun.1 name len begun.2 still h) (λ name len r. still_spares tells old.stores new.stores begun.0 begun.1 name len begun.2 still r.no_shorter) (λ told. fronts_same old new (same told))
-
 -- rows that a change leaves go on
 pub rows_keep : {A E : Type 0} (tells : Bool) (call : Call A E) (old new : Seen) (end : End A E) → (held : Stores) × Has tells old held → ((held made : Stores) → call.by held made → (made ≡ with_rows held made.rows) × KeepsRows held.rows made.rows) → Changes tells call old new end → KeepsRows old.catalogue.rows new.catalogue.rows
 rows_keep {A} {E} tells call old new end has goes change = go end (change.ends has.0 has.1)
@@ -385,16 +380,6 @@ rows_keep {A} {E} tells call old new end has goes change = go end (change.ends h
     go Failed (inl now) = same has.0 now.known.rows (keeps_same has.0.rows)
     go Failed (inr (made, by, doubt)) = same has.0 doubt.known.rows (keeps_same has.0.rows)
     go Spent now = same has.0 now.known.rows (keeps_same has.0.rows)
-
--- a change of the rows, which go on
-pub rows_shown : {A E : Type 0} (tells : Bool) (call : Call A E) (old new : SeenAll) (end : End A E) → new.limbo ≡ old.limbo → (held : Stores) × Has tells old.stores held → ((held made : Stores) → call.by held made → (made ≡ with_rows held made.rows) × KeepsRows held.rows made.rows) → Changes tells call old.stores new.stores end
-    → (IsTrue tells → (n : Name) → n ≢ old.stores.catalogue.journal.name → new.stores.files n ≡ old.stores.files n) → KeepsShown tells old new
-rows_shown {A} {E} tells call old new end limbo has goes change elsewhere =
-    shown tells old new limbo (λ name len h. ends_held tells call old.stores new.stores has.0 end name len has.1 (λ made by. inr (goes has.0 made by)) (change.ends has.0 has.1) h)
-    (λ name len r. ends_spares tells call old.stores new.stores has.0 end name len has.1
-    (λ made by spares. let on = goes has.0 made by in subst (λ (s : Stores). Spares s name len) (sym on.0) (grown_spares old.stores has.0 made.rows name len has.1.known on.1 spares))
-    (change.ends has.0 has.1) r.no_shorter)
-    (λ told. fronts_beside old new old.stores.catalogue.journal.name (ap (λ (n : Name). n.0) (has.1.disk told).rows.named) (elsewhere told))
 
 pub registers_on : (name : List ℕ) (about : About) (held made : Stores) → Registers name about held made → (made ≡ with_rows held made.rows) × KeepsRows held.rows made.rows
 registers_on name about held made by =

@@ -4,6 +4,7 @@ use Rattle.std.specs.FinMap.{FinMap, get}
 use Rattle.std.specs.Ordering.{nat_cmp}
 use Rattle.std.specs.Prelude.{◌≡◌, ◌≢◌, ◌⊎◌, ◌≤◌, ◌+◌, ℕ, Bool, List, All, Contains, length, IsTrue, Some, slice_get, false}
 use Rattle.disk_model.specs.Files.{Name}
+use Rattle.disk_model.specs.Past.{Passes}
 use Rattle.disk_model.specs.declared.disk.Disk.{Ghosts}
 use Rattle.pinned_pieces.specs.Pieces.{PinOf}
 use Rattle.pinned_pieces.specs.declared.piece.PinnedFile.{PinnedFile}
@@ -82,6 +83,13 @@ KeepsShown tells old new = (name : Name) (bytes : List ℕ) → Shows tells old 
 -- the bytes of all files that are listed or in limbo are what they were
 abbrev pub KeepsFronts : SeenAll → SeenAll → Type 0
 KeepsFronts old new = (name : Name) (len : ℕ) → IsThereTo old name len → Keeps len (old.stores.files name) (new.stores.files name)
+
+-- What a call leaves of the files that are listed or in limbo, whatever is in them: they are so still, to the same lengths, and reads give what
+-- they gave of them so far. Whatever a crash at any moment of the call leaves of those of one store is what a crash before it might have left.
+pub record LeavesFronts (tells : Bool) (old new : SeenAll) : Type 0 where
+  pub there : (name : Name) (len : ℕ) → IsThereTo old name len → IsThereTo new name len
+  pub now : IsTrue tells → KeepsFronts old new
+  pub any_moment : IsTrue tells → (store : ℕ) → 1 ≤ store → Passes (λ a b. (name : Name) (len : ℕ) → name.0 ≡ store → IsThereTo old name len → Keeps len (a name) (b name)) old.stores.past new.stores.past
 
 -- bytes that a piece may have: as many as were pinned, which are shown
 pub record IsShown (tells : Bool) (all : SeenAll) (piece : PinnedFile) : Type 0 where

@@ -10,7 +10,7 @@ ghost use Rattle.three_stores.specs.Seen.{seen, IsSettled};
 ghost use Rattle.tier_store.specs.Ends.{end_of_register, end_of_switch};
 ghost use Rattle.three_stores.specs.Change.{Has, IsOpen, Changes, Acts, registering, pausing, resuming};
 ghost use Rattle.three_stores.specs.Moving.{LeavesLater};
-ghost use Rattle.three_stores.specs.Pinned.{seen_all, KeepsShown};
+ghost use Rattle.three_stores.specs.Pinned.{seen_all, KeepsShown, LeavesFronts};
 ghost use Rattle.three_stores.specs.Revival.{KeepsWhole};
 
 use crate::TierStore;
@@ -24,6 +24,7 @@ impl<D: Disk> TierStore<D> {
         requires has { (held : Stores) × Has D.tells (seen D.Disk self.old) held }
         ensures changes { Changes D.tells (registering name.now about.now) (seen D.Disk self.old) (seen D.Disk self.new) (end_of_register result) }
         ensures shown { KeepsShown D.tells (seen_all D.Disk self.old) (seen_all D.Disk self.new) }
+        ensures fronts { LeavesFronts D.tells (seen_all D.Disk self.old) (seen_all D.Disk self.new) }
         ensures leaves { LeavesLater D.tells (seen_all D.Disk self.old) (seen_all D.Disk self.new) }
         ensures whole { KeepsWhole D.tells (seen_all D.Disk self.old) (seen_all D.Disk self.new) }
         ensures keeps { KeepsRows self.old.catalogue.rows self.new.catalogue.rows }
@@ -39,6 +40,7 @@ impl<D: Disk> TierStore<D> {
         requires has { (held : Stores) × Has D.tells (seen D.Disk self.old) held }
         ensures changes { Changes D.tells (pausing row) (seen D.Disk self.old) (seen D.Disk self.new) (end_of_switch result) }
         ensures shown { KeepsShown D.tells (seen_all D.Disk self.old) (seen_all D.Disk self.new) }
+        ensures fronts { LeavesFronts D.tells (seen_all D.Disk self.old) (seen_all D.Disk self.new) }
         ensures leaves { LeavesLater D.tells (seen_all D.Disk self.old) (seen_all D.Disk self.new) }
         ensures whole { KeepsWhole D.tells (seen_all D.Disk self.old) (seen_all D.Disk self.new) }
         ensures keeps { KeepsRows self.old.catalogue.rows self.new.catalogue.rows }
@@ -53,6 +55,7 @@ impl<D: Disk> TierStore<D> {
         requires has { (held : Stores) × Has D.tells (seen D.Disk self.old) held }
         ensures changes { Changes D.tells (resuming row) (seen D.Disk self.old) (seen D.Disk self.new) (end_of_switch result) }
         ensures shown { KeepsShown D.tells (seen_all D.Disk self.old) (seen_all D.Disk self.new) }
+        ensures fronts { LeavesFronts D.tells (seen_all D.Disk self.old) (seen_all D.Disk self.new) }
         ensures leaves { LeavesLater D.tells (seen_all D.Disk self.old) (seen_all D.Disk self.new) }
         ensures whole { KeepsWhole D.tells (seen_all D.Disk self.old) (seen_all D.Disk self.new) }
         ensures keeps { KeepsRows self.old.catalogue.rows self.new.catalogue.rows }
@@ -73,6 +76,7 @@ impl<D: Disk> TierStore<D> {
 
         ensures acts { Acts D.tells (registering name.now about.now) (seen D.Disk self.old) (seen D.Disk self.new) (end_of_register result) }
         ensures shown { KeepsShown D.tells (seen_all D.Disk self.old) (seen_all D.Disk self.new) }
+        ensures fronts { LeavesFronts D.tells (seen_all D.Disk self.old) (seen_all D.Disk self.new) }
         ensures leaves { LeavesLater D.tells (seen_all D.Disk self.old) (seen_all D.Disk self.new) }
         ensures whole { KeepsWhole D.tells (seen_all D.Disk self.old) (seen_all D.Disk self.new) }
         ensures keeps { KeepsRows self.old.catalogue.rows self.new.catalogue.rows }
@@ -93,6 +97,7 @@ impl<D: Disk> TierStore<D> {
 
         ensures acts { Acts D.tells (pausing row) (seen D.Disk self.old) (seen D.Disk self.new) (end_of_switch result) }
         ensures shown { KeepsShown D.tells (seen_all D.Disk self.old) (seen_all D.Disk self.new) }
+        ensures fronts { LeavesFronts D.tells (seen_all D.Disk self.old) (seen_all D.Disk self.new) }
         ensures leaves { LeavesLater D.tells (seen_all D.Disk self.old) (seen_all D.Disk self.new) }
         ensures whole { KeepsWhole D.tells (seen_all D.Disk self.old) (seen_all D.Disk self.new) }
         ensures keeps { KeepsRows self.old.catalogue.rows self.new.catalogue.rows }
@@ -111,6 +116,7 @@ impl<D: Disk> TierStore<D> {
 
         ensures acts { Acts D.tells (resuming row) (seen D.Disk self.old) (seen D.Disk self.new) (end_of_switch result) }
         ensures shown { KeepsShown D.tells (seen_all D.Disk self.old) (seen_all D.Disk self.new) }
+        ensures fronts { LeavesFronts D.tells (seen_all D.Disk self.old) (seen_all D.Disk self.new) }
         ensures leaves { LeavesLater D.tells (seen_all D.Disk self.old) (seen_all D.Disk self.new) }
         ensures whole { KeepsWhole D.tells (seen_all D.Disk self.old) (seen_all D.Disk self.new) }
         ensures keeps { KeepsRows self.old.catalogue.rows self.new.catalogue.rows }

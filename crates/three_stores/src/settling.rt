@@ -7,7 +7,7 @@ ghost use Rattle.three_stores.specs.Stores.{Stores};
 ghost use Rattle.three_stores.specs.Seen.{seen, AtEach, IsSettled, granularities};
 ghost use Rattle.three_stores.specs.Change.{IsOpen, HasEither, OnlyReads};
 ghost use Rattle.three_stores.specs.Moving.{LeavesLater};
-ghost use Rattle.three_stores.specs.Pinned.{seen_all, KeepsShown};
+ghost use Rattle.three_stores.specs.Pinned.{seen_all, KeepsShown, LeavesFronts};
 ghost use Rattle.three_stores.specs.Revival.{KeepsWhole};
 
 use crate::TierStore;
@@ -73,6 +73,7 @@ impl<D: Disk> TierStore<D> {
         ensures granularity { granularities self.new.manifests.items ≡ granularities self.old.manifests.items }
         ensures rows { IsTrue self.old.catalogue.journal.sound → self.new.catalogue ≡ self.old.catalogue }
         ensures shown { KeepsShown D.tells (seen_all D.Disk self.old) (seen_all D.Disk self.new) }
+        ensures fronts { LeavesFronts D.tells (seen_all D.Disk self.old) (seen_all D.Disk self.new) }
         ensures pins { self.new.pinned ≡ self.old.pinned }
         ensures limbo { self.new.limbo ≡ self.old.limbo }
         ensures nothing { IsSettled (seen D.Disk self.old) → (result ≡ Ok tt) × (self.new ≡ self.old) }

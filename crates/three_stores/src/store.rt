@@ -11,7 +11,7 @@ ghost use Rattle.three_stores.specs.Given.{ChangesGiven, ActsGiven};
 ghost use Rattle.three_stores.specs.Limbo.{LimboStands};
 ghost use Rattle.three_stores.specs.Moving.{LeavesLater};
 ghost use Rattle.three_stores.specs.Revival.{AreWhole, KeepsWhole, flushing_over};
-ghost use Rattle.three_stores.specs.Pinned.{seen_all, KeepsShown};
+ghost use Rattle.three_stores.specs.Pinned.{seen_all, KeepsShown, LeavesFronts};
 ghost use Rattle.std.specs.FinMap as map;
 
 use crate::limbo::{Retired, unlisted_entries};
@@ -110,6 +110,7 @@ impl<D: Disk> TierStore<D> {
         ensures changes { (files : List Filed) → ChangesGiven (λ held. AreWhole 0 D.tells (seen D.Disk self.old) self.old.limbo.items held.stands files) D.tells (flushing_over self.old.limbo.items files batch.now) (seen D.Disk self.old) (seen D.Disk self.new) (end_of_disk result) }
         ensures catalogue { self.new.catalogue ≡ self.old.catalogue }
         ensures shown { KeepsShown D.tells (seen_all D.Disk self.old) (seen_all D.Disk self.new) }
+        ensures fronts { LeavesFronts D.tells (seen_all D.Disk self.old) (seen_all D.Disk self.new) }
         ensures leaves { LeavesLater D.tells (seen_all D.Disk self.old) (seen_all D.Disk self.new) }
         ensures whole { KeepsWhole D.tells (seen_all D.Disk self.old) (seen_all D.Disk self.new) }
         ensures pins { self.new.pinned ≡ self.old.pinned }
@@ -149,6 +150,7 @@ impl<D: Disk> TierStore<D> {
         ensures keeps { KeepsRows self.old.catalogue.rows self.new.catalogue.rows }
         ensures settled { IsTrue self.old.catalogue.journal.sound → self.new.catalogue ≡ self.old.catalogue }
         ensures shown { KeepsShown D.tells (seen_all D.Disk self.old) (seen_all D.Disk self.new) }
+        ensures fronts { LeavesFronts D.tells (seen_all D.Disk self.old) (seen_all D.Disk self.new) }
         ensures leaves { LeavesLater D.tells (seen_all D.Disk self.old) (seen_all D.Disk self.new) }
         ensures whole { KeepsWhole D.tells (seen_all D.Disk self.old) (seen_all D.Disk self.new) }
         ensures pins { self.new.pinned ≡ self.old.pinned }

@@ -10,6 +10,7 @@ use Rattle.three_stores.specs.Stores.{Stores}
 use Rattle.three_stores.specs.Given.{ChangesGiven}
 use Rattle.three_stores.specs.declared.limbo.Retired.{Retired}
 use Rattle.three_stores.proofs.Acting.{cut_given, has_one_given, then_given}
+use Rattle.three_stores.proofs.LeavingFronts.{fronts_on}
 use Rattle.three_stores.proofs.LeavingNames.{leaves_then}
 use Rattle.three_stores.proofs.RevivalShown.{settled_whole, still_whole}
 use Rattle.three_stores.proofs.Staying.{limbo_kept}
@@ -69,6 +70,9 @@ returns-clause-acts g c files =
     (λ s p. settled_whole disk.tells before between limbo was.0 was.1 was.3 settled says.keeps says.granularity says.reads.files says.opened says.reads.any_moment 0 s.stands files (omega arith) p)
     settled (λ held has. rw (says.nothing has.settled).1 has) says.granularity says.reads
     (subst (λ (l : List Retired). ChangesGiven (λ s. AreWhole 0 disk.tells between l s.stands files) disk.tells (flushing_over l files c.args.batch.now) between after (end_of_disk c.flush_batch.result)) (ap (λ l. l.items) says.limbo) (c.flush_batch.ensures.changes files))
+
+pub returns-clause-fronts : goal.returns-clause-fronts
+returns-clause-fronts g c = fronts_on g.D.Disk.tells _ _ _ c.review.ensures.fronts c.flush_batch.ensures.fronts
 
 pub returns-clause-shown : goal.returns-clause-shown
 returns-clause-shown g c name bytes was =

@@ -15,10 +15,11 @@ use Rattle.three_stores.specs.Seen.{seen_on}
 use Rattle.three_stores.specs.Change.{Changes}
 use Rattle.three_stores.proofs.Acting.{changes_given, nothing_changes}
 use Rattle.three_stores.proofs.FlushCall.{planned, on_store}
+use Rattle.three_stores.proofs.LeavingFronts.{fronts_shown, nothing_fronts, over_fronts}
 use Rattle.three_stores.proofs.LeavingNames.{first_leaves, nothing_leaves}
 use Rattle.three_stores.proofs.Places.{manifest_here, one_manifest, first_of_three, same_granularities}
 use Rattle.three_stores.proofs.RevivalCall.{is_ahead, limbo_parts, listed_as, over_cut, over_done, to}
-use Rattle.three_stores.proofs.RevivalShown.{over_on, over_shown}
+use Rattle.three_stores.proofs.RevivalShown.{over_on}
 use Rattle.three_stores.proofs.RevivalWhole.{whole_left}
 use Rattle.three_stores.proofs.Showing.{ends_held}
 use Rattle.three_stores.proofs.WholeCalls.{first_whole}
@@ -121,8 +122,8 @@ returns-clause-changes g c files =
     says.state.0 says.any_moment (λ tells. on_store g.D.Disk.tells _ was.0 0 c.index_mut.result.now here was.2 tells _ _ _ (says.frame tells) (says.elsewhere tells) (says.no_more tells)) says.faults
     c.in_ok-flush_pieces.ensures.entries c.in_ok-flush_pieces.ensures.sound c.in_ok-flush_pieces.ensures.made
 
-pub returns-in_err-flush_pieces-clause-shown : goal.returns-in_err-flush_pieces-clause-shown
-returns-in_err-flush_pieces-clause-shown g c =
+pub returns-in_err-flush_pieces-clause-fronts : goal.returns-in_err-flush_pieces-clause-fronts
+returns-in_err-flush_pieces-clause-fronts g c =
     let self = c.args.self.now in
     let was = c.requires.has in
     let ms = self.manifests.items in
@@ -130,20 +131,32 @@ returns-in_err-flush_pieces-clause-shown g c =
     let here = manifest_here ms 0 c.index_mut.result.now c.index_mut.ensures.value low in
     let flushes = planned ms c.index.result.now c.index_mut.result.now (manifest_here ms 0 c.index.result.now c.index.ensures low) here _ _ c.args.batch.now _ _ c.in_ok-plan.ensures.flushes in
     let t = to g.D.Disk.files g.D.Disk.opened g.D.Disk.past g.D.Disk.faults g.D.Disk.tells self.catalogue ms c.index_mut.result.now c.index_mut.result.now here self.disk self.disk _ c.rows-rows.ensures.value c.args.batch.now _ _ c.deref-4.ensures.value _ self.limbo.items c.requires.stands c.deref-3.result.now (λ held known. listed_as ms c.deref.result.now self.limbo.items c.deref-2.result.now c.in_ok-limbo.limbo.items c.deref-3.result.now c.deref.ensures.value c.deref-2.ensures.value c.deref-3.ensures.value c.in_ok-limbo.ensures (lists_in_order self.catalogue ms held known)) was.1 flushes was.0 was.3 was.2 in
-    over_shown g.D.Disk.tells was.1 c.args.batch.now _ _ (end_of_disk c.from_residual-in_err-flush_pieces.result) refl c.requires.stands was.0 was.2 was.3.rise ((returns-in_err-flush_pieces-clause-changes g c was.1).ends was.0 was.2 was.3) c.index_mut.result.now here t.by.back t.by.in_limbo
-    (λ tells. (c.flush_pieces.ensures.ahead tells self.catalogue.journal (tier 0 was.0) (with_files (tier 0 was.0) t.by.back) t.filed (is_ahead g.D.Disk.files g.D.Disk.opened g.D.Disk.past g.D.Disk.faults g.D.Disk.tells self.catalogue ms c.index_mut.result.now c.index_mut.result.now here self.disk self.disk _ c.rows-rows.ensures.value c.args.batch.now _ _ c.deref-4.ensures.value _ self.limbo.items c.requires.stands c.deref-3.result.now (λ held known. listed_as ms c.deref.result.now self.limbo.items c.deref-2.result.now c.in_ok-limbo.limbo.items c.deref-3.result.now c.deref.ensures.value c.deref-2.ensures.value c.deref-3.ensures.value c.in_ok-limbo.ensures (lists_in_order self.catalogue ms held known)) was.1 flushes was.0 was.3 was.2 tells) t.makes).now) c.flush_pieces.ensures.elsewhere
+    over_fronts g.D.Disk.tells was.1 c.args.batch.now _ _ (end_of_disk c.from_residual-in_err-flush_pieces.result) refl c.requires.stands was.0 was.2 was.3.rise ((returns-in_err-flush_pieces-clause-changes g c was.1).ends was.0 was.2 was.3) c.index_mut.result.now here t.by.back t.by.in_limbo
+    (λ tells. c.flush_pieces.ensures.ahead tells self.catalogue.journal (tier 0 was.0) (with_files (tier 0 was.0) t.by.back) t.filed (is_ahead g.D.Disk.files g.D.Disk.opened g.D.Disk.past g.D.Disk.faults g.D.Disk.tells self.catalogue ms c.index_mut.result.now c.index_mut.result.now here self.disk self.disk _ c.rows-rows.ensures.value c.args.batch.now _ _ c.deref-4.ensures.value _ self.limbo.items c.requires.stands c.deref-3.result.now (λ held known. listed_as ms c.deref.result.now self.limbo.items c.deref-2.result.now c.in_ok-limbo.limbo.items c.deref-3.result.now c.deref.ensures.value c.deref-2.ensures.value c.deref-3.ensures.value c.in_ok-limbo.ensures (lists_in_order self.catalogue ms held known)) was.1 flushes was.0 was.3 was.2 tells) t.makes) c.flush_pieces.ensures.elsewhere c.flush_pieces.ensures.frame
+
+pub returns-in_err-flush_pieces-clause-shown : goal.returns-in_err-flush_pieces-clause-shown
+returns-in_err-flush_pieces-clause-shown g c = fronts_shown g.D.Disk.tells _ _ (returns-in_err-flush_pieces-clause-fronts g c)
+
+pub returns-clause-fronts : goal.returns-clause-fronts
+returns-clause-fronts g c =
+    let self = c.args.self.now in
+    let was = c.requires.has in
+    let ms = self.manifests.items in
+    let low = first_of_three ms was.2.known.three in
+    let here = manifest_here ms 0 c.index_mut.result.now c.index_mut.ensures.value low in
+    let flushes = planned ms c.index.result.now c.index_mut.result.now (manifest_here ms 0 c.index.result.now c.index.ensures low) here _ _ c.args.batch.now _ _ c.in_ok-plan.ensures.flushes in
+    let t = to g.D.Disk.files g.D.Disk.opened g.D.Disk.past g.D.Disk.faults g.D.Disk.tells self.catalogue ms c.index_mut.result.now c.index_mut.result.now here self.disk self.disk _ c.rows-rows.ensures.value c.args.batch.now _ _ c.deref-4.ensures.value _ self.limbo.items c.requires.stands c.deref-3.result.now (λ held known. listed_as ms c.deref.result.now self.limbo.items c.deref-2.result.now c.in_ok-limbo.limbo.items c.deref-3.result.now c.deref.ensures.value c.deref-2.ensures.value c.deref-3.ensures.value c.in_ok-limbo.ensures (lists_in_order self.catalogue ms held known)) was.1 flushes was.0 was.3 was.2 in
+    over_fronts g.D.Disk.tells was.1 c.args.batch.now _ _ (Done c.in_ok-plan.plan.count) refl c.requires.stands was.0 was.2 was.3.rise ((returns-clause-changes g c was.1).ends was.0 was.2 was.3) c.index_mut.result.now here t.by.back t.by.in_limbo
+    (λ tells. c.flush_pieces.ensures.ahead tells self.catalogue.journal (tier 0 was.0) (with_files (tier 0 was.0) t.by.back) t.filed (is_ahead g.D.Disk.files g.D.Disk.opened g.D.Disk.past g.D.Disk.faults g.D.Disk.tells self.catalogue ms c.index_mut.result.now c.index_mut.result.now here self.disk self.disk _ c.rows-rows.ensures.value c.args.batch.now _ _ c.deref-4.ensures.value _ self.limbo.items c.requires.stands c.deref-3.result.now (λ held known. listed_as ms c.deref.result.now self.limbo.items c.deref-2.result.now c.in_ok-limbo.limbo.items c.deref-3.result.now c.deref.ensures.value c.deref-2.ensures.value c.deref-3.ensures.value c.in_ok-limbo.ensures (lists_in_order self.catalogue ms held known)) was.1 flushes was.0 was.3 was.2 tells) t.makes) c.flush_pieces.ensures.elsewhere c.flush_pieces.ensures.frame
 
 pub returns-clause-shown : goal.returns-clause-shown
-returns-clause-shown g c =
-    let self = c.args.self.now in
-    let was = c.requires.has in
-    let ms = self.manifests.items in
-    let low = first_of_three ms was.2.known.three in
-    let here = manifest_here ms 0 c.index_mut.result.now c.index_mut.ensures.value low in
-    let flushes = planned ms c.index.result.now c.index_mut.result.now (manifest_here ms 0 c.index.result.now c.index.ensures low) here _ _ c.args.batch.now _ _ c.in_ok-plan.ensures.flushes in
-    let t = to g.D.Disk.files g.D.Disk.opened g.D.Disk.past g.D.Disk.faults g.D.Disk.tells self.catalogue ms c.index_mut.result.now c.index_mut.result.now here self.disk self.disk _ c.rows-rows.ensures.value c.args.batch.now _ _ c.deref-4.ensures.value _ self.limbo.items c.requires.stands c.deref-3.result.now (λ held known. listed_as ms c.deref.result.now self.limbo.items c.deref-2.result.now c.in_ok-limbo.limbo.items c.deref-3.result.now c.deref.ensures.value c.deref-2.ensures.value c.deref-3.ensures.value c.in_ok-limbo.ensures (lists_in_order self.catalogue ms held known)) was.1 flushes was.0 was.3 was.2 in
-    over_shown g.D.Disk.tells was.1 c.args.batch.now _ _ (Done c.in_ok-plan.plan.count) refl c.requires.stands was.0 was.2 was.3.rise ((returns-clause-changes g c was.1).ends was.0 was.2 was.3) c.index_mut.result.now here t.by.back t.by.in_limbo
-    (λ tells. (c.flush_pieces.ensures.ahead tells self.catalogue.journal (tier 0 was.0) (with_files (tier 0 was.0) t.by.back) t.filed (is_ahead g.D.Disk.files g.D.Disk.opened g.D.Disk.past g.D.Disk.faults g.D.Disk.tells self.catalogue ms c.index_mut.result.now c.index_mut.result.now here self.disk self.disk _ c.rows-rows.ensures.value c.args.batch.now _ _ c.deref-4.ensures.value _ self.limbo.items c.requires.stands c.deref-3.result.now (λ held known. listed_as ms c.deref.result.now self.limbo.items c.deref-2.result.now c.in_ok-limbo.limbo.items c.deref-3.result.now c.deref.ensures.value c.deref-2.ensures.value c.deref-3.ensures.value c.in_ok-limbo.ensures (lists_in_order self.catalogue ms held known)) was.1 flushes was.0 was.3 was.2 tells) t.makes).now) c.flush_pieces.ensures.elsewhere
+returns-clause-shown g c = fronts_shown g.D.Disk.tells _ _ (returns-clause-fronts g c)
+
+pub returns-in_err-limbo-clause-fronts : goal.returns-in_err-limbo-clause-fronts
+returns-in_err-limbo-clause-fronts g c = nothing_fronts g.D.Disk.tells _
+
+pub returns-in_err-plan-clause-fronts : goal.returns-in_err-plan-clause-fronts
+returns-in_err-plan-clause-fronts g c = nothing_fronts g.D.Disk.tells _
 
 pub returns-in_err-limbo-clause-leaves : goal.returns-in_err-limbo-clause-leaves
 returns-in_err-limbo-clause-leaves g c = nothing_leaves g.D.Disk.tells _

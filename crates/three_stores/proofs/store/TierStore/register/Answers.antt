@@ -5,6 +5,7 @@ use Rattle.pv_catalog.specs.declared.error.RegisterErr.{RegisterErr}
 use Rattle.tier_store.specs.Ends.{end_of_disk, end_of_register}
 use Rattle.three_stores.specs.Change.{registering}
 use Rattle.three_stores.proofs.Acting.{has_one, cut_acts, then_acts}
+use Rattle.three_stores.proofs.LeavingFronts.{fronts_on}
 use Rattle.three_stores.proofs.LeavingNames.{leaves_then}
 use Rattle.three_stores.proofs.WholeCalls.{whole_then}
 use Rattle.three_stores.proofs.store.TierStore.register.Goals as goal
@@ -23,6 +24,9 @@ returns-clause-acts g c = then_acts g.D.Disk.tells (registering c.args.name.now 
 pub returns-clause-exactly : goal.returns-clause-exactly
 returns-clause-exactly g c settled e refuses =
     c.register_row.ensures.exactly e (subst (λ (s : CatalogueState). Refuses s.rows c.args.name.now e) (ap (λ s. s.catalogue) (sym (c.review.ensures.nothing settled).1)) refuses)
+
+pub returns-clause-fronts : goal.returns-clause-fronts
+returns-clause-fronts g c = fronts_on g.D.Disk.tells _ _ _ c.review.ensures.fronts c.register_row.ensures.fronts
 
 pub returns-clause-shown : goal.returns-clause-shown
 returns-clause-shown g c name bytes was = c.register_row.ensures.shown name bytes (c.review.ensures.shown name bytes was)

@@ -3,7 +3,8 @@ use Rattle.disk_model.specs.Files.{Name}
 use Rattle.tier_store.specs.Ends.{end_of_register}
 use Rattle.three_stores.specs.Change.{registering}
 use Rattle.three_stores.proofs.RowCalls.{register_changes}
-use Rattle.three_stores.proofs.Showing.{rows_shown, rows_keep, registers_on}
+use Rattle.three_stores.proofs.Showing.{rows_keep, registers_on}
+use Rattle.three_stores.proofs.LeavingFronts.{fronts_shown, rows_fronts}
 use Rattle.three_stores.proofs.LeavingNames.{commit_leaves, commit_leaves_files}
 use Rattle.three_stores.proofs.WholeCalls.{rows_whole}
 use Rattle.three_stores.proofs.store.TierStore.register_row.Goals as goal
@@ -15,8 +16,13 @@ returns-clause-changes g c =
     register_changes g.D.Disk.files g.D.Disk.opened g.D.Disk.past g.D.Disk.faults g.D.Disk.tells self.catalogue c.register.new.self self.manifests.items self.disk c.register.new.disk c.args.name.now c.args.about.now c.register.result
     says.name says.any_moment says.elsewhere says.opened says.faults says.id says.rows says.sound says.stored says.refusal says.exactly says.unchanged says.kept says.doubt says.next says.fault says.memory
 
+pub returns-clause-fronts : goal.returns-clause-fronts
+returns-clause-fronts g c =
+    let says = c.register.ensures in
+    rows_fronts g.D.Disk.tells (registering c.args.name.now c.args.about.now) _ _ (end_of_register c.register.result) _ refl c.requires.has (registers_on c.args.name.now c.args.about.now) (returns-clause-changes g c) says.elsewhere says.any_moment
+
 pub returns-clause-shown : goal.returns-clause-shown
-returns-clause-shown g c = rows_shown g.D.Disk.tells (registering c.args.name.now c.args.about.now) _ _ (end_of_register c.register.result) refl c.requires.has (registers_on c.args.name.now c.args.about.now) (returns-clause-changes g c) c.register.ensures.elsewhere
+returns-clause-shown g c = fronts_shown g.D.Disk.tells _ _ (returns-clause-fronts g c)
 
 pub returns-clause-keeps : goal.returns-clause-keeps
 returns-clause-keeps g c = rows_keep g.D.Disk.tells (registering c.args.name.now c.args.about.now) _ _ (end_of_register c.register.result) c.requires.has (registers_on c.args.name.now c.args.about.now) (returns-clause-changes g c)

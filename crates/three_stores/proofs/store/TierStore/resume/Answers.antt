@@ -5,6 +5,7 @@ use Rattle.tier_store.specs.Ends.{end_of_disk, end_of_switch}
 use Rattle.three_stores.specs.Change.{resuming}
 use Rattle.tier_store.proofs.BatchCalls.{still_within}
 use Rattle.three_stores.proofs.Acting.{has_one, cut_acts, then_acts}
+use Rattle.three_stores.proofs.LeavingFronts.{fronts_on}
 use Rattle.three_stores.proofs.LeavingNames.{leaves_then}
 use Rattle.three_stores.proofs.WholeCalls.{whole_then}
 use Rattle.three_stores.proofs.store.TierStore.resume.Goals as goal
@@ -22,6 +23,9 @@ returns-in_err-review-clause-acts g c =
 
 pub returns-clause-acts : goal.returns-clause-acts
 returns-clause-acts g c = then_acts g.D.Disk.tells (resuming c.args.row) _ _ _ (end_of_disk c.review.result) _ c.in_ok-review.ensures.settled (λ held has. rw (c.review.ensures.nothing has.settled).1 has) c.review.ensures.granularity c.review.ensures.reads c.resume_row.ensures.changes
+
+pub returns-clause-fronts : goal.returns-clause-fronts
+returns-clause-fronts g c = fronts_on g.D.Disk.tells _ _ _ c.review.ensures.fronts c.resume_row.ensures.fronts
 
 pub returns-clause-shown : goal.returns-clause-shown
 returns-clause-shown g c name bytes was = c.resume_row.ensures.shown name bytes (c.review.ensures.shown name bytes was)

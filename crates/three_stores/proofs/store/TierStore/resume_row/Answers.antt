@@ -4,7 +4,8 @@ use Rattle.event_types.specs.declared.about.State.TheVariants.{Running, Paused}
 use Rattle.tier_store.specs.Ends.{end_of_switch}
 use Rattle.three_stores.specs.Change.{resuming}
 use Rattle.three_stores.proofs.RowCalls.{resume_changes}
-use Rattle.three_stores.proofs.Showing.{rows_shown, rows_keep, switches_on}
+use Rattle.three_stores.proofs.Showing.{rows_keep, switches_on}
+use Rattle.three_stores.proofs.LeavingFronts.{fronts_shown, rows_fronts}
 use Rattle.three_stores.proofs.LeavingNames.{commit_leaves, commit_leaves_files}
 use Rattle.three_stores.proofs.WholeCalls.{rows_whole}
 use Rattle.three_stores.proofs.store.TierStore.resume_row.Goals as goal
@@ -16,8 +17,13 @@ returns-clause-changes g c =
     resume_changes g.D.Disk.files g.D.Disk.opened g.D.Disk.past g.D.Disk.faults g.D.Disk.tells self.catalogue c.resume.new.self self.manifests.items self.disk c.resume.new.disk c.args.row c.requires.row says.name says.elsewhere says.opened says.faults c.resume.result
     says.sound says.stored says.kept says.doubt says.fault says.memory says.any_moment says.rows says.exactly says.never says.unchanged says.next
 
+pub returns-clause-fronts : goal.returns-clause-fronts
+returns-clause-fronts g c =
+    let says = c.resume.ensures in
+    rows_fronts g.D.Disk.tells (resuming c.args.row) _ _ (end_of_switch c.resume.result) _ refl c.requires.has (switches_on c.args.row Paused Running) (returns-clause-changes g c) says.elsewhere says.any_moment
+
 pub returns-clause-shown : goal.returns-clause-shown
-returns-clause-shown g c = rows_shown g.D.Disk.tells (resuming c.args.row) _ _ (end_of_switch c.resume.result) refl c.requires.has (switches_on c.args.row Paused Running) (returns-clause-changes g c) c.resume.ensures.elsewhere
+returns-clause-shown g c = fronts_shown g.D.Disk.tells _ _ (returns-clause-fronts g c)
 
 pub returns-clause-keeps : goal.returns-clause-keeps
 returns-clause-keeps g c = rows_keep g.D.Disk.tells (resuming c.args.row) _ _ (end_of_switch c.resume.result) c.requires.has (switches_on c.args.row Paused Running) (returns-clause-changes g c)
