@@ -25,6 +25,6 @@ all_kept {S} {B} reply acts = map (λ (e : RoomEntry S Act B). kept reply e.who 
 abbrev pub SharedStands : {X R : Type 0} → (X → Machine → Type 0) → Shared X R → Machine → Type 0
 SharedStands stands room m = stands room.archive m
 
--- an act on a shared archive, whose readers have these meanings; and what is known of a crash within it
-abbrev pub SharedStep : {X R : Type 0} → (X → Machine → Type 0) → (X → Act → X → Type 0) → Bool → (R → List ℕ) → (R → ℕ) → Shared X R → ℕ → ℕ → Act → Answer R → Shared X R → Type 0
-SharedStep stands crash tells bytes faults old who n act answer new = RoomStep (SharedStands stands) (reply_of tells bytes faults) old who n act answer new × crash old.archive act new.archive
+-- an act on a shared archive, whose readers have these meanings; and what it leaves
+abbrev pub SharedStep : {X R : Type 0} → (X → Machine → Type 0) → (X → Entry → X → Type 0) → Bool → (R → List ℕ) → (R → ℕ) → Shared X R → ℕ → ℕ → Act → Answer R → Shared X R → Type 0
+SharedStep stands leaves tells bytes faults old who n act answer new = RoomStep (SharedStands stands) (reply_of tells bytes faults) old who n act answer new × leaves old.archive (kept (reply_of tells bytes faults) who act answer) new.archive

@@ -1,7 +1,7 @@
 //! What acts are made on.
 ghost use Rattle.std.specs.Prelude.{ℕ};
 ghost use Rattle.act_model.specs.Reply.{reply_of};
-ghost use Rattle.act_model.specs.declared.acts.Act.{Act};
+ghost use Rattle.act_model.specs.History.{Entry};
 ghost use Rattle.act_model.specs.Machine.{Machine};
 ghost use Rattle.act_model.specs.Sound.{IsSound};
 ghost use Rattle.act_model.specs.Step.{Step, MayAsk};
@@ -17,8 +17,8 @@ pub trait Applies: Drop {
     /// The states that it stands for.
     ghost stands: { Self → Machine → Type 0 };
 
-    /// What is known of a crash within an act, where it leads from one value to another.
-    ghost crash: { Self → Act → Self → Type 0 };
+    /// What an act and its answer leave, where they lead from one value to another: as of a disk, and of a crash within the act.
+    ghost leaves: { Self → Entry → Self → Type 0 };
 
     /// It stands for sound states alone.
     ghost sound: { (a : Self) (m : Machine) → stands a m → IsSound m };
@@ -29,5 +29,5 @@ pub trait Applies: Drop {
         requires may_ask { MayAsk act }
         ensures step { (m : Machine) → stands self.old m
             → (n : Machine) × Step who act m (reply_of Self.Reader.tells Self.Reader.bytes Self.Reader.faults result) n × stands self.new n }
-        ensures crash { crash self.old act self.new };
+        ensures leaves { leaves self.old (record { who = who; act = act; answer = reply_of Self.Reader.tells Self.Reader.bytes Self.Reader.faults result }) self.new };
 }

@@ -15,10 +15,10 @@ use crate::applies::Applies;
 /// step in a state that goes onward from every state that the other stood for. So what a retrieval is over, which is all that is accepted
 /// at its pin, begins with all that was accepted then.
 pub fn acts_come_after_those_known<X: Applies>()
-    ensures meets { (rooms : Rooms (Shared X X.Reader) Act (Answer X.Reader)) (old new note : Pass (Shared X X.Reader) Act (Answer X.Reader)) → Meets (SharedStep X.stands X.crash X.Reader.tells X.Reader.bytes X.Reader.faults) rooms old new note
-        → ActsAfter (SharedStep X.stands X.crash X.Reader.tells X.Reader.bytes X.Reader.faults) (SharedStands X.stands) (reply_of X.Reader.tells X.Reader.bytes X.Reader.faults) rooms old new
-        × ActsAfter (SharedStep X.stands X.crash X.Reader.tells X.Reader.bytes X.Reader.faults) (SharedStands X.stands) (reply_of X.Reader.tells X.Reader.bytes X.Reader.faults) rooms note new }
-    ensures parts { (rooms : Rooms (Shared X X.Reader) Act (Answer X.Reader)) (old new note : Pass (Shared X X.Reader) Act (Answer X.Reader)) → Parts (SharedStep X.stands X.crash X.Reader.tells X.Reader.bytes X.Reader.faults) rooms old new note
-        → ActsAfter (SharedStep X.stands X.crash X.Reader.tells X.Reader.bytes X.Reader.faults) (SharedStands X.stands) (reply_of X.Reader.tells X.Reader.bytes X.Reader.faults) rooms old new
-        × ActsAfter (SharedStep X.stands X.crash X.Reader.tells X.Reader.bytes X.Reader.faults) (SharedStands X.stands) (reply_of X.Reader.tells X.Reader.bytes X.Reader.faults) rooms old note }
+    ensures meets { (rooms : Rooms (Shared X X.Reader) Act (Answer X.Reader)) (old new note : Pass (Shared X X.Reader) Act (Answer X.Reader)) → Meets (SharedStep X.stands X.leaves X.Reader.tells X.Reader.bytes X.Reader.faults) rooms old new note
+        → ActsAfter (SharedStep X.stands X.leaves X.Reader.tells X.Reader.bytes X.Reader.faults) (SharedStands X.stands) (reply_of X.Reader.tells X.Reader.bytes X.Reader.faults) rooms old new
+        × ActsAfter (SharedStep X.stands X.leaves X.Reader.tells X.Reader.bytes X.Reader.faults) (SharedStands X.stands) (reply_of X.Reader.tells X.Reader.bytes X.Reader.faults) rooms note new }
+    ensures parts { (rooms : Rooms (Shared X X.Reader) Act (Answer X.Reader)) (old new note : Pass (Shared X X.Reader) Act (Answer X.Reader)) → Parts (SharedStep X.stands X.leaves X.Reader.tells X.Reader.bytes X.Reader.faults) rooms old new note
+        → ActsAfter (SharedStep X.stands X.leaves X.Reader.tells X.Reader.bytes X.Reader.faults) (SharedStands X.stands) (reply_of X.Reader.tells X.Reader.bytes X.Reader.faults) rooms old new
+        × ActsAfter (SharedStep X.stands X.leaves X.Reader.tells X.Reader.bytes X.Reader.faults) (SharedStands X.stands) (reply_of X.Reader.tells X.Reader.bytes X.Reader.faults) rooms old note }
 {}

@@ -1,5 +1,5 @@
 -- A call that changes the stores where nothing stands in doubt: what the archive stands for then.
-use Rattle.std.proofs.Common.{◌≡◌, ◌⊎◌, inl, inr, List, [], Bool, Some, Result, refl, sym, ◌∙◌, subst}
+use Rattle.std.proofs.Common.{◌≡◌, ◌⊎◌, inl, inr, List, [], Bool, true, Some, Result, refl, sym, ◌∙◌, subst}
 use Rattle.std.specs.FinMap.{FinMap}
 use Rattle.std.specs.Ordering.{nat_cmp}
 use Rattle.std.specs.Prelude.{IsTrue}
@@ -18,28 +18,35 @@ use Rattle.act_model.specs.Machine.{Machine, Change}
 use Rattle.archive_core.specs.Ends.{HoldsChanged, ChangesTo}
 use Rattle.archive_core.specs.Parts.{Parts}
 use Rattle.archive_core.specs.Stands.{Stands, Rests, StoresGo, InDoubt, HoldsDurable}
+use Rattle.archive_core.proofs.Batches.{told_stands}
 use Rattle.archive_core.proofs.Keeping.{Keeps}
 use Rattle.archive_core.proofs.Settled.{rests_has, doubt_stands}
 
-module _ {A E : Type 0} (tells : Bool) (call : Call A E) (c : Change) (p : Parts) (m : Machine) (r : Rests tells p m) (durable : (after : Stores) → call.by r.stands.store.before after → HoldsDurable after (made [] c m)) where
+module _ {A E : Type 0} (tells : Bool) (call : Call A E) (c : Change) (p : Parts) (m : Machine) (r : Rests tells p m) (durable : (after : Stores) → call.by r.stands.store.before after → HoldsDurable after (made [] c m))
+    (stand : (after : Stores) → call.by r.stands.store.before after → after.stands ≡ r.stands.store.before.stands) where
   -- at each moment the disk has what is durable, or that with the change
   pub call_passes : (new : Seen) (end : End A E) → Acts tells call p.at new end → IsTrue tells → Passes (λ a image. HoldsChanged (granularities p.at.manifests) c m image) p.at.past new.past
   call_passes new end acts told =
       let held = r.stands.store.before in
       passes_weaker (HoldsChange (granularities p.at.manifests) call.by held held) (λ a image. HoldsChanged (granularities p.at.manifests) c m image) p.at.past new.past (acts.any_moment told held held (inl (rests_has tells p m r))) (λ a image left holds. elim holds [
-        | inl same ↦ inl (held, elim same [ inl one ↦ one | inr one ↦ one ], r.stands.store.holds)
-        | inr with_it ↦ inr (with_it.0, with_it.2, durable with_it.0 (subst (λ (s : Stores). call.by s with_it.0) (own with_it.1.from with_it.1.either) with_it.1.by))
+        | inl same ↦ inl (record { stores = held; holds = elim same [ inl one ↦ one | inr one ↦ one ]; durable = r.stands.store.holds; stands = stands_now })
+        | inr with_it ↦
+            let by = subst (λ (s : Stores). call.by s with_it.0) (own with_it.1.from with_it.1.either) with_it.1.by in
+            inr (record { stores = with_it.0; holds = with_it.2; durable = durable with_it.0 by; stands = λ is. subst IsTrue (sym (stand with_it.0 by)) (stands_now is) })
       ])
     where
+      stands_now : m.told ≡ true → IsTrue r.stands.store.before.stands
+      stands_now = told_stands tells m.told r.stands.store.before.stands r.stands.store.told
+
       own : (from : Stores) → IsEither r.stands.store.before r.stands.store.before from → from ≡ r.stands.store.before
       own from (inl is) = is
       own from (inr is) = is
 
   -- after a fault it may stand in doubt
-  pub call_failed : (new : Seen) → ((after : Stores) → call.by r.stands.store.before after → after.stands ≡ r.stands.store.before.stands) → ((after : Stores) → call.by r.stands.store.before after → StoresGo tells (beside new p.limbo) m.told m.rows m.moves r.stands.store.before after c) → EndsFrom tells call new r.stands.store.before Failed
+  pub call_failed : (new : Seen) → ((after : Stores) → call.by r.stands.store.before after → StoresGo tells (beside new p.limbo) m.told m.rows m.moves r.stands.store.before after c) → EndsFrom tells call new r.stands.store.before Failed
       → Has tells new r.stands.store.before ⊎ InDoubt tells new p.limbo r.stands.store.before (record m { doubt = Some c; faults = new.faults })
-  call_failed new stand go (inl has) = inl has
-  call_failed new stand go (inr (after, by, doubts)) = inr (record { change = c; is = refl; after = after; doubts = doubts; stand = stand after by; go = go after by; holds = durable after by })
+  call_failed new go (inl has) = inl has
+  call_failed new go (inr (after, by, doubts)) = inr (record { change = c; is = refl; after = after; doubts = doubts; stand = stand after by; go = go after by; holds = durable after by })
 
 -- all is as it was
 pub rests_again : (tells : Bool) (p : Parts) (m : Machine) (r : Rests tells p m) (new : Seen) → granularities new.manifests ≡ granularities p.at.manifests → Keeps tells (beside p.at p.limbo) (beside new p.limbo) → Has tells new r.stands.store.before → Stands tells (record p { at = new }) (record m { faults = new.faults })

@@ -263,18 +263,20 @@ module _ (tells : Bool) (q : Parts) (n : ℕ) (running : Running Moving) (m : Ma
         no_list : length new.manifests ≡ 3 → ((k : ManifestState) → slice_get new.manifests (aside move.store) ≡ Some k → AreHeld k.granularity (tier (aside move.store) other)) → ⊥
         no_list three valid = let k = manifest_at new.manifests (aside move.store) (let low = aside_low move.store in omega (arith, three, low)) in not_held k.0.granularity (valid k.0 k.1)
 
+    stands_told : m.told ≡ true → IsTrue held.stands
+    stands_told = told_stands tells m.told held.stands t.rests.stands.store.told
+
     -- at each moment the disk has what is durable
     passes : IsTrue tells → Passes (λ a image. HoldsStep (granularities q.at.manifests) n m image) q.at.past new.past
     passes told =
         passes_weaker (HoldsChange (granularities q.at.manifests) (λ old made. made ≡ old) held held) (λ a image. HoldsStep (granularities q.at.manifests) n m image) q.at.past new.past (acts.any_moment told held held (inl has) among among) (λ a image left holds. elim holds [
-          | inl same ↦ inl (held, elim same [ inl one ↦ one | inr one ↦ one ], t.rests.stands.store.holds)
-          | inr with_it ↦ inl (with_it.0, with_it.2, subst (λ (x : Stores). HoldsDurable x m) (sym (with_it.1.by ∙ own_held with_it.1.from with_it.1.either)) t.rests.stands.store.holds)
+          | inl same ↦ inl (record { stores = held; holds = elim same [ inl one ↦ one | inr one ↦ one ]; durable = t.rests.stands.store.holds; stands = stands_told })
+          | inr with_it ↦
+              let same : with_it.0 ≡ held = with_it.1.by ∙ own_held with_it.1.from with_it.1.either in
+              inl (record { stores = with_it.0; holds = with_it.2; durable = subst (λ (x : Stores). HoldsDurable x m) (sym same) t.rests.stands.store.holds; stands = λ is. subst (λ (x : Stores). IsTrue x.stands) (sym same) (stands_told is) })
         ])
 
     -- WHAT THE ARCHIVE STANDS FOR WITHOUT THE MOVE
-
-    stands_told : m.told ≡ true → IsTrue held.stands
-    stands_told = told_stands tells m.told held.stands t.rests.stands.store.told
 
     -- moves of other rows are the machine's still
     others_stay : AreMovesOf tells (beside new q.limbo) m.told m.rows m.limbo held (ends_move n m.moves) q.slots

@@ -138,8 +138,10 @@ module _ (tells : Bool) (p : Parts) (m : Machine) (r : Rests tells p m) (limit :
   passes : (new : Seen) (end : End ℕ ⊥) → Acted new end → IsTrue tells → Passes (λ a image. HoldsChanged (granularities p.at.manifests) change m image) p.at.past new.past
   passes new end acts told =
       passes_weaker (HoldsChange (granularities p.at.manifests) (FlushesOver p.limbo files batch) held held) (λ a image. HoldsChanged (granularities p.at.manifests) change m image) p.at.past new.past (acts.any_moment told held held (inl has) whole whole) (λ a image left holds. elim holds [
-        | inl same ↦ inl (held, elim same [ inl one ↦ one | inr one ↦ one ], r.stands.store.holds)
-        | inr with_it ↦ inr (with_it.0, with_it.2, durable with_it.0 (subst (λ (s : Stores). FlushesOver p.limbo files batch s with_it.0) (own_from with_it.1.from with_it.1.either) with_it.1.by) (λ g here. (with_it.2 0 g here).filed))
+        | inl same ↦ inl (record { stores = held; holds = elim same [ inl one ↦ one | inr one ↦ one ]; durable = r.stands.store.holds; stands = told_is })
+        | inr with_it ↦
+            let by = subst (λ (s : Stores). FlushesOver p.limbo files batch s with_it.0) (own_from with_it.1.from with_it.1.either) with_it.1.by in
+            inr (record { stores = with_it.0; holds = with_it.2; durable = durable with_it.0 by (λ g here. (with_it.2 0 g here).filed); stands = λ is. subst IsTrue (sym (stand with_it.0 by)) (told_is is) })
       ])
     where
       own_from : (from : Stores) → IsEither held held from → from ≡ held
@@ -224,7 +226,7 @@ module _ (tells : Bool) (p : Parts) (m : Machine) (r : Rests tells p m) (limit :
   pub flush_unmade : ChangesTo {A = ℕ} tells change p m p (Err Memory)
   flush_unmade = record {
     ends = rests_again tells p m r p.at refl (keeps_itself tells (beside p.at p.limbo)) has;
-    any_moment = λ told. passes_none (λ a image. HoldsChanged (granularities p.at.manifests) change m image) p.at.past (λ image left. inl (held, has_left tells p.at held has told image left, r.stands.store.holds));
+    any_moment = λ told. passes_none (λ a image. HoldsChanged (granularities p.at.manifests) change m image) p.at.past (λ image left. inl (record { stores = held; holds = has_left tells p.at held has told image left; durable = r.stands.store.holds; stands = told_is }));
     faults = omega arith;
     cause = λ is. absurd (cc (is));
   }

@@ -68,8 +68,10 @@ pub mod PartsGrow
 pub mod Beside
 pub mod Keeping
 pub mod MoveStepping
+pub mod ReadingAlone
 pub mod Asked
 pub mod LeavingFiles
+pub mod PinnedFiles
 pub mod MoveCovers
 pub mod RetireEnds
 pub mod MoveRetires

@@ -229,7 +229,7 @@ module _ (tells : Bool) (at : Seen) (held : Stores) (disk : IsTrue held.stands �
   empty_moves : (told : Bool) → AreMovesOf tells (beside at []) told (rows_from told ms held 0 rows) [] held no_moves slots
   empty_moves told = record { none = λ n none. none_runs n; each = λ n move here. absurd (let nowhere : get no_moves n ≡ None = get-empty nat_cmp n in cc (nowhere, here)) }
 
-  pub opened_rests : (m : Machine) × IsOpened rule m × HoldsDurable held m × Rests tells (record { at = at; limbo = []; pinned = no_own_pins; tails = []; kept = map (memory_of ms) rows; doubt = None; doors = doors; config = config; slots = slots }) m × (m.doors ≡ doors)
+  pub opened_rests : (m : Machine) × IsOpened rule m × HoldsDurable held m × Rests tells (record { at = at; limbo = []; pinned = no_own_pins; tails = []; kept = map (memory_of ms) rows; doubt = None; doors = doors; config = config; slots = slots }) m × (m.doors ≡ doors) × (m.told ≡ (tells && held.stands))
   opened_rests =
       let told = tells && held.stands in
       let stands : told ≡ true → IsTrue held.stands = both_true tells held.stands in (
@@ -252,6 +252,7 @@ module _ (tells : Bool) (at : Seen) (held : Stores) (disk : IsTrue held.stands �
           };
           settled = refl;
         },
+        refl,
         refl,
       )
 
@@ -278,6 +279,10 @@ lowered_has false at held has = record {
   disk = λ told. absurd (cc (told));
 }
 
+lowered_told : (tells stands : Bool) → (tells && (tells && stands)) ≡ (tells && stands)
+lowered_told true stands = refl
+lowered_told false stands = refl
+
 lowered_stands : (tells : Bool) (held : Stores) → IsTrue (lowered tells held).stands → IsTrue tells
 lowered_stands true held stands = refl
 lowered_stands false held stands = absurd (cc (stands))
@@ -296,7 +301,7 @@ lowered_holds tells held m holds = record {
 -- by what is in memory then
 pub opened_as : (tells : Bool) (at : Seen) (held : Stores) → Has tells at held → AreRows at.catalogue.rows → (rule : Rule) (doors : ℕ) → rule.granularity ≡ granularities at.manifests → TellsHeaders rule → (config : ConfigState) → HasSettings at config rule → (slots : List (Option (Running Moving))) → ((n : ℕ) → table.at slots n ≡ None)
     → (limbo : List Retired) (pinned : FinMap nat_cmp PinOf) (tails : List TailState) (kept : List RowMemory) → limbo ≡ [] → pinned ≡ empty → tails ≡ [] → kept ≡ map (memory_of at.manifests) at.catalogue.rows
-    → (m : Machine) × IsOpened rule m × HoldsDurable held m × Rests tells (record { at = at; limbo = limbo; pinned = pinned; tails = tails; kept = kept; doubt = None; doors = doors; config = config; slots = slots }) m × (m.doors ≡ doors)
+    → (m : Machine) × IsOpened rule m × HoldsDurable held m × Rests tells (record { at = at; limbo = limbo; pinned = pinned; tails = tails; kept = kept; doubt = None; doors = doors; config = config; slots = slots }) m × (m.doors ≡ doors) × (m.told ≡ (tells && held.stands))
 opened_as tells at held has are rule doors same_g headers config settings slots none_runs limbo pinned tails kept none_retired none_pinned none is =
     let r = opened_rests tells at (lowered tells held) (lowered_stands tells held) (lowered_has tells at held has) are rule doors same_g headers config settings slots none_runs in
     let rows = at.catalogue.rows in
@@ -307,4 +312,4 @@ opened_as tells at held has are rule doors same_g headers config settings slots 
     subst (λ (l : List Retired). Rests tells (record { at = at; limbo = l; pinned = pinned; tails = []; kept = own; doubt = None; doors = doors; config = config; slots = slots }) r.0) (sym none_retired) unpinned in
     let empty_tails : Rests tells (record { at = at; limbo = limbo; pinned = pinned; tails = tails; kept = own; doubt = None; doors = doors; config = config; slots = slots }) r.0 =
     subst (λ (t : List TailState). Rests tells (record { at = at; limbo = limbo; pinned = pinned; tails = t; kept = own; doubt = None; doors = doors; config = config; slots = slots }) r.0) (sym none) empty_limbo in
-    (r.0, r.1, lowered_holds tells held r.0 r.2, subst (λ (k : List RowMemory). Rests tells (record { at = at; limbo = limbo; pinned = pinned; tails = tails; kept = k; doubt = None; doors = doors; config = config; slots = slots }) r.0) (sym is) empty_tails, r.4)
+    (r.0, r.1, lowered_holds tells held r.0 r.2, subst (λ (k : List RowMemory). Rests tells (record { at = at; limbo = limbo; pinned = pinned; tails = tails; kept = k; doubt = None; doors = doors; config = config; slots = slots }) r.0) (sym is) empty_tails, r.4, r.5 ∙ lowered_told tells held.stands)

@@ -55,7 +55,7 @@ pub data OpenedAs {R : Type 0} (tells reader_tells : Bool) (bytes : R → List �
   as_fault : given ≡ answer.DiskFault → OpenedAs tells reader_tells bytes faults all file given
   as_memory : given ≡ answer.Memory → OpenedAs tells reader_tells bytes faults all file given
 
-opened_as : {R : Type 0} (tells reader_tells : Bool) (bytes : R → List ℕ) (faults : R → ℕ) (all : SeenAll) (file : PinnedFile) (given : Answer R) → IsOpened tells reader_tells bytes faults all file given → OpenedAs tells reader_tells bytes faults all file given
+pub opened_as : {R : Type 0} (tells reader_tells : Bool) (bytes : R → List ℕ) (faults : R → ℕ) (all : SeenAll) (file : PinnedFile) (given : Answer R) → IsOpened tells reader_tells bytes faults all file given → OpenedAs tells reader_tells bytes faults all file given
 opened_as {R} tells reader_tells bytes faults all file (answer.Piece reader name head_len len) is = as_piece reader name head_len len refl is
 opened_as {R} tells reader_tells bytes faults all file answer.DiskFault is = as_fault refl
 opened_as {R} tells reader_tells bytes faults all file answer.Memory is = as_memory refl

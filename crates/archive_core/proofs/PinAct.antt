@@ -54,7 +54,7 @@ use Rattle.archive_core.proofs.Settled.{rests_has, open_rows}
 use Rattle.archive_core.proofs.Standing.{pins_stand}
 
 -- what an answer says is so, or memory was wanting
-says_kind : {R : Type 0} (says : Answer R → Stores → Type 0) (held : Stores) (given : Answer R) → SaysOf says (end_of_answer given) held → (given ≡ answer.Memory) ⊎ says given held
+pub says_kind : {R : Type 0} (says : Answer R → Stores → Type 0) (held : Stores) (given : Answer R) → SaysOf says (end_of_answer given) held → (given ≡ answer.Memory) ⊎ says given held
 says_kind {R} says held given is = elim (end_kind given) [
   | inl fault ↦ absurd (subst (λ (x : Answer R). SaysOf says (end_of_answer x) held) fault is)
   | inr others ↦ elim others [

@@ -59,6 +59,7 @@ use Rattle.archive_core.specs.Parts.{Parts}
 use Rattle.archive_core.specs.Stands.{HoldsDurable, InDoubt, IsDoubtOf, Rests, Stands, StoresGrow}
 use Rattle.archive_core.specs.Stepping.{HoldsStep, StepsOn, TakesMove, is_doubted, stepped_reply, was_spent, went_on, with_slots}
 use Rattle.archive_core.specs.Taking.{ListsCopied, Taken, listing, stepped_of, with_listed}
+use Rattle.archive_core.proofs.Batches.{told_stands}
 use Rattle.archive_core.proofs.Changing.{call_failed, keeps_pins, rests_again}
 use Rattle.archive_core.proofs.Growth.{still_named}
 use Rattle.archive_core.proofs.Keeping.{Keeps, keeps_itself}
@@ -216,10 +217,15 @@ module _ (tells : Bool) (q : Parts) (n : ℕ) (running : Running Moving) (m : Ma
   passes : (new : Seen) (end : End (Unit {0}) ⊥) → Acted new end → IsTrue tells → Passes (λ a image. HoldsChanged (granularities q.at.manifests) change m image) q.at.past new.past
   passes new end acts told =
       passes_weaker (HoldsChange (granularities q.at.manifests) (ListsAlso place files) held held) (λ a image. HoldsChanged (granularities q.at.manifests) change m image) q.at.past new.past (acts.any_moment told held held (inl has) t.is.beside t.is.beside) (λ a image left holds. elim holds [
-        | inl same ↦ inl (held, elim same [ inl one ↦ one | inr one ↦ one ], t.rests.stands.store.holds)
-        | inr with_it ↦ inr (with_it.0, with_it.2, durable with_it.0 (subst (λ (s : Stores). ListsAlso place files s with_it.0) (own_from with_it.1.from with_it.1.either) with_it.1.by))
+        | inl same ↦ inl (record { stores = held; holds = elim same [ inl one ↦ one | inr one ↦ one ]; durable = t.rests.stands.store.holds; stands = stands_now })
+        | inr with_it ↦
+            let by = subst (λ (s : Stores). ListsAlso place files s with_it.0) (own_from with_it.1.from with_it.1.either) with_it.1.by in
+            inr (record { stores = with_it.0; holds = with_it.2; durable = durable with_it.0 by; stands = λ is. subst IsTrue (sym (stand with_it.0 by)) (stands_now is) })
       ])
     where
+      stands_now : m.told ≡ true → IsTrue held.stands
+      stands_now = told_stands tells m.told held.stands t.rests.stands.store.told
+
       own_from : (from : Stores) → IsEither held held from → from ≡ held
       own_from from (inl is) = is
       own_from from (inr is) = is
@@ -335,7 +341,7 @@ module _ (tells : Bool) (q : Parts) (n : ℕ) (running : Running Moving) (m : Ma
     -- after a fault the move has ended
     pub list_failed : Acted new Failed → ListsCopied tells n m move q (record q { at = new; doubt = Some kind.Published }) (Err Fault)
     list_failed acts = record {
-      ends = doubting new acts.costs.granularity keeps (call_failed tells (publishing place files) change q mo t.rests durable new stand grow (acts.settled held has t.is.beside));
+      ends = doubting new acts.costs.granularity keeps (call_failed tells (publishing place files) change q mo t.rests durable stand new grow (acts.settled held has t.is.beside));
       any_moment = passes new Failed acts;
       faults = acts.costs.faults;
       cause = λ is. acts.costs.cause tt;

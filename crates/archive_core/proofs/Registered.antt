@@ -34,6 +34,7 @@ use Rattle.archive_core.specs.Parts.{Parts}
 use Rattle.archive_core.specs.Stands.{Stands, Rests, IsDoubtOf, IsReady, StoresGrow, InDoubt, HoldsDurable}
 use Rattle.archive_core.proofs.Keeping.{Keeps, keeps_itself}
 use Rattle.archive_core.proofs.Growth.{register_grows}
+use Rattle.archive_core.proofs.Batches.{told_stands}
 use Rattle.archive_core.proofs.Changing.{call_passes, call_failed}
 use Rattle.archive_core.proofs.KeptRows.{Placed, placed, place_some, place_none, same_bytes_is, same_bytes_self, row_at}
 use Rattle.archive_core.proofs.Lists.{element}
@@ -233,7 +234,7 @@ module _ (tells : Bool) (p : Parts) (m : Machine) (r : Rests tells p m) (name : 
   row_done new shown id acts = (
     record {
       ends = own_doubt;
-      any_moment = call_passes tells (registering name about) change p m r durable new (Done id) acts;
+      any_moment = call_passes tells (registering name about) change p m r durable stand new (Done id) acts;
       faults = acts.costs.faults;
       cause = λ is. absurd (cc (is));
     },
@@ -259,8 +260,8 @@ module _ (tells : Bool) (p : Parts) (m : Machine) (r : Rests tells p m) (name : 
 
   pub row_failed : (new : Seen) → Keeps tells (beside p.at p.limbo) (beside new p.limbo) → Acts tells (registering name about) p.at new Failed → ChangesTo {A = ℕ} tells change p m (record p { at = new; kept = more_kept; doubt = Some kind.Row }) (Err Fault)
   row_failed new shown acts = record {
-    ends = doubting new acts.costs.granularity shown (call_failed tells (registering name about) change p m r durable new stand grow (acts.settled r.stands.store.before (rests_has tells p m r)));
-    any_moment = call_passes tells (registering name about) change p m r durable new Failed acts;
+    ends = doubting new acts.costs.granularity shown (call_failed tells (registering name about) change p m r durable stand new grow (acts.settled r.stands.store.before (rests_has tells p m r)));
+    any_moment = call_passes tells (registering name about) change p m r durable stand new Failed acts;
     faults = acts.costs.faults;
     cause = λ is. acts.costs.cause tt;
   }
@@ -270,7 +271,7 @@ module _ (tells : Bool) (p : Parts) (m : Machine) (r : Rests tells p m) (name : 
       let s = r.stands in
       record {
         ends = doubt_stands tells p m s new more_kept p.doubt m.doubt acts.costs.granularity shown s.sound more_rows s.doubt (undoubted more_kept) (inl (acts.settled s.store.before (rests_has tells p m r)));
-        any_moment = call_passes tells (registering name about) change p m r durable new Spent acts;
+        any_moment = call_passes tells (registering name about) change p m r durable stand new Spent acts;
         faults = acts.costs.faults;
         cause = λ is. absurd (cc (is));
       }
@@ -282,7 +283,7 @@ module _ (tells : Bool) (p : Parts) (m : Machine) (r : Rests tells p m) (name : 
       let cut = subst (λ (ks : List RowMemory). AreRowsOf p.at.catalogue.rows ks p.tails m.rows) (append-nil (take (length p.at.catalogue.rows) p.kept)) (rows_cut p.at.catalogue.rows p.kept [] p.tails m.rows s.rows) in
       record {
         ends = doubt_stands tells p m s p.at (take (length p.at.catalogue.rows) p.kept) p.doubt m.doubt refl (keeps_itself tells (beside p.at p.limbo)) s.sound cut s.doubt (undoubted (take (length p.at.catalogue.rows) p.kept)) (inl (rests_has tells p m r));
-        any_moment = λ told. passes_none (λ a image. HoldsChanged (granularities p.at.manifests) change m image) p.at.past (λ image left. inl (s.store.before, has_left tells p.at s.store.before (rests_has tells p m r) told image left, s.store.holds));
+        any_moment = λ told. passes_none (λ a image. HoldsChanged (granularities p.at.manifests) change m image) p.at.past (λ image left. inl (record { stores = s.store.before; holds = has_left tells p.at s.store.before (rests_has tells p m r) told image left; durable = s.store.holds; stands = told_stands tells m.told s.store.before.stands s.store.told }));
         faults = omega arith;
         cause = λ is. absurd (cc (is));
       }

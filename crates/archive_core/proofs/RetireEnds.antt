@@ -2,6 +2,7 @@
 use Rattle.std.proofs.Common.{[], ◌⊎◌, inl, inr, sym, ◌≡◌, ℕ, List, length, map, Bool, true, false, cond, Some, None, refl, ◌∙◌, ap, subst}
 use Rattle.std.specs.FinMap.{get}
 use Rattle.std.specs.List.{AllByRecursion}
+use Rattle.std.specs.Prelude.{IsTrue}
 use Rattle.std.proofs.lemmas.List.{length-map}
 use Rattle.disk_model.specs.Files.{Files}
 use Rattle.partition_names.specs.declared.granularity.Granularity.{Granularity}
@@ -88,7 +89,7 @@ module _ (catalogue : CatalogueState) (ms : List ManifestState) (s : Stores) (m 
   -- at each moment the disk has what is durable, or that without the parts
   pub retiring_moment : (gs : List Granularity) (image : Files) → HoldsChange gs (λ old new. (new ≡ old) ⊎ StoresRetire (index_of move.store) move.row published old new) s s image image
       → HoldsMachine gs image m ⊎ ((change : Change) × (change_of m (get m.moves n) ≡ Some change) × HoldsMachine gs image (made [] change m))
-  retiring_moment gs image (inl still) = inl (s, elim still [ inl holds ↦ holds | inr holds ↦ holds ], have.holds)
+  retiring_moment gs image (inl still) = inl (record { stores = s; holds = elim still [ inl holds ↦ holds | inr holds ↦ holds ]; durable = have.holds; stands = have.stands })
   retiring_moment gs image (inr (new, comes, holds)) = by_change (own comes.from comes.either) comes.by
     where
       own : (from : Stores) → IsEither s s from → from ≡ s
@@ -96,7 +97,18 @@ module _ (catalogue : CatalogueState) (ms : List ManifestState) (s : Stores) (m 
       own from (inr same) = same
 
       by_change : comes.from ≡ s → (new ≡ comes.from) ⊎ StoresRetire (index_of move.store) move.row published comes.from new → HoldsMachine gs image m ⊎ ((change : Change) × (change_of m (get m.moves n) ≡ Some change) × HoldsMachine gs image (made [] change m))
-      by_change from (inl same) = inl (new, holds, subst (λ (x : Stores). HoldsDurable x m) (sym (same ∙ from)) have.holds)
+      by_change from (inl same) =
+          let is_same : new ≡ s = same ∙ from in
+          inl (record { stores = new; holds = holds; durable = subst (λ (x : Stores). HoldsDurable x m) (sym is_same) have.holds; stands = λ told. subst (λ (x : Stores). IsTrue x.stands) (sym is_same) (have.stands told) })
       by_change from (inr left) =
           let one = subst (λ (x : Stores). StoresRetire (index_of move.store) move.row published x new) from left in
-          inr (Unlists move.row move.store move.to, none_grown_changes one.none_grown, (new, holds, subst (λ (x : Stores). HoldsDurable x (made [] (Unlists move.row move.store move.to) m)) (sym one.same) retired_holds))
+          inr (
+            Unlists move.row move.store move.to,
+            none_grown_changes one.none_grown,
+            record {
+              stores = new;
+              holds = holds;
+              durable = subst (λ (x : Stores). HoldsDurable x (made [] (Unlists move.row move.store move.to) m)) (sym one.same) retired_holds;
+              stands = λ told. subst (λ (x : Stores). IsTrue x.stands) (sym one.same) (have.stands told);
+            },
+          )

@@ -40,6 +40,7 @@ use Rattle.archive_core.specs.Parts.{Parts}
 use Rattle.archive_core.specs.Retiring.{IsToRetire, lengths_of}
 use Rattle.archive_core.specs.Stands.{Rests, Stands}
 use Rattle.archive_core.specs.Stepping.{HoldsStep, StepsOn, TakesMove, has_failed, is_doubted, stepped_reply, was_spent, went_on, with_slots}
+use Rattle.archive_core.proofs.Batches.{told_stands}
 use Rattle.archive_core.proofs.MoveAct.{slots_stand}
 use Rattle.archive_core.proofs.MoveBegun.{moves_at}
 use Rattle.archive_core.proofs.MoveEnds.{list_is}
@@ -78,7 +79,12 @@ module _ (tells : Bool) (q : Parts) (n : ℕ) (running : Running Moving) (slots 
   pub none_done : (later : List (Option (Running Moving))) → ((k : ℕ) → at later k ≡ cond (k == n) (Some running) (at q.slots k)) → StepsOn tells n (with_slots slots q) m (record q { slots = later }) (stepped_reply (Err Memory))
   none_done later put = record {
     ends = was_spent (subst (λ (f : ℕ). Stands tells (record q { slots = later }) (record m { faults = f })) r.stands.faults (slots_stand tells (with_slots slots q) m later (back later put) r));
-    any_moment = λ told. passes_none (λ a image. HoldsStep (granularities q.at.manifests) n m image) q.at.past (λ image left. inl (r.stands.store.before, has_left tells q.at r.stands.store.before (rests_has tells (with_slots slots q) m r) told image left, r.stands.store.holds));
+    any_moment = λ told. passes_none (λ a image. HoldsStep (granularities q.at.manifests) n m image) q.at.past (λ image left. inl (record {
+      stores = r.stands.store.before;
+      holds = has_left tells q.at r.stands.store.before (rests_has tells (with_slots slots q) m r) told image left;
+      durable = r.stands.store.holds;
+      stands = told_stands tells m.told r.stands.store.before.stands r.stands.store.told;
+    }));
     faults = omega arith;
     cause = λ same. absurd (cc (same));
   }

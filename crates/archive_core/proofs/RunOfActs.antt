@@ -30,8 +30,9 @@ use Rattle.act_model.proofs.Onward.{onward_made, onward_refl, onward_settled, on
 use Rattle.act_model.proofs.StepLaws.{settled_sound}
 use Rattle.act_model.proofs.StepOnward.{crash_within, may_by}
 use Rattle.archive_core.specs.Ends.{HoldsMachine, LeavesByAct, LeavesWithin}
+use Rattle.archive_core.specs.Leaving.{Leaves}
 use Rattle.archive_core.specs.Parts.{Parts}
-use Rattle.archive_core.specs.Running.{HoldsBetween, MakesAll, RunsOn, asked}
+use Rattle.archive_core.specs.Running.{HoldsBetween, LeftIn, MakesAll, RunsOn, asked}
 use Rattle.archive_core.specs.Stands.{Stands}
 use Rattle.archive_core.proofs.Crashes.{crash_leaves}
 
@@ -49,8 +50,8 @@ on_within act old left s (with_change {mid} one settles free is) =
 
 -- what a crash within an act leaves lies between the start of a run to it and the end of a run from it
 holds_within : (gs : List Granularity) (start mid end left : Machine) (act : Act) (image : Files) (xs ys : List Entry) → start.told ≡ true → IsSound start → Runs start xs mid → Runs mid ys end
-    → LeftWithin (refuse_by act) (change_by act) mid left → HoldsMachine gs image left → HoldsBetween gs start end image
-holds_within gs start mid end left act image xs ys t s before after is holds =
+    → LeftWithin (refuse_by act) (change_by act) mid left → LeftIn mid ys left → HoldsMachine gs image left → HoldsBetween gs start (xs ++ ys) end image
+holds_within gs start mid end left act image xs ys t s before after is own holds =
     let sound : IsSound mid = runs_sound xs start mid s before in
     let first_on : Onward start mid = runs_onward xs start mid s before in
     let later : Onward mid end = runs_onward ys mid end sound after in
@@ -58,6 +59,8 @@ holds_within gs start mid end left act image xs ys t s before after is holds =
     let further : Onward mid left = on_within act mid left sound is in
     record {
       left = left;
+      along = record { front = xs; back = ys; split = refl; at = mid; to = before; is = own };
+      told = further.told ∙ told;
       holds = holds;
       extends = λ i first here.
           let one = first_on.rows t i first here in
@@ -70,10 +73,24 @@ holds_within gs start mid end left act image xs ys t s before after is holds =
     by_row told later i row some (of_no_row none) = absurd (some none)
     by_row told later i row some (of_row_there m there p q) = let step = later.rows told i m there in (step.0, step.1, prefix_trans (durable row) (accepted m) (accepted step.0) q step.2.accepted_on)
 
+-- a crash within an act is one within the same act of a longer run
+in_more : (at : Machine) (back : List Entry) (e : Entry) (left : Machine) → LeftIn at back left → LeftIn at (back ++ e ∷ []) left
+in_more at [] e left is = before_it is
+in_more at (x ∷ back) e left is = is
+
 -- what lies between two states lies before any later one
-holds_on : (gs : List Granularity) (start mid end : Machine) (image : Files) → mid.told ≡ true → Onward mid end → HoldsBetween gs start mid image → HoldsBetween gs start end image
-holds_on gs start mid end image told later h = record {
+holds_on : (gs : List Granularity) (start mid end : Machine) (done : List Entry) (e : Entry) (image : Files) → mid.told ≡ true → Onward mid end → HoldsBetween gs start done mid image → HoldsBetween gs start (done ++ e ∷ []) end image
+holds_on gs start mid end done e image told later h = record {
   left = h.left;
+  along = (let w = h.along in record {
+    front = w.front;
+    back = w.back ++ e ∷ [];
+    split = ap (λ (es : List Entry). es ++ e ∷ []) w.split ∙ append_assoc w.front w.back (e ∷ []);
+    at = w.at;
+    to = w.to;
+    is = in_more w.at w.back e h.left w.is;
+  });
+  told = h.told;
   holds = h.holds;
   extends = h.extends;
   extended = λ i row here some.
@@ -88,9 +105,9 @@ runs_none tells p m s = record {
   after = m;
   runs = refl;
   stands = s;
-  any_moment = λ told t. passes_none (λ a image. HoldsBetween (granularities p.at.manifests) m m image) p.at.past (λ image left.
+  any_moment = λ told t. passes_none (λ a image. HoldsBetween (granularities p.at.manifests) m [] m image) p.at.past (λ image left.
       let is = crash_leaves tells p m image told s left in
-      holds_within (granularities p.at.manifests) m m m is.0 Doors image [] [] t s.sound refl refl (before_it is.1) is.2);
+      holds_within (granularities p.at.manifests) m m m is.0 Doors image [] [] t s.sound refl refl (before_it is.1) is.1 is.2);
 }
 
 -- one act more
@@ -109,10 +126,10 @@ runs_more tells p q r m done e s ran may step crash =
       any_moment = λ told t.
           let known : ran.after.told ≡ true = (runs_onward done m ran.after s.sound ran.runs).told ∙ t in
           let gs = granularities p.at.manifests in
-          passes_then (λ a image. HoldsBetween gs m one.0 image) (λ a image. LeavesWithin (refuse_by e.act) (change_by e.act) (granularities q.at.manifests) ran.after image) p.at.past q.at.past r.at.past
-          (passes_weaker (λ a image. HoldsBetween gs m ran.after image) (λ a image. HoldsBetween gs m one.0 image) p.at.past q.at.past (ran.any_moment told t) (λ a c left h. holds_on gs m ran.after one.0 c known on h))
+          passes_then (λ a image. HoldsBetween gs m (done ++ e ∷ []) one.0 image) (λ a image. LeavesWithin (refuse_by e.act) (change_by e.act) (granularities q.at.manifests) ran.after image) p.at.past q.at.past r.at.past
+          (passes_weaker (λ a image. HoldsBetween gs m done ran.after image) (λ a image. HoldsBetween gs m (done ++ e ∷ []) one.0 image) p.at.past q.at.past (ran.any_moment told t) (λ a c left h. holds_on gs m ran.after one.0 done e c known on h))
           (crash ran.after told ran.stands)
-          (λ a b c left h left' l. holds_within gs m ran.after one.0 l.0 e.act c done (e ∷ []) t s.sound ran.runs last l.1 (subst (λ (x : List Granularity). HoldsMachine x c l.0) same l.2));
+          (λ a b c left h left' l. holds_within gs m ran.after one.0 l.0 e.act c done (e ∷ []) t s.sound ran.runs last l.1 l.1 (subst (λ (x : List Granularity). HoldsMachine x c l.0) same l.2));
     }
 
 pub makes_none : (tells : Bool) (p : Parts) → MakesAll tells p [] [] p
@@ -140,23 +157,23 @@ module _ {A : Type 0} (tells : Bool) (see : A → Parts) where
   abbrev StandsFor : A → Machine → Type 0
   StandsFor a m = Stands tells (see a) m
 
-  abbrev Crash : A → Act → A → Type 0
-  Crash a act b = LeavesByAct tells (refuse_by act) (change_by act) (see a) (see b)
+  abbrev Left : A → Entry → A → Type 0
+  Left a e b = Leaves tells (see a) e (see b)
 
-  runs_behind : (p : Parts) (m : Machine) (done rest : List Entry) (a b : A) → Stands tells p m → RunsOn tells p m done (see a) → Chain StandsFor Crash a rest b → RunsOn tells p m (done ++ rest) (see b)
+  runs_behind : (p : Parts) (m : Machine) (done rest : List Entry) (a b : A) → Stands tells p m → RunsOn tells p m done (see a) → Chain StandsFor Left a rest b → RunsOn tells p m (done ++ rest) (see b)
   runs_behind p m done [] a b s ran chain = subst (λ (es : List Entry). RunsOn tells p m es (see b)) (sym (append-nil done)) (subst (λ (x : A). RunsOn tells p m done (see x)) (sym chain) ran)
   runs_behind p m done (e ∷ rest) a b s ran chain =
-      let one = runs_more tells p (see a) (see chain.0) m done e s ran chain.1.0 chain.1.1 chain.2 in
+      let one = runs_more tells p (see a) (see chain.0) m done e s ran chain.1.0 chain.1.1 chain.2.crash in
       subst (λ (es : List Entry). RunsOn tells p m es (see b)) (append_assoc done (e ∷ []) rest) (runs_behind p m (done ++ e ∷ []) rest chain.0 b s one chain.3)
 
   -- the same of one chain from its start
-  pub chain_runs_on : (entries : List Entry) (a b : A) (m : Machine) → Stands tells (see a) m → Chain StandsFor Crash a entries b → RunsOn tells (see a) m entries (see b)
+  pub chain_runs_on : (entries : List Entry) (a b : A) (m : Machine) → Stands tells (see a) m → Chain StandsFor Left a entries b → RunsOn tells (see a) m entries (see b)
   chain_runs_on entries a b m s chain = runs_behind (see a) m [] entries a b s (runs_none tells (see a) m s) chain
 
 -- The acts of a room that many share, where some acts were made before them.
 module _ {X R : Type 0} (tells : Bool) (see : X → Parts) (reads : Bool) (bytes : R → List ℕ) (faults : R → ℕ) where
   abbrev Steps : Shared X R → ℕ → ℕ → Act → Answer R → Shared X R → Type 0
-  Steps = SharedStep (StandsFor tells see) (Crash tells see) reads bytes faults
+  Steps = SharedStep (StandsFor tells see) (Left tells see) reads bytes faults
 
   abbrev Kept : List (RoomEntry (Shared X R) Act (Answer R)) → List Entry
   Kept acts = all_kept (reply_of reads bytes faults) acts
@@ -166,7 +183,7 @@ module _ {X R : Type 0} (tells : Bool) (see : X → Parts) (reads : Bool) (bytes
   runs_in_room p m done n [] s stands ran legal = subst (λ (es : List Entry). RunsOn tells p m es (see s.archive)) (sym (append-nil done)) ran
   runs_in_room p m done n (e ∷ rest) s stands ran legal =
       let first = kept (reply_of reads bytes faults) e.who e.act e.answer in
-      let one = runs_more tells p (see s.archive) (see e.after.archive) m done first stands ran legal.0.0.0 legal.0.0.1 legal.0.1 in
+      let one = runs_more tells p (see s.archive) (see e.after.archive) m done first stands ran legal.0.0.0 legal.0.0.1 legal.0.1.crash in
       subst (λ (es : List Entry). RunsOn tells p m es (see (end_of e.after rest).archive)) (append_assoc done (first ∷ []) (Kept rest)) (runs_in_room p m (done ++ first ∷ []) (n + 1) rest e.after stands one legal.1)
 
   -- a legal history from its start

@@ -104,10 +104,13 @@ module _ (tells : Bool) (copied : List Name) (q new : Parts) (result : Result Sw
   -- at each moment the disk has what is durable
   pub sweep_passes : IsTrue tells → Passes (λ a image. HoldsMachine (granularities q.at.manifests) image m) q.at.past new.at.past
   sweep_passes told = passes_weaker (HoldsChange (granularities q.at.manifests) (staying {A = Swept}).by held held) (λ a image. HoldsMachine (granularities q.at.manifests) image m) q.at.past new.at.past (s.acts.any_moment told held held (inl has)) (λ a image left holds. elim holds [
-    | inl one ↦ (held, elim one [ inl it ↦ it | inr it ↦ it ], r.stands.store.holds)
-    | inr made ↦ (held, subst (λ (x : Stores). HoldsAll (granularities q.at.manifests) image x) (made.1.by ∙ own made.1.from made.1.either) made.2, r.stands.store.holds)
+    | inl one ↦ record { stores = held; holds = elim one [ inl it ↦ it | inr it ↦ it ]; durable = r.stands.store.holds; stands = stands_now }
+    | inr made ↦ record { stores = held; holds = subst (λ (x : Stores). HoldsAll (granularities q.at.manifests) image x) (made.1.by ∙ own made.1.from made.1.either) made.2; durable = r.stands.store.holds; stands = stands_now }
   ])
     where
+      stands_now : m.told ≡ true → IsTrue held.stands
+      stands_now = told_stands tells m.told held.stands r.stands.store.told
+
       own : (from : Stores) → IsEither held held from → from ≡ held
       own from (inl is) = is
       own from (inr is) = is

@@ -137,7 +137,7 @@ module _ (tells : Bool) (p : Parts) (m : Machine) (r : Rests tells p m) (i : ℕ
   pub switch_done : (new : Seen) → Keeps tells (beside p.at p.limbo) (beside new p.limbo) → (a : Unit {0}) (memory : RowMemory) → slice_get p.kept i ≡ Some memory → Acts tells (switching switch i) p.at new (Done a) → ChangesTo tells change p m (record p { at = new; kept = slice_set p.kept i (cleared memory) }) (Ok a)
   switch_done new shown a memory there acts = record {
     ends = own_doubt;
-    any_moment = call_passes tells (switching switch i) change p m r durable new (Done a) acts;
+    any_moment = call_passes tells (switching switch i) change p m r durable stand new (Done a) acts;
     faults = acts.costs.faults;
     cause = λ is. absurd (cc (is));
   }
@@ -171,8 +171,8 @@ module _ (tells : Bool) (p : Parts) (m : Machine) (r : Rests tells p m) (i : ℕ
 
   pub switch_failed : (new : Seen) → Keeps tells (beside p.at p.limbo) (beside new p.limbo) → Acts tells (switching switch i) p.at new Failed → ChangesTo {A = Unit {0}} tells change p m (record p { at = new; doubt = Some (kind.State i (to_of switch)) }) (Err Fault)
   switch_failed new shown acts = record {
-    ends = doubting new acts.costs.granularity shown (call_failed tells (switching switch i) change p m r durable new stand grow (acts.settled r.stands.store.before (rests_has tells p m r)));
-    any_moment = call_passes tells (switching switch i) change p m r durable new Failed acts;
+    ends = doubting new acts.costs.granularity shown (call_failed tells (switching switch i) change p m r durable stand new grow (acts.settled r.stands.store.before (rests_has tells p m r)));
+    any_moment = call_passes tells (switching switch i) change p m r durable stand new Failed acts;
     faults = acts.costs.faults;
     cause = λ is. acts.costs.cause tt;
   }
@@ -180,7 +180,7 @@ module _ (tells : Bool) (p : Parts) (m : Machine) (r : Rests tells p m) (i : ℕ
   pub switch_spent : (new : Seen) → Keeps tells (beside p.at p.limbo) (beside new p.limbo) → Acts tells (switching switch i) p.at new Spent → ChangesTo {A = Unit {0}} tells change p m (record p { at = new }) (Err Memory)
   switch_spent new shown acts = record {
     ends = rests_again tells p m r new acts.costs.granularity shown (acts.settled r.stands.store.before (rests_has tells p m r));
-    any_moment = call_passes tells (switching switch i) change p m r durable new Spent acts;
+    any_moment = call_passes tells (switching switch i) change p m r durable stand new Spent acts;
     faults = acts.costs.faults;
     cause = λ is. absurd (cc (is));
   }

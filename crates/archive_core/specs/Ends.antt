@@ -1,6 +1,6 @@
 -- What an act on an archive comes to: from each machine that the archive stood for the act is a step with this answer, to one that it
 -- stands for then. And what a crash between acts leaves.
-use Rattle.std.specs.Prelude.{◌≡◌, ◌⊎◌, ◌≤◌, ℕ, List, [], Bool, Option, Some, Result, Ok, Err, IsTrue}
+use Rattle.std.specs.Prelude.{◌≡◌, ◌⊎◌, ◌≤◌, ℕ, List, [], Bool, true, Option, Some, Result, Ok, Err, IsTrue}
 use Rattle.disk_model.specs.Files.{Files, Rose}
 use Rattle.disk_model.specs.Past.{Passes}
 use Rattle.disk_model.specs.declared.disk.DiskErr.{DiskErr}
@@ -13,11 +13,11 @@ use Rattle.three_stores.specs.Stores.{Stores}
 use Rattle.three_stores.specs.Stored.{HoldsAll}
 use Rattle.act_model.specs.Machine.{Machine, Change, find_row}
 use Rattle.act_model.specs.Changes.{made, Settles}
-use Rattle.act_model.specs.Crash.{LeftBetween, LeftWithin}
+use Rattle.act_model.specs.Crash.{DurableRow, LeftBetween, LeftWithin, kept}
 use Rattle.act_model.specs.Reply.{Reply}
 use Rattle.act_model.specs.declared.acts.Answer.TheVariants as answer
 use Rattle.archive_core.specs.Parts.{Parts}
-use Rattle.archive_core.specs.Stands.{Stands, Rests, HoldsDurable}
+use Rattle.archive_core.specs.Stands.{AreDurable, Stands, Rests}
 
 -- the act is a step from whatever the archive stood for
 abbrev pub Steps : Bool → (Machine → Reply → Machine → Type 0) → Parts → Reply → Parts → Type 0
@@ -35,9 +35,16 @@ SettlesTo tells old new = (m : Machine) → Stands tells old m → (mid : Machin
 abbrev pub StandsStill : Bool → Parts → Parts → Type 0
 StandsStill tells old new = (m : Machine) → Stands tells old m → Stands tells new (record m { faults = new.at.faults })
 
+-- The image holds stores that have this durable part. Where samples are told, they stand: the image has the bytes of their files.
+pub record HoldsRows (gs : List Granularity) (image : Files) (told : Bool) (rows : List DurableRow) : Type 0 where
+  pub stores : Stores
+  pub holds : HoldsAll gs image stores
+  pub durable : AreDurable told stores rows
+  pub stands : told ≡ true → IsTrue stores.stands
+
 -- the image holds what is durable of the machine
 abbrev pub HoldsMachine : List Granularity → Files → Machine → Type 0
-HoldsMachine gs image m = (s : Stores) × HoldsAll gs image s × HoldsDurable s m
+HoldsMachine gs image m = HoldsRows gs image m.told (kept m)
 
 -- the image holds what a crash between acts may leave
 abbrev pub LeavesBetween : List Granularity → Machine → Files → Type 0

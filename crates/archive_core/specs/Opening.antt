@@ -1,5 +1,5 @@
 -- The archive that is opened on stores: all that they list is accepted, and there is nothing else.
-use Rattle.std.specs.Prelude.{◌≡◌, ℕ, ◌+◌, ◌^◌, ◌-◌, ◌==◌, List, [], ◌∷◌, max, min, filter, Bool, true, Option, Some, None, slice_get}
+use Rattle.std.specs.Prelude.{◌≡◌, ℕ, ◌+◌, ◌^◌, ◌-◌, ◌==◌, List, [], ◌∷◌, max, min, filter, Bool, true, ◌&&◌, Option, Some, None, slice_get}
 use Rattle.etl_rules.specs.Config.{ConfigState}
 use Rattle.pv_catalog.specs.declared.row.Row.{Row}
 use Rattle.store_manifest.specs.Manifest.{ManifestState}
@@ -47,8 +47,9 @@ pub record IsOpened (rule : Rule) (m : Machine) : Type 0 where
   pub of_rule : m.rule ≡ rule
   pub fresh : m.told ≡ true → m ≡ opened rule true m.doors m.faults (kept m)
 
--- whatever the stores had, the archive stands for a machine that is opened on it, with the settings' moves
+-- Whatever the stores had, the archive stands for a machine that is opened on it, with the settings' moves. Samples are told of where the disk
+-- tells its files and what the stores had stands.
 abbrev pub OpensAs : Bool → Seen → ConfigState → ℕ → Parts → Type 0
 OpensAs tells at config doors p =
     (held : Stores) (rule : Rule) → Has tells at held → rule.granularity ≡ granularities at.manifests → TellsHeaders rule → rule.hold ≡ config.hold → rule.gather ≡ config.gather
-    → (m : Machine) × IsOpened rule m × HoldsDurable held m × Rests tells p m × (m.doors ≡ doors)
+    → (m : Machine) × IsOpened rule m × HoldsDurable held m × Rests tells p m × (m.doors ≡ doors) × (m.told ≡ (tells && held.stands))

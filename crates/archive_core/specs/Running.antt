@@ -1,24 +1,42 @@
 -- Acts that are made on an archive one after another, by anyone: they run in the machine, and what a crash at any moment since the first may
 -- leave lies between what was durable before them and what is accepted after them.
-use Rattle.std.specs.Prelude.{◌≡◌, ℕ, List, [], map, Bool, Some, true, IsTrue, slice_get}
+use Rattle.std.specs.Prelude.{◌≡◌, ℕ, List, [], ◌∷◌, ◌++◌, map, Bool, Some, true, IsTrue, slice_get}
 use Rattle.disk_model.specs.Files.{Files}
 use Rattle.disk_model.specs.Past.{Passes}
 use Rattle.partition_names.specs.declared.granularity.Granularity.{Granularity}
 use Rattle.series_model.specs.Archive.{IsPrefix}
 use Rattle.three_stores.specs.Seen.{granularities}
 use Rattle.act_model.specs.declared.acts.Act.{Act}
+use Rattle.act_model.specs.Crash.{LeftBetween, LeftWithin}
 use Rattle.act_model.specs.History.{Entry, Runs}
 use Rattle.act_model.specs.Machine.{Machine}
 use Rattle.act_model.specs.Reply.{Reply}
 use Rattle.act_model.specs.Rows.{RowState, accepted, durable}
+use Rattle.act_model.specs.Step.{change_by, refuse_by}
 use Rattle.archive_core.specs.Ends.{HoldsMachine}
 use Rattle.archive_core.specs.Parts.{Parts}
 use Rattle.archive_core.specs.Stands.{Stands}
 
--- The image holds each row of the start with no less than was durable of it then; and what it holds of a row, where that is anything, is a
--- front of what is accepted of it at the end.
-pub record HoldsBetween (gs : List Granularity) (start end : Machine) (image : Files) : Type 0 where
+-- what a crash leaves within the first of these acts, or where there is none
+abbrev pub LeftIn : Machine → List Entry → Machine → Type 0
+LeftIn at [] left = LeftBetween at left
+LeftIn at (e ∷ rest) left = LeftWithin (refuse_by e.act) (change_by e.act) at left
+
+-- A crash within one of the acts leaves this, or one behind the last of them: of the state to which those before it led.
+pub record LeftAlong (start : Machine) (entries : List Entry) (left : Machine) : Type 0 where
+  pub front : List Entry
+  pub back : List Entry
+  pub split : entries ≡ front ++ back
+  pub at : Machine
+  pub to : Runs start front at
+  pub is : LeftIn at back left
+
+-- The image holds what a crash within one of the acts leaves. So it holds each row of the start with no less than was durable of it then; and what
+-- it holds of a row, where that is anything, is a front of what is accepted of it at the end. It stands: it has the bytes of its files.
+pub record HoldsBetween (gs : List Granularity) (start : Machine) (entries : List Entry) (end : Machine) (image : Files) : Type 0 where
   pub left : Machine
+  pub along : LeftAlong start entries left
+  pub told : left.told ≡ true
   pub holds : HoldsMachine gs image left
   pub extends : (i : ℕ) (first : RowState) → slice_get start.rows i ≡ Some first → (row : RowState) × (slice_get left.rows i ≡ Some row) × IsPrefix (durable first) (durable row)
   pub extended : (i : ℕ) (row : RowState) → slice_get left.rows i ≡ Some row → (durable row ≡ [] → ⊥) → (last : RowState) × (slice_get end.rows i ≡ Some last) × IsPrefix (durable row) (accepted last)
@@ -29,7 +47,7 @@ pub record RunsOn (tells : Bool) (old : Parts) (m : Machine) (entries : List Ent
   pub after : Machine
   pub runs : Runs m entries after
   pub stands : Stands tells new after
-  pub any_moment : IsTrue tells → m.told ≡ true → Passes (λ a image. HoldsBetween (granularities old.at.manifests) m after image) old.at.past new.at.past
+  pub any_moment : IsTrue tells → m.told ≡ true → Passes (λ a image. HoldsBetween (granularities old.at.manifests) m entries after image) old.at.past new.at.past
 
 -- what was asked, and under which number
 abbrev pub asked : Entry → ℕ × Act

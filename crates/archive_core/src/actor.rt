@@ -1,6 +1,5 @@
 // An archive is what actors act on, one alone or many in turns.
-ghost use Rattle.act_model.specs.Step.{refuse_by, change_by};
-ghost use Rattle.archive_core.specs.Ends.{LeavesByAct};
+ghost use Rattle.archive_core.specs.Leaving.{Leaves};
 ghost use Rattle.archive_core.specs.Parts.{parts};
 ghost use Rattle.archive_core.specs.Stands.{Stands};
 
@@ -14,7 +13,7 @@ impl<D: Disk> Applies for Archive<D> {
 
     ghost stands = { λ a m. Stands D.tells (parts D.Disk a) m };
 
-    ghost crash = { λ a act b. LeavesByAct D.tells (refuse_by act) (change_by act) (parts D.Disk a) (parts D.Disk b) };
+    ghost leaves = { λ a e b. Leaves D.tells (parts D.Disk a) e (parts D.Disk b) };
 
     ghost sound = { λ a m s. s.sound };
 

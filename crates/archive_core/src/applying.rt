@@ -2,8 +2,9 @@
 ghost use Rattle.std.specs.Prelude.{◌≡◌};
 ghost use Rattle.act_model.specs.Machine.{Machine};
 ghost use Rattle.act_model.specs.Reply.{reply_of};
-ghost use Rattle.act_model.specs.Step.{MayAsk, Step, refuse_by, change_by};
-ghost use Rattle.archive_core.specs.Ends.{Steps, LeavesByAct};
+ghost use Rattle.act_model.specs.Step.{MayAsk, Step};
+ghost use Rattle.archive_core.specs.Ends.{Steps};
+ghost use Rattle.archive_core.specs.Leaving.{Leaves};
 ghost use Rattle.archive_core.specs.Parts.{parts};
 ghost use Rattle.archive_core.specs.Stands.{Stands};
 
@@ -22,7 +23,7 @@ impl<D: Disk> Archive<D> {
         requires stands { (m : Machine) × Stands D.tells (parts D.Disk self.old) m }
         requires may_ask { MayAsk act }
         ensures step { Steps D.tells (Step who act) (parts D.Disk self.old) (reply_of D.Reader.tells D.Reader.bytes D.Reader.faults result) (parts D.Disk self.new) }
-        ensures crash { LeavesByAct D.tells (refuse_by act) (change_by act) (parts D.Disk self.old) (parts D.Disk self.new) }
+        ensures leaves { Leaves D.tells (parts D.Disk self.old) (record { who = who; act = act; answer = reply_of D.Reader.tells D.Reader.bytes D.Reader.faults result }) (parts D.Disk self.new) }
     {
         match act {
             Act::Register { name, about } => registered(self.register(&name, &about)),

@@ -1,6 +1,5 @@
 // Details: what is known of a variable, with the numbers of its accepted and durable samples.
-ghost use Rattle.std.specs.Prelude.{◌≡◌, ◌≤◌, IfOk, OnOk, OnErr, IsTrue};
-ghost use Rattle.disk_model.specs.Past.{Passes};
+ghost use Rattle.std.specs.Prelude.{◌≡◌, ◌≤◌, IfOk, OnErr};
 ghost use Rattle.pv_catalog.specs.Rows.{HasName};
 ghost use Rattle.three_stores.specs.Opening.{answer_of};
 ghost use Rattle.act_model.specs.Asks.{details_told_reply};
@@ -11,6 +10,7 @@ ghost use Rattle.act_model.specs.Step.{refuse_by, change_by};
 ghost use Rattle.act_model.specs.declared.acts.Act.TheVariants.{Details as DetailsAct};
 ghost use Rattle.archive_core.specs.Describing.{IsDescribing};
 ghost use Rattle.archive_core.specs.Ends.{AskEnds, Steps, LeavesByAct};
+ghost use Rattle.archive_core.specs.Leaving.{ReadsAlone};
 ghost use Rattle.archive_core.specs.Parts.{parts};
 ghost use Rattle.archive_core.specs.Stands.{Stands, Rests};
 
@@ -44,7 +44,7 @@ impl<D: Disk> Archive<D> {
         ensures answers { IfOk result IsDescribing }
         ensures spent { OnErr result (self.new ≡ self.old) }
         ensures faults { D.faults self.old.store.disk ≤ D.faults self.new.store.disk }
-        ensures reads { IsTrue D.tells → OnOk result (Passes (λ a b. b ≡ a) (D.past self.old.store.disk) (D.past self.new.store.disk)) }
+        ensures reads { ReadsAlone D.tells (parts D.Disk self.old) (parts D.Disk self.new) }
     {
         let tail = copied(self.alloc, self.intake.tail(row))?;
         Ok(self.store.details(name, &tail))
@@ -55,6 +55,7 @@ impl<D: Disk> Archive<D> {
         requires stands { (m : Machine) × Stands D.tells (parts D.Disk self.old) m }
         ensures step { Steps D.tells (DetailsStep name.now) (parts D.Disk self.old) (reply_of D.Reader.tells D.Reader.bytes D.Reader.faults (answer_of result)) (parts D.Disk self.new) }
         ensures crash { LeavesByAct D.tells (refuse_by (DetailsAct name.now)) (change_by (DetailsAct name.now)) (parts D.Disk self.old) (parts D.Disk self.new) }
+        ensures reads { ReadsAlone D.tells (parts D.Disk self.old) (parts D.Disk self.new) }
         ensures answers { IsDescribing (answer_of result) }
     {
         let Some(_) = self.store.catalogue().find(name) else {
@@ -76,6 +77,7 @@ impl<D: Disk> Archive<D> {
         requires stands { (m : Machine) × Stands D.tells (parts D.Disk self.old) m }
         ensures step { Steps D.tells (DetailsStep name.now) (parts D.Disk self.old) (details_told_reply result) (parts D.Disk self.new) }
         ensures crash { LeavesByAct D.tells (refuse_by (DetailsAct name.now)) (change_by (DetailsAct name.now)) (parts D.Disk self.old) (parts D.Disk self.new) }
+        ensures reads { ReadsAlone D.tells (parts D.Disk self.old) (parts D.Disk self.new) }
     {
         described(answered(self.describe_named(name)))
     }

@@ -2,6 +2,7 @@
 ghost use Rattle.std.specs.Prelude.{◌≡◌, ◌≤◌, ◌∷◌, ◌↔◌, [], ℕ, length, true, IfOk, IsTrue};
 ghost use Rattle.append_buffer.specs.Tails.{tail_at, batch_of};
 ghost use Rattle.series_model.specs.Series.{end_of, since};
+ghost use Rattle.three_stores.specs.Pinned.{LeavesFronts};
 ghost use Rattle.act_model.specs.Asks.{flushed_reply};
 ghost use Rattle.act_model.specs.Changes.{of_row};
 ghost use Rattle.act_model.specs.Flush.{FlushStep, count_in};
@@ -10,6 +11,7 @@ ghost use Rattle.act_model.specs.Step.{refuse_by, change_by};
 ghost use Rattle.act_model.specs.declared.acts.Act.TheVariants.{Flush as FlushAct};
 ghost use Rattle.archive_core.specs.Ends.{Steps, LeavesByAct, ChangesTo};
 ghost use Rattle.archive_core.specs.Flushing.{GivesUp, ListsBatch, IsTrimmed, flush_reply};
+ghost use Rattle.archive_core.specs.Leaving.{files_of};
 ghost use Rattle.archive_core.specs.Opening.{end_at};
 ghost use Rattle.archive_core.specs.Parts.{parts};
 ghost use Rattle.archive_core.specs.Stands.{Stands, Rests};
@@ -89,6 +91,7 @@ impl<D: Disk> Archive<D> {
         requires rests { (m : Machine) × Rests D.tells (parts D.Disk self.old) m }
         ensures changes { (m : Machine) → Rests D.tells (parts D.Disk self.old) m → ChangesTo D.tells (Appends (batch_of limit self.old.intake)) (parts D.Disk self.old) m (parts D.Disk self.new) result }
         ensures count { IfOk result (λ samples. (m : Machine) → Rests D.tells (parts D.Disk self.old) m → m.told ≡ true → samples ≡ count_in (batch_of limit self.old.intake)) }
+        ensures fronts { LeavesFronts D.tells (files_of (parts D.Disk self.old)) (files_of (parts D.Disk self.new)) }
     {
         let batch = self.intake.batch(limit)?;
         match self.store.flush(&batch) {
@@ -109,6 +112,7 @@ impl<D: Disk> Archive<D> {
         requires stands { (m : Machine) × Stands D.tells (parts D.Disk self.old) m }
         ensures step { Steps D.tells (FlushStep limit) (parts D.Disk self.old) (flush_reply (parts D.Disk self.new) result) (parts D.Disk self.new) }
         ensures crash { LeavesByAct D.tells (refuse_by (FlushAct limit)) (change_by (FlushAct limit)) (parts D.Disk self.old) (parts D.Disk self.new) }
+        ensures fronts { LeavesFronts D.tells (files_of (parts D.Disk self.old)) (files_of (parts D.Disk self.new)) }
     {
         self.settle()?;
         self.flush_settled(limit)
@@ -125,6 +129,7 @@ impl<D: Disk> Archive<D> {
         requires stands { (m : Machine) × Stands D.tells (parts D.Disk self.old) m }
         ensures step { Steps D.tells (FlushStep limit) (parts D.Disk self.old) (flushed_reply result) (parts D.Disk self.new) }
         ensures crash { LeavesByAct D.tells (refuse_by (FlushAct limit)) (change_by (FlushAct limit)) (parts D.Disk self.old) (parts D.Disk self.new) }
+        ensures fronts { LeavesFronts D.tells (files_of (parts D.Disk self.old)) (files_of (parts D.Disk self.new)) }
     {
         match self.flush_tails(limit) {
             Ok(samples) => Flushed::Flushed {

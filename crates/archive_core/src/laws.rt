@@ -41,7 +41,6 @@ ghost use Rattle.archive_actors.specs.declared.shared.Shared.{Shared};
 ghost use Rattle.turn_rooms.specs.declared.room.Entry.{Entry as RoomEntry};
 ghost use Rattle.turn_rooms.specs.Histories.{Legal, end_of};
 ghost use Rattle.act_model.specs.MoveBegin.{parts_of};
-ghost use Rattle.act_model.specs.Step.{change_by, refuse_by};
 ghost use Rattle.act_model.specs.Parts.{AreParts};
 ghost use Rattle.act_model.specs.Limbo.{files_of, put};
 ghost use Rattle.act_model.specs.Rows.{RowState, Store, Short, Long, next_store, tier};
@@ -49,8 +48,9 @@ ghost use Rattle.act_model.specs.Rule.{index_of};
 ghost use Rattle.act_model.specs.Sound.{IsSound};
 ghost use Rattle.archive_core.specs.declared.memory.Doubt.{Doubt};
 ghost use Rattle.archive_core.specs.declared.memory.RowMemory.{RowMemory};
-ghost use Rattle.archive_core.specs.Ends.{LeavesBetween, LeavesByAct};
+ghost use Rattle.archive_core.specs.Ends.{LeavesBetween};
 ghost use Rattle.archive_core.specs.declared.archive.Archive.{Archive};
+ghost use Rattle.archive_core.specs.Leaving.{Leaves};
 ghost use Rattle.archive_core.specs.Parts.{parts};
 ghost use Rattle.archive_core.specs.Running.{RunsOn};
 ghost use Rattle.archive_core.specs.LimboTies.{IsLimboOf};
@@ -60,18 +60,18 @@ ghost use Rattle.archive_core.specs.Stands.{Stands, HoldsDurable};
 use disk_model::Disk;
 
 /// Whatever a crash between acts leaves of an archive's disk holds what is durable of a machine that it stood for, or that with the
-/// change that stood in doubt.
+/// change that stood in doubt. Where samples are told, it stands.
 pub fn a_crash_leaves_what_is_durable<D: Disk>()
     ensures { (disk : D) (catalogue : CatalogueState) (ms : List ManifestState) (limbo : List Retired) (pinned : FinMap nat_cmp PinOf) (tails : List TailState) (kept : List RowMemory) (doubt : Option Doubt) (doors : ℕ) (config : ConfigState) (slots : List (Option (Running MoveState))) (m : Machine) (image : Files)
         → IsTrue D.tells → Stands D.tells (record { at = seen_on D.files D.opened D.past D.faults catalogue ms disk; limbo = limbo; pinned = pinned; tails = tails; kept = kept; doubt = doubt; doors = doors; config = config; slots = slots }) m → MayLeave (D.past disk) image → LeavesBetween (granularities ms) m image }
 {}
 
 /// What one who acts alone knows, a chain of archives each an act further than the one before, is a run of the machine from each state that
-/// the first stood for. Where its samples are told, each image that a crash at any moment since then may have left has of each variable what
-/// was durable then, and no more than what is accepted in the end.
+/// the first stood for. Where its samples are told, each image that a crash at any moment since then may have left stands, and has of each
+/// variable what was durable then, and no more than what is accepted in the end.
 pub fn acts_lose_no_more<D: Disk>()
     ensures { (old new : Archive D D.Reader) (entries : List Entry) (m : Machine) → Stands D.tells (parts D.Disk old) m
-        → Chain (λ a n. Stands D.tells (parts D.Disk a) n) (λ a act b. LeavesByAct D.tells (refuse_by act) (change_by act) (parts D.Disk a) (parts D.Disk b)) old entries new
+        → Chain (λ a n. Stands D.tells (parts D.Disk a) n) (λ a e b. Leaves D.tells (parts D.Disk a) e (parts D.Disk b)) old entries new
         → RunsOn D.tells (parts D.Disk old) m entries (parts D.Disk new) }
 {}
 
@@ -79,7 +79,7 @@ pub fn acts_lose_no_more<D: Disk>()
 /// the room was opened, and whatever a crash since then may leave lies between the two.
 pub fn turns_lose_no_more<D: Disk>()
     ensures { (room : Shared (Archive D D.Reader) D.Reader) (acts : List (RoomEntry (Shared (Archive D D.Reader) D.Reader) Act (Answer D.Reader))) (m : Machine) → Stands D.tells (parts D.Disk room.archive) m
-        → Legal (SharedStep (λ a n. Stands D.tells (parts D.Disk a) n) (λ a act b. LeavesByAct D.tells (refuse_by act) (change_by act) (parts D.Disk a) (parts D.Disk b)) D.Reader.tells D.Reader.bytes D.Reader.faults) room acts
+        → Legal (SharedStep (λ a n. Stands D.tells (parts D.Disk a) n) (λ a e b. Leaves D.tells (parts D.Disk a) e (parts D.Disk b)) D.Reader.tells D.Reader.bytes D.Reader.faults) room acts
         → RunsOn D.tells (parts D.Disk room.archive) m (all_kept (reply_of D.Reader.tells D.Reader.bytes D.Reader.faults) acts) (parts D.Disk (end_of room acts).archive) }
 {}
 

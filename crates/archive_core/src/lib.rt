@@ -3,7 +3,8 @@
 //! [`Archive::of`] opens an archive on stores, in which all that is durable is accepted and nothing else. Each act says which step of the
 //! machine of `act_model` it is: from each machine that the archive stood for (`Stands`) the act is a step, with the answer that is given,
 //! to one that the archive stands for then. An act that touches the disk also says what a crash at any moment of it leaves: what the
-//! machine says of a crash within that act (`LeavesByAct`). [`Archive::apply`] makes any act, and [`run_acts`] a list of them.
+//! machine says of a crash within that act (`LeavesByAct`). And it says what becomes of files and of pins, whatever is in the files
+//! (`Leaves`). [`Archive::apply`] makes any act, and [`run_acts`] a list of them.
 //!
 //! `Stands` also says what the memory and the stores are while a change stands in doubt: the stores have what is durable of the machine,
 //! or that with the doubted change, and it isn't known which. The change is a new row, a row's state, a flush, the listing of what a move

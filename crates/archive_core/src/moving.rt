@@ -2,12 +2,14 @@
 ghost use Rattle.std.specs.Prelude.{◌≡◌, ◌⊎◌, ◌≤◌, ◌-◌, IfOk, IfErr, OnErr, slice_index};
 ghost use Rattle.disk_model.specs.Files.{Rose};
 ghost use Rattle.disk_model.specs.declared.disk.DiskErr.TheVariants.{Memory};
+ghost use Rattle.three_stores.specs.Seen.{seen, IsSettled};
 ghost use Rattle.act_model.specs.Asks.{move_begun_reply};
 ghost use Rattle.act_model.specs.Machine.{Machine};
 ghost use Rattle.act_model.specs.MoveBegin.{Begins, MoveBeginStep};
 ghost use Rattle.act_model.specs.Step.{refuse_by, change_by, store_of};
 ghost use Rattle.act_model.specs.declared.acts.Act.TheVariants.{MoveBegin as MoveBeginAct};
 ghost use Rattle.archive_core.specs.Ends.{Steps, LeavesByAct};
+ghost use Rattle.archive_core.specs.Leaving.{ReadsAlone};
 ghost use Rattle.archive_core.specs.Moving.{BeginsThere, begun_reply};
 ghost use Rattle.archive_core.specs.Parts.{parts};
 ghost use Rattle.archive_core.specs.Stands.{Stands, Rests};
@@ -41,7 +43,7 @@ impl<D: Disk> Archive<D> {
         ensures begins { IfOk result (λ begun. (m : Machine) → Rests D.tells (parts D.Disk self.old) m → BeginsThere D.tells (store_of store) now m (move_begun_reply begun) (parts D.Disk self.new)) }
         ensures spent { OnErr result ((m : Machine) → Rests D.tells (parts D.Disk self.old) m → Stands D.tells (parts D.Disk self.new) m) }
         ensures cause { IfErr result (λ e. (e ≡ Memory) ⊎ Rose (D.faults self.old.store.disk) (D.faults self.new.store.disk)) }
-        ensures disk { self.new.store.disk ≡ self.old.store.disk }
+        ensures store { self.new.store ≡ self.old.store }
     {
         let running = self.moves.by_series()?;
         let rule = rule_at(&self.config, store, now);
@@ -68,6 +70,8 @@ impl<D: Disk> Archive<D> {
         requires stands { (m : Machine) × Stands D.tells (parts D.Disk self.old) m }
         ensures step { Steps D.tells (MoveBeginStep (store_of store) now) (parts D.Disk self.old) (begun_reply result) (parts D.Disk self.new) }
         ensures crash { LeavesByAct D.tells (refuse_by (MoveBeginAct store now)) (change_by (MoveBeginAct store now)) (parts D.Disk self.old) (parts D.Disk self.new) }
+        ensures reads { ReadsAlone D.tells (parts D.Disk self.old) (parts D.Disk self.new) }
+        ensures quiet { IsSettled (seen D.Disk self.old.store) → self.new.store.disk ≡ self.old.store.disk }
     {
         self.settle()?;
         self.begin_chosen(store, now)
@@ -85,6 +89,8 @@ impl<D: Disk> Archive<D> {
         requires stands { (m : Machine) × Stands D.tells (parts D.Disk self.old) m }
         ensures step { Steps D.tells (MoveBeginStep (store_of store) now) (parts D.Disk self.old) (move_begun_reply result) (parts D.Disk self.new) }
         ensures crash { LeavesByAct D.tells (refuse_by (MoveBeginAct store now)) (change_by (MoveBeginAct store now)) (parts D.Disk self.old) (parts D.Disk self.new) }
+        ensures reads { ReadsAlone D.tells (parts D.Disk self.old) (parts D.Disk self.new) }
+        ensures quiet { IsSettled (seen D.Disk self.old.store) → self.new.store.disk ≡ self.old.store.disk }
     {
         match self.begin_due(store, now) {
             Ok(begun) => begun,

@@ -1,6 +1,5 @@
 // Pins: one is made, a piece of one is opened, or its owner gives it up.
-ghost use Rattle.std.specs.Prelude.{◌≡◌, ◌≤◌, Result, IfOk, OnOk, OnErr, IsTrue};
-ghost use Rattle.disk_model.specs.Past.{Passes};
+ghost use Rattle.std.specs.Prelude.{◌≡◌, ◌≤◌, Result, IfOk, OnErr};
 ghost use Rattle.pin_table.specs.declared.table.PinErr.{PinErr};
 ghost use Rattle.pinned_pieces.specs.Pieces.{PinOf};
 ghost use Rattle.pv_catalog.specs.Rows.{HasName};
@@ -14,6 +13,7 @@ ghost use Rattle.act_model.specs.Step.{refuse_by, change_by};
 ghost use Rattle.act_model.specs.Unpin.{Unpins};
 ghost use Rattle.act_model.specs.declared.acts.Act.TheVariants.{OpenPiece as OpenPieceAct, Pin as PinAct};
 ghost use Rattle.archive_core.specs.Ends.{AskEnds, Steps, LeavesByAct};
+ghost use Rattle.archive_core.specs.Leaving.{LeavesPins, ReadsAlone};
 ghost use Rattle.archive_core.specs.Parts.{parts};
 ghost use Rattle.archive_core.specs.Pinning.{IsPinning};
 ghost use Rattle.archive_core.specs.Pins.{IsOpening};
@@ -107,7 +107,8 @@ impl<D: Disk> Archive<D> {
         ensures answers { IfOk result IsPinning }
         ensures spent { OnErr result (self.new ≡ self.old) }
         ensures faults { D.faults self.old.store.disk ≤ D.faults self.new.store.disk }
-        ensures reads { IsTrue D.tells → OnOk result (Passes (λ a b. b ≡ a) (D.past self.old.store.disk) (D.past self.new.store.disk)) }
+        ensures reads { ReadsAlone D.tells (parts D.Disk self.old) (parts D.Disk self.new) }
+        ensures made { IfOk result (λ answer. LeavesPins D.tells (parts D.Disk self.old) (PinAct name.now query) (reply_of D.Reader.tells D.Reader.bytes D.Reader.faults answer) (parts D.Disk self.new)) }
     {
         let tail = copied(self.alloc, self.intake.tail(row))?;
         Ok(self.store.pin(who, name, query, tail))
@@ -123,6 +124,8 @@ impl<D: Disk> Archive<D> {
         requires stands { (m : Machine) × Stands D.tells (parts D.Disk self.old) m }
         ensures step { Steps D.tells (PinStep who name.now query) (parts D.Disk self.old) (reply_of D.Reader.tells D.Reader.bytes D.Reader.faults (answer_of result)) (parts D.Disk self.new) }
         ensures crash { LeavesByAct D.tells (refuse_by (PinAct name.now query)) (change_by (PinAct name.now query)) (parts D.Disk self.old) (parts D.Disk self.new) }
+        ensures reads { ReadsAlone D.tells (parts D.Disk self.old) (parts D.Disk self.new) }
+        ensures pins { LeavesPins D.tells (parts D.Disk self.old) (PinAct name.now query) (reply_of D.Reader.tells D.Reader.bytes D.Reader.faults (answer_of result)) (parts D.Disk self.new) }
         ensures answers { IsPinning (answer_of result) }
     {
         let Some(_) = self.store.catalogue().find(name) else {
@@ -136,14 +139,16 @@ impl<D: Disk> Archive<D> {
         Ok(answer)
     }
 
-    /// Pins the files of a variable that its samples of an interval need, for the actor of this number: under the least number that no pin
-    /// has. It tells how many these are, and the samples that no store lists yet; the files in their order and these over them answer the
-    /// query as all samples that are accepted do. A change that stands in doubt is settled first. `DiskFault` comes only where the disk's
-    /// count of faults rose in the call.
+    /// Pins files of a variable that are enough for its samples of an interval, maybe more than these need, for the actor of this number:
+    /// under the least number that no pin has. It tells how many they are, and the samples that no store lists yet; the files in their order
+    /// and these over them answer the query as all samples that are accepted do. A change that stands in doubt is settled first. `DiskFault`
+    /// comes only where the disk's count of faults rose in the call.
     pub fn pin(&mut self, who: u64, name: &[u8], query: Query) -> Pinned
         requires stands { (m : Machine) × Stands D.tells (parts D.Disk self.old) m }
         ensures step { Steps D.tells (PinStep who name.now query) (parts D.Disk self.old) (pinned_reply result) (parts D.Disk self.new) }
         ensures crash { LeavesByAct D.tells (refuse_by (PinAct name.now query)) (change_by (PinAct name.now query)) (parts D.Disk self.old) (parts D.Disk self.new) }
+        ensures reads { ReadsAlone D.tells (parts D.Disk self.old) (parts D.Disk self.new) }
+        ensures pins { LeavesPins D.tells (parts D.Disk self.old) (PinAct name.now query) (pinned_reply result) (parts D.Disk self.new) }
     {
         pinned(answered(self.pin_named(who, name, query)))
     }
@@ -154,6 +159,8 @@ impl<D: Disk> Archive<D> {
         requires stands { (m : Machine) × Stands D.tells (parts D.Disk self.old) m }
         ensures step { Steps D.tells (Opens who pin i) (parts D.Disk self.old) (piece_opened_reply D.Reader.tells D.Reader.bytes D.Reader.faults result) (parts D.Disk self.new) }
         ensures crash { LeavesByAct D.tells (refuse_by (OpenPieceAct pin i)) (change_by (OpenPieceAct pin i)) (parts D.Disk self.old) (parts D.Disk self.new) }
+        ensures reads { ReadsAlone D.tells (parts D.Disk self.old) (parts D.Disk self.new) }
+        ensures pins { LeavesPins D.tells (parts D.Disk self.old) (OpenPieceAct pin i) (piece_opened_reply D.Reader.tells D.Reader.bytes D.Reader.faults result) (parts D.Disk self.new) }
     {
         opened(self.store.open_piece(who, pin, i))
     }
@@ -162,7 +169,7 @@ impl<D: Disk> Archive<D> {
     pub fn unpin(&mut self, who: u64, pin: u32) -> Unpinned
         requires stands { (m : Machine) × Stands D.tells (parts D.Disk self.old) m }
         ensures step { Steps D.tells (Unpins who pin) (parts D.Disk self.old) (unpinned_reply result) (parts D.Disk self.new) }
-        ensures disk { self.new.store.disk ≡ self.old.store.disk }
+        ensures same { (self.new.store.catalogue ≡ self.old.store.catalogue) × (self.new.store.manifests ≡ self.old.store.manifests) × (self.new.store.disk ≡ self.old.store.disk) × (self.new.store.limbo ≡ self.old.store.limbo) }
     {
         unpinned(self.store.unpin(who, pin))
     }

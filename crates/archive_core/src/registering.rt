@@ -2,12 +2,14 @@
 ghost use Rattle.std.specs.Prelude.{◌≡◌, ◌≤◌, ◌++◌, ◌∷◌, [], ℕ, length, take, IfOk, IfErr, OnOk, OnErr, Some};
 ghost use Rattle.pv_catalog.specs.Catalogue.{Refuses};
 ghost use Rattle.pv_catalog.specs.declared.error.RegisterErr.{RegisterErr};
+ghost use Rattle.three_stores.specs.Pinned.{LeavesFronts};
 ghost use Rattle.act_model.specs.Asks.{registered_reply};
 ghost use Rattle.act_model.specs.Machine.{Machine, AddsRow};
 ghost use Rattle.act_model.specs.Register.{RegisterStep, register_refused};
 ghost use Rattle.act_model.specs.Step.{refuse_by, change_by};
 ghost use Rattle.act_model.specs.declared.acts.Act.TheVariants.{Register as RegisterAct};
 ghost use Rattle.archive_core.specs.Ends.{Steps, LeavesByAct, ChangesTo, register_reply};
+ghost use Rattle.archive_core.specs.Leaving.{files_of};
 ghost use Rattle.archive_core.specs.Memory.{fresh_memory};
 ghost use Rattle.archive_core.specs.Parts.{parts};
 ghost use Rattle.archive_core.specs.Stands.{Stands, Rests};
@@ -56,6 +58,7 @@ impl<D: Disk> Archive<D> {
         requires free { (e : RegisterErr) → Refuses self.old.store.catalogue.rows name.now e → ⊥ }
         ensures changes { (m : Machine) → Rests D.tells (parts D.Disk self.old) m → ChangesTo D.tells (AddsRow name.now about.now) (parts D.Disk self.old) m (parts D.Disk self.new) result }
         ensures number { IfOk result (λ row. row ≡ length self.old.store.catalogue.rows) }
+        ensures fronts { LeavesFronts D.tells (files_of (parts D.Disk self.old)) (files_of (parts D.Disk self.new)) }
     {
         let count = self.store.catalogue().rows().len();
         add_memory(&mut self.rows, count, about)?;
@@ -76,6 +79,7 @@ impl<D: Disk> Archive<D> {
         requires stands { (m : Machine) × Stands D.tells (parts D.Disk self.old) m }
         ensures step { Steps D.tells (RegisterStep name.now about.now) (parts D.Disk self.old) (register_reply result) (parts D.Disk self.new) }
         ensures crash { LeavesByAct D.tells (register_refused name.now) (λ m. Some (AddsRow name.now about.now)) (parts D.Disk self.old) (parts D.Disk self.new) }
+        ensures fronts { LeavesFronts D.tells (files_of (parts D.Disk self.old)) (files_of (parts D.Disk self.new)) }
     {
         refuse_taken(self.store.catalogue(), name)?;
         self.settle()?;
@@ -89,6 +93,7 @@ impl<D: Disk> Archive<D> {
         requires stands { (m : Machine) × Stands D.tells (parts D.Disk self.old) m }
         ensures step { Steps D.tells (RegisterStep name.now about.now) (parts D.Disk self.old) (registered_reply result) (parts D.Disk self.new) }
         ensures crash { LeavesByAct D.tells (refuse_by (RegisterAct name.now about.now)) (change_by (RegisterAct name.now about.now)) (parts D.Disk self.old) (parts D.Disk self.new) }
+        ensures fronts { LeavesFronts D.tells (files_of (parts D.Disk self.old)) (files_of (parts D.Disk self.new)) }
     {
         match self.register_name(name, about) {
             Ok(row) => Registered::Registered { row },

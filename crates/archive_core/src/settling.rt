@@ -3,9 +3,11 @@ ghost use Rattle.std.specs.Prelude.{◌≡◌, ◌↔◌, IsTrue, OnOk, OnErr};
 ghost use Rattle.pv_catalog.specs.Catalogue.{HasState};
 ghost use Rattle.tier_store.specs.Ends.{end_of_disk};
 ghost use Rattle.three_stores.specs.Change.{OnlyReads};
-ghost use Rattle.three_stores.specs.Seen.{seen, granularities};
+ghost use Rattle.three_stores.specs.Pinned.{LeavesFronts};
+ghost use Rattle.three_stores.specs.Seen.{seen, IsSettled, granularities};
 ghost use Rattle.act_model.specs.Machine.{Machine};
 ghost use Rattle.archive_core.specs.Ends.{SettlesTo, StandsStill};
+ghost use Rattle.archive_core.specs.Leaving.{files_of};
 ghost use Rattle.archive_core.specs.Memory.{cleared, IsCleared};
 ghost use Rattle.archive_core.specs.Parts.{parts};
 ghost use Rattle.archive_core.specs.Stands.{Stands};
@@ -50,7 +52,8 @@ fn clear_set(rows: &[Row], kept: &mut Vec<RowMemory>, doubt: &Option<Doubt>)
 }
 
 impl<D: Disk> Archive<D> {
-    /// Finds out whether a change that stands in doubt was made, and takes it in where it was: it only reads.
+    /// Finds out whether a change that stands in doubt was made, and takes it in where it was: it only reads, and not even that where nothing
+    /// stands in doubt.
     ///
     /// After an error the doubt stands as before. `Fault` comes only where the disk's count of faults rose in the call.
     pub fn settle(&mut self) -> Result<(), DiskErr>
@@ -59,6 +62,8 @@ impl<D: Disk> Archive<D> {
         ensures still { OnErr result (StandsStill D.tells (parts D.Disk self.old) (parts D.Disk self.new)) }
         ensures granularity { granularities self.new.store.manifests.items ≡ granularities self.old.store.manifests.items }
         ensures reads { OnlyReads D.tells (seen D.Disk self.old.store) (seen D.Disk self.new.store) (end_of_disk result) }
+        ensures fronts { LeavesFronts D.tells (files_of (parts D.Disk self.old)) (files_of (parts D.Disk self.new)) }
+        ensures quiet { IsSettled (seen D.Disk self.old.store) → self.new.store ≡ self.old.store }
     {
         self.store.review()?;
         clear_set(self.store.catalogue().rows(), &mut self.rows, &self.doubt);

@@ -5,7 +5,7 @@ ghost use Rattle.pv_catalog.specs.Catalogue.{HasState};
 ghost use Rattle.tier_store.specs.Ends.{end_of_switch};
 ghost use Rattle.three_stores.specs.Change.{Has, Acts};
 ghost use Rattle.three_stores.specs.Moving.{LeavesLater};
-ghost use Rattle.three_stores.specs.Pinned.{seen_all, KeepsShown};
+ghost use Rattle.three_stores.specs.Pinned.{seen_all, KeepsShown, LeavesFronts};
 ghost use Rattle.three_stores.specs.Revival.{KeepsWhole};
 ghost use Rattle.three_stores.specs.Seen.{seen};
 ghost use Rattle.three_stores.specs.Stores.{Stores};
@@ -16,6 +16,7 @@ ghost use Rattle.act_model.specs.Resume.{ResumeStep};
 ghost use Rattle.act_model.specs.Step.{refuse_by, change_by};
 ghost use Rattle.act_model.specs.declared.acts.Act.TheVariants.{Pause as PauseAct, Resume as ResumeAct};
 ghost use Rattle.archive_core.specs.Ends.{Steps, LeavesByAct, ChangesTo};
+ghost use Rattle.archive_core.specs.Leaving.{files_of};
 ghost use Rattle.archive_core.specs.Parts.{parts};
 ghost use Rattle.archive_core.specs.Stands.{Stands, Rests};
 ghost use Rattle.archive_core.specs.Switching.{IsFound, IsUnset, from_of, to_of, wrong_of, switching, switch_reply};
@@ -98,6 +99,7 @@ fn switch_in<D: Disk>(store: &mut TierStore<D>, row: u32, switch: Switch) -> Res
     ensures limbo { store.new.limbo ≡ store.old.limbo }
     ensures pins { store.new.pinned ≡ store.old.pinned }
     ensures shown { KeepsShown D.tells (seen_all D.Disk store.old) (seen_all D.Disk store.new) }
+    ensures fronts { LeavesFronts D.tells (seen_all D.Disk store.old) (seen_all D.Disk store.new) }
     ensures whole { KeepsWhole D.tells (seen_all D.Disk store.old) (seen_all D.Disk store.new) }
     ensures leaves { LeavesLater D.tells (seen_all D.Disk store.old) (seen_all D.Disk store.new) }
 {
@@ -112,7 +114,8 @@ impl<D: Disk> Archive<D> {
     fn switch(&mut self, row: u32, switch: Switch) -> Result<(), DiskErr>
         requires rests { (m : Machine) × Rests D.tells (parts D.Disk self.old) m }
         requires state { HasState self.old.store.catalogue.rows row (from_of switch) }
-        ensures { (m : Machine) → Rests D.tells (parts D.Disk self.old) m → ChangesTo D.tells (SetsState row (to_of switch)) (parts D.Disk self.old) m (parts D.Disk self.new) result }
+        ensures changes { (m : Machine) → Rests D.tells (parts D.Disk self.old) m → ChangesTo D.tells (SetsState row (to_of switch)) (parts D.Disk self.old) m (parts D.Disk self.new) result }
+        ensures fronts { LeavesFronts D.tells (files_of (parts D.Disk self.old)) (files_of (parts D.Disk self.new)) }
     {
         match switch_in(&mut self.store, row, switch) {
             Ok(()) => {
@@ -134,6 +137,7 @@ impl<D: Disk> Archive<D> {
         requires stands { (m : Machine) × Stands D.tells (parts D.Disk self.old) m }
         ensures step { Steps D.tells (StateStep (wrong_of switch) (to_of switch) name.now) (parts D.Disk self.old) (switch_reply switch result) (parts D.Disk self.new) }
         ensures crash { LeavesByAct D.tells (state_refused (wrong_of switch) name.now) (λ m. sets_of (to_of switch) (find_row m name.now)) (parts D.Disk self.old) (parts D.Disk self.new) }
+        ensures fronts { LeavesFronts D.tells (files_of (parts D.Disk self.old)) (files_of (parts D.Disk self.new)) }
     {
         row_to_switch(self.store.catalogue(), name, switch)?;
         self.settle()?;
@@ -148,6 +152,7 @@ impl<D: Disk> Archive<D> {
         requires stands { (m : Machine) × Stands D.tells (parts D.Disk self.old) m }
         ensures step { Steps D.tells (PauseStep name.now) (parts D.Disk self.old) (paused_reply result) (parts D.Disk self.new) }
         ensures crash { LeavesByAct D.tells (refuse_by (PauseAct name.now)) (change_by (PauseAct name.now)) (parts D.Disk self.old) (parts D.Disk self.new) }
+        ensures fronts { LeavesFronts D.tells (files_of (parts D.Disk self.old)) (files_of (parts D.Disk self.new)) }
     {
         match self.set_state(name, Switch::Pause) {
             Ok(()) => Paused::Done,
@@ -164,6 +169,7 @@ impl<D: Disk> Archive<D> {
         requires stands { (m : Machine) × Stands D.tells (parts D.Disk self.old) m }
         ensures step { Steps D.tells (ResumeStep name.now) (parts D.Disk self.old) (resumed_reply result) (parts D.Disk self.new) }
         ensures crash { LeavesByAct D.tells (refuse_by (ResumeAct name.now)) (change_by (ResumeAct name.now)) (parts D.Disk self.old) (parts D.Disk self.new) }
+        ensures fronts { LeavesFronts D.tells (files_of (parts D.Disk self.old)) (files_of (parts D.Disk self.new)) }
     {
         match self.set_state(name, Switch::Resume) {
             Ok(()) => Resumed::Done,

@@ -106,9 +106,9 @@ fn work_all<
 where
     X::Reader: Send,
     W::L: Send,
-    requires stand { All (CanWork (SharedStep X.stands X.crash X.Reader.tells X.Reader.bytes X.Reader.faults) (SharedStands X.stands) rooms.now) workers.old }
+    requires stand { All (CanWork (SharedStep X.stands X.leaves X.Reader.tells X.Reader.bytes X.Reader.faults) (SharedStands X.stands) rooms.now) workers.old }
     requires as_many { length workers.old ≡ length posts.old + 2 }
-    ensures { WorkDone (ServesDoorSeated rt.now (SharedStep X.stands X.crash X.Reader.tells X.Reader.bytes X.Reader.faults) (SharedStands X.stands) (reply_of X.Reader.tells X.Reader.bytes X.Reader.faults) X.Reader.tells X.Reader.faults W.L.Source.left W.L.Sink.written W.L.Source.read_faults W.L.Sink.write_faults W.is_closed W.door_faults W.ledger (IsTold G.entered G.left gate.now)) seat_pass seat_rooms C.coming (SharedStep X.stands X.crash X.Reader.tells X.Reader.bytes X.Reader.faults) (reply_of X.Reader.tells X.Reader.bytes X.Reader.faults) rooms.now workers.old posts.old workers.new posts.new }
+    ensures { WorkDone (ServesDoorSeated rt.now (SharedStep X.stands X.leaves X.Reader.tells X.Reader.bytes X.Reader.faults) (SharedStands X.stands) (reply_of X.Reader.tells X.Reader.bytes X.Reader.faults) X.Reader.tells X.Reader.faults W.L.Source.left W.L.Sink.written W.L.Source.read_faults W.L.Sink.write_faults W.is_closed W.door_faults W.ledger (IsTold G.entered G.left gate.now)) seat_pass seat_rooms C.coming (SharedStep X.stands X.leaves X.Reader.tells X.Reader.bytes X.Reader.faults) (reply_of X.Reader.tells X.Reader.bytes X.Reader.faults) rooms.now workers.old posts.old workers.new posts.new }
 {
     let at_posts = posts.len();
     let (at_doors, beside) = workers.split_at_mut(at_posts);
@@ -116,15 +116,15 @@ where
     run_with(
         rt,
         &|worker: &mut Worker<Shared<X>, C, Ended>, task: &mut Task|
-            requires { (m : Machine) × StandsFor (SharedStep X.stands X.crash X.Reader.tells X.Reader.bytes X.Reader.faults) (SharedStands X.stands) rooms.now worker.now.pass m }
-            ensures { TaskEnds (SharedStep X.stands X.crash X.Reader.tells X.Reader.bytes X.Reader.faults) (reply_of X.Reader.tells X.Reader.bytes X.Reader.faults) rooms.entry.now task.entry.now worker.entry.now.pass (C.coming worker.entry.now.clock) worker.exit.now.end worker.exit.now.pass (C.coming worker.exit.now.clock) }
+            requires { (m : Machine) × StandsFor (SharedStep X.stands X.leaves X.Reader.tells X.Reader.bytes X.Reader.faults) (SharedStands X.stands) rooms.now worker.now.pass m }
+            ensures { TaskEnds (SharedStep X.stands X.leaves X.Reader.tells X.Reader.bytes X.Reader.faults) (reply_of X.Reader.tells X.Reader.bytes X.Reader.faults) rooms.entry.now task.entry.now worker.entry.now.pass (C.coming worker.entry.now.clock) worker.exit.now.end worker.exit.now.pass (C.coming worker.exit.now.clock) }
         { tend(rt, rooms, worker, task) },
         beside,
         &mut tasks,
         &|worker: &mut Worker<Shared<X>, C, Ended>, post: &mut Post<W>|
-            requires { (m : Machine) × StandsFor (SharedStep X.stands X.crash X.Reader.tells X.Reader.bytes X.Reader.faults) (SharedStands X.stands) rooms.now worker.now.pass m }
-            ensures acts { ShiftEnds (SharedStep X.stands X.crash X.Reader.tells X.Reader.bytes X.Reader.faults) (reply_of X.Reader.tells X.Reader.bytes X.Reader.faults) rooms.entry.now worker.entry.now.pass worker.exit.now.end worker.exit.now.pass }
-            ensures door { DoorEnds (ServesDoorSeated rt.entry.now (SharedStep X.stands X.crash X.Reader.tells X.Reader.bytes X.Reader.faults) (SharedStands X.stands) (reply_of X.Reader.tells X.Reader.bytes X.Reader.faults) X.Reader.tells X.Reader.faults W.L.Source.left W.L.Sink.written W.L.Source.read_faults W.L.Sink.write_faults W.is_closed W.door_faults W.ledger (IsTold G.entered G.left gate.entry.now)) seat_pass seat_rooms rooms.entry.now post.entry.now.kind worker.entry.now.place worker.entry.now.pass (C.coming worker.entry.now.clock) post.entry.now.door worker.exit.now.end worker.exit.now.pass (C.coming worker.exit.now.clock) post.exit.now.door }
+            requires { (m : Machine) × StandsFor (SharedStep X.stands X.leaves X.Reader.tells X.Reader.bytes X.Reader.faults) (SharedStands X.stands) rooms.now worker.now.pass m }
+            ensures acts { ShiftEnds (SharedStep X.stands X.leaves X.Reader.tells X.Reader.bytes X.Reader.faults) (reply_of X.Reader.tells X.Reader.bytes X.Reader.faults) rooms.entry.now worker.entry.now.pass worker.exit.now.end worker.exit.now.pass }
+            ensures door { DoorEnds (ServesDoorSeated rt.entry.now (SharedStep X.stands X.leaves X.Reader.tells X.Reader.bytes X.Reader.faults) (SharedStands X.stands) (reply_of X.Reader.tells X.Reader.bytes X.Reader.faults) X.Reader.tells X.Reader.faults W.L.Source.left W.L.Sink.written W.L.Source.read_faults W.L.Sink.write_faults W.is_closed W.door_faults W.ledger (IsTold G.entered G.left gate.entry.now)) seat_pass seat_rooms rooms.entry.now post.entry.now.kind worker.entry.now.place worker.entry.now.pass (C.coming worker.entry.now.clock) post.entry.now.door worker.exit.now.end worker.exit.now.pass (C.coming worker.exit.now.clock) post.exit.now.door }
             ensures kind { post.exit.now.kind ≡ post.entry.now.kind }
         { serve_post(rt, alloc, rooms, gate, worker, post) },
         at_doors,
@@ -157,18 +157,18 @@ pub fn serve_all<
 where
     X::Reader: Send,
     W::L: Send,
-    requires stands { (m : Machine) × StandsFor (SharedStep X.stands X.crash X.Reader.tells X.Reader.bytes X.Reader.faults) (SharedStands X.stands) rooms.now pass.old m }
+    requires stands { (m : Machine) × StandsFor (SharedStep X.stands X.leaves X.Reader.tells X.Reader.bytes X.Reader.faults) (SharedStands X.stands) rooms.now pass.old m }
     requires last { IsLast pass.old }
     requires few { length posts.old < 2 ^ 32 }
-    ensures rooms { IsPassOf (SharedStep X.stands X.crash X.Reader.tells X.Reader.bytes X.Reader.faults) rooms.now pass.new }
+    ensures rooms { IsPassOf (SharedStep X.stands X.leaves X.Reader.tells X.Reader.bytes X.Reader.faults) rooms.now pass.new }
     ensures back { IsBack pass.old pass.new }
-    ensures served { ServesAll (ServesDoorSeated rt.now (SharedStep X.stands X.crash X.Reader.tells X.Reader.bytes X.Reader.faults) (SharedStands X.stands) (reply_of X.Reader.tells X.Reader.bytes X.Reader.faults) X.Reader.tells X.Reader.faults W.L.Source.left W.L.Sink.written W.L.Source.read_faults W.L.Sink.write_faults W.is_closed W.door_faults W.ledger (IsTold G.entered G.left gate.now)) seat_pass seat_rooms C.coming (SharedStep X.stands X.crash X.Reader.tells X.Reader.bytes X.Reader.faults) (reply_of X.Reader.tells X.Reader.bytes X.Reader.faults) rooms.now result pass.old pass.new posts.old posts.new }
+    ensures served { ServesAll (ServesDoorSeated rt.now (SharedStep X.stands X.leaves X.Reader.tells X.Reader.bytes X.Reader.faults) (SharedStands X.stands) (reply_of X.Reader.tells X.Reader.bytes X.Reader.faults) X.Reader.tells X.Reader.faults W.L.Source.left W.L.Sink.written W.L.Source.read_faults W.L.Sink.write_faults W.is_closed W.door_faults W.ledger (IsTold G.entered G.left gate.now)) seat_pass seat_rooms C.coming (SharedStep X.stands X.leaves X.Reader.tells X.Reader.bytes X.Reader.faults) (reply_of X.Reader.tells X.Reader.bytes X.Reader.faults) rooms.now result pass.old pass.new posts.old posts.new }
     ensures clock { Gives (C.coming clock.old) (C.coming clock.new) [] }
     ensures spent { result.spent ≡ true → (most_acts ≤ length (known pass.new)) ⊎ (drained pass.old < drained pass.new) }
     ensures disk_fault { result.disk_fault ≡ true → HasFlushFault (reply_of X.Reader.tells X.Reader.bytes X.Reader.faults) pass.old pass.new }
-    ensures ends { (m : Machine) → StandsFor (SharedStep X.stands X.crash X.Reader.tells X.Reader.bytes X.Reader.faults) (SharedStands X.stands) rooms.now pass.old m → m.doors ≡ length posts.old
+    ensures ends { (m : Machine) → StandsFor (SharedStep X.stands X.leaves X.Reader.tells X.Reader.bytes X.Reader.faults) (SharedStands X.stands) rooms.now pass.old m → m.doors ≡ length posts.old
         → result.spent ≡ false → result.memory ≡ false → result.disk_fault ≡ false
-        → (mover : ℕ) × EndsInTurns (SharedStep X.stands X.crash X.Reader.tells X.Reader.bytes X.Reader.faults) (SharedStands X.stands) (reply_of X.Reader.tells X.Reader.bytes X.Reader.faults) rooms.now pass.old pass.new m mover }
+        → (mover : ℕ) × EndsInTurns (SharedStep X.stands X.leaves X.Reader.tells X.Reader.bytes X.Reader.faults) (SharedStands X.stands) (reply_of X.Reader.tells X.Reader.bytes X.Reader.faults) rooms.now pass.old pass.new m mover }
 {
     match draw_workers(
         rt,

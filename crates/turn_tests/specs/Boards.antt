@@ -2,6 +2,7 @@
 use Rattle.std.specs.Prelude.{◌≡◌, ℕ, ◌==◌, [], ◌∷◌, false, if◌then◌else◌, Option, None, Some}
 use Rattle.std.specs.FinMap.{get}
 use Rattle.act_model.specs.declared.acts.Act.{Act}
+use Rattle.act_model.specs.History.{Entry}
 use Rattle.act_model.specs.Machine.{Machine, PinState}
 use Rattle.act_model.specs.Reply.{Reply}
 use Rattle.act_model.specs.Rows.{fresh_row}
@@ -24,9 +25,9 @@ pub record BoardStands (board : Board) (m : Machine) : Type 0 where
   pub doors : m.doors ≡ board.doors
   pub certain : m.doubt ≡ None
 
--- nothing of a board is on a disk, so a crash leaves nothing of it
-abbrev pub BoardCrash : Board → Act → Board → Type 0
-BoardCrash old act new = Unit {0}
+-- nothing of a board is on a disk, so nothing is said of what its acts leave there
+abbrev pub BoardLeaves : Board → Entry → Board → Type 0
+BoardLeaves old entry new = Unit {0}
 
 -- this act with this answer leads from each state that the one stands for to one that the other stands for
 abbrev pub StepsTo : ℕ → Act → Board → Reply → Board → Type 0

@@ -3,7 +3,7 @@ ghost use Rattle.std.specs.Prelude.{◌≡◌, ℕ, true, [], None, Some, IfOk};
 ghost use Rattle.act_model.specs.Machine.{Machine};
 ghost use Rattle.act_model.specs.Reply.{reply_of};
 ghost use Rattle.act_model.specs.declared.acts.Act.{Act};
-ghost use Rattle.turn_tests.specs.Boards.{BoardStands, BoardCrash, StepsTo};
+ghost use Rattle.turn_tests.specs.Boards.{BoardStands, BoardLeaves, StepsTo};
 
 use act_model::{Act, Answer};
 use archive_actors::Applies;
@@ -147,7 +147,7 @@ impl Applies for Board {
 
     ghost stands = { BoardStands };
 
-    ghost crash = { BoardCrash };
+    ghost leaves = { BoardLeaves };
 
     ghost sound = { λ board m stands. stands.sound };
 

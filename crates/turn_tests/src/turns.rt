@@ -5,7 +5,7 @@ ghost use Rattle.std.specs.Prelude.{◌≡◌, IfOk, IfSome};
 ghost use Rattle.turn_rooms.specs.Passes.{standing};
 ghost use Rattle.archive_actors.specs.Steps.{SharedStands, SharedStep};
 ghost use Rattle.archive_actors.specs.Seats.{StandsFor};
-ghost use Rattle.turn_tests.specs.Boards.{BoardCrash, BoardStands};
+ghost use Rattle.turn_tests.specs.Boards.{BoardLeaves, BoardStands};
 
 use crate::board::Board;
 use act_model::{Act, Actor, Answer, Spent};
@@ -24,9 +24,9 @@ fn act_seated(
     pass: &mut Pass<Shared<Board>>,
     act: Act,
 ) -> Result<Answer<MemFile>, Spent>
-    requires stands { (m : Machine) × StandsFor (SharedStep BoardStands BoardCrash ⟦<MemFile as ReadAt>⟧.tells ⟦<MemFile as ReadAt>⟧.bytes ⟦<MemFile as ReadAt>⟧.faults) (SharedStands BoardStands) rooms.now pass.old m }
+    requires stands { (m : Machine) × StandsFor (SharedStep BoardStands BoardLeaves ⟦<MemFile as ReadAt>⟧.tells ⟦<MemFile as ReadAt>⟧.bytes ⟦<MemFile as ReadAt>⟧.faults) (SharedStands BoardStands) rooms.now pass.old m }
     requires may_ask { MayAsk act }
-    ensures stands { (m : Machine) × StandsFor (SharedStep BoardStands BoardCrash ⟦<MemFile as ReadAt>⟧.tells ⟦<MemFile as ReadAt>⟧.bytes ⟦<MemFile as ReadAt>⟧.faults) (SharedStands BoardStands) rooms.now pass.new m }
+    ensures stands { (m : Machine) × StandsFor (SharedStep BoardStands BoardLeaves ⟦<MemFile as ReadAt>⟧.tells ⟦<MemFile as ReadAt>⟧.bytes ⟦<MemFile as ReadAt>⟧.faults) (SharedStands BoardStands) rooms.now pass.new m }
 {
     match Seated::new(rt, rooms, pass).act(act) {
         Ok(answer) => Ok(answer),
@@ -45,8 +45,8 @@ fn shared_board(
         Pass<Shared<Board>>,
     ),
 >
-    ensures { IfSome result (λ all. ((m : Machine) × StandsFor (SharedStep BoardStands BoardCrash ⟦<MemFile as ReadAt>⟧.tells ⟦<MemFile as ReadAt>⟧.bytes ⟦<MemFile as ReadAt>⟧.faults) (SharedStands BoardStands) all.0 all.1 m)
-        × ((m : Machine) × StandsFor (SharedStep BoardStands BoardCrash ⟦<MemFile as ReadAt>⟧.tells ⟦<MemFile as ReadAt>⟧.bytes ⟦<MemFile as ReadAt>⟧.faults) (SharedStands BoardStands) all.0 all.2 m)) }
+    ensures { IfSome result (λ all. ((m : Machine) × StandsFor (SharedStep BoardStands BoardLeaves ⟦<MemFile as ReadAt>⟧.tells ⟦<MemFile as ReadAt>⟧.bytes ⟦<MemFile as ReadAt>⟧.faults) (SharedStands BoardStands) all.0 all.1 m)
+        × ((m : Machine) × StandsFor (SharedStep BoardStands BoardLeaves ⟦<MemFile as ReadAt>⟧.tells ⟦<MemFile as ReadAt>⟧.bytes ⟦<MemFile as ReadAt>⟧.faults) (SharedStands BoardStands) all.0 all.2 m)) }
 {
     let Ok(board) = Board::new(alloc, 0) else {
         return None;

@@ -5,7 +5,7 @@ ghost use Rattle.std.specs.Prelude.{◌≡◌, IfSome};
 ghost use Rattle.turn_rooms.specs.Passes.{Goes, IsLast, IsPassOf};
 ghost use Rattle.archive_actors.specs.Steps.{SharedStands, SharedStep};
 ghost use Rattle.archive_actors.specs.Seats.{StandsFor};
-ghost use Rattle.turn_tests.specs.Boards.{BoardCrash, BoardStands};
+ghost use Rattle.turn_tests.specs.Boards.{BoardLeaves, BoardStands};
 ghost use Rattle.turn_tests.specs.Worked.{AddsOne, IsFirst, KnowsTwo};
 
 use crate::board::Board;
@@ -24,10 +24,10 @@ fn turn_once(
     pass: &mut Pass<Shared<Board>>,
     act: Act,
 ) -> Option<Answer<MemFile>>
-    requires stands { (m : Machine) × StandsFor (SharedStep BoardStands BoardCrash ⟦<MemFile as ReadAt>⟧.tells ⟦<MemFile as ReadAt>⟧.bytes ⟦<MemFile as ReadAt>⟧.faults) (SharedStands BoardStands) rooms.now pass.old m }
+    requires stands { (m : Machine) × StandsFor (SharedStep BoardStands BoardLeaves ⟦<MemFile as ReadAt>⟧.tells ⟦<MemFile as ReadAt>⟧.bytes ⟦<MemFile as ReadAt>⟧.faults) (SharedStands BoardStands) rooms.now pass.old m }
     requires may_ask { MayAsk act }
-    ensures stands { (m : Machine) × StandsFor (SharedStep BoardStands BoardCrash ⟦<MemFile as ReadAt>⟧.tells ⟦<MemFile as ReadAt>⟧.bytes ⟦<MemFile as ReadAt>⟧.faults) (SharedStands BoardStands) rooms.now pass.new m }
-    ensures goes { Goes (SharedStep BoardStands BoardCrash ⟦<MemFile as ReadAt>⟧.tells ⟦<MemFile as ReadAt>⟧.bytes ⟦<MemFile as ReadAt>⟧.faults) rooms.now pass.old pass.new }
+    ensures stands { (m : Machine) × StandsFor (SharedStep BoardStands BoardLeaves ⟦<MemFile as ReadAt>⟧.tells ⟦<MemFile as ReadAt>⟧.bytes ⟦<MemFile as ReadAt>⟧.faults) (SharedStands BoardStands) rooms.now pass.new m }
+    ensures goes { Goes (SharedStep BoardStands BoardLeaves ⟦<MemFile as ReadAt>⟧.tells ⟦<MemFile as ReadAt>⟧.bytes ⟦<MemFile as ReadAt>⟧.faults) rooms.now pass.old pass.new }
     ensures adds { IfSome result (λ answer. AddsOne pass.old pass.new act answer) }
 {
     match rooms.turn(rt, pass, act) {
@@ -44,10 +44,10 @@ fn two_acts(
     one: Act,
     two: Act,
 ) -> Option<(Pass<Shared<Board>>, Answer<MemFile>, Answer<MemFile>)>
-    requires first { IsFirst (SharedStep BoardStands BoardCrash ⟦<MemFile as ReadAt>⟧.tells ⟦<MemFile as ReadAt>⟧.bytes ⟦<MemFile as ReadAt>⟧.faults) rooms.now pass }
-    requires stands { (m : Machine) × StandsFor (SharedStep BoardStands BoardCrash ⟦<MemFile as ReadAt>⟧.tells ⟦<MemFile as ReadAt>⟧.bytes ⟦<MemFile as ReadAt>⟧.faults) (SharedStands BoardStands) rooms.now pass m }
+    requires first { IsFirst (SharedStep BoardStands BoardLeaves ⟦<MemFile as ReadAt>⟧.tells ⟦<MemFile as ReadAt>⟧.bytes ⟦<MemFile as ReadAt>⟧.faults) rooms.now pass }
+    requires stands { (m : Machine) × StandsFor (SharedStep BoardStands BoardLeaves ⟦<MemFile as ReadAt>⟧.tells ⟦<MemFile as ReadAt>⟧.bytes ⟦<MemFile as ReadAt>⟧.faults) (SharedStands BoardStands) rooms.now pass m }
     requires may_ask { MayAsk one × MayAsk two }
-    ensures stands { IfSome result (λ all. (m : Machine) × StandsFor (SharedStep BoardStands BoardCrash ⟦<MemFile as ReadAt>⟧.tells ⟦<MemFile as ReadAt>⟧.bytes ⟦<MemFile as ReadAt>⟧.faults) (SharedStands BoardStands) rooms.now all.0 m) }
+    ensures stands { IfSome result (λ all. (m : Machine) × StandsFor (SharedStep BoardStands BoardLeaves ⟦<MemFile as ReadAt>⟧.tells ⟦<MemFile as ReadAt>⟧.bytes ⟦<MemFile as ReadAt>⟧.faults) (SharedStands BoardStands) rooms.now all.0 m) }
     ensures last { IfSome result (λ all. IsLast all.0) }
     ensures knows { IfSome result (λ all. KnowsTwo all.0 one all.1 two all.2) }
 {

@@ -32,11 +32,11 @@ use archive_actors::Applies;
 /// pass again. Then what that pass has come to know is a run that ends well.
 pub fn the_end_of_a_service<X: Applies>()
     ensures { (rooms : Rooms (Shared X X.Reader) Act (Answer X.Reader)) (old drawn new flusher flusher' mover mover' : Pass (Shared X X.Reader) Act (Answer X.Reader)) (workers workers' : List (Pass (Shared X X.Reader) Act (Answer X.Reader))) (moved : MoverEnd) (m : Machine)
-        → StandsFor (SharedStep X.stands X.crash X.Reader.tells X.Reader.bytes X.Reader.faults) (SharedStands X.stands) rooms old m → m.doors ≡ length workers
-        → Drawn (SharedStep X.stands X.crash X.Reader.tells X.Reader.bytes X.Reader.faults) rooms old drawn (workers ++ flusher ∷ mover ∷ [])
-        → AllZip (λ n n'. Acts (SharedStep X.stands X.crash X.Reader.tells X.Reader.bytes X.Reader.faults) (reply_of X.Reader.tells X.Reader.bytes X.Reader.faults) rooms n IsShift n') workers workers'
-        → Acts (SharedStep X.stands X.crash X.Reader.tells X.Reader.bytes X.Reader.faults) (reply_of X.Reader.tells X.Reader.bytes X.Reader.faults) rooms flusher (IsFlushing LeavesNone) flusher'
-        → Acts (SharedStep X.stands X.crash X.Reader.tells X.Reader.bytes X.Reader.faults) (reply_of X.Reader.tells X.Reader.bytes X.Reader.faults) rooms mover (IsMoving moved) mover' → moved ≢ MeetsNoMemory
-        → Met (SharedStep X.stands X.crash X.Reader.tells X.Reader.bytes X.Reader.faults) rooms drawn new (workers' ++ flusher' ∷ mover' ∷ [])
-        → EndsInTurns (SharedStep X.stands X.crash X.Reader.tells X.Reader.bytes X.Reader.faults) (SharedStands X.stands) (reply_of X.Reader.tells X.Reader.bytes X.Reader.faults) rooms old new m mover.number }
+        → StandsFor (SharedStep X.stands X.leaves X.Reader.tells X.Reader.bytes X.Reader.faults) (SharedStands X.stands) rooms old m → m.doors ≡ length workers
+        → Drawn (SharedStep X.stands X.leaves X.Reader.tells X.Reader.bytes X.Reader.faults) rooms old drawn (workers ++ flusher ∷ mover ∷ [])
+        → AllZip (λ n n'. Acts (SharedStep X.stands X.leaves X.Reader.tells X.Reader.bytes X.Reader.faults) (reply_of X.Reader.tells X.Reader.bytes X.Reader.faults) rooms n IsShift n') workers workers'
+        → Acts (SharedStep X.stands X.leaves X.Reader.tells X.Reader.bytes X.Reader.faults) (reply_of X.Reader.tells X.Reader.bytes X.Reader.faults) rooms flusher (IsFlushing LeavesNone) flusher'
+        → Acts (SharedStep X.stands X.leaves X.Reader.tells X.Reader.bytes X.Reader.faults) (reply_of X.Reader.tells X.Reader.bytes X.Reader.faults) rooms mover (IsMoving moved) mover' → moved ≢ MeetsNoMemory
+        → Met (SharedStep X.stands X.leaves X.Reader.tells X.Reader.bytes X.Reader.faults) rooms drawn new (workers' ++ flusher' ∷ mover' ∷ [])
+        → EndsInTurns (SharedStep X.stands X.leaves X.Reader.tells X.Reader.bytes X.Reader.faults) (SharedStands X.stands) (reply_of X.Reader.tells X.Reader.bytes X.Reader.faults) rooms old new m mover.number }
 {}

@@ -5,5 +5,5 @@ use Rattle.turns_end.proofs.the_end_of_a_service.Goals as goal
 
 pub returns : goal.returns
 returns g c =
-    ends_in_turns (SharedStep g.X.Applies.stands g.X.Applies.crash g.X.Reader.ReadAt.tells g.X.Reader.ReadAt.bytes g.X.Reader.ReadAt.faults) (SharedStands g.X.Applies.stands) (reply_of g.X.Reader.ReadAt.tells g.X.Reader.ReadAt.bytes g.X.Reader.ReadAt.faults)
+    ends_in_turns (SharedStep g.X.Applies.stands g.X.Applies.leaves g.X.Reader.ReadAt.tells g.X.Reader.ReadAt.bytes g.X.Reader.ReadAt.faults) (SharedStands g.X.Applies.stands) (reply_of g.X.Reader.ReadAt.tells g.X.Reader.ReadAt.bytes g.X.Reader.ReadAt.faults)
     (λ before after who n act answer step. step.0) (λ s m stood. g.X.Applies.sound s.archive m stood)

@@ -39,7 +39,7 @@ acts-preserved g c =
     let told : map reply c.push_reserved.new.self.items ≡ map reply c.acts.answers.items ++ reply c.apply.result ∷ [] = ap (λ xs. map reply xs) c.push_reserved.ensures.items ∙ map-append reply c.acts.answers.items (c.apply.result ∷ []) in
     record {
       made = subst (λ (rs : List Reply). MakesAll g.D.Disk.tells (parts g.D.Disk c.args.archive.now) (c.acts.yielded ++ one ∷ []) rs (parts g.D.Disk c.apply.new.self)) (sym told)
-          (makes_more g.D.Disk.tells (parts g.D.Disk c.args.archive.now) (parts g.D.Disk c.acts.archive) (parts g.D.Disk c.apply.new.self) c.acts.yielded (map reply c.acts.answers.items) c.in-Some.who c.in-Some.act (reply c.apply.result) c.acts.invariant.made may c.apply.ensures.step c.apply.ensures.crash);
+          (makes_more g.D.Disk.tells (parts g.D.Disk c.args.archive.now) (parts g.D.Disk c.acts.archive) (parts g.D.Disk c.apply.new.self) c.acts.yielded (map reply c.acts.answers.items) c.in-Some.who c.in-Some.act (reply c.apply.result) c.acts.invariant.made may c.apply.ensures.step c.apply.ensures.leaves.crash);
       many = omega (arith, c.push_reserved.ensures.len, c.acts.invariant.many, length-append c.acts.yielded (one ∷ []));
       room = omega (arith, c.push_reserved.ensures.capacity, c.acts.invariant.room);
     }

@@ -22,7 +22,7 @@ returns-in-Ok g c =
     rw c.in-Flush.is (
       c.flush_to_end.result,
       sym (ap at_flushes c.in-Ok.is),
-      tends_seated (SharedStep g.X.Applies.stands g.X.Applies.crash R.tells R.bytes R.faults) (reply_of R.tells R.bytes R.faults) _ FlushesTo c.flush_to_end.result c.args.rooms.now _ _ c.args.pass.now _ _ _ (g.C.Clock.coming c.args.clock.now) (g.C.Clock.coming c.flush_to_end.new.clock) moves.0 moves.2.0 made.entries
+      tends_seated (SharedStep g.X.Applies.stands g.X.Applies.leaves R.tells R.bytes R.faults) (reply_of R.tells R.bytes R.faults) _ FlushesTo c.flush_to_end.result c.args.rooms.now _ _ c.args.pass.now _ _ _ (g.C.Clock.coming c.args.clock.now) (g.C.Clock.coming c.flush_to_end.new.clock) moves.0 moves.2.0 made.entries
           c.new-actor.ensures.rooms c.new-actor.ensures.pass (search (rules, same)) c.requires.stands.1.is_pass moves.1 made.leads.1 made.just_these moves.2.2 c.flush_to_end.ensures.spent,
     )
 
@@ -35,7 +35,7 @@ returns-in-Err g c =
     rw c.in-Flush.is (
       c.flush_to_end.result,
       sym (ap at_flushes c.in-Err.is),
-      tends_seated (SharedStep g.X.Applies.stands g.X.Applies.crash R.tells R.bytes R.faults) (reply_of R.tells R.bytes R.faults) _ FlushesTo c.flush_to_end.result c.args.rooms.now _ _ c.args.pass.now _ _ _ (g.C.Clock.coming c.args.clock.now) (g.C.Clock.coming c.flush_to_end.new.clock) moves.0 moves.2.0 made.entries
+      tends_seated (SharedStep g.X.Applies.stands g.X.Applies.leaves R.tells R.bytes R.faults) (reply_of R.tells R.bytes R.faults) _ FlushesTo c.flush_to_end.result c.args.rooms.now _ _ c.args.pass.now _ _ _ (g.C.Clock.coming c.args.clock.now) (g.C.Clock.coming c.flush_to_end.new.clock) moves.0 moves.2.0 made.entries
           c.new-actor.ensures.rooms c.new-actor.ensures.pass (search (rules, same)) c.requires.stands.1.is_pass moves.1 made.leads.1 made.just_these moves.2.2 c.flush_to_end.ensures.spent,
     )
 
@@ -48,7 +48,7 @@ returns-in-Ok-move_to_end g c =
     rw c.in-Move.is (
       c.move_to_end.result,
       sym (ap at_moves c.in-Ok-move_to_end.is),
-      tends_seated (SharedStep g.X.Applies.stands g.X.Applies.crash R.tells R.bytes R.faults) (reply_of R.tells R.bytes R.faults) _ MovesTo c.move_to_end.result c.args.rooms.now _ _ c.args.pass.now _ _ _ (g.C.Clock.coming c.args.clock.now) (g.C.Clock.coming c.move_to_end.new.clock) moves.0 moves.2.0 made.entries
+      tends_seated (SharedStep g.X.Applies.stands g.X.Applies.leaves R.tells R.bytes R.faults) (reply_of R.tells R.bytes R.faults) _ MovesTo c.move_to_end.result c.args.rooms.now _ _ c.args.pass.now _ _ _ (g.C.Clock.coming c.args.clock.now) (g.C.Clock.coming c.move_to_end.new.clock) moves.0 moves.2.0 made.entries
           c.new-actor.ensures.rooms c.new-actor.ensures.pass (search (rules, same)) c.requires.stands.1.is_pass moves.1 made.leads.1 made.just_these moves.2.2 c.move_to_end.ensures.spent,
     )
 
@@ -61,6 +61,6 @@ returns-in-Err-move_to_end g c =
     rw c.in-Move.is (
       c.move_to_end.result,
       sym (ap at_moves c.in-Err-move_to_end.is),
-      tends_seated (SharedStep g.X.Applies.stands g.X.Applies.crash R.tells R.bytes R.faults) (reply_of R.tells R.bytes R.faults) _ MovesTo c.move_to_end.result c.args.rooms.now _ _ c.args.pass.now _ _ _ (g.C.Clock.coming c.args.clock.now) (g.C.Clock.coming c.move_to_end.new.clock) moves.0 moves.2.0 made.entries
+      tends_seated (SharedStep g.X.Applies.stands g.X.Applies.leaves R.tells R.bytes R.faults) (reply_of R.tells R.bytes R.faults) _ MovesTo c.move_to_end.result c.args.rooms.now _ _ c.args.pass.now _ _ _ (g.C.Clock.coming c.args.clock.now) (g.C.Clock.coming c.move_to_end.new.clock) moves.0 moves.2.0 made.entries
           c.new-actor.ensures.rooms c.new-actor.ensures.pass (search (rules, same)) c.requires.stands.1.is_pass moves.1 made.leads.1 made.just_these moves.2.2 c.move_to_end.ensures.spent,
     )

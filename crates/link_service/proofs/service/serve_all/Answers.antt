@@ -9,7 +9,7 @@ pub work_all-requires-clause-stand : goal.work_all-requires-clause-stand
 work_all-requires-clause-stand g c κs within =
     let R = g.X.Reader.ReadAt in
     rw c.as_mut_slice.ensures.value
-    (drawn_can _ (SharedStep g.X.Applies.stands g.X.Applies.crash R.tells R.bytes R.faults) c.args.rooms.now (SharedStands g.X.Applies.stands) c.args.pass.now c.draw_workers.new.pass c.in-Ok.workers.items c.in-Ok.ensures.drawn c.requires.stands)
+    (drawn_can _ (SharedStep g.X.Applies.stands g.X.Applies.leaves R.tells R.bytes R.faults) c.args.rooms.now (SharedStands g.X.Applies.stands) c.args.pass.now c.draw_workers.new.pass c.in-Ok.workers.items c.in-Ok.ensures.drawn c.requires.stands)
 
 pub work_all-requires-clause-as_many : goal.work_all-requires-clause-as_many
 work_all-requires-clause-as_many g c κs within = ap length c.as_mut_slice.ensures.value ∙ placed (λ w. w.place) c.in-Ok.workers.items (length c.args.posts.now + 2) c.in-Ok.ensures.places

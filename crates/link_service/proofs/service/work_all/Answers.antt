@@ -10,7 +10,7 @@ use Rattle.link_service.proofs.service.work_all.Goals as goal
 pub run_with-requires-clause-first : goal.run_with-requires-clause-first
 run_with-requires-clause-first g c κs within =
     let R = g.X.Reader.ReadAt in
-    let Can = CanWork (SharedStep g.X.Applies.stands g.X.Applies.crash R.tells R.bytes R.faults) (SharedStands g.X.Applies.stands) c.args.rooms.now in
+    let Can = CanWork (SharedStep g.X.Applies.stands g.X.Applies.leaves R.tells R.bytes R.faults) (SharedStands g.X.Applies.stands) c.args.rooms.now in
     let front = c.split_at_mut-at_doors.result.0.now in
     let back = c.split_at_mut-at_doors.result.1.now in
     let both = all_parts Can front back (rw (← c.split_at_mut-at_doors.ensures.value) c.requires.stand) in
@@ -19,7 +19,7 @@ run_with-requires-clause-first g c κs within =
 pub run_with-requires-clause-second : goal.run_with-requires-clause-second
 run_with-requires-clause-second g c κs within =
     let R = g.X.Reader.ReadAt in
-    let Can = CanWork (SharedStep g.X.Applies.stands g.X.Applies.crash R.tells R.bytes R.faults) (SharedStands g.X.Applies.stands) c.args.rooms.now in
+    let Can = CanWork (SharedStep g.X.Applies.stands g.X.Applies.leaves R.tells R.bytes R.faults) (SharedStands g.X.Applies.stands) c.args.rooms.now in
     let front = c.split_at_mut-at_doors.result.0.now in
     let back = c.split_at_mut-at_doors.result.1.now in
     let both = all_parts Can front back (rw (← c.split_at_mut-at_doors.ensures.value) c.requires.stand) in
@@ -29,7 +29,7 @@ pub returns : goal.returns
 returns g c =
     let R = g.X.Reader.ReadAt in
     let coming = g.C.Clock.coming in
-    let steps = SharedStep g.X.Applies.stands g.X.Applies.crash R.tells R.bytes R.faults in
+    let steps = SharedStep g.X.Applies.stands g.X.Applies.leaves R.tells R.bytes R.faults in
     let reply = reply_of R.tells R.bytes R.faults in
     let rooms = c.args.rooms.now in
     let front = c.split_at_mut-at_doors.result.0.now in

@@ -6,7 +6,7 @@ pub returns-clause-done : goal.returns-clause-done
 returns-clause-done g c =
     record {
       others = [];
-      leads = (search rules, refl, alone_one (g.X.Applies.stands) (g.X.Applies.crash) c.args.self.now.who c.args.self.now.archive.now c.apply.new.self c.args.act _ c.requires.may_ask c.apply.ensures.step c.apply.ensures.crash);
+      leads = (search rules, refl, alone_one (g.X.Applies.stands) (g.X.Applies.leaves) c.args.self.now.who c.args.self.now.archive.now c.apply.new.self c.args.act _ c.requires.may_ask c.apply.ensures.step c.apply.ensures.leaves);
       not_mine = refl;
     }
 

@@ -9,10 +9,12 @@ use Rattle.pv_catalog.specs.declared.row.Row.{Row}
 use Rattle.tier_store.specs.Ends.{end_of_register}
 use Rattle.three_stores.specs.Change.{Acts, registering}
 use Rattle.three_stores.specs.Seen.{Seen, seen}
+use Rattle.three_stores.proofs.LeavingFronts.{nothing_fronts}
 use Rattle.act_model.specs.Machine.{AddsRow}
 use Rattle.archive_core.specs.declared.memory.Doubt.TheVariants as kind
 use Rattle.archive_core.specs.declared.memory.RowMemory.{RowMemory}
 use Rattle.archive_core.specs.Ends.{ChangesTo}
+use Rattle.archive_core.specs.Leaving.{files_of}
 use Rattle.archive_core.specs.Memory.{fresh_memory}
 use Rattle.archive_core.specs.Parts.{parts}
 use Rattle.archive_core.proofs.Changing.{keeps_pins, with_pins}
@@ -102,3 +104,6 @@ returns-in-Err-Disk-Memory-clause-changes g c m r =
     subst (λ (k : List RowMemory). ChangesTo {A = ℕ} g.D.Disk.tells (AddsRow c.args.name.now c.args.about.now) p m (record p { at = new; limbo = c.register.new.self.limbo.items; pinned = c.register.new.self.pinned; kept = k }) (Err Memory)) (sym kept)
     (with_pins {A = ℕ} g.D.Disk.tells (AddsRow c.args.name.now c.args.about.now) p m (record p { at = new; kept = take (length c.args.self.now.store.catalogue.rows) old ++ fresh_memory c.args.about.now ∷ [] }) new c.register.new.self.limbo.items c.register.new.self.pinned (Err Memory) keeps refl refl
     (row_spent g.D.Disk.tells p m r c.args.name.now c.args.about.now c.requires.free new keeps.shown acts))
+
+pub returns-in_err-add_memory-clause-fronts : goal.returns-in_err-add_memory-clause-fronts
+returns-in_err-add_memory-clause-fronts g c = nothing_fronts g.D.Disk.tells (files_of (parts g.D.Disk c.args.self.now))

@@ -2,6 +2,7 @@ use Rattle.std.proofs.Common.{Err, None, Result, ap, refl, sym, subst, ◌∙◌
 use Rattle.std.proofs.lemmas.Result.{err_from_is_err_and}
 use Rattle.disk_model.specs.declared.disk.DiskErr.{DiskErr}
 use Rattle.tier_store.specs.Ends.{IsFailed, end_of_disk}
+use Rattle.three_stores.specs.Pinned.{seen_all}
 use Rattle.act_model.specs.MoveBegin.{Begins, MoveBeginStep}
 use Rattle.act_model.specs.Step.{refuse_by, change_by, store_of}
 use Rattle.act_model.specs.declared.acts.Act.TheVariants.{MoveBegin as MoveBeginAct}
@@ -11,6 +12,7 @@ use Rattle.archive_core.specs.Moving.{begun_reply}
 use Rattle.archive_core.specs.Parts.{parts}
 use Rattle.archive_core.proofs.Acting.{asked_ends, crash_settling, cut_ends}
 use Rattle.archive_core.proofs.MoveAct.{begins_goes, begun_ends}
+use Rattle.archive_core.proofs.ReadingAlone.{reads_none, reads_settling, reads_then}
 use Rattle.archive_core.proofs.archive.Archive.begin_due.Goals as goal
 
 pub returns-in_err-settle-clause-step : goal.returns-in_err-settle-clause-step
@@ -37,8 +39,24 @@ returns-clause-step g c =
     let q = parts g.D.Disk c.settle.new.self in
     let new = parts g.D.Disk c.begin_chosen.new.self in
     let call = c.begin_chosen.ensures in
-    asked_ends g.D.Disk.tells (λ m. None) (Begins (store_of c.args.store) c.args.now) (λ m. None) (λ m f. refl) (λ m f. refl) (begins_goes (store_of c.args.store) c.args.now) p q (λ m s. refl) c.in_ok-settle.ensures.settled c.settle.ensures.reads.faults (λ m s. refl) new (begun_reply c.begin_chosen.result) (rw call.disk c.settle.ensures.reads.faults)
+    asked_ends g.D.Disk.tells (λ m. None) (Begins (store_of c.args.store) c.args.now) (λ m. None) (λ m f. refl) (λ m f. refl) (begins_goes (store_of c.args.store) c.args.now) p q (λ m s. refl) c.in_ok-settle.ensures.settled c.settle.ensures.reads.faults (λ m s. refl) new (begun_reply c.begin_chosen.result) (rw call.store c.settle.ensures.reads.faults)
     (begun_ends g.D.Disk.tells (store_of c.args.store) c.args.now q new c.begin_chosen.result call.begins call.spent call.cause)
 
 pub returns-clause-crash : goal.returns-clause-crash
-returns-clause-crash g c = rw c.begin_chosen.ensures.disk (crash_settling g.D.Disk.tells (refuse_by (MoveBeginAct c.args.store c.args.now)) (change_by (MoveBeginAct c.args.store c.args.now)) (λ m f. refl) (λ m f. refl) (parts g.D.Disk c.args.self.now) (parts g.D.Disk c.settle.new.self) c.settle.ensures.reads.any_moment)
+returns-clause-crash g c = rw c.begin_chosen.ensures.store (crash_settling g.D.Disk.tells (refuse_by (MoveBeginAct c.args.store c.args.now)) (change_by (MoveBeginAct c.args.store c.args.now)) (λ m f. refl) (λ m f. refl) (parts g.D.Disk c.args.self.now) (parts g.D.Disk c.settle.new.self) c.settle.ensures.reads.any_moment)
+
+pub returns-in_err-settle-clause-reads : goal.returns-in_err-settle-clause-reads
+returns-in_err-settle-clause-reads g c = reads_settling g.D.Disk.tells (parts g.D.Disk c.args.self.now) (parts g.D.Disk c.settle.new.self) (end_of_disk c.settle.result) c.settle.ensures.reads c.settle.ensures.fronts
+
+pub returns-clause-reads : goal.returns-clause-reads
+returns-clause-reads g c =
+    let p = (parts g.D.Disk c.args.self.now) in
+    let q = (parts g.D.Disk c.settle.new.self) in
+    let new = (parts g.D.Disk c.begin_chosen.new.self) in
+    reads_then g.D.Disk.tells p q new (reads_settling g.D.Disk.tells p q (end_of_disk c.settle.result) c.settle.ensures.reads c.settle.ensures.fronts) (reads_none g.D.Disk.tells q new (ap (seen_all g.D.Disk) c.begin_chosen.ensures.store))
+
+pub returns-in_err-settle-clause-quiet : goal.returns-in_err-settle-clause-quiet
+returns-in_err-settle-clause-quiet g c = λ settled. ap (λ store. store.disk) (c.settle.ensures.quiet settled)
+
+pub returns-clause-quiet : goal.returns-clause-quiet
+returns-clause-quiet g c = λ settled. ap (λ store. store.disk) (c.begin_chosen.ensures.store ∙ c.settle.ensures.quiet settled)

@@ -1,4 +1,4 @@
-use Rattle.std.proofs.Common.{List, ap, ◌∙◌, subst}
+use Rattle.std.proofs.Common.{List, refl, ap, ◌∙◌, subst}
 use Rattle.series_model.specs.declared.sample.Sample.{Sample}
 use Rattle.three_stores.specs.Details.{SaysDescribed}
 use Rattle.three_stores.specs.Opening.{end_of_answer}
@@ -9,7 +9,8 @@ use Rattle.three_stores.specs.declared.limbo.Retired.{Retired}
 use Rattle.archive_core.specs.Parts.{parts}
 use Rattle.archive_core.proofs.Keeping.{Keeps}
 use Rattle.archive_core.proofs.DetailsAct.{details_end, details_answer}
-use Rattle.archive_core.proofs.Settled.{begun}
+use Rattle.archive_core.proofs.ReadingAlone.{reads_beside, reads_none}
+use Rattle.archive_core.proofs.Settled.{begun, rests_has}
 use Rattle.archive_core.proofs.archive.Archive.describe_row.Goals as goal
 
 pub details-requires : goal.details-requires
@@ -40,5 +41,12 @@ returns-clause-answers g c =
 pub returns-clause-faults : goal.returns-clause-faults
 returns-clause-faults g c = (c.details.ensures.settles c.args.row c.requires.named).reads.faults
 
+pub returns-in_err-tail-clause-reads : goal.returns-in_err-tail-clause-reads
+returns-in_err-tail-clause-reads g c = reads_none g.D.Disk.tells (parts g.D.Disk c.args.self.now) (parts g.D.Disk c.args.self.now) refl
+
 pub returns-clause-reads : goal.returns-clause-reads
-returns-clause-reads g c = λ told. (c.details.ensures.settles c.args.row c.requires.named).reads.any_moment told
+returns-clause-reads g c =
+    let was = c.requires.rests in
+    let call = c.details.ensures in
+    let same = (call.settles c.args.row c.requires.named).nothing (rests_has g.D.Disk.tells (parts g.D.Disk c.args.self.now) was.0 was.1).settled in
+    reads_beside g.D.Disk.tells (parts g.D.Disk c.args.self.now) (parts g.D.Disk (record c.args.self.now { store = c.details.new.self })) (end_of_answer c.details.result) (call.settles c.args.row c.requires.named).reads (same.0, same.1) (ap (λ l. l.items) call.limbo)

@@ -6,10 +6,12 @@ use Rattle.disk_model.specs.declared.disk.DiskErr.TheVariants.{Fault, Memory}
 use Rattle.series_model.specs.declared.batch.RowSamples.{RowSamples}
 use Rattle.tier_store.specs.Flush.{CanFlush}
 use Rattle.three_stores.specs.Seen.{seen}
+use Rattle.three_stores.proofs.LeavingFronts.{nothing_fronts}
 use Rattle.act_model.specs.Machine.{Appends}
 use Rattle.archive_core.specs.declared.memory.Doubt.TheVariants as kind
 use Rattle.archive_core.specs.Ends.{ChangesTo}
 use Rattle.archive_core.specs.Flushing.{GivesUp}
+use Rattle.archive_core.specs.Leaving.{files_of}
 use Rattle.archive_core.specs.Parts.{parts}
 use Rattle.archive_core.proofs.Changing.{keeps_pins, with_pins}
 use Rattle.archive_core.proofs.Flushed.{first_low, flush_as, can, flush_done, flush_counts, flush_failed, flush_spent, flush_unmade}
@@ -68,3 +70,6 @@ returns-in-Err-Memory-clause-changes g c = λ m r.
     let acts = flush_as g.D.Disk.tells p.at p.limbo (r.stands.store.whole 0 first_low).0 new c.in_ok-batch.batch (batch_of c.args.limit p.tails) c.flush.result (Err Memory) c.in_ok-batch.ensures (c.in-Err-Memory.is ∙ ap (λ (e : DiskErr). Err e) c.in-Err-Memory.field-0-is) (c.flush.ensures.acts (r.stands.store.whole 0 first_low).0) in
     with_pins {A = ℕ} g.D.Disk.tells (Appends (batch_of c.args.limit p.tails)) p m (record p { at = new }) new c.flush.new.self.limbo.items c.flush.new.self.pinned (Err Memory) keeps refl refl
     (flush_spent g.D.Disk.tells p m r c.args.limit c.requires.limit (g.met.D.Disk.seen c.args.self.now.store.disk) new keeps.shown acts)
+
+pub returns-in_err-batch-clause-fronts : goal.returns-in_err-batch-clause-fronts
+returns-in_err-batch-clause-fronts g c = nothing_fronts g.D.Disk.tells (files_of (parts g.D.Disk c.args.self.now))

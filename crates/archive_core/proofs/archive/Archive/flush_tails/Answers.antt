@@ -2,8 +2,10 @@ use Rattle.std.proofs.Common.{◌≡◌, ℕ, true, Result, Err, IfOk, sym, ◌�
 use Rattle.std.proofs.lemmas.Result.{err_from_is_err_and}
 use Rattle.disk_model.specs.declared.disk.DiskErr.{DiskErr}
 use Rattle.append_buffer.specs.Tails.{batch_of}
+use Rattle.three_stores.proofs.LeavingFronts.{fronts_on}
 use Rattle.act_model.specs.Flush.{count_in}
 use Rattle.act_model.specs.Machine.{Machine}
+use Rattle.archive_core.specs.Leaving.{files_of}
 use Rattle.archive_core.specs.Parts.{parts}
 use Rattle.archive_core.specs.Stands.{Rests}
 use Rattle.archive_core.proofs.FlushAct.{flush_told, flush_cut, flush_ends, crash_flush, crash_flush_cut}
@@ -32,3 +34,6 @@ returns-clause-step g c = flush_ends g.D.Disk.tells c.args.limit c.requires.limi
 
 pub returns-clause-crash : goal.returns-clause-crash
 returns-clause-crash g c = crash_flush g.D.Disk.tells c.args.limit c.requires.limit (parts g.D.Disk c.args.self.now) (parts g.D.Disk c.settle.new.self) c.in_ok-settle.ensures.settled c.settle.ensures.reads.faults (parts g.D.Disk c.flush_settled.new.self) c.flush_settled.result c.settle.ensures.reads.any_moment c.settle.ensures.granularity c.flush_settled.ensures.changes
+
+pub returns-clause-fronts : goal.returns-clause-fronts
+returns-clause-fronts g c = fronts_on g.D.Disk.tells (files_of (parts g.D.Disk c.args.self.now)) (files_of (parts g.D.Disk c.settle.new.self)) (files_of (parts g.D.Disk c.flush_settled.new.self)) c.settle.ensures.fronts c.flush_settled.ensures.fronts

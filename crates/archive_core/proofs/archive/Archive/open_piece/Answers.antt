@@ -2,6 +2,7 @@ use Rattle.std.proofs.Common.{List, refl, ap, subst}
 use Rattle.std.specs.FinMap.{get}
 use Rattle.pinned_pieces.specs.Pieces.{asked}
 use Rattle.three_stores.specs.Moving.{KeepsBeside}
+use Rattle.three_stores.specs.Opening.{end_of_answer}
 use Rattle.three_stores.specs.Pinned.{beside, seen_all}
 use Rattle.three_stores.specs.declared.limbo.Retired.{Retired}
 use Rattle.three_stores.specs.Seen.{seen}
@@ -11,6 +12,8 @@ use Rattle.archive_core.specs.Parts.{parts}
 use Rattle.archive_core.proofs.Acting.{crash_settling}
 use Rattle.archive_core.proofs.Keeping.{KeepsLimbo}
 use Rattle.archive_core.proofs.Opens.{is_opening, open_ends}
+use Rattle.archive_core.proofs.PinnedFiles.{opens_file}
+use Rattle.archive_core.proofs.ReadingAlone.{reads_beside}
 use Rattle.archive_core.proofs.Settled.{begun}
 use Rattle.archive_core.proofs.archive.Archive.open_piece.Goals as goal
 
@@ -42,3 +45,19 @@ returns-clause-step g c = λ m s.
 
 pub returns-clause-crash : goal.returns-clause-crash
 returns-clause-crash g c = crash_settling g.D.Disk.tells (refuse_by (OpenPiece c.args.pin c.args.i)) (change_by (OpenPiece c.args.pin c.args.i)) (λ m f. refl) (λ m f. refl) (parts g.D.Disk c.args.self.now) (record (parts g.D.Disk c.args.self.now) { at = seen g.D.Disk c.open_piece.new.self }) c.open_piece.ensures.reads.any_moment
+
+pub returns-clause-reads : goal.returns-clause-reads
+returns-clause-reads g c =
+    let call = c.open_piece.ensures in
+    let same = call.same in
+    let p = (parts g.D.Disk c.args.self.now) in
+    reads_beside g.D.Disk.tells p (parts g.D.Disk (record c.args.self.now { store = c.open_piece.new.self })) (end_of_answer c.open_piece.result) call.reads (same.0, ap (λ l. l.items) same.1) (ap (λ l. l.items) same.3)
+
+pub returns-clause-pins : goal.returns-clause-pins
+returns-clause-pins g c =
+    let was = c.requires.stands in
+    let call = c.open_piece.ensures in
+    let p = (parts g.D.Disk c.args.self.now) in
+    let opens = opens_file g.row.D-Reader.Denot g.D.Disk.tells g.D.Reader.ReadAt.tells g.D.Reader.ReadAt.bytes g.D.Reader.ReadAt.faults p (parts g.D.Disk (record c.args.self.now { store = c.open_piece.new.self })) c.args.who c.args.pin c.args.i c.open_piece.result call.same.2 was.1.pins.stand
+    (λ e is. (call.refused e is).0) (λ own is none. (call.no_piece own is none).0) call.piece in
+    rw c.opened.ensures opens

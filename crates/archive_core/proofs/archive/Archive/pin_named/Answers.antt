@@ -1,14 +1,18 @@
-use Rattle.std.proofs.Common.{arith, ℕ, Option, Err, ◌∙◌, ap, subst}
+use Rattle.std.proofs.Common.{arith, refl, ℕ, Option, Err, ◌∙◌, ap, subst}
 use Rattle.std.proofs.lemmas.Result.{err_from_is_err_and}
 use Rattle.disk_model.specs.declared.disk.DiskErr.{DiskErr}
 use Rattle.disk_model.specs.declared.disk.DiskErr.TheVariants.{Memory}
 use Rattle.pv_catalog.specs.Catalogue.{CatalogueState}
+use Rattle.tier_store.specs.Ends.{end_of_disk}
+use Rattle.three_stores.specs.Seen.{seen}
 use Rattle.act_model.specs.Pin.{Pins}
 use Rattle.act_model.specs.Reply.{reply_of}
 use Rattle.archive_core.specs.Parts.{parts}
 use Rattle.archive_core.specs.Switching.{IsFound}
 use Rattle.archive_core.proofs.Asking.{ask_refused, ask_cut, ask_refused_then, ask_spent, ask_ends, crash_asked, crash_read, ask_told, crash_read_on}
 use Rattle.archive_core.proofs.PinAct.{pins_goes}
+use Rattle.archive_core.proofs.PinnedFiles.{pins_failed, pins_then}
+use Rattle.archive_core.proofs.ReadingAlone.{reads_none, reads_settling, reads_then}
 use Rattle.archive_core.proofs.archive.Archive.pin_named.Goals as goal
 
 pub returns-in_default-clause-step : goal.returns-in_default-clause-step
@@ -72,4 +76,32 @@ returns-clause-step g c =
     ask_ends g.D.Disk.tells c.args.name.now (parts g.D.Disk c.args.self.now) (Pins c.args.who c.args.name.now c.args.query) (pins_goes c.args.who c.args.name.now c.args.query) c.in-Some.field-0 known (parts g.D.Disk c.settle.new.self) c.in_ok-settle.ensures.settled c.settle.ensures.reads.faults c.in-Some-find.row then (parts g.D.Disk c.pin_row.new.self) (reply_of g.D.Reader.ReadAt.tells g.D.Reader.ReadAt.bytes g.D.Reader.ReadAt.faults c.in_ok-answer.answer) (omega (arith, first, second)) c.in_ok-answer.ensures.pins
 
 pub returns-clause-crash : goal.returns-clause-crash
-returns-clause-crash g c = crash_read_on g.D.Disk.tells c.args.name.now (parts g.D.Disk c.args.self.now) (parts g.D.Disk c.settle.new.self) (parts g.D.Disk c.pin_row.new.self) c.settle.ensures.reads.any_moment c.in_ok-answer.ensures.reads
+returns-clause-crash g c = crash_read_on g.D.Disk.tells c.args.name.now (parts g.D.Disk c.args.self.now) (parts g.D.Disk c.settle.new.self) (parts g.D.Disk c.pin_row.new.self) c.settle.ensures.reads.any_moment c.pin_row.ensures.reads.any_moment
+
+pub returns-in_default-clause-reads : goal.returns-in_default-clause-reads
+returns-in_default-clause-reads g c = reads_none g.D.Disk.tells (parts g.D.Disk c.args.self.now) (parts g.D.Disk c.args.self.now) refl
+
+pub returns-in_err-settle-clause-reads : goal.returns-in_err-settle-clause-reads
+returns-in_err-settle-clause-reads g c = reads_settling g.D.Disk.tells (parts g.D.Disk c.args.self.now) (parts g.D.Disk c.settle.new.self) (end_of_disk c.settle.result) c.settle.ensures.reads c.settle.ensures.fronts
+
+pub returns-in_default-find-clause-reads : goal.returns-in_default-find-clause-reads
+returns-in_default-find-clause-reads g c = reads_settling g.D.Disk.tells (parts g.D.Disk c.args.self.now) (parts g.D.Disk c.settle.new.self) (end_of_disk c.settle.result) c.settle.ensures.reads c.settle.ensures.fronts
+
+pub returns-in_err-answer-clause-reads : goal.returns-in_err-answer-clause-reads
+returns-in_err-answer-clause-reads g c = rw c.in_err-answer.ensures.spent (reads_settling g.D.Disk.tells (parts g.D.Disk c.args.self.now) (parts g.D.Disk c.settle.new.self) (end_of_disk c.settle.result) c.settle.ensures.reads c.settle.ensures.fronts)
+
+pub returns-clause-reads : goal.returns-clause-reads
+returns-clause-reads g c = reads_then g.D.Disk.tells (parts g.D.Disk c.args.self.now) (parts g.D.Disk c.settle.new.self) (parts g.D.Disk c.pin_row.new.self) (reads_settling g.D.Disk.tells (parts g.D.Disk c.args.self.now) (parts g.D.Disk c.settle.new.self) (end_of_disk c.settle.result) c.settle.ensures.reads c.settle.ensures.fronts) c.pin_row.ensures.reads
+
+pub returns-in_err-settle-clause-pins : goal.returns-in_err-settle-clause-pins
+returns-in_err-settle-clause-pins g c =
+    let e = err_from_is_err_and c.from_residual.result c.from_residual.ensures.1 in
+    pins_failed g.row.D-Reader.Denot g.D.Disk.tells g.D.Reader.ReadAt.tells g.D.Reader.ReadAt.bytes g.D.Reader.ReadAt.faults (parts g.D.Disk c.args.self.now) (parts g.D.Disk c.settle.new.self) c.args.name.now c.args.query c.from_residual.result c.in_err-settle.field-0.0 (e.1 ∙ ap (λ (d : DiskErr). Err d) e.2)
+
+pub returns-in_err-answer-clause-pins : goal.returns-in_err-answer-clause-pins
+returns-in_err-answer-clause-pins g c =
+    let e = err_from_is_err_and c.from_residual-in_err-answer.result c.from_residual-in_err-answer.ensures.1 in
+    pins_failed g.row.D-Reader.Denot g.D.Disk.tells g.D.Reader.ReadAt.tells g.D.Reader.ReadAt.bytes g.D.Reader.ReadAt.faults (parts g.D.Disk c.args.self.now) (parts g.D.Disk c.pin_row.new.self) c.args.name.now c.args.query c.from_residual-in_err-answer.result Memory (e.1 ∙ ap (λ (d : DiskErr). Err d) e.2)
+
+pub returns-clause-pins : goal.returns-clause-pins
+returns-clause-pins g c = pins_then g.D.Disk.tells (parts g.D.Disk c.args.self.now) (parts g.D.Disk c.settle.new.self) (parts g.D.Disk c.pin_row.new.self) c.args.name.now c.args.query (reply_of g.D.Reader.ReadAt.tells g.D.Reader.ReadAt.bytes g.D.Reader.ReadAt.faults c.in_ok-answer.answer) (λ settled. ap (seen g.D.Disk) (c.settle.ensures.quiet settled)) c.in_ok-answer.ensures.made

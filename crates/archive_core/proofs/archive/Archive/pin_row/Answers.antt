@@ -1,4 +1,4 @@
-use Rattle.std.proofs.Common.{List, ap, ◌∙◌, subst}
+use Rattle.std.proofs.Common.{List, refl, ap, ◌∙◌, subst}
 use Rattle.series_model.specs.declared.sample.Sample.{Sample}
 use Rattle.three_stores.specs.Opening.{end_of_answer}
 use Rattle.three_stores.specs.Pinned.{beside, PinsStand}
@@ -9,7 +9,9 @@ use Rattle.three_stores.specs.declared.limbo.Retired.{Retired}
 use Rattle.archive_core.specs.Parts.{parts}
 use Rattle.archive_core.proofs.Keeping.{Keeps}
 use Rattle.archive_core.proofs.PinAct.{pin_ends, pin_answers}
-use Rattle.archive_core.proofs.Settled.{begun}
+use Rattle.archive_core.proofs.PinnedFiles.{pins_files}
+use Rattle.archive_core.proofs.ReadingAlone.{reads_beside, reads_none}
+use Rattle.archive_core.proofs.Settled.{begun, rests_has}
 use Rattle.archive_core.proofs.archive.Archive.pin_row.Goals as goal
 
 pub pin-requires : goal.pin-requires
@@ -42,5 +44,19 @@ returns-clause-answers g c =
 pub returns-clause-faults : goal.returns-clause-faults
 returns-clause-faults g c = (c.pin.ensures.settles c.args.row c.requires.named).reads.faults
 
+pub returns-in_err-tail-clause-reads : goal.returns-in_err-tail-clause-reads
+returns-in_err-tail-clause-reads g c = reads_none g.D.Disk.tells (parts g.D.Disk c.args.self.now) (parts g.D.Disk c.args.self.now) refl
+
 pub returns-clause-reads : goal.returns-clause-reads
-returns-clause-reads g c = λ told. (c.pin.ensures.settles c.args.row c.requires.named).reads.any_moment told
+returns-clause-reads g c =
+    let was = c.requires.rests in
+    let call = c.pin.ensures in
+    let same = (call.settles c.args.row c.requires.named).nothing (rests_has g.D.Disk.tells (parts g.D.Disk c.args.self.now) was.0 was.1).settled in
+    reads_beside g.D.Disk.tells (parts g.D.Disk c.args.self.now) (parts g.D.Disk (record c.args.self.now { store = c.pin.new.self })) (end_of_answer c.pin.result) (call.settles c.args.row c.requires.named).reads (same.0, same.1) (ap (λ l. l.items) call.limbo)
+
+pub returns-clause-made : goal.returns-clause-made
+returns-clause-made g c =
+    let was = c.requires.rests in
+    let p = (parts g.D.Disk c.args.self.now) in
+    pins_files g.row.D-Reader.Denot g.D.Disk.tells g.D.Reader.ReadAt.tells g.D.Reader.ReadAt.bytes g.D.Reader.ReadAt.faults p (parts g.D.Disk (record c.args.self.now { store = c.pin.new.self })) was.0 was.1 c.args.who c.args.name.now c.args.query c.in_ok-tail.tail c.pin.result
+    (c.pin.ensures.settles c.args.row c.requires.named)

@@ -3,8 +3,10 @@ use Rattle.std.proofs.lemmas.Result.{err_from_is_err_and}
 use Rattle.disk_model.specs.declared.disk.DiskErr.{DiskErr}
 use Rattle.pv_catalog.specs.Catalogue.{CatalogueState, Refuses}
 use Rattle.pv_catalog.specs.declared.error.RegisterErr.{RegisterErr}
+use Rattle.three_stores.proofs.LeavingFronts.{fronts_on, nothing_fronts}
 use Rattle.act_model.specs.Machine.{AddsRow}
 use Rattle.archive_core.specs.Ends.{ChangesTo, register_reply}
+use Rattle.archive_core.specs.Leaving.{files_of}
 use Rattle.archive_core.specs.Parts.{parts}
 use Rattle.archive_core.proofs.Entering.{RegisterEnds, register_refused_first, register_cut, register_refused_then, register_done, register_failed, crash_register, crash_register_refused, crash_register_cut}
 use Rattle.archive_core.proofs.archive.Archive.register_name.Goals as goal
@@ -60,3 +62,12 @@ returns-clause-step g c =
 pub returns-clause-crash : goal.returns-clause-crash
 returns-clause-crash g c =
     crash_register g.D.Disk.tells c.args.name.now c.args.about.now (parts g.D.Disk c.args.self.now) (parts g.D.Disk c.settle.new.self) (subst (λ (x : CatalogueState). (e : RegisterErr) → Refuses x.rows c.args.name.now e → ⊥) c.catalogue.ensures c.in_ok-refuse_taken.ensures.free) c.in_ok-settle.ensures.settled c.settle.ensures.reads.faults (subst (λ (x : CatalogueState). (e : RegisterErr) → Refuses x.rows c.args.name.now e → ⊥) c.catalogue-2.ensures c.in_ok-refuse_taken-2.ensures.free) (parts g.D.Disk c.add_row.new.self) c.add_row.result c.settle.ensures.reads.any_moment c.settle.ensures.granularity c.add_row.ensures.changes
+
+pub returns-in_err-refuse_taken-clause-fronts : goal.returns-in_err-refuse_taken-clause-fronts
+returns-in_err-refuse_taken-clause-fronts g c = nothing_fronts g.D.Disk.tells (files_of (parts g.D.Disk c.args.self.now))
+
+pub returns-in_err-add_row-clause-fronts : goal.returns-in_err-add_row-clause-fronts
+returns-in_err-add_row-clause-fronts g c = fronts_on g.D.Disk.tells (files_of (parts g.D.Disk c.args.self.now)) (files_of (parts g.D.Disk c.settle.new.self)) (files_of (parts g.D.Disk c.add_row.new.self)) c.settle.ensures.fronts c.add_row.ensures.fronts
+
+pub returns-clause-fronts : goal.returns-clause-fronts
+returns-clause-fronts g c = fronts_on g.D.Disk.tells (files_of (parts g.D.Disk c.args.self.now)) (files_of (parts g.D.Disk c.settle.new.self)) (files_of (parts g.D.Disk c.add_row.new.self)) c.settle.ensures.fronts c.add_row.ensures.fronts

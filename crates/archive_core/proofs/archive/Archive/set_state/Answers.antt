@@ -2,9 +2,11 @@ use Rattle.std.proofs.Common.{Some, Result, Err, sym, ◌∙◌, ap, subst}
 use Rattle.std.proofs.lemmas.Result.{err_from_is_err_and}
 use Rattle.disk_model.specs.declared.disk.DiskErr.{DiskErr}
 use Rattle.pv_catalog.specs.Catalogue.{CatalogueState, HasState}
+use Rattle.three_stores.proofs.LeavingFronts.{fronts_on, nothing_fronts}
 use Rattle.act_model.specs.Machine.{SetsState}
 use Rattle.archive_core.specs.declared.switching.Unset.{Unset}
 use Rattle.archive_core.specs.Ends.{ChangesTo}
+use Rattle.archive_core.specs.Leaving.{files_of}
 use Rattle.archive_core.specs.Parts.{parts}
 use Rattle.archive_core.specs.Switching.{IsFound, IsUnset, from_of, to_of, switch_reply}
 use Rattle.archive_core.proofs.Setting.{SetEnds, set_refused, set_cut, set_refused_then, set_done, set_failed, crash_set, crash_refused, crash_cut}
@@ -54,23 +56,32 @@ returns-in_err-switch-clause-step g c =
     let can_then = subst (λ (x : CatalogueState). IsFound x.rows c.args.name.now (Some c.in_ok-row.row) × HasState x.rows c.in_ok-row.row (from_of c.args.switch)) c.catalogue-2.ensures c.in_ok-row.ensures.found in
     subst (λ (x : Result (Unit {0}) Unset). SetEnds g.D.Disk.tells c.args.switch c.args.name.now (parts g.D.Disk c.args.self.now) (switch_reply c.args.switch x) (parts g.D.Disk c.switch.new.self)) (sym (p.1 ∙ ap (λ (e : Unset). Err e) p.2))
     (set_failed g.D.Disk.tells c.args.switch c.args.name.now (parts g.D.Disk c.args.self.now) (parts g.D.Disk c.settle.new.self) c.in_ok-row_to_switch.field-0 can c.in_ok-settle.ensures.settled c.settle.ensures.reads.faults c.in_ok-row.row can_then (parts g.D.Disk c.switch.new.self) c.in_err-switch.field-0.0
-    (λ m r. subst (λ (x : Result (Unit {0}) DiskErr). ChangesTo g.D.Disk.tells (SetsState c.in_ok-row.row (to_of c.args.switch)) (parts g.D.Disk c.settle.new.self) m (parts g.D.Disk c.switch.new.self) x) c.in_err-switch.was (c.switch.ensures m r)))
+    (λ m r. subst (λ (x : Result (Unit {0}) DiskErr). ChangesTo g.D.Disk.tells (SetsState c.in_ok-row.row (to_of c.args.switch)) (parts g.D.Disk c.settle.new.self) m (parts g.D.Disk c.switch.new.self) x) c.in_err-switch.was (c.switch.ensures.changes m r)))
 
 pub returns-in_err-switch-clause-crash : goal.returns-in_err-switch-clause-crash
 returns-in_err-switch-clause-crash g c =
     let can = subst (λ (x : CatalogueState). IsFound x.rows c.args.name.now (Some c.in_ok-row_to_switch.field-0) × HasState x.rows c.in_ok-row_to_switch.field-0 (from_of c.args.switch)) c.catalogue.ensures c.in_ok-row_to_switch.ensures.found in
     let can_then = subst (λ (x : CatalogueState). IsFound x.rows c.args.name.now (Some c.in_ok-row.row) × HasState x.rows c.in_ok-row.row (from_of c.args.switch)) c.catalogue-2.ensures c.in_ok-row.ensures.found in
-    crash_set g.D.Disk.tells c.args.switch c.args.name.now (parts g.D.Disk c.args.self.now) (parts g.D.Disk c.settle.new.self) c.in_ok-row_to_switch.field-0 can c.in_ok-settle.ensures.settled c.settle.ensures.reads.faults c.in_ok-row.row can_then (parts g.D.Disk c.switch.new.self) c.switch.result c.settle.ensures.reads.any_moment c.settle.ensures.granularity c.switch.ensures
+    crash_set g.D.Disk.tells c.args.switch c.args.name.now (parts g.D.Disk c.args.self.now) (parts g.D.Disk c.settle.new.self) c.in_ok-row_to_switch.field-0 can c.in_ok-settle.ensures.settled c.settle.ensures.reads.faults c.in_ok-row.row can_then (parts g.D.Disk c.switch.new.self) c.switch.result c.settle.ensures.reads.any_moment c.settle.ensures.granularity c.switch.ensures.changes
 
 pub returns-clause-step : goal.returns-clause-step
 returns-clause-step g c =
     let can = subst (λ (x : CatalogueState). IsFound x.rows c.args.name.now (Some c.in_ok-row_to_switch.field-0) × HasState x.rows c.in_ok-row_to_switch.field-0 (from_of c.args.switch)) c.catalogue.ensures c.in_ok-row_to_switch.ensures.found in
     let can_then = subst (λ (x : CatalogueState). IsFound x.rows c.args.name.now (Some c.in_ok-row.row) × HasState x.rows c.in_ok-row.row (from_of c.args.switch)) c.catalogue-2.ensures c.in_ok-row.ensures.found in
     set_done g.D.Disk.tells c.args.switch c.args.name.now (parts g.D.Disk c.args.self.now) (parts g.D.Disk c.settle.new.self) c.in_ok-row_to_switch.field-0 can c.in_ok-settle.ensures.settled c.settle.ensures.reads.faults c.in_ok-row.row can_then (parts g.D.Disk c.switch.new.self) tt
-    (λ m r. subst (λ (x : Result (Unit {0}) DiskErr). ChangesTo g.D.Disk.tells (SetsState c.in_ok-row.row (to_of c.args.switch)) (parts g.D.Disk c.settle.new.self) m (parts g.D.Disk c.switch.new.self) x) c.in_ok-switch.was (c.switch.ensures m r))
+    (λ m r. subst (λ (x : Result (Unit {0}) DiskErr). ChangesTo g.D.Disk.tells (SetsState c.in_ok-row.row (to_of c.args.switch)) (parts g.D.Disk c.settle.new.self) m (parts g.D.Disk c.switch.new.self) x) c.in_ok-switch.was (c.switch.ensures.changes m r))
 
 pub returns-clause-crash : goal.returns-clause-crash
 returns-clause-crash g c =
     let can = subst (λ (x : CatalogueState). IsFound x.rows c.args.name.now (Some c.in_ok-row_to_switch.field-0) × HasState x.rows c.in_ok-row_to_switch.field-0 (from_of c.args.switch)) c.catalogue.ensures c.in_ok-row_to_switch.ensures.found in
     let can_then = subst (λ (x : CatalogueState). IsFound x.rows c.args.name.now (Some c.in_ok-row.row) × HasState x.rows c.in_ok-row.row (from_of c.args.switch)) c.catalogue-2.ensures c.in_ok-row.ensures.found in
-    crash_set g.D.Disk.tells c.args.switch c.args.name.now (parts g.D.Disk c.args.self.now) (parts g.D.Disk c.settle.new.self) c.in_ok-row_to_switch.field-0 can c.in_ok-settle.ensures.settled c.settle.ensures.reads.faults c.in_ok-row.row can_then (parts g.D.Disk c.switch.new.self) c.switch.result c.settle.ensures.reads.any_moment c.settle.ensures.granularity c.switch.ensures
+    crash_set g.D.Disk.tells c.args.switch c.args.name.now (parts g.D.Disk c.args.self.now) (parts g.D.Disk c.settle.new.self) c.in_ok-row_to_switch.field-0 can c.in_ok-settle.ensures.settled c.settle.ensures.reads.faults c.in_ok-row.row can_then (parts g.D.Disk c.switch.new.self) c.switch.result c.settle.ensures.reads.any_moment c.settle.ensures.granularity c.switch.ensures.changes
+
+pub returns-in_err-row_to_switch-clause-fronts : goal.returns-in_err-row_to_switch-clause-fronts
+returns-in_err-row_to_switch-clause-fronts g c = nothing_fronts g.D.Disk.tells (files_of (parts g.D.Disk c.args.self.now))
+
+pub returns-in_err-switch-clause-fronts : goal.returns-in_err-switch-clause-fronts
+returns-in_err-switch-clause-fronts g c = fronts_on g.D.Disk.tells (files_of (parts g.D.Disk c.args.self.now)) (files_of (parts g.D.Disk c.settle.new.self)) (files_of (parts g.D.Disk c.switch.new.self)) c.settle.ensures.fronts c.switch.ensures.fronts
+
+pub returns-clause-fronts : goal.returns-clause-fronts
+returns-clause-fronts g c = fronts_on g.D.Disk.tells (files_of (parts g.D.Disk c.args.self.now)) (files_of (parts g.D.Disk c.settle.new.self)) (files_of (parts g.D.Disk c.switch.new.self)) c.settle.ensures.fronts c.switch.ensures.fronts

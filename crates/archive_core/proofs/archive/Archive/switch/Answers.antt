@@ -40,8 +40,8 @@ unreachable-requires-in-Err-NotPaused g c =
     let acts = subst (λ (x : Result (Unit {0}) StateErr). Acts g.D.Disk.tells (switching c.args.switch c.args.row) (seen g.D.Disk c.args.self.now.store) (seen g.D.Disk c.switch_in.new.store) (end_of_switch x)) (c.in-Err-NotPaused.is ∙ ap (λ (e : StateErr). Err e) c.in-Err-NotPaused.field-0-is) c.switch_in.ensures.acts in
     switch_unrefused g.D.Disk.tells (parts g.D.Disk c.args.self.now) was.0 was.1 c.args.row c.args.switch c.requires.state (seen g.D.Disk c.switch_in.new.store) NotPaused acts
 
-pub returns-in-Ok : goal.returns-in-Ok
-returns-in-Ok g c = λ m r.
+pub returns-in-Ok-clause-changes : goal.returns-in-Ok-clause-changes
+returns-in-Ok-clause-changes g c = λ m r.
     let p = parts g.D.Disk c.args.self.now in
     let new = seen g.D.Disk c.switch_in.new.store in
     let keeps = keeps_pins g.D.Disk.tells p new c.switch_in.new.store.limbo.items c.switch_in.new.store.pinned (ap (λ l. l.items) c.switch_in.ensures.limbo) c.switch_in.ensures.pins (record { shown = c.switch_in.ensures.shown; whole = c.switch_in.ensures.whole; leaves = c.switch_in.ensures.leaves }) in
@@ -52,8 +52,8 @@ returns-in-Ok g c = λ m r.
     (with_pins g.D.Disk.tells (SetsState c.args.row (to_of c.args.switch)) p m (record p { at = new; kept = slice_set c.args.self.now.rows.items c.args.row (cleared c.index_mut.result.now) }) new c.switch_in.new.store.limbo.items c.switch_in.new.store.pinned (Ok tt) keeps refl refl
     (switch_done g.D.Disk.tells p m r c.args.row c.args.switch c.requires.state new keeps.shown c.in-Ok.field-0 c.index_mut.result.now there acts))
 
-pub returns-in-Err-Disk-Fault : goal.returns-in-Err-Disk-Fault
-returns-in-Err-Disk-Fault g c = λ m r.
+pub returns-in-Err-Disk-Fault-clause-changes : goal.returns-in-Err-Disk-Fault-clause-changes
+returns-in-Err-Disk-Fault-clause-changes g c = λ m r.
     let p = parts g.D.Disk c.args.self.now in
     let new = seen g.D.Disk c.switch_in.new.store in
     let keeps = keeps_pins g.D.Disk.tells p new c.switch_in.new.store.limbo.items c.switch_in.new.store.pinned (ap (λ l. l.items) c.switch_in.ensures.limbo) c.switch_in.ensures.pins (record { shown = c.switch_in.ensures.shown; whole = c.switch_in.ensures.whole; leaves = c.switch_in.ensures.leaves }) in
@@ -62,8 +62,8 @@ returns-in-Err-Disk-Fault g c = λ m r.
     (with_pins g.D.Disk.tells (SetsState c.args.row (to_of c.args.switch)) p m (record p { at = new; doubt = Some (kind.State c.args.row (to_of c.args.switch)) }) new c.switch_in.new.store.limbo.items c.switch_in.new.store.pinned (Err Fault) keeps refl refl
     (switch_failed g.D.Disk.tells p m r c.args.row c.args.switch c.requires.state new keeps.shown acts))
 
-pub returns-in-Err-Disk-Memory : goal.returns-in-Err-Disk-Memory
-returns-in-Err-Disk-Memory g c = λ m r.
+pub returns-in-Err-Disk-Memory-clause-changes : goal.returns-in-Err-Disk-Memory-clause-changes
+returns-in-Err-Disk-Memory-clause-changes g c = λ m r.
     let p = parts g.D.Disk c.args.self.now in
     let new = seen g.D.Disk c.switch_in.new.store in
     let keeps = keeps_pins g.D.Disk.tells p new c.switch_in.new.store.limbo.items c.switch_in.new.store.pinned (ap (λ l. l.items) c.switch_in.ensures.limbo) c.switch_in.ensures.pins (record { shown = c.switch_in.ensures.shown; whole = c.switch_in.ensures.whole; leaves = c.switch_in.ensures.leaves }) in

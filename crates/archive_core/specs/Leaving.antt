@@ -1,0 +1,89 @@
+-- What an act leaves: what a crash at any moment within it may leave, what becomes of the files on the disk, and which files the pieces of pins
+-- are. It is said of every archive, also of one whose listed files somebody else has damaged.
+use Rattle.std.specs.FinMap.{get}
+use Rattle.std.specs.Prelude.{◌≡◌, ℕ, ◌+◌, Bool, List, All, Contains, length, take, IsTrue, Some, slice_get}
+use Rattle.disk_model.specs.Files.{Name, HasFile}
+use Rattle.disk_model.specs.Past.{Passes}
+use Rattle.pinned_pieces.specs.Pieces.{PinOf}
+use Rattle.pinned_pieces.specs.declared.piece.PinnedFile.{PinnedFile}
+use Rattle.pv_catalog.specs.Rows.{HasName}
+use Rattle.store_manifest.specs.Manifest.{ManifestState}
+use Rattle.store_manifest.specs.declared.entry.Entry.{Entry as FileEntry}
+use Rattle.three_stores.specs.Pinned.{SeenAll, beside, IsThereTo, LeavesFronts}
+use Rattle.three_stores.specs.Pinning.{piece_of}
+use Rattle.three_stores.specs.Seen.{Seen, IsSettled}
+use Rattle.act_model.specs.History.{Entry}
+use Rattle.act_model.specs.Reply.{Reply, Opened}
+use Rattle.act_model.specs.Step.{refuse_by, change_by}
+use Rattle.act_model.specs.declared.acts.Act.{Act}
+use Rattle.act_model.specs.declared.acts.Act.TheVariants.{Register, Pause, Resume, Flush, MoveStep, Sweep, Pin, OpenPiece}
+use Rattle.act_model.specs.declared.acts.Answer.TheVariants.{Pinned, Piece}
+use Rattle.archive_core.specs.Ends.{LeavesByAct}
+use Rattle.archive_core.specs.Parts.{Parts}
+
+-- THE FILES
+
+-- an archive's stores with the files that are in limbo
+abbrev pub files_of : Parts → SeenAll
+files_of p = beside p.at p.limbo
+
+-- The disk was only read: reads give what they gave, and a crash leaves what it might have left before. What is listed or in limbo is so still.
+pub record ReadsAlone (tells : Bool) (p q : Parts) : Type 0 where
+  pub files : IsTrue tells → q.at.files ≡ p.at.files
+  pub any_moment : IsTrue tells → Passes (λ a b. b ≡ a) p.at.past q.at.past
+  pub there : (name : Name) (len : ℕ) → IsThereTo (files_of p) name len → IsThereTo (files_of q) name len
+
+-- A change of rows and a flush leave whatever is listed or in limbo. A step of a move and a sweep may take files away. Every other act only reads the
+-- disk, if it calls it at all.
+abbrev pub LeavesFiles : Bool → Act → Parts → Parts → Type 0
+LeavesFiles tells (Register name about) p q = LeavesFronts tells (files_of p) (files_of q)
+LeavesFiles tells (Pause name) p q = LeavesFronts tells (files_of p) (files_of q)
+LeavesFiles tells (Resume name) p q = LeavesFronts tells (files_of p) (files_of q)
+LeavesFiles tells (Flush limit) p q = LeavesFronts tells (files_of p) (files_of q)
+LeavesFiles tells (MoveStep m) p q = Unit {0}
+LeavesFiles tells Sweep p q = Unit {0}
+LeavesFiles tells _ p q = ReadsAlone tells p q
+
+-- THE PIECES OF PINS
+
+-- what is pinned is all that a manifest lists of a file of the row that has the name
+pub record IsPieceOfRow (at : Seen) (name : List ℕ) (piece : PinnedFile) : Type 0 where
+  pub place : ℕ
+  pub manifest : ManifestState
+  pub here : slice_get at.manifests place ≡ Some manifest
+  pub entry : FileEntry
+  pub listed : Contains manifest.entries entry
+  pub row : HasName at.catalogue.rows entry.series name
+  pub is : piece ≡ piece_of at.catalogue.rows (record { store = place + 1; entry = entry })
+
+-- A pin of this number was made of files of the row that has the name. Where nothing stood in doubt, the rows and the lists are what they were.
+pub record PinsFiles (p : Parts) (name : List ℕ) (pin : ℕ) (q : Parts) : Type 0 where
+  pub own : PinOf
+  pub made : get q.pinned pin ≡ Some own
+  pub pieces : All (IsPieceOfRow q.at name) own.pieces
+  pub same_lists : IsSettled p.at → (q.at.catalogue ≡ p.at.catalogue) × (q.at.manifests ≡ p.at.manifests)
+
+-- A piece of a pin was opened: it has the name and the length that were pinned, and its reader tells just so many first bytes of the file.
+pub record OpensFile (tells : Bool) (p : Parts) (pin i : ℕ) (reader : Opened) (name : Name) (len : ℕ) : Type 0 where
+  pub own : PinOf
+  pub there : get p.pinned pin ≡ Some own
+  pub piece : PinnedFile
+  pub here : slice_get own.pieces i ≡ Some piece
+  pub named : name ≡ piece.name
+  pub len_is : len ≡ piece.len
+  pub told : IsTrue tells → IsTrue reader.tells × (length reader.bytes ≡ len)
+  pub bytes : IsTrue tells → HasFile p.at.files name (λ b. reader.bytes ≡ take len b)
+
+-- what is known of the pieces of a pin that is made, and of a piece that is opened; that changes no pin
+abbrev pub LeavesPins : Bool → Parts → Act → Reply → Parts → Type 0
+LeavesPins tells p (Pin name query) (Pinned pin told about count tail) q = PinsFiles p name pin q
+LeavesPins tells p (OpenPiece pin i) (Piece reader name head_len len) q = (q.pinned ≡ p.pinned) × OpensFile tells p pin i reader name len
+LeavesPins tells p (OpenPiece pin i) _ q = q.pinned ≡ p.pinned
+LeavesPins tells p _ _ q = Unit {0}
+
+-- THE ACT
+
+pub record Leaves (tells : Bool) (p : Parts) (e : Entry) (q : Parts) : Type 0 where
+  pub crash : LeavesByAct tells (refuse_by e.act) (change_by e.act) p q
+  pub files : LeavesFiles tells e.act p q
+  pub pins : LeavesPins tells p e.act e.answer q
