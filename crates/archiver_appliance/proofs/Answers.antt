@@ -1,19 +1,18 @@
 -- What is known of an answer by one more sample.
-use Rattle.std.proofs.Common.{◌≡◌, ℕ, zero, suc, ◌+◌, ◌<◌, ◌≤◌, ◌⊎◌, inl, inr, List, [], ◌∷◌, ◌++◌, Bool, true, false, ◌||◌, ◌&&◌, cond, Option, Some, None, arith, refl, sym, ap, ◌∙◌, subst, append_assoc}
-use Rattle.std.specs.Prelude.{nat_le, nat_lt, filter, if◌then◌else◌}
-use Rattle.std.specs.List.{flat_map, list_any}
+use Rattle.std.proofs.Common.{◌≡◌, ℕ, zero, suc, ◌+◌, ◌<◌, ◌≤◌, inl, inr, List, [], ◌∷◌, ◌++◌, Bool, true, false, ◌||◌, Option, Some, None, arith, refl, sym, ap, ◌∙◌, subst, append_assoc}
+use Rattle.std.specs.Prelude.{nat_le, if◌then◌else◌}
 use Rattle.std.proofs.lemmas.List.{append-nil}
 use Rattle.std.proofs.lemmas.List.Folds.{list_any-append}
 use Rattle.std.proofs.lemmas.Grind.{flat_map-append}
 use Rattle.std.proofs.lemmas.Bool.{cases_lt, cases_Bool, lt-ltb, le-ltb, le-leb, lt-leb}
 use Rattle.series_model.specs.declared.sample.Sample.{Sample}
 use Rattle.series_model.specs.declared.sample.Query.{Query}
-use Rattle.series_model.specs.Series.{end_from, end_of, RisesFrom, IsRising, before, taken}
+use Rattle.series_model.specs.Series.{end_from, end_of, RisesFrom, before, taken}
 use Rattle.series_model.specs.Retrieval.{answer, within, last_of}
-use Rattle.series_model.proofs.RisingLists.{taken_more, end_from-append, end_from-ge, RisesFrom-taken_from, RisesFrom-append}
-use Rattle.series_model.proofs.AnswerLemmas.{before-append, within-append, last_of-append, more_earlier}
+use Rattle.series_model.proofs.RisingLists.{taken_more, end_from-append, end_from-ge, RisesFrom-taken_from}
+use Rattle.series_model.proofs.AnswerLemmas.{before-append, within-append, last_of-append}
 use Rattle.archiver_appliance.specs.Extract.{line_text, lines_text, is_reached, known}
-use Rattle.archiver_appliance.specs.Answer.{Answering, Covers, Adds, Takes, next_of}
+use Rattle.archiver_appliance.specs.Answer.{Answering, Covers, Takes, next_of}
 
 -- NOT REACHED
 

@@ -12,10 +12,10 @@ use Rattle.series_model.specs.Series.{taken}
 use Rattle.series_model.specs.Retrieval.{answer}
 use Rattle.payload_info.specs.declared.info.PayloadInfo.{PayloadInfo}
 use Rattle.pb_lines.specs.declared.reader.ChunkItem.TheVariants as it
-use Rattle.pb_lines.specs.Stream.{Item, header, sample, chunk_end, Section, Stop, first_section, between, within}
+use Rattle.pb_lines.specs.Stream.{Item, header, sample, chunk_end, Section, Stop, first_section, between}
 use Rattle.pb_lines.specs.Reader.{Chunks, Passes, Stops, ReadsItem, ReadsLine, IsFresh, to_come, lines_taken, bytes_taken}
 use Rattle.pb_lines.proofs.Whole.{every_stream}
-use Rattle.store_ingest.proofs.Stream.{passes_join, nothing_read, fresh_before, fresh_holds}
+use Rattle.archiver_appliance.proofs.Stream.{passes_join, nothing_read, fresh_before, fresh_holds}
 use Rattle.archiver_appliance.specs.declared.status.Status.{Status}
 use Rattle.archiver_appliance.specs.declared.status.Status.TheVariants.{SinkFault}
 use Rattle.archiver_appliance.specs.Extract.{lines_text, known, Before, nothing, chunks, samples, text_behind, extracted}

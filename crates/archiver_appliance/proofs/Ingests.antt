@@ -1,58 +1,107 @@
--- What an ingest made of a disk, from its opening on.
-use Rattle.std.proofs.Common.{◌≡◌, ◌⊎◌, inl, inr, ℕ, Bool, List, Option, refl, sym, ◌∙◌, ap, subst, arith}
-use Rattle.std.specs.Prelude.{IsTrue}
-use Rattle.disk_model.specs.Files.{Files}
-use Rattle.disk_model.specs.Past.{Past, Passes}
-use Rattle.disk_model.proofs.Passing.{passes_then, passes_weaker}
-use Rattle.partition_names.specs.declared.granularity.Granularity.{Granularity}
+-- What an ingest by one who acts alone leaves: a flush ends it, so all that is accepted is durable.
+use Rattle.std.proofs.Common.{◌≡◌, ℕ, zero, suc, List, [], ◌∷◌, ◌++◌, Some, refl, sym, ◌∙◌, ap, subst, arith, append-nil, append_assoc}
+use Rattle.std.specs.Prelude.{slice_get}
+use Rattle.series_model.specs.declared.sample.Sample.{Sample}
+use Rattle.series_model.specs.Series.{over}
+use Rattle.act_model.specs.declared.acts.Act.{Act}
+use Rattle.act_model.specs.declared.acts.Answer.TheVariants as answer
+use Rattle.act_model.specs.Flush.{FlushStep}
+use Rattle.act_model.specs.History.{Done, Entry, Runs, mine, own}
+use Rattle.act_model.specs.Machine.{Machine, held_bytes}
+use Rattle.act_model.specs.Outcome.{refused_at_once, refused, runs, faults_first, faults_between, faults_within, wants_memory, wants_memory_settled}
+use Rattle.act_model.specs.Reply.{Reply}
+use Rattle.act_model.specs.Rows.{RowState, accepted, durable, size_of}
+use Rattle.act_model.specs.Step.{Step}
+use Rattle.act_model.proofs.Histories.{cut_at, steps_at}
 use Rattle.pb_lines.specs.Stream.{Item}
-use Rattle.tier_store.specs.Held.{Held}
-use Rattle.tier_store.specs.Seen.{Seen}
-use Rattle.tier_store.specs.Stored.{HoldsEither}
-use Rattle.store_reopen.specs.Reopen.{Opens, OpensEither}
-use Rattle.store_reopen.proofs.HandedBack.{has_opens, doubt_opens}
-use Rattle.store_ingest.specs.Life.{Life}
-use Rattle.store_ingest.specs.Ingest as ingest
-use Rattle.store_ingest.specs.Ingest.{Ingests, HasOf, LeavesAt, MayBeOpen, StaysUsable}
-use Rattle.store_ingest.specs.declared.ingest.Ingested.{Ingested}
-use Rattle.store_ingest.specs.declared.ingest.Ingested.TheVariants as ingested
+use Rattle.feed_session.specs.Asks.{FailsWith, flush_all}
+use Rattle.feed_session.specs.Session.{EndsIn, IsFlushed, Taken, acts_of}
+use Rattle.feed_session.specs.declared.end.Fed.{Fed}
+use Rattle.feed_session.specs.declared.end.Fed.TheVariants as fed
+use Rattle.archiver_appliance.specs.Ingesting.{AllIsDurable, IsIngested, LeavesNone}
+use Rattle.archiver_appliance.specs.Judging.{IsOfOpened}
+use Rattle.archiver_appliance.specs.Run.{NoDamage}
 use Rattle.archiver_appliance.specs.declared.status.Status.{Status}
-use Rattle.archiver_appliance.specs.Outside.{Outside}
-use Rattle.archiver_appliance.specs.Ingesting.{HoldsOf, IngestsInto, Leaves, ingested_status}
+use Rattle.archiver_appliance.proofs.PinSteps.{first_own}
 
-module _ (tells : Bool) (g : Granularity) (s : Seen) (told : IsTrue tells) (is : s.manifest.granularity ≡ g) where
-  holds_of : {Is : Held → Type 0} → HasOf tells Is s → HoldsOf g Is s.past
-  holds_of {Is} one = record { held = one.held; is = one.is; opens = subst (λ (h : Granularity). Opens h s.past one.held) is (has_opens tells s one.held told one.has) }
+-- THE LAST ACT
 
-  leaves_on : (came : Ingested) (life : Life) (begun : List Item) (unused : List ℕ) → ingest.Leaves tells came life begun unused s → Leaves g came life begun unused s.past
-  leaves_on ingested.DiskFault life begun unused (inl one) = inl (holds_of one)
-  leaves_on ingested.DiskFault life begun unused (inr u) = inr (record { before = u.before; after = u.after; flushed = u.flushed; flushed_with = u.flushed_with; opens = subst (λ (h : Granularity). OpensEither h s.past u.before u.after) is (doubt_opens tells s u.before u.after told u.doubts) })
-  leaves_on came life begun unused one = holds_of one
+rest_own : (who : ℕ) (e : Entry) (es : List Entry) → own who (e ∷ es) ≡ e ∷ es → own who es ≡ es
+rest_own who e es all = let is = first_own who e es all in let one : e ∷ own who es ≡ e ∷ es = rw is at all in cc (one)
 
-pub stays_open : (tells : Bool) (came : Ingested) (s : Seen) → StaysUsable tells came s → MayBeOpen tells s
-stays_open tells ingested.DiskFault s usable = usable
-stays_open tells came s usable = record { before = usable.0; after = usable.0; is_open = inl usable.1 }
+-- behind the last of one's own acts nothing stands, where all are one's own
+none_behind : (who : ℕ) (front back : List Entry) → own who (front ++ back) ≡ front ++ back → mine who back ≡ [] → back ≡ []
+none_behind who [] [] all none = refl
+none_behind who [] (e ∷ es) all none = let is = first_own who e es all in absurd (cc (rw is at none))
+none_behind who (x ∷ xs) back all none = none_behind who xs back (rest_own who x (xs ++ back) all) none
 
-pub ingests_into : (tells : Bool) (g : Granularity) (one other first : Held) (old new : Outside) (s later : Seen) (came : Ingested) (status : Status) → IsTrue tells → s.manifest.granularity ≡ g → status ≡ ingested_status came → later.past ≡ new.past → later.manifest.granularity ≡ g
-    → Passes (HoldsEither g one other) old.past s.past → Ingests tells first came old.source old.clock new.clock s later → IngestsInto g one other first old new status
-ingests_into tells g one other first old new s later came status told is ended same still opening ingests =
-    let At : Files → Files → Type 0 = LeavesAt g first ingests.items ingests.moments ingests.life ingests.begun ingests.unused in
-    let All : Files → Files → Type 0 = λ a c. HoldsEither g one other a c ⊎ At a c in
-    let moments : Passes At s.past later.past = subst (λ (h : Granularity). Passes (LeavesAt h first ingests.items ingests.moments ingests.life ingests.begun ingests.unused) s.past later.past) is (ingests.any_moment told) in
-    let all : Passes All old.past later.past = passes_then All At old.past s.past later.past (passes_weaker (HoldsEither g one other) All old.past s.past opening (λ a c was holds. inl holds)) moments
-    (λ a b c was step now at. inr (record { held = at.held; holds = at.holds; point = at.point })) in
-    record {
-      came = came;
-      told = ended;
-      items = ingests.items;
-      moments = ingests.moments;
-      life = ingests.life;
-      begun = ingests.begun;
-      unused = ingests.unused;
-      takes = ingests.takes;
-      reads = ingests.reads;
-      at = ingests.at;
-      stops = ingests.stops;
-      leaves = subst (Leaves g came ingests.life ingests.begun ingests.unused) same (leaves_on tells g later told still came ingests.life ingests.begun ingests.unused ingests.leaves);
-      any_moment = subst (Passes All old.past) same all;
-    }
+-- the last act of a run is a step to its end
+pub last_step : (entries : List Entry) (start end : Machine) (before : List Done) (d : Done) → own 0 entries ≡ entries → mine 0 entries ≡ before ++ d ∷ [] → Runs start entries end → (m : Machine) × (who : ℕ) × Step who d.act m d.answer end
+last_step entries start end before d all is run =
+    let cut = cut_at 0 entries before [] d is in
+    let split : cut.front ++ cut.entry ∷ cut.back ≡ (cut.front ++ cut.entry ∷ []) ++ cut.back = sym (append_assoc cut.front (cut.entry ∷ []) cut.back) in
+    let whole : own 0 ((cut.front ++ cut.entry ∷ []) ++ cut.back) ≡ (cut.front ++ cut.entry ∷ []) ++ cut.back = subst (λ (es : List Entry). own 0 es ≡ es) (cut.is ∙ split) all in
+    let none : cut.back ≡ [] = none_behind 0 (cut.front ++ cut.entry ∷ []) cut.back whole cut.back_is in
+    let at = steps_at cut.front cut.back cut.entry start end (subst (λ (es : List Entry). Runs start es end) cut.is run) in
+    let last : end ≡ at.after = subst (λ (es : List Entry). Runs at.after es end) none at.from in
+    let act : cut.entry.act ≡ d.act = ap (λ (x : Done). x.act) cut.done in
+    let told : cut.entry.answer ≡ d.answer = ap (λ (x : Done). x.answer) cut.done in
+    (at.at, cut.entry.who, subst (λ (m : Machine). Step cut.entry.who d.act at.at d.answer m) (sym last) (subst (λ (a : Act). Step cut.entry.who a at.at d.answer at.after) act (subst (λ (r : Reply). Step cut.entry.who cut.entry.act at.at r at.after) told at.step)))
+
+-- A FLUSH
+
+no_bytes : (xs : List Sample) → size_of xs ≡ 0 → xs ≡ []
+no_bytes [] none = refl
+no_bytes (x ∷ xs) none = absurd (omega arith)
+
+no_tail : (rows : List RowState) (i : ℕ) (row : RowState) → held_bytes rows ≡ 0 → slice_get rows i ≡ Some row → row.tail ≡ []
+no_tail [] i row none here = absurd (cc (here))
+no_tail (x ∷ rows) zero row none here = let same : x ≡ row = cc (here) in let one : size_of row.tail ≡ 0 = subst (λ (r : RowState). size_of r.tail ≡ 0) same (omega arith) in no_bytes row.tail one
+no_tail (x ∷ rows) (suc i) row none here = no_tail rows i row (omega arith) here
+
+tailless : (row : RowState) → row.tail ≡ [] → durable row ≡ accepted row
+tailless row none = sym (ap (λ (w : List Sample). over (durable row) w) none ∙ append-nil (durable row))
+
+-- one that leaves nothing in the intake makes all durable
+flush_all_durable : (limit samples doors : ℕ) {old new : Machine} {reply : Reply} → FlushStep limit old reply new → reply ≡ answer.Flushed samples 0 doors → AllIsDurable new
+flush_all_durable limit samples doors (refused_at_once reply p) is = absurd (cc (p))
+flush_all_durable limit samples doors (refused reply p settles q same more) is = absurd (cc (q))
+flush_all_durable limit samples doors {new = new} (runs reply p settles q ran more) is = λ i row here.
+    let told = sym ran.0.2 ∙ is in
+    let none : held_bytes new.rows ≡ 0 = cc (told) in
+    tailless row (no_tail new.rows i row none here)
+flush_all_durable limit samples doors (faults_first p same rose) is = absurd (cc (is))
+flush_all_durable limit samples doors (faults_between p settles same rose) is = absurd (cc (is))
+flush_all_durable limit samples doors (faults_within doubted p settles q r same rose) is = absurd (cc (is))
+flush_all_durable limit samples doors (wants_memory same more) is = absurd (cc (is))
+flush_all_durable limit samples doors (wants_memory_settled p settles same more) is = absurd (cc (is))
+
+-- A SESSION
+
+module _ (entries : List Entry) (start end : Machine) (taken : List Taken) (last done : List Done) (all : own 0 entries ≡ entries) (just : mine 0 entries ≡ done) (are : done ≡ acts_of taken ++ last) (run : Runs start entries end) where
+  flushed : IsFlushed last → AllIsDurable end
+  flushed is =
+      let step = last_step entries start end (acts_of taken) (record { act = flush_all; answer = answer.Flushed is.samples 0 is.doors }) all (just ∙ (are ∙ ap (λ (ds : List Done). acts_of taken ++ ds) is.is)) run in
+      flush_all_durable 67108864 is.samples is.doors step.2 refl
+
+  pub leaves_none : (came : Fed) (begun : List Item) → EndsIn came begun last → LeavesNone came end
+  leaves_none (fed.Fed kept held dropped) begun ends = flushed ends.1
+  leaves_none (fed.Refused line fault) begun ends = flushed ends.1
+  leaves_none fed.PeerFault begun ends = tt
+  leaves_none fed.DiskFault begun ends = tt
+  leaves_none fed.Spent begun ends = tt
+  leaves_none fed.Memory begun ends = tt
+
+-- the last act of a session that failed
+pub fails_last : (taken : List Taken) (last done : List Done) → done ≡ acts_of taken ++ last → (f : FailsWith answer.DiskFault last) → done ≡ (acts_of taken ++ f.before) ++ record { act = f.act; answer = answer.DiskFault } ∷ []
+fails_last taken last done are f = are ∙ (ap (λ (ds : List Done). acts_of taken ++ ds) f.is ∙ sym (append_assoc (acts_of taken) f.before (record { act = f.act; answer = answer.DiskFault } ∷ [])))
+
+-- STATUSES
+
+pub ingested_plain : (came : Fed) (status : Status) → IsIngested came status → IsOfOpened status × NoDamage status
+ingested_plain (fed.Fed kept held dropped) status told = subst (λ (s : Status). IsOfOpened s × NoDamage s) (sym told) (tt, tt)
+ingested_plain (fed.Refused line fault) status told = subst (λ (s : Status). IsOfOpened s × NoDamage s) (sym told) (tt, tt)
+ingested_plain fed.PeerFault status told = subst (λ (s : Status). IsOfOpened s × NoDamage s) (sym told) (tt, tt)
+ingested_plain fed.DiskFault status told = subst (λ (s : Status). IsOfOpened s × NoDamage s) (sym told) (tt, tt)
+ingested_plain fed.Spent status told = absurd told
+ingested_plain fed.Memory status told = subst (λ (s : Status). IsOfOpened s × NoDamage s) (sym told) (tt, tt)

@@ -1,38 +1,30 @@
--- With which statuses the calls on a store end, and for which causes.
-use Rattle.std.proofs.Common.{◌≡◌, ◌⊎◌, inl, inr, Bor, ℕ, ◌≤◌, Bool, List, Option, Some, None, Result, Ok, Err, refl, sym, ◌∙◌, ap, subst, arith}
+-- With which statuses the commands end, and for which causes.
+use Rattle.std.proofs.Common.{◌≡◌, ℕ, List, Option, Some, None, Result, Ok, Err, refl, sym, subst}
 use Rattle.std.specs.Prelude.{IfErr, IfOk}
-use Rattle.edge_io.specs.Stream.{Rose}
 use Rattle.disk_model.specs.Files.{Rose as DiskRose}
-use Rattle.series_model.specs.declared.sample.Query.{Query}
-use Rattle.pb_lines.specs.Stream.{Item}
 use Rattle.tier_store.specs.Ends.{IsFailed}
-use Rattle.tier_store.specs.Held.{Held}
-use Rattle.tier_store.specs.Seen.{Seen}
-use Rattle.sink_buffer.specs.declared.buffer.PutErr.{PutErr}
-use Rattle.sink_buffer.specs.declared.buffer.PutErr.TheVariants as put
-use Rattle.store_reopen.specs.declared.error.ReopenErr.{ReopenErr}
-use Rattle.store_reopen.specs.declared.error.ReopenErr.TheVariants as reopening
-use Rattle.store_ingest.specs.Ingest.{ReadsOf}
-use Rattle.store_ingest.specs.Ingest as ingest
-use Rattle.store_ingest.specs.declared.ingest.Ingested.{Ingested}
-use Rattle.store_ingest.specs.declared.ingest.Ingested.TheVariants as ingested
-use Rattle.store_retrieval.specs.declared.retrieval.GetErr.{GetErr}
-use Rattle.store_retrieval.specs.declared.retrieval.GetErr.TheVariants as got
-use Rattle.store_retrieval.specs.Damage.{HasCause, end_of}
-use Rattle.store_retrieval.specs.Get.{Writes}
-use Rattle.store_reports.specs.Status.{Reports}
-use Rattle.store_reports.specs.Telling as telling
-use Rattle.store_reports.specs.declared.report.Damage.{Damage}
-use Rattle.store_reports.specs.declared.inspection.CheckErr.{CheckErr}
-use Rattle.store_reports.specs.declared.inspection.CheckErr.TheVariants as checked
+use Rattle.feed_session.specs.Session.{ReadsOf}
+use Rattle.feed_session.specs.declared.end.Fed.{Fed}
+use Rattle.feed_session.specs.declared.end.Fed.TheVariants as fed
+use Rattle.pb_lines.specs.Stream.{Item}
+use Rattle.three_reopen.specs.declared.error.ReopenErr.{ReopenErr}
+use Rattle.three_reopen.specs.declared.error.ReopenErr.TheVariants as reopening
+use Rattle.three_reports.specs.Status as summary
+use Rattle.three_reports.specs.Telling as telling
+use Rattle.three_reports.specs.declared.report.Damage.{Damage}
+use Rattle.three_reports.specs.declared.inspection.CheckErr.{CheckErr}
+use Rattle.three_reports.specs.declared.inspection.CheckErr.TheVariants as checked
+use Rattle.three_reports.specs.declared.summary.StatusErr.{StatusErr}
+use Rattle.three_reports.specs.declared.summary.StatusErr.TheVariants as summed
 use Rattle.archiver_appliance.specs.declared.command.StoreCommand.{StoreCommand}
 use Rattle.archiver_appliance.specs.declared.command.StoreCommand.TheVariants as command
-use Rattle.archiver_appliance.specs.Ingesting.{ingested_status}
-use Rattle.archiver_appliance.specs.Judging.{refusal_of}
-use Rattle.archiver_appliance.specs.Outside.{Outside, IsCaused}
-use Rattle.archiver_appliance.specs.Reporting.{Gets, Tells, HasNone, got_status, got_file, reported_status, checked_status, checked_file}
+use Rattle.archiver_appliance.specs.declared.status.Status.{Status}
+use Rattle.archiver_appliance.specs.declared.status.Status.TheVariants.{SourceFault, SinkFault, DiskFault, OutOfMemory}
+use Rattle.archiver_appliance.specs.Ingesting.{IsIngested}
+use Rattle.archiver_appliance.specs.Judging.{IsOfOpened, refusal_of}
+use Rattle.archiver_appliance.specs.Outside.{Outside, IsCaused, IsCausedBy}
+use Rattle.archiver_appliance.specs.Reporting.{Tells, reported_status, checked_status, checked_file}
 use Rattle.archiver_appliance.specs.Run.{EndsAs, NoDamage}
-use Rattle.archiver_appliance.specs.Status.{number_of}
 
 -- A DISK THAT ISN'T OPENED
 
@@ -44,77 +36,92 @@ pub refused_caused : {D R X : Type 0} (faults : X → ℕ) (old new : Outside) (
 refused_caused {D} {R} {X} faults old new (reopening.DiskFault disk) rose = rose disk refl
 refused_caused {D} {R} {X} faults old new err rose = tt
 
+-- causes of one command are those of a run, where each count that rose rose in all
+pub caused_on : {R : Type 0} (faults : R → ℕ) (read written disk read' written' disk' : Type 0) (status : Status) (failed : Option R) → (read → read') → (written → written') → (disk → disk') → IsCausedBy faults read written disk status failed → IsCausedBy faults read' written' disk' status failed
+caused_on {R} faults read written disk read' written' disk' SourceFault None r w d c = r c
+caused_on {R} faults read written disk read' written' disk' SinkFault None r w d c = w c
+caused_on {R} faults read written disk read' written' disk' DiskFault None r w d c = d c
+caused_on {R} faults read written disk read' written' disk' DiskFault (Some file) r w d c = c
+caused_on {R} faults read written disk read' written' disk' status (Some file) r w d c = absurd c
+caused_on {R} faults read written disk read' written' disk' status None r w d c = tt
+
+-- want of memory has no cause
+pub memory_caused : {R : Type 0} (faults : R → ℕ) (read written disk : Type 0) (status : Status) (failed : Option R) → status ≡ OutOfMemory → failed ≡ None → IsCausedBy faults read written disk status failed
+memory_caused {R} faults read written disk status failed is none = subst (λ (s : Status). IsCausedBy faults read written disk s failed) (sym is) (subst (λ (f : Option R). IsCausedBy faults read written disk OutOfMemory f) (sym none) tt)
+
+pub memory_ends : (asked : StoreCommand) (source : Option (List ℕ)) (status : Status) → status ≡ OutOfMemory → EndsAs asked source status
+memory_ends asked source status is = subst (λ (s : Status). EndsAs asked source s) (sym is) tt
+
 -- AN INGEST
 
-pub ingest_ends : (source : Option (List ℕ)) (items : List Item) (came : Ingested) → ReadsOf came source items → EndsAs command.Ingest source (ingested_status came)
-ingest_ends source items ingested.Done reads = (items, reads)
-ingest_ends source items (ingested.Refused line fault) reads = (tt, (items, reads))
-ingest_ends source items came reads = tt
+pub ingest_ends : (source : Option (List ℕ)) (items : List Item) (came : Fed) (status : Status) → IsIngested came status → ReadsOf came source items → EndsAs command.Ingest source status
+ingest_ends source items (fed.Fed kept held dropped) status told reads = subst (λ (s : Status). EndsAs command.Ingest source s) (sym told) (items, reads)
+ingest_ends source items (fed.Refused line fault) status told reads = subst (λ (s : Status). EndsAs command.Ingest source s) (sym told) (tt, (items, reads))
+ingest_ends source items fed.PeerFault status told reads = subst (λ (s : Status). EndsAs command.Ingest source s) (sym told) tt
+ingest_ends source items fed.DiskFault status told reads = subst (λ (s : Status). EndsAs command.Ingest source s) (sym told) tt
+ingest_ends source items fed.Spent status told reads = absurd told
+ingest_ends source items fed.Memory status told reads = subst (λ (s : Status). EndsAs command.Ingest source s) (sym told) tt
 
-pub ingest_caused : {X : Type 0} (faults : X → ℕ) (old new : Outside) (came : Ingested) → (came ≡ ingested.SourceFault → Rose old.read_faults new.read_faults) → (IsFailed (ingest.end_of came) → DiskRose old.disk_faults new.disk_faults) → IsCaused faults old new (ingested_status came) None
-ingest_caused {X} faults old new ingested.SourceFault source disk = source refl
-ingest_caused {X} faults old new ingested.DiskFault source disk = disk tt
-ingest_caused {X} faults old new came source disk = tt
-
--- A RETRIEVAL
-
-pub get_ends : {R : Type 0} (source : Option (List ℕ)) (name : Bor (List ℕ)) (query : Query) (came : Result Unit (GetErr R)) → EndsAs (command.Get name query) source (got_status came)
-get_ends {R} source name query (Err got.NoSuchVariable) = tt
-get_ends {R} source name query came = tt
-
-pub get_caused : {R : Type 0} (tells : Bool) (s : Seen) (name : List ℕ) (faults : R → ℕ) (old new : Outside) (came : Result Unit (GetErr R)) → IfErr came (HasCause tells s faults old.write_faults new.write_faults name) → (IsFailed (end_of came) → DiskRose old.disk_faults new.disk_faults)
-    → IsCaused faults old new (got_status came) (got_file came)
-get_caused {R} tells s name faults old new (Err got.SinkFault) cause disk = cause
-get_caused {R} tells s name faults old new (Err got.DiskFault) cause disk = disk tt
-get_caused {R} tells s name faults old new (Err (got.ReadFault file)) cause disk = cause
-get_caused {R} tells s name faults old new came cause disk = tt
-
-pub gets_of : {R : Type 0} (held : Held) (name : List ℕ) (query : Query) (a b : Option (List ℕ)) (came : Result Unit (GetErr R)) → (came ≡ Err got.NoSuchVariable → HasNone held.rows name) → Writes held name query a b came → Gets held name query a b (got_status came)
-gets_of {R} held name query a b (Ok done) none w = w
-gets_of {R} held name query a b (Err got.NoSuchVariable) none w = (w, none refl)
-gets_of {R} held name query a b (Err got.SinkFault) none w = w
-gets_of {R} held name query a b (Err got.DiskFault) none w = inr w
-gets_of {R} held name query a b (Err (got.ReadFault file)) none w = inr w
-gets_of {R} held name query a b (Err (got.Damaged file at)) none w = w
-gets_of {R} held name query a b (Err got.OutOfMemory) none w = inr w
-
--- it ends with 4 where no row has the name, and never with 12
-pub get_refused : {R : Type 0} (came : Result Unit (GetErr R)) → (number_of (got_status came) ≡ 4) ⊎ (number_of (got_status came) ≡ 12) → came ≡ Err got.NoSuchVariable
-get_refused {R} (Err got.NoSuchVariable) is = refl
-get_refused {R} came (inl is) = cc
-get_refused {R} came (inr is) = cc
+pub ingest_caused : {R : Type 0} (faults : R → ℕ) (read disk : Type 0) (came : Fed) (status : Status) → IsIngested came status → (came ≡ fed.PeerFault → read) → (came ≡ fed.DiskFault → disk) → IsCausedBy faults read ⊥ disk status None
+ingest_caused {R} faults read disk (fed.Fed kept held dropped) status told peer failed = subst (λ (s : Status). IsCausedBy faults read ⊥ disk s None) (sym told) tt
+ingest_caused {R} faults read disk (fed.Refused line fault) status told peer failed = subst (λ (s : Status). IsCausedBy faults read ⊥ disk s None) (sym told) tt
+ingest_caused {R} faults read disk fed.PeerFault status told peer failed = subst (λ (s : Status). IsCausedBy faults read ⊥ disk s None) (sym told) (peer refl)
+ingest_caused {R} faults read disk fed.DiskFault status told peer failed = subst (λ (s : Status). IsCausedBy faults read ⊥ disk s None) (sym told) (failed refl)
+ingest_caused {R} faults read disk fed.Spent status told peer failed = absurd told
+ingest_caused {R} faults read disk fed.Memory status told peer failed = subst (λ (s : Status). IsCausedBy faults read ⊥ disk s None) (sym told) tt
 
 -- A REPORT OF ROWS
 
-pub report_ends : (source : Option (List ℕ)) (came : Result Unit PutErr) → EndsAs command.Status source (reported_status came)
-report_ends source (Err put.Memory) = tt
-report_ends source came = tt
+pub report_ends : (source : Option (List ℕ)) (came : Result Unit StatusErr) → EndsAs command.Status source (reported_status came)
+report_ends source (Ok done) = tt
+report_ends source (Err summed.SinkFault) = tt
+report_ends source (Err summed.DiskFault) = tt
+report_ends source (Err summed.OutOfMemory) = tt
 
-pub report_caused : {X : Type 0} (faults : X → ℕ) (old new : Outside) (came : Result Unit PutErr) → (came ≡ Err put.SinkFault → Rose old.write_faults new.write_faults) → IsCaused faults old new (reported_status came) None
-report_caused {X} faults old new (Err put.SinkFault) sink = sink refl
-report_caused {X} faults old new came sink = tt
+pub report_caused : {X : Type 0} (faults : X → ℕ) (written disk : Type 0) (came : Result Unit StatusErr) → (came ≡ Err summed.SinkFault → written) → (IsFailed (summary.end_of_status came) → disk) → IsCausedBy faults ⊥ written disk (reported_status came) None
+report_caused {X} faults written disk (Ok done) sink failed = tt
+report_caused {X} faults written disk (Err summed.SinkFault) sink failed = sink refl
+report_caused {X} faults written disk (Err summed.DiskFault) sink failed = failed tt
+report_caused {X} faults written disk (Err summed.OutOfMemory) sink failed = tt
 
-pub tells_of : (text : List ℕ) (a b : Option (List ℕ)) (came : Result Unit PutErr) → Reports a b text came → Tells text a b (reported_status came)
-tells_of text a b (Err put.Memory) w = w
-tells_of text a b came w = w
+pub tells_of : (text : List ℕ) (a b : Option (List ℕ)) (came : Result Unit StatusErr) → summary.Writes a b came text → Tells text a b (reported_status came)
+tells_of text a b (Ok done) w = w
+tells_of text a b (Err summed.SinkFault) w = w
+tells_of text a b (Err summed.DiskFault) w = w
+tells_of text a b (Err summed.OutOfMemory) w = w
 
 -- A CHECK
 
 pub check_ends : {R : Type 0} (source : Option (List ℕ)) (came : Result (Option Damage) (CheckErr R)) → EndsAs command.Check source (checked_status came)
 check_ends {R} source (Ok None) = tt
+check_ends {R} source (Ok (Some damage)) = tt
 check_ends {R} source (Err checked.SinkFault) = tt
-check_ends {R} source came = tt
+check_ends {R} source (Err checked.DiskFault) = tt
+check_ends {R} source (Err (checked.ReadFault file)) = tt
+check_ends {R} source (Err checked.OutOfMemory) = tt
 
-pub check_caused : {R : Type 0} (faults : R → ℕ) (old new : Outside) (came : Result (Option Damage) (CheckErr R)) → IfErr came (telling.IsCounted faults old.write_faults new.write_faults) → (IsFailed (telling.end_of came) → DiskRose old.disk_faults new.disk_faults) → IsCaused faults old new (checked_status came) (checked_file came)
-check_caused {R} faults old new (Ok None) cause disk = tt
-check_caused {R} faults old new (Ok (Some damage)) cause disk = tt
-check_caused {R} faults old new (Err checked.SinkFault) cause disk = cause
-check_caused {R} faults old new (Err checked.DiskFault) cause disk = disk tt
-check_caused {R} faults old new (Err (checked.ReadFault file)) cause disk = cause
-check_caused {R} faults old new (Err checked.OutOfMemory) cause disk = tt
+pub check_caused : {R : Type 0} (faults : R → ℕ) (before now : ℕ) (disk : Type 0) (came : Result (Option Damage) (CheckErr R)) → IfErr came (telling.IsCounted faults before now) → (IsFailed (telling.end_of came) → disk)
+    → IsCausedBy faults ⊥ (telling.IsCounted faults before now checked.SinkFault) disk (checked_status came) (checked_file came)
+check_caused {R} faults before now disk (Ok None) cause failed = tt
+check_caused {R} faults before now disk (Ok (Some damage)) cause failed = tt
+check_caused {R} faults before now disk (Err checked.SinkFault) cause failed = cause
+check_caused {R} faults before now disk (Err checked.DiskFault) cause failed = failed tt
+check_caused {R} faults before now disk (Err (checked.ReadFault file)) cause failed = cause
+check_caused {R} faults before now disk (Err checked.OutOfMemory) cause failed = tt
 
 -- no damage is found
 pub check_stands : {R : Type 0} (came : Result (Option Damage) (CheckErr R)) → IfOk came (λ damage. damage ≡ None) → NoDamage (checked_status came)
 check_stands {R} (Ok (Some damage)) none = cc
+check_stands {R} (Ok None) none = tt
+check_stands {R} (Err checked.SinkFault) none = tt
+check_stands {R} (Err checked.DiskFault) none = tt
 check_stands {R} (Err (checked.ReadFault file)) none = tt
-check_stands {R} came none = tt
+check_stands {R} (Err checked.OutOfMemory) none = tt
+
+pub check_opened : {R : Type 0} (came : Result (Option Damage) (CheckErr R)) → IsOfOpened (checked_status came)
+check_opened {R} (Ok (Some damage)) = tt
+check_opened {R} (Ok None) = tt
+check_opened {R} (Err checked.SinkFault) = tt
+check_opened {R} (Err checked.DiskFault) = tt
+check_opened {R} (Err (checked.ReadFault file)) = tt
+check_opened {R} (Err checked.OutOfMemory) = tt

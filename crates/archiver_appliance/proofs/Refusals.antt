@@ -1,87 +1,105 @@
--- What a command did where its disk wasn't opened.
-use Rattle.std.proofs.Common.{◌≡◌, inl, inr, ℕ, Bool, true, List, [], Option, Some, None, refl, sym, ap, subst, arith}
+-- What a command did where its disk wasn't opened, or memory was wanting for an archive.
+use Rattle.std.proofs.Common.{◌≡◌, inl, inr, ℕ, Bool, true, List, [], length, Option, None, refl, sym, subst, arith}
 use Rattle.std.specs.Prelude.{IsTrue}
 use Rattle.std.proofs.KnownBytes.{Appends-nil}
 use Rattle.std.proofs.lemmas.List.Elements.{All-nil}
 use Rattle.edge_io.specs.Stream.{AppendsFront}
 use Rattle.disk_model.specs.Files.{Name, Files}
-use Rattle.disk_model.specs.Past.{Past, MayLeave}
+use Rattle.disk_model.specs.Past.{MayLeave}
+use Rattle.etl_rules.specs.Config.{ConfigState}
 use Rattle.partition_names.specs.declared.granularity.Granularity.{Granularity}
+use Rattle.piece_choice.specs.declared.choosing.Listed.{Listed}
 use Rattle.pv_catalog.specs.declared.row.Row.{Row}
 use Rattle.store_manifest.specs.declared.entry.Entry.{Entry}
-use Rattle.tier_store.specs.Held.{Held}
-use Rattle.tier_store.specs.Change.{IsEither}
-use Rattle.store_reopen.specs.Reopen.{OpensEither}
-use Rattle.store_reopen.specs.Verdict.{IsWhole, IsDamaged, Differs}
-use Rattle.store_reopen.specs.declared.error.ReopenErr.{ReopenErr}
-use Rattle.store_reopen.specs.declared.error.ReopenErr.TheVariants as reopening
-use Rattle.store_reopen.proofs.Verdicts.{held_whole}
-use Rattle.store_reports.specs.Check.{InspectsSome, IsFound}
+use Rattle.three_stores.specs.Stores.{Stores}
+use Rattle.three_reopen.specs.Reopen.{OpensEither, stores_of}
+use Rattle.three_reopen.specs.Verdict.{IsWhole, IsDamaged, Differs, Listings}
+use Rattle.three_reopen.specs.declared.error.ReopenErr.{ReopenErr}
+use Rattle.three_reopen.specs.declared.error.ReopenErr.TheVariants as reopening
+use Rattle.three_reopen.proofs.Verdicts.{held_whole}
+use Rattle.three_reports.specs.Check.{InspectsSome, IsFound}
 use Rattle.archiver_appliance.specs.declared.command.StoreCommand.{StoreCommand}
 use Rattle.archiver_appliance.specs.declared.command.StoreCommand.TheVariants as command
 use Rattle.archiver_appliance.specs.declared.status.Status.TheVariants.{DiskFault, OutOfMemory}
+use Rattle.archiver_appliance.specs.declared.command.Command.TheVariants.{OverStore}
 use Rattle.archiver_appliance.specs.Judging.{refusal_of}
 use Rattle.archiver_appliance.specs.Outside.{Outside}
-use Rattle.archiver_appliance.specs.declared.command.Command.TheVariants.{OverStore}
-use Rattle.archiver_appliance.specs.Run.{Does, Makes, MakesOfRead, OnlyReads, Serves, TellsSaid}
+use Rattle.archiver_appliance.specs.Reporting.{TellsRows, listed_files}
+use Rattle.archiver_appliance.specs.Run.{Does, IsUnasked, Makes, MakesOfRead, NoDamage, OnlyReads, Serves, TellsSaid}
 use Rattle.archiver_appliance.proofs.Judgements.{OneVerdict, exactly, refusal_judges}
 use Rattle.archiver_appliance.proofs.Opening.{read_of, first_stands, reads_listed}
 use Rattle.archiver_appliance.proofs.Outcomes.{refused_ends}
 
--- what reads give is of store 1, as both are
-pub first_numbered : (g : Granularity) (past : Past) (one other first : Held) → OpensEither g past one other → IsEither one other first → first.store ≡ 1
-first_numbered g past one other first opens (inl is) = subst (λ (h : Held). h.store ≡ 1) (sym is) opens.numbered.0
-first_numbered g past one other first opens (inr is) = subst (λ (h : Held). h.store ≡ 1) (sym is) opens.numbered.1
-
 front_none : (a b : Option (List ℕ)) (text : List ℕ) → b ≡ a → AppendsFront a b text
 front_none a b text is = subst (λ (o : Option (List ℕ)). AppendsFront a o text) (sym is) (0, omega arith, Appends-nil a)
 
-none_inspected : (rows : List Row) (files : Files) (entries : List Entry) (a b : Option (List ℕ)) → b ≡ a → InspectsSome true rows files entries (AppendsFront a b)
-none_inspected rows files entries a b is = record { done = []; rest = entries; split = refl; first = None; inspects = record { inspected = []; are = refl; found = All-nil (IsFound true rows files); damage = refl; lines = front_none a b [] is } }
+none_inspected : (rows : List Row) (files : Files) (listed : List Listed) (a b : Option (List ℕ)) → b ≡ a → InspectsSome true rows files listed (AppendsFront a b)
+none_inspected rows files listed a b is = record { done = []; rest = listed; split = refl; first = None; inspects = record { inspected = []; are = refl; found = All-nil (IsFound true rows files); damage = refl; lines = front_none a b [] is } }
 
--- A disk that failed, or wanting memory, before anything was read or written.
-module _ (g : Granularity) (old new : Outside) (source : new.source ≡ old.source) (sink : new.sink ≡ old.sink) (clock : new.clock ≡ old.clock) (reads : OnlyReads g old.files new.files old.past new.past) where
-  makes_nothing : (asked : StoreCommand) (one other first : Held) → Makes g asked one other first old new DiskFault × Makes g asked one other first old new OutOfMemory
-  makes_nothing command.Ingest one other first = (inl (record { cut = inl refl; source = source; clock = clock }, reads), inl (record { cut = inr refl; source = source; clock = clock }, reads))
-  makes_nothing (command.Get name query) one other first = (inl sink, inl sink)
-  makes_nothing command.Status one other first = (front_none old.sink new.sink _ sink, front_none old.sink new.sink _ sink)
-  makes_nothing command.Check one other first = (tt, tt)
+none_told : (rows : List Row) (short medium long : List Entry) (a b : Option (List ℕ)) → b ≡ a → TellsRows rows short medium long 0 (AppendsFront a b)
+none_told rows short medium long a b is = record { lines = []; many = refl; are = tt; text = front_none a b [] is }
 
-  tells_nothing : (asked : StoreCommand) (rows : List Row) (entries : List Entry) → TellsSaid asked old.files rows entries old new DiskFault × TellsSaid asked old.files rows entries old new OutOfMemory
-  tells_nothing command.Status rows entries = (front_none old.sink new.sink _ sink, front_none old.sink new.sink _ sink)
-  tells_nothing command.Check rows entries = (none_inspected rows old.files entries old.sink new.sink sink, none_inspected rows old.files entries old.sink new.sink sink)
-  tells_nothing asked rows entries = (tt, tt)
+three_of : (config : ConfigState) → length (stores_of config) ≡ 3
+three_of config = refl
+
+-- A disk that failed, or wanting memory, before anything but the disk was read, and before anything was written.
+module _ (config : ConfigState) (old new : Outside) (source : new.source ≡ old.source) (sink : new.sink ≡ old.sink) (clock : new.clock ≡ old.clock) (reads : OnlyReads (stores_of config) old.files new.files old.past new.past) where
+  gs : List Granularity
+  gs = stores_of config
+
+  unasked : IsUnasked (stores_of config) old new DiskFault × IsUnasked (stores_of config) old new OutOfMemory
+  unasked = (record { cut = inl refl; source = source; sink = sink; clock = clock; reads = reads }, record { cut = inr refl; source = source; sink = sink; clock = clock; reads = reads })
+
+  pub makes_nothing : (asked : StoreCommand) (before after first : Stores) → Makes config asked before after first old new DiskFault × Makes config asked before after first old new OutOfMemory
+  makes_nothing command.Ingest before after first = (inl unasked.0, inl unasked.1)
+  makes_nothing (command.Get name query) before after first = (inl unasked.0, inl unasked.1)
+  makes_nothing command.Etl before after first = (inl unasked.0, inl unasked.1)
+  makes_nothing command.Status before after first = (front_none old.sink new.sink _ sink, front_none old.sink new.sink _ sink)
+  makes_nothing command.Check before after first = (tt, tt)
+
+  pub tells_nothing : (asked : StoreCommand) (rows : List Row) (lists : Listings) → TellsSaid asked old.files rows lists old new DiskFault × TellsSaid asked old.files rows lists old new OutOfMemory
+  tells_nothing command.Status rows lists = ((0, none_told rows (lists 0) (lists 1) (lists 2) old.sink new.sink sink), (0, none_told rows (lists 0) (lists 1) (lists 2) old.sink new.sink sink))
+  tells_nothing command.Check rows lists = (none_inspected rows old.files (listed_files (lists 0) (lists 1) (lists 2)) old.sink new.sink sink, none_inspected rows old.files (listed_files (lists 0) (lists 1) (lists 2)) old.sink new.sink sink)
+  tells_nothing command.Ingest rows lists = (tt, tt)
+  tells_nothing command.Etl rows lists = (tt, tt)
+  tells_nothing (command.Get name query) rows lists = (tt, tt)
 
   -- The reasons for a refusal, of an image that is whole: none but a fault of the disk and want of memory.
-  module _ {D R : Type 0} (verdict : OneVerdict) (err : ReopenErr D R) (damaged : (d : D) (name : Name) (at : ℕ) → err ≡ reopening.Damaged d name at → IsDamaged g old.files name at)
-      (differs : (d : D) (kept other : Granularity) → err ≡ reopening.GranularityDiffers d kept other → (other ≡ g) × Differs g old.files kept) where
-    refusal_cases : (P : ReopenErr D R → Type 0) → IsWhole g old.files → ((d : D) → P (reopening.DiskFault d)) → ((d : D) → P (reopening.Memory d)) → (e : ReopenErr D R) → err ≡ e → P e
+  module _ {D R : Type 0} (verdict : OneVerdict) (err : ReopenErr D R) (damaged : (d : D) (name : Name) (at : ℕ) → err ≡ reopening.Damaged d name at → IsDamaged (stores_of config) old.files name at)
+      (differs : (d : D) (kept other : Granularity) → err ≡ reopening.GranularityDiffers d kept other → Differs (stores_of config) old.files kept other) where
+    refusal_cases : (P : ReopenErr D R → Type 0) → IsWhole (stores_of config) old.files → ((d : D) → P (reopening.DiskFault d)) → ((d : D) → P (reopening.Memory d)) → (e : ReopenErr D R) → err ≡ e → P e
     refusal_cases P whole fault memory (reopening.DiskFault d) is = fault d
-    refusal_cases P whole fault memory (reopening.Damaged d name at) is = absurd (verdict.whole g old.files name at whole (damaged d name at is))
-    refusal_cases P whole fault memory (reopening.GranularityDiffers d kept other) is = absurd (verdict.same g kept old.files whole (differs d kept other is).1)
+    refusal_cases P whole fault memory (reopening.Damaged d name at) is = absurd (verdict.whole (stores_of config) old.files name at whole (damaged d name at is))
+    refusal_cases P whole fault memory (reopening.GranularityDiffers d kept other) is = absurd (verdict.same (stores_of config) old.files kept other whole (differs d kept other is))
     refusal_cases P whole fault memory (reopening.Memory d) is = memory d
 
-    refused_makes : (asked : StoreCommand) → MayLeave old.past old.files → (one other : Held) → OpensEither g old.past one other → IsTrue one.stands → MakesOfRead g asked one other old new (refusal_of err)
-    refused_makes asked seen one other opens stands =
-        let read = read_of g old.files old.past one other seen opens in
-        let whole = held_whole g old.files read.first (first_numbered g old.past one other read.first opens read.either) read.read (first_stands g old.past one other read.first opens stands read.either) in
-        let both = makes_nothing asked one other read.first in
-        record { first = read.first; either = read.either; read = read.read; makes = refusal_cases (λ e. Makes g asked one other read.first old new (refusal_of e)) whole (λ d. both.0) (λ d. both.1) err refl }
+    refused_makes : (asked : StoreCommand) → MayLeave old.past old.files → (before after : Stores) → OpensEither (stores_of config) old.past before after → IsTrue before.stands → MakesOfRead config asked before after old new (refusal_of err)
+    refused_makes asked seen before after opens stands =
+        let read = read_of (stores_of config) old.files old.past before after seen opens in
+        let whole = held_whole (stores_of config) old.files read.first refl read.read (first_stands (stores_of config) old.past before after read.first opens stands read.either) in
+        let both = makes_nothing asked before after read.first in
+        record {
+          first = read.first;
+          either = read.either;
+          read = read.read;
+          makes = refusal_cases (λ e. Makes config asked before after read.first old new (refusal_of e)) whole (λ d. both.0) (λ d. both.1) err refl;
+          undamaged = refusal_cases (λ e. NoDamage (refusal_of e)) whole (λ d. tt) (λ d. tt) err refl;
+        }
 
-    refused_serves : (asked : StoreCommand) → MayLeave old.past old.files → Serves g asked old new (refusal_of err)
+    pub refused_serves : (asked : StoreCommand) → MayLeave old.past old.files → Serves config asked old new (refusal_of err)
     refused_serves asked seen = record {
-      judges = refusal_judges g asked old.files err damaged differs;
+      judges = refusal_judges (stores_of config) asked old.files err damaged differs;
       makes = refused_makes asked seen;
-      tells = λ whole. let both = tells_nothing asked whole.rows whole.entries in refusal_cases (λ e. TellsSaid asked old.files whole.rows whole.entries old new (refusal_of e)) whole (λ d. both.0) (λ d. both.1) err refl;
+      tells = λ whole. let both = tells_nothing asked whole.rows whole.lists in refusal_cases (λ e. TellsSaid asked old.files whole.rows whole.lists old new (refusal_of e)) whole (λ d. both.0) (λ d. both.1) err refl;
       reads = λ reading. reads;
-      listed = λ whole. reads_listed g old.files new.files old.past new.past whole.rows whole.entries reads;
+      listed = λ whole keeps i low. reads_listed (stores_of config) old.files new.files old.past new.past i whole.rows (whole.lists i) reads;
     }
 
 -- What a disk that isn't opened comes to.
-pub refused_does : {D R : Type 0} (tells : Bool) (g : Granularity) (asked : StoreCommand) (old new : Outside) (verdict : OneVerdict) (err : ReopenErr D R) → new.source ≡ old.source → new.sink ≡ old.sink → new.clock ≡ old.clock
-    → (IsTrue tells → MayLeave old.past old.files) → (IsTrue tells → OnlyReads g old.files new.files old.past new.past) → (IsTrue tells → (d : D) (name : Name) (at : ℕ) → err ≡ reopening.Damaged d name at → IsDamaged g old.files name at)
-    → (IsTrue tells → (d : D) (kept other : Granularity) → err ≡ reopening.GranularityDiffers d kept other → (other ≡ g) × Differs g old.files kept) → Does g tells (OverStore asked) old new (refusal_of err)
-refused_does {D} {R} tells g asked old new verdict err source sink clock seen reads damaged differs = (
+pub refused_does : {D R : Type 0} (tells : Bool) (config : ConfigState) (asked : StoreCommand) (old new : Outside) (verdict : OneVerdict) (err : ReopenErr D R) → new.source ≡ old.source → new.sink ≡ old.sink → new.clock ≡ old.clock
+    → (IsTrue tells → MayLeave old.past old.files) → (IsTrue tells → OnlyReads (stores_of config) old.files new.files old.past new.past) → (IsTrue tells → (d : D) (name : Name) (at : ℕ) → err ≡ reopening.Damaged d name at → IsDamaged (stores_of config) old.files name at)
+    → (IsTrue tells → (d : D) (kept other : Granularity) → err ≡ reopening.GranularityDiffers d kept other → Differs (stores_of config) old.files kept other) → Does config tells (OverStore asked) old new (refusal_of err)
+refused_does {D} {R} tells config asked old new verdict err source sink clock seen reads damaged differs = (
   refused_ends asked old.source err,
-  λ told. let serves = refused_serves g old new source sink clock (reads told) verdict err (damaged told) (differs told) asked (seen told) in (serves, exactly verdict g asked old.files (refusal_of err) serves.judges),
+  λ told. let serves = refused_serves config old new source sink clock (reads told) verdict err (damaged told) (differs told) asked (seen told) in (serves, exactly verdict (stores_of config) asked old.files (refusal_of err) serves.judges),
 )

@@ -1,15 +1,15 @@
 -- The words of the command line, as the code tells them apart.
-use Rattle.std.proofs.Common.{◌≡◌, ◌≢◌, ◌<◌, ◌≤◌, ℕ, List, [], ◌∷◌, Bool, true, false, Bor, Option, Some, None, length, map, get_or, arith, refl, subst, sym, ap, ◌∙◌}
-use Rattle.std.specs.Prelude.{IfSome, IfNone, codes, ◌||◌}
+use Rattle.std.proofs.Common.{◌≡◌, ◌≢◌, ◌<◌, ◌≤◌, ◌+◌, ℕ, List, [], ◌∷◌, Bool, true, false, Bor, Option, Some, None, length, map, get_or, arith, refl, subst, sym, ap, ◌∙◌}
+use Rattle.std.specs.Prelude.{IfSome, IfNone, ◌||◌}
 use Rattle.std.specs.List.{list_any}
 use Rattle.std.proofs.lemmas.Bool.{false≢true}
 use Rattle.series_model.specs.declared.sample.Query.{Query}
 use Rattle.archiver_appliance.specs.declared.command.Command.{Command}
 use Rattle.archiver_appliance.specs.declared.command.Command.TheVariants.{Extract, OverStore}
 use Rattle.archiver_appliance.specs.declared.command.StoreCommand.{StoreCommand}
-use Rattle.archiver_appliance.specs.declared.command.StoreCommand.TheVariants.{Ingest, Get, Status, Check}
+use Rattle.archiver_appliance.specs.declared.command.StoreCommand.TheVariants.{Ingest, Get, Etl, Status, Check}
 use Rattle.pv_catalog.specs.Rows.{HasName}
-use Rattle.tier_store.specs.Held.{Held}
+use Rattle.three_stores.specs.Stores.{Stores}
 use Rattle.archiver_appliance.specs.Run.{IsReport, IsServable}
 use Rattle.archiver_appliance.specs.Command.{AsksFor, IsCommand, IsFaulty, IsInterval, has_dash}
 
@@ -38,23 +38,25 @@ four_texts (a ∷ b ∷ c ∷ []) d least most = absurd (omega arith)
 four_texts (a ∷ b ∷ c ∷ e ∷ []) d least most = refl
 four_texts (a ∷ b ∷ c ∷ e ∷ f ∷ words) d least most = absurd (omega arith)
 
--- THE FIRST LETTER
+-- THE FIRST AND THE THIRD LETTER, TOGETHER
 
 letter : List (List ℕ) → ℕ
-letter words = get_or (get_or words 0 []) 0 0
+letter words = get_or (get_or words 0 []) 0 0 + get_or (get_or words 0 []) 2 0
 
 letter_of : Command → ℕ
-letter_of (Extract query) = 101
-letter_of (OverStore Ingest) = 105
-letter_of (OverStore (Get name query)) = 103
-letter_of (OverStore Status) = 115
-letter_of (OverStore Check) = 99
+letter_of (Extract query) = 217
+letter_of (OverStore Ingest) = 208
+letter_of (OverStore (Get name query)) = 219
+letter_of (OverStore Etl) = 209
+letter_of (OverStore Status) = 212
+letter_of (OverStore Check) = 200
 
 asked_letter : (words : List (List ℕ)) (c : Command) → AsksFor c words → letter words ≡ letter_of c
 unfolding letter letter_of
 asked_letter words (Extract query) h = ap letter h.2
 asked_letter words (OverStore (Get name query)) h = ap letter h.2
 asked_letter words (OverStore Ingest) h = ap letter h
+asked_letter words (OverStore Etl) h = ap letter h
 asked_letter words (OverStore Status) h = ap letter h
 asked_letter words (OverStore Check) h = ap letter h
 
@@ -69,10 +71,11 @@ unfolding name_in
 same_name words a b q r one two = sym (ap name_in one.1.2) ∙ ap name_in two.1.2
 
 -- words ask for one command: what one needs of its name and the input, the other needs
-pub servable_same : (words : List (List ℕ)) (a b : StoreCommand) (source : Option (List ℕ)) (first : Held) → IsCommand words (OverStore a) → IsCommand words (OverStore b) → IsServable a source first → IsServable b source first
+pub servable_same : (words : List (List ℕ)) (a b : StoreCommand) (source : Option (List ℕ)) (first : Stores) → IsCommand words (OverStore a) → IsCommand words (OverStore b) → IsServable a source first → IsServable b source first
 unfolding letter_of
 servable_same words Ingest Ingest source first one two can = can
 servable_same words (Get a q) (Get b r) source first one two can = (can.0, subst (λ (n : List ℕ). HasName first.rows can.0 n) (same_name words a b q r one two) can.1)
+servable_same words a Etl source first one two can = tt
 servable_same words a Status source first one two can = tt
 servable_same words a Check source first one two can = tt
 servable_same words a b source first one two can = absurd (omega (arith, same_letter words (OverStore a) (OverStore b) one two))
@@ -83,10 +86,17 @@ unfolding letter_of
 ingest_same words Ingest one two = refl
 ingest_same words c one two = absurd (omega (arith, same_letter words (OverStore c) (OverStore Ingest) one two))
 
+pub move_same : (words : List (List ℕ)) (c : StoreCommand) → IsCommand words (OverStore c) → IsCommand words (OverStore Etl) → c ≡ Etl
+unfolding letter_of
+move_same words Etl one two = refl
+move_same words c one two = absurd (omega (arith, same_letter words (OverStore c) (OverStore Etl) one two))
+
 pub report_same : (words : List (List ℕ)) (c d : StoreCommand) → IsCommand words (OverStore c) → IsCommand words (OverStore d) → IsReport d → IsReport c
 unfolding letter_of
 report_same words Ingest Ingest one two report = report
 report_same words Ingest d one two report = absurd (omega (arith, same_letter words (OverStore Ingest) (OverStore d) one two))
+report_same words Etl Etl one two report = report
+report_same words Etl d one two report = absurd (omega (arith, same_letter words (OverStore Etl) (OverStore d) one two))
 report_same words c d one two report = tt
 
 pub not_both : (words : List (List ℕ)) (q : Query) (c : StoreCommand) → IsCommand words (Extract q) → IsCommand words (OverStore c) → ⊥
@@ -119,6 +129,7 @@ not_extract word from to none (Extract query) h =
     none query (subst (λ (t : List ℕ). IsInterval from t query) last (subst (λ (f : List ℕ). IsInterval f h.1 query) first h.3))
 not_extract word from to none (OverStore Ingest) h = let long : 3 ≡ 1 = ap length h in omega (arith, long)
 not_extract word from to none (OverStore (Get name query)) h = let long : 3 ≡ 4 = ap length h.2 in omega (arith, long)
+not_extract word from to none (OverStore Etl) h = let long : 3 ≡ 1 = ap length h in omega (arith, long)
 not_extract word from to none (OverStore Status) h = let long : 3 ≡ 1 = ap length h in omega (arith, long)
 not_extract word from to none (OverStore Check) h = let long : 3 ≡ 1 = ap length h in omega (arith, long)
 
@@ -129,6 +140,7 @@ not_get word name from to none (OverStore (Get other query)) h =
     let first : h.0 ≡ from = sym (ap (λ (l : List (List ℕ)). get_or l 2 []) h.2) in
     let last : h.1 ≡ to = sym (ap (λ (l : List (List ℕ)). get_or l 3 []) h.2) in
     none query (subst (λ (t : List ℕ). IsInterval from t query) last (subst (λ (f : List ℕ). IsInterval f h.1 query) first h.3))
+not_get word name from to none (OverStore Etl) h = let long : 4 ≡ 1 = ap length h in omega (arith, long)
 not_get word name from to none (OverStore Status) h = let long : 4 ≡ 1 = ap length h in omega (arith, long)
 not_get word name from to none (OverStore Check) h = let long : 4 ≡ 1 = ap length h in omega (arith, long)
 
@@ -137,5 +149,6 @@ pub other_length : (words : List (List ℕ)) → length words ≢ 1 → length w
 other_length words one three four (Extract query) h = three (ap length h.2)
 other_length words one three four (OverStore Ingest) h = one (ap length h)
 other_length words one three four (OverStore (Get name query)) h = four (ap length h.2)
+other_length words one three four (OverStore Etl) h = one (ap length h)
 other_length words one three four (OverStore Status) h = one (ap length h)
 other_length words one three four (OverStore Check) h = one (ap length h)

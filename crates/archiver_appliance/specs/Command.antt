@@ -5,8 +5,7 @@ use Rattle.arch_time.specs.Iso.{IsIso}
 use Rattle.series_model.specs.declared.sample.Query.{Query}
 use Rattle.archiver_appliance.specs.declared.command.Command.{Command}
 use Rattle.archiver_appliance.specs.declared.command.Command.TheVariants.{Extract, OverStore}
-use Rattle.archiver_appliance.specs.declared.command.StoreCommand.{StoreCommand}
-use Rattle.archiver_appliance.specs.declared.command.StoreCommand.TheVariants.{Ingest, Get, Status, Check}
+use Rattle.archiver_appliance.specs.declared.command.StoreCommand.TheVariants.{Ingest, Get, Etl, Status, Check}
 
 -- two texts and the two moments that they tell
 abbrev pub IsInterval : List ℕ → List ℕ → Query → Type 0
@@ -17,6 +16,7 @@ abbrev pub AsksFor : Command → List (List ℕ) → Type 0
 AsksFor (Extract query) words = (from : List ℕ) × (to : List ℕ) × (words ≡ codes "extract" ∷ from ∷ to ∷ []) × IsInterval from to query
 AsksFor (OverStore Ingest) words = words ≡ codes "ingest" ∷ []
 AsksFor (OverStore (Get name query)) words = (from : List ℕ) × (to : List ℕ) × (words ≡ codes "get" ∷ name.now ∷ from ∷ to ∷ []) × IsInterval from to query
+AsksFor (OverStore Etl) words = words ≡ codes "etl" ∷ []
 AsksFor (OverStore Status) words = words ≡ codes "status" ∷ []
 AsksFor (OverStore Check) words = words ≡ codes "check" ∷ []
 

@@ -1,5 +1,5 @@
 -- The one line that tells why a command ended with a status other than 0.
-use Rattle.std.specs.Prelude.{◌⊎◌, ℕ, List, [], ◌∷◌, ◌++◌, Option, codes, decimal}
+use Rattle.std.specs.Prelude.{◌⊎◌, ℕ, List, [], ◌++◌, Option, codes, decimal}
 use Rattle.std.specs.Io.KnownBytes.{Appends}
 use Rattle.edge_io.specs.Stream.{Rose, AppendsFront}
 use Rattle.pb_lines.specs.Fault.{fault_number}

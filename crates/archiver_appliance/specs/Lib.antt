@@ -1,11 +1,14 @@
+pub mod Acting
 pub mod Answer
 pub mod Command
 pub mod Complaint
 pub mod Extract
 pub mod Ingesting
 pub mod Judging
+pub mod Moving
 pub mod Outside
 pub mod Reporting
+pub mod Retrieving
 pub mod Run
 pub mod Status
 pub mod Text

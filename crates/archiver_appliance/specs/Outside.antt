@@ -1,5 +1,5 @@
 -- What is seen of the outside of a run, and what its counts of faults show.
-use Rattle.std.specs.Prelude.{◌≡◌, ◌≤◌, ℕ, List, Option, None, Some}
+use Rattle.std.specs.Prelude.{◌≡◌, ◌≤◌, ◌-◌, ◌^◌, ℕ, List, min, Option, None, Some}
 use Rattle.edge_io.specs.Stream.{Rose}
 use Rattle.edge_io.specs.Moments.{Moments}
 use Rattle.edge_io.specs.declared.stream.Source.{Ghosts as OfSource}
@@ -40,20 +40,29 @@ outside {S} {K} {C} {D} {R} source sink clock disk s k c d = record {
   disk_faults = disk.faults d;
 }
 
+-- a count didn't fall, as far as a u64 can show it
+abbrev pub HasNotFallen : ℕ → ℕ → Type 0
+HasNotFallen before now = min before (2 ^ 64 - 1) ≤ now
+
 -- no count fell
 pub record NoneFell (old new : Outside) : Type 0 where
   pub source : old.read_faults ≤ new.read_faults
   pub sink : old.write_faults ≤ new.write_faults
-  pub disk : old.disk_faults ≤ new.disk_faults
+  pub disk : HasNotFallen old.disk_faults new.disk_faults
 
--- A fault is told only where its count rose, or where a read of an opened file failed, which then is handed out and has counted it.
+-- A fault is told only for its cause: that a read of the source, a write to the sink or the disk failed; or that a read of an opened file
+-- did, which then is handed out and has counted it.
+abbrev pub IsCausedBy : {R : Type 0} → (R → ℕ) → Type 0 → Type 0 → Type 0 → Status → Option R → Type 0
+IsCausedBy {R} faults read written disk SourceFault None = read
+IsCausedBy {R} faults read written disk SinkFault None = written
+IsCausedBy {R} faults read written disk DiskFault None = disk
+IsCausedBy {R} faults read written disk DiskFault (Some file) = 1 ≤ faults file
+IsCausedBy {R} faults read written disk _ (Some file) = ⊥
+IsCausedBy {R} faults read written disk _ None = Unit {0}
+
+-- a count rose for each cause
 abbrev pub IsCaused : {R : Type 0} → (R → ℕ) → Outside → Outside → Status → Option R → Type 0
-IsCaused {R} faults old new SourceFault None = Rose old.read_faults new.read_faults
-IsCaused {R} faults old new SinkFault None = Rose old.write_faults new.write_faults
-IsCaused {R} faults old new DiskFault None = DiskRose old.disk_faults new.disk_faults
-IsCaused {R} faults old new DiskFault (Some file) = 1 ≤ faults file
-IsCaused {R} faults old new _ (Some file) = ⊥
-IsCaused {R} faults old new _ None = Unit {0}
+IsCaused {R} faults old new = IsCausedBy faults (Rose old.read_faults new.read_faults) (Rose old.write_faults new.write_faults) (DiskRose old.disk_faults new.disk_faults)
 
 -- No count of what a command uses rose, and no file is handed out.
 abbrev pub IsQuiet : {R : Type 0} → Command → Outside → Outside → Option R → Type 0

@@ -1,46 +1,30 @@
--- What `get`, `status` and `check` write of what a disk holds.
-use Rattle.std.specs.Prelude.{◌≡◌, ◌⊎◌, ℕ, true, List, Option, None, Some, Result, Ok, Err}
+-- What `status` and `check` write of what a disk holds, and of what its journals list.
+use Rattle.std.specs.Prelude.{◌≡◌, ℕ, ◌+◌, true, List, [], ◌∷◌, ◌++◌, length, filter, nat_eq, Option, None, Some, Result, Ok, Err, slice_get}
+use Rattle.std.specs.List.{flat_map}
 use Rattle.std.specs.Io.KnownBytes.{Appends}
 use Rattle.edge_io.specs.Stream.{AppendsFront}
 use Rattle.disk_model.specs.Files.{Name, Files}
-use Rattle.series_model.specs.declared.sample.Query.{Query}
+use Rattle.piece_choice.specs.Choosing.{listed}
+use Rattle.piece_choice.specs.declared.choosing.Listed.{Listed}
 use Rattle.pv_catalog.specs.declared.row.Row.{Row}
-use Rattle.pv_catalog.specs.Rows.{HasName}
 use Rattle.store_manifest.specs.declared.entry.Entry.{Entry}
-use Rattle.tier_store.specs.Held.{Held}
-use Rattle.sink_buffer.specs.declared.buffer.PutErr.{PutErr}
-use Rattle.sink_buffer.specs.declared.buffer.PutErr.TheVariants as put
-use Rattle.store_retrieval.specs.Get.{Answers}
-use Rattle.store_retrieval.specs.Read.{WritesRead}
-use Rattle.store_retrieval.specs.declared.retrieval.GetErr.{GetErr}
-use Rattle.store_retrieval.specs.declared.retrieval.GetErr.TheVariants as got
-use Rattle.store_reports.specs.declared.report.Damage.{Damage}
-use Rattle.store_reports.specs.declared.inspection.CheckErr.{CheckErr}
-use Rattle.store_reports.specs.declared.inspection.CheckErr.TheVariants as checked
-use Rattle.store_reports.specs.Check.{Inspects, InspectsSome}
+use Rattle.three_stores.specs.Tallying.{RiseFrom, listed_count}
+use Rattle.three_reports.specs.Check.{Inspects, InspectsSome}
+use Rattle.three_reports.specs.Status.{row_line}
+use Rattle.three_reports.specs.declared.report.Damage.{Damage}
+use Rattle.three_reports.specs.declared.inspection.CheckErr.{CheckErr}
+use Rattle.three_reports.specs.declared.inspection.CheckErr.TheVariants as checked
+use Rattle.three_reports.specs.declared.summary.StatusErr.{StatusErr}
+use Rattle.three_reports.specs.declared.summary.StatusErr.TheVariants as summed
 use Rattle.archiver_appliance.specs.declared.status.Status.{Status}
-use Rattle.archiver_appliance.specs.declared.status.Status.TheVariants.{Done, NoSuchVariable, SinkFault, DiskFault, Damaged, OutOfMemory}
-
--- the status of what a retrieval came to
-abbrev pub got_status : {R : Type 0} → Result Unit (GetErr R) → Status
-got_status {R} (Ok done) = Done
-got_status {R} (Err got.NoSuchVariable) = NoSuchVariable
-got_status {R} (Err got.SinkFault) = SinkFault
-got_status {R} (Err got.DiskFault) = DiskFault
-got_status {R} (Err (got.ReadFault file)) = DiskFault
-got_status {R} (Err (got.Damaged name at)) = Damaged name at
-got_status {R} (Err got.OutOfMemory) = OutOfMemory
-
--- the file of which a read failed
-abbrev pub got_file : {R : Type 0} → Result Unit (GetErr R) → Option R
-got_file {R} (Err (got.ReadFault file)) = Some file
-got_file {R} _ = None
+use Rattle.archiver_appliance.specs.declared.status.Status.TheVariants.{Done, SinkFault, DiskFault, Damaged, OutOfMemory}
 
 -- the status of what a report of the rows came to
-abbrev pub reported_status : Result Unit PutErr → Status
+abbrev pub reported_status : Result Unit StatusErr → Status
 reported_status (Ok done) = Done
-reported_status (Err put.SinkFault) = SinkFault
-reported_status (Err put.Memory) = OutOfMemory
+reported_status (Err summed.SinkFault) = SinkFault
+reported_status (Err summed.DiskFault) = DiskFault
+reported_status (Err summed.OutOfMemory) = OutOfMemory
 
 -- the status of what a check came to
 abbrev pub checked_status : {R : Type 0} → Result (Option Damage) (CheckErr R) → Status
@@ -56,25 +40,7 @@ abbrev pub checked_file : {R : Type 0} → Result (Option Damage) (CheckErr R) �
 checked_file {R} (Err (checked.ReadFault file)) = Some file
 checked_file {R} _ = None
 
--- no row has the name
-abbrev pub HasNone : List Row → List ℕ → Type 0
-HasNone rows name = (i : ℕ) → HasName rows i name → ⊥
-
--- Of what is held and stands, `get` wrote the whole answer, or nothing where no row has the name. After a fault a front of the answer
--- went out, or nothing where the disk wasn't opened.
-abbrev pub Gets : Held → List ℕ → Query → Option (List ℕ) → Option (List ℕ) → Status → Type 0
-Gets held name query a b Done = Answers held name query (Appends a b)
-Gets held name query a b NoSuchVariable = (b ≡ a) × HasNone held.rows name
-Gets held name query a b SinkFault = Answers held name query (AppendsFront a b)
-Gets held name query a b DiskFault = (b ≡ a) ⊎ Answers held name query (AppendsFront a b)
-Gets held name query a b OutOfMemory = (b ≡ a) ⊎ Answers held name query (AppendsFront a b)
-Gets held name query a b _ = ⊥
-
--- Of an image whose journals say these rows and entries, `get` ends with 0 only where each file that it read is one of the row's type,
--- whole or up to a sample behind which none counts. The text is that of the answer over what was read, where that rises from file to file.
-abbrev pub GetsRead : List Row → List Entry → Files → List ℕ → Query → Option (List ℕ) → Option (List ℕ) → Status → Type 0
-GetsRead rows entries files name query a b Done = WritesRead rows entries files name query a b
-GetsRead rows entries files name query a b _ = Unit {0}
+-- OF WHAT IS HELD
 
 -- `status` wrote the whole text, or a front of it after a fault
 abbrev pub Tells : List ℕ → Option (List ℕ) → Option (List ℕ) → Status → Type 0
@@ -84,15 +50,58 @@ Tells text a b DiskFault = AppendsFront a b text
 Tells text a b OutOfMemory = AppendsFront a b text
 Tells text a b _ = ⊥
 
+-- OF WHAT IS LISTED
+
+-- what a store lists of a row
+abbrev pub own_entries : ℕ → List Entry → List Entry
+own_entries i entries = filter (λ (e : Entry). nat_eq e.series i) entries
+
+-- what the stores list of a row, in the order in which it is read
+abbrev pub row_entries : ℕ → List Entry → List Entry → List Entry → List Entry
+row_entries i short medium long = (own_entries i long ++ own_entries i medium) ++ own_entries i short
+
+-- The line of the row with this number. Where by their entries its files rise in the order in which they are read, the number of samples
+-- is the one that the entries say.
+pub record IsRowLine (rows : List Row) (short medium long : List Entry) (i : ℕ) (line : List ℕ) : Type 0 where
+  pub row : Row
+  pub here : slice_get rows i ≡ Some row
+  pub count : ℕ
+  pub is : RiseFrom 0 (row_entries i short medium long) → count ≡ listed_count (row_entries i short medium long)
+  pub text : line ≡ row_line row count (length (own_entries i short)) (length (own_entries i medium)) (length (own_entries i long))
+
+-- those of the rows from this number on, one after another
+abbrev pub AreRowLines : List Row → List Entry → List Entry → List Entry → ℕ → List (List ℕ) → Type 0
+AreRowLines rows short medium long i [] = Unit {0}
+AreRowLines rows short medium long i (line ∷ lines) = IsRowLine rows short medium long i line × AreRowLines rows short medium long (i + 1) lines
+
+-- The lines of so many first rows. This becomes of them.
+pub record TellsRows (rows : List Row) (short medium long : List Entry) (n : ℕ) (Becomes : List ℕ → Type 0) : Type 0 where
+  pub lines : List (List ℕ)
+  pub many : length lines ≡ n
+  pub are : AreRowLines rows short medium long 0 lines
+  pub text : Becomes (flat_map (λ (line : List ℕ). line) lines)
+
+-- `status` wrote the lines of all rows, or a front of some first ones after a fault
+abbrev pub TellsListed : List Row → List Entry → List Entry → List Entry → Option (List ℕ) → Option (List ℕ) → Status → Type 0
+TellsListed rows short medium long a b Done = TellsRows rows short medium long (length rows) (Appends a b)
+TellsListed rows short medium long a b SinkFault = (n : ℕ) × TellsRows rows short medium long n (AppendsFront a b)
+TellsListed rows short medium long a b DiskFault = (n : ℕ) × TellsRows rows short medium long n (AppendsFront a b)
+TellsListed rows short medium long a b OutOfMemory = (n : ℕ) × TellsRows rows short medium long n (AppendsFront a b)
+TellsListed rows short medium long a b _ = ⊥
+
+-- the listed files of stores 1, 2 and 3, one store after another
+abbrev pub listed_files : List Entry → List Entry → List Entry → List Listed
+listed_files short medium long = (listed 1 short ++ listed 2 medium) ++ listed 3 long
+
 -- this is the first of the listed files that is damaged, and the place of its first bad line
-abbrev pub IsFirstDamage : List Row → Files → List Entry → Name → ℕ → Type 0
-IsFirstDamage rows files entries name at = Inspects true rows files entries (Some (record { name = name; at = at })) (λ text. Unit {0})
+abbrev pub IsFirstDamage : List Row → Files → List Entry → List Entry → List Entry → Name → ℕ → Type 0
+IsFirstDamage rows files short medium long name at = Inspects true rows files (listed_files short medium long) (Some (record { name = name; at = at })) (λ text. Unit {0})
 
 -- `check` wrote the lines of all listed files, which are good, or of which the first damaged one is told; or a front of them after a fault
-abbrev pub ChecksAll : List Row → Files → List Entry → Option (List ℕ) → Option (List ℕ) → Status → Type 0
-ChecksAll rows files entries a b Done = Inspects true rows files entries None (Appends a b)
-ChecksAll rows files entries a b (Damaged name at) = Inspects true rows files entries (Some (record { name = name; at = at })) (Appends a b)
-ChecksAll rows files entries a b SinkFault = InspectsSome true rows files entries (AppendsFront a b)
-ChecksAll rows files entries a b DiskFault = InspectsSome true rows files entries (AppendsFront a b)
-ChecksAll rows files entries a b OutOfMemory = InspectsSome true rows files entries (AppendsFront a b)
-ChecksAll rows files entries a b _ = ⊥
+abbrev pub ChecksAll : List Row → Files → List Entry → List Entry → List Entry → Option (List ℕ) → Option (List ℕ) → Status → Type 0
+ChecksAll rows files short medium long a b Done = Inspects true rows files (listed_files short medium long) None (Appends a b)
+ChecksAll rows files short medium long a b (Damaged name at) = Inspects true rows files (listed_files short medium long) (Some (record { name = name; at = at })) (Appends a b)
+ChecksAll rows files short medium long a b SinkFault = InspectsSome true rows files (listed_files short medium long) (AppendsFront a b)
+ChecksAll rows files short medium long a b DiskFault = InspectsSome true rows files (listed_files short medium long) (AppendsFront a b)
+ChecksAll rows files short medium long a b OutOfMemory = InspectsSome true rows files (listed_files short medium long) (AppendsFront a b)
+ChecksAll rows files short medium long a b _ = ⊥

@@ -1,19 +1,20 @@
 -- What a run came to, by its words.
-use Rattle.std.specs.Prelude.{◌≡◌, ◌≢◌, ◌⊎◌, ℕ, List, Bool, IsTrue, Option, IfSome, None, Some}
-use Rattle.disk_model.specs.Files.{Name, Files}
+use Rattle.std.specs.Prelude.{◌≡◌, ◌⊎◌, ◌<◌, ◌+◌, ℕ, List, Bool, true, IsTrue, Option, IfSome, None, Some}
+use Rattle.disk_model.specs.Files.{Files}
 use Rattle.disk_model.specs.Past.{Past, Passes}
+use Rattle.etl_rules.specs.Config.{ConfigState}
 use Rattle.partition_names.specs.declared.granularity.Granularity.{Granularity}
 use Rattle.pb_lines.specs.Stream.{Item, Stop, IsWholeStream}
 use Rattle.pv_catalog.specs.declared.row.Row.{Row}
 use Rattle.pv_catalog.specs.Rows.{HasName}
-use Rattle.store_manifest.specs.declared.entry.Entry.{Entry}
-use Rattle.tier_store.specs.Held.{Held}
-use Rattle.tier_store.specs.Stored.{Holds, HoldsEither}
 use Rattle.tier_store.specs.Writing.{LeavesListed}
-use Rattle.tier_store.specs.Change.{IsEither}
-use Rattle.store_reopen.specs.Reopen.{OpensEither, SameStores, StillHolds}
-use Rattle.store_reopen.specs.Verdict.{IsWhole}
-use Rattle.store_reports.specs.Status.{status_text, listed_text}
+use Rattle.store_reopen.specs.Reopen.{SameStores}
+use Rattle.three_stores.specs.Change.{IsEither}
+use Rattle.three_stores.specs.Stored.{HoldsAll}
+use Rattle.three_stores.specs.Stores.{Stores}
+use Rattle.three_reopen.specs.Reopen.{HoldsEither, OpensEither, StillHolds, stores_of}
+use Rattle.three_reopen.specs.Verdict.{IsWhole, Listings}
+use Rattle.three_reports.specs.Status.{status_text}
 use Rattle.archiver_appliance.specs.declared.command.Command.{Command}
 use Rattle.archiver_appliance.specs.declared.command.Command.TheVariants.{Extract, OverStore}
 use Rattle.archiver_appliance.specs.declared.command.StoreCommand.{StoreCommand}
@@ -24,8 +25,10 @@ use Rattle.archiver_appliance.specs.Command.{IsCommand, IsFaulty}
 use Rattle.archiver_appliance.specs.Complaint.{Complains, complaint_of}
 use Rattle.archiver_appliance.specs.Ingesting.{IngestsInto}
 use Rattle.archiver_appliance.specs.Judging.{Judges, IsExact}
+use Rattle.archiver_appliance.specs.Moving.{MovesFrom}
 use Rattle.archiver_appliance.specs.Outside.{Outside, IsCaused}
-use Rattle.archiver_appliance.specs.Reporting.{Gets, GetsRead, Tells, ChecksAll}
+use Rattle.archiver_appliance.specs.Reporting.{Tells, TellsListed, ChecksAll}
+use Rattle.archiver_appliance.specs.Retrieving.{GetsSome, RetrievesFrom}
 use Rattle.archiver_appliance.specs.Status.{number_of}
 use Rattle.archiver_appliance.specs.Text.{Extracts}
 
@@ -39,9 +42,15 @@ abbrev pub IsGet : StoreCommand → Type 0
 IsGet (command.Get name query) = Unit {0}
 IsGet _ = ⊥
 
+-- a command that writes a text
+abbrev pub IsTelling : StoreCommand → Type 0
+IsTelling command.Ingest = ⊥
+IsTelling _ = Unit {0}
+
 -- a command that writes what a disk holds
 abbrev pub IsReport : StoreCommand → Type 0
 IsReport command.Ingest = ⊥
+IsReport command.Etl = ⊥
 IsReport _ = Unit {0}
 
 -- what an ingest reads is a stream up to this stop, where its bytes are told
@@ -56,7 +65,7 @@ EndsAs asked source (Refused line fault) = IsIngest asked × IsReadTo asked sour
 EndsAs asked source Usage = ⊥
 EndsAs asked source NoSuchVariable = IsGet asked
 EndsAs asked source SourceFault = IsIngest asked
-EndsAs asked source SinkFault = IsReport asked
+EndsAs asked source SinkFault = IsTelling asked
 EndsAs asked source _ = Unit {0}
 
 -- WHAT IT DOES TO A DISK THAT TELLS ITS FILES
@@ -67,76 +76,91 @@ NoDamage (Damaged name at) = ⊥
 NoDamage _ = Unit {0}
 
 -- It only reads: a crash leaves what the disk held, in doubt or not, and no file of a store is changed, at any moment and whatever is in it.
-pub record OnlyReads (g : Granularity) (files later : Files) (old new : Past) : Type 0 where
-  pub any_moment : Passes (StillHolds g files) old new
-  pub either : (one other : Held) → OpensEither g old one other → Passes (HoldsEither g one other) old new
-  pub opens : (one other : Held) → OpensEither g old one other → OpensEither g new one other
+pub record OnlyReads (gs : List Granularity) (files later : Files) (old new : Past) : Type 0 where
+  pub any_moment : Passes (StillHolds gs files) old new
+  pub either : (before after : Stores) → OpensEither gs old before after → Passes (λ a b. HoldsEither gs before after b) old new
+  pub opens : (before after : Stores) → OpensEither gs old before after → OpensEither gs new before after
   pub elsewhere : SameStores files later
   pub stores : Passes SameStores old new
 
--- the disk failed, or memory was wanting, before anything was read or written
-pub record IsUnread (old new : Outside) (status : Status) : Type 0 where
+-- the disk failed, or memory was wanting, before any act: nothing was read but the disk, and nothing written
+pub record IsUnasked (gs : List Granularity) (old new : Outside) (status : Status) : Type 0 where
   pub cut : (status ≡ DiskFault) ⊎ (status ≡ OutOfMemory)
   pub source : new.source ≡ old.source
+  pub sink : new.sink ≡ old.sink
   pub clock : new.clock ≡ old.clock
+  pub reads : OnlyReads gs old.files new.files old.past new.past
 
--- what a command makes of what reads give, which is the one or the other
-abbrev pub Makes : Granularity → StoreCommand → Held → Held → Held → Outside → Outside → Status → Type 0
-Makes g command.Ingest one other first old new status = (IsUnread old new status × OnlyReads g old.files new.files old.past new.past) ⊎ IngestsInto g one other first old new status
-Makes g (command.Get name query) one other first old new status = Gets first name.now query old.sink new.sink status
-Makes g command.Status one other first old new status = Tells (status_text first) old.sink new.sink status
-Makes g command.Check one other first old new status = NoDamage status
+-- What a command makes of what reads give. Those that act open an archive on it, and what a crash left before is what was before a change
+-- that stood in doubt, or what is after it.
+abbrev pub Makes : ConfigState → StoreCommand → Stores → Stores → Stores → Outside → Outside → Status → Type 0
+Makes config command.Ingest before after first old new status =
+    IsUnasked (stores_of config) old new status ⊎ IngestsInto (HoldsEither (stores_of config) before after) true config first old.source old.clock new.clock old.past new.past status
+Makes config (command.Get name query) before after first old new status =
+    IsUnasked (stores_of config) old new status ⊎ RetrievesFrom (HoldsEither (stores_of config) before after) true config first name.now query old.sink new.sink old.past new.past status
+Makes config command.Etl before after first old new status =
+    IsUnasked (stores_of config) old new status ⊎ MovesFrom (HoldsEither (stores_of config) before after) true config first old.clock new.clock old.sink new.sink old.past new.past status
+Makes config command.Status before after first old new status = Tells (status_text first) old.sink new.sink status
+Makes config command.Check before after first old new status = Unit {0}
 
--- What a command makes of a disk of which a crash leaves the one or the other: what reads give is held from then on.
-pub record MakesOfRead (g : Granularity) (asked : StoreCommand) (one other : Held) (old new : Outside) (status : Status) : Type 0 where
-  pub first : Held
-  pub either : IsEither one other first
-  pub read : Holds g old.files first
-  pub makes : Makes g asked one other first old new status
+-- What a command makes of a disk of which a crash leaves what was before a change, or what is after it: what reads give is held from then
+-- on. No damage is told of what stands.
+pub record MakesOfRead (config : ConfigState) (asked : StoreCommand) (before after : Stores) (old new : Outside) (status : Status) : Type 0 where
+  pub first : Stores
+  pub either : IsEither before after first
+  pub read : HoldsAll (stores_of config) old.files first
+  pub makes : Makes config asked before after first old new status
+  pub undamaged : NoDamage status
 
 -- what is written by what the journals of a whole image say, whatever its listed files are
-abbrev pub TellsSaid : StoreCommand → Files → List Row → List Entry → Outside → Outside → Status → Type 0
-TellsSaid command.Status files rows entries old new status = Tells (listed_text rows entries) old.sink new.sink status
-TellsSaid command.Check files rows entries old new status = ChecksAll rows files entries old.sink new.sink status
-TellsSaid (command.Get name query) files rows entries old new status = GetsRead rows entries files name.now query old.sink new.sink status
-TellsSaid command.Ingest files rows entries old new status = Unit {0}
+abbrev pub TellsSaid : StoreCommand → Files → List Row → Listings → Outside → Outside → Status → Type 0
+TellsSaid command.Status files rows lists old new status = TellsListed rows (lists 0) (lists 1) (lists 2) old.sink new.sink status
+TellsSaid command.Check files rows lists old new status = ChecksAll rows files (lists 0) (lists 1) (lists 2) old.sink new.sink status
+TellsSaid (command.Get name query) files rows lists old new status = GetsSome rows name.now query old.sink new.sink status
+TellsSaid _ files rows lists old new status = Unit {0}
 
--- a command that only reads: each but `ingest`, and that too where the image isn't whole
-abbrev pub IsReading : Granularity → StoreCommand → Files → Type 0
-IsReading g command.Ingest files = IsWhole g files → ⊥
-IsReading g _ files = Unit {0}
+-- a command that only reads: each but `ingest` and `etl`, and these too where the image isn't whole
+abbrev pub IsReading : List Granularity → StoreCommand → Files → Type 0
+IsReading gs command.Ingest files = IsWhole gs files → ⊥
+IsReading gs command.Etl files = IsWhole gs files → ⊥
+IsReading gs _ files = Unit {0}
 
--- What a command over a store did: what its status says of the image, what it made of what the disk held, and what it told of the image.
--- The listed files of a whole image, damaged inside or not, have what is listed of them as they had it, at each moment.
-pub record Serves (g : Granularity) (asked : StoreCommand) (old new : Outside) (status : Status) : Type 0 where
-  pub judges : Judges g asked old.files status
-  pub makes : (one other : Held) → OpensEither g old.past one other → IsTrue one.stands → MakesOfRead g asked one other old new status
-  pub tells : (whole : IsWhole g old.files) → TellsSaid asked old.files whole.rows whole.entries old new status
-  pub reads : IsReading g asked old.files → OnlyReads g old.files new.files old.past new.past
-  pub listed : (whole : IsWhole g old.files) → LeavesListed ((1, whole.rows), whole.entries) old.files new.files old.past new.past
+-- a command that takes no file from what a store lists: each but `etl`
+abbrev pub KeepsFiles : StoreCommand → Type 0
+KeepsFiles command.Etl = ⊥
+KeepsFiles _ = Unit {0}
+
+-- What a command over the archive did: what its status says of the image, what it made of what the disk held, and what it told of the image.
+-- The listed files of a whole image, damaged inside or not, have what is listed of them as they had it, at each moment, where no file moves.
+pub record Serves (config : ConfigState) (asked : StoreCommand) (old new : Outside) (status : Status) : Type 0 where
+  pub judges : Judges (stores_of config) asked old.files status
+  pub makes : (before after : Stores) → OpensEither (stores_of config) old.past before after → IsTrue before.stands → MakesOfRead config asked before after old new status
+  pub tells : (whole : IsWhole (stores_of config) old.files) → TellsSaid asked old.files whole.rows whole.lists old new status
+  pub reads : IsReading (stores_of config) asked old.files → OnlyReads (stores_of config) old.files new.files old.past new.past
+  pub listed : (whole : IsWhole (stores_of config) old.files) → KeepsFiles asked → (i : ℕ) → i < 3 → LeavesListed ((i + 1, whole.rows), whole.lists i) old.files new.files old.past new.past
 
 -- WHAT A RUN DOES
 
 -- What a command did, so far as its status tells. Of what a disk holds nothing is said where it doesn't tell its files.
-abbrev pub Does : Granularity → Bool → Command → Outside → Outside → Status → Type 0
-Does g tells (Extract query) old new status = Extracts query old.source old.sink new.sink status
-Does g tells (OverStore asked) old new status = EndsAs asked old.source status × (IsTrue tells → Serves g asked old new status × IsExact g asked old.files status)
+abbrev pub Does : ConfigState → Bool → Command → Outside → Outside → Status → Type 0
+Does config tells (Extract query) old new status = Extracts query old.source old.sink new.sink status
+Does config tells (OverStore asked) old new status = EndsAs asked old.source status × (IsTrue tells → Serves config asked old new status × IsExact (stores_of config) asked old.files status)
 
 -- The words were obeyed, or they are of no command.
-abbrev pub Obeys : List (List ℕ) → Granularity → Bool → Outside → Outside → Status → Type 0
-Obeys words g tells old new status = ((asked : Command) × IsCommand words asked × Does g tells asked old new status) ⊎ ((status ≡ Usage) × IsFaulty words)
+abbrev pub Obeys : List (List ℕ) → ConfigState → Bool → Outside → Outside → Status → Type 0
+Obeys words config tells old new status = ((asked : Command) × IsCommand words asked × Does config tells asked old new status) ⊎ ((status ≡ Usage) × IsFaulty words)
 
 -- A run ended with this number: it obeyed the words with a status of that number and its cause, and told its complaint.
-pub record Ran {R : Type 0} (faults : R → ℕ) (words : List (List ℕ)) (g : Granularity) (tells : Bool) (old new : Outside) (failed : Option R) (told told' : Option (List ℕ)) (before now number : ℕ) : Type 0 where
+pub record Ran {R : Type 0} (faults : R → ℕ) (words : List (List ℕ)) (config : ConfigState) (tells : Bool) (old new : Outside) (failed : Option R) (told told' : Option (List ℕ)) (before now number : ℕ) : Type 0 where
   pub status : Status
   pub is : number ≡ number_of status
-  pub obeys : Obeys words g tells old new status
+  pub obeys : Obeys words config tells old new status
   pub caused : IsCaused faults old new status failed
   pub complaint : Complains told told' before now (complaint_of status)
 
--- A command over a store is refused: no row has the name, the disk keeps another granularity, or tells that its image isn't whole.
-abbrev pub IsRefused : Granularity → Bool → Files → ℕ → Type 0
-IsRefused g tells files number = (number ≡ 4) ⊎ (number ≡ 12) ⊎ (IsTrue tells × (IsWhole g files → ⊥))
+-- A command over the archive is refused: no row has the name, the disk keeps another granularity, or tells that its image isn't whole.
+abbrev pub IsRefused : ConfigState → Bool → Files → ℕ → Type 0
+IsRefused config tells files number = (number ≡ 4) ⊎ (number ≡ 12) ⊎ (IsTrue tells × (IsWhole (stores_of config) files → ⊥))
 
 -- WHAT CAN BE DONE
 
@@ -145,25 +169,25 @@ abbrev pub IsGoodSource : Option (List ℕ) → Type 0
 IsGoodSource None = ⊥
 IsGoodSource (Some bytes) = (items : List Item) × IsWholeStream bytes items None
 
--- what a command over a store needs to be done of what the disk holds: input without a bad line, or a row of the name
-abbrev pub IsServable : StoreCommand → Option (List ℕ) → Held → Type 0
+-- what a command over the archive needs to be done of what the disk holds: input without a bad line, or a row of the name
+abbrev pub IsServable : StoreCommand → Option (List ℕ) → Stores → Type 0
 IsServable command.Ingest source first = IsGoodSource source
 IsServable (command.Get name query) source first = (i : ℕ) × HasName first.rows i name.now
 IsServable _ source first = Unit {0}
 
--- the disk tells its files, a crash leaves the one or the other, which stand, and the command can be done over both
-pub record IsServed (g : Granularity) (tells : Bool) (asked : StoreCommand) (old : Outside) : Type 0 where
+-- the disk tells its files, a crash leaves what was before a change or what is after it, which stand, and the command can be done over both
+pub record IsServed (config : ConfigState) (tells : Bool) (asked : StoreCommand) (old : Outside) : Type 0 where
   pub told : IsTrue tells
-  pub one : Held
-  pub other : Held
-  pub opens : OpensEither g old.past one other
-  pub stands : IsTrue one.stands
-  pub can : IsServable asked old.source one × IsServable asked old.source other
+  pub before : Stores
+  pub after : Stores
+  pub opens : OpensEither (stores_of config) old.past before after
+  pub stands : IsTrue before.stands
+  pub can : IsServable asked old.source before × IsServable asked old.source after
 
 -- what a command needs to be done
-abbrev pub CanBeDone : Granularity → Bool → Command → Outside → Type 0
-CanBeDone g tells (Extract query) old = IsGoodSource old.source
-CanBeDone g tells (OverStore asked) old = IsServed g tells asked old
+abbrev pub CanBeDone : ConfigState → Bool → Command → Outside → Type 0
+CanBeDone config tells (Extract query) old = IsGoodSource old.source
+CanBeDone config tells (OverStore asked) old = IsServed config tells asked old
 
 -- it was done, or memory was wanting
 abbrev pub EndsWell : ℕ → Type 0

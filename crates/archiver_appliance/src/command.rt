@@ -13,17 +13,19 @@ use series_model::Query;
 pub enum Command<'a> {
     /// `extract FROM TO`
     Extract { query: Query },
-    /// A command over a store.
+    /// A command over the archive.
     OverStore(StoreCommand<'a>),
 }
 
-/// What the words ask of a store.
+/// What the words ask of the archive.
 #[derive(Clone, Copy)]
 pub enum StoreCommand<'a> {
     /// `ingest`
     Ingest,
     /// `get NAME FROM TO`
     Get { name: &'a str, query: Query },
+    /// `etl`
+    Etl,
     /// `status`
     Status,
     /// `check`
@@ -78,6 +80,7 @@ fn bare_command<'a>(word: &str) -> Option<Command<'a>>
 {
     match word {
         "ingest" => Some(Command::OverStore(StoreCommand::Ingest)),
+        "etl" => Some(Command::OverStore(StoreCommand::Etl)),
         "status" => Some(Command::OverStore(StoreCommand::Status)),
         "check" => Some(Command::OverStore(StoreCommand::Check)),
         _ => None,

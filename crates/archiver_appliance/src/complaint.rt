@@ -1,12 +1,14 @@
 // The one line that tells why a command ended with a status other than 0.
-ghost use Rattle.std.specs.Prelude.{◌≤◌};
+ghost use Rattle.std.specs.Prelude.{◌≤◌, OnOk, OnErr};
 ghost use Rattle.std.specs.List.{flat_map};
+ghost use Rattle.std.specs.Io.KnownBytes.{Appends};
+ghost use Rattle.edge_io.specs.Stream.{Rose, AppendsFront};
 ghost use Rattle.archiver_appliance.specs.declared.status.Status.TheVariants.{Damaged};
 ghost use Rattle.archiver_appliance.specs.Complaint.{Complains, complaint_of};
 
 use crate::status::Status;
 use disk_model::FileName;
-use edge_io::{Sink, write_whole};
+use edge_io::{Failed, Sink, write_whole};
 use itoa::Buffer;
 
 /// Writes the one line that tells why a command ended with a status other than 0, or a front of it. Takes no memory.
@@ -73,14 +75,23 @@ fn tell_damage<E: Sink>(name: &FileName, at: u64, complaints: &mut E)
     );
 }
 
-// Writes the pieces of a line, one after another. Nobody is left to hear of a fault here.
+// Writes the pieces of a line. Nobody is left to hear of a fault here.
 fn tell<E: Sink>(pieces: &[&[u8]], complaints: &mut E)
     ensures told { Complains (E.written complaints.old) (E.written complaints.new) (E.write_faults complaints.old) (E.write_faults complaints.new) (flat_map (λ piece. piece.now) pieces.now) }
     ensures faults { E.write_faults complaints.old ≤ E.write_faults complaints.new }
 {
+    let _ = write_pieces(pieces, complaints);
+}
+
+/// Writes the pieces of a line, one after another, each whole, up to the first write that fails. It takes no memory.
+pub fn write_pieces<E: Sink>(pieces: &[&[u8]], sink: &mut E) -> Result<(), Failed>
+    ensures all { OnOk result (Appends (E.written sink.old) (E.written sink.new) (flat_map (λ piece. piece.now) pieces.now)) }
+    ensures front { OnErr result (AppendsFront (E.written sink.old) (E.written sink.new) (flat_map (λ piece. piece.now) pieces.now)) }
+    ensures failed { OnErr result (Rose (E.write_faults sink.old) (E.write_faults sink.new)) }
+    ensures faults { E.write_faults sink.old ≤ E.write_faults sink.new }
+{
     for piece in pieces {
-        if write_whole(complaints, piece).is_err() {
-            return;
-        }
+        write_whole(sink, piece)?;
     }
+    Ok(())
 }

@@ -3,6 +3,7 @@ use crate::harness::{Order, empty, expect, expected, lines, order_of, outcome_of
 use etl_rules::Config;
 use std::alloc::{AllocError, Global};
 use std::process::Abort;
+use std::sync::Wait;
 use std::test::Fail;
 
 // Over the interval of the year's seconds 5 to 8.
@@ -10,7 +11,7 @@ const EXTRACT: &str = "extract 2024-01-01T00:00:05.000Z 2024-01-01T00:00:08.000Z
 
 // Each input in pieces of several sizes.
 fn expect_all(
-    rt: &impl Abort,
+    rt: &(impl Abort + Wait),
     alloc: Global,
     status: u8,
     table: &[(&str, &str, &str)],
@@ -207,7 +208,7 @@ fn a_complaint_without_room_changes_nothing_else(rt: HostRuntime) -> Result<(), 
     let alloc = rt.alloc();
     let input = lines(alloc, "F15!")?;
     let order = order_of(EXTRACT, &input);
-    let (came, _) = outcome_of(alloc, order, &Config::shipped(), empty(alloc, &[])?, 3)?;
+    let (came, _) = outcome_of(&rt, alloc, order, &Config::shipped(), empty(alloc, &[])?, 3)?;
     assert_eq!(rt; came.status, 3);
     assert_eq!(rt; came.output, lines(alloc, "F15")?);
     assert_eq!(rt; came.complaint.len(), 0);

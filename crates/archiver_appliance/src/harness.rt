@@ -1,6 +1,6 @@
 // Runs of the program over disks, sources and sinks in memory.
 ghost use Rattle.disk_model.specs.Record.{files_of, opened_of};
-ghost use Rattle.store_reopen.specs.Reopen.{IsUnopened};
+ghost use Rattle.three_reopen.specs.Reopen.{IsUnopened};
 
 use crate::run::run;
 use disk_model::MemDisk;
@@ -8,6 +8,7 @@ use edge_io::{Failed, ListClock, MemSink, MemSource, Source};
 use etl_rules::Config;
 use std::alloc::{AllocError, Global};
 use std::process::Abort;
+use std::sync::Wait;
 use std::test::Fail;
 
 // 2024-01-02T00:00:00Z.
@@ -202,6 +203,7 @@ pub(crate) struct Sinks {
 }
 
 fn status_of(
+    rt: &impl Wait,
     alloc: Global,
     words: &[&str],
     config: &Config,
@@ -212,6 +214,7 @@ fn status_of(
 ) -> (u8, Unopened) {
     let Unopened { disk } = disk;
     let ended = run(
+        rt,
         alloc,
         words,
         config,
@@ -226,6 +229,7 @@ fn status_of(
 
 // Runs with so much room for the complaint.
 pub(crate) fn outcome_of(
+    rt: &impl Wait,
     alloc: Global,
     order: Order<'_>,
     config: &Config,
@@ -243,6 +247,7 @@ pub(crate) fn outcome_of(
         complaints: MemSink::new(alloc, room, &[])?,
     };
     let (status, disk) = status_of(
+        rt,
         alloc,
         &words,
         config,
@@ -261,13 +266,13 @@ pub(crate) fn outcome_of(
 
 // Runs over a disk, and looks at what is told. Gives the disk back.
 pub(crate) fn expect(
-    rt: &impl Abort,
+    rt: &(impl Abort + Wait),
     alloc: Global,
     order: Order<'_>,
     disk: Unopened,
     wanted: &Told,
 ) -> Result<Unopened, Fail> {
-    let (came, disk) = outcome_of(alloc, order, &Config::shipped(), disk, 2000)?;
+    let (came, disk) = outcome_of(rt, alloc, order, &Config::shipped(), disk, 2000)?;
     assert_eq!(rt; &came, wanted, "{} by {}", order.label, order.most);
     Ok(disk)
 }

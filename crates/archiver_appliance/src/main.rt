@@ -3,6 +3,9 @@
 //! `run` does all that the program does, over a source, a sink, a sink for complaints, a disk and a clock; `main` hands it the
 //! standard streams, the disk of the folders that the environment names and the system's clock, and ends with its status.
 //!
+//! The commands that change or read samples act alone on an archive (`archive_core`) that is opened on the disk's three stores: each of
+//! its acts is a step of the machine of `act_model`, so what is promised of the machine is promised of the program.
+//!
 //! Model: a command is a function from the words, the source's bytes, the image of the disk and the clock's moments to a text, an
 //! image, a status and a complaint.
 #![tactic(auto)]
@@ -17,7 +20,11 @@ mod extract;
 mod extract_tests;
 #[cfg(test)]
 mod harness;
+mod ingesting;
+mod moving;
 mod opened;
+mod reporting;
+mod retrieving;
 mod run;
 mod status;
 
@@ -28,9 +35,10 @@ use std::alloc::{AllocError, Global};
 use std::env::{self, VarError};
 use std::io::ErrorKind;
 use std::process::ExitCode;
+use std::sync::Wait;
 
 fn main(rt: HostRuntime) -> ExitCode {
-    match started(&rt) {
+    match started(&rt, &rt) {
         Ok(number) => ExitCode::from(number),
         Err(err) => {
             let status = match err {
@@ -44,7 +52,7 @@ fn main(rt: HostRuntime) -> ExitCode {
 }
 
 // Runs over the standard streams, and tells what befell the disk behind the complaint. A folder whose name isn't UTF-8 can't be used.
-fn started(rt: &HostRuntime) -> Result<u8, VarError> {
+fn started(rt: &HostRuntime, wait: &impl Wait) -> Result<u8, VarError> {
     let arguments = arguments(rt)?;
     let words = texts(rt.alloc(), &arguments)?;
     let site = folder(rt, "ARCHAPPL_SITE_FOLDER", "site")?;
@@ -63,6 +71,7 @@ fn started(rt: &HostRuntime) -> Result<u8, VarError> {
     let mut complaints = StdSink::new(rt.stderr());
     let mut clock = SystemClock::new(rt);
     let mut ended = run::run(
+        wait,
         rt.alloc(),
         &words,
         &Config::shipped(),

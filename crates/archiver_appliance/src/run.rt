@@ -1,7 +1,7 @@
 // A run of the program, from its words to its status.
 ghost use Rattle.std.specs.Prelude.{◌≡◌, ◌↔◌, ◌≤◌, IsTrue, map};
 ghost use Rattle.series_model.specs.declared.sample.Query.{Query};
-ghost use Rattle.store_reopen.specs.Reopen.{IsUnopened, short_granularity};
+ghost use Rattle.three_reopen.specs.Reopen.{IsUnopened};
 ghost use Rattle.archiver_appliance.specs.declared.command.Command.{Command as CommandValue};
 ghost use Rattle.archiver_appliance.specs.declared.command.Command.TheVariants.{Extract, OverStore};
 ghost use Rattle.archiver_appliance.specs.declared.command.StoreCommand.{StoreCommand as Asked};
@@ -20,7 +20,7 @@ use disk_model::Disk;
 use edge_io::{Clock, Sink, Source};
 use etl_rules::Config;
 use std::alloc::Global;
-use store_reopen::laws::one_verdict;
+use std::sync::Wait;
 
 /// What a run came to.
 #[derive(Drop)]
@@ -42,12 +42,13 @@ pub struct Ended<D: Disk> {
 /// | 3 | `extract`, `ingest`: the input's first bad line |
 /// | 4 | `get`: no row has the name |
 /// | 5, 6, 7 | the source's, the sink's or the disk's count of faults rose, or that of a file in `failed` |
-/// | 8 | the disk is damaged |
+/// | 8 | the disk is damaged, or a file that it lists |
 /// | 9 | memory was wanting |
 /// | 12 | the disk keeps another granularity than the configured one |
 ///
 /// It needs a disk of which no journal was opened, and no listed file beyond its listed length, and leaves it so.
 pub fn run<S: Source, K: Sink, E: Sink, D: Disk, C: Clock>(
+    rt: &impl Wait,
     alloc: Global,
     words: &[&str],
     config: &Config,
@@ -59,7 +60,7 @@ pub fn run<S: Source, K: Sink, E: Sink, D: Disk, C: Clock>(
 ) -> Ended<D>
     requires { IsTrue D.tells → IsUnopened (D.files disk) (D.opened disk) }
 
-    ensures ran { Ran D.Reader.faults (map (λ w. w.now) words.now) (short_granularity config.now) D.tells (outside S.Source K.Sink C.Clock D.Disk source.old sink.old clock.old disk) (outside S.Source K.Sink C.Clock D.Disk source.new sink.new clock.new result.disk)
+    ensures ran { Ran D.Reader.faults (map (λ w. w.now) words.now) config.now D.tells (outside S.Source K.Sink C.Clock D.Disk source.old sink.old clock.old disk) (outside S.Source K.Sink C.Clock D.Disk source.new sink.new clock.new result.disk)
         result.failed (E.written complaints.old) (E.written complaints.new) (E.write_faults complaints.old) (E.write_faults complaints.new) result.status }
     ensures faults { NoneFell (outside S.Source K.Sink C.Clock D.Disk source.old sink.old clock.old disk) (outside S.Source K.Sink C.Clock D.Disk source.new sink.new clock.new result.disk) × (E.write_faults complaints.old ≤ E.write_faults complaints.new) }
 
@@ -67,16 +68,17 @@ pub fn run<S: Source, K: Sink, E: Sink, D: Disk, C: Clock>(
     ensures usage_does_nothing { result.status ≡ 2 → (source.new ≡ source.old) × (sink.new ≡ sink.old) × (result.disk ≡ disk) × (clock.new ≡ clock.old) }
     ensures extract_alone { (query : Query) → IsCommand (map (λ w. w.now) words.now) (Extract query) → (result.disk ≡ disk) × (clock.new ≡ clock.old) }
     ensures ingest_alone { IsCommand (map (λ w. w.now) words.now) (OverStore asked.Ingest) → sink.new ≡ sink.old }
+    ensures move_alone { IsCommand (map (λ w. w.now) words.now) (OverStore asked.Etl) → source.new ≡ source.old }
     ensures report_alone { (command : Asked) → IsCommand (map (λ w. w.now) words.now) (OverStore command) → IsReport command → (source.new ≡ source.old) × (clock.new ≡ clock.old) }
-    ensures refused { (command : Asked) → IsCommand (map (λ w. w.now) words.now) (OverStore command) → IsRefused (short_granularity config.now) D.tells (D.files disk) result.status → (source.new ≡ source.old) × (sink.new ≡ sink.old) × (clock.new ≡ clock.old) }
+    ensures refused { (command : Asked) → IsCommand (map (λ w. w.now) words.now) (OverStore command) → IsRefused config.now D.tells (D.files disk) result.status → (source.new ≡ source.old) × (sink.new ≡ sink.old) × (clock.new ≡ clock.old) }
 
     // Where no count rose, each command is done that can be, or memory was wanting.
-    ensures complete { (command : CommandValue) → IsCommand (map (λ w. w.now) words.now) command → CanBeDone (short_granularity config.now) D.tells command (outside S.Source K.Sink C.Clock D.Disk source.old sink.old clock.old disk)
+    ensures complete { (command : CommandValue) → IsCommand (map (λ w. w.now) words.now) command → CanBeDone config.now D.tells command (outside S.Source K.Sink C.Clock D.Disk source.old sink.old clock.old disk)
         → IsQuiet command (outside S.Source K.Sink C.Clock D.Disk source.old sink.old clock.old disk) (outside S.Source K.Sink C.Clock D.Disk source.new sink.new clock.new result.disk) result.failed → EndsWell result.status }
 
     ensures unopened { IsTrue D.tells → IsUnopened (D.files result.disk) (D.opened result.disk) }
 {
-    let came = obey(alloc, words, config, source, sink, disk, clock);
+    let came = obey(rt, alloc, words, config, source, sink, disk, clock);
     complain(&came.status, complaints);
     Ended {
         status: came.status.number(),
@@ -87,6 +89,7 @@ pub fn run<S: Source, K: Sink, E: Sink, D: Disk, C: Clock>(
 
 // Does what the words ask for.
 fn obey<S: Source, K: Sink, D: Disk, C: Clock>(
+    rt: &impl Wait,
     alloc: Global,
     words: &[&str],
     config: &Config,
@@ -96,15 +99,16 @@ fn obey<S: Source, K: Sink, D: Disk, C: Clock>(
     clock: &mut C,
 ) -> Came<D>
     requires { IsTrue D.tells → IsUnopened (D.files disk) (D.opened disk) }
-    ensures obeys { Obeys (map (λ w. w.now) words.now) (short_granularity config.now) D.tells (outside S.Source K.Sink C.Clock D.Disk source.old sink.old clock.old disk) (outside S.Source K.Sink C.Clock D.Disk source.new sink.new clock.new result.disk) result.status }
+    ensures obeys { Obeys (map (λ w. w.now) words.now) config.now D.tells (outside S.Source K.Sink C.Clock D.Disk source.old sink.old clock.old disk) (outside S.Source K.Sink C.Clock D.Disk source.new sink.new clock.new result.disk) result.status }
     ensures caused { IsCaused D.Reader.faults (outside S.Source K.Sink C.Clock D.Disk source.old sink.old clock.old disk) (outside S.Source K.Sink C.Clock D.Disk source.new sink.new clock.new result.disk) result.status result.failed }
     ensures faults { NoneFell (outside S.Source K.Sink C.Clock D.Disk source.old sink.old clock.old disk) (outside S.Source K.Sink C.Clock D.Disk source.new sink.new clock.new result.disk) }
     ensures usage { result.status ≡ Status.Usage → IsFaulty (map (λ w. w.now) words.now) }
     ensures usage_does_nothing { result.status ≡ Status.Usage → (source.new ≡ source.old) × (sink.new ≡ sink.old) × (result.disk ≡ disk) × (clock.new ≡ clock.old) }
     ensures extract_alone { (query : Query) → IsCommand (map (λ w. w.now) words.now) (Extract query) → (result.disk ≡ disk) × (clock.new ≡ clock.old) }
     ensures ingest_alone { IsCommand (map (λ w. w.now) words.now) (OverStore asked.Ingest) → sink.new ≡ sink.old }
+    ensures move_alone { IsCommand (map (λ w. w.now) words.now) (OverStore asked.Etl) → source.new ≡ source.old }
     ensures report_alone { (command : Asked) → IsCommand (map (λ w. w.now) words.now) (OverStore command) → IsReport command → (source.new ≡ source.old) × (clock.new ≡ clock.old) }
-    ensures refused { (command : Asked) → IsCommand (map (λ w. w.now) words.now) (OverStore command) → IsRefused (short_granularity config.now) D.tells (D.files disk) (number_of result.status) → (source.new ≡ source.old) × (sink.new ≡ sink.old) × (clock.new ≡ clock.old) }
+    ensures refused { (command : Asked) → IsCommand (map (λ w. w.now) words.now) (OverStore command) → IsRefused config.now D.tells (D.files disk) (number_of result.status) → (source.new ≡ source.old) × (sink.new ≡ sink.old) × (clock.new ≡ clock.old) }
     ensures unopened { IsTrue D.tells → IsUnopened (D.files result.disk) (D.opened result.disk) }
 {
     match command_of(words) {
@@ -119,7 +123,7 @@ fn obey<S: Source, K: Sink, D: Disk, C: Clock>(
             failed: None,
         },
         Some(Command::OverStore(command)) => {
-            serve(alloc, config, command, source, sink, disk, clock)
+            serve(rt, alloc, config, command, source, sink, disk, clock)
         }
     }
 }

@@ -1,8 +1,7 @@
-use Rattle.std.proofs.Common.{◌≡◌, ◌∙◌, arith, refl, ap, sym, subst, List, ℕ, Option, Some, None, Result, Vec, Global}
-use Rattle.std.specs.Prelude.{OnOk, OnErr, ◌++◌, ◌∷◌, [], if◌then◌else◌}
+use Rattle.std.proofs.Common.{◌≡◌, ◌∙◌, arith, ap, sym, subst, List, ℕ, Some, None, Result, Vec, Global}
+use Rattle.std.specs.Prelude.{OnErr, ◌++◌, ◌∷◌, [], if◌then◌else◌}
 use Rattle.std.specs.declared.alloc.AllocError.{AllocError}
 use Rattle.edge_io.specs.Stream.{AppendsFront}
-use Rattle.std.specs.Io.KnownBytes.{Appends}
 use Rattle.pb_lines.specs.Reader.{Chunks, to_come, ReadsItem, ReadsLine, Stops}
 use Rattle.pb_lines.specs.declared.reader.ChunkItem.TheVariants as it
 use Rattle.pb_lines.proofs.Reading.{when_none}
@@ -12,7 +11,6 @@ use Rattle.series_model.specs.Series.{taken}
 use Rattle.series_model.specs.Retrieval.{answer}
 use Rattle.archiver_appliance.specs.Extract.{lines_text, known}
 use Rattle.archiver_appliance.specs.Answer.{Covers, Adds, Takes}
-use Rattle.archiver_appliance.specs.Text.{IsFlushed, WritesFront}
 use Rattle.archiver_appliance.proofs.Extracting.{nothing_written, on_ok, on_err, starts, read_from, skipped, headed, sampled, finished, writes_front, ended_early, ended_whole}
 use Rattle.archiver_appliance.proofs.extract.extract.Goals.{in-None, in-Some-Header, in-Some-Sample, in-Some-ChunkEnd}
 use Rattle.archiver_appliance.proofs.extract.extract.Goals as goal

@@ -1,8 +1,8 @@
-use Rattle.std.proofs.Common.{◌≡◌, inl, map, subst, sym}
+use Rattle.std.proofs.Common.{inl, map, subst}
 use Rattle.archiver_appliance.specs.declared.command.Command.{Command}
-use Rattle.archiver_appliance.specs.declared.command.Command.TheVariants.{Extract, OverStore}
+use Rattle.archiver_appliance.specs.declared.command.Command.TheVariants.{OverStore}
 use Rattle.archiver_appliance.specs.Command.{IsCommand}
-use Rattle.archiver_appliance.proofs.Words.{ingest_same, not_both, report_same}
+use Rattle.archiver_appliance.proofs.Words.{move_same, ingest_same, not_both, report_same}
 use Rattle.archiver_appliance.proofs.run.obey.Goals as goal
 
 pub returns-in-Some-Extract-clause-report_alone : goal.returns-in-Some-Extract-clause-report_alone
@@ -28,6 +28,11 @@ pub returns-in-Some-OverStore-clause-ingest_alone : goal.returns-in-Some-OverSto
 returns-in-Some-OverStore-clause-ingest_alone g c asks =
     let words = map (λ w. w.now) c.args.words.now in
     c.serve.ensures.ingest_alone (ingest_same words c.in-Some-OverStore.command (subst (λ (a : Command). IsCommand words a) c.in-Some-OverStore.field-0-is c.in-Some-OverStore.ensures.found) asks)
+
+pub returns-in-Some-OverStore-clause-move_alone : goal.returns-in-Some-OverStore-clause-move_alone
+returns-in-Some-OverStore-clause-move_alone g c asks =
+    let words = map (λ w. w.now) c.args.words.now in
+    c.serve.ensures.move_alone (move_same words c.in-Some-OverStore.command (subst (λ (a : Command). IsCommand words a) c.in-Some-OverStore.field-0-is c.in-Some-OverStore.ensures.found) asks)
 
 pub returns-in-Some-OverStore-clause-report_alone : goal.returns-in-Some-OverStore-clause-report_alone
 returns-in-Some-OverStore-clause-report_alone g c command asks report =

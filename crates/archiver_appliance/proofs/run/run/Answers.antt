@@ -1,5 +1,4 @@
-use Rattle.std.proofs.Common.{◌≡◌, ◌∙◌, ℕ, map, sym, subst}
-use Rattle.store_reopen.specs.Reopen.{short_granularity}
+use Rattle.std.proofs.Common.{ℕ, map, sym, subst}
 use Rattle.archiver_appliance.specs.Outside.{outside}
 use Rattle.archiver_appliance.specs.Run.{EndsWell, IsRefused}
 use Rattle.archiver_appliance.proofs.Completeness.{ends_well}
@@ -9,7 +8,7 @@ pub returns-clause-ran : goal.returns-clause-ran
 returns-clause-ran g c = record { status = c.obey-came.result.status; is = c.number.ensures; obeys = c.obey-came.ensures.obeys; caused = c.obey-came.ensures.caused; complaint = c.complain.ensures.told }
 
 pub returns-clause-refused : goal.returns-clause-refused
-returns-clause-refused g c command asks is = c.obey-came.ensures.refused command asks (subst (λ (n : ℕ). IsRefused (short_granularity c.args.config.now) g.D.Disk.tells (g.D.Disk.files c.args.disk) n) c.number.ensures is)
+returns-clause-refused g c command asks is = c.obey-came.ensures.refused command asks (subst (λ (n : ℕ). IsRefused c.args.config.now g.D.Disk.tells (g.D.Disk.files c.args.disk) n) c.number.ensures is)
 
 pub returns-clause-complete : goal.returns-clause-complete
 returns-clause-complete g c command asks can quiet =
@@ -17,4 +16,4 @@ returns-clause-complete g c command asks can quiet =
     let old = outside g.S.Source g.K.Sink g.C.Clock g.D.Disk c.args.source.now c.args.sink.now c.args.clock.now c.args.disk in
     let new = outside g.S.Source g.K.Sink g.C.Clock g.D.Disk c.obey-came.new.source c.obey-came.new.sink c.obey-came.new.clock came.disk in
     subst EndsWell (sym c.number.ensures)
-    (ends_well g.D.Reader.ReadAt.faults (map (λ w. w.now) c.args.words.now) (short_granularity c.args.config.now) g.D.Disk.tells old new came.status came.failed c.obey-came.ensures.caused command asks can quiet c.obey-came.ensures.obeys)
+    (ends_well g.D.Reader.ReadAt.faults (map (λ w. w.now) c.args.words.now) c.args.config.now g.D.Disk.tells old new came.status came.failed c.obey-came.ensures.caused command asks can quiet c.obey-came.ensures.obeys)

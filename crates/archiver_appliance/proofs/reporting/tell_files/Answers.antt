@@ -1,0 +1,21 @@
+use Rattle.std.proofs.Common.{inl, sym, subst}
+use Rattle.three_stores.specs.Seen.{seen}
+use Rattle.three_reopen.specs.Reopen.{IsUnopened}
+use Rattle.three_reopen.proofs.HandedBack.{open_unopened}
+use Rattle.archiver_appliance.specs.Judging.{IsOfOpened}
+use Rattle.archiver_appliance.specs.Run.{NoDamage}
+use Rattle.archiver_appliance.proofs.Outcomes.{check_opened, check_stands}
+use Rattle.archiver_appliance.proofs.reporting.tell_files.Goals as goal
+
+pub returns-clause-held : goal.returns-clause-held
+returns-clause-held g c = λ held has stands told. subst NoDamage (sym c.checked_status-status.ensures.status) (check_stands c.check-checked.result (c.check-checked.ensures.stands held has stands told))
+
+pub returns-clause-unopened : goal.returns-clause-unopened
+returns-clause-unopened g c = λ told.
+    let has = c.requires.has in
+    let later = c.check-checked.new.store in
+    subst (λ d. IsUnopened (g.D.Disk.files d) (g.D.Disk.opened d)) (sym c.into_disk.ensures)
+    (open_unopened g.D.Disk.tells (seen g.D.Disk later) has.0 has.0 told (g.met.D.Disk.seen later.disk told) (inl (c.check-checked.ensures.leaves.stores.has has.0 has.1)))
+
+pub returns-clause-opened : goal.returns-clause-opened
+returns-clause-opened g c = subst IsOfOpened (sym c.checked_status-status.ensures.status) (check_opened c.check-checked.result)
