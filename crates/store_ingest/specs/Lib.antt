@@ -1,3 +1,0 @@
-pub mod Life
-pub mod Chunk
-pub mod Ingest

@@ -1,5 +1,0 @@
-pub mod Counting
-pub mod Leaving
-pub mod Rowwise
-pub mod Sending
-pub mod Telling
