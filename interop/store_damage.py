@@ -1,14 +1,18 @@
-"""Damage to the files of a store, and what the program must tell of it."""
+"""Damage to the files of an archive, and what the program must tell of it."""
+
+import re
 
 import pb_model
 import store_model
 import streams
 from comparing import agree
 from pb_model import END, Run
-from store_model import batches, check_file, complaint, damage_of, walk
-from store_place import WHOLE_WORDS, compare_gets, compare_whole
+from store_model import STORES, batches, check_file, complaint, damage_of, is_bad_line, walk
+from store_place import WHOLE, WHOLE_WORDS, compare_gets, compare_whole
 
-READING = (["status"], ["check"], ["ingest"], ["get", "A", pb_model.iso(0), pb_model.iso(0)])
+OPENING = (["status"], ["check"], ["ingest"], ["etl"], ["get", "A", pb_model.iso(0), pb_model.iso(0)])
+JOURNALS = ("catalogue", *(f"manifest{store}" for store in STORES))
+DAMAGED = re.compile(rb"archappl: damaged: (\d) (.+) at (\d+)\n")
 
 
 def damaged_at(store, path, at):
@@ -17,17 +21,17 @@ def damaged_at(store, path, at):
 
 
 def refused_by_all(place, wanted):
-    """No command opens the store."""
-    for words in READING:
+    """No command opens the archive."""
+    for words in OPENING:
         place.expect(Run(8, b"", wanted), *words, data=b"\n")
 
 
-# Journals and lengths, which are looked at when a store is opened
+# Journals and lengths, which are looked at when an archive is opened
 
 
 def cut_journal(rng, place):
     """The last batch of a journal is cut off behind its open gate."""
-    name = rng.choice(("catalogue", "manifest1"))
+    name = rng.choice(JOURNALS)
     path = place.site / name
     data = path.read_bytes()
     gates = [at for at, _ in batches(data)]
@@ -49,8 +53,8 @@ def shortened(rng, place, files):
         else:
             ends[file.path] = rng.randrange(len(file.content))
             path.write_bytes(file.content[: ends[file.path]])
-    first = next(file.path for file in files if file.path in ends)
-    refused_by_all(place, damaged_at(1, first.decode(), ends[first]))
+    first = next(file for file in files if file.path in ends)
+    refused_by_all(place, damaged_at(first.store, first.path.decode(), ends[first.path]))
 
 
 # Bytes, which are looked at when a file is read
@@ -80,48 +84,80 @@ def compare_check(place, files):
     lines, wanted = [], Run(0, b"", b"")
     for file in files:
         front = place.front(file)
-        at = damage_of(check_file, front, file.start)
+        at = damage_of(check_file, front, file.span)
         if at is None:
-            lines.append(b"1 %s ok %d\n" % (file.path, check_file(front, file.start)))
+            lines.append(b"%d %s ok %d\n" % (file.store, file.path, check_file(front, file.span)))
             continue
-        lines.append(b"1 %s damaged %d\n" % (file.path, at))
+        lines.append(b"%d %s damaged %d\n" % (file.store, file.path, at))
         if wanted.status == 0:
-            wanted = Run(8, b"", damaged_at(1, file.path.decode(), at))
+            wanted = Run(8, b"", damaged_at(file.store, file.path.decode(), at))
     wanted.output = b"".join(lines)
     place.expect(wanted, "check")
 
 
 def compare_damaged_get(place, row):
-    """All of a variable some of whose files are changed: the first damage that is met is told. A retrieval
-    asks for the row's type, and not for the hour."""
-    for file in row.files():
-        at = damage_of(walk, place.front(file), (0, END), row.type)
-        if at is not None:
-            found = place.run("get", row.name.decode(), *WHOLE_WORDS)
-            wanted = damaged_at(1, file.path.decode(), at)
-            agree(f"the damage in {row.name}", (found.status, found.complaint), (8, wanted))
-            return
+    """All of a variable some of whose files are changed. A retrieval asks for the row's type, and not for the partition, and
+    finds by search where the samples begin that it needs of a file. So it tells a bad line of one of them, or passes it by;
+    a bad header is never passed by."""
+    fronts = {(file.store, file.path): place.front(file) for store in STORES for file in row.files(store)}
+    found = place.run("get", row.name.decode(), *WHOLE_WORDS)
+    told = DAMAGED.fullmatch(found.complaint)
+    if told is None:
+        compare_undamaged(row, found)
+        bad = [path for path, front in fronts.items() if damage_of(walk, front, (0, END), row.type) == 0]
+        agree(f"the files of {row.name} that have a bad header, and of which nothing is told", bad, [])
+        return
+    agree("status", found.status, 8)
+    front = fronts.get((int(told[1]), told[2]), b"")
+    agree(f"whether {found.complaint} is so", is_bad_line(front, row.type, int(told[3])), True)
+
+
+def compare_undamaged(row, found):
+    """An answer in which no damage is told: events of the type that rise."""
+    agree("status and complaint", (found.status, found.complaint), (0, b""))
+    chunks, refused = pb_model.read_stream(found.output)
+    agree("the first bad line", refused, None)
+    agree("the types", {chunk.header.type for chunk in chunks}, {row.type})
+    moments = [t for chunk in chunks for t, _ in chunk.samples]
+    agree("whether the moments rise", all(a < b for a, b in zip(moments, moments[1:])), True)
+
+
+def compare_damaged_moves(place, rest, paths):
+    """Moves over an archive some of whose files are changed: they may tell damage, in a file of those variables alone, and
+    the others lose nothing."""
+    found = place.run("etl")
+    told = DAMAGED.fullmatch(found.complaint)
+    if told is None:
+        agree("status and complaint", (found.status, found.complaint), (0, b""))
+        agree("whether it tells what moved", re.fullmatch(rb"moved \d+ \d+\n", found.output) is not None, True)
+    else:
+        agree("status and output", (found.status, found.output), (8, b""))
+        key = told[2].rpartition(b":")[0]
+        agree(f"whether {told[2]} is of a changed variable", key in {path.rpartition(b":")[0] for path in paths}, True)
+    for row in rest.rows:
+        place.expect(rest.get(row.name, *WHOLE), "get", row.name.decode(), *WHOLE_WORDS)
 
 
 def damaged_bytes(rng, place, model, files):
-    """Bytes of listed files are changed. The variables of all other files are still told."""
+    """Bytes of listed files are changed. The variables of all other files are still told, also once all is moved."""
     chosen = rng.sample(files, min(len(files), rng.choice((1, 1, 2, 5))))
     for file in chosen:
         place.path(file).write_bytes(other_bytes(rng, file))
     compare_check(place, files)
     place.expect(model.status(), "status")
     changed = {file.path for file in chosen}
-    rest = store_model.Store()
+    rest = store_model.Archive()
     for row in model.rows:
-        if changed.isdisjoint(file.path for file in row.files()):
+        if changed.isdisjoint(file.path for store in STORES for file in row.files(store)):
             rest.rows.append(row)
         else:
             compare_damaged_get(place, row)
     compare_gets(place, rest, rng, 3)
+    compare_damaged_moves(place, rest, changed)
 
 
 def damage(rng, place, model):
-    """Damages a store in one way, and compares what is told of it."""
+    """Damages an archive in one way, and compares what is told of it."""
     compare_whole(place, model)
     files = model.files()
     way = rng.randrange(6)

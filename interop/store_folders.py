@@ -8,18 +8,23 @@ import contextlib
 import fcntl
 import os
 import shutil
+import signal
 import subprocess
 import time
 
 import store_streams
 from comparing import agree, compare_runs
 from pb_model import Run
-from store_model import Store, complaint
-from store_place import FOLDERS, WHOLE_WORDS, compare_files, compare_listed, compare_whole, state_after_break
+from store_model import STORES, Archive, complaint
+from store_place import (
+    DEFAULTS, FOLDERS, WHOLE_WORDS, compare_files, compare_listed, compare_whole, now_within_an_hour, state_after_break,
+    state_after_moves,
+)
 
 READING = (["status"], ["check"], ["get", "A", *WHOLE_WORDS])
+WRITING = (["ingest"], ["etl"])
 NOBODY = 65534
-SMALL = 256 * 1024
+SMALL, LARGER = 256 * 1024, 2048 * 1024
 
 
 class Untried(Exception):
@@ -39,14 +44,13 @@ def refused(place, wanted, *commands):
 
 def filled(rng, place):
     """A model of what is ingested into a place."""
-    model = Store()
-    take(rng, place, model, store_streams.long_variables(rng))
+    model = Archive()
+    take(place, model, store_streams.long_stream(rng, store_streams.long_variables(rng)))
     return model
 
 
-def take(rng, place, model, group):
-    """Ingests a stream of a group of variables."""
-    stream = store_streams.long_stream(rng, group)
+def take(place, model, stream):
+    """Ingests a stream."""
     place.ingest(Run(0, b"", b""), stream.text)
     for chunk in stream.chunks:
         model.take(chunk, time.time_ns())
@@ -64,8 +68,7 @@ def lock_of(place):
 def ingest_that_waits(place, front):
     """An `ingest` that has read the front of a stream and waits for more. What it gives is called with the
     rest, and gives the run."""
-    process = subprocess.Popen([place.program, "ingest"], stdin=subprocess.PIPE, stdout=subprocess.PIPE,
-                               stderr=subprocess.PIPE, cwd=place.folder, env=place.environment)
+    process = place.start("ingest", source=subprocess.PIPE)
     try:
         process.stdin.write(front)
         process.stdin.flush()
@@ -99,7 +102,7 @@ def two_ingests(rng, place):
     with ingest_that_waits(place, first.text[:middle]) as finish:
         wait_for_lock(place)
         held = fault(lock_of(place), "lock held by another program")
-        refused(place, held, ["ingest"], *READING)
+        refused(place, held, *WRITING, *READING)
         place.expect(held, "ingest", data=second.text)
         compare_runs(finish(first.text[middle:]), Run(0, b"", b""))
     place.ingest(Run(0, b"", b""), second.text)
@@ -116,10 +119,30 @@ def readers(rng, place):
     with (place.site / "lock").open() as lock:
         fcntl.flock(lock, fcntl.LOCK_SH)
         compare_whole(place, model)
-        refused(place, held, ["ingest"])
+        refused(place, held, *WRITING)
         fcntl.flock(lock, fcntl.LOCK_EX)
-        refused(place, held, ["ingest"], *READING)
+        refused(place, held, *WRITING, *READING)
     compare_whole(place, model)
+
+
+def beside_moves(rng, place):
+    """An etl that is stopped on its way. All others are refused; it goes on, and all is moved."""
+    model = filled(rng, place)
+    for _ in range(20):
+        take(place, model, store_streams.seasons(rng, store_streams.season_variables(rng), 120))
+        wanted = model.etl(now_within_an_hour())
+        process = place.start("etl")
+        time.sleep(rng.uniform(0.005, 0.05))
+        process.send_signal(signal.SIGSTOP)
+        is_held = place.run("status").status == 7
+        if is_held:
+            refused(place, fault(lock_of(place), "lock held by another program"), *WRITING, *READING)
+        process.send_signal(signal.SIGCONT)
+        compare_runs(ended(process, None), wanted)
+        compare_whole(place, model)
+        if is_held:
+            return
+    raise Untried("each etl ended before it could be stopped")
 
 
 # Copies
@@ -128,25 +151,26 @@ COPIES = 12
 
 
 def copied(place, folder):
-    """A copy of a store beside an ingest, in the order in which it may be taken: what a file needs is copied behind it."""
+    """A copy of an archive beside an ingest, in the order in which it may be taken: what a file needs is copied behind it."""
     copy = place.elsewhere(folder)
     copy.site.mkdir(parents=True)
-    for name in ("manifest1", "catalogue"):
+    for name in (*(f"manifest{store}" for store in STORES), "catalogue"):
         with contextlib.suppress(FileNotFoundError):  # the ingest hasn't made it yet
             shutil.copyfile(place.site / name, copy.site / name)
-    if place.short.exists():
-        shutil.copytree(place.short, copy.short, ignore_dangling_symlinks=True)
+    for store, folder in place.stores.items():
+        if folder.exists():
+            shutil.copytree(folder, copy.stores[store], ignore_dangling_symlinks=True)
     return copy
 
 
 def copies(rng, place):
     """Copies that are taken while an ingest runs: each is an archive of a front of the stream, by whole chunks."""
     model = filled(rng, place)
+    place.etl(model)
     stream = store_streams.long_stream(rng, store_streams.long_variables(rng))
     taken = []
     with place.kept(stream.text).open("rb") as source:
-        process = subprocess.Popen([place.program, "ingest"], stdin=source, stdout=subprocess.PIPE, stderr=subprocess.PIPE,
-                                   cwd=place.folder, env=place.environment)
+        process = place.start("ingest", source=source)
         while process.poll() is None and len(taken) < COPIES:
             taken.append(copied(place, place.folder / f"copy{len(taken)}"))
             time.sleep(rng.uniform(0, 0.02))
@@ -191,7 +215,7 @@ def only_read(rng, place):
         before = paths_below(place.folder)
         compare_whole(place, model)
         denied = place.told(place.site / ("catalogue" if locked else "lock"))
-        refused(place, fault(denied, "Permission denied (os error 13)"), ["ingest"])
+        refused(place, fault(denied, "Permission denied (os error 13)"), *WRITING)
         agree("what is there", paths_below(place.folder), before)
         place.before = []
         open_folders(place)
@@ -199,7 +223,7 @@ def only_read(rng, place):
 
 def no_folders(rng, place):
     """The commands that read, where no folder is there: they make none."""
-    compare_whole(place, Store())
+    compare_whole(place, Archive())
     place.expect(Run(4, b"", complaint("no such variable")), "get", "A", *WHOLE_WORDS)
     agree("what is there", list(place.folder.iterdir()), [])
 
@@ -208,34 +232,66 @@ def no_folders(rng, place):
 
 
 @contextlib.contextmanager
-def small_disk(folder):
-    """A file system of some kilobytes in a folder."""
-    folder.mkdir()
-    if subprocess.run(["mount", "-t", "tmpfs", "-o", f"size={SMALL}", "tmpfs", folder], capture_output=True).returncode:
+def small_disk(place, size):
+    """A file system of so many bytes in a folder, in which all folders of the archive are."""
+    small = place.folder / "small"
+    small.mkdir()
+    if subprocess.run(["mount", "-t", "tmpfs", "-o", f"size={size}", "tmpfs", small], capture_output=True).returncode:
         raise Untried("no file system can be mounted")
+    names = [f"small/{name}" for name in DEFAULTS]
+    place.environment.update({f"ARCHAPPL_{title}_FOLDER": name for title, name in zip(FOLDERS, names)})
+    place.settle(*names)
     try:
-        yield
+        yield small
     finally:
-        subprocess.run(["umount", folder], check=True)
+        subprocess.run(["umount", small], check=True)
+
+
+def agree_on_room(ended_at):
+    """The run of a command that ended since the disk was full."""
+    agree("status", ended_at.status, 7)
+    lines = ended_at.complaint.split(b"\n")
+    agree("complaint", lines[0] + b"\n", complaint("disk failed"))
+    agree("its cause", lines[1].split(b": ")[-1], b"No space left on device (os error 28)")
 
 
 def full_disk(rng, place):
     """An ingest of more than fits. What is left is a front of the stream, and can be read."""
-    small = place.folder / "small"
-    for title in FOLDERS:
-        place.environment[f"ARCHAPPL_{title}_FOLDER"] = f"small/{title}"
-    place.short, place.site = small / "SHORT_TERM", small / "SITE"
-    with small_disk(small):
-        group = store_streams.long_variables(rng)
-        stream = store_streams.long_stream(rng, group)
-        ended_at = place.run("ingest", data=stream.text)
-        agree("status", ended_at.status, 7)
-        lines = ended_at.complaint.split(b"\n")
-        agree("complaint", lines[0] + b"\n", complaint("disk failed"))
-        agree("its cause", lines[1].split(b": ")[-1], b"No space left on device (os error 28)")
-        model = state_after_break(Store(), stream.chunks, place.run("status").output)
+    with small_disk(place, SMALL):
+        stream = store_streams.long_stream(rng, store_streams.long_variables(rng))
+        agree_on_room(place.run("ingest", data=stream.text))
+        model = state_after_break(Archive(), stream.chunks, place.run("status").output)
         compare_whole(place, model)
         compare_listed(place, model)
+
+
+def moved_in(place, model, small, blocks):
+    """The model behind moves for which so many blocks are left. Where these are too few, it is the model behind some of their
+    commits."""
+    more = small / "more"
+    more.write_bytes(bytes(max(0, shutil.disk_usage(small).free - 4096 * blocks)))
+    now = now_within_an_hour()
+    ended_at = place.run("etl")
+    more.unlink()
+    if ended_at.status == 0:
+        compare_runs(ended_at, model.etl(now))
+        return model
+    agree_on_room(ended_at)
+    return state_after_moves(model, place, now)
+
+
+def full_of_moves(rng, place):
+    """Moves for which there is little room, and which go on once there is more."""
+    model = Archive()
+    group = store_streams.season_variables(rng)
+    with small_disk(place, LARGER) as small:
+        for blocks in (0, 1, 2, 3):
+            take(place, model, store_streams.seasons(rng, group, 6))
+            model = moved_in(place, model, small, blocks)
+            compare_whole(place, model)
+            place.etl(model)
+            compare_whole(place, model)
+            compare_listed(place, model)
 
 
 # What stands in the way
@@ -245,8 +301,9 @@ def named_folders(rng, place):
     """Variables that are empty, and names with a slash at their end."""
     for title, name in zip(FOLDERS, ("", "", "lts/", "site//")):
         place.environment[f"ARCHAPPL_{title}_FOLDER"] = name
-    place.short, place.site = place.folder / "sts", place.folder / "site"
+    place.settle(*DEFAULTS)
     model = filled(rng, place)
+    place.etl(model)
     compare_whole(place, model)
     compare_files(place, model)
 
@@ -258,9 +315,9 @@ def one_folder(rng, place):
         if short == "link":
             (place.folder / "link").symlink_to("both")
         place.site = place.folder / site
-        refused(place, fault(short.rstrip("/"), "folder of two stores"), ["ingest"])
+        refused(place, fault(short.rstrip("/"), "folder of two stores"), *WRITING)
         place.site.mkdir(exist_ok=True)
-        refused(place, fault(short.rstrip("/"), "folder of two stores"), ["ingest"], *READING)
+        refused(place, fault(short.rstrip("/"), "folder of two stores"), *WRITING, *READING)
 
 
 def no_file(rng, place):
@@ -272,13 +329,14 @@ def no_file(rng, place):
     for make, unmake in ((lambda: path.symlink_to("kept"), path.unlink), (lambda: os.mkfifo(path), path.unlink),
                          (path.mkdir, path.rmdir)):
         make()
-        refused(place, wanted, ["ingest"], *READING)
+        refused(place, wanted, *WRITING, *READING)
         unmake()
 
 
 CASES = {
     "two ingests": two_ingests,
     "readers": readers,
+    "beside moves": beside_moves,
     "copies": copies,
     "only read": only_read,
     "no folders": no_folders,
@@ -286,4 +344,5 @@ CASES = {
     "one folder": one_folder,
     "no file": no_file,
     "full disk": full_disk,
+    "full disk of moves": full_of_moves,
 }

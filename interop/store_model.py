@@ -1,17 +1,22 @@
-"""What `archappl ingest`, `get`, `status` and `check` make of a store: a model to compare with.
+"""What `archappl ingest`, `etl`, `get`, `status` and `check` make of an archive: a model to compare with.
 
-It says in Python what README.md and docs/FORMATS.md say in words, over lists of samples and not over
-files, and stands on pb_model alone. Moments are nanoseconds since 1970.
+It says in Python what README.md, docs/FORMATS.md and docs/MACHINE.md say in words, over lists of samples
+and not over files, and stands on pb_model alone. Moments are nanoseconds since 1970. Stores are 1, the
+short term, 2, the medium term, and 3, the long term.
 """
 
+import itertools
 import re
 from dataclasses import dataclass, field
 from datetime import datetime, timedelta
 
 import pb_model
-from pb_model import END, FIRST_YEAR, LAST_YEAR, MAX_LINE, SECOND, Chunk, Fault, Header, Run, escape, unescape
+from pb_model import (
+    END, FIRST_YEAR, LAST_YEAR, MAX_LINE, SECOND, Chunk, Fault, Header, Run, escape, unescape, year_start,
+)
 
 HOUR = 3_600 * SECOND
+DAY = 24 * HOUR
 # How far ahead of the clock a sample may be.
 AHEAD = 1_800 * SECOND
 TYPE_NAMES = [
@@ -20,6 +25,11 @@ TYPE_NAMES = [
     for kind in ("STRING", "SHORT", "FLOAT", "ENUM", "BYTE", "INT", "DOUBLE")
 ]
 GRANULARITIES = ("5MIN", "15MIN", "30MIN", "HOUR", "DAY", "MONTH", "YEAR")
+STORES = (1, 2, 3)
+# The shipped configuration: of each store the granularity, and of those that partitions leave hold and gather.
+CONFIGURED = {1: "HOUR", 2: "DAY", 3: "YEAR"}
+RULES = {1: (5, 3), 2: (2, 1)}
+NAMED = {1: "%Y_%m_%d_%H", 2: "%Y_%m_%d", 3: "%Y"}
 
 
 # Names
@@ -51,9 +61,19 @@ def year_of(t):
     return civil(t).year
 
 
-def path_of(name, start):
-    """The path of the file of the hour that starts at a moment."""
-    return key_of(name) + f":{civil(start):%Y_%m_%d_%H}.pb".encode()
+def partition(store, t):
+    """Start and end of the partition of a store in which a moment lies."""
+    if store == 3:
+        year = year_of(t)
+        return year_start(year) * SECOND, year_start(year + 1) * SECOND
+    length = {1: HOUR, 2: DAY}[store]
+    start = t // length * length
+    return start, start + length
+
+
+def path_of(name, start, store=1):
+    """The path of the file of a store's partition that starts at a moment."""
+    return key_of(name) + b":" + civil(start).strftime(NAMED[store]).encode() + b".pb"
 
 
 # Messages that are written
@@ -98,19 +118,39 @@ def header_line(header):
 
 @dataclass
 class Row:
-    """A variable as its first header told it, and its accepted samples: their moments and lines."""
+    """A variable as its first header told it, and its accepted samples: their moments and lines.
+
+    Of each store it has what that lists: by the start of a partition the numbers of its first sample and of
+    the one behind its last. A sample that a move has copied and not yet taken away is in two stores.
+    """
 
     name: bytes
     type: int
     count: object
     headers: list
     samples: list = field(default_factory=list)
-    hours: set = field(default_factory=set)
+    listed: dict = field(default_factory=lambda: {store: {} for store in STORES})
+
+    def copy(self):
+        """The same row, which may go on by itself."""
+        listed = {store: dict(parts) for store, parts in self.listed.items()}
+        return Row(self.name, self.type, self.count, self.headers, list(self.samples), listed)
 
     def add(self, t, line):
         """Accepts a sample."""
         self.samples.append((t, line))
-        self.hours.add(t // HOUR)
+        self.list(1, len(self.samples) - 1, len(self.samples))
+
+    def list(self, store, first, behind):
+        """A store lists samples of one partition, behind those that it lists."""
+        start = partition(store, self.samples[first][0])[0]
+        first, _ = self.listed[store].get(start, (first, None))
+        self.listed[store][start] = (first, behind)
+
+    def behind(self, store):
+        """The number behind the last sample that a store lists."""
+        parts = self.listed[store]
+        return parts[next(reversed(parts))][1] if parts else 0
 
     def header(self, year):
         """Its header of a year."""
@@ -126,28 +166,73 @@ class Row:
             for year, listed in by_year.items()
         ]
 
-    def files(self):
-        """Start, path, samples and bytes of the file of each hour."""
-        by_hour = {}
-        for t, line in self.samples:
-            by_hour.setdefault(t // HOUR * HOUR, []).append((t, line))
-        for start, listed in by_hour.items():
+    def files(self, store):
+        """The files that a store lists."""
+        for start, (first, behind) in self.listed[store].items():
             head = header_line(self.header(year_of(start)))
-            yield File(start, path_of(self.name, start), listed, head, head + b"".join(line for _, line in listed))
+            yield File(store, start, path_of(self.name, start, store), self.samples[first:behind], head)
 
 
 @dataclass
 class File:
-    """The file of an hour: its start and path, the samples in it, its header's line and all its bytes."""
+    """The file of a partition: its store, start and path, the samples in it, and its header's line."""
 
+    store: int
     start: int
     path: bytes
     samples: list
     head: bytes
-    content: bytes
+
+    @property
+    def content(self):
+        """All its bytes."""
+        return self.head + b"".join(line for _, line in self.samples)
+
+    @property
+    def span(self):
+        """The partition's start and end."""
+        return partition(self.store, self.start)
 
 
-# The store
+# Moves
+
+
+def parts_due(row, store, ripe):
+    """How many of the oldest partitions that a store lists of a row move on, where so many of them have ended: by
+    hold and gather, or those that the next store covers already, as after a move that was broken off."""
+    hold, gather = RULES[store]
+    chosen = min(gather, ripe) if ripe >= hold else 0
+    behind = row.behind(store + 1)
+    covered = sum(1 for _ in itertools.takewhile(lambda part: part[1] <= behind, row.listed[store].values()))
+    return max(chosen, covered)
+
+
+def publish(row, store, parts):
+    """The next store lists the oldest partitions, too: of each the samples that are later than those it lists."""
+    for first, behind in list(itertools.islice(row.listed[store].values(), parts)):
+        first = max(first, row.behind(store + 1))
+        if first < behind:
+            row.list(store + 1, first, behind)
+
+
+def retire(row, store, parts):
+    """The store lists its oldest partitions no more."""
+    for start in list(itertools.islice(row.listed[store], parts)):
+        del row.listed[store][start]
+
+
+def moves(row, store, now):
+    """Moves all that is due of a row out of a store. It gives how many partitions have left, behind each commit."""
+    ripe = sum(partition(store, start)[1] <= now for start in row.listed[store])
+    while parts := parts_due(row, store, ripe):
+        publish(row, store, parts)
+        yield 0
+        retire(row, store, parts)
+        yield parts
+        ripe = max(ripe - parts, 0)
+
+
+# The archive
 
 
 def complaint(text):
@@ -167,18 +252,16 @@ def chosen(samples, start, end):
     return earlier[-1:] + [(t, line) for t, line in samples if start <= t <= end]
 
 
-class Store:
-    """The rows of a store, in the order in which they were registered."""
+class Archive:
+    """The rows of an archive, in the order in which they were registered."""
 
     def __init__(self):
         self.rows = []
 
     def copy(self):
         """The same rows, which may go on by themselves."""
-        made = Store()
-        made.rows = [
-            Row(row.name, row.type, row.count, row.headers, list(row.samples), set(row.hours)) for row in self.rows
-        ]
+        made = Archive()
+        made.rows = [row.copy() for row in self.rows]
         return made
 
     def find(self, name):
@@ -216,6 +299,21 @@ class Store:
             return Run(0, b"", b"")
         return Run(3, b"", complaint(refused))
 
+    def commits(self, now):
+        """Moves all that is due. Behind each commit it gives the store out of which that moved, and how many partitions
+        left it."""
+        for store in RULES:
+            for row in self.rows:
+                for parts in moves(row, store, now):
+                    yield store, parts
+
+    def etl(self, now):
+        """Moves all that is due, and tells how many partitions left the stores 1 and 2."""
+        left = dict.fromkeys(RULES, 0)
+        for store, parts in self.commits(now):
+            left[store] += parts
+        return Run(0, b"moved %d %d\n" % (left[1], left[2]), b"")
+
     def get(self, name, start, end):
         """The answer over an interval, by years."""
         row = self.find(name)
@@ -229,30 +327,34 @@ class Store:
         return Run(0, b"\n".join(texts), b"")
 
     def files(self):
-        """The files of all rows."""
-        return [file for row in self.rows for file in row.files()]
+        """The files of all rows, store by store."""
+        return [file for store in STORES for row in self.rows for file in row.files(store)]
+
+    def file_counts(self):
+        """The number of files that each store lists."""
+        return [sum(len(row.listed[store]) for row in self.rows) for store in STORES]
 
     def status(self):
         """A line for each row."""
         lines = [
-            b"%s %s running samples %d files %d 0 0\n"
-            % (row.name, TYPE_NAMES[row.type].encode(), len(row.samples), len(row.hours))
+            b"%s %s running samples %d files %d %d %d\n"
+            % (row.name, TYPE_NAMES[row.type].encode(), len(row.samples), *(len(row.listed[store]) for store in STORES))
             for row in self.rows
         ]
         return Run(0, b"".join(lines), b"")
 
     def check(self):
         """A line for each file, all of which are good."""
-        lines = [b"1 %s ok %d\n" % (file.path, len(file.samples)) for file in self.files()]
+        lines = [b"%d %s ok %d\n" % (file.store, file.path, len(file.samples)) for file in self.files()]
         return Run(0, b"".join(lines), b"")
 
-    def entries(self):
-        """What the manifest lists of each file."""
+    def entries(self, store):
+        """What a store's manifest lists of each file."""
         return {
             (series, file.start): Entry(len(file.content), len(file.head), file.samples[0][0], file.samples[-1][0],
                                         len(file.samples))
             for series, row in enumerate(self.rows)
-            for file in row.files()
+            for file in row.files(store)
         }
 
 
@@ -312,12 +414,37 @@ def walk(data, span, type_number=None):
     return count
 
 
-def check_file(data, start):
-    """How many samples a file of the hour has. `Damaged` where it isn't one, or has none."""
-    count = walk(data, (start, start + HOUR))
+def check_file(data, span):
+    """How many samples a file of the partition has. `Damaged` where it isn't one, or has none."""
+    count = walk(data, span)
     if count == 0:
         raise Damaged(len(data))
     return count
+
+
+def moment_at(data, at, header):
+    """The moment of the sample at a place, None where none stands there."""
+    try:
+        return sample_at(data, at, header, -1, (0, END))[0]
+    except (Damaged, Fault):
+        return None
+
+
+def is_bad_line(data, type_number, at):
+    """Whether in a file of a type the line at a place is none that may stand there: it is no sample, or is one that isn't
+    later than the sample in front of it. Where the first line is no header of the type, that line is bad alone."""
+    try:
+        line, first = line_at(data, 0)
+        header = pb_model.header(unescape(line))
+    except (Damaged, Fault):
+        return at == 0
+    if header.type != type_number:
+        return at == 0
+    if not first <= at < len(data) or data[at - 1] != ord("\n"):
+        return False
+    t = moment_at(data, at, header)
+    before = moment_at(data, data.rfind(b"\n", 0, at - 1) + 1, header) if at > first else None
+    return t is None or (before is not None and before >= t)
 
 
 def damage_of(read, *parts):
@@ -363,9 +490,10 @@ def listed(manifest):
             if kind == 1:
                 granularity = GRANULARITIES[reader.next(1)]
                 continue
-            if kind != 2:
-                raise Damaged(place)
             where = reader.next(4), reader.next(8)
-            length, head = reader.next(8), reader.next(4)
-            entries[where] = Entry(length, head, reader.next(8), reader.next(8), reader.next(8))
+            if kind == 2:
+                length, head = reader.next(8), reader.next(4)
+                entries[where] = Entry(length, head, reader.next(8), reader.next(8), reader.next(8))
+            elif kind != 3 or entries.pop(where, None) is None:
+                raise Damaged(place)
     return granularity, entries

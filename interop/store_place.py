@@ -1,19 +1,23 @@
-"""A store in folders of its own, the program over them, and the comparison of both with the model."""
+"""An archive in folders of its own, the program over them, and the comparison of both with the model."""
 
+import itertools
 import os
 import subprocess
 import time
-from pathlib import Path
+from collections import Counter
 
 import comparing
 import pb_model
 import store_model
 import streams
 from comparing import Difference, agree, compare_runs
+from google_reading import compare_file
 from messages import READERS
-from pb_model import Run
+from pb_model import SECOND, Run
+from store_model import CONFIGURED, HOUR, STORES
 
 FOLDERS = ("SHORT_TERM", "MEDIUM_TERM", "LONG_TERM", "SITE")
+DEFAULTS = ("sts", "mts", "lts", "site")
 # All of time, as moments and as words.
 WHOLE = (0, pb_model.END - 1)
 WHOLE_WORDS = tuple(pb_model.iso(t) for t in WHOLE)
@@ -27,25 +31,37 @@ class Place:
         self.program = program
         self.folder = folder
         self.streams = 0
-        self.kills = 0
+        # How often each command ran, how often it was killed, and how many files were read by Google's library.
+        self.counts = Counter()
+        # What that library has read of files.
+        self.read = set()
         # The words that a run of the program begins with.
         self.before = []
         self.way = way
         self.prefix = {0: "", 1: f"{folder}/", 2: "below/more/"}[way]
-        names = [self.prefix + name for name in ("sts", "mts", "lts", "site")]
-        self.short, self.site = folder / names[0], folder / names[3]
         self.environment = {name: value for name, value in os.environ.items() if not name.startswith("ARCHAPPL_")}
+        names = [self.prefix + name for name in DEFAULTS]
+        self.settle(*names)
         if way:
-            settings = {f"ARCHAPPL_{title}_FOLDER": name for title, name in zip(FOLDERS, names)}
-            self.environment.update(settings)
+            self.environment.update({f"ARCHAPPL_{title}_FOLDER": name for title, name in zip(FOLDERS, names)})
+
+    def settle(self, *names):
+        """Takes these folders as those of the three stores and of the site."""
+        *stores, site = (self.folder / name for name in names)
+        self.stores, self.site = dict(zip(STORES, stores)), site
 
     def elsewhere(self, folder):
         """The same folders below another one."""
         folder.mkdir()
-        return Place(self.program, folder, self.way)
+        place = Place(self.program, folder, self.way)
+        place.counts, place.read = self.counts, self.read
+        return place
+
+    # Runs
 
     def run(self, *words, data=b""):
         """A run of the program in the folder."""
+        self.counts.update(words[:1])
         return comparing.run([*self.before, self.program, *words], data, cwd=self.folder, env=self.environment)
 
     def told(self, path):
@@ -71,58 +87,112 @@ class Place:
         self.kept(stream)
         self.expect(wanted, "ingest", data=stream)
 
+    def etl(self, model):
+        """Moves all that is due, in the archive and in the model."""
+        self.expect(model.etl(now_within_an_hour()), "etl")
+
+    def start(self, *words, source=subprocess.DEVNULL):
+        """A run of the program that has begun."""
+        self.counts.update(words[:1])
+        return subprocess.Popen([self.program, *words], stdin=source, stdout=subprocess.PIPE, stderr=subprocess.PIPE,
+                                cwd=self.folder, env=self.environment)
+
+    def run_killed(self, seconds, *words, source=subprocess.DEVNULL):
+        """The run of a command that is killed after some time, None where it was."""
+        process = self.start(*words, source=source)
+        try:
+            process.wait(seconds)
+        except subprocess.TimeoutExpired:
+            process.kill()
+        output, complaint = process.communicate()
+        if process.returncode >= 0:
+            return Run(process.returncode, output, complaint)
+        self.counts[f"{words[0]} killed"] += 1
+        return None
+
     def ingest_killed(self, stream, seconds):
         """The run of an `ingest` that is killed after some time, None where it was."""
         with self.kept(stream).open("rb") as source:
-            process = subprocess.Popen([self.program, "ingest"], stdin=source, stdout=subprocess.PIPE,
-                                       stderr=subprocess.PIPE, cwd=self.folder, env=self.environment)
-            try:
-                process.wait(seconds)
-            except subprocess.TimeoutExpired:
-                process.kill()
-            output, complaint = process.communicate()
-        if process.returncode >= 0:
-            return Run(process.returncode, output, complaint)
-        self.kills += 1
-        return None
+            return self.run_killed(seconds, "ingest", source=source)
 
-    def manifest(self):
-        """The bytes of the short-term store's manifest. An `ingest` that was killed before it made the file left none, which is as
-        good as an empty one."""
+    def kills(self):
+        """How many runs were killed."""
+        return sum(count for name, count in self.counts.items() if name.endswith(" killed"))
+
+    # Files
+
+    def manifest(self, store):
+        """The bytes of a store's manifest. A program that was killed before it made the file left none, which is as good as
+        an empty one."""
         try:
-            return (self.site / "manifest1").read_bytes()
+            return (self.site / f"manifest{store}").read_bytes()
         except FileNotFoundError:
             return b""
 
+    def listed(self, store):
+        """The granularity of a store's manifest, and what it lists."""
+        try:
+            return store_model.listed(self.manifest(store))
+        except store_model.Damaged as damaged:
+            raise Difference(f"manifest {store}: {damaged}") from None
+
     def path(self, file):
         """Where a file of the model is."""
-        return self.short / file.path.decode()
+        return self.stores[file.store] / file.path.decode()
 
     def front(self, file):
         """The listed bytes of a file as they are."""
-        return self.path(file).read_bytes()[: len(file.content)]
+        try:
+            return self.path(file).read_bytes()[: len(file.content)]
+        except FileNotFoundError:
+            raise Difference(f"there is no file {self.path(file)}") from None
+
+
+def now_within_an_hour(seconds=20):
+    """The clock's moment, when at least so many seconds of its hour are left: a program that is run now sees no other
+    partition end."""
+    left = HOUR - time.time_ns() % HOUR
+    if left < seconds * SECOND:
+        time.sleep(left / SECOND + 0.1)
+    return time.time_ns()
+
+
+# What a program that was broken off leaves
+
+
+def state_after_break(model, chunks, told):
+    """The model with a front of the chunks, as `status` tells it after an ingest was broken off. Of the chunks behind them
+    that were read the rows may be there."""
+    now = time.time_ns()
+    front = model.copy()
+    for number in range(len(chunks) + 1):
+        state = front.copy()
+        for header in [None, *(chunk.header for chunk in chunks[number:])]:
+            if header is not None:
+                state.register(header)
+            if state.status().output == told:
+                return state
+        for chunk in chunks[number : number + 1]:
+            front.take(chunk, now)
+    raise Difference(f"no front of the stream gives {told}, behind {model.status().output}")
+
+
+def state_after_moves(model, place, now):
+    """The model behind one of the commits of the moves that were due, as the manifests tell after an `etl` was broken off."""
+    found = {store: place.listed(store)[1] for store in STORES}
+    counts = [len(listed) for listed in found.values()]
+    state = model.copy()
+    for _ in itertools.chain([None], state.commits(now)):
+        if state.file_counts() == counts and all(state.entries(store) == found[store] for store in STORES):
+            return state
+    raise Difference(f"no commit of the moves leaves {counts} files in the stores, from {model.file_counts()} on")
 
 
 # Comparisons
 
 
-def state_after_break(model, chunks, told):
-    """The model with a front of the chunks, as `status` tells it after an ingest was broken off. The next one's row may be there."""
-    state = model.copy()
-    now = time.time_ns()
-    for chunk in [None, *chunks]:
-        if chunk is not None:
-            state.register(chunk.header)
-            if state.status().output == told:
-                return state
-            state.take(chunk, now)
-        if state.status().output == told:
-            return state
-    raise Difference(f"no front of the stream gives {told}, behind {model.status().output}")
-
-
 def compare_whole(place, model):
-    """All that the program tells of a store, with the model."""
+    """All that the program tells of an archive, with the model."""
     place.expect(model.status(), "status")
     place.expect(model.check(), "check")
     for row in model.rows:
@@ -149,25 +219,39 @@ def google_header(header):
 
 
 def compare_listed(place, model):
-    """The manifest and the listed bytes of each file with the model."""
-    granularity, entries = store_model.listed(place.manifest())
-    agree("the manifest's entries", entries, model.entries())
-    if model.rows or granularity is not None:  # before the first row a kill may leave a manifest without a batch
-        agree("the manifest's granularity", granularity, "HOUR")
+    """The manifests and the listed bytes of each file with the model."""
+    for store in STORES:
+        granularity, entries = place.listed(store)
+        agree(f"the entries of manifest {store}", entries, model.entries(store))
+        if model.rows or granularity is not None:  # before the first row a kill may leave a manifest without a batch
+            agree(f"the granularity of manifest {store}", granularity, CONFIGURED[store])
     for file in model.files():
         agree(f"the file {place.path(file)}", place.front(file), file.content)
 
 
-def compare_files(place, model):
-    """The files of a store in which nothing was killed: they have what is listed and nothing else, and
-    each is a file of its hour behind the header that Google's library writes."""
-    compare_listed(place, model)
+def compare_read(place, model):
+    """What Google's library reads of the listed bytes of each file with the model, where it hasn't read these bytes before."""
     for row in model.rows:
-        for file in row.files():
-            path = place.path(file)
-            agree(f"the length of {path}", path.stat().st_size, len(file.content))
-            agree(f"the samples in {path}", store_model.check_file(file.content, file.start), len(file.samples))
-            header = row.header(store_model.year_of(file.start))
-            agree("Google's header", google_header(header), pb_model.unescape(file.head[:-1]))
-    found = {path for path in place.short.rglob("*") if path.is_file()}
-    agree("the files", found, {place.path(file) for file in model.files()})
+        for file in (file for store in STORES for file in row.files(store)):
+            content = place.front(file)
+            if content in place.read:
+                continue
+            year = store_model.year_of(file.start)
+            agree("Google's header", google_header(row.header(year)), pb_model.unescape(file.head[:-1]))
+            compare_file(content, row.header(year), [t for t, _ in file.samples])
+            place.read.add(content)
+            place.counts["files"] += 1
+
+
+def compare_files(place, model):
+    """The files of an archive in which nothing was killed: they have what is listed and nothing else, and each is a file of
+    its partition behind the header that Google's library writes."""
+    compare_listed(place, model)
+    compare_read(place, model)
+    files = model.files()
+    for file in files:
+        path = place.path(file)
+        agree(f"the length of {path}", path.stat().st_size, len(file.content))
+        agree(f"the samples in {path}", store_model.check_file(file.content, file.span), len(file.samples))
+    found = {path for folder in place.stores.values() for path in folder.rglob("*") if path.is_file()}
+    agree("the files", found, {place.path(file) for file in files})

@@ -1,4 +1,4 @@
-"""Random streams for a store: few variables, over and over, whose samples mostly rise.
+"""Random streams for an archive: few variables, over and over, whose samples mostly rise.
 
 Each function takes the source of randomness first, and gives the same for the same one, but for
 moments ahead of the clock.
@@ -9,7 +9,7 @@ from dataclasses import dataclass
 import streams
 from messages import TYPE_NAMES, event_name
 from pb_model import END, SECOND, Chunk, Header, escape, moment, year_length, year_start
-from store_model import HOUR, header_line, year_of
+from store_model import DAY, HOUR, STORES, header_line, partition, year_of
 from streams import chance, part
 
 LETTERS = "ABCXYZabcxyz0189_+[]<>;.,#{}^"
@@ -195,3 +195,55 @@ def long_stream(rng, group):
 def short_stream(rng, group):
     """A stream of some chunks, whose samples all rise."""
     return streams.joined(rng, [long_chunk(rng, rng.choice(group), rng.choice((1, 5, 20, 60))) for _ in range(rng.randrange(1, 12))])
+
+
+# Streams of years
+
+SEASON_STEPS = (600 * SECOND, HOUR, 7 * HOUR, 30 * HOUR, 10 * DAY)
+
+
+def season_moments(rng, at, until, count):
+    """So many moments behind one and before another, mostly hours or days apart, some at the edges of partitions."""
+    step = rng.choice(SEASON_STEPS)
+    for _ in range(count):
+        later = at + rng.randrange(1, 2 * step + 1)
+        if chance(rng, 15):
+            later = max(at + 1, partition(rng.choice(STORES), later)[1] + rng.choice((-1, 0, 1)))
+        if later >= until:
+            return
+        yield later
+        at = later
+
+
+def season(rng, one, count, until=LAST):
+    """Chunks that take a variable on by so many samples, over hours, months or years, one for each year."""
+    moments = list(season_moments(rng, one.at, until, count))
+    one.at = max([one.at, *moments])
+    years = sorted({year_of(t) for t in moments})
+    return [written_chunk(rng, one.header(year), [t for t in moments if year_of(t) == year]) for year in years]
+
+
+def recent(rng, one, count, now):
+    """Chunks that take a variable on up to the clock, over partitions of which the last have not ended."""
+    one.at = max(one.at, now - rng.choice((5 * HOUR, 30 * HOUR, 4 * DAY)))
+    return season(rng, one, count, now + 900 * SECOND)
+
+
+def season_variables(rng):
+    """Variables of several types, one of them of few bytes."""
+    types = (6, *rng.sample(range(14), 3))
+    return [variable(rng, f"{letter}:{segment(rng)}", number) for letter, number in zip("UVWX", types)]
+
+
+def season_stream(rng, group, now):
+    """A stream of some seasons. A variable that has come as far as the clock has nothing more to tell."""
+    chunks = []
+    for _ in range(rng.choice((1, 2, 4))):
+        one, count = rng.choice(group), rng.choice((3, 20, 60, 120))
+        chunks += recent(rng, one, count, now) if chance(rng, 12) else season(rng, one, count)
+    return streams.joined(rng, chunks or [written_chunk(rng, one.header(year_of(one.at)), [])])
+
+
+def seasons(rng, group, count):
+    """A stream of a season of each variable, of so many samples."""
+    return streams.joined(rng, [chunk for one in group for chunk in season(rng, one, count)])
