@@ -1,2 +1,3 @@
 pub mod AllAsked
+pub mod Seated
 pub mod Usable

@@ -27,4 +27,6 @@ mod pins;
 #[cfg(test)]
 mod script;
 #[cfg(test)]
+mod seats;
+#[cfg(test)]
 mod told;

@@ -1,4 +1,4 @@
-use Rattle.std.proofs.Common.{List, [], None, Some, Option, refl, sym, subst, ap}
+use Rattle.std.proofs.Common.{List, None, Some, Option, refl, sym, subst, ap}
 use Rattle.std.specs.Prelude.{Result, Ok, Err}
 use Rattle.payload_info.specs.Info.{info_of}
 use Rattle.payload_info.specs.declared.info.PayloadInfo.{PayloadInfo}
