@@ -16,11 +16,11 @@ use Rattle.retrieval_query.specs.declared.retrieved.Retrieved.{Retrieved}
 use Rattle.retrieval_query.specs.declared.retrieved.Retrieved.TheVariants as retrieved
 use Rattle.feed_session.specs.declared.end.Fed.{Fed}
 use Rattle.feed_session.specs.declared.end.Fed.TheVariants as fed
-use Rattle.http_replies.specs.declared.replied.Replied.{Replied}
-use Rattle.http_replies.specs.declared.replied.Replied.TheVariants as replied
-use Rattle.http_replies.specs.declared.format.Format.{Format}
-use Rattle.http_replies.specs.Data.{Tells}
-use Rattle.http_replies.specs.Requests.{BeginsReply, Replies, RepliesCall, RepliesTo, managed_by, replied_by, unreplied}
+use Rattle.link_service.specs.declared.replied.Replied.{Replied}
+use Rattle.link_service.specs.declared.replied.Replied.TheVariants as replied
+use Rattle.link_service.specs.declared.format.Format.{Format}
+use Rattle.link_service.specs.Data.{Tells}
+use Rattle.link_service.specs.Requests.{BeginsReply, Replies, RepliesCall, RepliesTo, managed_by, replied_by, unreplied}
 use Rattle.link_service.specs.declared.served.Kind.TheVariants.{Http}
 use Rattle.link_service.specs.declared.served.Served.{Served}
 use Rattle.link_service.specs.declared.served.Served.TheVariants as served

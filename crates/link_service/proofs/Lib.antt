@@ -1,3 +1,6 @@
+pub mod Answering
+pub mod Bodies
+pub mod Replying
 mod Acts
 mod FeedActs
 mod RequestActs

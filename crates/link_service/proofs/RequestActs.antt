@@ -24,11 +24,11 @@ use Rattle.retrieval_query.specs.declared.variable.PinErr.TheVariants as pin_err
 use Rattle.retrieval_query.specs.Openings.{PieceTold, failing, openings}
 use Rattle.retrieval_query.specs.Pinning.{FailsToPin, GivesUp}
 use Rattle.retrieval_query.specs.Retrieving.{Ends, ReadsPinned, given_up}
-use Rattle.http_replies.specs.declared.format.Format.{Format}
-use Rattle.http_replies.specs.declared.format.Format.TheVariants as format
-use Rattle.http_replies.specs.declared.replied.Replied.{Replied}
-use Rattle.http_replies.specs.Data.{MakesActs}
-use Rattle.http_replies.specs.Requests.{Replies, RepliesCall, RepliesTo}
+use Rattle.link_service.specs.declared.format.Format.{Format}
+use Rattle.link_service.specs.declared.format.Format.TheVariants as format
+use Rattle.link_service.specs.declared.replied.Replied.{Replied}
+use Rattle.link_service.specs.Data.{MakesActs}
+use Rattle.link_service.specs.Requests.{Replies, RepliesCall, RepliesTo}
 use Rattle.link_service.specs.Serving.{MakesOnly}
 use Rattle.link_service.proofs.Acts.{AreOfLink, makes, makes_more, of_link-append}
 

@@ -19,12 +19,12 @@ use Rattle.retrieval_query.specs.declared.variable.PinErr.{PinErr}
 use Rattle.retrieval_query.specs.declared.variable.PinErr.TheVariants as pin_err
 use Rattle.retrieval_query.specs.Pinning.{FailsToPin, ended_by}
 use Rattle.retrieval_query.specs.Retrieving.{Ends, ReadsPinned}
-use Rattle.http_replies.specs.declared.format.Format.{Format}
-use Rattle.http_replies.specs.declared.format.Format.TheVariants as format
-use Rattle.http_replies.specs.declared.replied.Replied.{Replied}
-use Rattle.http_replies.specs.declared.replied.Replied.TheVariants as replied
-use Rattle.http_replies.specs.Data.{MakesActs, Tells, pin_refusal}
-use Rattle.http_replies.specs.Requests.{Replies, RepliesCall, RepliesTo, managed_by, replied_by, unreplied}
+use Rattle.link_service.specs.declared.format.Format.{Format}
+use Rattle.link_service.specs.declared.format.Format.TheVariants as format
+use Rattle.link_service.specs.declared.replied.Replied.{Replied}
+use Rattle.link_service.specs.declared.replied.Replied.TheVariants as replied
+use Rattle.link_service.specs.Data.{MakesActs, Tells, pin_refusal}
+use Rattle.link_service.specs.Requests.{Replies, RepliesCall, RepliesTo, managed_by, replied_by, unreplied}
 use Rattle.link_service.specs.Serving.{WasSpent}
 
 -- none is left now

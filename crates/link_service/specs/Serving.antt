@@ -13,10 +13,10 @@ use Rattle.feed_session.specs.declared.end.Fed.{Fed}
 use Rattle.feed_session.specs.declared.end.Fed.TheVariants as fed
 use Rattle.feed_session.specs.Replies.{Feeds}
 use Rattle.admin_commands.specs.Refusals.{refusal_of}
-use Rattle.http_replies.specs.declared.replied.Replied.{Replied}
-use Rattle.http_replies.specs.declared.replied.Replied.TheVariants as replied
-use Rattle.http_replies.specs.Data.{IsWhole, MakesActs}
-use Rattle.http_replies.specs.Requests.{Replies}
+use Rattle.link_service.specs.declared.replied.Replied.{Replied}
+use Rattle.link_service.specs.declared.replied.Replied.TheVariants as replied
+use Rattle.link_service.specs.Data.{IsWhole, MakesActs}
+use Rattle.link_service.specs.Requests.{Replies}
 use Rattle.link_service.specs.declared.served.FeedTold.TheVariants as told
 use Rattle.link_service.specs.declared.served.Kind.{Kind}
 use Rattle.link_service.specs.declared.served.Kind.TheVariants.{Feed, Http}

@@ -5,11 +5,11 @@ ghost use Rattle.act_model.specs.Machine.{Machine};
 ghost use Rattle.act_model.specs.Roles.{is_of_link};
 ghost use Rattle.link_service.specs.Serving.{HasBegun, IsToldWhy, MakesOnly, ServesLink, WasSpent};
 
+use crate::request::reply_to_request;
 use crate::served::{Kind, Served};
 use act_model::Actor;
 use edge_io::{Clock, Link};
 use feed_session::feed;
-use http_replies::reply_to_request;
 use std::alloc::Global;
 use std::sync::Wait;
 

@@ -1,10 +1,10 @@
 // How a connection was served.
 ghost use Rattle.std.specs.Prelude.{◌≡◌};
 
+use crate::replied::Replied;
 use disk_model::{FileName, ReadAt};
 use feed_session::Fed;
 use http_front::HttpErr;
-use http_replies::Replied;
 use pb_lines::ChunkFault;
 
 /// What a connection is for.

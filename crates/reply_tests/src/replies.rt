@@ -8,7 +8,7 @@ use act_model::ask_offer;
 use disk_model::MemFile;
 use edge_io::MemLink;
 use event_types::{Method, PayloadType};
-use http_replies::{Replied, reply_to_request};
+use link_service::{Replied, reply_to_request};
 use one_row_archive::OneRow;
 use pb_lines::sample_of;
 use series_model::Blob;
