@@ -164,7 +164,7 @@ where
     ensures back { IsBack pass.old pass.new }
     ensures served { ServesAll (ServesDoorSeated rt.now (SharedStep X.stands X.leaves X.Reader.tells X.Reader.bytes X.Reader.faults) (SharedStands X.stands) (reply_of X.Reader.tells X.Reader.bytes X.Reader.faults) X.Reader.tells X.Reader.faults W.L.Source.left W.L.Sink.written W.L.Source.read_faults W.L.Sink.write_faults W.is_closed W.door_faults W.ledger (IsTold G.entered G.left gate.now)) seat_pass seat_rooms C.coming (SharedStep X.stands X.leaves X.Reader.tells X.Reader.bytes X.Reader.faults) (reply_of X.Reader.tells X.Reader.bytes X.Reader.faults) rooms.now result pass.old pass.new posts.old posts.new }
     ensures clock { Gives (C.coming clock.old) (C.coming clock.new) [] }
-    ensures spent { result.spent ≡ true → (most_acts ≤ length (known pass.new)) ⊎ (drained pass.old < drained pass.new) }
+    ensures spent { result.spent ≡ true → (most_acts ≤ length (known pass.new)) ⊎ ((drained pass.old < drained pass.new) × (known pass.new ≡ known pass.old)) }
     ensures disk_fault { result.disk_fault ≡ true → HasFlushFault (reply_of X.Reader.tells X.Reader.bytes X.Reader.faults) pass.old pass.new }
     ensures ends { (m : Machine) → StandsFor (SharedStep X.stands X.leaves X.Reader.tells X.Reader.bytes X.Reader.faults) (SharedStands X.stands) rooms.now pass.old m → m.doors ≡ length posts.old
         → result.spent ≡ false → result.memory ≡ false → result.disk_fault ≡ false

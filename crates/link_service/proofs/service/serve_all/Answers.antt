@@ -70,3 +70,9 @@ pub returns-in-Err-Memory-clause-served : goal.returns-in-Err-Memory-clause-serv
 returns-in-Err-Memory-clause-served g c =
     let same : c.draw_workers.new.pass ≡ c.args.pass.now = search rules in
     inr (refl, inr (refl, same))
+
+pub returns-in-Err-Spent-clause-spent : goal.returns-in-Err-Spent-clause-spent
+returns-in-Err-Spent-clause-spent g c = λ spent.
+    let more : drained c.args.pass.now < drained c.draw_workers.new.pass = search rules in
+    let same : known c.draw_workers.new.pass ≡ known c.args.pass.now = search rules in
+    inr (more, same)
