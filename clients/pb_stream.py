@@ -11,10 +11,13 @@ from datetime import date
 
 import numpy
 
+import pb_columns
+
 NAMES = ("STRING", "SHORT", "FLOAT", "ENUM", "BYTE", "INT", "DOUBLE")
 TYPES = [f"SCALAR_{name}" for name in NAMES] + [f"WAVEFORM_{name}" for name in NAMES]
 FIRST_YEAR, LAST_YEAR = 1991, 2499
 MOST_OF_A_PIECE = 65_536
+MOST_BYTES_OF_A_PIECE = 1 << 24
 SECOND = 1_000_000_000
 # What the elements of each type are as numpy arrays. Texts and bytes are objects.
 DTYPES = {"STRING": object, "SHORT": numpy.int32, "FLOAT": numpy.float32, "ENUM": numpy.int32, "BYTE": object,
@@ -60,7 +63,7 @@ class Header:
 
 @dataclass
 class Piece:
-    """Samples of one chunk that stand one after another: moments in nanoseconds since 1970, values, severities and statuses."""
+    """Samples of one chunk that stand one after another; times are nanoseconds since 1970."""
 
     header: Header
     times: numpy.ndarray
@@ -70,6 +73,11 @@ class Piece:
 
     def __len__(self):
         return len(self.times)
+
+    @property
+    def headers(self):
+        """The headers by their names; the first one of a name counts."""
+        return dict(reversed(self.header.headers))
 
 
 # Bytes
@@ -197,13 +205,15 @@ def read_header(message):
 
 
 def read_scalar(element, value):
-    """The value of a scalar."""
+    """The value of a scalar; of a float, a double or an int its bytes, so that their bits stay as they are."""
     if element == "STRING":
         return text(value)
     if element == "BYTE":
-        return value
+        return bytes(memoryview(value))
     if element in FORMS:
-        return struct.unpack(FORMS[element], value)[0]
+        if len(value) != struct.calcsize(FORMS[element]):
+            raise ValueError("a value of another size")
+        return value
     return unzigzag(value)
 
 
@@ -234,59 +244,117 @@ def read_value(header, values):
     return read_elements(header.element, values)
 
 
+def read_sample(header, message):
+    """Moment, value, severity and status of a sample."""
+    last, values = {4: 0, 5: 0}, []
+    for number, value in fields(message):
+        if number == 3:
+            values.append(value)
+        else:
+            last[number] = value
+    t = (year_start(header.year) + last[1]) * SECOND + last[2]
+    if t >= 1 << 63:
+        raise ValueError("a moment after the year 2262, which numpy can't hold")
+    return t, read_value(header, values), signed(last[4]), signed(last[5])
+
+
+# What a line raises that isn't of the form.
+BAD = (ValueError, KeyError, TypeError, AttributeError, OverflowError, struct.error)
+
+
 class Gathered:
-    """Samples of a chunk until they make a piece."""
+    """Lines of samples of a chunk until they make a piece."""
 
     def __init__(self, header):
         self.header = header
-        self.start = year_start(header.year)
-        self.rows = []
+        self.begin(0)
+        self.is_told = False
 
-    def add(self, message):
-        """One sample more."""
-        last, values = {4: 0, 5: 0}, []
-        for number, value in fields(message):
-            if number == 3:
-                values.append(value)
-            else:
-                last[number] = value
-        t = (self.start + last[1]) * SECOND + last[2]
-        self.rows.append((t, read_value(self.header, values), signed(last[4]), signed(last[5])))
+    def begin(self, number):
+        """Has no lines; the next one is that behind line `number`."""
+        self.before = number
+        self.lines = []
+        self.size = 0
+
+    def add(self, line):
+        """One line more, and whether they are a piece."""
+        self.lines.append(line)
+        self.size += len(line)
+        return len(self.lines) == MOST_OF_A_PIECE or self.size >= MOST_BYTES_OF_A_PIECE
 
     def piece(self):
         """The piece that they make."""
-        times, values, severities, statuses = zip(*self.rows) if self.rows else ((), (), (), ())
-        dtype = object if self.header.is_waveform else DTYPES[self.header.element]
-        array = numpy.empty(len(values), dtype)
-        array[:] = values if dtype is not object else list(values) or None
-        self.rows = []
-        return Piece(self.header, numpy.array(times, numpy.int64), array, numpy.array(severities, numpy.int32),
-                     numpy.array(statuses, numpy.int32))
+        found = self.at_once() or self.one_by_one()
+        self.begin(self.before + len(self.lines))
+        self.is_told = True
+        return Piece(self.header, *found)
+
+    def at_once(self):
+        """The columns of numbers in the usual form, or nothing."""
+        header = self.header
+        is_usual = not header.is_waveform and header.element not in ("STRING", "BYTE") and header.year < 2262
+        if not is_usual or not self.lines or not self.lines[-1].endswith(b"\n"):
+            return None
+        try:
+            lines = [unescape(line) if b"\x1b" in line else line for line in self.lines]
+        except ValueError:
+            return None
+        found = pb_columns.columns(header.element, lines)
+        if found is None:
+            return None
+        seconds, nanos, values, severities, statuses = found
+        return (year_start(header.year) + seconds) * SECOND + nanos, values, severities, statuses
+
+    def one_by_one(self):
+        """The columns of any samples."""
+        rows = []
+        for number, line in enumerate(self.lines, self.before + 1):
+            try:
+                rows.append(read_sample(self.header, message_of(line)))
+            except BAD as error:
+                raise BadStream(number, error) from None
+        times, values, severities, statuses = zip(*rows) if rows else ((), (), (), ())
+        return (numpy.array(times, numpy.int64), array_of(self.header, values), numpy.array(severities, numpy.int32),
+                numpy.array(statuses, numpy.int32))
+
+
+def array_of(header, values):
+    """Values as an array."""
+    if not header.is_waveform and header.element in PACKED:
+        return numpy.frombuffer(b"".join(values), PACKED[header.element])
+    if not header.is_waveform and DTYPES[header.element] is not object:
+        return numpy.array(values, DTYPES[header.element])
+    array = numpy.empty(len(values), object)
+    array[:] = list(values) or None
+    return array
+
+
+def message_of(line):
+    """The message of a line with its newline."""
+    if not line.endswith(b"\n"):
+        raise ValueError("the stream ends within it")
+    return unescape(line[:-1])
 
 
 def pieces(stream):
     """The pieces of a stream of bytes, in order; of a chunk without samples there is one that has none."""
-    gathered = told = None
-    number = 0
+    gathered = None
     for number, line in enumerate(stream, 1):
-        if not line.endswith(b"\n"):
-            raise BadStream(number, "the stream ends within it")
-        line = line[:-1]
-        try:
-            if not line:
-                if gathered is not None and (gathered.rows or not told):
-                    yield gathered.piece()
-                gathered = None
-            elif gathered is None:
-                gathered, told = Gathered(read_header(unescape(line))), False
-            else:
-                gathered.add(unescape(line))
-        except (ValueError, KeyError, TypeError, OverflowError, struct.error) as error:
-            raise BadStream(number, error) from None
-        if gathered is not None and len(gathered.rows) == MOST_OF_A_PIECE:
+        if gathered is None:
+            if line == b"\n":
+                continue
+            try:
+                gathered = Gathered(read_header(message_of(line)))
+            except BAD as error:
+                raise BadStream(number, error) from None
+            gathered.begin(number)
+        elif line == b"\n":
+            if gathered.lines or not gathered.is_told:
+                yield gathered.piece()
+            gathered = None
+        elif gathered.add(line):
             yield gathered.piece()
-            told = True
-    if gathered is not None and (gathered.rows or not told):
+    if gathered is not None and (gathered.lines or not gathered.is_told):
         yield gathered.piece()
 
 
@@ -299,8 +367,12 @@ def series(stream):
 
 
 def joined(parts):
-    """Pieces of one variable as one."""
-    columns = [numpy.concatenate([getattr(part, name) for part in parts]) for name in ("times", "values", "severities", "statuses")]
+    """Pieces of one variable as one. They are emptied, so that no more than one column is there twice."""
+    columns = []
+    for name in ("times", "values", "severities", "statuses"):
+        columns.append(numpy.concatenate([getattr(part, name) for part in parts]))
+        for part in parts:
+            setattr(part, name, columns[-1][:0])
     return Piece(parts[0].header, *columns)
 
 
@@ -335,7 +407,8 @@ def scalar_field(element, value):
     if element in ("STRING", "BYTE"):
         return of_bytes(3, value.encode() if isinstance(value, str) else value)
     if element in FORMS:
-        return varint(3 << 3 | (1 if element == "DOUBLE" else 5)) + struct.pack(FORMS[element], value)
+        data = value if isinstance(value, bytes) else struct.pack(FORMS[element], value)
+        return varint(3 << 3 | (1 if element == "DOUBLE" else 5)) + data
     return of_number(3, zigzag(value))
 
 
@@ -345,7 +418,7 @@ def value_fields(header, value):
     if element == "BYTE" or not header.is_waveform:
         return scalar_field(element, value)
     if element == "STRING":
-        return b"".join(of_bytes(3, one.encode()) for one in value)
+        return b"".join(scalar_field(element, one) for one in value)
     if element in FORMS:
         return of_bytes(3, numpy.asarray(value, PACKED[element]).tobytes())
     return of_bytes(3, b"".join(varint(zigzag(int(one))) for one in value))
@@ -360,3 +433,8 @@ def sample_line(header, t, value, severity=0, status=0):
     if status:
         message += of_number(5, status)
     return escape(message) + b"\n"
+
+
+def chunk(header, samples):
+    """The bytes of a chunk: each sample is its moment, value, and maybe severity and status."""
+    return header_line(header) + b"".join(sample_line(header, *sample) for sample in samples) + b"\n"

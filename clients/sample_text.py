@@ -1,0 +1,102 @@
+"""Samples as lines of text or CSV, and moments as texts.
+
+A line is NAME TIME VALUE SEVERITY STATUS, with blanks or commas between them. What is written here of scalars,
+`clients/import` reads back.
+"""
+
+import csv
+import re
+import shlex
+from datetime import datetime, timedelta, timezone
+
+import numpy
+
+COLUMNS = ("name", "time", "value", "severity", "status")
+SECOND = 1_000_000_000
+ISO = re.compile(r"(\d{4}-\d\d-\d\dT\d\d:\d\d:\d\d)(?:\.(\d{1,9}))?(Z|[+-]\d\d:\d\d)")
+UNITS = {"s": 1, "m": 60, "h": 3_600, "d": 86_400}
+
+
+# Samples
+
+
+def shown(value):
+    """A value as a text."""
+    if isinstance(value, bytes):
+        return value.decode("latin-1") if len(value) == 1 else value.hex(" ")
+    if isinstance(value, (list, numpy.ndarray)):
+        return " ".join(shown(one) for one in value)
+    if isinstance(value, numpy.floating):
+        return repr(value.item()) if value.dtype == numpy.float64 else str(value)
+    return str(value)
+
+
+def rows(piece):
+    """The fields of each sample."""
+    times = numpy.datetime_as_string(piece.times.astype("datetime64[ns]"), unit="ns")
+    for time, value, severity, status in zip(times, piece.values, piece.severities, piece.statuses):
+        yield piece.header.name, f"{time}Z", shown(value), severity, status
+
+
+class Writer:
+    """Writes samples as lines."""
+
+    def __init__(self, out, is_csv):
+        self.out = out
+        self.writer = csv.writer(out, lineterminator="\n") if is_csv else None
+
+    def begin(self):
+        """The line that names the fields."""
+        self.line(COLUMNS)
+
+    def line(self, row):
+        """One line."""
+        if self.writer:
+            self.writer.writerow(row)
+        else:
+            self.out.write(" ".join(shlex.quote(str(field)) for field in row) + "\n")
+
+    def piece(self, piece):
+        """The lines of a piece."""
+        for row in rows(piece):
+            self.line(row)
+
+
+# Moments
+
+
+def nanoseconds(text):
+    """The nanoseconds since 1970 of an ISO text."""
+    found = ISO.fullmatch(text)
+    if not found:
+        raise ValueError(f"no ISO time with a zone: {text}")
+    try:
+        civil = datetime.fromisoformat(found[1] + found[3].replace("Z", "+00:00"))
+    except ValueError:
+        raise ValueError(f"no such time: {text}") from None
+    seconds = (civil - datetime(1970, 1, 1, tzinfo=timezone.utc)) // timedelta(seconds=1)
+    return seconds * SECOND + int((found[2] or "").ljust(9, "0"))
+
+
+def iso(moment):
+    """The ISO text of a moment: a text as it is, a `datetime` with a zone, a `datetime64`, nanoseconds since 1970."""
+    if isinstance(moment, str):
+        return moment
+    if isinstance(moment, datetime):
+        if moment.tzinfo is None:
+            raise ValueError(f"a time without a zone: {moment}")
+        moment = numpy.datetime64(moment.astimezone(timezone.utc).replace(tzinfo=None), "ns")
+    elif not isinstance(moment, numpy.datetime64):
+        moment = numpy.datetime64(int(moment), "ns")
+    return numpy.datetime_as_string(moment.astype("datetime64[ns]"), unit="ns") + "Z"
+
+
+def moment_of(word, now):
+    """The ISO text of a word: `now`, so long ago as in `90s`, `15m`, `2h` and `7d`, a day, or an ISO text as it is."""
+    if word == "now":
+        return iso(now)
+    found = re.fullmatch(r"(\d+(?:\.\d+)?)([smhd])", word)
+    if found:
+        return iso(now - int(float(found[1]) * UNITS[found[2]] * SECOND))
+    # A day alone is its beginning in UTC.
+    return f"{word}T00:00:00Z" if re.fullmatch(r"\d{4}-\d\d-\d\d", word) else word
