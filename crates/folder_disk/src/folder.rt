@@ -4,7 +4,7 @@ ghost use Rattle.disk_model.specs.declared.disk.DiskErr.TheVariants.{Fault};
 ghost use Rattle.disk_model.specs.Files.{Rose};
 
 use crate::folders::{Access, Folders, read_from};
-use crate::trouble::Trouble;
+use crate::trouble::{FaultLines, Trouble, note};
 use disk_model::{Disk, DiskErr, FileName, ReadAt, ReadFailed};
 use std::alloc::{AllocError, Global};
 use std::fs::File;
@@ -18,11 +18,12 @@ pub struct FolderFile {
     path: Option<String>,
     len: u64,
     faults: u64,
+    lines: Option<FaultLines>,
     trouble: Option<Trouble>,
 }
 
 impl FolderFile {
-    /// Why its first read that failed did, since this was asked last.
+    /// Why its first read that failed did, since this was asked last; nothing where each fault is told at once.
     pub fn take_trouble(&mut self) -> Option<Trouble> {
         self.trouble.take()
     }
@@ -57,10 +58,8 @@ impl ReadAt for FolderFile {
             Ok(n) => Ok(n),
             Err(error) => {
                 self.faults = self.faults.saturating_add(1);
-                if self.trouble.is_none() {
-                    let path = self.path.take();
-                    self.trouble = Some(Trouble { path, error });
-                }
+                let path = self.path.take();
+                note(self.lines, &mut self.trouble, Trouble { path, error });
                 Err(ReadFailed)
             }
         }
@@ -81,6 +80,7 @@ impl ReadAt for FolderFile {
 pub struct FolderDisk<R: Files<File = File> + Drop> {
     folders: Folders<R>,
     faults: u64,
+    lines: Option<FaultLines>,
     trouble: Option<Trouble>,
 }
 
@@ -97,18 +97,29 @@ impl<R: Files<File = File> + Drop> FolderDisk<R> {
         Ok(FolderDisk {
             folders: Folders::new(files, alloc, access, folders)?,
             faults: 0,
+            lines: None,
             trouble: None,
         })
     }
 
-    /// Why its first call that failed did, since this was asked last.
+    /// The same disk, which tells each fault by these lines as it counts it, also those of the files that it opens.
+    pub fn telling(self, lines: FaultLines) -> FolderDisk<R>
+        ensures { result.faults ≡ self.faults }
+    {
+        FolderDisk {
+            lines: Some(lines),
+            ..self
+        }
+    }
+
+    /// Why its first call that failed did, since this was asked last; nothing where each fault is told at once.
     pub fn take_trouble(&mut self) -> Option<Trouble>
         ensures { self.new.faults ≡ self.old.faults }
     {
         self.trouble.take()
     }
 
-    // Counts what the system refused, and remembers the first of it.
+    // Counts what the system refused, and tells it, or remembers the first of it.
     fn counted<T: Drop>(
         &mut self,
         name: Option<&FileName>,
@@ -123,10 +134,8 @@ impl<R: Files<File = File> + Drop> FolderDisk<R> {
             Ok(value) => Ok(value),
             Err(error) => {
                 self.faults = self.faults.saturating_add(1);
-                if self.trouble.is_none() {
-                    let path = self.folders.place_of(name);
-                    self.trouble = Some(Trouble { path, error });
-                }
+                let path = self.folders.place_of(name);
+                note(self.lines, &mut self.trouble, Trouble { path, error });
                 Err(DiskErr::Fault)
             }
         }
@@ -203,6 +212,7 @@ impl<R: Files<File = File> + Drop> Disk for FolderDisk<R> {
             path: Some(path),
             len,
             faults: 0,
+            lines: self.lines,
             trouble: None,
         })
     }

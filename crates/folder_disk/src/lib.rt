@@ -2,7 +2,8 @@
 //!
 //! [`FolderDisk`] meets the contract `Disk` of the crate `disk_model` as a disk that doesn't tell its files: what is promised of its
 //! calls is its count of faults. That real folders keep the crash rules is trusted. One program writes at a time, or some read; they
-//! keep to that by a lock. The first fault is kept with its path and what the system told, for whoever is to mend it.
+//! keep to that by a lock. The first fault is kept with its path and what the system told, for whoever is to mend it; or each is
+//! told on standard error as it is counted.
 #![tactic(auto)]
 
 mod drafts;
@@ -13,7 +14,7 @@ mod trouble;
 
 pub use folder::{FolderDisk, FolderFile};
 pub use folders::Access;
-pub use trouble::Trouble;
+pub use trouble::{FaultLines, Trouble};
 
 #[cfg(test)]
 mod tests;
