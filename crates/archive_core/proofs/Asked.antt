@@ -8,7 +8,7 @@ use Rattle.act_model.specs.declared.acts.Act.{Act}
 use Rattle.three_stores.specs.Pinned.{SeenAll}
 use Rattle.three_stores.specs.Seen.{granularities}
 use Rattle.archive_core.specs.Ends.{LeavesByAct, LeavesWithin, Steps}
-use Rattle.archive_core.specs.Leaving.{Leaves, LeavesFiles, LeavesPins, files_of}
+use Rattle.archive_core.specs.Leaving.{Leaves, LeavesFiles, LeavesMove, LeavesPins, files_of}
 use Rattle.archive_core.specs.Parts.{Parts}
 use Rattle.archive_core.proofs.Acting.{crash_none}
 
@@ -17,10 +17,10 @@ pub as_asked : (tells : Bool) (who : ℕ) (act asked : Act) (p q : Parts) (given
 as_asked tells who act asked p q given told same answered step = subst (λ (a : Act). Steps tells (Step who a) p given q) (sym same) (subst (λ (r : Reply). Steps tells (Step who asked) p r q) (sym answered) step)
 
 -- what the act leaves that was asked, answered so
-pub as_left : (tells : Bool) (who : ℕ) (act asked : Act) (p q : Parts) (given told : Reply) → act ≡ asked → given ≡ told → LeavesByAct tells (refuse_by asked) (change_by asked) p q → LeavesFiles tells asked p q → LeavesPins tells p asked told q → Leaves tells p (record { who = who; act = act; answer = given }) q
-as_left tells who act asked p q given told same answered crash files pins =
+pub as_left : (tells : Bool) (who : ℕ) (act asked : Act) (p q : Parts) (given told : Reply) → act ≡ asked → given ≡ told → LeavesByAct tells (refuse_by asked) (change_by asked) p q → LeavesFiles tells asked p q → LeavesPins tells p asked told q → LeavesMove p asked told q → Leaves tells p (record { who = who; act = act; answer = given }) q
+as_left tells who act asked p q given told same answered crash files pins moves =
     subst (λ (a : Act). Leaves tells p (record { who = who; act = a; answer = given }) q) (sym same)
-    (subst (λ (r : Reply). Leaves tells p (record { who = who; act = asked; answer = r }) q) (sym answered) (record { crash = crash; files = files; pins = pins }))
+    (subst (λ (r : Reply). Leaves tells p (record { who = who; act = asked; answer = r }) q) (sym answered) (record { crash = crash; files = files; pins = pins; moves = moves }))
 
 -- an act that calls no disk leaves what a crash before it would
 pub no_call : (tells : Bool) (asked : Act) (p q : Parts) → ((m : Machine) (f : ℕ) → refuse_by asked (record m { faults = f }) ≡ refuse_by asked m) → ((m : Machine) (f : ℕ) → change_by asked (record m { faults = f }) ≡ change_by asked m) → files_of q ≡ files_of p → LeavesByAct tells (refuse_by asked) (change_by asked) p q

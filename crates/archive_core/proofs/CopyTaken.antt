@@ -47,10 +47,12 @@ use Rattle.act_model.specs.MoveStep.{ends_move, moved, without_move}
 use Rattle.act_model.specs.Reply.{Reply}
 use Rattle.act_model.specs.Rows.{Store, Short, Medium, Long, next_store}
 use Rattle.act_model.specs.Rule.{index_of}
+use Rattle.act_model.specs.declared.acts.Act.TheVariants.{MoveStep}
 use Rattle.act_model.specs.declared.acts.Answer.TheVariants as answer
 use Rattle.act_model.specs.declared.answers.MoveStepped.{MoveStepped}
 use Rattle.act_model.specs.declared.answers.MoveStepped.TheVariants as step
 use Rattle.archive_core.specs.MoveTies.{AreMovesOf, IsAtStage, IsMoveOf}
+use Rattle.archive_core.specs.Leaving.{LeavesMove, TellsDamage}
 use Rattle.archive_core.specs.Parts.{Parts}
 use Rattle.archive_core.specs.Growing.{HasRunning}
 use Rattle.archive_core.specs.Memory.{AreRowsOf}
@@ -69,6 +71,7 @@ use Rattle.archive_core.proofs.PinTies.{names_stay, pins_stay}
 use Rattle.archive_core.proofs.SameNames.{of_all}
 use Rattle.archive_core.proofs.Settled.{rests_has, settings_kept}
 use Rattle.archive_core.proofs.StageKept.{SourceGoesOn, reach, source_stays, stage_still}
+use Rattle.archive_core.proofs.TellingDamage.{of_part, told_alone}
 use Rattle.archive_core.proofs.Taking.{get_inserted, get_removed, put_back, take_out}
 
 -- What the stores say of a step of copying.
@@ -359,30 +362,37 @@ module _ (tells : Bool) (q : Parts) (n : ℕ) (running : Running Moving) (m : Ma
         went_on then_machine on.goes (put_back tells (record q { at = new }) then_machine (ends_move n m.moves) n then_move then_running later (put_moves then_move) on.sound (base now) on.is_then back).stands
 
     -- so the step does, with the table as it is then
-    steps : (slots later : List (Option (Running Moving))) (given : Result MoveStepped DiskErr) → StepEnds tells n m (record q { at = new; slots = later }) (stepped_reply given) → (stepped_reply given ≡ answer.DiskFault → Rose q.at.faults new.faults) → StepsOn tells n (with_slots slots q) m (record q { at = new; slots = later }) (stepped_reply given)
-    steps slots later given is cause = record { ends = is; any_moment = passes; faults = acts.costs.faults; cause = cause }
+    steps : (slots later : List (Option (Running Moving))) (given : Result MoveStepped DiskErr) → StepEnds tells n m (record q { at = new; slots = later }) (stepped_reply given) → (stepped_reply given ≡ answer.DiskFault → Rose q.at.faults new.faults) → LeavesMove (with_slots slots q) (MoveStep n) (stepped_reply given) (record q { at = new; slots = later }) → StepsOn tells n (with_slots slots q) m (record q { at = new; slots = later }) (stepped_reply given)
+    steps slots later given is cause moves = record { ends = is; any_moment = passes; faults = acts.costs.faults; cause = cause; moves = moves }
 
     pub on_more : (slots later : List (Option (Running Moving))) → result ≡ Ok ends.More → IsBack later → StepsOn tells n (with_slots slots q) m (record q { at = new; slots = later }) (stepped_reply (Ok step.Copying))
     on_more slots later is back =
         let so = copied_so ends.More is in
-        steps slots later (Ok step.Copying) (ends_on later back so.0 Copies answer.Copying (copies_some tells q.at q.limbo m held have t.rests.settled n move t.here copying running t.is retired whole 1048576 new same_g later_now s.shown then s.moves_on new.faults counted so.1)) (λ none. absurd (cc (none)))
+        steps slots later (Ok step.Copying) (ends_on later back so.0 Copies answer.Copying (copies_some tells q.at q.limbo m held have t.rests.settled n move t.here copying running t.is retired whole 1048576 new same_g later_now s.shown then s.moves_on new.faults counted so.1)) (λ none. absurd (cc (none))) (λ name place told. absurd (cc (told)))
 
     pub on_copied : (slots later : List (Option (Running Moving))) → result ≡ Ok ends.Copied → IsBack later → StepsOn tells n (with_slots slots q) m (record q { at = new; slots = later }) (stepped_reply (Ok step.Copied))
     on_copied slots later is back =
         let so = copied_so ends.Copied is in
-        steps slots later (Ok step.Copied) (ends_on later back so.0 HasCopied answer.Copied (copies_all tells q.at q.limbo m held have t.rests.settled n move t.here copying running t.is retired whole 1048576 new same_g later_now s.shown then s.moves_on new.faults counted so.1)) (λ none. absurd (cc (none)))
+        steps slots later (Ok step.Copied) (ends_on later back so.0 HasCopied answer.Copied (copies_all tells q.at q.limbo m held have t.rests.settled n move t.here copying running t.is retired whole 1048576 new same_g later_now s.shown then s.moves_on new.faults counted so.1)) (λ none. absurd (cc (none))) (λ name place told. absurd (cc (told)))
+
+    -- the file that is told as damaged is that of a part of the move
+    tells_damage : (slots : List (Option (Running Moving))) → at slots n ≡ Some running → (name : Name) (at_byte : ℕ) → Has tells new held → SaysCopied 1048576 from tells (beside new q.limbo) retired running.moving then files held (ends.Damaged name at_byte)
+        → LeavesMove (with_slots slots q) (MoveStep n) (answer.Damaged name at_byte) (record q { at = new })
+    tells_damage slots ran name at_byte now is = told_alone (TellsDamage (with_slots slots q) n) (record q { at = new }) name at_byte
+        (of_part tells q slots q.slots n running ran to from next (store_low move.store) place_is (t.is.own ∙ sym t.is.series) files held t.is.beside has new now name at_byte is)
 
     -- a file is damaged, and the move has ended
-    pub on_damaged : (slots : List (Option (Running Moving))) (name : Name) (at_byte : ℕ) → result ≡ Ok (ends.Damaged name at_byte) → StepsOn tells n (with_slots slots q) m (record q { at = new }) (stepped_reply (Ok (step.Damaged name at_byte)))
-    on_damaged slots name at_byte is =
+    pub on_damaged : (slots : List (Option (Running Moving))) → at slots n ≡ Some running → (name : Name) (at_byte : ℕ) → result ≡ Ok (ends.Damaged name at_byte) → StepsOn tells n (with_slots slots q) m (record q { at = new }) (stepped_reply (Ok (step.Damaged name at_byte)))
+    on_damaged slots ran name at_byte is =
         let so = copied_so (ends.Damaged name at_byte) is in
         steps slots q.slots (Ok (step.Damaged name at_byte))
         (went_on (record mo { faults = new.faults }) (ends_damaged tells q.at q.limbo m held have t.rests.settled n move t.here copying running t.is retired whole 1048576 new same_g later_now s.shown then s.moves_on new.faults counted name at_byte so.1) (base so.0).stands)
         (λ none. absurd (cc (none)))
+        (tells_damage slots ran name at_byte so.0 so.1)
 
     -- the disk failed, and the move has ended
     pub on_failed : (slots : List (Option (Running Moving))) → result ≡ Err Fault → StepsOn tells n (with_slots slots q) m (record q { at = new }) (stepped_reply (Err Fault))
-    on_failed slots is = steps slots q.slots (Err Fault) (has_failed (base (copied_not Fault is).0).stands) (λ same. acts.costs.cause (subst (λ (x : Result CopyEnd DiskErr). IsFailed (end_of_disk x)) (sym is) tt))
+    on_failed slots is = steps slots q.slots (Err Fault) (has_failed (base (copied_not Fault is).0).stands) (λ same. acts.costs.cause (subst (λ (x : Result CopyEnd DiskErr). IsFailed (end_of_disk x)) (sym is) tt)) (λ name place told. absurd (cc (told)))
 
     -- memory was wanting, and the move goes on as it did
     pub on_spent : (slots later : List (Option (Running Moving))) → result ≡ Err Memory → IsBack later → StepsOn tells n (with_slots slots q) m (record q { at = new; slots = later }) (stepped_reply (Err Memory))
@@ -392,6 +402,7 @@ module _ (tells : Bool) (q : Parts) (n : ℕ) (running : Running Moving) (m : Ma
         steps slots later (Err Memory)
         (was_spent (put_back tells (record q { at = new }) (record m { faults = new.faults }) (ends_move n m.moves) n move then_running later own_moves t.sound (base so.0) is_still back).stands)
         (λ none. absurd (cc (none)))
+        (λ name place told. absurd (cc (told)))
 
 -- THE FUNCTION
 
@@ -474,7 +485,7 @@ module _ (tells : Bool) (q : Parts) (n : ℕ) (running : Running Moving) (slots 
     copied_ends end later is copied back = with_these (record q { at = new; slots = later }) refl refl (Ok step.Copied) (on_copied tells q n running m out.0 out.1 stage_is seen_now new then result own later_now slots later (is ∙ ap (λ (x : CopyEnd). Ok x) copied) back)
 
     pub damaged_ends : (end : CopyEnd) (name : Name) (at_byte : ℕ) → result ≡ Ok end → end ≡ ends.Damaged name at_byte → StepsOn tells n (with_slots slots q) m (record q { at = new; limbo = limbo; pinned = pinned }) (stepped_reply (Ok (step.Damaged name at_byte)))
-    damaged_ends end name at_byte is damaged = with_these (record q { at = new }) refl refl (Ok (step.Damaged name at_byte)) (on_damaged tells q n running m out.0 out.1 stage_is seen_now new then result own later_now slots name at_byte (is ∙ ap (λ (x : CopyEnd). Ok x) damaged))
+    damaged_ends end name at_byte is damaged = with_these (record q { at = new }) refl refl (Ok (step.Damaged name at_byte)) (on_damaged tells q n running m out.0 out.1 stage_is seen_now new then result own later_now slots takes.ran name at_byte (is ∙ ap (λ (x : CopyEnd). Ok x) damaged))
 
     pub failed_ends : (e : DiskErr) → result ≡ Err e → e ≡ Fault → StepsOn tells n (with_slots slots q) m (record q { at = new; limbo = limbo; pinned = pinned }) (stepped_reply (Err Fault))
     failed_ends e is fault = with_these (record q { at = new }) refl refl (Err Fault) (on_failed tells q n running m out.0 out.1 stage_is seen_now new then result own later_now slots (is ∙ ap (λ (x : DiskErr). Err x) fault))

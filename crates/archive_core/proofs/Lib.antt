@@ -87,5 +87,6 @@ pub mod MoveParts
 pub mod MovePuts
 pub mod MoveSteps
 pub mod MoveTogether
+pub mod TellingDamage
 pub mod CopyTaken
 pub mod RunOfActs

@@ -169,7 +169,7 @@ without_front zero ys rise = refl
 without_front (suc n) [] rise = refl
 without_front (suc n) (y ∷ ys) rise = ap (λ (zs : List Filed). without_all zs (take n ys)) (without_first y ys rise) ∙ without_front n ys rise.1
 
-take_own : (k n : ℕ) (ys : List Filed) → AllByRecursion (λ (f : Filed). f.entry.series ≡ k) ys → AllByRecursion (λ (f : Filed). f.entry.series ≡ k) (take n ys)
+pub take_own : (k n : ℕ) (ys : List Filed) → AllByRecursion (λ (f : Filed). f.entry.series ≡ k) ys → AllByRecursion (λ (f : Filed). f.entry.series ≡ k) (take n ys)
 take_own k zero ys own = tt
 take_own k (suc n) [] own = tt
 take_own k (suc n) (y ∷ ys) own = (own.0, take_own k n ys own.1)

@@ -1,10 +1,10 @@
 -- The act by which a move goes on: how it ends, and what a crash within it leaves.
-use Rattle.std.proofs.Common.{◌≡◌, ◌≢◌, ◌⊎◌, inl, inr, ℕ, ◌≤◌, ◌+◌, List, [], ◌∷◌, Bool, true, false, cond, Option, Some, None, refl, sym, ◌∙◌, ap, subst, arith}
+use Rattle.std.proofs.Common.{◌≡◌, ◌≢◌, ◌⊎◌, inl, inr, ℕ, ◌≤◌, ◌+◌, ◌-◌, List, [], ◌∷◌, Bool, true, false, cond, Option, Some, None, refl, sym, ◌∙◌, ap, subst, arith}
 use Rattle.std.specs.FinMap.{FinMap, get, remove, get-remove}
 use Rattle.std.specs.Cmp.{nat_cmp_total}
 use Rattle.std.specs.Ordering.{nat_cmp}
 use Rattle.std.specs.Option.{is_some}
-use Rattle.std.specs.Prelude.{IsTrue, ◌==◌}
+use Rattle.std.specs.Prelude.{IsTrue, slice_get, ◌==◌}
 use Rattle.std.proofs.lemmas.Bool.Decides.{nat_tests}
 use Rattle.std.specs.List.{AllByRecursion}
 use Rattle.disk_model.specs.Files.{Rose}
@@ -17,7 +17,7 @@ use Rattle.running_moves.specs.declared.table.Running.{Running}
 use Rattle.tier_store.proofs.Acting.{rose_after}
 use Rattle.three_stores.specs.Pinned.{SeenAll, beside}
 use Rattle.three_stores.specs.Change.{Has}
-use Rattle.three_stores.specs.Seen.{Seen, granularities}
+use Rattle.three_stores.specs.Seen.{IsSettled, Seen, granularities}
 use Rattle.three_stores.specs.Stores.{Stores}
 use Rattle.three_stores.specs.declared.limbo.Retired.{Retired}
 use Rattle.act_model.specs.Changes.{Settles, made, IsRetired}
@@ -30,11 +30,13 @@ use Rattle.act_model.specs.Reply.{Reply}
 use Rattle.act_model.specs.Rows.{RowState}
 use Rattle.act_model.specs.Sound.{IsSound}
 use Rattle.act_model.specs.Sweep.{IsPinned}
+use Rattle.act_model.specs.declared.acts.Act.TheVariants.{MoveStep}
 use Rattle.act_model.specs.declared.acts.Answer.TheVariants as answer
 use Rattle.act_model.proofs.MoveActs.{move_step_sound}
 use Rattle.archive_core.specs.Ends.{LeavesByAct, LeavesWithin, SettlesTo, StandsStill, Steps}
 use Rattle.archive_core.specs.declared.memory.RowMemory.{RowMemory}
 use Rattle.archive_core.specs.Growing.{HasRunning}
+use Rattle.archive_core.specs.Leaving.{LeavesMove}
 use Rattle.archive_core.specs.MoveTies.{AreMovesOf, HasMoveOf}
 use Rattle.archive_core.specs.Parts.{Parts}
 use Rattle.archive_core.specs.Stands.{IsReady, Stands, Rests, InDoubt}
@@ -231,6 +233,28 @@ module _ (tells : Bool) (n : ℕ) (p : Parts) where
                 let was : m.faults ≡ p.at.faults = s.faults in
                 let now : next.faults ≡ new.at.faults = stands.faults in
                 (next, runs r (passed m s) settled free (step_goes n mid q.at.faults r next goes) (omega (arith, was, more, later, now)), stands)
+
+        -- what is told as damaged is so of the archive before a doubt was settled
+        pub tells_went : q.slots ≡ p.slots → (IsSettled p.at → q.at ≡ p.at) → (m : Machine) → Stands tells p m → LeavesMove p (MoveStep n) given new
+        tells_went same_slots quiet m s name place told =
+            let mid = settles m s in
+            let is = (on (record mid.0 { faults = q.at.faults }) mid.2).moves name place told in
+            record {
+              running = is.running;
+              ran = ap (λ (slots : List (Option (Running Moving))). table.at slots n) (sym same_slots) ∙ is.ran;
+              part = is.part;
+              of_move = is.of_move;
+              manifest = is.manifest;
+              here = is.here;
+              entry = is.entry;
+              listed = is.listed;
+              own_row = is.own_row;
+              own_part = is.own_part;
+              named = is.named;
+              within = is.within;
+              same_rows = λ settled. (let same = quiet settled in is.same_rows (subst IsSettled (sym same) settled) ∙ ap (λ (x : Seen). x.catalogue.rows) same);
+              same_list = λ settled before there. (let same = quiet settled in is.same_list (subst IsSettled (sym same) settled) before (ap (λ (x : Seen). slice_get x.manifests (is.running.store - 1)) same ∙ there));
+            }
 
         pub crash_went : (IsTrue tells → Passes (λ a b. b ≡ a) p.at.past q.at.past) → granularities q.at.manifests ≡ granularities p.at.manifests → LeavesByAct tells refuse change p new
         crash_went reads same_g = λ m told s.

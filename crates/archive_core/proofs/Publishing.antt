@@ -386,18 +386,21 @@ step_of tells n m move old new here copied result given is lists = subst (λ (x 
       any_moment = moments (Ok a) l;
       faults = l.faults;
       cause = λ is. absurd (cc (is));
+      moves = λ name place is. absurd (cc (is));
     }
     by_end (Err Fault) l = record {
       ends = is_doubted (listing move) change_is l.ends;
       any_moment = moments (Err Fault) l;
       faults = l.faults;
       cause = λ is. l.cause refl;
+      moves = λ name place is. absurd (cc (is));
     }
     by_end (Err Memory) l = record {
       ends = was_spent l.ends;
       any_moment = moments (Err Memory) l;
       faults = l.faults;
       cause = λ is. absurd (cc (is));
+      moves = λ name place is. absurd (cc (is));
     }
 
 -- THE FUNCTION

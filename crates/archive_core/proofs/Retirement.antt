@@ -87,6 +87,7 @@ module _ (tells : Bool) (q : Parts) (n : ℕ) (running : Running Moving) (slots 
     }));
     faults = omega arith;
     cause = λ same. absurd (cc (same));
+    moves = λ name place is. absurd (cc (is));
   }
 
 -- A MOVE WHOSE COPIES ARE LISTED
@@ -193,6 +194,7 @@ module _ (tells : Bool) (q : Parts) (n : ℕ) (running : Running Moving) (slots 
           any_moment = retire_passes tells p (then q.slots) m r seen_now n move moving.parts to_retire lengths are result s refl;
           faults = s.acts.costs.faults;
           cause = λ same. absurd (cc (same));
+          moves = λ name place is. absurd (cc (is));
         })
 
     pub on_again : (len copied : ℕ) → result ≡ Ok (ends.Again len copied) → Says q.slots → StepsOn tells n (with_slots slots q) m (then q.slots) (stepped_reply (Ok (step.Again len copied)))
@@ -206,6 +208,7 @@ module _ (tells : Bool) (q : Parts) (n : ℕ) (running : Running Moving) (slots 
           any_moment = retire_passes tells p (then q.slots) m r seen_now n move moving.parts to_retire lengths are result s refl;
           faults = s.acts.costs.faults;
           cause = λ same. absurd (cc (same));
+          moves = λ name place is. absurd (cc (is));
         }
 
     pub on_spent : (later : List (Option (Running Moving))) → ((k : ℕ) → at later k ≡ cond (k == n) (Some running) (at q.slots k)) → (e : DiskErr) → result ≡ Err e → e ≡ Memory → Says later → StepsOn tells n (with_slots slots q) m (then later) (stepped_reply (Err Memory))
@@ -217,6 +220,7 @@ module _ (tells : Bool) (q : Parts) (n : ℕ) (running : Running Moving) (slots 
           any_moment = retire_passes tells p (then later) m r seen_now n move moving.parts to_retire lengths are result s refl;
           faults = s.acts.costs.faults;
           cause = λ same. absurd (cc (same));
+          moves = λ name place is. absurd (cc (is));
         }
 
     pub on_failed : (e : DiskErr) → result ≡ Err e → e ≡ Fault → Says q.slots → StepsOn tells n (with_slots slots q) m (then q.slots) (stepped_reply (Err Fault))
@@ -234,4 +238,5 @@ module _ (tells : Bool) (q : Parts) (n : ℕ) (running : Running Moving) (slots 
           any_moment = retire_passes tells p (then q.slots) m r seen_now n move moving.parts to_retire lengths are result s refl;
           faults = s.acts.costs.faults;
           cause = λ same. s.acts.costs.cause (subst (λ (x : Result RetireEnd DiskErr). IsFailed (end_of_disk x)) (sym failed) tt);
+          moves = λ name place is. absurd (cc (is));
         }

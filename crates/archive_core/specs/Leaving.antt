@@ -1,14 +1,18 @@
--- What an act leaves: what a crash at any moment within it may leave, what becomes of the files on the disk, and which files the pieces of pins
--- are. It is said of every archive, also of one whose listed files somebody else has damaged.
+-- What an act leaves: what a crash at any moment within it may leave, what becomes of the files on the disk, which files the pieces of pins
+-- are, and which file a step of a move tells as damaged. It is said of every archive, also of one whose listed files somebody else has damaged.
 use Rattle.std.specs.FinMap.{get}
-use Rattle.std.specs.Prelude.{◌≡◌, ℕ, ◌+◌, Bool, List, All, Contains, length, take, IsTrue, Some, slice_get}
+use Rattle.std.specs.Prelude.{◌≡◌, ◌≤◌, ℕ, ◌+◌, ◌-◌, Bool, List, All, Contains, length, take, IsTrue, Some, slice_get}
 use Rattle.disk_model.specs.Files.{Name, HasFile}
 use Rattle.disk_model.specs.Past.{Passes}
+use Rattle.etl_mover.specs.Move.{MoveState as Moving}
 use Rattle.pinned_pieces.specs.Pieces.{PinOf}
 use Rattle.pinned_pieces.specs.declared.piece.PinnedFile.{PinnedFile}
 use Rattle.pv_catalog.specs.Rows.{HasName}
+use Rattle.running_moves.specs.Table.{at as move_at}
+use Rattle.running_moves.specs.declared.table.Running.{Running}
 use Rattle.store_manifest.specs.Manifest.{ManifestState}
 use Rattle.store_manifest.specs.declared.entry.Entry.{Entry as FileEntry}
+use Rattle.tier_store.specs.Held.{file_of}
 use Rattle.three_stores.specs.Pinned.{SeenAll, beside, IsThereTo, LeavesFronts}
 use Rattle.three_stores.specs.Pinning.{piece_of}
 use Rattle.three_stores.specs.Seen.{Seen, IsSettled}
@@ -17,7 +21,7 @@ use Rattle.act_model.specs.Reply.{Reply, Opened}
 use Rattle.act_model.specs.Step.{refuse_by, change_by}
 use Rattle.act_model.specs.declared.acts.Act.{Act}
 use Rattle.act_model.specs.declared.acts.Act.TheVariants.{Register, Pause, Resume, Flush, MoveStep, Sweep, Pin, OpenPiece}
-use Rattle.act_model.specs.declared.acts.Answer.TheVariants.{Pinned, Piece}
+use Rattle.act_model.specs.declared.acts.Answer.TheVariants.{Damaged, Pinned, Piece}
 use Rattle.archive_core.specs.Ends.{LeavesByAct}
 use Rattle.archive_core.specs.Parts.{Parts}
 
@@ -81,9 +85,36 @@ LeavesPins tells p (OpenPiece pin i) (Piece reader name head_len len) q = (q.pin
 LeavesPins tells p (OpenPiece pin i) _ q = q.pinned ≡ p.pinned
 LeavesPins tells p _ _ q = Unit {0}
 
+-- THE FILE THAT A STEP OF A MOVE TELLS AS DAMAGED
+
+-- A step of the move of this number tells a file as damaged at a place. It is the file of a part of that move: the manifest of the store that the
+-- move takes its parts from lists it as a file of the move's row and of the part's partition, and the place is not beyond the length that is
+-- listed of it. Where nothing stood in doubt before the act, the rows and that list are what they were.
+pub record TellsDamage (p : Parts) (number : ℕ) (name : Name) (place : ℕ) (q : Parts) : Type 0 where
+  pub running : Running Moving
+  pub ran : move_at p.slots number ≡ Some running
+  pub part : FileEntry
+  pub of_move : Contains running.moving.parts part
+  pub manifest : ManifestState
+  pub here : slice_get q.at.manifests (running.store - 1) ≡ Some manifest
+  pub entry : FileEntry
+  pub listed : Contains manifest.entries entry
+  pub own_row : entry.series ≡ running.series
+  pub own_part : entry.part ≡ part.part
+  pub named : name ≡ file_of (running.store, q.at.catalogue.rows) entry
+  pub within : place ≤ entry.len
+  pub same_rows : IsSettled p.at → q.at.catalogue.rows ≡ p.at.catalogue.rows
+  pub same_list : IsSettled p.at → (before : ManifestState) → slice_get p.at.manifests (running.store - 1) ≡ Some before → manifest.entries ≡ before.entries
+
+-- what is known of the file that a step of a move tells as damaged
+abbrev pub LeavesMove : Parts → Act → Reply → Parts → Type 0
+LeavesMove p (MoveStep m) answer q = (name : Name) (place : ℕ) → answer ≡ Damaged name place → TellsDamage p m name place q
+LeavesMove p _ answer q = Unit {0}
+
 -- THE ACT
 
 pub record Leaves (tells : Bool) (p : Parts) (e : Entry) (q : Parts) : Type 0 where
   pub crash : LeavesByAct tells (refuse_by e.act) (change_by e.act) p q
   pub files : LeavesFiles tells e.act p q
   pub pins : LeavesPins tells p e.act e.answer q
+  pub moves : LeavesMove p e.act e.answer q

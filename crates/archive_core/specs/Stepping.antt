@@ -14,9 +14,11 @@ use Rattle.act_model.specs.Changes.{made}
 use Rattle.act_model.specs.Machine.{Machine, Change}
 use Rattle.act_model.specs.MoveStep.{GoesOn, change_of, without_move}
 use Rattle.act_model.specs.Reply.{Reply}
+use Rattle.act_model.specs.declared.acts.Act.TheVariants.{MoveStep}
 use Rattle.act_model.specs.declared.acts.Answer.TheVariants as answer
 use Rattle.act_model.specs.declared.answers.MoveStepped.{MoveStepped}
 use Rattle.archive_core.specs.Ends.{HoldsMachine, disk_reply}
+use Rattle.archive_core.specs.Leaving.{LeavesMove}
 use Rattle.archive_core.specs.Parts.{Parts}
 use Rattle.archive_core.specs.Stands.{Stands, Rests}
 
@@ -46,12 +48,14 @@ pub data StepEnds (tells : Bool) (n : ℕ) (m : Machine) (new : Parts) : Reply �
 abbrev pub HoldsStep : List Granularity → ℕ → Machine → Files → Type 0
 HoldsStep gs n m image = HoldsMachine gs image m ⊎ ((change : Change) × (change_of m (get m.moves n) ≡ Some change) × HoldsMachine gs image (made [] change m))
 
--- So it ends, and so a crash at any moment of it. A fault comes only where the disk's count rose.
+-- So it ends, and so a crash at any moment of it. A fault comes only where the disk's count rose, and what is told as damaged is the file of a
+-- part of the move.
 pub record StepsOn (tells : Bool) (n : ℕ) (old : Parts) (m : Machine) (new : Parts) (reply : Reply) : Type 0 where
   pub ends : StepEnds tells n m new reply
   pub any_moment : IsTrue tells → Passes (λ a image. HoldsStep (granularities old.at.manifests) n m image) old.at.past new.at.past
   pub faults : old.at.faults ≤ new.at.faults
   pub cause : reply ≡ answer.DiskFault → Rose old.at.faults new.at.faults
+  pub moves : LeavesMove old (MoveStep n) reply new
 
 -- so it does from whatever the archive stood for before the move was taken out
 abbrev pub GoesOnWith : Bool → ℕ → Running MoveState → Parts → Parts → Result MoveStepped DiskErr → Type 0

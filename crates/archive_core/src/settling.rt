@@ -64,6 +64,7 @@ impl<D: Disk> Archive<D> {
         ensures reads { OnlyReads D.tells (seen D.Disk self.old.store) (seen D.Disk self.new.store) (end_of_disk result) }
         ensures fronts { LeavesFronts D.tells (files_of (parts D.Disk self.old)) (files_of (parts D.Disk self.new)) }
         ensures quiet { IsSettled (seen D.Disk self.old.store) → self.new.store ≡ self.old.store }
+        ensures moves { self.new.moves ≡ self.old.moves }
     {
         self.store.review()?;
         clear_set(self.store.catalogue().rows(), &mut self.rows, &self.doubt);

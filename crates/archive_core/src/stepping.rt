@@ -8,6 +8,7 @@ ghost use Rattle.act_model.specs.declared.acts.Act.TheVariants.{MoveStep as Move
 ghost use Rattle.etl_mover.specs.Move.{IsCopied};
 ghost use Rattle.etl_mover.specs.declared.moving.Stage.TheVariants.{Copying as IsCopying, Published as IsPublished};
 ghost use Rattle.archive_core.specs.Ends.{Steps, LeavesByAct};
+ghost use Rattle.archive_core.specs.Leaving.{LeavesMove};
 ghost use Rattle.archive_core.specs.Parts.{parts};
 ghost use Rattle.archive_core.specs.Retiring.{lengths_of};
 ghost use Rattle.archive_core.specs.Stands.{Stands};
@@ -139,6 +140,7 @@ impl<D: Disk> Archive<D> {
         requires stands { (m : Machine) × Stands D.tells (parts D.Disk self.old) m }
         ensures step { Steps D.tells (MoveStepStep number) (parts D.Disk self.old) (stepped_reply result) (parts D.Disk self.new) }
         ensures crash { LeavesByAct D.tells (refuse_by (MoveStepAct number)) (change_by (MoveStepAct number)) (parts D.Disk self.old) (parts D.Disk self.new) }
+        ensures moves { LeavesMove (parts D.Disk self.old) (MoveStepAct number) (stepped_reply result) (parts D.Disk self.new) }
     {
         if !self.moves.runs(number) {
             return Ok(MoveStepped::NoMove);
@@ -160,7 +162,8 @@ impl<D: Disk> Archive<D> {
     /// Goes on with the move of this number by one step. A move copies what the next store lacks of its parts, at most 1,048,576 bytes of
     /// lines a step or one longer line, then it is listed what was copied, and then the parts leave their store. What is accepted and what
     /// is durable stay as they are. The step tells what it came to; where a part has grown since it was copied, nothing is retired, and
-    /// the move has ended, as it has once its parts are retired.
+    /// the move has ended, as it has once its parts are retired. A file that is told as damaged is that of a part of the move, at a place
+    /// within the length that is listed of it; the move has ended then too.
     ///
     /// A change that stands in doubt is settled first. `DiskFault` comes only where the disk's count of faults rose in the call; the move
     /// has ended then. `Memory` leaves it as it was.
@@ -168,6 +171,7 @@ impl<D: Disk> Archive<D> {
         requires stands { (m : Machine) × Stands D.tells (parts D.Disk self.old) m }
         ensures step { Steps D.tells (MoveStepStep number) (parts D.Disk self.old) (move_stepped_reply result) (parts D.Disk self.new) }
         ensures crash { LeavesByAct D.tells (refuse_by (MoveStepAct number)) (change_by (MoveStepAct number)) (parts D.Disk self.old) (parts D.Disk self.new) }
+        ensures moves { LeavesMove (parts D.Disk self.old) (MoveStepAct number) (move_stepped_reply result) (parts D.Disk self.new) }
     {
         match self.step_move(number) {
             Ok(stepped) => stepped,

@@ -12,3 +12,9 @@ returns-in-Err-Fault-clause-step g c = subst (λ (r : Result MoveStepped DiskErr
 
 pub returns-in-Err-Memory-clause-step : goal.returns-in-Err-Memory-clause-step
 returns-in-Err-Memory-clause-step g c = subst (λ (r : Result MoveStepped DiskErr). Steps g.D.Disk.tells (MoveStepStep c.args.number) (parts g.D.Disk c.args.self.now) (stepped_reply r) (parts g.D.Disk c.step_move.new.self)) (c.in-Err-Memory.is ∙ ap (λ (e : DiskErr). Err e) c.in-Err-Memory.field-0-is) c.step_move.ensures.step
+
+pub returns-in-Err-Fault-clause-moves : goal.returns-in-Err-Fault-clause-moves
+returns-in-Err-Fault-clause-moves g c = λ name place told. absurd (cc (told))
+
+pub returns-in-Err-Memory-clause-moves : goal.returns-in-Err-Memory-clause-moves
+returns-in-Err-Memory-clause-moves g c = λ name place told. absurd (cc (told))
