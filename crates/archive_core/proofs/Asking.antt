@@ -9,7 +9,7 @@ use Rattle.tier_store.specs.Ends.{Done, end_of_disk, IsFailed}
 use Rattle.three_stores.specs.Change.{OnlyReads}
 use Rattle.three_stores.specs.Opening.{answer_of, end_of_answer}
 use Rattle.act_model.specs.Details.{details_refused}
-use Rattle.act_model.specs.Machine.{Machine, Change}
+use Rattle.act_model.specs.Machine.{Machine, Change, find_row}
 use Rattle.act_model.specs.Outcome.{Acts, all_go}
 use Rattle.act_model.specs.Reply.{Reply, reply_of}
 use Rattle.act_model.specs.declared.acts.Answer.{Answer}
@@ -18,6 +18,7 @@ use Rattle.archive_core.specs.Ends.{AskEnds, Steps, SettlesTo, StandsStill, Leav
 use Rattle.archive_core.specs.Parts.{Parts}
 use Rattle.archive_core.specs.Stands.{Stands, Rests}
 use Rattle.archive_core.specs.Switching.{IsFound}
+use Rattle.archive_core.specs.Wanting.{NoneRefuses, WithWants}
 use Rattle.archive_core.proofs.Acting.{refused_first, cut_ends, refused_then, asked_ends, spent_ends, crash_none, crash_settling}
 use Rattle.archive_core.proofs.Switched.{found_row}
 
@@ -87,6 +88,14 @@ module _ (tells : Bool) (name : List ℕ) (p : Parts) where
   known : (q : Parts) (i : ℕ) → IsFound q.at.catalogue.rows name (Some i) → (m : Machine) → Stands tells q m → refuse m ≡ None
   known q i found = λ m s. let some = found_row tells q m name (Some i) s found in rw some refl
 
+  -- that is no want of memory
+  never_wants : (m : Machine) → refuse m ≡ Some answer.Memory → ⊥
+  never_wants m is = by_found (find_row m name) refl
+    where
+      by_found : (o : Option ℕ) → find_row m name ≡ o → ⊥
+      by_found None found = let told : refuse m ≡ Some answer.NoSuchVariable = rw found refl in let both = sym told ∙ is in cc (both)
+      by_found (Some i) found = let told : refuse m ≡ None = rw found refl in let both = sym told ∙ is in cc (both)
+
   pub crash_asked : LeavesByAct tells refuse change p p
   crash_asked = crash_none tells refuse change (λ m f. refl) (λ m f. refl) p
 
@@ -96,12 +105,13 @@ module _ (tells : Bool) (name : List ℕ) (p : Parts) where
   pub crash_read_on : (q new : Parts) → (IsTrue tells → Passes (λ a b. b ≡ a) p.at.past q.at.past) → (IsTrue tells → Passes (λ a b. b ≡ a) q.at.past new.at.past) → LeavesByAct tells refuse change p new
   crash_read_on q new reads on = crash_read new (λ told. passes_then (λ a b. b ≡ a) (λ a b. b ≡ a) p.at.past q.at.past new.at.past (reads told) (on told) (λ a b image was within left holds. holds ∙ within))
 
-  module _ (run : Machine → Reply → Machine → Type 0) (goes : (m : Machine) (f : ℕ) (given : Reply) (new : Machine) → run (record m { faults = f }) given new → run m given new) where
+  module _ (run : Machine → Reply → Machine → Type 0) (goes : (m : Machine) (f : ℕ) (given : Reply) (new : Machine) → run (record m { faults = f }) given new → run m given new)
+      (tells_more : (m : Machine) (given : Reply) (new : Machine) → run m given new → given ≡ answer.Memory → ⊥) where
     abbrev pub AskSteps : Reply → Parts → Type 0
-    AskSteps given q = Steps tells (Acts refuse run change all_go) p given q
+    AskSteps given q = Steps tells (WithWants (NoneRefuses refuse) (Acts refuse run change all_go)) p given q
 
     pub ask_refused : IsFound p.at.catalogue.rows name None → AskSteps answer.NoSuchVariable p
-    ask_refused found = refused_first tells refuse run change (λ m f. refl) (λ m f. refl) goes p answer.NoSuchVariable (unknown p found)
+    ask_refused found = refused_first tells refuse run change (λ m f. refl) (λ m f. refl) goes never_wants tells_more p answer.NoSuchVariable (unknown p found)
 
     -- what is told of a call whose result is known
     pub ask_told : (new : Parts) (R : Type 0) (reader_tells : Bool) (bytes : R → List ℕ) (faults : R → ℕ) (r : Result (Answer R) DiskErr) (e : DiskErr) → r ≡ Err e → AskSteps (disk_reply e) new → AskSteps (reply_of reader_tells bytes faults (answer_of r)) new
@@ -110,15 +120,15 @@ module _ (tells : Bool) (name : List ℕ) (p : Parts) where
 
     module _ (i : ℕ) (found : IsFound p.at.catalogue.rows name (Some i)) where
       pub ask_cut : (q : Parts) (r : Result (Unit {0}) DiskErr) (e : DiskErr) → r ≡ Err e → StandsStill tells p q → OnlyReads tells p.at q.at (end_of_disk r) → AskSteps (disk_reply e) q
-      ask_cut q r e is still reads = cut_ends tells refuse run change (λ m f. refl) (λ m f. refl) goes p q e (known p i found) still reads.faults
+      ask_cut q r e is still reads = cut_ends tells refuse run change (λ m f. refl) (λ m f. refl) goes never_wants tells_more p q e (known p i found) still reads.faults
           (λ fault. reads.cause (subst (λ (x : Result (Unit {0}) DiskErr). IsFailed (end_of_disk x)) (sym (is ∙ ap (λ (d : DiskErr). Err d) fault)) tt))
 
       module _ (q : Parts) (settles : SettlesTo tells p q) (more : p.at.faults ≤ q.at.faults) where
         pub ask_refused_then : IsFound q.at.catalogue.rows name None → AskSteps answer.NoSuchVariable q
-        ask_refused_then none = refused_then tells refuse run change (λ m f. refl) (λ m f. refl) goes p q (known p i found) settles more answer.NoSuchVariable (unknown q none)
+        ask_refused_then none = refused_then tells refuse run change (λ m f. refl) (λ m f. refl) goes never_wants tells_more p q (known p i found) settles more answer.NoSuchVariable (unknown q none)
 
-        pub ask_spent : AskSteps answer.Memory q
-        ask_spent = spent_ends tells refuse run change (λ m f. refl) (λ m f. refl) goes p q (known p i found) settles more (λ m r. r.stands)
+        pub ask_spent : (k : ℕ) → IsFound q.at.catalogue.rows name (Some k) → AskSteps answer.Memory q
+        ask_spent k then = spent_ends tells refuse run change (λ m f. refl) (λ m f. refl) goes never_wants tells_more p q (known p i found) settles more (known q k then) (λ m r. r.stands)
 
         pub ask_ends : (k : ℕ) → IsFound q.at.catalogue.rows name (Some k) → (new : Parts) (given : Reply) → p.at.faults ≤ new.at.faults → ((m : Machine) → Rests tells q m → AskEnds tells run q m new given) → AskSteps given new
-        ask_ends k then new given later ends = asked_ends tells refuse run change (λ m f. refl) (λ m f. refl) goes p q (known p i found) settles more (known q k then) new given later ends
+        ask_ends k then new given later ends = asked_ends tells refuse run change (λ m f. refl) (λ m f. refl) goes never_wants tells_more p q (known p i found) settles more (known q k then) new given later ends

@@ -164,3 +164,7 @@ module _ (R : Type 0) (tells reader_tells : Bool) (bytes : R → List ℕ) (faul
 -- the count of faults is nothing to what is told
 pub describes_goes : (name : List ℕ) (m : Machine) (f : ℕ) (given : Reply) (new : Machine) → Describes name (record m { faults = f }) given new → Describes name m given new
 describes_goes name m f given new is = record { i = is.i; row = is.row; details = is.details; found = is.found; here = is.here; known = is.known; told = is.told; answered = is.answered; same = is.same }
+
+-- it isn't told as want of memory
+pub describes_tells : (name : List ℕ) (m : Machine) (given : Reply) (new : Machine) → Describes name m given new → given ≡ answer.Memory → ⊥
+describes_tells name m given new is told = let both = sym is.answered ∙ told in cc (both)

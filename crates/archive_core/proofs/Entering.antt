@@ -1,6 +1,6 @@
 -- The act that adds a row: how it ends, and what a crash within it leaves.
-use Rattle.std.proofs.Common.{◌≡◌, ℕ, ◌≤◌, Bool, List, Option, Some, None, Result, Ok, Err, refl, sym, ◌∙◌, ap, subst, length}
-use Rattle.std.specs.Prelude.{IsTrue}
+use Rattle.std.proofs.Common.{◌≡◌, ℕ, ◌≤◌, Bool, true, false, List, Option, Some, None, Result, Ok, Err, refl, sym, ◌∙◌, ap, subst, length}
+use Rattle.std.specs.Prelude.{IsTrue, nat_le}
 use Rattle.disk_model.specs.Past.{Passes}
 use Rattle.disk_model.specs.declared.disk.DiskErr.{DiskErr}
 use Rattle.event_types.specs.declared.about.About.{About}
@@ -10,13 +10,14 @@ use Rattle.pv_catalog.specs.declared.error.RegisterErr.TheVariants.{Disk}
 use Rattle.tier_store.specs.Ends.{end_of_disk, IsFailed}
 use Rattle.three_stores.specs.Change.{OnlyReads}
 use Rattle.three_stores.specs.Seen.{granularities}
-use Rattle.act_model.specs.declared.acts.Answer.TheVariants.{Registered}
+use Rattle.act_model.specs.declared.acts.Answer.TheVariants.{CatalogueFull, KeyTaken, Memory, NameTaken, Registered}
 use Rattle.act_model.specs.Machine.{Machine, Change, AddsRow, find_row, with_key}
 use Rattle.act_model.specs.Register.{RegisterStep, Registers, register_refused}
 use Rattle.act_model.specs.Reply.{Reply}
 use Rattle.archive_core.specs.Ends.{Steps, SettlesTo, StandsStill, ChangesTo, LeavesByAct, register_reply}
 use Rattle.archive_core.specs.Parts.{Parts}
 use Rattle.archive_core.specs.Stands.{Stands, Rests}
+use Rattle.archive_core.specs.Wanting.{NoneRefuses, WithWants}
 use Rattle.archive_core.proofs.Acting.{refused_first, cut_ends, refused_then, done_ends, failed_ends, crash_none, crash_settling, crash_changing}
 use Rattle.archive_core.proofs.Registered.{refused_as, free_as}
 
@@ -32,6 +33,26 @@ counted name m f = by_found (find_row m name) refl
     by_found None is = by_key is (with_key m name) refl
     by_found (Some i) is = rw is refl
 
+-- no refusal is want of memory
+never_wants : (name : List ℕ) (m : Machine) → register_refused name m ≡ Some Memory → ⊥
+never_wants name m is = by_found (find_row m name) refl
+  where
+    by_room : (b : Bool) → nat_le 65536 (length m.rows) ≡ b → find_row m name ≡ None → with_key m name ≡ None → ⊥
+    by_room true full none free = let told : register_refused name m ≡ Some CatalogueFull = rw (none, free, full) refl in let both = sym told ∙ is in cc (both)
+    by_room false full none free = let told : register_refused name m ≡ None = rw (none, free, full) refl in let both = sym told ∙ is in cc (both)
+
+    by_key : (o : Option ℕ) → with_key m name ≡ o → find_row m name ≡ None → ⊥
+    by_key None key none = by_room (nat_le 65536 (length m.rows)) refl none key
+    by_key (Some i) key none = let told : register_refused name m ≡ Some (KeyTaken i) = rw (none, key) refl in let both = sym told ∙ is in cc (both)
+
+    by_found : (o : Option ℕ) → find_row m name ≡ o → ⊥
+    by_found None found = by_key (with_key m name) refl found
+    by_found (Some i) found = let told : register_refused name m ≡ Some (NameTaken i) = rw found refl in let both = sym told ∙ is in cc (both)
+
+-- nor is the answer that a row was added
+registers_tells : (name : List ℕ) (about : About) (m : Machine) (given : Reply) (new : Machine) → Registers name about m given new → given ≡ Memory → ⊥
+registers_tells name about m given new ran told = let both = sym ran.0 ∙ told in cc (both)
+
 module _ (tells : Bool) (name : List ℕ) (about : About) (p : Parts) where
   abbrev refuse : Machine → Option Reply
   refuse = register_refused name
@@ -43,7 +64,7 @@ module _ (tells : Bool) (name : List ℕ) (about : About) (p : Parts) where
   change = λ m. Some (AddsRow name about)
 
   abbrev pub RegisterEnds : Reply → Parts → Type 0
-  RegisterEnds answer q = Steps tells (RegisterStep name about) p answer q
+  RegisterEnds answer q = Steps tells (WithWants (NoneRefuses refuse) (RegisterStep name about)) p answer q
 
   -- nothing refuses the name
   abbrev pub IsFree : Parts → Type 0
@@ -56,23 +77,23 @@ module _ (tells : Bool) (name : List ℕ) (about : About) (p : Parts) where
   owned q = λ m s. refl
 
   pub register_refused_first : (e : RegisterErr) → Refuses p.at.catalogue.rows name e → RegisterEnds (register_reply (Err e)) p
-  register_refused_first e is = refused_first tells refuse run change (counted name) (λ m f. refl) (λ m f answer new ran. ran) p (register_reply (Err e)) (λ m s. refused_as tells p m s name e is)
+  register_refused_first e is = refused_first tells refuse run change (counted name) (λ m f. refl) (λ m f answer new ran. ran) (never_wants name) (registers_tells name about) p (register_reply (Err e)) (λ m s. refused_as tells p m s name e is)
 
   pub register_cut : (q : Parts) (r : Result (Unit {0}) DiskErr) (e : DiskErr) → IsFree p → r ≡ Err e → StandsStill tells p q → OnlyReads tells p.at q.at (end_of_disk r) → RegisterEnds (register_reply (Err (Disk e))) q
-  register_cut q r e free is still reads = cut_ends tells refuse run change (counted name) (λ m f. refl) (λ m f answer new ran. ran) p q e (passed p free) still reads.faults
+  register_cut q r e free is still reads = cut_ends tells refuse run change (counted name) (λ m f. refl) (λ m f answer new ran. ran) (never_wants name) (registers_tells name about) p q e (passed p free) still reads.faults
       (λ fault. reads.cause (subst (λ (x : Result (Unit {0}) DiskErr). IsFailed (end_of_disk x)) (sym (is ∙ ap (λ (d : DiskErr). Err d) fault)) tt))
 
   module _ (q : Parts) (free : IsFree p) (settles : SettlesTo tells p q) (more : p.at.faults ≤ q.at.faults) where
     pub register_refused_then : (e : RegisterErr) → Refuses q.at.catalogue.rows name e → RegisterEnds (register_reply (Err e)) q
-    register_refused_then e is = refused_then tells refuse run change (counted name) (λ m f. refl) (λ m f answer new ran. ran) p q (passed p free) settles more (register_reply (Err e)) (λ m s. refused_as tells q m s name e is)
+    register_refused_then e is = refused_then tells refuse run change (counted name) (λ m f. refl) (λ m f answer new ran. ran) (never_wants name) (registers_tells name about) p q (passed p free) settles more (register_reply (Err e)) (λ m s. refused_as tells q m s name e is)
 
     module _ (free_then : IsFree q) (new : Parts) where
       pub register_done : (row : ℕ) → row ≡ length q.at.catalogue.rows → ((m : Machine) → Rests tells q m → ChangesTo tells (AddsRow name about) q m new (Ok row)) → RegisterEnds (register_reply (Ok row)) new
-      register_done row number ends = done_ends tells refuse run change (counted name) (λ m f. refl) (λ m f answer new ran. ran) p q (passed p free) settles more (passed q free_then) new (AddsRow name about) row (register_reply (Ok row)) ends
+      register_done row number ends = done_ends tells refuse run change (counted name) (λ m f. refl) (λ m f answer new ran. ran) (never_wants name) (registers_tells name about) p q (passed p free) settles more (passed q free_then) new (AddsRow name about) row (register_reply (Ok row)) ends
           (λ m r. (ap (λ (n : ℕ). Registered n) (number ∙ sym r.stands.rows.count), refl))
 
       pub register_failed : (e : DiskErr) → ((m : Machine) → Rests tells q m → ChangesTo {A = ℕ} tells (AddsRow name about) q m new (Err e)) → RegisterEnds (register_reply (Err (Disk e))) new
-      register_failed e ends = failed_ends tells refuse run change (counted name) (λ m f. refl) (λ m f answer new ran. ran) p q (passed p free) settles more (passed q free_then) new (AddsRow name about) (owned q) e ends
+      register_failed e ends = failed_ends tells refuse run change (counted name) (λ m f. refl) (λ m f answer new ran. ran) (never_wants name) (registers_tells name about) p q (passed p free) settles more (passed q free_then) new (AddsRow name about) (owned q) e ends
 
       pub crash_register : (r : Result ℕ DiskErr) → (IsTrue tells → Passes (λ a b. b ≡ a) p.at.past q.at.past) → granularities q.at.manifests ≡ granularities p.at.manifests → ((m : Machine) → Rests tells q m → ChangesTo tells (AddsRow name about) q m new r) → LeavesByAct tells refuse change p new
       crash_register r reads same_g ends = crash_changing tells refuse change (counted name) (λ m f. refl) p q new (AddsRow name about) r reads same_g settles (passed q free_then) (owned q) ends

@@ -12,12 +12,13 @@ use Rattle.act_model.specs.Changes.{made}
 use Rattle.act_model.specs.Flush.{FlushStep, Flushes, batch_of, count_in}
 use Rattle.act_model.specs.Machine.{Machine, Change, Appends, held_bytes}
 use Rattle.act_model.specs.Reply.{Reply}
-use Rattle.act_model.specs.declared.acts.Answer.TheVariants.{Flushed}
+use Rattle.act_model.specs.declared.acts.Answer.TheVariants.{Flushed, Memory}
 use Rattle.archive_core.specs.Ends.{Steps, SettlesTo, StandsStill, ChangesTo, LeavesByAct, disk_reply}
 use Rattle.archive_core.specs.Flushing.{flush_reply}
 use Rattle.archive_core.specs.Parts.{Parts}
 use Rattle.archive_core.specs.Stands.{Stands, Rests}
-use Rattle.archive_core.proofs.Acting.{cut_ends, done_ends, failed_ends, crash_settling, crash_changing}
+use Rattle.archive_core.specs.Wanting.{NoneRefuses, WithWants}
+use Rattle.archive_core.proofs.Acting.{cut_ends, done_ends, failed_ends, step_alone, crash_settling, crash_changing}
 use Rattle.archive_core.proofs.KeptRows.{batch_is, held_is}
 
 module _ (tells : Bool) (limit : ℕ) (some : 1 ≤ limit) (p : Parts) where
@@ -36,6 +37,14 @@ module _ (tells : Bool) (limit : ℕ) (some : 1 ≤ limit) (p : Parts) where
   passed : (q : Parts) → (m : Machine) → Stands tells q m → refuse m ≡ None
   passed q = λ m s. refl
 
+  -- what was flushed is told as no want of memory
+  flushes_tells : (m : Machine) (given : Reply) (after : Machine) → Flushes limit m given after → given ≡ Memory → ⊥
+  flushes_tells m given after ran told = let both = sym ran.0.2 ∙ told in cc (both)
+
+  -- nothing refuses a flush, so of want of memory the step says all
+  alone : (q : Parts) (given : Reply) → Steps tells (WithWants (NoneRefuses refuse) (FlushStep limit)) p given q → FlushEnds given q
+  alone q given steps = step_alone tells (NoneRefuses refuse) (FlushStep limit) p q given steps
+
   -- what is flushed is what the intake has for it
   same_batch : (q : Parts) (m : Machine) → Stands tells q m → tails.batch_of limit q.tails ≡ batch_of limit m
   same_batch q m s = batch_is limit q.at.catalogue.rows q.kept q.tails m some s.rows
@@ -44,12 +53,12 @@ module _ (tells : Bool) (limit : ℕ) (some : 1 ≤ limit) (p : Parts) where
   owned q = λ m s. ap (λ (b : List RowSamples). Some (Appends b)) (sym (same_batch q m s))
 
   pub flush_cut : (q : Parts) (r : Result (Unit {0}) DiskErr) (e : DiskErr) → r ≡ Err e → StandsStill tells p q → OnlyReads tells p.at q.at (end_of_disk r) → FlushEnds (disk_reply e) q
-  flush_cut q r e is still reads = cut_ends tells refuse run change (λ m f. refl) (λ m f. refl) (λ m f answer new ran. ran) p q e (passed p) still reads.faults
-      (λ fault. reads.cause (subst (λ (x : Result (Unit {0}) DiskErr). IsFailed (end_of_disk x)) (sym (is ∙ ap (λ (d : DiskErr). Err d) fault)) tt))
+  flush_cut q r e is still reads = alone q (disk_reply e) (cut_ends tells refuse run change (λ m f. refl) (λ m f. refl) (λ m f answer new ran. ran) (λ m none. cc (none)) flushes_tells p q e (passed p) still reads.faults
+      (λ fault. reads.cause (subst (λ (x : Result (Unit {0}) DiskErr). IsFailed (end_of_disk x)) (sym (is ∙ ap (λ (d : DiskErr). Err d) fault)) tt)))
 
   module _ (q : Parts) (settles : SettlesTo tells p q) (more : p.at.faults ≤ q.at.faults) (new : Parts) where
     pub flush_makes : (samples : ℕ) → ((m : Machine) → Rests tells q m → ChangesTo tells (Appends (tails.batch_of limit q.tails)) q m new (Ok samples)) → ((m : Machine) → Rests tells q m → m.told ≡ true → samples ≡ count_in (tails.batch_of limit q.tails)) → FlushEnds (flush_reply new (Ok samples)) new
-    flush_makes samples ends counts = done_ends tells refuse run change (λ m f. refl) (λ m f. refl) (λ m f answer after ran. ran) p q (passed p) settles more (passed q) new (Appends (tails.batch_of limit q.tails)) samples (flush_reply new (Ok samples)) ends ran
+    flush_makes samples ends counts = alone new (flush_reply new (Ok samples)) (done_ends tells refuse run change (λ m f. refl) (λ m f. refl) (λ m f answer after ran. ran) (λ m none. cc (none)) flushes_tells p q (passed p) settles more (passed q) new (Appends (tails.batch_of limit q.tails)) samples (flush_reply new (Ok samples)) ends ran)
       where
         ran : (m : Machine) → Rests tells q m → Flushes limit m (flush_reply new (Ok samples)) (record (made [] (Appends (tails.batch_of limit q.tails)) m) { faults = new.at.faults })
         ran m r =
@@ -62,7 +71,7 @@ module _ (tells : Bool) (limit : ℕ) (some : 1 ≤ limit) (p : Parts) where
             )
 
     pub flush_fails : (e : DiskErr) → ((m : Machine) → Rests tells q m → ChangesTo {A = ℕ} tells (Appends (tails.batch_of limit q.tails)) q m new (Err e)) → FlushEnds (disk_reply e) new
-    flush_fails e ends = failed_ends tells refuse run change (λ m f. refl) (λ m f. refl) (λ m f answer after ran. ran) p q (passed p) settles more (passed q) new (Appends (tails.batch_of limit q.tails)) (owned q) e ends
+    flush_fails e ends = alone new (disk_reply e) (failed_ends tells refuse run change (λ m f. refl) (λ m f. refl) (λ m f answer after ran. ran) (λ m none. cc (none)) flushes_tells p q (passed p) settles more (passed q) new (Appends (tails.batch_of limit q.tails)) (owned q) e ends)
 
     pub crash_flush : (r : Result ℕ DiskErr) → (IsTrue tells → Passes (λ a b. b ≡ a) p.at.past q.at.past) → granularities q.at.manifests ≡ granularities p.at.manifests → ((m : Machine) → Rests tells q m → ChangesTo tells (Appends (tails.batch_of limit q.tails)) q m new r) → LeavesByAct tells refuse change p new
     crash_flush r reads same_g ends = crash_changing tells refuse change (λ m f. refl) (λ m f. refl) p q new (Appends (tails.batch_of limit q.tails)) r reads same_g settles (passed q) (owned q) ends

@@ -51,6 +51,12 @@ begins_goes store now m f _ new (begins n i parts to apart low free gap least ha
 begins_goes store now m f _ new (all_run n i moving made passed none same) = all_run n i moving made passed none same
 begins_goes store now m f _ new (none_to_make none same) = none_to_make none same
 
+-- it isn't told as want of memory
+pub begins_tell : (store : Store) (now : ℕ) (m : Machine) (given : Reply) (new : Machine) → Begins store now m given new → given ≡ answer.Memory → ⊥
+begins_tell store now m _ new (begins n i parts to apart low free gap least has passed same) told = cc (told)
+begins_tell store now m _ new (all_run n i moving made passed none same) told = cc (told)
+begins_tell store now m _ new (none_to_make none same) told = cc (told)
+
 pub not_long : (number : ℕ) → store_of number ≢ Long
 not_long number = by_test (number == 1)
   where

@@ -41,6 +41,7 @@ use Rattle.archive_core.specs.MoveTies.{AreMovesOf, HasMoveOf}
 use Rattle.archive_core.specs.Parts.{Parts}
 use Rattle.archive_core.specs.Stands.{IsReady, Stands, Rests, InDoubt}
 use Rattle.archive_core.specs.Stepping.{HoldsStep, StepEnds, StepsOn, with_slots, is_doubted, has_failed, was_spent, went_on}
+use Rattle.archive_core.specs.Wanting.{NoneRefuses, WithWants, before_settling, behind_settling}
 use Rattle.archive_core.proofs.Acting.{crash_none, crash_settling}
 use Rattle.archive_core.proofs.StoresGoing.{go_fewer}
 use Rattle.archive_core.proofs.Lists.{same_or_not}
@@ -74,6 +75,15 @@ module _ (n : ℕ) (m : Machine) (f : ℕ) where
   step_goes _ new (again move len copied here stage grown less part same) = again move len copied here stage grown less
       (λ told row at_row. let is = part told row at_row in record { part = is.part; head_len = is.head_len; partition = is.partition; of_move = is.of_move; older = is.older; grew = is.grew; listed = is.listed; published = is.published }) same
   step_goes _ new (damaged name at never same) = damaged name at never same
+
+-- how a move goes on isn't told as want of memory
+goes_tell : (n : ℕ) (m : Machine) (given : Reply) (new : Machine) → GoesOn n m given new → given ≡ answer.Memory → ⊥
+goes_tell n m _ new (copies move first more next rest here stage left same) told = cc (told)
+goes_tell n m _ new (has_copied move xs here stage left same) told = cc (told)
+goes_tell n m _ new (publishes move here stage same) told = cc (told)
+goes_tell n m _ new (retires move into here stage covered may pinned same) told = cc (told)
+goes_tell n m _ new (again move len copied here stage grown less part same) told = cc (told)
+goes_tell n m _ new (damaged name at never same) told = cc (told)
 
 -- THE MOVE THAT WAS TAKEN OUT
 
@@ -149,7 +159,7 @@ module _ (tells : Bool) (n : ℕ) (p : Parts) where
   change m = change_of m (get m.moves n)
 
   abbrev pub StepsAs : Reply → Parts → Type 0
-  StepsAs given q = Steps tells (MoveStepStep n) p given q
+  StepsAs given q = Steps tells (WithWants (NoneRefuses refuse) (MoveStepStep n)) p given q
 
   -- a move that isn't in the table isn't the machine's
   pub none_runs : (q : Parts) → table.at q.slots n ≡ None → (m : Machine) → Stands tells q m → refuse m ≡ Some answer.NoMove
@@ -168,7 +178,7 @@ module _ (tells : Bool) (n : ℕ) (p : Parts) where
       by_get (Some move) is = refl
 
   pub not_running : is_some (table.at p.slots n) ≡ false → StepsAs answer.NoMove p
-  not_running none = λ m s. (m, refused_at_once answer.NoMove (none_runs p (is_none (table.at p.slots n) none) m s), s)
+  not_running none = λ m s. (m, (refused_at_once answer.NoMove (none_runs p (is_none (table.at p.slots n) none) m s), λ told. absurd (cc (told))), s)
     where
       is_none : (o : Option (Running Moving)) → is_some o ≡ false → o ≡ None
       is_none None is = refl
@@ -186,12 +196,12 @@ module _ (tells : Bool) (n : ℕ) (p : Parts) where
     pub cut_by_fault : (q : Parts) (left : List (Option (Running Moving))) → StandsStill tells p q → ((k : ℕ) → table.at left k ≡ cond (k == n) None (table.at q.slots k)) → Rose p.at.faults q.at.faults → StepsAs answer.DiskFault (with_slots left q)
     cut_by_fault q left still others rose = λ m s.
         let rises : Rose m.faults q.at.faults = rw s.faults rose in
-        (record (without_move n m) { faults = q.at.faults }, faults_first (passed m s) refl rises, stands_without tells n q left (record m { faults = q.at.faults }) others (passed m s) (still m s))
+        (record (without_move n m) { faults = q.at.faults }, (faults_first (passed m s) refl rises, λ told. absurd (cc (told))), stands_without tells n q left (record m { faults = q.at.faults }) others (passed m s) (still m s))
 
     pub cut_by_memory : (q : Parts) → StandsStill tells p q → p.at.faults ≤ q.at.faults → StepsAs answer.Memory q
     cut_by_memory q still more = λ m s.
         let was : m.faults ≡ p.at.faults = s.faults in
-        (record m { faults = q.at.faults }, wants_memory refl (omega (arith, was, more)), still m s)
+        (record m { faults = q.at.faults }, (wants_memory refl (omega (arith, was, more)), λ told. before_settling (passed m s) refl), still m s)
 
     pub crash_cut : (q : Parts) → (IsTrue tells → Passes (λ a b. b ≡ a) p.at.past q.at.past) → LeavesByAct tells refuse change p q
     crash_cut q reads = crash_settling tells refuse change (λ m f. refl) (λ m f. refl) p q reads
@@ -204,7 +214,7 @@ module _ (tells : Bool) (n : ℕ) (p : Parts) where
           let mid = settles m s in
           let at_q : Machine = record mid.0 { faults = q.at.faults } in
           let was : m.faults ≡ p.at.faults = s.faults in
-          (at_q, refused answer.NoMove (passed m s) mid.1 (none_runs q none at_q mid.2.stands) refl (omega (arith, was, more)), slots_stand tells q at_q left (λ k. others k ∙ by_number k (same_or_not k n)) mid.2)
+          (at_q, (refused answer.NoMove (passed m s) mid.1 (none_runs q none at_q mid.2.stands) refl (omega (arith, was, more)), λ told. absurd (cc (told))), slots_stand tells q at_q left (λ k. others k ∙ by_number k (same_or_not k n)) mid.2)
         where
           by_number : (k : ℕ) → (k ≡ n) ⊎ (k ≢ n) → cond (k == n) None (table.at q.slots k) ≡ table.at q.slots k
           by_number k (inl same) = let test : (k == n) ≡ true = grind (arith, nat_tests, same) in rw test (sym (ap (table.at q.slots) same ∙ none))
@@ -219,20 +229,21 @@ module _ (tells : Bool) (n : ℕ) (p : Parts) where
             by_end m s mid.0 mid.1 (one_runs q (ap is_some out) at_q mid.2.stands) given step.faults step.cause step.ends
           where
             by_end : (m : Machine) → Stands tells p m → (mid : Machine) → Settles m mid → refuse mid ≡ None → (r : Reply) → q.at.faults ≤ new.at.faults → (r ≡ answer.DiskFault → Rose q.at.faults new.at.faults) → StepEnds tells n (record mid { faults = q.at.faults }) new r
-                → (next : Machine) × MoveStepStep n m r next × Stands tells new next
+                → (next : Machine) × WithWants (NoneRefuses refuse) (MoveStepStep n) m r next × Stands tells new next
             by_end m s mid settled free _ later cause (was_spent stands) =
                 let was : m.faults ≡ p.at.faults = s.faults in
-                (record mid { faults = new.at.faults }, wants_memory_settled (passed m s) settled refl (omega (arith, was, more, later)), stands)
+                (record mid { faults = new.at.faults }, (wants_memory_settled (passed m s) settled refl (omega (arith, was, more, later)), λ told. behind_settling (passed m s) settled free refl), stands)
             by_end m s mid settled free _ later cause (has_failed stands) =
                 let rises : Rose m.faults new.at.faults = rw s.faults (rose_after p.at.faults q.at.faults new.at.faults more (cause refl)) in
-                (record (without_move n mid) { faults = new.at.faults }, faults_between (passed m s) settled refl rises, stands)
+                (record (without_move n mid) { faults = new.at.faults }, (faults_between (passed m s) settled refl rises, λ told. absurd (cc (told))), stands)
             by_end m s mid settled free _ later cause (is_doubted c own stands) =
                 let rises : Rose m.faults new.at.faults = rw s.faults (rose_after p.at.faults q.at.faults new.at.faults more (cause refl)) in
-                (record (without_move n mid) { doubt = Some c; faults = new.at.faults }, faults_within c (passed m s) settled free own refl rises, stands)
+                (record (without_move n mid) { doubt = Some c; faults = new.at.faults }, (faults_within c (passed m s) settled free own refl rises, λ told. absurd (cc (told))), stands)
             by_end m s mid settled free r later cause (went_on next goes stands) =
                 let was : m.faults ≡ p.at.faults = s.faults in
                 let now : next.faults ≡ new.at.faults = stands.faults in
-                (next, runs r (passed m s) settled free (step_goes n mid q.at.faults r next goes) (omega (arith, was, more, later, now)), stands)
+                let goes_on = step_goes n mid q.at.faults r next goes in
+                (next, (runs r (passed m s) settled free goes_on (omega (arith, was, more, later, now)), λ told. absurd (goes_tell n mid r next goes_on told)), stands)
 
         -- what is told as damaged is so of the archive before a doubt was settled
         pub tells_went : q.slots ≡ p.slots → (IsSettled p.at → q.at ≡ p.at) → (m : Machine) → Stands tells p m → LeavesMove p (MoveStep n) given new

@@ -35,6 +35,7 @@ use Rattle.archive_core.specs.Memory.{IsRowOf, cell_in, period_in}
 use Rattle.archive_core.specs.Parts.{Parts}
 use Rattle.archive_core.specs.Stands.{Stands}
 use Rattle.archive_core.specs.Trying.{IsTried, IsOffered}
+use Rattle.archive_core.specs.Wanting.{WithWants, WouldKeep}
 use Rattle.archive_core.proofs.KeptRows.{held_is}
 use Rattle.archive_core.proofs.Standing.{row_stands, still_stands}
 
@@ -50,7 +51,7 @@ found_step m n name i r ty s now answer found here ends = rw (found, here) ends
 -- what comes of a sample that is tried
 abbrev pub TriedAs : Machine → RowState → Sample → ℕ → Outcome → Result (Unit {0}) Refusal → Type 0
 TriedAs m r s now kept (Ok a) = tried m r s now kept ≡ kept
-TriedAs m r s now kept (Err refusal.Memory) = Unit {0}
+TriedAs m r s now kept (Err refusal.Memory) = tried m r s now kept ≡ kept
 TriedAs m r s now kept (Err (refusal.Dropped reason)) = tried m r s now kept ≡ record { answer = Dropped reason; after = m }
 TriedAs m r s now kept (Err (refusal.IntakeFull held)) = tried m r s now kept ≡ record { answer = IntakeFull held; after = m }
 
@@ -59,7 +60,10 @@ tried_as m r s now next held kept (Ok a) next_is held_is is =
     let late : admit_after r.next s.t now ≡ None = ap (λ n. admit_after n s.t now) next_is ∙ is.0 in
     let fits : nat_lt room (held_bytes m.rows + (length s.line + 1)) ≡ false = let low = is.1 in grind (arith, nat_tests) in
     rw (late, fits) refl
-tried_as m r s now next held kept (Err refusal.Memory) next_is held_is is = tt
+tried_as m r s now next held kept (Err refusal.Memory) next_is held_is is =
+    let late : admit_after r.next s.t now ≡ None = ap (λ n. admit_after n s.t now) next_is ∙ is.0 in
+    let fits : nat_lt room (held_bytes m.rows + (length s.line + 1)) ≡ false = let low = is.1 in grind (arith, nat_tests) in
+    rw (late, fits) refl
 tried_as m r s now next held kept (Err (refusal.Dropped reason)) next_is held_is is =
     let late : admit_after r.next s.t now ≡ Some reason = ap (λ n. admit_after n s.t now) next_is ∙ is in
     rw late refl
@@ -85,7 +89,7 @@ sampled_at (Scan period) n is = ap (λ k. Scan k) (sym (same_Some n period is))
 
 module _ (tells : Bool) (p : Parts) (m : Machine) (s : Stands tells p m) (name : List ℕ) (i : ℕ) (ty : PayloadType) (x : Sample) (now : ℕ) (found : find_row m name ≡ Some i) (row : Row) (memory : RowMemory) (r : RowState) (row_here : slice_get p.at.catalogue.rows i ≡ Some row) (here : slice_get m.rows i ≡ Some r) (is : IsRowOf p.tails i row memory r) (there : slice_get p.kept i ≡ Some memory) where
   abbrev pub Offers : Parts → Reply → Type 0
-  Offers new answer = (n : Machine) × OfferStep name ty x now m answer n × Stands tells new n
+  Offers new answer = (n : Machine) × WithWants (WouldKeep name ty x now) (OfferStep name ty x now) m answer n × Stands tells new n
 
   -- the first three reasons, as the machine has them
   by_row : (o : Option Reason) → ((next : ℕ) → o ≡ admit_before (Some (record { is_running = is_running row.state; ty = number_of row.about.ty; next = next })) (number_of ty)) → admit_before (Some (standing r)) (number_of ty) ≡ o
@@ -95,7 +99,7 @@ module _ (tells : Bool) (p : Parts) (m : Machine) (s : Stands tells p m) (name :
   offer_dropped reason why =
       let first = by_row (Some reason) why in
       let ends : Ends (offered_to m i r ty x now) m (Dropped reason) m = rw first (inl (refl, refl)) in
-      (m, found_step m m name i r ty x now (Dropped reason) found here ends, s)
+      (m, (found_step m m name i r ty x now (Dropped reason) found here ends, λ told. absurd (cc (told))), s)
 
   -- none of the first three reasons applies
   abbrev pub IsPast : Type 0
@@ -112,8 +116,8 @@ module _ (tells : Bool) (p : Parts) (m : Machine) (s : Stands tells p m) (name :
   trial result tried = tried_as m r x now memory.next (tails.held_bytes p.tails) (record { answer = Kept; after = with_rows m (at i (gains x)) }) result is.next (held_is p.at.catalogue.rows p.kept p.tails m.rows s.rows) tried
 
   -- the machine stays
-  ended : (answer : Reply) (new : Parts) → offered_to m i r ty x now ≡ record { answer = answer; after = m } → Stands tells new m → Offers new answer
-  ended answer new end stands = let ends : Ends (offered_to m i r ty x now) m answer m = rw end (inl (refl, refl)) in (m, found_step m m name i r ty x now answer found here ends, stands)
+  ended : (answer : Reply) (new : Parts) → (answer ≡ Memory → ⊥) → offered_to m i r ty x now ≡ record { answer = answer; after = m } → Stands tells new m → Offers new answer
+  ended answer new other end stands = let ends : Ends (offered_to m i r ty x now) m answer m = rw end (inl (refl, refl)) in (m, (found_step m m name i r ty x now answer found here ends, λ told. absurd (other told)), stands)
 
   pub offer_ends : IsEvent ty x → IsPast → (answer : OfferAnswer) (new : List TailState) (set : RowMemory) → IsOffered p.tails memory i x now answer new set → Offers (record p { kept = slice_set p.kept i set; tails = new }) (offered_reply answer)
   offer_ends event why offer.Held new set (sampled, scan, keeps, set_is) =
@@ -127,7 +131,7 @@ module _ (tells : Bool) (p : Parts) (m : Machine) (s : Stands tells p m) (name :
       let period : period_in (Some (after sampled (Offered x))) ≡ period_of r.about.method = ap period_in (sym scan) ∙ is.period in
       let own : IsRowOf new i row held (with_held x r) = record { name = is.name; about = is.about; state = is.state; next = is.next; cell = cell; period = period; tail = is.tail ∙ sym (keeps i) } in
       let stands = row_stands tells p m s i (with_held x) held new row r row_here here own (λ j apart. keeps j) (λ q. refl) (offer_sound name ty x now m n Held s.sound event step) in
-      (n, step, subst (λ (w : RowMemory). Stands tells (record p { kept = slice_set p.kept i w; tails = new }) n) (sym set_is) stands)
+      (n, (step, λ told. absurd (cc (told))), subst (λ (w : RowMemory). Stands tells (record p { kept = slice_set p.kept i w; tails = new }) n) (sym set_is) stands)
   offer_ends event why offer.Kept new set (scan, tried, sets, set_is) =
       let n = with_rows m (at i (gains x)) in
       let end = by_trial (record { answer = Kept; after = n }) why scan (trial (Ok tt) tried) in
@@ -137,9 +141,12 @@ module _ (tells : Bool) (p : Parts) (m : Machine) (s : Stands tells p m) (name :
       let tail : (gains x r).tail ≡ (tail_at new i).samples = ap (λ (xs : List Sample). xs ++ x ∷ []) is.tail ∙ sym sets.own in
       let own : IsRowOf new i row more (gains x r) = record { name = is.name; about = is.about; state = is.state; next = refl; cell = is.cell; period = is.period; tail = tail } in
       let stands = row_stands tells p m s i (gains x) more new row r row_here here own sets.others (λ q. refl) (offer_sound name ty x now m n Kept s.sound event step) in
-      (n, step, subst (λ (w : RowMemory). Stands tells (record p { kept = slice_set p.kept i w; tails = new }) n) (sym set_is) stands)
+      (n, (step, λ told. absurd (cc (told))), subst (λ (w : RowMemory). Stands tells (record p { kept = slice_set p.kept i w; tails = new }) n) (sym set_is) stands)
   offer_ends event why (offer.Dropped reason) new set (scan, late, keeps, set_is) =
-      ended (Dropped reason) (record p { kept = slice_set p.kept i set; tails = new }) (by_trial (record { answer = Dropped reason; after = m }) why scan (trial (Err (refusal.Dropped reason)) late)) (still_stands tells p m new s keeps i memory set there set_is)
+      ended (Dropped reason) (record p { kept = slice_set p.kept i set; tails = new }) (λ told. cc (told)) (by_trial (record { answer = Dropped reason; after = m }) why scan (trial (Err (refusal.Dropped reason)) late)) (still_stands tells p m new s keeps i memory set there set_is)
   offer_ends event why (offer.IntakeFull held) new set (scan, full, keeps, set_is) =
-      ended (IntakeFull held) (record p { kept = slice_set p.kept i set; tails = new }) (by_trial (record { answer = IntakeFull held; after = m }) why scan (trial (Err (refusal.IntakeFull held)) full)) (still_stands tells p m new s keeps i memory set there set_is)
-  offer_ends event why offer.Memory new set (keeps, set_is) = (m, found_step m m name i r ty x now Memory found here (inr (refl, refl)), still_stands tells p m new s keeps i memory set there set_is)
+      ended (IntakeFull held) (record p { kept = slice_set p.kept i set; tails = new }) (λ told. cc (told)) (by_trial (record { answer = IntakeFull held; after = m }) why scan (trial (Err (refusal.IntakeFull held)) full)) (still_stands tells p m new s keeps i memory set there set_is)
+  offer_ends event why offer.Memory new set (scan, room_for, keeps, set_is) =
+      let end = by_trial (record { answer = Kept; after = with_rows m (at i (gains x)) }) why scan (trial (Err refusal.Memory) room_for) in
+      let would : WouldKeep name ty x now m m = rw (found, here) (ap (λ (o : Outcome). o.answer) end) in
+      (m, (found_step m m name i r ty x now Memory found here (inr (refl, refl)), λ told. would), still_stands tells p m new s keeps i memory set there set_is)

@@ -31,6 +31,7 @@ use Rattle.archive_core.specs.Ends.{Steps}
 use Rattle.archive_core.specs.Parts.{Parts}
 use Rattle.archive_core.specs.Pins.{IsPieceOf, HasFileOf, HasPinOf, IsOpening}
 use Rattle.archive_core.specs.Stands.{Stands, InDoubt}
+use Rattle.archive_core.specs.Wanting.{OwnsPiece, WithWants}
 use Rattle.archive_core.proofs.Keeping.{KeepsLimbo}
 use Rattle.archive_core.proofs.MovesKept.{moves_beside}
 use Rattle.archive_core.proofs.Lists.{element}
@@ -125,7 +126,7 @@ module _ (R : Type 0) (tells reader_tells : Bool) (bytes : R → List ℕ) (faul
     (more : p.at.faults ≤ new.faults) (cause : IsFailed (end_of_answer result) → Rose p.at.faults new.faults) where
   -- how it ends from a machine, with this answer
   abbrev EndsAs : Answer R → Machine → Type 0
-  EndsAs given m = (n : Machine) × Opens who pin i m (reply_of reader_tells bytes faults given) n × Stands tells (record p { at = new }) n
+  EndsAs given m = (n : Machine) × WithWants (OwnsPiece who pin i) (Opens who pin i) m (reply_of reader_tells bytes faults given) n × Stands tells (record p { at = new }) n
 
   -- the disk was read
   read_stands : (m : Machine) → Stands tells p m → Stands tells (record p { at = new }) (record m { faults = new.faults })
@@ -160,7 +161,7 @@ module _ (R : Type 0) (tells reader_tells : Bool) (bytes : R → List ℕ) (faul
     piece_ends : (reader : R) (name : Name) (head_len len : ℕ) → IsReaderOf tells reader_tells bytes faults (beside p.at p.limbo) file reader → name ≡ file.name → head_len ≡ file.head_len → len ≡ file.len → EndsAs (answer.Piece reader name head_len len) m
     piece_ends reader name head_len len is name_is head_is len_is = (
       record m { faults = new.faults },
-      opens state f (record { tells = reader_tells; bytes = bytes reader; faults = faults reader }) name head_len len there owner at is.fresh shows named enough refl (more_faults m s),
+      (opens state f (record { tells = reader_tells; bytes = bytes reader; faults = faults reader }) name head_len len there owner at is.fresh shows named enough refl (more_faults m s), λ told. absurd (cc (told))),
       read_stands m s,
     )
       where
@@ -191,10 +192,10 @@ module _ (R : Type 0) (tells reader_tells : Bool) (bytes : R → List ℕ) (faul
     by_kind (as_fault same) =
         let failed : IsFailed (end_of_answer result) = subst (λ (given : Answer R). IsFailed (end_of_answer given)) (sym same) tt in
         let rises : Rose m.faults new.faults = rw s.faults (cause failed) in
-        subst (λ (given : Answer R). EndsAs given m) (sym same) (record m { faults = new.faults }, faults_opening state f there owner at refl rises, read_stands m s)
-    by_kind (as_memory same) = subst (λ (given : Answer R). EndsAs given m) (sym same) (record m { faults = new.faults }, wants_memory_opening refl (more_faults m s), read_stands m s)
+        subst (λ (given : Answer R). EndsAs given m) (sym same) (record m { faults = new.faults }, (faults_opening state f there owner at refl rises, λ told. absurd (cc (told))), read_stands m s)
+    by_kind (as_memory same) = subst (λ (given : Answer R). EndsAs given m) (sym same) (record m { faults = new.faults }, (wants_memory_opening refl (more_faults m s), λ told. record { state = state; there = there; owner = owner; piece = f; here = at }), read_stands m s)
 
-  pub open_ends : Steps tells (Opens who pin i) p (reply_of reader_tells bytes faults result) (record p { at = new })
+  pub open_ends : Steps tells (WithWants (OwnsPiece who pin i) (Opens who pin i)) p (reply_of reader_tells bytes faults result) (record p { at = new })
   open_ends = λ m s. by_pin m s (get m.pins pin) refl
     where
       by_piece : (m : Machine) → Stands tells p m → (state : PinState) → get m.pins pin ≡ Some state → state.owner ≡ who → (has : HasPinOf tells (beside p.at p.limbo) m.told m.rows p.pinned pin state) → asked who (get p.pinned pin) ≡ Ok has.own → (o : Option PinnedFile) → slice_get has.own.pieces i ≡ o → EndsAs result m
@@ -202,7 +203,7 @@ module _ (R : Type 0) (tells reader_tells : Bool) (bytes : R → List ℕ) (faul
           let told = lacks has.own granted none in
           let number : length has.own.pieces ≡ length state.pieces = has.is.number in
           let lacking : slice_get state.pieces i ≡ None = by_place (slice_get state.pieces i) refl in
-          subst (λ (given : Answer R). EndsAs given m) (sym (told.0 ∙ ap (λ (n : ℕ). answer.NoPiece n) number)) (m, no_piece state there owner lacking, unread_stands m told.1 s)
+          subst (λ (given : Answer R). EndsAs given m) (sym (told.0 ∙ ap (λ (n : ℕ). answer.NoPiece n) number)) (m, (no_piece state there owner lacking, λ told. absurd (cc (told))), unread_stands m told.1 s)
         where
           by_place : (o : Option FileState) → slice_get state.pieces i ≡ o → slice_get state.pieces i ≡ None
           by_place None is = is
@@ -231,12 +232,12 @@ module _ (R : Type 0) (tells reader_tells : Bool) (bytes : R → List ℕ) (faul
           let own_there = has.there in
           let told = refused (err.NotYours has.own.owner) (rw (own_there, own_test) refl) in
           let reply : pin_refused who (get m.pins pin) ≡ Some (answer.NotYours has.own.owner) = rw (there, is) (ap (λ (n : ℕ). Some (answer.NotYours n)) (sym has.is.owner)) in
-          subst (λ (given : Answer R). EndsAs given m) (sym told.0) (m, refused_open (answer.NotYours has.own.owner) reply, unread_stands m told.1 s)
+          subst (λ (given : Answer R). EndsAs given m) (sym told.0) (m, (refused_open (answer.NotYours has.own.owner) reply, λ told. absurd (cc (told))), unread_stands m told.1 s)
 
       by_pin : (m : Machine) → Stands tells p m → (o : Option PinState) → get m.pins pin ≡ o → EndsAs result m
       by_pin m s None here =
           let none = s.pins.none pin here in
           let told = refused err.NoPin (rw none refl) in
           let reply : pin_refused who (get m.pins pin) ≡ Some answer.NoPin = rw here refl in
-          subst (λ (given : Answer R). EndsAs given m) (sym told.0) (m, refused_open answer.NoPin reply, unread_stands m told.1 s)
+          subst (λ (given : Answer R). EndsAs given m) (sym told.0) (m, (refused_open answer.NoPin reply, λ told. absurd (cc (told))), unread_stands m told.1 s)
       by_pin m s (Some state) here = by_owner m s state here (s.pins.each pin state here) (state.owner == who) refl

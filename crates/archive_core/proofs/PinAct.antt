@@ -212,3 +212,7 @@ module _ (R : Type 0) (tells reader_tells : Bool) (bytes : R → List ℕ) (faul
 -- the count of faults is nothing to a pin
 pub pins_goes : (who : ℕ) (name : List ℕ) (query : Query) (m : Machine) (f : ℕ) (given : Reply) (new : Machine) → Pins who name query (record m { faults = f }) given new → Pins who name query m given new
 pins_goes who name query m f _ new (pins i row pin pieces found here free least listed ordered answers few same) = pins i row pin pieces found here free least listed ordered answers few same
+
+-- it isn't told as want of memory
+pub pins_tell : (who : ℕ) (name : List ℕ) (query : Query) (m : Machine) (given : Reply) (new : Machine) → Pins who name query m given new → given ≡ answer.Memory → ⊥
+pins_tell who name query m _ new (pins i row pin pieces found here free least listed ordered answers few same) told = cc (told)

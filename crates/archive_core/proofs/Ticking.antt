@@ -27,6 +27,7 @@ use Rattle.archive_core.specs.Memory.{IsRowOf, cell_in, period_in}
 use Rattle.archive_core.specs.Parts.{Parts}
 use Rattle.archive_core.specs.Stands.{Stands}
 use Rattle.archive_core.specs.Trying.{IsTickedDue, moved_on}
+use Rattle.archive_core.specs.Wanting.{WithWants, WouldTick}
 use Rattle.archive_core.proofs.KeptRows.{held_is}
 use Rattle.archive_core.proofs.Standing.{row_stands, still_stands}
 
@@ -35,21 +36,21 @@ tick_no_row m i now none = rw none (inl (refl, refl))
 
 module _ (tells : Bool) (p : Parts) (m : Machine) (s : Stands tells p m) (i now : ℕ) (row : Row) (memory : RowMemory) (r : RowState) (row_here : slice_get p.at.catalogue.rows i ≡ Some row) (here : slice_get m.rows i ≡ Some r) (is : IsRowOf p.tails i row memory r) (there : slice_get p.kept i ≡ Some memory) where
   abbrev pub Ticks : Parts → Reply → Type 0
-  Ticks new reply = (n : Machine) × TickStep i now m reply n × Stands tells new n
+  Ticks new reply = (n : Machine) × WithWants (WouldTick i now) (TickStep i now) m reply n × Stands tells new n
 
   pub tick_nothing : (memory.scan ≡ None) ⊎ (is_running row.state ≡ false) → Ticks p TickNone
   tick_nothing (inl none) =
       let period : period_of r.about.method ≡ None = sym is.period ∙ ap period_in none in
       let step : TickStep i now m TickNone m = rw (here, period) (inl (refl, refl)) in
-      (m, step, s)
+      (m, (step, λ told. absurd (cc (told))), s)
   tick_nothing (inr paused) = by_period (period_of r.about.method) refl
     where
       by_period : (o : Option ℕ) → period_of r.about.method ≡ o → Ticks p TickNone
-      by_period None period = let step : TickStep i now m TickNone m = rw (here, period) (inl (refl, refl)) in (m, step, s)
+      by_period None period = let step : TickStep i now m TickNone m = rw (here, period) (inl (refl, refl)) in (m, (step, λ told. absurd (cc (told))), s)
       by_period (Some n) period =
           let stopped : is_running r.state ≡ false = ap is_running is.state ∙ paused in
           let step : TickStep i now m TickNone m = rw (here, period, stopped) (inl (refl, refl)) in
-          (m, step, s)
+          (m, (step, λ told. absurd (cc (told))), s)
 
   module _ (sampled : SampledRow) (scan : memory.scan ≡ Some sampled) (up : is_running row.state ≡ true) where
     period : period_of r.about.method ≡ Some sampled.period
@@ -66,11 +67,17 @@ module _ (tells : Bool) (p : Parts) (m : Machine) (s : Stands tells p m) (i now 
         let late : nat_le r.cell.due now ≡ false = let due = ap (λ (c : Cell). c.due) cell in grind (arith, nat_tests) in
         let due : r.cell.due ≡ sampled.cell.due = ap (λ (c : Cell). c.due) cell in
         let step : TickStep i now m (NotDue sampled.cell.due) m = rw (here, period, running, late) (inl (ap (λ d. NotDue d) (sym due), refl)) in
-        (m, step, s)
+        (m, (step, λ told. absurd (cc (told))), s)
 
     -- a tick that is due ends as what is held does
     due_step : sampled.cell.due ≤ now → (reply : Reply) (n : Machine) → Ends (ticked_due m i r sampled.period now) m reply n → TickStep i now m reply n
     due_step due reply n ends =
+        let late : nat_le r.cell.due now ≡ true = let same = ap (λ (c : Cell). c.due) cell in grind (arith, nat_tests) in
+        rw (here, period, running, late) ends
+
+    -- and is answered so
+    due_answer : sampled.cell.due ≤ now → (reply : Reply) → (ticked_due m i r sampled.period now).answer ≡ reply → (ticked m i now).answer ≡ reply
+    due_answer due reply ends =
         let late : nat_le r.cell.due now ≡ true = let same = ap (λ (c : Cell). c.due) cell in grind (arith, nat_tests) in
         rw (here, period, running, late) ends
 
@@ -87,15 +94,15 @@ module _ (tells : Bool) (p : Parts) (m : Machine) (s : Stands tells p m) (i now 
     }
 
     pub tick_ends : sampled.cell.due ≤ now → (reply : TickAnswer) (new : List TailState) (set : RowMemory) → IsTickedDue p.tails memory sampled i now reply new set → Ticks (record p { kept = slice_set p.kept i set; tails = new }) (ticked_reply reply)
-    tick_ends due answer.TickNone new set (none, keeps, set_is) = moves TickNone (rw (ap (λ (c : Cell). c.held) cell ∙ none) (inl (refl, refl)))
+    tick_ends due answer.TickNone new set (none, keeps, set_is) = moves TickNone (λ told. cc (told)) (rw (ap (λ (c : Cell). c.held) cell ∙ none) (inl (refl, refl)))
       where
-        moves : (reply : Reply) → Ends (ticked_due m i r sampled.period now) m reply (with_rows m (at i (tick.moved_on sampled.period now))) → Ticks (record p { kept = slice_set p.kept i set; tails = new }) reply
-        moves reply ends =
+        moves : (reply : Reply) → (reply ≡ Memory → ⊥) → Ends (ticked_due m i r sampled.period now) m reply (with_rows m (at i (tick.moved_on sampled.period now))) → Ticks (record p { kept = slice_set p.kept i set; tails = new }) reply
+        moves reply other ends =
             let n = with_rows m (at i (tick.moved_on sampled.period now)) in
             let step = due_step due reply n ends in
             let own = moved_row new (tick.moved_on sampled.period now) (moved_on memory sampled now) refl refl refl is.next refl refl (is.tail ∙ sym (keeps i)) in
             let stands = row_stands tells p m s i (tick.moved_on sampled.period now) (moved_on memory sampled now) new row r row_here here own (λ j apart. keeps j) (λ q. refl) (tick_sound i now m n reply s.sound step) in
-            (n, step, subst (λ (w : RowMemory). Stands tells (record p { kept = slice_set p.kept i w; tails = new }) n) (sym set_is) stands)
+            (n, (step, λ told. absurd (other told)), subst (λ (w : RowMemory). Stands tells (record p { kept = slice_set p.kept i w; tails = new }) n) (sym set_is) stands)
     tick_ends due (answer.Dropped reason) new set (x, held, late, keeps, set_is) =
         let n = with_rows m (at i (tick.moved_on sampled.period now)) in
         let is_held : r.cell.held ≡ Some x = ap (λ (c : Cell). c.held) cell ∙ held in
@@ -104,7 +111,7 @@ module _ (tells : Bool) (p : Parts) (m : Machine) (s : Stands tells p m) (i now 
         let step = due_step due (Dropped reason) n ends in
         let own = moved_row new (tick.moved_on sampled.period now) (moved_on memory sampled now) refl refl refl is.next refl refl (is.tail ∙ sym (keeps i)) in
         let stands = row_stands tells p m s i (tick.moved_on sampled.period now) (moved_on memory sampled now) new row r row_here here own (λ j apart. keeps j) (λ q. refl) (tick_sound i now m n (Dropped reason) s.sound step) in
-        (n, step, subst (λ (w : RowMemory). Stands tells (record p { kept = slice_set p.kept i w; tails = new }) n) (sym set_is) stands)
+        (n, (step, λ told. absurd (cc (told))), subst (λ (w : RowMemory). Stands tells (record p { kept = slice_set p.kept i w; tails = new }) n) (sym set_is) stands)
     tick_ends due (answer.IntakeFull bytes) new set (x, held, tried, keeps, set_is) =
         let is_held : r.cell.held ≡ Some x = ap (λ (c : Cell). c.held) cell ∙ held in
         let why : admit_after r.next x.t now ≡ None = ap (λ k. admit_after k x.t now) is.next ∙ tried.0 in
@@ -112,8 +119,14 @@ module _ (tells : Bool) (p : Parts) (m : Machine) (s : Stands tells p m) (i now 
         let over : nat_lt room (held_bytes m.rows + (length x.line + 1)) ≡ true = let high = tried.1 in grind (arith, nat_tests) in
         let told : held_bytes m.rows ≡ bytes = bytes_are ∙ sym tried.2 in
         let ends : Ends (ticked_due m i r sampled.period now) m (IntakeFull bytes) m = rw (is_held, why, over) (inl (ap (λ b. IntakeFull b) (sym told), refl)) in
-        (m, due_step due (IntakeFull bytes) m ends, still_stands tells p m new s keeps i memory set there set_is)
-    tick_ends due answer.Memory new set (keeps, set_is) = (m, due_step due Memory m (inr (refl, refl)), still_stands tells p m new s keeps i memory set there set_is)
+        (m, (due_step due (IntakeFull bytes) m ends, λ told. absurd (cc (told))), still_stands tells p m new s keeps i memory set there set_is)
+    tick_ends due answer.Memory new set (x, held, tried, keeps, set_is) =
+        let is_held : r.cell.held ≡ Some x = ap (λ (c : Cell). c.held) cell ∙ held in
+        let why : admit_after r.next x.t now ≡ None = ap (λ k. admit_after k x.t now) is.next ∙ tried.0 in
+        let bytes_are = held_is p.at.catalogue.rows p.kept p.tails m.rows s.rows in
+        let fits : nat_lt room (held_bytes m.rows + (length x.line + 1)) ≡ false = let low = tried.1 in grind (arith, nat_tests) in
+        let end : (ticked_due m i r sampled.period now).answer ≡ TickKept x.t = rw (is_held, why, fits) refl in
+        (m, (due_step due Memory m (inr (refl, refl)), λ told. (x.t, due_answer due (TickKept x.t) end)), still_stands tells p m new s keeps i memory set there set_is)
     tick_ends due (answer.TickKept t) new set (x, held, t_is, tried, sets, set_is) =
         let n = with_rows m (at i (λ q. tick.moved_on sampled.period now (gains x q))) in
         let is_held : r.cell.held ≡ Some x = ap (λ (c : Cell). c.held) cell ∙ held in
@@ -126,7 +139,7 @@ module _ (tells : Bool) (p : Parts) (m : Machine) (s : Stands tells p m) (i now 
         let tail : r.tail ++ x ∷ [] ≡ (tail_at new i).samples = ap (λ (xs : List Sample). xs ++ x ∷ []) is.tail ∙ sym sets.own in
         let own = moved_row new (λ q. tick.moved_on sampled.period now (gains x q)) more refl refl refl refl refl refl tail in
         let stands = row_stands tells p m s i (λ q. tick.moved_on sampled.period now (gains x q)) more new row r row_here here own sets.others (λ q. refl) (tick_sound i now m n (TickKept t) s.sound step) in
-        (n, step, subst (λ (w : RowMemory). Stands tells (record p { kept = slice_set p.kept i w; tails = new }) n) (sym set_is) stands)
+        (n, (step, λ told. absurd (cc (told))), subst (λ (w : RowMemory). Stands tells (record p { kept = slice_set p.kept i w; tails = new }) n) (sym set_is) stands)
     tick_ends due answer.NoRow new set none = absurd none
     tick_ends due (answer.NotDue d) new set none = absurd none
 
@@ -142,7 +155,7 @@ module _ (tells : Bool) (p : Parts) (m : Machine) (s : Stands tells p m) (i now 
       stays own (reply_is, new_is, set_is) ends =
           let same : ◌≡◌ {A = List TailState} new p.tails = new_is in
           let stands = still_stands tells p ends.0 new ends.2 (λ j. ap (λ (ts : List TailState). (tail_at ts j).samples) same) i memory set there set_is in
-          (ends.0, subst (λ (a : TickAnswer). TickStep i now m (ticked_reply a) ends.0) (sym reply_is) ends.1, stands)
+          (ends.0, subst (λ (a : TickAnswer). WithWants (WouldTick i now) (TickStep i now) m (ticked_reply a) ends.0) (sym reply_is) ends.1, stands)
 
       by_due : (sampled : SampledRow) → memory.scan ≡ Some sampled → running ≡ true → (b : Bool) → nat_le sampled.cell.due now ≡ b → Ticks (record p { kept = slice_set p.kept i set; tails = new }) (ticked_reply reply)
       by_due sampled scan up true is_due = tick_ends sampled scan (sym run_is ∙ up) (grind (arith, nat_tests)) reply new set (due sampled scan up (grind (arith, nat_tests)))

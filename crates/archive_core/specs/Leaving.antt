@@ -1,5 +1,5 @@
 -- What an act leaves: what a crash at any moment within it may leave, what becomes of the files on the disk, which files the pieces of pins
--- are, and which file a step of a move tells as damaged. It is said of every archive, also of one whose listed files somebody else has damaged.
+-- are, which file a step of a move tells as damaged, and for what memory was wanting. It is said of every archive, also of one whose listed files somebody else has damaged.
 use Rattle.std.specs.FinMap.{get}
 use Rattle.std.specs.Prelude.{◌≡◌, ◌≤◌, ℕ, ◌+◌, ◌-◌, Bool, List, All, Contains, length, take, IsTrue, Some, slice_get}
 use Rattle.disk_model.specs.Files.{Name, HasFile}
@@ -17,13 +17,16 @@ use Rattle.three_stores.specs.Pinned.{SeenAll, beside, IsThereTo, LeavesFronts}
 use Rattle.three_stores.specs.Pinning.{piece_of}
 use Rattle.three_stores.specs.Seen.{Seen, IsSettled}
 use Rattle.act_model.specs.History.{Entry}
+use Rattle.act_model.specs.Machine.{Machine}
 use Rattle.act_model.specs.Reply.{Reply, Opened}
 use Rattle.act_model.specs.Step.{refuse_by, change_by}
 use Rattle.act_model.specs.declared.acts.Act.{Act}
 use Rattle.act_model.specs.declared.acts.Act.TheVariants.{Register, Pause, Resume, Flush, MoveStep, Sweep, Pin, OpenPiece}
-use Rattle.act_model.specs.declared.acts.Answer.TheVariants.{Damaged, Pinned, Piece}
+use Rattle.act_model.specs.declared.acts.Answer.TheVariants.{Damaged, Memory, Pinned, Piece}
 use Rattle.archive_core.specs.Ends.{LeavesByAct}
 use Rattle.archive_core.specs.Parts.{Parts}
+use Rattle.archive_core.specs.Stands.{Stands}
+use Rattle.archive_core.specs.Wanting.{Wants}
 
 -- THE FILES
 
@@ -111,6 +114,12 @@ abbrev pub LeavesMove : Parts → Act → Reply → Parts → Type 0
 LeavesMove p (MoveStep m) answer q = (name : Name) (place : ℕ) → answer ≡ Damaged name place → TellsDamage p m name place q
 LeavesMove p _ answer q = Unit {0}
 
+-- WANT OF MEMORY
+
+-- Where memory was wanting for an act, it was so from whatever the archive stood for, and the archive stands for what is left of that.
+abbrev pub LeavesWanting : Bool → Parts → Entry → Parts → Type 0
+LeavesWanting tells p e q = e.answer ≡ Memory → (m : Machine) → Stands tells p m → (n : Machine) × Wants e.who e.act m n × Stands tells q n
+
 -- THE ACT
 
 pub record Leaves (tells : Bool) (p : Parts) (e : Entry) (q : Parts) : Type 0 where
@@ -118,3 +127,4 @@ pub record Leaves (tells : Bool) (p : Parts) (e : Entry) (q : Parts) : Type 0 wh
   pub files : LeavesFiles tells e.act p q
   pub pins : LeavesPins tells p e.act e.answer q
   pub moves : LeavesMove p e.act e.answer q
+  pub memory : LeavesWanting tells p e q

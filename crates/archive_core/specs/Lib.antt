@@ -3,6 +3,7 @@ pub mod Parts
 pub mod Pins
 pub mod Stands
 pub mod Ends
+pub mod Wanting
 pub mod Leaving
 pub mod Trying
 pub mod Switching

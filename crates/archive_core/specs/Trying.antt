@@ -14,12 +14,13 @@ use Rattle.archive_core.specs.declared.memory.RowMemory.{RowMemory}
 use Rattle.archive_core.specs.declared.trying.Refusal.{Refusal}
 use Rattle.archive_core.specs.declared.trying.Refusal.TheVariants as refusal
 
--- So it ends, of a row that takes samples from `next` on, where `held` bytes are held: for a sample at `t` whose line has `len` bytes.
+-- So it ends, of a row that takes samples from `next` on, where `held` bytes are held: for a sample at `t` whose line has `len` bytes. Memory is
+-- wanting only where no reason speaks against the sample and there is room for it.
 abbrev pub IsTried : ℕ → ℕ → ℕ → ℕ → ℕ → Result (Unit {0}) Refusal → Type 0
 IsTried next held t len now (Ok a) = (admit_after next t now ≡ None) × (held + (len + 1) ≤ room)
 IsTried next held t len now (Err (refusal.Dropped reason)) = admit_after next t now ≡ Some reason
 IsTried next held t len now (Err (refusal.IntakeFull bytes)) = (admit_after next t now ≡ None) × (room < held + (len + 1)) × (bytes ≡ held)
-IsTried next held t len now (Err refusal.Memory) = Unit {0}
+IsTried next held t len now (Err refusal.Memory) = (admit_after next t now ≡ None) × (held + (len + 1) ≤ room)
 
 -- So an offer ends to a row with this memory, over these tails, where none of the first three reasons applies: what it is answered, and
 -- the tails and the memory then.
@@ -28,7 +29,7 @@ IsOffered old memory row s now offer.Held new kept = (sampled : SampledRow) × (
 IsOffered old memory row s now offer.Kept new kept = (memory.scan ≡ None) × IsTried memory.next (held_bytes old) s.t (length s.line) now (Ok tt) × SetsTail row ((tail_at old row).samples ++ s ∷ []) old new × (kept ≡ record memory { next = s.t + 1 })
 IsOffered old memory row s now (offer.Dropped reason) new kept = (memory.scan ≡ None) × (admit_after memory.next s.t now ≡ Some reason) × KeepsTails old new × (kept ≡ memory)
 IsOffered old memory row s now (offer.IntakeFull bytes) new kept = (memory.scan ≡ None) × IsTried memory.next (held_bytes old) s.t (length s.line) now (Err (refusal.IntakeFull bytes)) × KeepsTails old new × (kept ≡ memory)
-IsOffered old memory row s now offer.Memory new kept = KeepsTails old new × (kept ≡ memory)
+IsOffered old memory row s now offer.Memory new kept = (memory.scan ≡ None) × IsTried memory.next (held_bytes old) s.t (length s.line) now (Err refusal.Memory) × KeepsTails old new × (kept ≡ memory)
 
 -- the row has given up what it held for a tick, and is due a period later
 abbrev pub moved_on : RowMemory → SampledRow → ℕ → RowMemory
@@ -39,7 +40,7 @@ abbrev pub IsTickedDue : List TailState → RowMemory → SampledRow → ℕ →
 IsTickedDue old memory sampled row now answer.TickNone new kept = (sampled.cell.held ≡ None) × KeepsTails old new × (kept ≡ moved_on memory sampled now)
 IsTickedDue old memory sampled row now (answer.Dropped reason) new kept = (s : Sample) × (sampled.cell.held ≡ Some s) × (admit_after memory.next s.t now ≡ Some reason) × KeepsTails old new × (kept ≡ moved_on memory sampled now)
 IsTickedDue old memory sampled row now (answer.IntakeFull bytes) new kept = (s : Sample) × (sampled.cell.held ≡ Some s) × IsTried memory.next (held_bytes old) s.t (length s.line) now (Err (refusal.IntakeFull bytes)) × KeepsTails old new × (kept ≡ memory)
-IsTickedDue old memory sampled row now answer.Memory new kept = KeepsTails old new × (kept ≡ memory)
+IsTickedDue old memory sampled row now answer.Memory new kept = (s : Sample) × (sampled.cell.held ≡ Some s) × IsTried memory.next (held_bytes old) s.t (length s.line) now (Err refusal.Memory) × KeepsTails old new × (kept ≡ memory)
 IsTickedDue old memory sampled row now (answer.TickKept t) new kept =
     (s : Sample) × (sampled.cell.held ≡ Some s) × (t ≡ s.t) × IsTried memory.next (held_bytes old) s.t (length s.line) now (Ok tt) × SetsTail row ((tail_at old row).samples ++ s ∷ []) old new × (kept ≡ record (moved_on memory sampled now) { next = s.t + 1 })
 IsTickedDue old memory sampled row now answer.NoRow new kept = ⊥

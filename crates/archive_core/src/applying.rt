@@ -19,6 +19,7 @@ use series_model::Sample;
 
 impl<D: Disk> Archive<D> {
     /// Makes an act, which is asked under a number: that of the owner of pins. What is answered when is said at the method of each act.
+    /// `Memory` is answered for no refusal, and for no sample but one that would be kept.
     pub fn apply(&mut self, who: u64, act: Act) -> Answer<D::Reader>
         requires stands { (m : Machine) × Stands D.tells (parts D.Disk self.old) m }
         requires may_ask { MayAsk act }

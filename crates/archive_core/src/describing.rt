@@ -13,6 +13,7 @@ ghost use Rattle.archive_core.specs.Ends.{AskEnds, Steps, LeavesByAct};
 ghost use Rattle.archive_core.specs.Leaving.{ReadsAlone};
 ghost use Rattle.archive_core.specs.Parts.{parts};
 ghost use Rattle.archive_core.specs.Stands.{Stands, Rests};
+ghost use Rattle.archive_core.specs.Wanting.{NoneRefuses, WithWants};
 
 use crate::Archive;
 use crate::answering::{answered, copied};
@@ -53,7 +54,7 @@ impl<D: Disk> Archive<D> {
     // Tells of the row that has the name, if one has it.
     fn describe_named(&mut self, name: &[u8]) -> Result<Answer<D::Reader>, DiskErr>
         requires stands { (m : Machine) × Stands D.tells (parts D.Disk self.old) m }
-        ensures step { Steps D.tells (DetailsStep name.now) (parts D.Disk self.old) (reply_of D.Reader.tells D.Reader.bytes D.Reader.faults (answer_of result)) (parts D.Disk self.new) }
+        ensures step { Steps D.tells (WithWants (NoneRefuses (refuse_by (DetailsAct name.now))) (DetailsStep name.now)) (parts D.Disk self.old) (reply_of D.Reader.tells D.Reader.bytes D.Reader.faults (answer_of result)) (parts D.Disk self.new) }
         ensures crash { LeavesByAct D.tells (refuse_by (DetailsAct name.now)) (change_by (DetailsAct name.now)) (parts D.Disk self.old) (parts D.Disk self.new) }
         ensures reads { ReadsAlone D.tells (parts D.Disk self.old) (parts D.Disk self.new) }
         ensures answers { IsDescribing (answer_of result) }
@@ -75,7 +76,7 @@ impl<D: Disk> Archive<D> {
     /// `Memory` comes also where no `u64` has a number of samples.
     pub fn details(&mut self, name: &[u8]) -> DetailsTold
         requires stands { (m : Machine) × Stands D.tells (parts D.Disk self.old) m }
-        ensures step { Steps D.tells (DetailsStep name.now) (parts D.Disk self.old) (details_told_reply result) (parts D.Disk self.new) }
+        ensures step { Steps D.tells (WithWants (NoneRefuses (refuse_by (DetailsAct name.now))) (DetailsStep name.now)) (parts D.Disk self.old) (details_told_reply result) (parts D.Disk self.new) }
         ensures crash { LeavesByAct D.tells (refuse_by (DetailsAct name.now)) (change_by (DetailsAct name.now)) (parts D.Disk self.old) (parts D.Disk self.new) }
         ensures reads { ReadsAlone D.tells (parts D.Disk self.old) (parts D.Disk self.new) }
     {

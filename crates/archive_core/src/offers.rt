@@ -8,6 +8,7 @@ ghost use Rattle.act_model.specs.Tick.{TickStep};
 ghost use Rattle.archive_core.specs.Ends.{Steps, EndsNamed};
 ghost use Rattle.archive_core.specs.Parts.{parts};
 ghost use Rattle.archive_core.specs.Stands.{Stands};
+ghost use Rattle.archive_core.specs.Wanting.{WithWants, WouldKeep, WouldTick};
 
 use crate::Archive;
 use crate::trying::{offer_row, reason_by_row, runs, tick_row};
@@ -22,7 +23,7 @@ impl<D: Disk> Archive<D> {
         requires here { row < length self.old.store.catalogue.rows }
         requires there { row < length self.old.rows.items }
         requires event { IsEvent ty sample }
-        ensures step { EndsNamed D.tells row (λ name. OfferStep name ty sample now) (parts D.Disk self.old) (offered_reply result) (parts D.Disk self.new) }
+        ensures step { EndsNamed D.tells row (λ name. WithWants (WouldKeep name ty sample now) (OfferStep name ty sample now)) (parts D.Disk self.old) (offered_reply result) (parts D.Disk self.new) }
         ensures store { self.new.store ≡ self.old.store }
     {
         let at = row as usize;
@@ -37,7 +38,7 @@ impl<D: Disk> Archive<D> {
     pub fn offer(&mut self, name: &[u8], ty: PayloadType, sample: Sample, now: u64) -> Offered
         requires stands { (m : Machine) × Stands D.tells (parts D.Disk self.old) m }
         requires event { IsEvent ty sample }
-        ensures step { Steps D.tells (OfferStep name.now ty sample now) (parts D.Disk self.old) (offered_reply result) (parts D.Disk self.new) }
+        ensures step { Steps D.tells (WithWants (WouldKeep name.now ty sample now) (OfferStep name.now ty sample now)) (parts D.Disk self.old) (offered_reply result) (parts D.Disk self.new) }
         ensures store { self.new.store ≡ self.old.store }
     {
         match self.store.catalogue().find(name) {
@@ -50,7 +51,7 @@ impl<D: Disk> Archive<D> {
     /// tail.
     pub fn tick(&mut self, row: u32, now: u64) -> Ticked
         requires stands { (m : Machine) × Stands D.tells (parts D.Disk self.old) m }
-        ensures step { Steps D.tells (TickStep row now) (parts D.Disk self.old) (ticked_reply result) (parts D.Disk self.new) }
+        ensures step { Steps D.tells (WithWants (WouldTick row now) (TickStep row now)) (parts D.Disk self.old) (ticked_reply result) (parts D.Disk self.new) }
         ensures store { self.new.store ≡ self.old.store }
     {
         let Some(variable) = self.store.catalogue().row(row) else {

@@ -18,6 +18,7 @@ ghost use Rattle.archive_core.specs.Parts.{parts};
 ghost use Rattle.archive_core.specs.Pinning.{IsPinning};
 ghost use Rattle.archive_core.specs.Pins.{IsOpening};
 ghost use Rattle.archive_core.specs.Stands.{Stands, Rests};
+ghost use Rattle.archive_core.specs.Wanting.{NoneRefuses, OwnsPiece, WithWants};
 
 use crate::Archive;
 use crate::answering::{answered, copied};
@@ -122,7 +123,7 @@ impl<D: Disk> Archive<D> {
         query: Query,
     ) -> Result<Answer<D::Reader>, DiskErr>
         requires stands { (m : Machine) × Stands D.tells (parts D.Disk self.old) m }
-        ensures step { Steps D.tells (PinStep who name.now query) (parts D.Disk self.old) (reply_of D.Reader.tells D.Reader.bytes D.Reader.faults (answer_of result)) (parts D.Disk self.new) }
+        ensures step { Steps D.tells (WithWants (NoneRefuses (refuse_by (PinAct name.now query))) (PinStep who name.now query)) (parts D.Disk self.old) (reply_of D.Reader.tells D.Reader.bytes D.Reader.faults (answer_of result)) (parts D.Disk self.new) }
         ensures crash { LeavesByAct D.tells (refuse_by (PinAct name.now query)) (change_by (PinAct name.now query)) (parts D.Disk self.old) (parts D.Disk self.new) }
         ensures reads { ReadsAlone D.tells (parts D.Disk self.old) (parts D.Disk self.new) }
         ensures pins { LeavesPins D.tells (parts D.Disk self.old) (PinAct name.now query) (reply_of D.Reader.tells D.Reader.bytes D.Reader.faults (answer_of result)) (parts D.Disk self.new) }
@@ -145,7 +146,7 @@ impl<D: Disk> Archive<D> {
     /// comes only where the disk's count of faults rose in the call.
     pub fn pin(&mut self, who: u64, name: &[u8], query: Query) -> Pinned
         requires stands { (m : Machine) × Stands D.tells (parts D.Disk self.old) m }
-        ensures step { Steps D.tells (PinStep who name.now query) (parts D.Disk self.old) (pinned_reply result) (parts D.Disk self.new) }
+        ensures step { Steps D.tells (WithWants (NoneRefuses (refuse_by (PinAct name.now query))) (PinStep who name.now query)) (parts D.Disk self.old) (pinned_reply result) (parts D.Disk self.new) }
         ensures crash { LeavesByAct D.tells (refuse_by (PinAct name.now query)) (change_by (PinAct name.now query)) (parts D.Disk self.old) (parts D.Disk self.new) }
         ensures reads { ReadsAlone D.tells (parts D.Disk self.old) (parts D.Disk self.new) }
         ensures pins { LeavesPins D.tells (parts D.Disk self.old) (PinAct name.now query) (pinned_reply result) (parts D.Disk self.new) }
@@ -157,7 +158,7 @@ impl<D: Disk> Archive<D> {
     /// file. A change that stands in doubt stays so. `DiskFault` comes only where the disk's count of faults rose in the call.
     pub fn open_piece(&mut self, who: u64, pin: u32, i: u32) -> PieceOpened<D::Reader>
         requires stands { (m : Machine) × Stands D.tells (parts D.Disk self.old) m }
-        ensures step { Steps D.tells (Opens who pin i) (parts D.Disk self.old) (piece_opened_reply D.Reader.tells D.Reader.bytes D.Reader.faults result) (parts D.Disk self.new) }
+        ensures step { Steps D.tells (WithWants (OwnsPiece who pin i) (Opens who pin i)) (parts D.Disk self.old) (piece_opened_reply D.Reader.tells D.Reader.bytes D.Reader.faults result) (parts D.Disk self.new) }
         ensures crash { LeavesByAct D.tells (refuse_by (OpenPieceAct pin i)) (change_by (OpenPieceAct pin i)) (parts D.Disk self.old) (parts D.Disk self.new) }
         ensures reads { ReadsAlone D.tells (parts D.Disk self.old) (parts D.Disk self.new) }
         ensures pins { LeavesPins D.tells (parts D.Disk self.old) (OpenPieceAct pin i) (piece_opened_reply D.Reader.tells D.Reader.bytes D.Reader.faults result) (parts D.Disk self.new) }

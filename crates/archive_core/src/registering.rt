@@ -13,6 +13,7 @@ ghost use Rattle.archive_core.specs.Leaving.{files_of};
 ghost use Rattle.archive_core.specs.Memory.{fresh_memory};
 ghost use Rattle.archive_core.specs.Parts.{parts};
 ghost use Rattle.archive_core.specs.Stands.{Stands, Rests};
+ghost use Rattle.archive_core.specs.Wanting.{NoneRefuses, WithWants};
 
 use crate::Archive;
 use crate::memory::{Doubt, RowMemory};
@@ -77,7 +78,7 @@ impl<D: Disk> Archive<D> {
 
     fn register_name(&mut self, name: &PvName, about: &About) -> Result<u32, RegisterErr>
         requires stands { (m : Machine) × Stands D.tells (parts D.Disk self.old) m }
-        ensures step { Steps D.tells (RegisterStep name.now about.now) (parts D.Disk self.old) (register_reply result) (parts D.Disk self.new) }
+        ensures step { Steps D.tells (WithWants (NoneRefuses (register_refused name.now)) (RegisterStep name.now about.now)) (parts D.Disk self.old) (register_reply result) (parts D.Disk self.new) }
         ensures crash { LeavesByAct D.tells (register_refused name.now) (λ m. Some (AddsRow name.now about.now)) (parts D.Disk self.old) (parts D.Disk self.new) }
         ensures fronts { LeavesFronts D.tells (files_of (parts D.Disk self.old)) (files_of (parts D.Disk self.new)) }
     {
@@ -91,7 +92,7 @@ impl<D: Disk> Archive<D> {
     /// settled first. `DiskFault` comes only where the disk's count of faults rose in the call.
     pub fn register(&mut self, name: &PvName, about: &About) -> Registered
         requires stands { (m : Machine) × Stands D.tells (parts D.Disk self.old) m }
-        ensures step { Steps D.tells (RegisterStep name.now about.now) (parts D.Disk self.old) (registered_reply result) (parts D.Disk self.new) }
+        ensures step { Steps D.tells (WithWants (NoneRefuses (refuse_by (RegisterAct name.now about.now))) (RegisterStep name.now about.now)) (parts D.Disk self.old) (registered_reply result) (parts D.Disk self.new) }
         ensures crash { LeavesByAct D.tells (refuse_by (RegisterAct name.now about.now)) (change_by (RegisterAct name.now about.now)) (parts D.Disk self.old) (parts D.Disk self.new) }
         ensures fronts { LeavesFronts D.tells (files_of (parts D.Disk self.old)) (files_of (parts D.Disk self.new)) }
     {

@@ -13,6 +13,7 @@ ghost use Rattle.archive_core.specs.Parts.{parts};
 ghost use Rattle.archive_core.specs.Retiring.{lengths_of};
 ghost use Rattle.archive_core.specs.Stands.{Stands};
 ghost use Rattle.archive_core.specs.Stepping.{GoesOnWith, HasTaken, stepped_reply};
+ghost use Rattle.archive_core.specs.Wanting.{NoneRefuses, WithWants};
 
 use crate::Archive;
 use crate::memory::Doubt;
@@ -138,7 +139,7 @@ impl<D: Disk> Archive<D> {
 
     fn step_move(&mut self, number: u32) -> Result<MoveStepped, DiskErr>
         requires stands { (m : Machine) × Stands D.tells (parts D.Disk self.old) m }
-        ensures step { Steps D.tells (MoveStepStep number) (parts D.Disk self.old) (stepped_reply result) (parts D.Disk self.new) }
+        ensures step { Steps D.tells (WithWants (NoneRefuses (refuse_by (MoveStepAct number))) (MoveStepStep number)) (parts D.Disk self.old) (stepped_reply result) (parts D.Disk self.new) }
         ensures crash { LeavesByAct D.tells (refuse_by (MoveStepAct number)) (change_by (MoveStepAct number)) (parts D.Disk self.old) (parts D.Disk self.new) }
         ensures moves { LeavesMove (parts D.Disk self.old) (MoveStepAct number) (stepped_reply result) (parts D.Disk self.new) }
     {
@@ -169,7 +170,7 @@ impl<D: Disk> Archive<D> {
     /// has ended then. `Memory` leaves it as it was.
     pub fn move_step(&mut self, number: u32) -> MoveStepped
         requires stands { (m : Machine) × Stands D.tells (parts D.Disk self.old) m }
-        ensures step { Steps D.tells (MoveStepStep number) (parts D.Disk self.old) (move_stepped_reply result) (parts D.Disk self.new) }
+        ensures step { Steps D.tells (WithWants (NoneRefuses (refuse_by (MoveStepAct number))) (MoveStepStep number)) (parts D.Disk self.old) (move_stepped_reply result) (parts D.Disk self.new) }
         ensures crash { LeavesByAct D.tells (refuse_by (MoveStepAct number)) (change_by (MoveStepAct number)) (parts D.Disk self.old) (parts D.Disk self.new) }
         ensures moves { LeavesMove (parts D.Disk self.old) (MoveStepAct number) (move_stepped_reply result) (parts D.Disk self.new) }
     {

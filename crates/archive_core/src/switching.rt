@@ -21,6 +21,7 @@ ghost use Rattle.archive_core.specs.Parts.{parts};
 ghost use Rattle.archive_core.specs.Stands.{Stands, Rests};
 ghost use Rattle.archive_core.specs.Switching.{IsFound, IsUnset, from_of, to_of, wrong_of, switching, switch_reply};
 ghost use Rattle.archive_core.specs.declared.switching.Unset.TheVariants.{Disk as UnsetDisk};
+ghost use Rattle.archive_core.specs.Wanting.{NoneRefuses, WithWants};
 
 use crate::Archive;
 use crate::memory::Doubt;
@@ -135,7 +136,7 @@ impl<D: Disk> Archive<D> {
 
     fn set_state(&mut self, name: &[u8], switch: Switch) -> Result<(), Unset>
         requires stands { (m : Machine) × Stands D.tells (parts D.Disk self.old) m }
-        ensures step { Steps D.tells (StateStep (wrong_of switch) (to_of switch) name.now) (parts D.Disk self.old) (switch_reply switch result) (parts D.Disk self.new) }
+        ensures step { Steps D.tells (WithWants (NoneRefuses (state_refused (wrong_of switch) name.now)) (StateStep (wrong_of switch) (to_of switch) name.now)) (parts D.Disk self.old) (switch_reply switch result) (parts D.Disk self.new) }
         ensures crash { LeavesByAct D.tells (state_refused (wrong_of switch) name.now) (λ m. sets_of (to_of switch) (find_row m name.now)) (parts D.Disk self.old) (parts D.Disk self.new) }
         ensures fronts { LeavesFronts D.tells (files_of (parts D.Disk self.old)) (files_of (parts D.Disk self.new)) }
     {
@@ -150,7 +151,7 @@ impl<D: Disk> Archive<D> {
     /// in doubt is settled first. `DiskFault` comes only where the disk's count of faults rose in the call.
     pub fn pause(&mut self, name: &[u8]) -> Paused
         requires stands { (m : Machine) × Stands D.tells (parts D.Disk self.old) m }
-        ensures step { Steps D.tells (PauseStep name.now) (parts D.Disk self.old) (paused_reply result) (parts D.Disk self.new) }
+        ensures step { Steps D.tells (WithWants (NoneRefuses (refuse_by (PauseAct name.now))) (PauseStep name.now)) (parts D.Disk self.old) (paused_reply result) (parts D.Disk self.new) }
         ensures crash { LeavesByAct D.tells (refuse_by (PauseAct name.now)) (change_by (PauseAct name.now)) (parts D.Disk self.old) (parts D.Disk self.new) }
         ensures fronts { LeavesFronts D.tells (files_of (parts D.Disk self.old)) (files_of (parts D.Disk self.new)) }
     {
@@ -167,7 +168,7 @@ impl<D: Disk> Archive<D> {
     /// first. `DiskFault` comes only where the disk's count of faults rose in the call.
     pub fn resume(&mut self, name: &[u8]) -> Resumed
         requires stands { (m : Machine) × Stands D.tells (parts D.Disk self.old) m }
-        ensures step { Steps D.tells (ResumeStep name.now) (parts D.Disk self.old) (resumed_reply result) (parts D.Disk self.new) }
+        ensures step { Steps D.tells (WithWants (NoneRefuses (refuse_by (ResumeAct name.now))) (ResumeStep name.now)) (parts D.Disk self.old) (resumed_reply result) (parts D.Disk self.new) }
         ensures crash { LeavesByAct D.tells (refuse_by (ResumeAct name.now)) (change_by (ResumeAct name.now)) (parts D.Disk self.old) (parts D.Disk self.new) }
         ensures fronts { LeavesFronts D.tells (files_of (parts D.Disk self.old)) (files_of (parts D.Disk self.new)) }
     {

@@ -3,75 +3,75 @@ use Rattle.act_model.specs.declared.acts.Act.TheVariants.{Register, Pause, Resum
 use Rattle.three_stores.specs.Pinned.{seen_all}
 use Rattle.archive_core.specs.Leaving.{files_of}
 use Rattle.archive_core.specs.Parts.{parts}
-use Rattle.archive_core.proofs.Asked.{as_asked, as_left, no_call}
+use Rattle.archive_core.proofs.Asked.{as_asked, as_asked_with, as_left, no_call, wants_any, wants_with}
 use Rattle.archive_core.proofs.ReadingAlone.{reads_none}
 use Rattle.archive_core.proofs.archive.Archive.apply.Goals as goal
 
 pub returns-in-Register-clause-step : goal.returns-in-Register-clause-step
-returns-in-Register-clause-step g c = as_asked g.D.Disk.tells c.args.who c.args.act (Register c.in-Register.name c.in-Register.about) (parts g.D.Disk c.args.self.now) (parts g.D.Disk c.register.new.self) _ _ c.in-Register.is c.registered.ensures c.register.ensures.step
+returns-in-Register-clause-step g c = as_asked_with g.D.Disk.tells c.args.who c.args.act (Register c.in-Register.name c.in-Register.about) (parts g.D.Disk c.args.self.now) (parts g.D.Disk c.register.new.self) _ _ c.in-Register.is c.registered.ensures c.register.ensures.step
 
 pub returns-in-Register-clause-leaves : goal.returns-in-Register-clause-leaves
-returns-in-Register-clause-leaves g c = as_left g.D.Disk.tells c.args.who c.args.act (Register c.in-Register.name c.in-Register.about) (parts g.D.Disk c.args.self.now) (parts g.D.Disk c.register.new.self) _ _ c.in-Register.is c.registered.ensures c.register.ensures.crash c.register.ensures.fronts tt tt
+returns-in-Register-clause-leaves g c = as_left g.D.Disk.tells c.args.who c.args.act (Register c.in-Register.name c.in-Register.about) (parts g.D.Disk c.args.self.now) (parts g.D.Disk c.register.new.self) _ _ c.in-Register.is c.registered.ensures c.register.ensures.crash c.register.ensures.fronts tt tt (wants_with g.D.Disk.tells c.args.who (Register c.in-Register.name c.in-Register.about) (parts g.D.Disk c.args.self.now) (parts g.D.Disk c.register.new.self) _ c.register.ensures.step)
 
 pub returns-in-Pause-clause-step : goal.returns-in-Pause-clause-step
-returns-in-Pause-clause-step g c = as_asked g.D.Disk.tells c.args.who c.args.act (Pause c.bytes.result.now) (parts g.D.Disk c.args.self.now) (parts g.D.Disk c.pause.new.self) _ _ (c.in-Pause.is ∙ ap (λ (n : List ℕ). Pause n) (sym c.bytes.ensures)) c.paused.ensures c.pause.ensures.step
+returns-in-Pause-clause-step g c = as_asked_with g.D.Disk.tells c.args.who c.args.act (Pause c.bytes.result.now) (parts g.D.Disk c.args.self.now) (parts g.D.Disk c.pause.new.self) _ _ (c.in-Pause.is ∙ ap (λ (n : List ℕ). Pause n) (sym c.bytes.ensures)) c.paused.ensures c.pause.ensures.step
 
 pub returns-in-Pause-clause-leaves : goal.returns-in-Pause-clause-leaves
-returns-in-Pause-clause-leaves g c = as_left g.D.Disk.tells c.args.who c.args.act (Pause c.bytes.result.now) (parts g.D.Disk c.args.self.now) (parts g.D.Disk c.pause.new.self) _ _ (c.in-Pause.is ∙ ap (λ (n : List ℕ). Pause n) (sym c.bytes.ensures)) c.paused.ensures c.pause.ensures.crash c.pause.ensures.fronts tt tt
+returns-in-Pause-clause-leaves g c = as_left g.D.Disk.tells c.args.who c.args.act (Pause c.bytes.result.now) (parts g.D.Disk c.args.self.now) (parts g.D.Disk c.pause.new.self) _ _ (c.in-Pause.is ∙ ap (λ (n : List ℕ). Pause n) (sym c.bytes.ensures)) c.paused.ensures c.pause.ensures.crash c.pause.ensures.fronts tt tt (wants_with g.D.Disk.tells c.args.who (Pause c.bytes.result.now) (parts g.D.Disk c.args.self.now) (parts g.D.Disk c.pause.new.self) _ c.pause.ensures.step)
 
 pub returns-in-Resume-clause-step : goal.returns-in-Resume-clause-step
-returns-in-Resume-clause-step g c = as_asked g.D.Disk.tells c.args.who c.args.act (Resume c.bytes-in-Resume.result.now) (parts g.D.Disk c.args.self.now) (parts g.D.Disk c.resume.new.self) _ _ (c.in-Resume.is ∙ ap (λ (n : List ℕ). Resume n) (sym c.bytes-in-Resume.ensures)) c.resumed.ensures c.resume.ensures.step
+returns-in-Resume-clause-step g c = as_asked_with g.D.Disk.tells c.args.who c.args.act (Resume c.bytes-in-Resume.result.now) (parts g.D.Disk c.args.self.now) (parts g.D.Disk c.resume.new.self) _ _ (c.in-Resume.is ∙ ap (λ (n : List ℕ). Resume n) (sym c.bytes-in-Resume.ensures)) c.resumed.ensures c.resume.ensures.step
 
 pub returns-in-Resume-clause-leaves : goal.returns-in-Resume-clause-leaves
-returns-in-Resume-clause-leaves g c = as_left g.D.Disk.tells c.args.who c.args.act (Resume c.bytes-in-Resume.result.now) (parts g.D.Disk c.args.self.now) (parts g.D.Disk c.resume.new.self) _ _ (c.in-Resume.is ∙ ap (λ (n : List ℕ). Resume n) (sym c.bytes-in-Resume.ensures)) c.resumed.ensures c.resume.ensures.crash c.resume.ensures.fronts tt tt
+returns-in-Resume-clause-leaves g c = as_left g.D.Disk.tells c.args.who c.args.act (Resume c.bytes-in-Resume.result.now) (parts g.D.Disk c.args.self.now) (parts g.D.Disk c.resume.new.self) _ _ (c.in-Resume.is ∙ ap (λ (n : List ℕ). Resume n) (sym c.bytes-in-Resume.ensures)) c.resumed.ensures c.resume.ensures.crash c.resume.ensures.fronts tt tt (wants_with g.D.Disk.tells c.args.who (Resume c.bytes-in-Resume.result.now) (parts g.D.Disk c.args.self.now) (parts g.D.Disk c.resume.new.self) _ c.resume.ensures.step)
 
 pub returns-in-Offer-clause-step : goal.returns-in-Offer-clause-step
-returns-in-Offer-clause-step g c = as_asked g.D.Disk.tells c.args.who c.args.act (Offer c.bytes-in-Offer.result.now c.in-Offer.ty c.in-Offer.t c.in-Offer.line c.in-Offer.now) (parts g.D.Disk c.args.self.now) (parts g.D.Disk c.offer.new.self) _ _ (c.in-Offer.is ∙ ap (λ (n : List ℕ). Offer n c.in-Offer.ty c.in-Offer.t c.in-Offer.line c.in-Offer.now) (sym c.bytes-in-Offer.ensures)) c.offered.ensures c.offer.ensures.step
+returns-in-Offer-clause-step g c = as_asked_with g.D.Disk.tells c.args.who c.args.act (Offer c.bytes-in-Offer.result.now c.in-Offer.ty c.in-Offer.t c.in-Offer.line c.in-Offer.now) (parts g.D.Disk c.args.self.now) (parts g.D.Disk c.offer.new.self) _ _ (c.in-Offer.is ∙ ap (λ (n : List ℕ). Offer n c.in-Offer.ty c.in-Offer.t c.in-Offer.line c.in-Offer.now) (sym c.bytes-in-Offer.ensures)) c.offered.ensures c.offer.ensures.step
 
 pub returns-in-Offer-clause-leaves : goal.returns-in-Offer-clause-leaves
-returns-in-Offer-clause-leaves g c = as_left g.D.Disk.tells c.args.who c.args.act (Offer c.bytes-in-Offer.result.now c.in-Offer.ty c.in-Offer.t c.in-Offer.line c.in-Offer.now) (parts g.D.Disk c.args.self.now) (parts g.D.Disk c.offer.new.self) _ _ (c.in-Offer.is ∙ ap (λ (n : List ℕ). Offer n c.in-Offer.ty c.in-Offer.t c.in-Offer.line c.in-Offer.now) (sym c.bytes-in-Offer.ensures)) c.offered.ensures (no_call g.D.Disk.tells (Offer c.bytes-in-Offer.result.now c.in-Offer.ty c.in-Offer.t c.in-Offer.line c.in-Offer.now) (parts g.D.Disk c.args.self.now) (parts g.D.Disk c.offer.new.self) (λ m f. refl) (λ m f. refl) (ap (seen_all g.D.Disk) c.offer.ensures.store)) (reads_none g.D.Disk.tells (parts g.D.Disk c.args.self.now) (parts g.D.Disk c.offer.new.self) (ap (seen_all g.D.Disk) c.offer.ensures.store)) tt tt
+returns-in-Offer-clause-leaves g c = as_left g.D.Disk.tells c.args.who c.args.act (Offer c.bytes-in-Offer.result.now c.in-Offer.ty c.in-Offer.t c.in-Offer.line c.in-Offer.now) (parts g.D.Disk c.args.self.now) (parts g.D.Disk c.offer.new.self) _ _ (c.in-Offer.is ∙ ap (λ (n : List ℕ). Offer n c.in-Offer.ty c.in-Offer.t c.in-Offer.line c.in-Offer.now) (sym c.bytes-in-Offer.ensures)) c.offered.ensures (no_call g.D.Disk.tells (Offer c.bytes-in-Offer.result.now c.in-Offer.ty c.in-Offer.t c.in-Offer.line c.in-Offer.now) (parts g.D.Disk c.args.self.now) (parts g.D.Disk c.offer.new.self) (λ m f. refl) (λ m f. refl) (ap (seen_all g.D.Disk) c.offer.ensures.store)) (reads_none g.D.Disk.tells (parts g.D.Disk c.args.self.now) (parts g.D.Disk c.offer.new.self) (ap (seen_all g.D.Disk) c.offer.ensures.store)) tt tt (wants_with g.D.Disk.tells c.args.who (Offer c.bytes-in-Offer.result.now c.in-Offer.ty c.in-Offer.t c.in-Offer.line c.in-Offer.now) (parts g.D.Disk c.args.self.now) (parts g.D.Disk c.offer.new.self) _ c.offer.ensures.step)
 
 pub returns-in-Tick-clause-step : goal.returns-in-Tick-clause-step
-returns-in-Tick-clause-step g c = as_asked g.D.Disk.tells c.args.who c.args.act (Tick c.in-Tick.row c.in-Tick.now) (parts g.D.Disk c.args.self.now) (parts g.D.Disk c.tick.new.self) _ _ c.in-Tick.is c.ticked.ensures c.tick.ensures.step
+returns-in-Tick-clause-step g c = as_asked_with g.D.Disk.tells c.args.who c.args.act (Tick c.in-Tick.row c.in-Tick.now) (parts g.D.Disk c.args.self.now) (parts g.D.Disk c.tick.new.self) _ _ c.in-Tick.is c.ticked.ensures c.tick.ensures.step
 
 pub returns-in-Tick-clause-leaves : goal.returns-in-Tick-clause-leaves
-returns-in-Tick-clause-leaves g c = as_left g.D.Disk.tells c.args.who c.args.act (Tick c.in-Tick.row c.in-Tick.now) (parts g.D.Disk c.args.self.now) (parts g.D.Disk c.tick.new.self) _ _ c.in-Tick.is c.ticked.ensures (no_call g.D.Disk.tells (Tick c.in-Tick.row c.in-Tick.now) (parts g.D.Disk c.args.self.now) (parts g.D.Disk c.tick.new.self) (λ m f. refl) (λ m f. refl) (ap (seen_all g.D.Disk) c.tick.ensures.store)) (reads_none g.D.Disk.tells (parts g.D.Disk c.args.self.now) (parts g.D.Disk c.tick.new.self) (ap (seen_all g.D.Disk) c.tick.ensures.store)) tt tt
+returns-in-Tick-clause-leaves g c = as_left g.D.Disk.tells c.args.who c.args.act (Tick c.in-Tick.row c.in-Tick.now) (parts g.D.Disk c.args.self.now) (parts g.D.Disk c.tick.new.self) _ _ c.in-Tick.is c.ticked.ensures (no_call g.D.Disk.tells (Tick c.in-Tick.row c.in-Tick.now) (parts g.D.Disk c.args.self.now) (parts g.D.Disk c.tick.new.self) (λ m f. refl) (λ m f. refl) (ap (seen_all g.D.Disk) c.tick.ensures.store)) (reads_none g.D.Disk.tells (parts g.D.Disk c.args.self.now) (parts g.D.Disk c.tick.new.self) (ap (seen_all g.D.Disk) c.tick.ensures.store)) tt tt (wants_with g.D.Disk.tells c.args.who (Tick c.in-Tick.row c.in-Tick.now) (parts g.D.Disk c.args.self.now) (parts g.D.Disk c.tick.new.self) _ c.tick.ensures.step)
 
 pub returns-in-Flush-clause-step : goal.returns-in-Flush-clause-step
 returns-in-Flush-clause-step g c = as_asked g.D.Disk.tells c.args.who c.args.act (Flush c.in-Flush.limit) (parts g.D.Disk c.args.self.now) (parts g.D.Disk c.flush.new.self) _ _ c.in-Flush.is c.flushed.ensures c.flush.ensures.step
 
 pub returns-in-Flush-clause-leaves : goal.returns-in-Flush-clause-leaves
-returns-in-Flush-clause-leaves g c = as_left g.D.Disk.tells c.args.who c.args.act (Flush c.in-Flush.limit) (parts g.D.Disk c.args.self.now) (parts g.D.Disk c.flush.new.self) _ _ c.in-Flush.is c.flushed.ensures c.flush.ensures.crash c.flush.ensures.fronts tt tt
+returns-in-Flush-clause-leaves g c = as_left g.D.Disk.tells c.args.who c.args.act (Flush c.in-Flush.limit) (parts g.D.Disk c.args.self.now) (parts g.D.Disk c.flush.new.self) _ _ c.in-Flush.is c.flushed.ensures c.flush.ensures.crash c.flush.ensures.fronts tt tt (wants_any g.D.Disk.tells c.args.who (Flush c.in-Flush.limit) (parts g.D.Disk c.args.self.now) (parts g.D.Disk c.flush.new.self) _ (λ m n. tt) c.flush.ensures.step)
 
 pub returns-in-MoveBegin-clause-step : goal.returns-in-MoveBegin-clause-step
 returns-in-MoveBegin-clause-step g c = as_asked g.D.Disk.tells c.args.who c.args.act (MoveBegin c.in-MoveBegin.store c.in-MoveBegin.now) (parts g.D.Disk c.args.self.now) (parts g.D.Disk c.begin_move.new.self) _ _ c.in-MoveBegin.is c.move_begun.ensures c.begin_move.ensures.step
 
 pub returns-in-MoveBegin-clause-leaves : goal.returns-in-MoveBegin-clause-leaves
-returns-in-MoveBegin-clause-leaves g c = as_left g.D.Disk.tells c.args.who c.args.act (MoveBegin c.in-MoveBegin.store c.in-MoveBegin.now) (parts g.D.Disk c.args.self.now) (parts g.D.Disk c.begin_move.new.self) _ _ c.in-MoveBegin.is c.move_begun.ensures c.begin_move.ensures.crash c.begin_move.ensures.reads tt tt
+returns-in-MoveBegin-clause-leaves g c = as_left g.D.Disk.tells c.args.who c.args.act (MoveBegin c.in-MoveBegin.store c.in-MoveBegin.now) (parts g.D.Disk c.args.self.now) (parts g.D.Disk c.begin_move.new.self) _ _ c.in-MoveBegin.is c.move_begun.ensures c.begin_move.ensures.crash c.begin_move.ensures.reads tt tt (wants_any g.D.Disk.tells c.args.who (MoveBegin c.in-MoveBegin.store c.in-MoveBegin.now) (parts g.D.Disk c.args.self.now) (parts g.D.Disk c.begin_move.new.self) _ (λ m n. tt) c.begin_move.ensures.step)
 
 pub returns-in-MoveStep-clause-step : goal.returns-in-MoveStep-clause-step
-returns-in-MoveStep-clause-step g c = as_asked g.D.Disk.tells c.args.who c.args.act (MoveStep c.in-MoveStep.m) (parts g.D.Disk c.args.self.now) (parts g.D.Disk c.move_step.new.self) _ _ c.in-MoveStep.is c.move_stepped.ensures c.move_step.ensures.step
+returns-in-MoveStep-clause-step g c = as_asked_with g.D.Disk.tells c.args.who c.args.act (MoveStep c.in-MoveStep.m) (parts g.D.Disk c.args.self.now) (parts g.D.Disk c.move_step.new.self) _ _ c.in-MoveStep.is c.move_stepped.ensures c.move_step.ensures.step
 
 pub returns-in-MoveStep-clause-leaves : goal.returns-in-MoveStep-clause-leaves
-returns-in-MoveStep-clause-leaves g c = as_left g.D.Disk.tells c.args.who c.args.act (MoveStep c.in-MoveStep.m) (parts g.D.Disk c.args.self.now) (parts g.D.Disk c.move_step.new.self) _ _ c.in-MoveStep.is c.move_stepped.ensures c.move_step.ensures.crash tt tt c.move_step.ensures.moves
+returns-in-MoveStep-clause-leaves g c = as_left g.D.Disk.tells c.args.who c.args.act (MoveStep c.in-MoveStep.m) (parts g.D.Disk c.args.self.now) (parts g.D.Disk c.move_step.new.self) _ _ c.in-MoveStep.is c.move_stepped.ensures c.move_step.ensures.crash tt tt c.move_step.ensures.moves (wants_with g.D.Disk.tells c.args.who (MoveStep c.in-MoveStep.m) (parts g.D.Disk c.args.self.now) (parts g.D.Disk c.move_step.new.self) _ c.move_step.ensures.step)
 
 pub returns-in-Sweep-clause-step : goal.returns-in-Sweep-clause-step
 returns-in-Sweep-clause-step g c = as_asked g.D.Disk.tells c.args.who c.args.act (Sweep) (parts g.D.Disk c.args.self.now) (parts g.D.Disk c.sweep.new.self) _ _ c.in-Sweep.is c.swept.ensures c.sweep.ensures.step
 
 pub returns-in-Sweep-clause-leaves : goal.returns-in-Sweep-clause-leaves
-returns-in-Sweep-clause-leaves g c = as_left g.D.Disk.tells c.args.who c.args.act (Sweep) (parts g.D.Disk c.args.self.now) (parts g.D.Disk c.sweep.new.self) _ _ c.in-Sweep.is c.swept.ensures c.sweep.ensures.crash tt tt tt
+returns-in-Sweep-clause-leaves g c = as_left g.D.Disk.tells c.args.who c.args.act (Sweep) (parts g.D.Disk c.args.self.now) (parts g.D.Disk c.sweep.new.self) _ _ c.in-Sweep.is c.swept.ensures c.sweep.ensures.crash tt tt tt (wants_any g.D.Disk.tells c.args.who (Sweep) (parts g.D.Disk c.args.self.now) (parts g.D.Disk c.sweep.new.self) _ (λ m n. tt) c.sweep.ensures.step)
 
 pub returns-in-Pin-clause-step : goal.returns-in-Pin-clause-step
-returns-in-Pin-clause-step g c = as_asked g.D.Disk.tells c.args.who c.args.act (Pin c.bytes-in-Pin.result.now c.in-Pin.query) (parts g.D.Disk c.args.self.now) (parts g.D.Disk c.pin.new.self) _ _ (c.in-Pin.is ∙ ap (λ (n : List ℕ). Pin n c.in-Pin.query) (sym c.bytes-in-Pin.ensures)) c.pinned.ensures c.pin.ensures.step
+returns-in-Pin-clause-step g c = as_asked_with g.D.Disk.tells c.args.who c.args.act (Pin c.bytes-in-Pin.result.now c.in-Pin.query) (parts g.D.Disk c.args.self.now) (parts g.D.Disk c.pin.new.self) _ _ (c.in-Pin.is ∙ ap (λ (n : List ℕ). Pin n c.in-Pin.query) (sym c.bytes-in-Pin.ensures)) c.pinned.ensures c.pin.ensures.step
 
 pub returns-in-Pin-clause-leaves : goal.returns-in-Pin-clause-leaves
-returns-in-Pin-clause-leaves g c = as_left g.D.Disk.tells c.args.who c.args.act (Pin c.bytes-in-Pin.result.now c.in-Pin.query) (parts g.D.Disk c.args.self.now) (parts g.D.Disk c.pin.new.self) _ _ (c.in-Pin.is ∙ ap (λ (n : List ℕ). Pin n c.in-Pin.query) (sym c.bytes-in-Pin.ensures)) c.pinned.ensures c.pin.ensures.crash c.pin.ensures.reads c.pin.ensures.pins tt
+returns-in-Pin-clause-leaves g c = as_left g.D.Disk.tells c.args.who c.args.act (Pin c.bytes-in-Pin.result.now c.in-Pin.query) (parts g.D.Disk c.args.self.now) (parts g.D.Disk c.pin.new.self) _ _ (c.in-Pin.is ∙ ap (λ (n : List ℕ). Pin n c.in-Pin.query) (sym c.bytes-in-Pin.ensures)) c.pinned.ensures c.pin.ensures.crash c.pin.ensures.reads c.pin.ensures.pins tt (wants_with g.D.Disk.tells c.args.who (Pin c.bytes-in-Pin.result.now c.in-Pin.query) (parts g.D.Disk c.args.self.now) (parts g.D.Disk c.pin.new.self) _ c.pin.ensures.step)
 
 pub returns-in-OpenPiece-clause-step : goal.returns-in-OpenPiece-clause-step
-returns-in-OpenPiece-clause-step g c = as_asked g.D.Disk.tells c.args.who c.args.act (OpenPiece c.in-OpenPiece.pin c.in-OpenPiece.i) (parts g.D.Disk c.args.self.now) (parts g.D.Disk c.open_piece.new.self) _ _ c.in-OpenPiece.is c.piece_opened.ensures c.open_piece.ensures.step
+returns-in-OpenPiece-clause-step g c = as_asked_with g.D.Disk.tells c.args.who c.args.act (OpenPiece c.in-OpenPiece.pin c.in-OpenPiece.i) (parts g.D.Disk c.args.self.now) (parts g.D.Disk c.open_piece.new.self) _ _ c.in-OpenPiece.is c.piece_opened.ensures c.open_piece.ensures.step
 
 pub returns-in-OpenPiece-clause-leaves : goal.returns-in-OpenPiece-clause-leaves
-returns-in-OpenPiece-clause-leaves g c = as_left g.D.Disk.tells c.args.who c.args.act (OpenPiece c.in-OpenPiece.pin c.in-OpenPiece.i) (parts g.D.Disk c.args.self.now) (parts g.D.Disk c.open_piece.new.self) _ _ c.in-OpenPiece.is c.piece_opened.ensures c.open_piece.ensures.crash c.open_piece.ensures.reads c.open_piece.ensures.pins tt
+returns-in-OpenPiece-clause-leaves g c = as_left g.D.Disk.tells c.args.who c.args.act (OpenPiece c.in-OpenPiece.pin c.in-OpenPiece.i) (parts g.D.Disk c.args.self.now) (parts g.D.Disk c.open_piece.new.self) _ _ c.in-OpenPiece.is c.piece_opened.ensures c.open_piece.ensures.crash c.open_piece.ensures.reads c.open_piece.ensures.pins tt (wants_with g.D.Disk.tells c.args.who (OpenPiece c.in-OpenPiece.pin c.in-OpenPiece.i) (parts g.D.Disk c.args.self.now) (parts g.D.Disk c.open_piece.new.self) _ c.open_piece.ensures.step)
 
 pub returns-in-Unpin-clause-step : goal.returns-in-Unpin-clause-step
 returns-in-Unpin-clause-step g c = as_asked g.D.Disk.tells c.args.who c.args.act (Unpin c.in-Unpin.pin) (parts g.D.Disk c.args.self.now) (parts g.D.Disk c.unpin.new.self) _ _ c.in-Unpin.is c.unpinned.ensures c.unpin.ensures.step
@@ -80,28 +80,28 @@ pub returns-in-Unpin-clause-leaves : goal.returns-in-Unpin-clause-leaves
 returns-in-Unpin-clause-leaves g c =
     let same = c.unpin.ensures.same in
     let still : files_of (parts g.D.Disk c.unpin.new.self) ≡ files_of (parts g.D.Disk c.args.self.now) = rw (same.0, same.1, same.2, same.3) refl in
-    as_left g.D.Disk.tells c.args.who c.args.act (Unpin c.in-Unpin.pin) (parts g.D.Disk c.args.self.now) (parts g.D.Disk c.unpin.new.self) _ _ c.in-Unpin.is c.unpinned.ensures (no_call g.D.Disk.tells (Unpin c.in-Unpin.pin) (parts g.D.Disk c.args.self.now) (parts g.D.Disk c.unpin.new.self) (λ m f. refl) (λ m f. refl) still) (reads_none g.D.Disk.tells (parts g.D.Disk c.args.self.now) (parts g.D.Disk c.unpin.new.self) still) tt tt
+    as_left g.D.Disk.tells c.args.who c.args.act (Unpin c.in-Unpin.pin) (parts g.D.Disk c.args.self.now) (parts g.D.Disk c.unpin.new.self) _ _ c.in-Unpin.is c.unpinned.ensures (no_call g.D.Disk.tells (Unpin c.in-Unpin.pin) (parts g.D.Disk c.args.self.now) (parts g.D.Disk c.unpin.new.self) (λ m f. refl) (λ m f. refl) still) (reads_none g.D.Disk.tells (parts g.D.Disk c.args.self.now) (parts g.D.Disk c.unpin.new.self) still) tt tt (wants_any g.D.Disk.tells c.args.who (Unpin c.in-Unpin.pin) (parts g.D.Disk c.args.self.now) (parts g.D.Disk c.unpin.new.self) _ (λ m n. tt) c.unpin.ensures.step)
 
 pub returns-in-Names-clause-step : goal.returns-in-Names-clause-step
 returns-in-Names-clause-step g c = as_asked g.D.Disk.tells c.args.who c.args.act (Names c.in-Names.from c.in-Names.most) (parts g.D.Disk c.args.self.now) (parts g.D.Disk c.args.self.now) _ _ c.in-Names.is c.names_told.ensures c.names.ensures.step
 
 pub returns-in-Names-clause-leaves : goal.returns-in-Names-clause-leaves
-returns-in-Names-clause-leaves g c = as_left g.D.Disk.tells c.args.who c.args.act (Names c.in-Names.from c.in-Names.most) (parts g.D.Disk c.args.self.now) (parts g.D.Disk c.args.self.now) _ _ c.in-Names.is c.names_told.ensures (no_call g.D.Disk.tells (Names c.in-Names.from c.in-Names.most) (parts g.D.Disk c.args.self.now) (parts g.D.Disk c.args.self.now) (λ m f. refl) (λ m f. refl) refl) (reads_none g.D.Disk.tells (parts g.D.Disk c.args.self.now) (parts g.D.Disk c.args.self.now) refl) tt tt
+returns-in-Names-clause-leaves g c = as_left g.D.Disk.tells c.args.who c.args.act (Names c.in-Names.from c.in-Names.most) (parts g.D.Disk c.args.self.now) (parts g.D.Disk c.args.self.now) _ _ c.in-Names.is c.names_told.ensures (no_call g.D.Disk.tells (Names c.in-Names.from c.in-Names.most) (parts g.D.Disk c.args.self.now) (parts g.D.Disk c.args.self.now) (λ m f. refl) (λ m f. refl) refl) (reads_none g.D.Disk.tells (parts g.D.Disk c.args.self.now) (parts g.D.Disk c.args.self.now) refl) tt tt (wants_any g.D.Disk.tells c.args.who (Names c.in-Names.from c.in-Names.most) (parts g.D.Disk c.args.self.now) (parts g.D.Disk c.args.self.now) _ (λ m n. tt) c.names.ensures.step)
 
 pub returns-in-Details-clause-step : goal.returns-in-Details-clause-step
-returns-in-Details-clause-step g c = as_asked g.D.Disk.tells c.args.who c.args.act (Details c.bytes-in-Details.result.now) (parts g.D.Disk c.args.self.now) (parts g.D.Disk c.details.new.self) _ _ (c.in-Details.is ∙ ap (λ (n : List ℕ). Details n) (sym c.bytes-in-Details.ensures)) c.details_told.ensures c.details.ensures.step
+returns-in-Details-clause-step g c = as_asked_with g.D.Disk.tells c.args.who c.args.act (Details c.bytes-in-Details.result.now) (parts g.D.Disk c.args.self.now) (parts g.D.Disk c.details.new.self) _ _ (c.in-Details.is ∙ ap (λ (n : List ℕ). Details n) (sym c.bytes-in-Details.ensures)) c.details_told.ensures c.details.ensures.step
 
 pub returns-in-Details-clause-leaves : goal.returns-in-Details-clause-leaves
-returns-in-Details-clause-leaves g c = as_left g.D.Disk.tells c.args.who c.args.act (Details c.bytes-in-Details.result.now) (parts g.D.Disk c.args.self.now) (parts g.D.Disk c.details.new.self) _ _ (c.in-Details.is ∙ ap (λ (n : List ℕ). Details n) (sym c.bytes-in-Details.ensures)) c.details_told.ensures c.details.ensures.crash c.details.ensures.reads tt tt
+returns-in-Details-clause-leaves g c = as_left g.D.Disk.tells c.args.who c.args.act (Details c.bytes-in-Details.result.now) (parts g.D.Disk c.args.self.now) (parts g.D.Disk c.details.new.self) _ _ (c.in-Details.is ∙ ap (λ (n : List ℕ). Details n) (sym c.bytes-in-Details.ensures)) c.details_told.ensures c.details.ensures.crash c.details.ensures.reads tt tt (wants_with g.D.Disk.tells c.args.who (Details c.bytes-in-Details.result.now) (parts g.D.Disk c.args.self.now) (parts g.D.Disk c.details.new.self) _ c.details.ensures.step)
 
 pub returns-in-Doors-clause-step : goal.returns-in-Doors-clause-step
 returns-in-Doors-clause-step g c = as_asked g.D.Disk.tells c.args.who c.args.act (Doors) (parts g.D.Disk c.args.self.now) (parts g.D.Disk c.args.self.now) _ _ c.in-Doors.is c.doors_left.ensures c.doors.ensures.step
 
 pub returns-in-Doors-clause-leaves : goal.returns-in-Doors-clause-leaves
-returns-in-Doors-clause-leaves g c = as_left g.D.Disk.tells c.args.who c.args.act (Doors) (parts g.D.Disk c.args.self.now) (parts g.D.Disk c.args.self.now) _ _ c.in-Doors.is c.doors_left.ensures (no_call g.D.Disk.tells (Doors) (parts g.D.Disk c.args.self.now) (parts g.D.Disk c.args.self.now) (λ m f. refl) (λ m f. refl) refl) (reads_none g.D.Disk.tells (parts g.D.Disk c.args.self.now) (parts g.D.Disk c.args.self.now) refl) tt tt
+returns-in-Doors-clause-leaves g c = as_left g.D.Disk.tells c.args.who c.args.act (Doors) (parts g.D.Disk c.args.self.now) (parts g.D.Disk c.args.self.now) _ _ c.in-Doors.is c.doors_left.ensures (no_call g.D.Disk.tells (Doors) (parts g.D.Disk c.args.self.now) (parts g.D.Disk c.args.self.now) (λ m f. refl) (λ m f. refl) refl) (reads_none g.D.Disk.tells (parts g.D.Disk c.args.self.now) (parts g.D.Disk c.args.self.now) refl) tt tt (wants_any g.D.Disk.tells c.args.who (Doors) (parts g.D.Disk c.args.self.now) (parts g.D.Disk c.args.self.now) _ (λ m n. tt) c.doors.ensures.step)
 
 pub returns-in-DoorDone-clause-step : goal.returns-in-DoorDone-clause-step
 returns-in-DoorDone-clause-step g c = as_asked g.D.Disk.tells c.args.who c.args.act (DoorDone) (parts g.D.Disk c.args.self.now) (parts g.D.Disk c.door_done.new.self) _ _ c.in-DoorDone.is c.doors_left-in-DoorDone.ensures c.door_done.ensures.step
 
 pub returns-in-DoorDone-clause-leaves : goal.returns-in-DoorDone-clause-leaves
-returns-in-DoorDone-clause-leaves g c = as_left g.D.Disk.tells c.args.who c.args.act (DoorDone) (parts g.D.Disk c.args.self.now) (parts g.D.Disk c.door_done.new.self) _ _ c.in-DoorDone.is c.doors_left-in-DoorDone.ensures (no_call g.D.Disk.tells (DoorDone) (parts g.D.Disk c.args.self.now) (parts g.D.Disk c.door_done.new.self) (λ m f. refl) (λ m f. refl) (ap (seen_all g.D.Disk) c.door_done.ensures.store)) (reads_none g.D.Disk.tells (parts g.D.Disk c.args.self.now) (parts g.D.Disk c.door_done.new.self) (ap (seen_all g.D.Disk) c.door_done.ensures.store)) tt tt
+returns-in-DoorDone-clause-leaves g c = as_left g.D.Disk.tells c.args.who c.args.act (DoorDone) (parts g.D.Disk c.args.self.now) (parts g.D.Disk c.door_done.new.self) _ _ c.in-DoorDone.is c.doors_left-in-DoorDone.ensures (no_call g.D.Disk.tells (DoorDone) (parts g.D.Disk c.args.self.now) (parts g.D.Disk c.door_done.new.self) (λ m f. refl) (λ m f. refl) (ap (seen_all g.D.Disk) c.door_done.ensures.store)) (reads_none g.D.Disk.tells (parts g.D.Disk c.args.self.now) (parts g.D.Disk c.door_done.new.self) (ap (seen_all g.D.Disk) c.door_done.ensures.store)) tt tt (wants_any g.D.Disk.tells c.args.who (DoorDone) (parts g.D.Disk c.args.self.now) (parts g.D.Disk c.door_done.new.self) _ (λ m n. tt) c.door_done.ensures.step)

@@ -7,11 +7,12 @@ use Rattle.act_model.specs.MoveBegin.{Begins, MoveBeginStep}
 use Rattle.act_model.specs.Step.{refuse_by, change_by, store_of}
 use Rattle.act_model.specs.declared.acts.Act.TheVariants.{MoveBegin as MoveBeginAct}
 use Rattle.act_model.specs.declared.answers.MoveBegun.{MoveBegun}
-use Rattle.archive_core.specs.Ends.{Steps}
+use Rattle.archive_core.specs.Ends.{Steps, disk_reply}
 use Rattle.archive_core.specs.Moving.{begun_reply}
 use Rattle.archive_core.specs.Parts.{parts}
-use Rattle.archive_core.proofs.Acting.{asked_ends, crash_settling, cut_ends}
-use Rattle.archive_core.proofs.MoveAct.{begins_goes, begun_ends}
+use Rattle.archive_core.specs.Wanting.{NoneRefuses}
+use Rattle.archive_core.proofs.Acting.{asked_ends, crash_settling, cut_ends, step_alone}
+use Rattle.archive_core.proofs.MoveAct.{begins_goes, begins_tell, begun_ends}
 use Rattle.archive_core.proofs.ReadingAlone.{reads_none, reads_settling, reads_then}
 use Rattle.archive_core.proofs.archive.Archive.begin_due.Goals as goal
 
@@ -22,7 +23,7 @@ returns-in_err-settle-clause-step g c =
     let q = parts g.D.Disk c.settle.new.self in
     let reads = c.settle.ensures.reads in
     subst (λ (r : Result MoveBegun DiskErr). Steps g.D.Disk.tells (MoveBeginStep (store_of c.args.store) c.args.now) p (begun_reply r) q) (sym (e.1 ∙ ap (λ (d : DiskErr). Err d) e.2))
-    (cut_ends g.D.Disk.tells (λ m. None) (Begins (store_of c.args.store) c.args.now) (λ m. None) (λ m f. refl) (λ m f. refl) (begins_goes (store_of c.args.store) c.args.now) p q c.in_err-settle.field-0.0 (λ m s. refl) c.in_err-settle.ensures.still reads.faults (λ fault. reads.cause (subst (λ r. IsFailed (end_of_disk r)) (sym (c.in_err-settle.was ∙ ap (λ (d : DiskErr). Err d) fault)) tt)))
+    (step_alone g.D.Disk.tells (NoneRefuses (λ m. None)) (MoveBeginStep (store_of c.args.store) c.args.now) p q (disk_reply c.in_err-settle.field-0.0) (cut_ends g.D.Disk.tells (λ m. None) (Begins (store_of c.args.store) c.args.now) (λ m. None) (λ m f. refl) (λ m f. refl) (begins_goes (store_of c.args.store) c.args.now) (λ m none. cc (none)) (begins_tell (store_of c.args.store) c.args.now) p q c.in_err-settle.field-0.0 (λ m s. refl) c.in_err-settle.ensures.still reads.faults (λ fault. reads.cause (subst (λ r. IsFailed (end_of_disk r)) (sym (c.in_err-settle.was ∙ ap (λ (d : DiskErr). Err d) fault)) tt))))
 
 pub returns-in_err-settle-clause-crash : goal.returns-in_err-settle-clause-crash
 returns-in_err-settle-clause-crash g c = crash_settling g.D.Disk.tells (refuse_by (MoveBeginAct c.args.store c.args.now)) (change_by (MoveBeginAct c.args.store c.args.now)) (λ m f. refl) (λ m f. refl) (parts g.D.Disk c.args.self.now) (parts g.D.Disk c.settle.new.self) c.settle.ensures.reads.any_moment
@@ -39,8 +40,9 @@ returns-clause-step g c =
     let q = parts g.D.Disk c.settle.new.self in
     let new = parts g.D.Disk c.begin_chosen.new.self in
     let call = c.begin_chosen.ensures in
-    asked_ends g.D.Disk.tells (λ m. None) (Begins (store_of c.args.store) c.args.now) (λ m. None) (λ m f. refl) (λ m f. refl) (begins_goes (store_of c.args.store) c.args.now) p q (λ m s. refl) c.in_ok-settle.ensures.settled c.settle.ensures.reads.faults (λ m s. refl) new (begun_reply c.begin_chosen.result) (rw call.store c.settle.ensures.reads.faults)
-    (begun_ends g.D.Disk.tells (store_of c.args.store) c.args.now q new c.begin_chosen.result call.begins call.spent call.cause)
+    step_alone g.D.Disk.tells (NoneRefuses (λ m. None)) (MoveBeginStep (store_of c.args.store) c.args.now) p new (begun_reply c.begin_chosen.result)
+    (asked_ends g.D.Disk.tells (λ m. None) (Begins (store_of c.args.store) c.args.now) (λ m. None) (λ m f. refl) (λ m f. refl) (begins_goes (store_of c.args.store) c.args.now) (λ m none. cc (none)) (begins_tell (store_of c.args.store) c.args.now) p q (λ m s. refl) c.in_ok-settle.ensures.settled c.settle.ensures.reads.faults (λ m s. refl) new (begun_reply c.begin_chosen.result) (rw call.store c.settle.ensures.reads.faults)
+    (begun_ends g.D.Disk.tells (store_of c.args.store) c.args.now q new c.begin_chosen.result call.begins call.spent call.cause))
 
 pub returns-clause-crash : goal.returns-clause-crash
 returns-clause-crash g c = rw c.begin_chosen.ensures.store (crash_settling g.D.Disk.tells (refuse_by (MoveBeginAct c.args.store c.args.now)) (change_by (MoveBeginAct c.args.store c.args.now)) (λ m f. refl) (λ m f. refl) (parts g.D.Disk c.args.self.now) (parts g.D.Disk c.settle.new.self) c.settle.ensures.reads.any_moment)

@@ -18,7 +18,7 @@ pub returns-in-None-clause-step : goal.returns-in-None-clause-step
 returns-in-None-clause-step g c = λ m s.
     let are = subst (λ (x : CatalogueState). AreRowsOf x.rows c.args.self.now.rows.items c.args.self.now.intake m.rows) (sym c.catalogue.ensures) s.rows in
     let found = find_is m c.catalogue.result.now.rows _ _ c.args.name.now c.find.result are c.find.ensures.found c.find.ensures.only in
-    (m, offer_unknown m c.args.name.now c.args.ty c.args.sample c.args.now (sym found ∙ c.in-None.is), s)
+    (m, (offer_unknown m c.args.name.now c.args.ty c.args.sample c.args.now (sym found ∙ c.in-None.is), λ told. absurd (cc (told))), s)
 
 pub returns-in-Some-clause-step : goal.returns-in-Some-clause-step
 returns-in-Some-clause-step g c = λ m s.

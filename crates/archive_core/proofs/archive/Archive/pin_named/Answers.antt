@@ -10,7 +10,7 @@ use Rattle.act_model.specs.Reply.{reply_of}
 use Rattle.archive_core.specs.Parts.{parts}
 use Rattle.archive_core.specs.Switching.{IsFound}
 use Rattle.archive_core.proofs.Asking.{ask_refused, ask_cut, ask_refused_then, ask_spent, ask_ends, crash_asked, crash_read, ask_told, crash_read_on}
-use Rattle.archive_core.proofs.PinAct.{pins_goes}
+use Rattle.archive_core.proofs.PinAct.{pins_goes, pins_tell}
 use Rattle.archive_core.proofs.PinnedFiles.{pins_failed, pins_then}
 use Rattle.archive_core.proofs.ReadingAlone.{reads_none, reads_settling, reads_then}
 use Rattle.archive_core.proofs.archive.Archive.pin_named.Goals as goal
@@ -19,7 +19,7 @@ pub returns-in_default-clause-step : goal.returns-in_default-clause-step
 returns-in_default-clause-step g c =
     let own : IsFound c.catalogue.result.now.rows c.args.name.now c.find.result = record { there = c.find.ensures.found; only = c.find.ensures.only } in
     let known = subst (λ (x : CatalogueState). IsFound x.rows c.args.name.now c.find.result) c.catalogue.ensures own in
-    ask_refused g.D.Disk.tells c.args.name.now (parts g.D.Disk c.args.self.now) (Pins c.args.who c.args.name.now c.args.query) (pins_goes c.args.who c.args.name.now c.args.query) (subst (λ (o : Option ℕ). IsFound c.args.self.now.store.catalogue.rows c.args.name.now o) c.in_default.is known)
+    ask_refused g.D.Disk.tells c.args.name.now (parts g.D.Disk c.args.self.now) (Pins c.args.who c.args.name.now c.args.query) (pins_goes c.args.who c.args.name.now c.args.query) (pins_tell c.args.who c.args.name.now c.args.query) (subst (λ (o : Option ℕ). IsFound c.args.self.now.store.catalogue.rows c.args.name.now o) c.in_default.is known)
 
 pub returns-in_default-clause-crash : goal.returns-in_default-clause-crash
 returns-in_default-clause-crash g c = crash_asked g.D.Disk.tells c.args.name.now (parts g.D.Disk c.args.self.now)
@@ -30,8 +30,8 @@ returns-in_err-settle-clause-step g c =
     let known = subst (λ (o : Option ℕ). IsFound c.args.self.now.store.catalogue.rows c.args.name.now o) c.in-Some.is (subst (λ (x : CatalogueState). IsFound x.rows c.args.name.now c.find.result) c.catalogue.ensures own) in
     let e = err_from_is_err_and c.from_residual.result c.from_residual.ensures.1 in
     let done = e.1 ∙ ap (λ (d : DiskErr). Err d) e.2 in
-    let cut = ask_cut g.D.Disk.tells c.args.name.now (parts g.D.Disk c.args.self.now) (Pins c.args.who c.args.name.now c.args.query) (pins_goes c.args.who c.args.name.now c.args.query) c.in-Some.field-0 known (parts g.D.Disk c.settle.new.self) c.settle.result c.in_err-settle.field-0.0 c.in_err-settle.was c.in_err-settle.ensures.still c.settle.ensures.reads in
-    ask_told g.D.Disk.tells c.args.name.now (parts g.D.Disk c.args.self.now) (Pins c.args.who c.args.name.now c.args.query) (pins_goes c.args.who c.args.name.now c.args.query) (parts g.D.Disk c.settle.new.self) g.row.D-Reader.Denot g.D.Reader.ReadAt.tells g.D.Reader.ReadAt.bytes g.D.Reader.ReadAt.faults c.from_residual.result c.in_err-settle.field-0.0 done cut
+    let cut = ask_cut g.D.Disk.tells c.args.name.now (parts g.D.Disk c.args.self.now) (Pins c.args.who c.args.name.now c.args.query) (pins_goes c.args.who c.args.name.now c.args.query) (pins_tell c.args.who c.args.name.now c.args.query) c.in-Some.field-0 known (parts g.D.Disk c.settle.new.self) c.settle.result c.in_err-settle.field-0.0 c.in_err-settle.was c.in_err-settle.ensures.still c.settle.ensures.reads in
+    ask_told g.D.Disk.tells c.args.name.now (parts g.D.Disk c.args.self.now) (Pins c.args.who c.args.name.now c.args.query) (pins_goes c.args.who c.args.name.now c.args.query) (pins_tell c.args.who c.args.name.now c.args.query) (parts g.D.Disk c.settle.new.self) g.row.D-Reader.Denot g.D.Reader.ReadAt.tells g.D.Reader.ReadAt.bytes g.D.Reader.ReadAt.faults c.from_residual.result c.in_err-settle.field-0.0 done cut
 
 pub returns-in_err-settle-clause-crash : goal.returns-in_err-settle-clause-crash
 returns-in_err-settle-clause-crash g c = crash_read g.D.Disk.tells c.args.name.now (parts g.D.Disk c.args.self.now) (parts g.D.Disk c.settle.new.self) c.settle.ensures.reads.any_moment
@@ -51,15 +51,17 @@ returns-in_default-find-clause-step g c =
     let known = subst (λ (o : Option ℕ). IsFound c.args.self.now.store.catalogue.rows c.args.name.now o) c.in-Some.is (subst (λ (x : CatalogueState). IsFound x.rows c.args.name.now c.find.result) c.catalogue.ensures own) in
     let own_then : IsFound c.catalogue-2.result.now.rows c.args.name.now c.find-2.result = record { there = c.find-2.ensures.found; only = c.find-2.ensures.only } in
     let then = subst (λ (o : Option ℕ). IsFound c.settle.new.self.store.catalogue.rows c.args.name.now o) c.in_default-find.is (subst (λ (x : CatalogueState). IsFound x.rows c.args.name.now c.find-2.result) c.catalogue-2.ensures own_then) in
-    ask_refused_then g.D.Disk.tells c.args.name.now (parts g.D.Disk c.args.self.now) (Pins c.args.who c.args.name.now c.args.query) (pins_goes c.args.who c.args.name.now c.args.query) c.in-Some.field-0 known (parts g.D.Disk c.settle.new.self) c.in_ok-settle.ensures.settled c.settle.ensures.reads.faults then
+    ask_refused_then g.D.Disk.tells c.args.name.now (parts g.D.Disk c.args.self.now) (Pins c.args.who c.args.name.now c.args.query) (pins_goes c.args.who c.args.name.now c.args.query) (pins_tell c.args.who c.args.name.now c.args.query) c.in-Some.field-0 known (parts g.D.Disk c.settle.new.self) c.in_ok-settle.ensures.settled c.settle.ensures.reads.faults then
 
 pub returns-in_err-answer-clause-step : goal.returns-in_err-answer-clause-step
 returns-in_err-answer-clause-step g c =
     let own : IsFound c.catalogue.result.now.rows c.args.name.now c.find.result = record { there = c.find.ensures.found; only = c.find.ensures.only } in
     let known = subst (λ (o : Option ℕ). IsFound c.args.self.now.store.catalogue.rows c.args.name.now o) c.in-Some.is (subst (λ (x : CatalogueState). IsFound x.rows c.args.name.now c.find.result) c.catalogue.ensures own) in
+    let own_then : IsFound c.catalogue-2.result.now.rows c.args.name.now c.find-2.result = record { there = c.find-2.ensures.found; only = c.find-2.ensures.only } in
+    let then = subst (λ (o : Option ℕ). IsFound c.settle.new.self.store.catalogue.rows c.args.name.now o) c.in-Some-find.is (subst (λ (x : CatalogueState). IsFound x.rows c.args.name.now c.find-2.result) c.catalogue-2.ensures own_then) in
     let e = err_from_is_err_and c.from_residual-in_err-answer.result c.from_residual-in_err-answer.ensures.1 in
     let done = e.1 ∙ ap (λ (d : DiskErr). Err d) e.2 in
-    let spent = ask_told g.D.Disk.tells c.args.name.now (parts g.D.Disk c.args.self.now) (Pins c.args.who c.args.name.now c.args.query) (pins_goes c.args.who c.args.name.now c.args.query) (parts g.D.Disk c.settle.new.self) g.row.D-Reader.Denot g.D.Reader.ReadAt.tells g.D.Reader.ReadAt.bytes g.D.Reader.ReadAt.faults c.from_residual-in_err-answer.result Memory done (ask_spent g.D.Disk.tells c.args.name.now (parts g.D.Disk c.args.self.now) (Pins c.args.who c.args.name.now c.args.query) (pins_goes c.args.who c.args.name.now c.args.query) c.in-Some.field-0 known (parts g.D.Disk c.settle.new.self) c.in_ok-settle.ensures.settled c.settle.ensures.reads.faults) in
+    let spent = ask_told g.D.Disk.tells c.args.name.now (parts g.D.Disk c.args.self.now) (Pins c.args.who c.args.name.now c.args.query) (pins_goes c.args.who c.args.name.now c.args.query) (pins_tell c.args.who c.args.name.now c.args.query) (parts g.D.Disk c.settle.new.self) g.row.D-Reader.Denot g.D.Reader.ReadAt.tells g.D.Reader.ReadAt.bytes g.D.Reader.ReadAt.faults c.from_residual-in_err-answer.result Memory done (ask_spent g.D.Disk.tells c.args.name.now (parts g.D.Disk c.args.self.now) (Pins c.args.who c.args.name.now c.args.query) (pins_goes c.args.who c.args.name.now c.args.query) (pins_tell c.args.who c.args.name.now c.args.query) c.in-Some.field-0 known (parts g.D.Disk c.settle.new.self) c.in_ok-settle.ensures.settled c.settle.ensures.reads.faults c.in-Some-find.row then) in
     rw c.in_err-answer.ensures.spent spent
 
 pub returns-in_err-answer-clause-crash : goal.returns-in_err-answer-clause-crash
@@ -73,7 +75,7 @@ returns-clause-step g c =
     let then = subst (λ (o : Option ℕ). IsFound c.settle.new.self.store.catalogue.rows c.args.name.now o) c.in-Some-find.is (subst (λ (x : CatalogueState). IsFound x.rows c.args.name.now c.find-2.result) c.catalogue-2.ensures own_then) in
     let first = c.settle.ensures.reads.faults in
     let second = c.pin_row.ensures.faults in
-    ask_ends g.D.Disk.tells c.args.name.now (parts g.D.Disk c.args.self.now) (Pins c.args.who c.args.name.now c.args.query) (pins_goes c.args.who c.args.name.now c.args.query) c.in-Some.field-0 known (parts g.D.Disk c.settle.new.self) c.in_ok-settle.ensures.settled c.settle.ensures.reads.faults c.in-Some-find.row then (parts g.D.Disk c.pin_row.new.self) (reply_of g.D.Reader.ReadAt.tells g.D.Reader.ReadAt.bytes g.D.Reader.ReadAt.faults c.in_ok-answer.answer) (omega (arith, first, second)) c.in_ok-answer.ensures.pins
+    ask_ends g.D.Disk.tells c.args.name.now (parts g.D.Disk c.args.self.now) (Pins c.args.who c.args.name.now c.args.query) (pins_goes c.args.who c.args.name.now c.args.query) (pins_tell c.args.who c.args.name.now c.args.query) c.in-Some.field-0 known (parts g.D.Disk c.settle.new.self) c.in_ok-settle.ensures.settled c.settle.ensures.reads.faults c.in-Some-find.row then (parts g.D.Disk c.pin_row.new.self) (reply_of g.D.Reader.ReadAt.tells g.D.Reader.ReadAt.bytes g.D.Reader.ReadAt.faults c.in_ok-answer.answer) (omega (arith, first, second)) c.in_ok-answer.ensures.pins
 
 pub returns-clause-crash : goal.returns-clause-crash
 returns-clause-crash g c = crash_read_on g.D.Disk.tells c.args.name.now (parts g.D.Disk c.args.self.now) (parts g.D.Disk c.settle.new.self) (parts g.D.Disk c.pin_row.new.self) c.settle.ensures.reads.any_moment c.pin_row.ensures.reads.any_moment

@@ -13,7 +13,7 @@ use Rattle.archive_core.proofs.archive.Archive.tick.Goals as goal
 pub returns-in_default-clause-step : goal.returns-in_default-clause-step
 returns-in_default-clause-step g c = λ m s.
     let none = ap (λ (x : CatalogueState). slice_get x.rows c.args.row) (sym c.catalogue.ensures) ∙ (sym c.row.ensures ∙ ap option_copied c.in_default.is) in
-    (m, tick_no_row m c.args.row c.args.now (no_row c.args.self.now.store.catalogue.rows _ _ m.rows s.rows c.args.row none), s)
+    (m, (tick_no_row m c.args.row c.args.now (no_row c.args.self.now.store.catalogue.rows _ _ m.rows s.rows c.args.row none), λ told. absurd (cc (told))), s)
 
 pub index_mut-requires : goal.index_mut-requires
 index_mut-requires g c =
