@@ -83,7 +83,7 @@ module _ {D R : Type 0} (disk : Ghosts D R) (archive : Archive D R) (m : Machine
   s = seen disk archive.store
 
   -- the disk may be opened again
-  opens_again : (config : ConfigState) → m.rule.granularity ≡ stores_of config → IsTrue disk.tells → OpensAgain config m (disk.past archive.store.disk)
+  pub opens_again : (config : ConfigState) → m.rule.granularity ≡ stores_of config → IsTrue disk.tells → OpensAgain config m (disk.past archive.store.disk)
   opens_again config same told = by_open stands.store.is_open
     where
       gs_is : granularities s.manifests ≡ stores_of config

@@ -1,6 +1,6 @@
 -- Where no count rose, what can be done is done, or memory was wanting.
-use Rattle.std.proofs.Common.{◌≡◌, inl, inr, ℕ, List, Bool, Option, Some, None, Result, Ok, Err, refl, sym, ap, subst}
-use Rattle.std.specs.Prelude.{IsTrue, IfSome}
+use Rattle.std.proofs.Common.{◌≡◌, ◌⊎◌, inl, inr, Bor, ℕ, List, Bool, true, false, Option, Some, None, Result, Ok, Err, refl, sym, ◌∙◌, ap, subst, arith}
+use Rattle.std.specs.Prelude.{IsTrue, IfSome, nat_lt}
 use Rattle.edge_io.specs.Stream.{Rose}
 use Rattle.disk_model.specs.Files.{Files, Rose as DiskRose}
 use Rattle.series_model.specs.declared.sample.Query.{Query}
@@ -15,16 +15,18 @@ use Rattle.archiver_appliance.specs.declared.command.Command.TheVariants.{Extrac
 use Rattle.archiver_appliance.specs.declared.command.StoreCommand.{StoreCommand}
 use Rattle.archiver_appliance.specs.declared.command.StoreCommand.TheVariants as command
 use Rattle.archiver_appliance.specs.declared.status.Status.{Status}
-use Rattle.archiver_appliance.specs.declared.status.Status.TheVariants.{Done, Refused, NoSuchVariable, SourceFault, SinkFault, DiskFault, Damaged, OutOfMemory}
-use Rattle.archiver_appliance.specs.Command.{IsCommand}
+use Rattle.archiver_appliance.specs.declared.status.Status.TheVariants.{Done, Usage, Refused, NoSuchVariable, SourceFault, SinkFault, DiskFault, Damaged, OutOfMemory, GranularityDiffers, DoorFault, Spent}
+use Rattle.archiver_appliance.specs.Command.{IsCommand, IsFaulty}
 use Rattle.archiver_appliance.specs.Ingesting.{IsIngested}
 use Rattle.archiver_appliance.specs.Outside.{Outside, IsCaused, IsQuiet}
 use Rattle.archiver_appliance.specs.Reporting.{Tells, ChecksAll}
-use Rattle.archiver_appliance.specs.Run.{NoDamage, IsUnasked, Makes, Serves, Does, Obeys, IsGoodSource, IsServable, CanBeDone, EndsWell}
+use Rattle.archiver_appliance.specs.Run.{NoDamage, IsUnasked, Makes, MakesOfRead, Serves, Does, Obeys, IsGoodSource, IsServable, CanBeDone, EndsWell, EndsWellBy, IsServe}
 use Rattle.archiver_appliance.specs.Status.{number_of}
 use Rattle.archiver_appliance.specs.Text.{Extracts}
 use Rattle.archiver_appliance.proofs.Opening.{first_stands}
-use Rattle.archiver_appliance.proofs.Words.{servable_same, not_both}
+use Rattle.archiver_appliance.specs.Serving.{first_of}
+use Rattle.archiver_appliance.specs.declared.serve_words.ServeWords.{ServeWords}
+use Rattle.archiver_appliance.proofs.Words.{servable_same, serve_same, not_both}
 use Rattle.etl_rules.specs.Config.{ConfigState}
 use Rattle.feed_session.specs.Session.{ReadsOf}
 use Rattle.feed_session.specs.declared.end.Fed.{Fed}
@@ -50,6 +52,10 @@ none_not_some x h = cc
 refused_not : (source : Option (List ℕ)) (items : List Item) (line : ℕ) (fault : ChunkFault) → IsGoodSource source → IfSome source (λ bytes. IsWholeStream bytes items (Some (line, fault))) → ⊥
 refused_not None items line fault good stream = absurd good
 refused_not (Some bytes) items line fault good stream = none_not_some (line, fault) (one_stream first_section 0 0 bytes good.0 items None (Some (line, fault)) good.1 stream).1
+
+abbrev pub IsServing : Command → Type 0
+IsServing (OverStore c) = IsServe c
+IsServing _ = ⊥
 
 -- BY STATUS
 
@@ -128,28 +134,39 @@ module _ (config : ConfigState) (before after first : Stores) (old new : Outside
   moved_well (Err err.Spent) a b stands w = absurd w
   moved_well (Err err.Memory) a b stands w = ends_as OutOfMemory w.0 (inr refl)
 
+  served_by : (numbers : ServeWords) → (status ≡ DoorFault → ⊥) → (door fault memory spent : Bool) → status ≡ first_of door fault memory spent → EndsWellBy (OverStore (command.Serve numbers)) (number_of status)
+  served_by numbers eleven true fault memory spent is = absurd (eleven is)
+  served_by numbers eleven false true memory spent is = absurd (seven is)
+  served_by numbers eleven false false true spent is = inr (inr (ap number_of is))
+  served_by numbers eleven false false false true is = inl (ap number_of is)
+  served_by numbers eleven false false false false is = inr (inl (ap number_of is))
+
   makes_well : (asked : StoreCommand) → IsTrue first.stands → NoDamage status → IsServable asked old.source first → ((asked ≡ command.Check) → (rows : List Row) × (short : List Entry) × (medium : List Entry) × (long : List Entry) × ChecksAll rows old.files short medium long old.sink new.sink status)
-      → Makes config asked before after first old new status → EndsWell (number_of status)
-  makes_well command.Ingest stands undamaged can checks (inl unasked) = unasked_well unasked
-  makes_well command.Ingest stands undamaged can checks (inr into) = ingest_well can _ into.came into.told into.session.reads
-  makes_well (command.Get name query) stands undamaged can checks (inl unasked) = unasked_well unasked
-  makes_well (command.Get name query) stands undamaged can checks (inr from) = get_done first name.now query old.sink new.sink status can.0 can.1 six seven (from.writes refl stands)
-  makes_well command.Etl stands undamaged can checks (inl unasked) = unasked_well unasked
-  makes_well command.Etl stands undamaged can checks (inr from) = moved_well from.came old.sink new.sink undamaged from.tells_moved
-  makes_well command.Status stands undamaged can checks makes = status_done _ old.sink new.sink status six seven makes
-  makes_well command.Check stands undamaged can checks makes = let all = checks refl in check_done all.0 old.files all.1 all.2 all.3 old.sink new.sink status undamaged six seven all.4
+      → (IsServe asked → status ≡ DoorFault → ⊥) → Makes config asked before after first old new status → EndsWellBy (OverStore asked) (number_of status)
+  makes_well command.Ingest stands undamaged can checks door (inl unasked) = unasked_well unasked
+  makes_well command.Ingest stands undamaged can checks door (inr into) = ingest_well can _ into.came into.told into.session.reads
+  makes_well (command.Get name query) stands undamaged can checks door (inl unasked) = unasked_well unasked
+  makes_well (command.Get name query) stands undamaged can checks door (inr from) = get_done first name.now query old.sink new.sink status can.0 can.1 six seven (from.writes refl stands)
+  makes_well command.Etl stands undamaged can checks door (inl unasked) = unasked_well unasked
+  makes_well command.Etl stands undamaged can checks door (inr from) = moved_well from.came old.sink new.sink undamaged from.tells_moved
+  makes_well command.Status stands undamaged can checks door makes = status_done _ old.sink new.sink status six seven makes
+  makes_well command.Check stands undamaged can checks door makes = let all = checks refl in check_done all.0 old.files all.1 all.2 all.3 old.sink new.sink status undamaged six seven all.4
+  makes_well (command.Serve numbers) stands undamaged can checks door (inl unasked) = inr (unasked_well unasked)
+  makes_well (command.Serve numbers) stands undamaged can checks door (inr from) =
+      let told = from.1.told in
+      served_by numbers (door tt) (nat_lt 0 told.door_faults) told.disk_fault told.memory told.spent from.1.status_is
 
 able_first : (asked : StoreCommand) (source : Option (List ℕ)) (before after first : Stores) → IsEither before after first → IsServable asked source before × IsServable asked source after → IsServable asked source first
 able_first asked source before after first (inl is) can = subst (λ (h : Stores). IsServable asked source h) (sym is) can.0
 able_first asked source before after first (inr is) can = subst (λ (h : Stores). IsServable asked source h) (sym is) can.1
 
 served_well : (config : ConfigState) (asked : StoreCommand) (old new : Outside) (status : Status) → Serves config asked old new status → (before after : Stores) → OpensEither (stores_of config) old.past before after → IsTrue before.stands
-    → IsServable asked old.source before × IsServable asked old.source after → Unless status SourceFault → Unless status SinkFault → Unless status DiskFault → EndsWell (number_of status)
-served_well config asked old new status serves before after opens stands can five six seven =
+    → IsServable asked old.source before × IsServable asked old.source after → Unless status SourceFault → Unless status SinkFault → Unless status DiskFault → (IsServe asked → status ≡ DoorFault → ⊥) → EndsWellBy (OverStore asked) (number_of status)
+served_well config asked old new status serves before after opens stands can five six seven door =
     let made = serves.makes before after opens stands in
     let stand = first_stands (stores_of config) old.past before after made.first opens stands made.either in
     let whole = held_whole (stores_of config) old.files made.first refl made.read stand in
-    makes_well config before after made.first old new status five six seven asked stand made.undamaged (able_first asked old.source before after made.first made.either can) (λ is. (whole.rows, whole.lists 0, whole.lists 1, whole.lists 2, checks asked serves whole is)) made.makes
+    makes_well config before after made.first old new status five six seven asked stand made.undamaged (able_first asked old.source before after made.first made.either can) (λ is. (whole.rows, whole.lists 0, whole.lists 1, whole.lists 2, checks asked serves whole is)) door made.makes
   where
     checks : (c : StoreCommand) → Serves config c old new status → (whole : IsWhole (stores_of config) old.files) → c ≡ command.Check → ChecksAll whole.rows old.files (whole.lists 0) (whole.lists 1) (whole.lists 2) old.sink new.sink status
     checks command.Check serves whole is = serves.tells whole
@@ -157,20 +174,57 @@ served_well config asked old new status serves before after opens stands can fiv
     checks (command.Get name query) serves whole is = cc
     checks command.Etl serves whole is = cc
     checks command.Status serves whole is = cc
+    checks (command.Serve numbers) serves whole is = cc
 
 -- WORDS
 
 module _ {R : Type 0} (faults : R → ℕ) (words : List (List ℕ)) (config : ConfigState) (tells : Bool) (old new : Outside) (status : Status) (failed : Option R) (caused : IsCaused faults old new status failed) where
-  done_by : (a b : Command) → IsCommand words a → IsCommand words b → CanBeDone config tells a old → IsQuiet a old new failed → Does config tells b old new status → EndsWell (number_of status)
-  done_by (Extract q) (Extract r) one two can quiet does =
-      extract_done r old.source old.sink new.sink status can (no_source faults old new status failed caused quiet.0) (no_sink faults old new status failed caused quiet.1) does
-  done_by (Extract q) (OverStore d) one two can quiet does = absurd (not_both words q d one two)
-  done_by (OverStore c) (Extract r) one two can quiet does = absurd (not_both words r c two one)
-  done_by (OverStore c) (OverStore d) one two can quiet does =
-      let same : (held : Stores) → IsServable c old.source held → IsServable d old.source held = λ held. servable_same words c d old.source held one two in
-      served_well config d old new status (does.1 can.told).0 can.before can.after can.opens can.stands (same can.before can.can.0, same can.after can.can.1)
-      (no_source faults old new status failed caused quiet.0) (no_sink faults old new status failed caused quiet.1) (no_disk faults old new status failed caused quiet.2 quiet.3)
+  -- words that ask to serve ask for nothing else
+  serving_same : (c d : StoreCommand) → IsCommand words (OverStore c) → IsCommand words (OverStore d) → IsServe d → IsServe c
+  serving_same c (command.Serve n) one two serve = let same = serve_same words c n one two in subst IsServe (sym same.1) tt
+  serving_same c d one two serve = absurd serve
 
-  pub ends_well : (asked : Command) → IsCommand words asked → CanBeDone config tells asked old → IsQuiet asked old new failed → Obeys words config tells old new status → EndsWell (number_of status)
-  ends_well asked is can quiet (inl h) = done_by asked h.0 is h.1 can quiet h.2
-  ends_well asked is can quiet (inr h) = absurd (h.1 asked is)
+  ends_same : (c d : StoreCommand) → IsCommand words (OverStore c) → IsCommand words (OverStore d) → EndsWellBy (OverStore d) (number_of status) → EndsWellBy (OverStore c) (number_of status)
+  ends_same (command.Serve m) (command.Serve n) one two ends = ends
+  ends_same (command.Serve m) d one two ends = inr ends
+  ends_same command.Ingest (command.Serve n) one two ends = absurd (serving_same command.Ingest (command.Serve n) one two tt)
+  ends_same (command.Get name query) (command.Serve n) one two ends = absurd (serving_same (command.Get name query) (command.Serve n) one two tt)
+  ends_same command.Etl (command.Serve n) one two ends = absurd (serving_same command.Etl (command.Serve n) one two tt)
+  ends_same command.Status (command.Serve n) one two ends = absurd (serving_same command.Status (command.Serve n) one two tt)
+  ends_same command.Check (command.Serve n) one two ends = absurd (serving_same command.Check (command.Serve n) one two tt)
+  ends_same c d one two ends = ends
+
+  done_by : (a b : Command) → IsCommand words a → IsCommand words b → CanBeDone config tells a old → IsQuiet a old new failed → (IsServing a → status ≡ DoorFault → ⊥) → Does config tells b old new status → EndsWellBy a (number_of status)
+  done_by (Extract q) (Extract r) one two can quiet door does =
+      extract_done r old.source old.sink new.sink status can (no_source faults old new status failed caused quiet.0) (no_sink faults old new status failed caused quiet.1) does
+  done_by (Extract q) (OverStore d) one two can quiet door does = absurd (not_both words q d one two)
+  done_by (OverStore c) (Extract r) one two can quiet door does = absurd (not_both words r c two one)
+  done_by (OverStore c) (OverStore d) one two can quiet door does =
+      let same : (held : Stores) → IsServable c old.source held → IsServable d old.source held = λ held. servable_same words c d old.source held one two in
+      ends_same c d one two (served_well config d old new status (does.1 can.told).0 can.before can.after can.opens can.stands (same can.before can.can.0, same can.after can.can.1)
+      (no_source faults old new status failed caused quiet.0) (no_sink faults old new status failed caused quiet.1) (no_disk faults old new status failed caused quiet.2 quiet.3) (λ serve. door (serving_same c d one two serve)))
+
+  pub ends_well : (asked : Command) → IsCommand words asked → CanBeDone config tells asked old → IsQuiet asked old new failed → (IsServing asked → status ≡ DoorFault → ⊥) → Obeys words config tells old new status → EndsWellBy asked (number_of status)
+  ends_well asked is can quiet door (inl h) = done_by asked h.0 is h.1 can quiet door h.2
+  ends_well asked is can quiet door (inr h) = absurd (h.1 asked is)
+
+-- WORDS OF NO COMMAND
+
+-- the status of faulty words has a number of its own
+pub two_is : (status : Status) → number_of status ≡ 2 → status ≡ Usage
+two_is Usage is = refl
+two_is Done is = absurd (omega (arith, is))
+two_is (Refused line fault) is = absurd (omega (arith, is))
+two_is NoSuchVariable is = absurd (omega (arith, is))
+two_is SourceFault is = absurd (omega (arith, is))
+two_is SinkFault is = absurd (omega (arith, is))
+two_is DiskFault is = absurd (omega (arith, is))
+two_is (Damaged name at) is = absurd (omega (arith, is))
+two_is OutOfMemory is = absurd (omega (arith, is))
+two_is (GranularityDiffers kept asked) is = absurd (omega (arith, is))
+two_is DoorFault is = absurd (omega (arith, is))
+two_is Spent is = absurd (omega (arith, is))
+
+pub faulty_is : (words : List (List ℕ)) (config : ConfigState) (tells : Bool) (old new : Outside) (status : Status) → Obeys words config tells old new status → IsFaulty words → number_of status ≡ 2
+faulty_is words config tells old new status (inl h) faulty = absurd (faulty h.0 h.1)
+faulty_is words config tells old new status (inr h) faulty = ap number_of h.0

@@ -13,7 +13,7 @@ use Rattle.three_reopen.specs.declared.error.ReopenErr.TheVariants as reopening
 use Rattle.archiver_appliance.specs.declared.command.StoreCommand.{StoreCommand}
 use Rattle.archiver_appliance.specs.declared.command.StoreCommand.TheVariants as command
 use Rattle.archiver_appliance.specs.declared.status.Status.{Status}
-use Rattle.archiver_appliance.specs.declared.status.Status.TheVariants.{Done, Refused, SourceFault, SinkFault, Usage, NoSuchVariable, DiskFault, Damaged, OutOfMemory, GranularityDiffers}
+use Rattle.archiver_appliance.specs.declared.status.Status.TheVariants.{Done, Refused, SourceFault, SinkFault, Usage, NoSuchVariable, DiskFault, Damaged, OutOfMemory, GranularityDiffers, DoorFault, Spent}
 use Rattle.archiver_appliance.specs.Judging.{Judges, refusal_of, FindsDamage, IsWholeWith, HasDamage, of_image, of_file, AsksInVain, IsOneOf, IsExact}
 use Rattle.archiver_appliance.specs.Retrieving.{HasNone}
 use Rattle.archiver_appliance.specs.Run.{EndsAs}
@@ -107,6 +107,8 @@ module _ (gs : List Granularity) (files : Files) (rows : List Row) (lists : List
   get_judges source Done ends none vain damaged differs = found Done none (other_number 0 (λ is. cc) (λ is. cc) (λ is. cc))
   get_judges source (Refused line fault) ends none vain damaged differs = absurd ends.0
   get_judges source SourceFault ends none vain damaged differs = absurd ends
+  get_judges source DoorFault ends none vain damaged differs = absurd ends
+  get_judges source Spent ends none vain damaged differs = absurd ends
   get_judges source SinkFault ends none vain damaged differs = found SinkFault none (other_number 6 (λ is. cc) (λ is. cc) (λ is. cc))
 
 -- WHAT ELSE AN IMAGE MAY END WITH
@@ -171,3 +173,4 @@ exactly verdict gs asked files status j = record {
     named command.Etl j whole none = absurd none
     named command.Status j whole none = absurd none
     named command.Check j whole none = absurd none
+    named (command.Serve numbers) j whole none = absurd none

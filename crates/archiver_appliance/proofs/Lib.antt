@@ -7,6 +7,7 @@ pub mod Complaining
 pub mod Completeness
 pub mod Counting
 pub mod Damages
+pub mod Doing
 pub mod Extracting
 pub mod Gotten
 pub mod Ingests
@@ -15,9 +16,11 @@ pub mod LeftFiles
 pub mod Opening
 pub mod Outcomes
 pub mod PinSteps
+pub mod Posts
 pub mod Refusals
 pub mod Retrievals
-pub mod Serving
+pub mod Services
+pub mod ServingAll
 pub mod StoppedMoves
 pub mod Stream
 pub mod Words

@@ -54,6 +54,7 @@ module _ (config : ConfigState) (old new : Outside) (source : new.source ≡ old
   makes_nothing command.Ingest before after first = (inl unasked.0, inl unasked.1)
   makes_nothing (command.Get name query) before after first = (inl unasked.0, inl unasked.1)
   makes_nothing command.Etl before after first = (inl unasked.0, inl unasked.1)
+  makes_nothing (command.Serve numbers) before after first = (inl unasked.0, inl unasked.1)
   makes_nothing command.Status before after first = (front_none old.sink new.sink _ sink, front_none old.sink new.sink _ sink)
   makes_nothing command.Check before after first = (tt, tt)
 
@@ -62,6 +63,7 @@ module _ (config : ConfigState) (old new : Outside) (source : new.source ≡ old
   tells_nothing command.Check rows lists = (none_inspected rows old.files (listed_files (lists 0) (lists 1) (lists 2)) old.sink new.sink sink, none_inspected rows old.files (listed_files (lists 0) (lists 1) (lists 2)) old.sink new.sink sink)
   tells_nothing command.Ingest rows lists = (tt, tt)
   tells_nothing command.Etl rows lists = (tt, tt)
+  tells_nothing (command.Serve numbers) rows lists = (tt, tt)
   tells_nothing (command.Get name query) rows lists = (tt, tt)
 
   -- The reasons for a refusal, of an image that is whole: none but a fault of the disk and want of memory.

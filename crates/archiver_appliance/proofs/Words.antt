@@ -7,10 +7,12 @@ use Rattle.series_model.specs.declared.sample.Query.{Query}
 use Rattle.archiver_appliance.specs.declared.command.Command.{Command}
 use Rattle.archiver_appliance.specs.declared.command.Command.TheVariants.{Extract, OverStore}
 use Rattle.archiver_appliance.specs.declared.command.StoreCommand.{StoreCommand}
-use Rattle.archiver_appliance.specs.declared.command.StoreCommand.TheVariants.{Ingest, Get, Etl, Status, Check}
+use Rattle.archiver_appliance.specs.declared.command.StoreCommand.TheVariants.{Ingest, Get, Etl, Status, Check, Serve}
 use Rattle.pv_catalog.specs.Rows.{HasName}
 use Rattle.three_stores.specs.Stores.{Stores}
 use Rattle.archiver_appliance.specs.Run.{IsReport, IsServable}
+use Rattle.archiver_appliance.specs.ServeWords.{AsksToServe}
+use Rattle.archiver_appliance.specs.declared.serve_words.ServeWords.{ServeWords}
 use Rattle.archiver_appliance.specs.Command.{AsksFor, IsCommand, IsFaulty, IsInterval, has_dash}
 
 abbrev pub texts : List (Bor (List ℕ)) → List (List ℕ)
@@ -50,6 +52,7 @@ letter_of (OverStore (Get name query)) = 219
 letter_of (OverStore Etl) = 209
 letter_of (OverStore Status) = 212
 letter_of (OverStore Check) = 200
+letter_of (OverStore (Serve numbers)) = 229
 
 asked_letter : (words : List (List ℕ)) (c : Command) → AsksFor c words → letter words ≡ letter_of c
 unfolding letter letter_of
@@ -59,6 +62,7 @@ asked_letter words (OverStore Ingest) h = ap letter h
 asked_letter words (OverStore Etl) h = ap letter h
 asked_letter words (OverStore Status) h = ap letter h
 asked_letter words (OverStore Check) h = ap letter h
+asked_letter words (OverStore (Serve numbers)) h = ap letter h.written
 
 same_letter : (words : List (List ℕ)) (a b : Command) → IsCommand words a → IsCommand words b → letter_of b ≡ letter_of a
 same_letter words a b one two = sym (asked_letter words b two.1) ∙ asked_letter words a one.1
@@ -78,6 +82,7 @@ servable_same words (Get a q) (Get b r) source first one two can = (can.0, subst
 servable_same words a Etl source first one two can = tt
 servable_same words a Status source first one two can = tt
 servable_same words a Check source first one two can = tt
+servable_same words a (Serve numbers) source first one two can = tt
 servable_same words a b source first one two can = absurd (omega (arith, same_letter words (OverStore a) (OverStore b) one two))
 
 -- or is an ingest, or a report, as that is
@@ -97,7 +102,14 @@ report_same words Ingest Ingest one two report = report
 report_same words Ingest d one two report = absurd (omega (arith, same_letter words (OverStore Ingest) (OverStore d) one two))
 report_same words Etl Etl one two report = report
 report_same words Etl d one two report = absurd (omega (arith, same_letter words (OverStore Etl) (OverStore d) one two))
+report_same words (Serve m) (Serve n) one two report = report
+report_same words (Serve m) d one two report = absurd (omega (arith, same_letter words (OverStore (Serve m)) (OverStore d) one two))
 report_same words c d one two report = tt
+
+pub serve_same : (words : List (List ℕ)) (c : StoreCommand) (n : ServeWords) → IsCommand words (OverStore c) → IsCommand words (OverStore (Serve n)) → (m : ServeWords) × (c ≡ Serve m)
+unfolding letter_of
+serve_same words (Serve m) n one two = (m, refl)
+serve_same words c n one two = absurd (omega (arith, same_letter words (OverStore c) (OverStore (Serve n)) one two))
 
 pub not_both : (words : List (List ℕ)) (q : Query) (c : StoreCommand) → IsCommand words (Extract q) → IsCommand words (OverStore c) → ⊥
 unfolding letter_of
@@ -132,6 +144,7 @@ not_extract word from to none (OverStore (Get name query)) h = let long : 3 ≡ 
 not_extract word from to none (OverStore Etl) h = let long : 3 ≡ 1 = ap length h in omega (arith, long)
 not_extract word from to none (OverStore Status) h = let long : 3 ≡ 1 = ap length h in omega (arith, long)
 not_extract word from to none (OverStore Check) h = let long : 3 ≡ 1 = ap length h in omega (arith, long)
+not_extract word from to none (OverStore (Serve numbers)) h = let long : 3 ≡ 5 = ap length h.written in omega (arith, long)
 
 pub not_get : (word name from to : List ℕ) → ((query : Query) → IsInterval from to query → ⊥) → (c : Command) → AsksFor c (word ∷ name ∷ from ∷ to ∷ []) → ⊥
 not_get word name from to none (Extract query) h = let long : 4 ≡ 3 = ap length h.2 in omega (arith, long)
@@ -143,12 +156,18 @@ not_get word name from to none (OverStore (Get other query)) h =
 not_get word name from to none (OverStore Etl) h = let long : 4 ≡ 1 = ap length h in omega (arith, long)
 not_get word name from to none (OverStore Status) h = let long : 4 ≡ 1 = ap length h in omega (arith, long)
 not_get word name from to none (OverStore Check) h = let long : 4 ≡ 1 = ap length h in omega (arith, long)
+not_get word name from to none (OverStore (Serve numbers)) h = let long : 4 ≡ 5 = ap length h.written in omega (arith, long)
 
--- no command has another number of words
-pub other_length : (words : List (List ℕ)) → length words ≢ 1 → length words ≢ 3 → length words ≢ 4 → (c : Command) → AsksFor c words → ⊥
-other_length words one three four (Extract query) h = three (ap length h.2)
-other_length words one three four (OverStore Ingest) h = one (ap length h)
-other_length words one three four (OverStore (Get name query)) h = four (ap length h.2)
-other_length words one three four (OverStore Etl) h = one (ap length h)
-other_length words one three four (OverStore Status) h = one (ap length h)
-other_length words one three four (OverStore Check) h = one (ap length h)
+-- no command but `serve` has another number of words
+pub other_length : (words : List (List ℕ)) → length words ≢ 1 → length words ≢ 3 → length words ≢ 4 → ((numbers : ServeWords) → AsksToServe words numbers → ⊥) → (c : Command) → AsksFor c words → ⊥
+other_length words one three four serves (Extract query) h = three (ap length h.2)
+other_length words one three four serves (OverStore Ingest) h = one (ap length h)
+other_length words one three four serves (OverStore (Get name query)) h = four (ap length h.2)
+other_length words one three four serves (OverStore Etl) h = one (ap length h)
+other_length words one three four serves (OverStore Status) h = one (ap length h)
+other_length words one three four serves (OverStore Check) h = one (ap length h)
+other_length words one three four serves (OverStore (Serve numbers)) h = serves numbers h
+
+pub other_none : (words : List (List ℕ)) → length words ≢ 1 → length words ≢ 3 → length words ≢ 4 → (r : Option Command) → IfNone r ((numbers : ServeWords) → AsksToServe words numbers → ⊥) → IfNone r ((c : Command) → AsksFor c words → ⊥)
+other_none words one three four None serves = λ c h. other_length words one three four serves c h
+other_none words one three four (Some c) serves = tt

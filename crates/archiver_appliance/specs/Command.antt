@@ -5,7 +5,9 @@ use Rattle.arch_time.specs.Iso.{IsIso}
 use Rattle.series_model.specs.declared.sample.Query.{Query}
 use Rattle.archiver_appliance.specs.declared.command.Command.{Command}
 use Rattle.archiver_appliance.specs.declared.command.Command.TheVariants.{Extract, OverStore}
-use Rattle.archiver_appliance.specs.declared.command.StoreCommand.TheVariants.{Ingest, Get, Etl, Status, Check}
+use Rattle.archiver_appliance.specs.declared.command.StoreCommand.{StoreCommand}
+use Rattle.archiver_appliance.specs.declared.command.StoreCommand.TheVariants.{Ingest, Get, Etl, Status, Check, Serve}
+use Rattle.archiver_appliance.specs.ServeWords.{AsksToServe}
 
 -- two texts and the two moments that they tell
 abbrev pub IsInterval : List ℕ → List ℕ → Query → Type 0
@@ -19,6 +21,7 @@ AsksFor (OverStore (Get name query)) words = (from : List ℕ) × (to : List ℕ
 AsksFor (OverStore Etl) words = words ≡ codes "etl" ∷ []
 AsksFor (OverStore Status) words = words ≡ codes "status" ∷ []
 AsksFor (OverStore Check) words = words ≡ codes "check" ∷ []
+AsksFor (OverStore (Serve numbers)) words = AsksToServe words numbers
 
 -- the word begins with `-`
 abbrev pub has_dash : List ℕ → Bool

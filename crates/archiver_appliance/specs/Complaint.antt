@@ -5,7 +5,7 @@ use Rattle.edge_io.specs.Stream.{Rose, AppendsFront}
 use Rattle.pb_lines.specs.Fault.{fault_number}
 use Rattle.archiver_appliance.specs.declared.status.Status.{Status}
 use Rattle.partition_names.specs.Granularity.{text_of}
-use Rattle.archiver_appliance.specs.declared.status.Status.TheVariants.{Done, Usage, Refused, NoSuchVariable, SourceFault, SinkFault, DiskFault, Damaged, OutOfMemory, GranularityDiffers}
+use Rattle.archiver_appliance.specs.declared.status.Status.TheVariants.{Done, Usage, Refused, NoSuchVariable, SourceFault, SinkFault, DiskFault, Damaged, OutOfMemory, GranularityDiffers, DoorFault, Spent}
 
 -- nothing where the command was done
 abbrev pub complaint_of : Status → List ℕ
@@ -18,6 +18,8 @@ complaint_of SinkFault = codes "archappl: output failed\n"
 complaint_of DiskFault = codes "archappl: disk failed\n"
 complaint_of (Damaged name at) = codes "archappl: damaged: " ++ decimal name.0 ++ codes " " ++ name.1 ++ codes " at " ++ decimal at ++ codes "\n"
 complaint_of OutOfMemory = codes "archappl: out of memory\n"
+complaint_of DoorFault = codes "archappl: door failed\n"
+complaint_of Spent = codes "archappl: acts are spent\n"
 complaint_of (GranularityDiffers kept asked) = codes "archappl: granularity: kept " ++ text_of kept ++ codes ", asked " ++ text_of asked ++ codes "\n"
 
 -- The text went out whole, or a front of it where the count of faults rose.

@@ -10,5 +10,7 @@ pub mod Outside
 pub mod Reporting
 pub mod Retrieving
 pub mod Run
+pub mod ServeWords
+pub mod Serving
 pub mod Status
 pub mod Text

@@ -1,6 +1,8 @@
 -- What a run came to, by its words.
-use Rattle.std.specs.Prelude.{◌≡◌, ◌⊎◌, ◌<◌, ◌+◌, ℕ, List, Bool, true, IsTrue, Option, IfSome, None, Some}
-use Rattle.disk_model.specs.Files.{Files}
+use Rattle.std.specs.Prelude.{◌≡◌, ◌⊎◌, ◌<◌, ◌+◌, ℕ, List, Bool, true, IsTrue, Option, IfSome, None, Some, slice_get}
+use Rattle.disk_model.specs.Files.{Name, Files}
+use Rattle.edge_io.specs.Stream.{Rose}
+use Rattle.link_service.specs.declared.posts.Post.{Post}
 use Rattle.disk_model.specs.Past.{Past, Passes}
 use Rattle.etl_rules.specs.Config.{ConfigState}
 use Rattle.partition_names.specs.declared.granularity.Granularity.{Granularity}
@@ -20,7 +22,7 @@ use Rattle.archiver_appliance.specs.declared.command.Command.TheVariants.{Extrac
 use Rattle.archiver_appliance.specs.declared.command.StoreCommand.{StoreCommand}
 use Rattle.archiver_appliance.specs.declared.command.StoreCommand.TheVariants as command
 use Rattle.archiver_appliance.specs.declared.status.Status.{Status}
-use Rattle.archiver_appliance.specs.declared.status.Status.TheVariants.{Done, Usage, Refused, NoSuchVariable, SourceFault, SinkFault, DiskFault, Damaged, OutOfMemory}
+use Rattle.archiver_appliance.specs.declared.status.Status.TheVariants.{Done, Usage, Refused, NoSuchVariable, SourceFault, SinkFault, DiskFault, Damaged, OutOfMemory, DoorFault, Spent}
 use Rattle.archiver_appliance.specs.Command.{IsCommand, IsFaulty}
 use Rattle.archiver_appliance.specs.Complaint.{Complains, complaint_of}
 use Rattle.archiver_appliance.specs.Ingesting.{IngestsInto}
@@ -29,6 +31,7 @@ use Rattle.archiver_appliance.specs.Moving.{MovesFrom}
 use Rattle.archiver_appliance.specs.Outside.{Outside, IsCaused}
 use Rattle.archiver_appliance.specs.Reporting.{Tells, TellsListed, ChecksAll}
 use Rattle.archiver_appliance.specs.Retrieving.{GetsSome, RetrievesFrom}
+use Rattle.archiver_appliance.specs.Serving.{ServesFrom}
 use Rattle.archiver_appliance.specs.Status.{number_of}
 use Rattle.archiver_appliance.specs.Text.{Extracts}
 
@@ -42,15 +45,21 @@ abbrev pub IsGet : StoreCommand → Type 0
 IsGet (command.Get name query) = Unit {0}
 IsGet _ = ⊥
 
+abbrev pub IsServe : StoreCommand → Type 0
+IsServe (command.Serve numbers) = Unit {0}
+IsServe _ = ⊥
+
 -- a command that writes a text
 abbrev pub IsTelling : StoreCommand → Type 0
 IsTelling command.Ingest = ⊥
+IsTelling (command.Serve numbers) = ⊥
 IsTelling _ = Unit {0}
 
 -- a command that writes what a disk holds
 abbrev pub IsReport : StoreCommand → Type 0
 IsReport command.Ingest = ⊥
 IsReport command.Etl = ⊥
+IsReport (command.Serve numbers) = ⊥
 IsReport _ = Unit {0}
 
 -- what an ingest reads is a stream up to this stop, where its bytes are told
@@ -66,6 +75,8 @@ EndsAs asked source Usage = ⊥
 EndsAs asked source NoSuchVariable = IsGet asked
 EndsAs asked source SourceFault = IsIngest asked
 EndsAs asked source SinkFault = IsTelling asked
+EndsAs asked source DoorFault = IsServe asked
+EndsAs asked source Spent = IsServe asked
 EndsAs asked source _ = Unit {0}
 
 -- WHAT IT DOES TO A DISK THAT TELLS ITS FILES
@@ -100,6 +111,8 @@ Makes config (command.Get name query) before after first old new status =
     IsUnasked (stores_of config) old new status ⊎ RetrievesFrom (HoldsEither (stores_of config) before after) true config first name.now query old.sink new.sink old.past new.past status
 Makes config command.Etl before after first old new status =
     IsUnasked (stores_of config) old new status ⊎ MovesFrom (HoldsEither (stores_of config) before after) true config first old.clock new.clock old.sink new.sink old.past new.past status
+Makes config (command.Serve numbers) before after first old new status =
+    IsUnasked (stores_of config) old new status ⊎ ((doors : ℕ) × ServesFrom (HoldsEither (stores_of config) before after) true config first doors old.past new.past status)
 Makes config command.Status before after first old new status = Tells (status_text first) old.sink new.sink status
 Makes config command.Check before after first old new status = Unit {0}
 
@@ -119,15 +132,17 @@ TellsSaid command.Check files rows lists old new status = ChecksAll rows files (
 TellsSaid (command.Get name query) files rows lists old new status = GetsSome rows name.now query old.sink new.sink status
 TellsSaid _ files rows lists old new status = Unit {0}
 
--- a command that only reads: each but `ingest` and `etl`, and these too where the image isn't whole
+-- a command that only reads: each but `ingest`, `etl` and `serve`, and these too where the image isn't whole
 abbrev pub IsReading : List Granularity → StoreCommand → Files → Type 0
 IsReading gs command.Ingest files = IsWhole gs files → ⊥
 IsReading gs command.Etl files = IsWhole gs files → ⊥
+IsReading gs (command.Serve numbers) files = IsWhole gs files → ⊥
 IsReading gs _ files = Unit {0}
 
--- a command that takes no file from what a store lists: each but `etl`
+-- a command that takes no file from what a store lists: each but `etl` and `serve`
 abbrev pub KeepsFiles : StoreCommand → Type 0
 KeepsFiles command.Etl = ⊥
+KeepsFiles (command.Serve numbers) = ⊥
 KeepsFiles _ = Unit {0}
 
 -- What a command over the archive did: what its status says of the image, what it made of what the disk held, and what it told of the image.
@@ -192,3 +207,13 @@ CanBeDone config tells (OverStore asked) old = IsServed config tells asked old
 -- it was done, or memory was wanting
 abbrev pub EndsWell : ℕ → Type 0
 EndsWell number = (number ≡ 0) ⊎ (number ≡ 9)
+
+-- so a command ends, or a service that had no act left, which no count tells
+abbrev pub EndsWellBy : Command → ℕ → Type 0
+EndsWellBy (OverStore (command.Serve numbers)) number = (number ≡ 13) ⊎ EndsWell number
+EndsWellBy _ number = EndsWell number
+
+-- No door of a service failed.
+abbrev pub AreDoorsQuiet : {D : Type 0} → (D → ℕ) → Command → List (Post D) → List (Post D) → Type 0
+AreDoorsQuiet {D} faults (OverStore (command.Serve numbers)) olds news = (i : ℕ) (old new : Post D) → slice_get olds i ≡ Some old → slice_get news i ≡ Some new → Rose (faults old.door) (faults new.door) → ⊥
+AreDoorsQuiet {D} faults _ olds news = Unit {0}

@@ -1,7 +1,7 @@
 -- The numbers that the program ends with.
 use Rattle.std.specs.Prelude.{ℕ}
 use Rattle.archiver_appliance.specs.declared.status.Status.{Status}
-use Rattle.archiver_appliance.specs.declared.status.Status.TheVariants.{Done, Usage, Refused, NoSuchVariable, SourceFault, SinkFault, DiskFault, Damaged, OutOfMemory, GranularityDiffers}
+use Rattle.archiver_appliance.specs.declared.status.Status.TheVariants.{Done, Usage, Refused, NoSuchVariable, SourceFault, SinkFault, DiskFault, Damaged, OutOfMemory, GranularityDiffers, DoorFault, Spent}
 
 abbrev pub number_of : Status → ℕ
 number_of Done = 0
@@ -13,4 +13,6 @@ number_of SinkFault = 6
 number_of DiskFault = 7
 number_of (Damaged name at) = 8
 number_of OutOfMemory = 9
+number_of DoorFault = 11
 number_of (GranularityDiffers kept asked) = 12
+number_of Spent = 13

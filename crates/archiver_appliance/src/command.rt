@@ -1,10 +1,13 @@
 // The words of the command line, and what they ask for.
-ghost use Rattle.std.specs.Prelude.{◌≡◌, ◌∷◌, [], IfSome, IfNone, map};
+ghost use Rattle.std.specs.Prelude.{◌≡◌, ℕ, ◌∷◌, [], IfSome, IfNone, map};
 ghost use Rattle.std.specs.List.{list_any};
 ghost use Rattle.series_model.specs.declared.sample.Query.{Query};
 ghost use Rattle.archiver_appliance.specs.declared.command.Command.{Command as CommandValue};
+ghost use Rattle.archiver_appliance.specs.declared.serve_words.ServeWords.{ServeWords as Numbers};
 ghost use Rattle.archiver_appliance.specs.Command.{IsInterval, AsksFor, IsCommand, IsFaulty, has_dash};
+ghost use Rattle.archiver_appliance.specs.ServeWords.{AsksToServe};
 
+use crate::serve_words::{ServeWords, serve_words};
 use arch_time::parse_iso;
 use series_model::Query;
 
@@ -30,6 +33,8 @@ pub enum StoreCommand<'a> {
     Status,
     /// `check`
     Check,
+    /// `serve FEEDPORT HTTPPORT WORKERS LINKS`
+    Serve(ServeWords),
 }
 
 /// The command of these words. A word that begins with `-` is of none.
@@ -69,7 +74,18 @@ fn asked_for<'a>(words: &[&'a str]) -> Option<Command<'a>>
         [word] => bare_command(word),
         [word, from, to] => extract_command(word, from, to),
         [word, name, from, to] => get_command(word, name, from, to),
-        _ => None,
+        _ => serve_command(words),
+    }
+}
+
+// The command that serves, where the words are of it.
+fn serve_command<'a>(words: &[&str]) -> Option<Command<'a>>
+    ensures found { IfSome result (λ c. AsksFor c (map (λ w. w.now) words.now)) }
+    ensures none { IfNone result ((numbers : Numbers) → AsksToServe (map (λ w. w.now) words.now) numbers → ⊥) }
+{
+    match serve_words(words) {
+        Some(numbers) => Some(Command::OverStore(StoreCommand::Serve(numbers))),
+        None => None,
     }
 }
 

@@ -8,6 +8,7 @@ use partition_names::Granularity;
 use std::alloc::{AllocError, Global};
 use std::sync::Wait;
 use std::test::Fail;
+use std::thread::Threads;
 
 const ROW: &[u8] = b"A:B SCALAR_INT running samples 3 files 1 0 0\n";
 
@@ -19,7 +20,11 @@ const USAGE: &str =
     "usage: archappl extract FROM TO / ingest / get NAME FROM TO / etl / status / check / drill N / serve FEEDPORT HTTPPORT WORKERS LINKS";
 
 // The disk after an ingest of these lines.
-fn ingested(rt: &impl Wait, alloc: Global, signs: &str) -> Result<Unopened, AllocError> {
+fn ingested<R: Threads + Wait + Sync>(
+    rt: &R,
+    alloc: Global,
+    signs: &str,
+) -> Result<Unopened, AllocError> {
     let disk = empty(alloc, &[])?;
     let input = lines(alloc, signs)?;
     let (_, disk) = outcome_of(
@@ -215,7 +220,11 @@ const BEFORE: &[u8] = b"A:B SCALAR_INT running samples 0 files 0 0 0\n";
 const AFTER: &[u8] = b"A:B SCALAR_INT running samples 1 files 1 0 0\n";
 
 // What `status` tells of images that a crash may leave.
-fn images_of(rt: &impl Wait, alloc: Global, disk: &MemDisk) -> Result<Vec<Told>, AllocError> {
+fn images_of<R: Threads + Wait + Sync>(
+    rt: &R,
+    alloc: Global,
+    disk: &MemDisk,
+) -> Result<Vec<Told>, AllocError> {
     let mut images = Vec::new(alloc);
     for choice in 0..4u64 {
         let image = image_of(alloc, disk, choice)?;

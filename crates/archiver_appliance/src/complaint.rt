@@ -42,6 +42,8 @@ pub fn complain<E: Sink>(status: &Status, complaints: &mut E)
         Status::DiskFault => tell(&[b"archappl: disk failed\n"], complaints),
         Status::Damaged { name, at } => tell_damage(name, *at, complaints),
         Status::OutOfMemory => tell(&[b"archappl: out of memory\n"], complaints),
+        Status::DoorFault => tell(&[b"archappl: door failed\n"], complaints),
+        Status::Spent => tell(&[b"archappl: acts are spent\n"], complaints),
         Status::GranularityDiffers { kept, asked } => tell(
             &[
                 b"archappl: granularity: kept ",

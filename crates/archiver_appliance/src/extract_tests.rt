@@ -5,13 +5,14 @@ use std::alloc::{AllocError, Global};
 use std::process::Abort;
 use std::sync::Wait;
 use std::test::Fail;
+use std::thread::Threads;
 
 // Over the interval of the year's seconds 5 to 8.
 const EXTRACT: &str = "extract 2024-01-01T00:00:05.000Z 2024-01-01T00:00:08.000Z";
 
 // Each input in pieces of several sizes.
-fn expect_all(
-    rt: &(impl Abort + Wait),
+fn expect_all<R: Abort + Threads + Wait + Sync>(
+    rt: &R,
     alloc: Global,
     status: u8,
     table: &[(&str, &str, &str)],

@@ -4,12 +4,14 @@ ghost use Rattle.three_reopen.specs.Reopen.{IsUnopened};
 
 use crate::run::run;
 use disk_model::MemDisk;
-use edge_io::{Failed, ListClock, MemSink, MemSource, Source};
+use edge_io::{Failed, ListClock, ListDoor, MemLink, MemSink, MemSource, Source};
 use etl_rules::Config;
+use link_service::Post;
 use std::alloc::{AllocError, Global};
 use std::process::Abort;
 use std::sync::Wait;
 use std::test::Fail;
+use std::thread::Threads;
 
 // 2024-01-02T00:00:00Z.
 const NOW: u64 = 1_704_153_600_000_000_000;
@@ -202,8 +204,8 @@ pub(crate) struct Sinks {
     pub complaints: MemSink,
 }
 
-fn status_of(
-    rt: &impl Wait,
+fn status_of<R: Threads + Wait + Sync>(
+    rt: &R,
     alloc: Global,
     words: &[&str],
     config: &Config,
@@ -213,6 +215,7 @@ fn status_of(
     disk: Unopened,
 ) -> (u8, Unopened) {
     let Unopened { disk } = disk;
+    let mut no_posts: [Post<ListDoor<MemLink>>; 0] = [];
     let ended = run(
         rt,
         alloc,
@@ -223,13 +226,14 @@ fn status_of(
         &mut sinks.complaints,
         disk,
         clock,
+        &mut no_posts,
     );
     (ended.status, Unopened { disk: ended.disk })
 }
 
 // Runs with so much room for the complaint.
-pub(crate) fn outcome_of(
-    rt: &impl Wait,
+pub(crate) fn outcome_of<R: Threads + Wait + Sync>(
+    rt: &R,
     alloc: Global,
     order: Order<'_>,
     config: &Config,
@@ -265,8 +269,8 @@ pub(crate) fn outcome_of(
 }
 
 // Runs over a disk, and looks at what is told. Gives the disk back.
-pub(crate) fn expect(
-    rt: &(impl Abort + Wait),
+pub(crate) fn expect<R: Abort + Threads + Wait + Sync>(
+    rt: &R,
     alloc: Global,
     order: Order<'_>,
     disk: Unopened,

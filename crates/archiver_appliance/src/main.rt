@@ -1,7 +1,8 @@
 //! `archappl`, the program: its words, its commands and their statuses.
 //!
-//! `run` does all that the program does, over a source, a sink, a sink for complaints, a disk and a clock; `main` hands it the
-//! standard streams, the disk of the folders that the environment names and the system's clock, and ends with its status.
+//! `run` does all that the program does, over a source, a sink, a sink for complaints, a disk, a clock and the doors of a service; `main`
+//! hands it the standard streams, the disk of the folders that the environment names, the system's clock and doors of TCP, and ends with its
+//! status.
 //!
 //! The commands that change or read samples act alone on an archive (`archive_core`) that is opened on the disk's three stores: each of
 //! its acts is a step of the machine of `act_model`, so what is promised of the machine is promised of the program.
@@ -15,6 +16,7 @@ mod command;
 #[cfg(test)]
 mod command_tests;
 mod complaint;
+mod doors;
 mod extract;
 #[cfg(test)]
 mod extract_tests;
@@ -26,19 +28,52 @@ mod opened;
 mod reporting;
 mod retrieving;
 mod run;
+#[cfg(test)]
+mod serve_tests;
+mod serve_words;
+mod serving;
 mod status;
+mod stopping;
+mod telling;
 
-use edge_io::{StdSink, StdSource, SystemClock, write_whole};
+ghost use Rattle.std.specs.Prelude.{◌≤◌, ◌<◌, ◌^◌, length, vec_len, IfOk};
+
+use doors::{Doors, ServiceDoor, Unbound};
+use edge_io::{StdSink, StdSource, SystemClock};
 use etl_rules::Config;
-use folder_disk::{Access, FolderDisk, Trouble};
+use folder_disk::{Access, FaultLines, FolderDisk, Trouble};
+use link_service::Post;
 use std::alloc::{AllocError, Global};
 use std::env::{self, VarError};
 use std::io::ErrorKind;
+use std::net::{Net, TcpListener, TcpStream};
 use std::process::ExitCode;
-use std::sync::Wait;
+use std::sync::{Arc, Wait};
+use std::thread::{Threads, join};
+use stopping::{Ports, Stop, watch};
+use telling::tell;
 
 fn main(rt: HostRuntime) -> ExitCode {
-    match started(&rt, &rt) {
+    let ended = match prepare(&rt, &rt) {
+        Ok((prepared, watched)) => match watched {
+            Some(Watched { stop, file, ports }) => {
+                // Where no thread can be made nobody watches: the run comes first then.
+                let ((), ended) = join(
+                    &rt,
+                    || watch(&rt, &stop, &file, &ports),
+                    || {
+                        let ended = run_over(&rt, &rt, prepared);
+                        stop.tell_over();
+                        ended
+                    },
+                );
+                ended
+            }
+            None => run_over(&rt, &rt, prepared),
+        },
+        Err(err) => Err(err),
+    };
+    match ended {
         Ok(number) => ExitCode::from(number),
         Err(err) => {
             let status = match err {
@@ -51,14 +86,36 @@ fn main(rt: HostRuntime) -> ExitCode {
     }
 }
 
-// Runs over the standard streams, and tells what befell the disk behind the complaint. A folder whose name isn't UTF-8 can't be used.
-fn started(rt: &HostRuntime, wait: &impl Wait) -> Result<u8, VarError> {
+// What a run is made over.
+#[derive(Drop)]
+struct Prepared<'a> {
+    arguments: Vec<String>,
+    disk: FolderDisk<&'a HostRuntime>,
+    posts: Vec<Post<ServiceDoor<'a>>>,
+    unbound: Option<Unbound>,
+}
+
+// A service that a file ends, and where its doors listen.
+#[derive(Drop)]
+struct Watched {
+    stop: Arc<Stop, Global>,
+    file: String,
+    ports: Ports,
+}
+
+// What the words and the environment ask for: the folders, and the doors of a service. A folder whose name isn't UTF-8 can't be used.
+fn prepare<'a>(
+    rt: &'a HostRuntime,
+    net: &impl Net<Listener = TcpListener, Stream = TcpStream>,
+) -> Result<(Prepared<'a>, Option<Watched>), VarError>
+    ensures { IfOk result (λ r. vec_len r.0.posts ≤ 128) }
+{
     let arguments = arguments(rt)?;
     let words = texts(rt.alloc(), &arguments)?;
-    let site = folder(rt, "ARCHAPPL_SITE_FOLDER", "site")?;
-    let short = folder(rt, "ARCHAPPL_SHORT_TERM_FOLDER", "sts")?;
-    let medium = folder(rt, "ARCHAPPL_MEDIUM_TERM_FOLDER", "mts")?;
-    let long = folder(rt, "ARCHAPPL_LONG_TERM_FOLDER", "lts")?;
+    let site = variable(rt, "ARCHAPPL_SITE_FOLDER", "site")?;
+    let short = variable(rt, "ARCHAPPL_SHORT_TERM_FOLDER", "sts")?;
+    let medium = variable(rt, "ARCHAPPL_MEDIUM_TERM_FOLDER", "mts")?;
+    let long = variable(rt, "ARCHAPPL_LONG_TERM_FOLDER", "lts")?;
     let folders = [
         site.as_str(),
         short.as_str(),
@@ -66,12 +123,51 @@ fn started(rt: &HostRuntime, wait: &impl Wait) -> Result<u8, VarError> {
         long.as_str(),
     ];
     let disk = FolderDisk::new(rt, rt.alloc(), access(&words), folders)?;
+    let stop = Stop::shared(rt.alloc())?;
+    let Doors {
+        posts,
+        unbound,
+        ports,
+    } = opened_doors(rt, net, &words, folders, &stop)?;
+    let (disk, watched) = match ports {
+        Some(ports) => {
+            let file = format!(in rt.alloc(); "{site}/stop")?;
+            let disk = disk.telling(FaultLines::new(rt.stderr(), rt.alloc()));
+            (disk, Some(Watched { stop, file, ports }))
+        }
+        None => (disk, None),
+    };
+    drop(words);
+    let prepared = Prepared {
+        arguments,
+        disk,
+        posts,
+        unbound,
+    };
+    Ok((prepared, watched))
+}
+
+// Runs over the standard streams, and tells what befell the disk and the ports behind the complaint.
+fn run_over<H: Threads + Wait + Sync>(
+    rt: &HostRuntime,
+    handles: &H,
+    prepared: Prepared<'_>,
+) -> Result<u8, VarError>
+    requires few { vec_len prepared.posts < 2 ^ 32 }
+{
+    let Prepared {
+        arguments,
+        disk,
+        mut posts,
+        unbound,
+    } = prepared;
+    let words = texts(rt.alloc(), &arguments)?;
     let mut source = StdSource::new(rt.stdin());
     let mut sink = StdSink::new(rt.stdout());
     let mut complaints = StdSink::new(rt.stderr());
     let mut clock = SystemClock::new(rt);
     let mut ended = run::run(
-        wait,
+        handles,
         rt.alloc(),
         &words,
         &Config::shipped(),
@@ -80,15 +176,34 @@ fn started(rt: &HostRuntime, wait: &impl Wait) -> Result<u8, VarError> {
         &mut complaints,
         disk,
         &mut clock,
+        posts.as_mut_slice(),
     );
     if ended.status == status::Status::DiskFault.number() {
         let trouble = match &mut ended.failed {
             Some(file) => file.take_trouble(),
             None => ended.disk.take_trouble(),
         };
-        tell(rt, trouble);
+        tell_trouble(rt, trouble);
     }
+    tell_unbound(rt, unbound);
     Ok(ended.status)
+}
+
+// The doors that the words ask for: none, unless they are those of `serve`.
+fn opened_doors<'a>(
+    rt: &'a HostRuntime,
+    net: &impl Net<Listener = TcpListener, Stream = TcpStream>,
+    words: &[&str],
+    folders: [&str; 4],
+    stop: &Arc<Stop, Global>,
+) -> Result<Doors<'a>, VarError>
+    ensures { IfOk result (λ doors. vec_len doors.posts ≤ 128) }
+{
+    let Some(asked) = serve_words::serve_words(words) else {
+        return Ok(Doors::none(rt.alloc()));
+    };
+    let address = variable(rt, "ARCHAPPL_LISTEN_ADDRESS", "127.0.0.1")?;
+    Ok(Doors::open(net, rt, folders, address, &asked, stop)?)
 }
 
 // The commands that change nothing leave others beside them, and need not be allowed to write.
@@ -99,13 +214,23 @@ fn access(words: &[&str]) -> Access {
     }
 }
 
-// A line with the path and the system's error. Nobody is left to hear where it can't be written.
-fn tell(rt: &HostRuntime, trouble: Option<Trouble>) {
+// A line with the path and the system's error.
+fn tell_trouble(rt: &HostRuntime, trouble: Option<Trouble>) {
     let Some(trouble) = trouble else {
         return;
     };
     if let Ok(line) = format!(in rt.alloc(); "archappl: {trouble}\n") {
-        let _ = write_whole(&mut StdSink::new(rt.stderr()), line.as_bytes());
+        tell(rt, &line);
+    }
+}
+
+// A line with the port that couldn't be bound and the system's error.
+fn tell_unbound(rt: &HostRuntime, unbound: Option<Unbound>) {
+    let Some(Unbound { port, error }) = unbound else {
+        return;
+    };
+    if let Ok(line) = format!(in rt.alloc(); "archappl: port {port}: {error}\n") {
+        tell(rt, &line);
     }
 }
 
@@ -132,10 +257,10 @@ fn texts<'a>(alloc: Global, words: &'a [String]) -> Result<Vec<&'a str>, AllocEr
     Ok(texts)
 }
 
-// The folder that the environment names, or else this one. An empty name is none.
-fn folder(rt: &HostRuntime, name: &str, default: &str) -> Result<String, VarError> {
+// What the environment says of this name, or else this. An empty text says nothing.
+fn variable(rt: &HostRuntime, name: &str, default: &str) -> Result<String, VarError> {
     match env::var(rt, name) {
-        Ok(folder) if !folder.is_empty() => Ok(folder),
+        Ok(text) if !text.is_empty() => Ok(text),
         Ok(_) | Err(VarError::NotPresent) => Ok(default.to_string(rt.alloc())?),
         Err(err) => Err(err),
     }

@@ -1,5 +1,5 @@
 // The commands over the archive.
-ghost use Rattle.std.specs.Prelude.{◌≡◌, IsTrue, None};
+ghost use Rattle.std.specs.Prelude.{◌≡◌, ◌<◌, ◌^◌, IsTrue, None, length};
 ghost use Rattle.three_reopen.specs.Reopen.{IsUnopened, disk_in};
 ghost use Rattle.archiver_appliance.specs.Judging.{refusal_of};
 ghost use Rattle.archiver_appliance.specs.Outside.{outside, IsCaused, NoneFell};
@@ -7,18 +7,24 @@ ghost use Rattle.archiver_appliance.specs.Run.{Does, IsRefused, IsReport};
 ghost use Rattle.archiver_appliance.specs.Status.{number_of};
 ghost use Rattle.archiver_appliance.specs.declared.command.Command.TheVariants.{OverStore};
 ghost use Rattle.archiver_appliance.specs.declared.command.StoreCommand.TheVariants as asked;
+ghost use Rattle.archiver_appliance.specs.declared.serve_words.ServeWords.{ServeWords as Numbers};
+ghost use Rattle.link_service.specs.Doors.{IsServed};
+ghost use Rattle.archiver_appliance.specs.Serving.{ServesPosts};
 
 use crate::command::StoreCommand;
 use crate::ingesting::ingest_into;
 use crate::moving::move_due;
 use crate::reporting::{tell_files, tell_rows};
 use crate::retrieving::get_from;
+use crate::serving::serve_posts;
 use crate::status::Status;
 use disk_model::Disk;
-use edge_io::{Clock, Sink, Source};
+use edge_io::{Clock, Door, Sink, Source};
 use etl_rules::Config;
+use link_service::Post;
 use std::alloc::Global;
 use std::sync::Wait;
+use std::thread::Threads;
 use three_reopen::laws::one_verdict;
 use three_reopen::{ReopenErr, reopen};
 use three_stores::TierStore;
@@ -47,8 +53,15 @@ pub fn out_of_memory<D: Disk>(store: TierStore<D>) -> Came<D>
 }
 
 /// Opens the disk as three stores, and does what is asked of them.
-pub fn serve<S: Source, K: Sink, D: Disk, C: Clock>(
-    rt: &impl Wait,
+pub fn serve<
+    R: Threads + Wait + Sync,
+    S: Source,
+    K: Sink,
+    D: Disk + Send,
+    C: Clock + Drop + Send,
+    W: Door + Send,
+>(
+    rt: &R,
     alloc: Global,
     config: &Config,
     command: StoreCommand<'_>,
@@ -56,14 +69,22 @@ pub fn serve<S: Source, K: Sink, D: Disk, C: Clock>(
     sink: &mut K,
     disk: D,
     clock: &mut C,
+    posts: &mut [Post<W>],
 ) -> Came<D>
-    requires { IsTrue D.tells → IsUnopened (D.files disk) (D.opened disk) }
+where
+    D::Reader: Send,
+    W::L: Send,
+    requires few { length posts.old < 2 ^ 32 }
+    requires unopened { IsTrue D.tells → IsUnopened (D.files disk) (D.opened disk) }
     ensures does { Does config.now D.tells (OverStore command.entry) (outside S.Source K.Sink C.Clock D.Disk source.old sink.old clock.old disk) (outside S.Source K.Sink C.Clock D.Disk source.new sink.new clock.new result.disk) result.status }
     ensures caused { IsCaused D.Reader.faults (outside S.Source K.Sink C.Clock D.Disk source.old sink.old clock.old disk) (outside S.Source K.Sink C.Clock D.Disk source.new sink.new clock.new result.disk) result.status result.failed }
     ensures faults { NoneFell (outside S.Source K.Sink C.Clock D.Disk source.old sink.old clock.old disk) (outside S.Source K.Sink C.Clock D.Disk source.new sink.new clock.new result.disk) }
     ensures ingest_alone { command.entry ≡ asked.Ingest → sink.new ≡ sink.old }
     ensures move_alone { command.entry ≡ asked.Etl → source.new ≡ source.old }
     ensures report_alone { IsReport command.entry → (source.new ≡ source.old) × (clock.new ≡ clock.old) }
+    ensures posts_alone { ((numbers : Numbers) → command.entry ≡ asked.Serve numbers → ⊥) → posts.new ≡ posts.old }
+    ensures serve_alone { (numbers : Numbers) → command.entry ≡ asked.Serve numbers → (source.new ≡ source.old) × (sink.new ≡ sink.old) }
+    ensures serves { (numbers : Numbers) → command.entry ≡ asked.Serve numbers → ServesPosts W.is_closed W.door_faults W.ledger (λ kind l. IsServed kind W.L.Sink.written W.L.Source.read_faults W.L.Sink.write_faults l) result.status posts.old posts.new }
     ensures refused { IsRefused config.now D.tells (D.files disk) (number_of result.status) → (source.new ≡ source.old) × (sink.new ≡ sink.old) × (clock.new ≡ clock.old) }
     ensures unopened { IsTrue D.tells → IsUnopened (D.files result.disk) (D.opened result.disk) }
 {
@@ -76,6 +97,7 @@ pub fn serve<S: Source, K: Sink, D: Disk, C: Clock>(
             StoreCommand::Etl => move_due(rt, alloc, store, sink, clock),
             StoreCommand::Status => tell_rows(alloc, store, sink),
             StoreCommand::Check => tell_files(alloc, store, sink),
+            StoreCommand::Serve(_) => serve_posts(rt, alloc, store, posts, clock),
         },
     }
 }

@@ -1,15 +1,19 @@
 // A run of the program, from its words to its status.
-ghost use Rattle.std.specs.Prelude.{◌≡◌, ◌↔◌, ◌≤◌, IsTrue, map};
+ghost use Rattle.std.specs.Prelude.{◌≡◌, ◌↔◌, ◌≤◌, ◌<◌, ◌^◌, IsTrue, length, map};
 ghost use Rattle.series_model.specs.declared.sample.Query.{Query};
 ghost use Rattle.three_reopen.specs.Reopen.{IsUnopened};
 ghost use Rattle.archiver_appliance.specs.declared.command.Command.{Command as CommandValue};
 ghost use Rattle.archiver_appliance.specs.declared.command.Command.TheVariants.{Extract, OverStore};
 ghost use Rattle.archiver_appliance.specs.declared.command.StoreCommand.{StoreCommand as Asked};
 ghost use Rattle.archiver_appliance.specs.declared.command.StoreCommand.TheVariants as asked;
+ghost use Rattle.archiver_appliance.specs.declared.serve_words.ServeWords.{ServeWords as Numbers};
+ghost use Rattle.archiver_appliance.specs.declared.status.Status.{Status as StatusValue};
+ghost use Rattle.link_service.specs.Doors.{IsServed};
+ghost use Rattle.archiver_appliance.specs.Serving.{ServesPosts};
 ghost use Rattle.archiver_appliance.specs.Command.{IsCommand, IsFaulty};
 ghost use Rattle.archiver_appliance.specs.Outside.{outside, IsCaused, IsQuiet, NoneFell};
 ghost use Rattle.archiver_appliance.specs.Status.{number_of};
-ghost use Rattle.archiver_appliance.specs.Run.{Obeys, Ran, IsRefused, IsReport, CanBeDone, EndsWell};
+ghost use Rattle.archiver_appliance.specs.Run.{Obeys, Ran, IsRefused, IsReport, CanBeDone, AreDoorsQuiet, EndsWellBy};
 
 use crate::command::{Command, command_of};
 use crate::complaint::complain;
@@ -17,10 +21,12 @@ use crate::extract::extract;
 use crate::opened::{Came, serve};
 use crate::status::Status;
 use disk_model::Disk;
-use edge_io::{Clock, Sink, Source};
+use edge_io::{Clock, Door, Sink, Source};
 use etl_rules::Config;
+use link_service::Post;
 use std::alloc::Global;
 use std::sync::Wait;
+use std::thread::Threads;
 
 /// What a run came to.
 #[derive(Drop)]
@@ -44,11 +50,24 @@ pub struct Ended<D: Disk> {
 /// | 5, 6, 7 | the source's, the sink's or the disk's count of faults rose, or that of a file in `failed` |
 /// | 8 | the disk is damaged, or a file that it lists |
 /// | 9 | memory was wanting |
+/// | 11 | `serve`: a door's count of faults rose |
 /// | 12 | the disk keeps another granularity than the configured one |
+/// | 13 | `serve`: no act was left to make, or no number of a pass to draw |
+///
+/// `serve` serves the posts to the ends of their doors; every other command leaves them as they are. Of what befell a service it tells the
+/// first of 11, 7, 9 and 13.
 ///
 /// It needs a disk of which no journal was opened, and no listed file beyond its listed length, and leaves it so.
-pub fn run<S: Source, K: Sink, E: Sink, D: Disk, C: Clock>(
-    rt: &impl Wait,
+pub fn run<
+    R: Threads + Wait + Sync,
+    S: Source,
+    K: Sink,
+    E: Sink,
+    D: Disk + Send,
+    C: Clock + Drop + Send,
+    W: Door + Send,
+>(
+    rt: &R,
     alloc: Global,
     words: &[&str],
     config: &Config,
@@ -57,28 +76,39 @@ pub fn run<S: Source, K: Sink, E: Sink, D: Disk, C: Clock>(
     complaints: &mut E,
     disk: D,
     clock: &mut C,
+    posts: &mut [Post<W>],
 ) -> Ended<D>
-    requires { IsTrue D.tells → IsUnopened (D.files disk) (D.opened disk) }
+where
+    D::Reader: Send,
+    W::L: Send,
+    requires few { length posts.old < 2 ^ 32 }
+    requires unopened { IsTrue D.tells → IsUnopened (D.files disk) (D.opened disk) }
 
     ensures ran { Ran D.Reader.faults (map (λ w. w.now) words.now) config.now D.tells (outside S.Source K.Sink C.Clock D.Disk source.old sink.old clock.old disk) (outside S.Source K.Sink C.Clock D.Disk source.new sink.new clock.new result.disk)
         result.failed (E.written complaints.old) (E.written complaints.new) (E.write_faults complaints.old) (E.write_faults complaints.new) result.status }
     ensures faults { NoneFell (outside S.Source K.Sink C.Clock D.Disk source.old sink.old clock.old disk) (outside S.Source K.Sink C.Clock D.Disk source.new sink.new clock.new result.disk) × (E.write_faults complaints.old ≤ E.write_faults complaints.new) }
 
     ensures usage { (result.status ≡ 2) ↔ IsFaulty (map (λ w. w.now) words.now) }
-    ensures usage_does_nothing { result.status ≡ 2 → (source.new ≡ source.old) × (sink.new ≡ sink.old) × (result.disk ≡ disk) × (clock.new ≡ clock.old) }
+    ensures usage_does_nothing { result.status ≡ 2 → (source.new ≡ source.old) × (sink.new ≡ sink.old) × (result.disk ≡ disk) × (clock.new ≡ clock.old) × (posts.new ≡ posts.old) }
     ensures extract_alone { (query : Query) → IsCommand (map (λ w. w.now) words.now) (Extract query) → (result.disk ≡ disk) × (clock.new ≡ clock.old) }
     ensures ingest_alone { IsCommand (map (λ w. w.now) words.now) (OverStore asked.Ingest) → sink.new ≡ sink.old }
     ensures move_alone { IsCommand (map (λ w. w.now) words.now) (OverStore asked.Etl) → source.new ≡ source.old }
     ensures report_alone { (command : Asked) → IsCommand (map (λ w. w.now) words.now) (OverStore command) → IsReport command → (source.new ≡ source.old) × (clock.new ≡ clock.old) }
     ensures refused { (command : Asked) → IsCommand (map (λ w. w.now) words.now) (OverStore command) → IsRefused config.now D.tells (D.files disk) result.status → (source.new ≡ source.old) × (sink.new ≡ sink.old) × (clock.new ≡ clock.old) }
 
+    // The posts are served by `serve` alone.
+    ensures posts_alone { (command : CommandValue) → IsCommand (map (λ w. w.now) words.now) command → ((numbers : Numbers) → command ≡ OverStore (asked.Serve numbers) → ⊥) → posts.new ≡ posts.old }
+    ensures serve_alone { (numbers : Numbers) → IsCommand (map (λ w. w.now) words.now) (OverStore (asked.Serve numbers)) → (source.new ≡ source.old) × (sink.new ≡ sink.old) }
+    ensures serves { (numbers : Numbers) → IsCommand (map (λ w. w.now) words.now) (OverStore (asked.Serve numbers))
+        → (status : StatusValue) × (result.status ≡ number_of status) × ServesPosts W.is_closed W.door_faults W.ledger (λ kind l. IsServed kind W.L.Sink.written W.L.Source.read_faults W.L.Sink.write_faults l) status posts.old posts.new }
+
     // Where no count rose, each command is done that can be, or memory was wanting.
     ensures complete { (command : CommandValue) → IsCommand (map (λ w. w.now) words.now) command → CanBeDone config.now D.tells command (outside S.Source K.Sink C.Clock D.Disk source.old sink.old clock.old disk)
-        → IsQuiet command (outside S.Source K.Sink C.Clock D.Disk source.old sink.old clock.old disk) (outside S.Source K.Sink C.Clock D.Disk source.new sink.new clock.new result.disk) result.failed → EndsWell result.status }
+        → IsQuiet command (outside S.Source K.Sink C.Clock D.Disk source.old sink.old clock.old disk) (outside S.Source K.Sink C.Clock D.Disk source.new sink.new clock.new result.disk) result.failed → AreDoorsQuiet W.door_faults command posts.old posts.new → EndsWellBy command result.status }
 
     ensures unopened { IsTrue D.tells → IsUnopened (D.files result.disk) (D.opened result.disk) }
 {
-    let came = obey(rt, alloc, words, config, source, sink, disk, clock);
+    let came = obey(rt, alloc, words, config, source, sink, disk, clock, posts);
     complain(&came.status, complaints);
     Ended {
         status: came.status.number(),
@@ -88,8 +118,15 @@ pub fn run<S: Source, K: Sink, E: Sink, D: Disk, C: Clock>(
 }
 
 // Does what the words ask for.
-fn obey<S: Source, K: Sink, D: Disk, C: Clock>(
-    rt: &impl Wait,
+fn obey<
+    R: Threads + Wait + Sync,
+    S: Source,
+    K: Sink,
+    D: Disk + Send,
+    C: Clock + Drop + Send,
+    W: Door + Send,
+>(
+    rt: &R,
     alloc: Global,
     words: &[&str],
     config: &Config,
@@ -97,18 +134,26 @@ fn obey<S: Source, K: Sink, D: Disk, C: Clock>(
     sink: &mut K,
     disk: D,
     clock: &mut C,
+    posts: &mut [Post<W>],
 ) -> Came<D>
-    requires { IsTrue D.tells → IsUnopened (D.files disk) (D.opened disk) }
+where
+    D::Reader: Send,
+    W::L: Send,
+    requires few { length posts.old < 2 ^ 32 }
+    requires unopened { IsTrue D.tells → IsUnopened (D.files disk) (D.opened disk) }
     ensures obeys { Obeys (map (λ w. w.now) words.now) config.now D.tells (outside S.Source K.Sink C.Clock D.Disk source.old sink.old clock.old disk) (outside S.Source K.Sink C.Clock D.Disk source.new sink.new clock.new result.disk) result.status }
     ensures caused { IsCaused D.Reader.faults (outside S.Source K.Sink C.Clock D.Disk source.old sink.old clock.old disk) (outside S.Source K.Sink C.Clock D.Disk source.new sink.new clock.new result.disk) result.status result.failed }
     ensures faults { NoneFell (outside S.Source K.Sink C.Clock D.Disk source.old sink.old clock.old disk) (outside S.Source K.Sink C.Clock D.Disk source.new sink.new clock.new result.disk) }
     ensures usage { result.status ≡ Status.Usage → IsFaulty (map (λ w. w.now) words.now) }
-    ensures usage_does_nothing { result.status ≡ Status.Usage → (source.new ≡ source.old) × (sink.new ≡ sink.old) × (result.disk ≡ disk) × (clock.new ≡ clock.old) }
+    ensures usage_does_nothing { result.status ≡ Status.Usage → (source.new ≡ source.old) × (sink.new ≡ sink.old) × (result.disk ≡ disk) × (clock.new ≡ clock.old) × (posts.new ≡ posts.old) }
     ensures extract_alone { (query : Query) → IsCommand (map (λ w. w.now) words.now) (Extract query) → (result.disk ≡ disk) × (clock.new ≡ clock.old) }
     ensures ingest_alone { IsCommand (map (λ w. w.now) words.now) (OverStore asked.Ingest) → sink.new ≡ sink.old }
     ensures move_alone { IsCommand (map (λ w. w.now) words.now) (OverStore asked.Etl) → source.new ≡ source.old }
     ensures report_alone { (command : Asked) → IsCommand (map (λ w. w.now) words.now) (OverStore command) → IsReport command → (source.new ≡ source.old) × (clock.new ≡ clock.old) }
     ensures refused { (command : Asked) → IsCommand (map (λ w. w.now) words.now) (OverStore command) → IsRefused config.now D.tells (D.files disk) (number_of result.status) → (source.new ≡ source.old) × (sink.new ≡ sink.old) × (clock.new ≡ clock.old) }
+    ensures posts_alone { (command : CommandValue) → IsCommand (map (λ w. w.now) words.now) command → ((numbers : Numbers) → command ≡ OverStore (asked.Serve numbers) → ⊥) → posts.new ≡ posts.old }
+    ensures serve_alone { (numbers : Numbers) → IsCommand (map (λ w. w.now) words.now) (OverStore (asked.Serve numbers)) → (source.new ≡ source.old) × (sink.new ≡ sink.old) }
+    ensures serves { (numbers : Numbers) → IsCommand (map (λ w. w.now) words.now) (OverStore (asked.Serve numbers)) → ServesPosts W.is_closed W.door_faults W.ledger (λ kind l. IsServed kind W.L.Sink.written W.L.Source.read_faults W.L.Sink.write_faults l) result.status posts.old posts.new }
     ensures unopened { IsTrue D.tells → IsUnopened (D.files result.disk) (D.opened result.disk) }
 {
     match command_of(words) {
@@ -123,7 +168,7 @@ fn obey<S: Source, K: Sink, D: Disk, C: Clock>(
             failed: None,
         },
         Some(Command::OverStore(command)) => {
-            serve(rt, alloc, config, command, source, sink, disk, clock)
+            serve(rt, alloc, config, command, source, sink, disk, clock, posts)
         }
     }
 }

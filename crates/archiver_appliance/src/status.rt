@@ -38,6 +38,10 @@ pub enum Status {
         kept: Granularity,
         asked: Granularity,
     },
+    /// A door failed.
+    DoorFault,
+    /// No act is left to make, or no number of a pass to draw.
+    Spent,
 }
 
 impl Status {
@@ -55,7 +59,9 @@ impl Status {
             Status::DiskFault => 7,
             Status::Damaged { .. } => 8,
             Status::OutOfMemory => 9,
+            Status::DoorFault => 11,
             Status::GranularityDiffers { .. } => 12,
+            Status::Spent => 13,
         }
     }
 }

@@ -1,6 +1,6 @@
 use Rattle.std.proofs.Common.{◌≡◌, length, arith}
 use Rattle.std.proofs.lemmas.List.{length-map}
-use Rattle.archiver_appliance.proofs.Words.{other_length, texts}
+use Rattle.archiver_appliance.proofs.Words.{other_none, texts}
 use Rattle.archiver_appliance.proofs.command.asked_for.Goals.{in_default-via-then-words-lt1, in_default-via-else-words-lt1+else-words-lt2+then-words-lt3, in_default-via-else-words-lt1+else-words-lt2+else-words-lt3+else-words-lt4+else-words-lt5}
 use Rattle.archiver_appliance.proofs.command.asked_for.Goals as goal
 
@@ -9,7 +9,7 @@ returns-in_default-clause-none c =
     let words = c.args.words.now in
     let long : length (texts words) ≡ length words = length-map words (λ word. word.now) in
     elim c.in_default.branch [
-      | in_default-via-then-words-lt1 w ↦ λ command h. other_length (texts words) (λ is. grind (arith, is, long)) (λ is. grind (arith, is, long)) (λ is. grind (arith, is, long)) command h
-      | in_default-via-else-words-lt1+else-words-lt2+then-words-lt3 w ↦ λ command h. other_length (texts words) (λ is. grind (arith, is, long)) (λ is. grind (arith, is, long)) (λ is. grind (arith, is, long)) command h
-      | in_default-via-else-words-lt1+else-words-lt2+else-words-lt3+else-words-lt4+else-words-lt5 w ↦ λ command h. other_length (texts words) (λ is. grind (arith, is, long)) (λ is. grind (arith, is, long)) (λ is. grind (arith, is, long)) command h
+      | in_default-via-then-words-lt1 w ↦ other_none (texts words) (λ is. grind (arith, is, long)) (λ is. grind (arith, is, long)) (λ is. grind (arith, is, long)) _ c.serve_command.ensures.none
+      | in_default-via-else-words-lt1+else-words-lt2+then-words-lt3 w ↦ other_none (texts words) (λ is. grind (arith, is, long)) (λ is. grind (arith, is, long)) (λ is. grind (arith, is, long)) _ c.serve_command.ensures.none
+      | in_default-via-else-words-lt1+else-words-lt2+else-words-lt3+else-words-lt4+else-words-lt5 w ↦ other_none (texts words) (λ is. grind (arith, is, long)) (λ is. grind (arith, is, long)) (λ is. grind (arith, is, long)) _ c.serve_command.ensures.none
     ]

@@ -22,6 +22,12 @@ returns-in-DiskFault-clause-told g c = rw c.in-DiskFault.is c.tell-in-DiskFault.
 pub returns-in-OutOfMemory-clause-told : goal.returns-in-OutOfMemory-clause-told
 returns-in-OutOfMemory-clause-told g c = rw c.in-OutOfMemory.is c.tell-in-OutOfMemory.ensures.told
 
+pub returns-in-DoorFault-clause-told : goal.returns-in-DoorFault-clause-told
+returns-in-DoorFault-clause-told g c = rw c.in-DoorFault.is c.tell-in-DoorFault.ensures.told
+
+pub returns-in-Spent-clause-told : goal.returns-in-Spent-clause-told
+returns-in-Spent-clause-told g c = rw c.in-Spent.is c.tell-in-Spent.ensures.told
+
 pub returns-in-Refused-clause-told : goal.returns-in-Refused-clause-told
 returns-in-Refused-clause-told g c =
     told_as (g.E.Sink.written c.args.complaints.now) (g.E.Sink.written c.tell-in-Refused.new.complaints) (g.E.Sink.write_faults c.args.complaints.now) (g.E.Sink.write_faults c.tell-in-Refused.new.complaints) _ (complaint_of c.args.status.now)

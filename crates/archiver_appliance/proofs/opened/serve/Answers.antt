@@ -9,7 +9,9 @@ use Rattle.archiver_appliance.specs.Run.{Does, EndsAs}
 use Rattle.archiver_appliance.proofs.Judgements.{OneVerdict}
 use Rattle.archiver_appliance.proofs.Opening.{opening_reads}
 use Rattle.archiver_appliance.proofs.Refusals.{refused_does}
-use Rattle.archiver_appliance.proofs.Serving.{check_does, etl_does, get_does, ingest_does, never_damaged, refused_none, status_does, three_of}
+use Rattle.archiver_appliance.proofs.Doing.{check_does, etl_does, get_does, ingest_does, never_damaged, refused_none, status_does, three_of}
+use Rattle.archiver_appliance.proofs.ServingAll.{serve_does}
+use Rattle.archiver_appliance.proofs.Posts.{serves_nobody}
 use Rattle.archiver_appliance.proofs.opened.serve.Goals as goal
 
 pub returns-in-Err-clause-does : goal.returns-in-Err-clause-does
@@ -19,7 +21,7 @@ returns-in-Err-clause-does g c =
     let old = outside g.S.Source g.K.Sink g.C.Clock g.D.Disk c.args.source.now c.args.sink.now c.args.clock.now c.args.disk in
     let new = outside g.S.Source g.K.Sink g.C.Clock g.D.Disk c.args.source.now c.args.sink.now c.args.clock.now (disk_in err) in
     let verdict : OneVerdict = record { whole = c.one_verdict.ensures.whole; same = c.one_verdict.ensures.same; undamaged = c.one_verdict.ensures.undamaged } in
-    let does = refused_does g.D.Disk.tells config c.args.command old new verdict err refl refl refl (λ told. g.met.D.Disk.seen c.args.disk told) (λ told. opening_reads g.D.Disk (stores_of config) c.args.disk (disk_in err) (c.in-Err.ensures.reopens told))
+    let does = refused_does g.D.Disk.tells config c.args.command old new verdict err refl refl refl (λ told. (g.met.D.Disk g.world.𝓛 g.world.𝓜 g.world.𝓡 ((λ s x. x), (λ x. x), (λ x. x), λ x. x)).seen c.args.disk told) (λ told. opening_reads g.D.Disk (stores_of config) c.args.disk (disk_in err) (c.in-Err.ensures.reopens told))
     (λ told d name at is. c.in-Err.ensures.damaged told d name at (ap (λ e. Err e) is)) (λ told d kept other is. c.in-Err.ensures.differs told d kept other (ap (λ e. Err e) is)) in
     subst (λ d. Does config g.D.Disk.tells (OverStore c.args.command) old (outside g.S.Source g.K.Sink g.C.Clock g.D.Disk c.args.source.now c.args.sink.now c.args.clock.now d) c.refused.result.status) (sym c.refused.ensures.disk)
     (subst (λ (s : Status). Does config g.D.Disk.tells (OverStore c.args.command) old new s) (sym c.refused.ensures.status) does)
@@ -91,3 +93,19 @@ pub returns-in-Check-clause-refused : goal.returns-in-Check-clause-refused
 returns-in-Check-clause-refused g c = λ is.
     let four = refused_none c.args.config.now g.D.Disk.tells (g.D.Disk.files c.args.disk) c.tell_files.result.status c.tell_files.ensures.opened (λ told. c.in-Ok.ensures.whole told refl) is in
     absurd (subst (λ (s : Status). EndsAs command.Check (g.S.Source.left c.args.source.now) s) four (c.tell_files.ensures.ends (g.S.Source.left c.args.source.now)))
+
+pub returns-in-Serve-clause-does : goal.returns-in-Serve-clause-does
+returns-in-Serve-clause-does g c =
+    let config = c.args.config.now in
+    let verdict : OneVerdict = record { whole = c.one_verdict.ensures.whole; same = c.one_verdict.ensures.same; undamaged = c.one_verdict.ensures.undamaged } in
+    let old = outside g.S.Source g.K.Sink g.C.Clock g.D.Disk c.args.source.now c.args.sink.now c.args.clock.now c.args.disk in
+    let new = outside g.S.Source g.K.Sink g.C.Clock g.D.Disk c.args.source.now c.args.sink.now c.serve_posts.new.clock c.serve_posts.result.disk in
+    subst (λ (x : StoreCommand). Does config g.D.Disk.tells (OverStore x) old new c.serve_posts.result.status) (sym c.in-Serve.is)
+    (serve_does g.S.Source g.K.Sink g.C.Clock g.D.Disk config c.args.disk c.in-Ok.store verdict c.in-Ok.ensures.stands (λ told. c.in-Ok.ensures.whole told refl) c.in-Ok.ensures.reopens
+    c.args.source.now c.args.sink.now c.args.clock.now c.serve_posts.new.clock c.serve_posts.result.disk c.serve_posts.result.status
+    c.in-Serve.field-0 _ c.in-Ok.ensures.settings c.serve_posts.ensures.serves c.serve_posts.ensures.opened c.serve_posts.ensures.undamaged (c.serve_posts.ensures.ends c.in-Serve.field-0))
+
+pub returns-in-Serve-clause-refused : goal.returns-in-Serve-clause-refused
+returns-in-Serve-clause-refused g c = λ is.
+    let four = refused_none c.args.config.now g.D.Disk.tells (g.D.Disk.files c.args.disk) c.serve_posts.result.status c.serve_posts.ensures.opened (λ told. c.in-Ok.ensures.whole told refl) is in
+    absurd (subst (λ (s : Status). EndsAs (command.Serve c.in-Serve.field-0) (g.S.Source.left c.args.source.now) s) four (c.serve_posts.ensures.ends c.in-Serve.field-0 (g.S.Source.left c.args.source.now)))

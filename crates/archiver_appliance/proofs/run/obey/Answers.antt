@@ -1,8 +1,9 @@
 use Rattle.std.proofs.Common.{inl, map, subst}
 use Rattle.archiver_appliance.specs.declared.command.Command.{Command}
 use Rattle.archiver_appliance.specs.declared.command.Command.TheVariants.{OverStore}
+use Rattle.archiver_appliance.specs.declared.command.StoreCommand.TheVariants as asked
 use Rattle.archiver_appliance.specs.Command.{IsCommand}
-use Rattle.archiver_appliance.proofs.Words.{move_same, ingest_same, not_both, report_same}
+use Rattle.archiver_appliance.proofs.Words.{move_same, ingest_same, not_both, report_same, serve_same}
 use Rattle.archiver_appliance.proofs.run.obey.Goals as goal
 
 pub returns-in-Some-Extract-clause-report_alone : goal.returns-in-Some-Extract-clause-report_alone
@@ -38,3 +39,18 @@ pub returns-in-Some-OverStore-clause-report_alone : goal.returns-in-Some-OverSto
 returns-in-Some-OverStore-clause-report_alone g c command asks report =
     let words = map (λ w. w.now) c.args.words.now in
     c.serve.ensures.report_alone (report_same words c.in-Some-OverStore.command command (subst (λ (a : Command). IsCommand words a) c.in-Some-OverStore.field-0-is c.in-Some-OverStore.ensures.found) asks report)
+
+pub returns-in-None-clause-serves : goal.returns-in-None-clause-serves
+returns-in-None-clause-serves g c numbers asks = absurd (c.in-None.ensures.none (OverStore (asked.Serve numbers)) asks)
+
+pub returns-in-Some-OverStore-clause-serve_alone : goal.returns-in-Some-OverStore-clause-serve_alone
+returns-in-Some-OverStore-clause-serve_alone g c numbers asks =
+    let words = map (λ w. w.now) c.args.words.now in
+    let same = serve_same words c.in-Some-OverStore.command numbers (subst (λ (a : Command). IsCommand words a) c.in-Some-OverStore.field-0-is c.in-Some-OverStore.ensures.found) asks in
+    c.serve.ensures.serve_alone same.0 same.1
+
+pub returns-in-Some-OverStore-clause-serves : goal.returns-in-Some-OverStore-clause-serves
+returns-in-Some-OverStore-clause-serves g c numbers asks =
+    let words = map (λ w. w.now) c.args.words.now in
+    let same = serve_same words c.in-Some-OverStore.command numbers (subst (λ (a : Command). IsCommand words a) c.in-Some-OverStore.field-0-is c.in-Some-OverStore.ensures.found) asks in
+    c.serve.ensures.serves same.0 same.1

@@ -28,7 +28,7 @@ use Rattle.three_stores.proofs.Places.{manifest_at as manifest_there}
 use Rattle.archiver_appliance.specs.declared.command.Command.TheVariants.{OverStore}
 use Rattle.archiver_appliance.specs.declared.command.StoreCommand.TheVariants as command
 use Rattle.archiver_appliance.specs.declared.status.Status.{Status}
-use Rattle.archiver_appliance.specs.declared.status.Status.TheVariants.{Done, Usage, Refused, NoSuchVariable, SourceFault, SinkFault, DiskFault, Damaged, OutOfMemory, GranularityDiffers}
+use Rattle.archiver_appliance.specs.declared.status.Status.TheVariants.{Done, Usage, Refused, NoSuchVariable, SourceFault, SinkFault, DiskFault, Damaged, OutOfMemory, GranularityDiffers, DoorFault, Spent}
 use Rattle.archiver_appliance.specs.Acting.{IsFresh, IsNotMade}
 use Rattle.act_model.specs.Machine.{Machine}
 use Rattle.archiver_appliance.specs.Ingesting.{IngestsInto, LeavesNone}
@@ -69,6 +69,8 @@ module _ (rows : List Row) (short medium long : List Entry) (a b : Option (List 
   rows_undamaged DiskFault t = tt
   rows_undamaged OutOfMemory t = tt
   rows_undamaged (GranularityDiffers kept asked) t = tt
+  rows_undamaged DoorFault t = tt
+  rows_undamaged Spent t = tt
 
   rows_told : (status : Status) → TellsListed rows short medium long a b status → ((name : Name) (at : ℕ) → status ≡ Damaged name at → ⊥) × ((kept asked : Granularity) → status ≡ GranularityDiffers kept asked → ⊥)
   rows_told status t = (λ name at is. subst (λ (s : Status). TellsListed rows short medium long a b s) is t, λ kept asked is. subst (λ (s : Status). TellsListed rows short medium long a b s) is t)
@@ -338,6 +340,8 @@ four_is DiskFault is = absurd (omega (arith, is))
 four_is (Damaged name at) is = absurd (omega (arith, is))
 four_is OutOfMemory is = absurd (omega (arith, is))
 four_is (GranularityDiffers kept asked) is = absurd (omega (arith, is))
+four_is DoorFault is = absurd (omega (arith, is))
+four_is Spent is = absurd (omega (arith, is))
 
 not_twelve : (status : Status) → IsOfOpened status → number_of status ≡ 12 → ⊥
 not_twelve (GranularityDiffers kept asked) opened is = opened
@@ -350,6 +354,8 @@ not_twelve SinkFault opened is = omega (arith, is)
 not_twelve DiskFault opened is = omega (arith, is)
 not_twelve (Damaged name at) opened is = omega (arith, is)
 not_twelve OutOfMemory opened is = omega (arith, is)
+not_twelve DoorFault opened is = omega (arith, is)
+not_twelve Spent opened is = omega (arith, is)
 
 -- of stores that were opened only a name that no row has is refused
 pub refused_none : (config : ConfigState) (tells : Bool) (files : Files) (status : Status) → IsOfOpened status → (IsTrue tells → IsWhole (stores_of config) files) → IsRefused config tells files (number_of status) → status ≡ NoSuchVariable
@@ -372,3 +378,5 @@ never_damaged SinkFault never = tt
 never_damaged DiskFault never = tt
 never_damaged OutOfMemory never = tt
 never_damaged (GranularityDiffers kept asked) never = tt
+never_damaged DoorFault never = tt
+never_damaged Spent never = tt

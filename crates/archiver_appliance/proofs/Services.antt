@@ -1,0 +1,320 @@
+-- From stores that were just opened to a service on them, and the disk that is given back.
+use Rattle.std.proofs.Common.{◌≡◌, ◌⊎◌, inl, inr, ℕ, ◌<◌, List, [], ◌∷◌, ◌++◌, Bool, true, false, Option, Some, None, length, refl, sym, ◌∙◌, ap, subst, map, arith}
+use Rattle.std.proofs.lemmas.Bool.Decides.{nat_tests}
+use Rattle.std.specs.Prelude.{Contains, IsTrue, ◌≤◌, ◌&&◌, ◌==◌, nat_lt}
+use Rattle.disk_model.specs.Files.{Files, Rose as DiskRose}
+use Rattle.disk_model.specs.Past.{MayLeave, Past, Passes}
+use Rattle.disk_model.specs.declared.disk.Disk.{Ghosts}
+use Rattle.disk_model.proofs.Passing.{passes_then, passes_weaker}
+use Rattle.etl_rules.specs.Config.{ConfigState}
+use Rattle.partition_names.specs.declared.granularity.Granularity.{Granularity}
+use Rattle.three_stores.specs.Change.{Has}
+use Rattle.three_stores.specs.Seen.{seen, granularities}
+use Rattle.three_stores.specs.Stores.{Stores}
+use Rattle.three_stores.specs.declared.store.TierStore.{TierStore}
+use Rattle.three_reopen.specs.Reopen.{IsUnopened, stores_of}
+use Rattle.turn_rooms.specs.declared.room.Entry.{Entry as RoomEntry}
+use Rattle.turn_rooms.specs.declared.rooms.Pass.{Pass}
+use Rattle.turn_rooms.specs.declared.rooms.Rooms.{Rooms}
+use Rattle.turn_rooms.specs.declared.view.Standing.{Standing}
+use Rattle.turn_rooms.proofs.Lists.{has_first, no_element}
+use Rattle.turn_rooms.specs.Histories.{Legal, by, end_of, most_acts}
+use Rattle.std.proofs.lemmas.List.{length-map}
+use Rattle.turn_rooms.specs.Passes.{IsLast, IsPassOf, Opens, drained, known, opened}
+use Rattle.act_model.specs.declared.acts.Act.{Act}
+use Rattle.act_model.specs.declared.acts.Act.TheVariants.{Flush}
+use Rattle.act_model.specs.declared.acts.Answer.{Answer}
+use Rattle.act_model.specs.declared.acts.Answer.TheVariants as answer
+use Rattle.act_model.specs.Growth.{Onward}
+use Rattle.act_model.specs.History.{Done, Entry, Runs, done_of, mine, own}
+use Rattle.act_model.specs.Laws.{AnswersAreOfActs}
+use Rattle.act_model.specs.Machine.{Machine}
+use Rattle.act_model.specs.Reply.{Reply}
+use Rattle.act_model.specs.Rule.{Rule}
+use Rattle.act_model.specs.Sound.{IsSound}
+use Rattle.act_model.proofs.Histories.{mine-append, runs_onward}
+use Rattle.archive_actors.specs.Seats.{StandsFor}
+use Rattle.archive_actors.specs.SeatLaws.{kept_append}
+use Rattle.archive_actors.specs.Steps.{SharedStands, all_kept, kept}
+use Rattle.archive_actors.specs.declared.shared.Shared.{Shared}
+use Rattle.archive_core.specs.Opening.{OpensAs}
+use Rattle.archive_core.specs.Parts.{parts}
+use Rattle.archive_core.specs.Running.{HoldsBetween, RunsOn}
+use Rattle.archive_core.specs.Stands.{Stands}
+use Rattle.archive_core.specs.declared.archive.Archive.{Archive}
+use Rattle.serving_end.specs.End.{EndsWell}
+use Rattle.serving_end.proofs.Works.{own_map}
+use Rattle.turns_end.specs.Acting.{EndsInTurns, HasFlushFault}
+use Rattle.link_service.specs.declared.service.AllServed.{AllServed}
+use Rattle.archiver_appliance.specs.Acting.{IsFresh, IsOpenedOn, rule_of}
+use Rattle.archiver_appliance.specs.Outside.{HasNotFallen, IsCausedBy}
+use Rattle.archiver_appliance.specs.Judging.{IsOfOpened}
+use Rattle.archiver_appliance.specs.Run.{EndsAs, NoDamage}
+use Rattle.archiver_appliance.specs.Serving.{HasFailedFlush, LeavesArchive, LeavesRoom, ServesFrom, WasSpent, first_of, status_of}
+use Rattle.archiver_appliance.specs.declared.command.StoreCommand.TheVariants as command
+use Rattle.archiver_appliance.specs.declared.status.Status.{Status}
+use Rattle.archiver_appliance.specs.declared.serve_words.ServeWords.{ServeWords}
+use Rattle.archiver_appliance.proofs.Acting.{both_hold, count_given, handed, opens_again, rose_given, tells_headers, unopened_given}
+use Rattle.archiver_appliance.proofs.Counting.{runs_counts, runs_rose}
+
+-- WHAT IS OPENED
+
+-- the machine that an archive stands for as it is opened on what is held, with so many doors
+pub record IsBegunWith {D R : Type 0} (disk : Ghosts D R) (config : ConfigState) (held : Stores) (doors : ℕ) (archive : Archive D R) : Type 0 where
+  pub start : Machine
+  pub opened : IsOpenedOn disk.tells config held start
+  pub stands : Stands disk.tells (parts disk archive) start
+  pub with_doors : start.doors ≡ doors
+
+module _ {D R : Type 0} (disk : Ghosts D R) (store : TierStore D R) (fresh : IsFresh disk store) (doors : ℕ) (archive : Archive D R) (opens : OpensAs disk.tells (seen disk store) store.config doors (parts disk archive)) where
+  pub begins_with : (held : Stores) → Has disk.tells (seen disk store) held → IsBegunWith disk store.config held doors archive
+  begins_with held has =
+      let config = store.config in
+      let made = opens held (rule_of config) has (sym fresh.ready.granularity) (tells_headers config) refl refl in
+      record {
+        start = made.0;
+        opened = record { told = made.5; holds = made.2; rule = made.1.of_rule; settled = made.3.settled; fresh = made.1.fresh };
+        stands = made.3.stands;
+        with_doors = made.4;
+      }
+
+  pub stands_with : (m : Machine) × Stands disk.tells (parts disk archive) m
+  stands_with = let one = begins_with fresh.has.0 fresh.has.1 in (one.start, one.stands)
+
+-- A FLUSH THAT FAILED
+
+done_as : Act → Reply → Done
+done_as act reply = record { act = act; answer = reply }
+
+failed_last : (e : Entry) (back : List Entry) (limit : ℕ) → own e.who back ≡ [] → e.act ≡ Flush limit → e.answer ≡ answer.DiskFault → mine e.who (e ∷ back) ≡ done_as (Flush limit) answer.DiskFault ∷ []
+unfolding done_as
+failed_last e back limit none act answered =
+    let same : (e.who == e.who) ≡ true = grind (arith, nat_tests) in
+    let first : mine e.who (e ∷ back) ≡ done_of e ∷ mine e.who back = rw same refl in
+    let rest : mine e.who back ≡ [] = ap (λ (es : List Entry). map done_of es) none in
+    let made : done_of e ≡ done_as (Flush limit) answer.DiskFault = ap (λ (a : Act). done_as a e.answer) act ∙ ap (λ (r : Reply). done_as (Flush limit) r) answered in
+    first ∙ (ap (λ (ds : List Done). done_of e ∷ ds) rest ∙ ap (λ (d : Done). d ∷ []) made)
+
+-- the disk has counted it
+pub flush_rose : AnswersAreOfActs → (entries : List Entry) (old new : Machine) → IsSound old → Runs old entries new → HasFailedFlush entries → DiskRose old.faults new.faults
+unfolding done_as
+flush_rose answers entries old new sound runs f =
+    let who = f.flush.who in
+    let is : mine who entries ≡ mine who f.front ++ done_as (Flush f.limit) answer.DiskFault ∷ [] =
+    ap (λ (es : List Entry). mine who es) f.is ∙ (mine-append who f.front (f.flush ∷ f.back) ∙ ap (λ (ds : List Done). mine who f.front ++ ds) (failed_last f.flush f.back f.limit f.last f.act f.answered)) in
+    runs_rose answers who entries old new (mine who f.front) [] (Flush f.limit) sound runs is
+
+-- THE ROOM
+
+-- the first pass is the last
+pub first_is_last : {S A B : Type 0} (steps : S → ℕ → ℕ → A → B → S → Type 0) (rooms : Rooms S A B) (pass : Pass S A B) → Opens steps rooms (opened rooms) pass → IsLast pass
+first_is_last steps rooms pass opens = record {
+  first = subst (λ (n : Standing). Contains n.stands 0) (sym opens.standing) (has_first 0 []);
+  given = λ q given. absurd (no_element q (subst (λ (n : Standing). Contains n.gave q) opens.standing given));
+}
+
+module _ {D R : Type 0} (disk : Ghosts D R) (steps : Shared (Archive D R) R → ℕ → ℕ → Act → Answer R → Shared (Archive D R) R → Type 0) (reply : Answer R → Reply) (rooms : Rooms (Shared (Archive D R) R) Act (Answer R)) (old : Pass (Shared (Archive D R) R) Act (Answer R))
+    (opens : Opens steps rooms (opened rooms) old) where
+  abbrev Stood : Shared (Archive D R) R → Machine → Type 0
+  Stood room m = SharedStands (λ a n. Stands disk.tells (parts disk a) n) room m
+
+  -- a room that was just opened stands for what its archive stands for
+  pub stands_first : (m : Machine) → Stands disk.tells (parts disk (opened rooms).archive) m → StandsFor steps Stood rooms old m
+  stands_first m s = record { is_pass = opens.rooms; begun = (m, s); now = subst (λ (h : List (RoomEntry (Shared (Archive D R) R) Act (Answer R))). Stood (end_of (opened rooms) h) m) (sym opens.knows) s }
+
+  module _ (new : Pass (Shared (Archive D R) R) Act (Answer R)) where
+    -- all that is known in the end was learnt
+    all_learnt : (more : List (RoomEntry (Shared (Archive D R) R) Act (Answer R))) → known new ≡ known old ++ more → known new ≡ more
+    all_learnt more is = is ∙ ap (λ (h : List (RoomEntry (Shared (Archive D R) R) Act (Answer R))). h ++ more) opens.knows
+
+    failed_flush : HasFlushFault reply old new → HasFailedFlush (all_kept reply (known new))
+    failed_flush f = record {
+      front = all_kept reply f.front;
+      flush = kept reply f.flush.who f.flush.act f.flush.answer;
+      back = all_kept reply f.back;
+      is = ap (λ (h : List (RoomEntry (Shared (Archive D R) R) Act (Answer R))). all_kept reply h) (all_learnt f.more f.goes_on ∙ f.is) ∙ kept_append reply f.front (f.flush ∷ f.back);
+      last = own_map (λ (e : RoomEntry (Shared (Archive D R) R) Act (Answer R)). kept reply e.who e.act e.answer) (λ (e : RoomEntry (Shared (Archive D R) R) Act (Answer R)). e.who) (λ e. refl) f.flush.who f.back
+          ∙ ap (λ (h : List (RoomEntry (Shared (Archive D R) R) Act (Answer R))). all_kept reply h) f.last;
+      limit = f.limit;
+      act = f.act;
+      answered = f.answer;
+    }
+
+    was_spent : (most_acts ≤ length (known new)) ⊎ ((drained old < drained new) × (known new ≡ known old)) → WasSpent (known new)
+    was_spent (inl all) = inl all
+    was_spent (inr none) = inr (none.1 ∙ opens.knows)
+
+    pub leaves_room : (doors : ℕ) (told : AllServed) (left : Archive D R) → IsPassOf steps rooms new → left ≡ (end_of (opened rooms) (known new)).archive → (told.spent ≡ true → (most_acts ≤ length (known new)) ⊎ ((drained old < drained new) × (known new ≡ known old))) → (told.disk_fault ≡ true → HasFlushFault reply old new)
+        → ((m : Machine) → StandsFor steps Stood rooms old m → m.doors ≡ doors → told.spent ≡ false → told.memory ≡ false → told.disk_fault ≡ false → (mover : ℕ) × EndsInTurns steps Stood reply rooms old new m mover)
+        → LeavesRoom disk steps reply (opened rooms) doors told left
+    leaves_room doors told left is_pass is spent failed ends = record {
+      acts = known new;
+      legal = is_pass.belongs.legal;
+      is_left = is;
+      spent = λ told_so. was_spent (spent told_so);
+      failed = λ fault. failed_flush (failed fault);
+      ends = λ m s as_many spent memory fault.
+          let one = ends m (stands_first m s) as_many spent memory fault in
+          let e = one.1 in
+          let same = sym (all_learnt e.more e.goes_on) in (
+            one.0,
+            e.after,
+            subst (λ (h : List (RoomEntry (Shared (Archive D R) R) Act (Answer R))). Runs m (all_kept reply h) e.after) same e.runs,
+            subst (λ (a : Archive D R). Stands disk.tells (parts disk a) e.after) (sym is) e.stands_for.now,
+            subst (λ (h : List (RoomEntry (Shared (Archive D R) R) Act (Answer R))). EndsWell m (all_kept reply h) e.after one.0) same e.ends,
+          );
+    }
+
+-- AN ARCHIVE THAT IS SHARED
+
+pub leaves_archive : {D R : Type 0} (disk : Ghosts D R) (steps : Shared (Archive D R) R → ℕ → ℕ → Act → Answer R → Shared (Archive D R) R → Type 0) (reply : Answer R → Reply) (room : Shared (Archive D R) R) (old : Archive D R) (doors : ℕ) (told : AllServed) (left : Archive D R) → room.archive ≡ old
+    → ((acts : List (RoomEntry (Shared (Archive D R) R) Act (Answer R))) (m : Machine) → Stands disk.tells (parts disk room.archive) m → Legal steps room acts → RunsOn disk.tells (parts disk room.archive) m (all_kept reply acts) (parts disk (end_of room acts).archive))
+    → LeavesRoom disk steps reply room doors told left → LeavesArchive disk old doors told left
+leaves_archive {D} {R} disk steps reply room old doors told left is law leaves = subst (λ (a : Archive D R). LeavesArchive disk a doors told left) is (record {
+  entries = all_kept reply leaves.acts;
+  run = λ m stands. subst (λ (a : Archive D R). RunsOn disk.tells (parts disk room.archive) m (all_kept reply leaves.acts) (parts disk a)) (sym leaves.is_left) (law leaves.acts m stands leaves.legal);
+  spent = λ so. kept_spent (leaves.spent so);
+  failed = leaves.failed;
+  ends = leaves.ends;
+})
+  where
+    kept_spent : WasSpent leaves.acts → WasSpent (all_kept reply leaves.acts)
+    kept_spent (inl all) = inl (subst (λ (n : ℕ). most_acts ≤ n) (sym (length-map leaves.acts (λ (e : RoomEntry (Shared (Archive D R) R) Act (Answer R)). kept reply e.who e.act e.answer))) all)
+    kept_spent (inr none) = inr (ap (λ (h : List (RoomEntry (Shared (Archive D R) R) Act (Answer R))). all_kept reply h) none)
+
+-- THE STATUS
+
+first_opened : (door fault memory spent : Bool) → IsOfOpened (first_of door fault memory spent)
+first_opened true fault memory spent = tt
+first_opened false true memory spent = tt
+first_opened false false true spent = tt
+first_opened false false false true = tt
+first_opened false false false false = tt
+
+first_undamaged : (door fault memory spent : Bool) → NoDamage (first_of door fault memory spent)
+first_undamaged true fault memory spent = tt
+first_undamaged false true memory spent = tt
+first_undamaged false false true spent = tt
+first_undamaged false false false true = tt
+first_undamaged false false false false = tt
+
+first_ends : (numbers : ServeWords) (input : Option (List ℕ)) (door fault memory spent : Bool) → EndsAs (command.Serve numbers) input (first_of door fault memory spent)
+first_ends numbers input true fault memory spent = tt
+first_ends numbers input false true memory spent = tt
+first_ends numbers input false false true spent = tt
+first_ends numbers input false false false true = tt
+first_ends numbers input false false false false = tt
+
+first_caused : {R : Type 0} (faults : R → ℕ) (rose : Type 0) (door fault memory spent : Bool) → (fault ≡ true → rose) → IsCausedBy faults ⊥ ⊥ rose (first_of door fault memory spent) None
+first_caused faults rose true fault memory spent cause = tt
+first_caused faults rose false true memory spent cause = cause refl
+first_caused faults rose false false true spent cause = tt
+first_caused faults rose false false false true cause = tt
+first_caused faults rose false false false false cause = tt
+
+pub status_opened : (told : AllServed) → IsOfOpened (status_of told)
+status_opened told = first_opened (nat_lt 0 told.door_faults) told.disk_fault told.memory told.spent
+
+pub status_undamaged : (told : AllServed) → NoDamage (status_of told)
+status_undamaged told = first_undamaged (nat_lt 0 told.door_faults) told.disk_fault told.memory told.spent
+
+pub status_ends : (told : AllServed) (numbers : ServeWords) (input : Option (List ℕ)) → EndsAs (command.Serve numbers) input (status_of told)
+status_ends told numbers input = first_ends numbers input (nat_lt 0 told.door_faults) told.disk_fault told.memory told.spent
+
+pub status_caused : {R : Type 0} (faults : R → ℕ) (rose : Type 0) (told : AllServed) → (told.disk_fault ≡ true → rose) → IsCausedBy faults ⊥ ⊥ rose (status_of told) None
+status_caused {R} faults rose told cause = first_caused faults rose (nat_lt 0 told.door_faults) told.disk_fault told.memory told.spent cause
+
+-- ALL THAT WAS DONE
+
+module _ {D R : Type 0} (disk : Ghosts D R) (old left : Archive D R) (entries : List Entry) (m : Machine) (stands : Stands disk.tells (parts disk old) m) (run : RunsOn disk.tells (parts disk old) m entries (parts disk left)) where
+  pub run_counts : HasNotFallen (disk.faults old.store.disk) (disk.faults left.store.disk)
+  run_counts =
+      let one : HasNotFallen m.faults run.after.faults = runs_counts entries m run.after stands.sound run.runs in
+      subst (λ (n : ℕ). HasNotFallen n (disk.faults left.store.disk)) stands.faults (subst (λ (n : ℕ). HasNotFallen m.faults n) run.stands.faults one)
+
+  pub run_rose : AnswersAreOfActs → HasFailedFlush entries → DiskRose (disk.faults old.store.disk) (disk.faults left.store.disk)
+  run_rose answers f =
+      let one : DiskRose m.faults run.after.faults = flush_rose answers entries m run.after stands.sound run.runs f in
+      subst (λ (n : ℕ). DiskRose n (disk.faults left.store.disk)) stands.faults (subst (λ (n : ℕ). DiskRose m.faults n) run.stands.faults one)
+
+pub serves_from : {D R : Type 0} (disk : Ghosts D R) (config : ConfigState) (held : Stores) (doors : ℕ) (old left : Archive D R) (entries : List Entry) (told : AllServed) → (begun : IsBegunWith disk config held doors old) → RunsOn disk.tells (parts disk old) begun.start entries (parts disk left)
+    → (told.spent ≡ true → WasSpent entries) → (told.disk_fault ≡ true → HasFailedFlush entries)
+    → ((m : Machine) → Stands disk.tells (parts disk old) m → m.doors ≡ doors → told.spent ≡ false → told.memory ≡ false → told.disk_fault ≡ false → (mover : ℕ) × (after : Machine) × Runs m entries after × Stands disk.tells (parts disk left) after × EndsWell m entries after mover)
+    → ServesFrom (λ image. ⊥) disk.tells config held doors (disk.past old.store.disk) (disk.past left.store.disk) (status_of told)
+serves_from {D} {R} disk config held doors old left entries told begun run spent failed ends = record {
+  told = told;
+  status_is = refl;
+  start = begun.start;
+  opened = begun.opened;
+  with_doors = begun.with_doors;
+  entries = entries;
+  end = run.after;
+  runs = run.runs;
+  leaves = λ t. opens_again disk left run.after run.stands config (rule_is run.after run.runs) t;
+  any_moment = λ t stood. passes_weaker (λ a image. HoldsBetween (granularities (seen disk old.store).manifests) begun.start entries run.after image) (λ a image. ⊥ ⊎ HoldsBetween (stores_of config) begun.start entries run.after image) (disk.past old.store.disk) (disk.past left.store.disk)
+      (run.any_moment t (begun.opened.told ∙ both_hold disk.tells held.stands t stood)) (λ a image l h. inr (subst (λ (gs : List Granularity). HoldsBetween gs begun.start entries run.after image) gs_is h));
+  spent = spent;
+  failed = failed;
+  ends = λ acts memory fault.
+      let e = ends begun.start begun.stands begun.with_doors acts memory fault in
+      record { end = e.1; mover = e.0; runs = e.2; well = e.4; leaves = λ t. opens_again disk left e.1 e.3 config (rule_is e.1 e.2) t };
+}
+  where
+    rule_is : (end : Machine) → Runs begun.start entries end → end.rule.granularity ≡ stores_of config
+    rule_is end runs = let on : Onward begun.start end = runs_onward entries begun.start end begun.stands.sound runs in ap (λ (r : Rule). r.granularity) (on.rule ∙ begun.opened.rule)
+
+    gs_is : granularities (seen disk old.store).manifests ≡ stores_of config
+    gs_is = sym begun.stands.rule.granularity ∙ ap (λ (r : Rule). r.granularity) begun.opened.rule
+
+-- an opening before them
+pub serves_behind : (Before : Files → Type 0) (tells : Bool) (config : ConfigState) (held : Stores) (doors : ℕ) (old mid new : Past) (status : Status) → Passes (λ a image. Before image) old mid → ServesFrom (λ image. ⊥) tells config held doors mid new status → ServesFrom Before tells config held doors old new status
+serves_behind Before tells config held doors old mid new status opening from = record {
+  told = from.told;
+  status_is = from.status_is;
+  start = from.start;
+  opened = from.opened;
+  with_doors = from.with_doors;
+  entries = from.entries;
+  end = from.end;
+  runs = from.runs;
+  leaves = from.leaves;
+  any_moment = λ t stood.
+      let All : Files → Files → Type 0 = λ a image. Before image ⊎ HoldsBetween (stores_of config) from.start from.entries from.end image in
+      passes_then All (λ a image. ⊥ ⊎ HoldsBetween (stores_of config) from.start from.entries from.end image) old mid new (passes_weaker (λ a image. Before image) All old mid opening (λ a image left h. inl h)) (from.any_moment t stood)
+      (λ a b c left h now is. by_either c is);
+  spent = from.spent;
+  failed = from.failed;
+  ends = from.ends;
+}
+  where
+    by_either : (c : Files) → ⊥ ⊎ HoldsBetween (stores_of config) from.start from.entries from.end c → Before c ⊎ HoldsBetween (stores_of config) from.start from.entries from.end c
+    by_either c (inl none) = absurd none
+    by_either c (inr h) = inr h
+
+-- THE DISK THAT IS HANDED BACK
+
+module _ {D R : Type 0} (disk : Ghosts D R) (store : TierStore D R) (fresh : IsFresh disk store) (doors : ℕ) (old left : Archive D R) (same : old.store ≡ store) (opens : OpensAs disk.tells (seen disk store) store.config doors (parts disk old))
+    (after : TierStore D R) (given : D) (back : after ≡ left.store) (is : given ≡ after.disk) (told : AllServed) (leaves : LeavesArchive disk old doors told left) where
+  pub served_from : (held : Stores) → Has disk.tells (seen disk store) held → ServesFrom (λ image. ⊥) disk.tells store.config held doors (disk.past store.disk) (disk.past given) (status_of told)
+  served_from held has =
+      let begun = begins_with disk store fresh doors old opens held has in
+      let from = serves_from disk store.config held doors old left leaves.entries told begun (leaves.run begun.start begun.stands) leaves.spent leaves.failed leaves.ends in
+      subst (λ (s : TierStore D R). ServesFrom (λ image. ⊥) disk.tells store.config held doors (disk.past s.disk) (disk.past given) (status_of told)) same
+      (subst (λ (d : D). ServesFrom (λ image. ⊥) disk.tells store.config held doors (disk.past old.store.disk) (disk.past d) (status_of told)) (handed disk left after given back is) from)
+
+  first : (m : Machine) × Stands disk.tells (parts disk old) m
+  first = stands_with disk store fresh doors old opens
+
+  all_run : RunsOn disk.tells (parts disk old) first.0 leaves.entries (parts disk left)
+  all_run = leaves.run first.0 first.1
+
+  pub served_counts : HasNotFallen (disk.faults store.disk) (disk.faults given)
+  served_counts = count_given disk left after given back is store old same (run_counts disk old left leaves.entries first.0 first.1 all_run)
+
+  pub served_caused : {F : Type 0} (faults : F → ℕ) → AnswersAreOfActs → IsCausedBy faults ⊥ ⊥ (DiskRose (disk.faults store.disk) (disk.faults given)) (status_of told) None
+  served_caused {F} faults answers =
+      status_caused faults (DiskRose (disk.faults store.disk) (disk.faults given)) told
+      (λ fault. rose_given disk left after given back is store old same (run_rose disk old left leaves.entries first.0 first.1 all_run answers (leaves.failed fault)))
+
+  pub served_unopened : (IsTrue disk.tells → MayLeave (disk.past left.store.disk) (disk.files left.store.disk)) → IsTrue disk.tells → IsUnopened (disk.files given) (disk.opened given)
+  served_unopened may so = unopened_given disk left after given back is all_run.after all_run.stands may so

@@ -1,0 +1,101 @@
+// The words of `serve`, and the numbers that they tell.
+ghost use Rattle.std.specs.Prelude.{◌≡◌, ℕ, ◌<◌, ◌^◌, ◌∷◌, [], IfSome, IfNone, codes, decimal, map};
+ghost use Rattle.std.specs.Int.{IsInRange};
+ghost use Rattle.archiver_appliance.specs.declared.serve_words.ServeWords.{ServeWords as ServeValue};
+ghost use Rattle.archiver_appliance.specs.ServeWords.{AsksToServe};
+
+use itoa::Buffer;
+
+/// What `serve` is asked for.
+#[derive(Clone, Copy, Debug, PartialEq, Eq)]
+pub struct ServeWords {
+    /// The port of the feeds.
+    pub feed_port: u16,
+    /// The port of the requests.
+    pub http_port: u16,
+    /// How many workers each port has, from 1 to 64.
+    pub workers: u32,
+    /// After how many connections each worker ends; with 0 it never does.
+    pub links: u32,
+}
+
+/// The numbers of the words `serve FEEDPORT HTTPPORT WORKERS LINKS`. It is `None` exactly where the words aren't of this form: a number is
+/// of one to nine decimal digits, without a zero in front of others, a port is from 1 to 65,535, and there are 1 to 64 workers. It takes no
+/// memory.
+pub fn serve_words(words: &[&str]) -> Option<ServeWords>
+    ensures found { IfSome result (AsksToServe (map (λ w. w.now) words.now)) }
+    ensures none { IfNone result ((asked : ServeValue) → AsksToServe (map (λ w. w.now) words.now) asked → ⊥) }
+{
+    match words {
+        ["serve", feed_port, http_port, workers, links] => {
+            served(feed_port, http_port, workers, links)
+        }
+        _ => None,
+    }
+}
+
+// The numbers of the words behind `serve`.
+fn served(feed_port: &str, http_port: &str, workers: &str, links: &str) -> Option<ServeWords>
+    ensures found { IfSome result (AsksToServe (codes "serve" ∷ feed_port.now ∷ http_port.now ∷ workers.now ∷ links.now ∷ [])) }
+    ensures none { IfNone result ((asked : ServeValue) → AsksToServe (codes "serve" ∷ feed_port.now ∷ http_port.now ∷ workers.now ∷ links.now ∷ []) asked → ⊥) }
+{
+    Some(ServeWords {
+        feed_port: number(feed_port, 1, 65_535)? as u16,
+        http_port: number(http_port, 1, 65_535)? as u16,
+        workers: number(workers, 1, 64)?,
+        links: number(links, 0, 999_999_999)?,
+    })
+}
+
+// The number in this range that the word is in decimal, without a sign or a zero in front of other digits.
+fn number(word: &str, least: u32, most: u32) -> Option<u32>
+    ensures found { IfSome result (λ n. (word.now ≡ decimal n) × IsInRange least most n) }
+    ensures none { IfNone result ((n : ℕ) → word.now ≡ decimal n → IsInRange least most n → ⊥) }
+{
+    let Ok(number) = word.parse::<u32>() else {
+        return None;
+    };
+    let mut digits = Buffer::new();
+    if number < least || number > most || digits.format(number) != word {
+        return None;
+    }
+    Some(number)
+}
+
+#[test]
+fn serve_has_two_ports_its_workers_and_its_links(rt: HostRuntime) {
+    let table: [(&[&str], Option<(u16, u16, u32, u32)>); 19] = [
+        (
+            &["serve", "5071", "17668", "4", "0"],
+            Some((5071, 17_668, 4, 0)),
+        ),
+        (
+            &["serve", "1", "65535", "64", "999999999"],
+            Some((1, 65_535, 64, 999_999_999)),
+        ),
+        (&["serve", "1", "1", "1", "1"], Some((1, 1, 1, 1))),
+        (&["serve", "0", "1", "1", "1"], None),
+        (&["serve", "1", "65536", "1", "1"], None),
+        (&["serve", "1", "1", "0", "1"], None),
+        (&["serve", "1", "1", "65", "1"], None),
+        (&["serve", "1", "1", "1", "1000000000"], None),
+        (&["serve", "1", "1", "1", "4294967297"], None),
+        (&["serve", "01", "1", "1", "1"], None),
+        (&["serve", "1", "1", "1", "00"], None),
+        (&["serve", "+1", "1", "1", "1"], None),
+        (&["serve", "1", "1", "1", "-1"], None),
+        (&["serve", "1", "1", "1", ""], None),
+        (&["serve", "1", "1", "1", "1x"], None),
+        (&["serve", "1", "1", "1"], None),
+        (&["serve", "1", "1", "1", "1", "1"], None),
+        (&["Serve", "1", "1", "1", "1"], None),
+        (&[], None),
+    ];
+    for (words, numbers) in table {
+        let asked = serve_words(words);
+        assert_eq!(rt;
+            asked.map(|s| (s.feed_port, s.http_port, s.workers, s.links)),
+            numbers
+        );
+    }
+}
