@@ -1,0 +1,564 @@
+#!/usr/bin/env python3
+"""Asks a service of `archappl`, feeds it, and manages it: as a module of Python, and by words.
+
+    import archappl
+    day = archappl.get("127.0.0.1:5001:5002", "CELL01:TEMP", "2024-01-01T00:00:00Z", "2024-01-02T00:00:00Z")
+    day.times, day.values, day.severities, day.statuses, day.headers
+
+A service is HOST:FEEDPORT:HTTPPORT, with the ports as `archappl serve` has them. What goes wrong is raised as
+an `ArchiverError` that names what the service said. By words: clients/archappl.py --help.
+"""
+
+import argparse
+import json
+import os
+import re
+import shutil
+import socket
+import sys
+import threading
+import time
+from contextlib import contextmanager
+from dataclasses import dataclass, field
+from http.client import HTTPConnection, HTTPException
+from io import BufferedReader, RawIOBase
+from urllib.parse import urlencode
+
+import pb_stream
+import sample_text
+
+USUAL = "127.0.0.1:5001:5002"
+FIRST, LAST = "1991-01-01T00:00:00Z", "2499-12-31T23:59:59.999999999Z"
+# How long a connection, a read or a write may take, in seconds.
+PATIENCE = 60
+WORDS = {
+    "E18": "the archive has this variable",
+    "E19": "the archive has a variable whose name differs in separators alone",
+    "E20": "the archive has as many variables as it can have",
+    "E21": "the variable isn't being archived",
+    "E22": "the variable isn't paused",
+    "E26": "the archive has no such variable",
+    "E27": "this is no request",
+    "E28": "the request is too long",
+    "E29": "only GET is served",
+    "E30": "nothing is served at this path",
+    "E31": "a parameter is missing or not of its form",
+    "disk": "the disk failed",
+    "spent": "no act is left",
+}
+# Why a line of a feed is bad: of the others the message is damaged.
+LINES = {
+    "E5": "an escape byte that escapes nothing",
+    "E6": "a second or a nanosecond outside of the year",
+    "E9": "a field is missing",
+    "E10": "a field is of the wrong kind",
+    "E11": "no such type",
+    "E12": "a year before 1991 or after 2499",
+    "E13": "a header is missing",
+    "E15": "the line is too long",
+    "E34": "the feed is too long",
+    "E35": "the feed ends within a line",
+    "disk": "the disk failed",
+}
+
+
+class ArchiverError(Exception):
+    """What a service didn't do, and why."""
+
+
+class NotReached(ArchiverError):
+    """There is no connection to the service, or it broke."""
+
+
+class CutOff(ArchiverError):
+    """An answer ended before its end: the samples that came are a front of it."""
+
+
+class Refused(ArchiverError):
+    """A request that the service refused: its status of HTTP, its word, and the whole body."""
+
+    def __init__(self, status, body):
+        self.status, self.body = status, body
+        self.word = body.get("status", "") if isinstance(body, dict) else ""
+        which = f" ({body['parameter']})" if self.word == "E31" else ""
+        super().__init__(f"{self.word or status}: {WORDS.get(self.word, 'refused')}{which}")
+
+
+class FeedRefused(ArchiverError):
+    """A feed that a bad line or a fault of the disk ended, and what it was told."""
+
+    def __init__(self, told):
+        word = told.last.split()[-1]
+        super().__init__(f"{told.last}: {LINES.get(word, 'a line is bad')}")
+        self.told = told
+
+
+@dataclass(frozen=True)
+class Server:
+    """Where a service is."""
+
+    host: str
+    feed_port: int
+    http_port: int
+
+    @staticmethod
+    def of(text):
+        """The service that a text HOST:FEEDPORT:HTTPPORT tells."""
+        if isinstance(text, Server):
+            return text
+        found = re.fullmatch(r"\[?([^\[\]]+?)\]?:(\d{1,5}):(\d{1,5})", text)
+        if not found:
+            raise ValueError(f"no HOST:FEEDPORT:HTTPPORT: {text}")
+        return Server(found[1], int(found[2]), int(found[3]))
+
+
+# Requests
+
+
+@contextmanager
+def told_failures(where):
+    """What the network raises becomes what it means."""
+    try:
+        yield
+    except HTTPException as error:
+        raise CutOff(f"{where}: the reply was cut off: {error!r}") from None
+    except OSError as error:
+        raise NotReached(f"{where}: {error}") from None
+
+
+class Body(RawIOBase):
+    """The body of a reply, whose reading raises an `ArchiverError` alone."""
+
+    def __init__(self, found, where):
+        super().__init__()
+        self.found, self.where = found, where
+
+    def readable(self):
+        """It is read."""
+        return True
+
+    def readinto(self, room):
+        """Reads some bytes, none at the end."""
+        with told_failures(self.where):
+            return self.found.readinto(room)
+
+
+@contextmanager
+def reply(server, path, **query):
+    """The body of the reply to a request that wasn't refused."""
+    server = Server.of(server)
+    where = f"{server.host} port {server.http_port}"
+    link = HTTPConnection(server.host, server.http_port, timeout=PATIENCE)
+    try:
+        with told_failures(where):
+            link.request("GET", path + ("?" + urlencode(query) if query else ""))
+            found = link.getresponse()
+            if found.status != 200:
+                raise Refused(found.status, json_of(found.read(), {}))
+        yield BufferedReader(Body(found, where), 1 << 16)
+    finally:
+        link.close()
+
+
+def json_of(data, otherwise):
+    """What a text of JSON tells, or something else where it isn't one."""
+    try:
+        return json.loads(data)
+    except ValueError:
+        return otherwise
+
+
+def asked(server, name, **query):
+    """What the reply to a management request tells."""
+    with reply(server, f"/mgmt/bpl/{name}", **query) as body:
+        found = json_of(body.read(), None)
+    if found is None:
+        raise CutOff(f"{name}: the reply was cut off")
+    return found
+
+
+def names(server):
+    """The names of all variables, in the order in which they were registered."""
+    return asked(server, "getAllPVs")
+
+
+def status(server, pv):
+    """`Being archived`, `Paused`, or `Not being archived`."""
+    return asked(server, "getPVStatus", pv=pv)[0]["status"]
+
+
+def details(server, pv):
+    """What is known of a variable: a dictionary with `type`, `accepted`, `durable`, `files` and so on."""
+    return asked(server, "getPVDetails", pv=pv)
+
+
+def archive(server, pv, type_name, period=None):
+    """Registers a variable, and gives its row's number. With a period in seconds it is sampled at that."""
+    sampling = {} if period is None else {"samplingmethod": "SCAN", "samplingperiod": period}
+    return asked(server, "archivePV", pv=pv, type=type_name, **sampling)["row"]
+
+
+def pause(server, pv):
+    """Takes no more samples of a variable."""
+    asked(server, "pauseArchivingPV", pv=pv)
+
+
+def resume(server, pv):
+    """Takes samples of a variable again."""
+    asked(server, "resumeArchivingPV", pv=pv)
+
+
+def flush(server):
+    """Makes all that was accepted durable, and gives the number of samples that weren't before."""
+    return asked(server, "flush")["flushed"]
+
+
+# Samples
+
+
+class Progress:
+    """A line on standard error about an answer that takes longer than a second, where that is a terminal."""
+
+    def __init__(self, name):
+        self.name = name
+        self.size = self.samples = 0
+        self.next = time.monotonic() + 1 if sys.stderr.isatty() else float("inf")
+        self.width = 0
+
+    def show(self):
+        """Shows it, five times a second at most."""
+        if time.monotonic() < self.next:
+            return
+        self.next = time.monotonic() + 0.2
+        line = f"{self.name}: {self.samples:,} samples, {self.size / 1e6:,.1f} MB"
+        print("\r" + line.ljust(self.width), end="", file=sys.stderr, flush=True)
+        self.width = len(line)
+
+    def end(self):
+        """Takes the line away."""
+        if self.width:
+            print("\r" + " " * self.width + "\r", end="", file=sys.stderr, flush=True)
+
+
+@contextmanager
+def raw(server, pv, start, end):
+    """The raw stream, as a file, of a variable's samples of an interval, ends included, and the last one before it."""
+    query = {"pv": pv, "from": sample_text.iso(start), "to": sample_text.iso(end)}
+    with reply(server, "/retrieval/data/getData.raw", **query) as body:
+        yield body
+
+
+def pieces(server, pv, start, end):
+    """The same samples as pieces of at most 65,536, in order; the first one may have none."""
+    progress = Progress(pv)
+
+    def counted(stream):
+        for line in stream:
+            progress.size += len(line)
+            yield line
+
+    try:
+        with raw(server, pv, start, end) as stream:
+            for piece in pb_stream.pieces(counted(stream)):
+                progress.samples += len(piece)
+                progress.show()
+                yield piece
+    finally:
+        progress.end()
+
+
+def get(server, pv, start, end):
+    """The same samples as one piece: `times` are datetime64[ns], `values` an array of the variable's type."""
+    found = pb_stream.joined(list(pieces(server, pv, start, end)))
+    found.times = found.times.view("datetime64[ns]")
+    return found
+
+
+def newest(server, pv, since=None):
+    """The samples later than `since`, in nanoseconds since 1970, or the last one of all where that is missing."""
+    found = get(server, pv, LAST if since is None else since + 1, LAST)
+    return found if since is None else later(found, since)
+
+
+def later(piece, since):
+    """The samples of a piece that are later than a moment."""
+    at = piece.times.astype("int64") > since
+    return pb_stream.Piece(piece.header, piece.times[at], piece.values[at], piece.severities[at], piece.statuses[at])
+
+
+# Feeds
+
+
+@dataclass
+class Told:
+    """What a feed was told: of each chunk how many samples were kept, held and dropped, and how many are durable.
+
+    `last` is the last line where that told of a bad line or a fault.
+    """
+
+    chunks: list = field(default_factory=list)
+    durable: int = None
+    last: str = None
+
+    def sum(self, which):
+        """A column's sum: 0 kept, 1 held, 2 dropped."""
+        return sum(chunk[which] for chunk in self.chunks)
+
+
+def send(server, chunks):
+    """Sends chunks, each as bytes, as one feed, and gives what it was told once all that was kept is durable."""
+    server = Server.of(server)
+    failures = []
+    with told_failures(f"{server.host} port {server.feed_port}"):
+        with socket.create_connection((server.host, server.feed_port), PATIENCE) as link:
+            # What is told is read while it is sent, since neither side waits for the other.
+            sender = threading.Thread(target=send_all, args=(link, chunks, failures), daemon=True)
+            sender.start()
+            try:
+                told = replies(link)
+            finally:
+                end_of(link)
+                sender.join(1)
+                failure = failures[0] if failures else None
+    if failure:
+        raise failure
+    if told.last:
+        raise FeedRefused(told)
+    return told
+
+
+def send_all(link, chunks, failures):
+    """Sends all, and ends the sending. What `chunks` raises ends it too."""
+    try:
+        for chunk in chunks:
+            try:
+                link.sendall(chunk)
+            except OSError:
+                return  # the service reads no further; it tells why
+    except Exception as error:  # pylint: disable=broad-except
+        failures.append(error)
+    end_of(link, socket.SHUT_WR)
+
+
+def end_of(link, how=socket.SHUT_RDWR):
+    """Ends a connection, if it is there."""
+    try:
+        link.shutdown(how)
+    except OSError:
+        pass
+
+
+def replies(link):
+    """Reads what a feed is told up to its end."""
+    told = Told()
+    with link.makefile("r", encoding="ascii", newline="\n") as lines:
+        for line in lines:
+            words = line.split()
+            if words[0] == "ok":
+                told.chunks.append(tuple(map(int, words[1:])))
+            elif words[0] == "durable":
+                told.durable = int(words[1])
+                return told
+            else:
+                told.last = line.strip()
+                return told
+    raise NotReached("the service ended the feed without a last line")
+
+
+# Words
+
+
+def writer_of(options):
+    """What writes samples, and has written its first line."""
+    writer = sample_text.Writer(sys.stdout, options.csv)
+    writer.begin()
+    return writer
+
+
+def run_get(options):
+    """Writes the samples of variables as lines, or as a raw stream."""
+    now = time.time_ns()
+    interval = [sample_text.moment_of(word, now) for word in (options.start, options.end)]
+    if options.raw:
+        for number, pv in enumerate(options.pv):
+            sys.stdout.buffer.write(b"\n" if number else b"")
+            with raw(options.server, pv, *interval) as stream:
+                shutil.copyfileobj(stream, sys.stdout.buffer)
+        return
+    writer = writer_of(options)
+    for pv in options.pv:
+        for piece in pieces(options.server, pv, *interval):
+            writer.piece(piece)
+
+
+def run_plot(options):
+    """Draws variables into a picture."""
+    import drawing  # pylint: disable=import-outside-toplevel  # only this one needs matplotlib
+    import numpy  # pylint: disable=import-outside-toplevel
+
+    now = time.time_ns()
+    words = [sample_text.moment_of(word, now) for word in (options.start, options.end)]
+    found = {pv: get(options.server, pv, *words) for pv in options.pv}
+    for line in drawing.left_out(found):
+        print(f"archappl: {line}", file=sys.stderr)
+    # Nothing is known of what a value is in the future.
+    start, end = (numpy.datetime64(min(sample_text.nanoseconds(word), now), "ns") for word in words)
+    drawing.picture(found, start, end).savefig(options.out, dpi=100)
+
+
+def run_watch(options):
+    """Writes the last sample of variables, and then each new one."""
+    writer = writer_of(options)
+    last = dict.fromkeys(options.pv)
+    while True:
+        for pv in options.pv:
+            piece = newest(options.server, pv, last[pv])
+            if len(piece):
+                writer.piece(piece)
+                last[pv] = int(piece.times[-1].astype("int64"))
+        sys.stdout.flush()
+        time.sleep(options.every)
+
+
+def registering(server, lines):
+    """Lines of a stream as they are, with each variable registered before its first chunk goes out."""
+    known = set(names(server))
+    in_chunk = False
+    for line in lines:
+        if line == b"\n":
+            in_chunk = False
+        elif not in_chunk:
+            in_chunk = True
+            header = header_of(line)
+            if header and header.name not in known:
+                archive(server, header.name, header.type_name)
+                known.add(header.name)
+        yield line
+
+
+def header_of(line):
+    """The header of a line; nothing where it isn't one, which the service will tell."""
+    try:
+        return pb_stream.read_header(pb_stream.message_of(line))
+    except pb_stream.BAD:
+        return None
+
+
+def together(lines, size=1 << 16):
+    """Lines in parts of about so many bytes, since one is too little to be sent by itself."""
+    part = bytearray()
+    for line in lines:
+        part += line
+        if len(part) >= size:
+            yield bytes(part)
+            part.clear()
+    yield bytes(part)
+
+
+def run_feed(options):
+    """Sends a raw stream, and tells what became of it."""
+    with open(options.stream or 0, "rb") as stream:
+        lines = registering(options.server, stream) if options.register else stream
+        told = send(options.server, together(lines))
+    print(f"kept {told.sum(0)} held {told.sum(1)} dropped {told.sum(2)} durable {told.durable}")
+
+
+def run_details(options):
+    """Writes what is known of variables, one a line."""
+    for pv in options.pv:
+        print(json.dumps(details(options.server, pv)))
+
+
+def run_names(options):
+    """Writes all names."""
+    for name in names(options.server):
+        print(name)
+
+
+def run_each(options):
+    """Does one thing with each of some variables, and writes what came of it."""
+    acts = {"status": lambda pv: status(options.server, pv), "pause": lambda pv: pause(options.server, pv),
+            "resume": lambda pv: resume(options.server, pv)}
+    for pv in options.pv:
+        print(pv, acts[options.word](pv) or "ok")
+
+
+def run_archive(options):
+    """Registers variables."""
+    for pv in options.pv:
+        print(pv, archive(options.server, pv, options.type, options.scan))
+
+
+def run_flush(options):
+    """Makes all durable."""
+    print(flush(options.server))
+
+
+def add_server(parser):
+    """The word that names the service."""
+    usual = os.environ.get("ARCHAPPL_SERVER") or USUAL
+    parser.add_argument("--server", type=Server.of, default=usual, metavar="HOST:FEEDPORT:HTTPPORT",
+                        help=f"the service; without it what ARCHAPPL_SERVER has, or {USUAL}")
+
+
+def parser_of_words():
+    """The words of the command line."""
+    parser = argparse.ArgumentParser(description=__doc__.split("\n")[0])
+    add_server(parser)
+    commands = parser.add_subparsers(dest="word", required=True)
+
+    def command(word, run, *, interval=False, text=False):
+        found = commands.add_parser(word, help=run.__doc__.split("\n")[0], description=run.__doc__.split("\n")[0])
+        found.set_defaults(run=run)
+        if interval:
+            found.add_argument("--from", dest="start", default="1h", help="a time, or so long ago: 90s, 15m, 1h, 7d")
+            found.add_argument("--to", dest="end", default="now", help="the same, or now")
+        if text:
+            found.add_argument("--csv", action="store_true", help="commas between the fields")
+        return found
+
+    add_words(command)
+    return parser
+
+
+def add_words(command):
+    """The words of each command."""
+    get_words = command("get", run_get, interval=True, text=True)
+    get_words.add_argument("--raw", action="store_true", help="the raw stream as the service gives it")
+    plot_words = command("plot", run_plot, interval=True)
+    plot_words.add_argument("--out", required=True, help="the picture's file; its ending says which kind")
+    watch_words = command("watch", run_watch, text=True)
+    watch_words.add_argument("--every", type=float, default=1.0, help="how many seconds to wait between two requests")
+    archive_words = command("archive", run_archive)
+    archive_words.add_argument("--type", required=True, choices=pb_stream.TYPES, metavar="TYPE", help="as SCALAR_INT")
+    archive_words.add_argument("--scan", metavar="SECONDS", help="sample at this period, and not at each change")
+    each = [command(word, run_each) for word in ("status", "pause", "resume")]
+    for found in (get_words, plot_words, watch_words, archive_words, command("details", run_details), *each):
+        found.add_argument("pv", nargs="+", help="names of variables")
+    feed_words = command("feed", run_feed)
+    feed_words.add_argument("--register", action="store_true", help="register the variables that aren't in the archive")
+    feed_words.add_argument("stream", nargs="?", help="a file; standard input where it is left out")
+    command("names", run_names)
+    command("flush", run_flush)
+
+
+def main():
+    """Does what the words ask for."""
+    options = parser_of_words().parse_args()
+    try:
+        options.run(options)
+    except (ArchiverError, pb_stream.BadStream, OSError, ValueError) as error:
+        if isinstance(error, BrokenPipeError):
+            raise
+        print(f"archappl: {error}", file=sys.stderr)
+        return 1
+    except KeyboardInterrupt:
+        return 130
+    return 0
+
+
+if __name__ == "__main__":
+    try:
+        sys.exit(main())
+    except BrokenPipeError:
+        sys.exit(1)

@@ -1,0 +1,216 @@
+"""Cases of `clients/ca_feed.py`: a small server of Channel Access on the one side, a service on the other."""
+
+import os
+import signal
+import struct
+import subprocess
+import sys
+import time
+
+import archappl
+import channel_access
+from cases import CLIENTS, wait_for, want
+from channel_access import CHAR, DOUBLE, ENUM, FLOAT, LONG, SHORT, STRING, ChannelServer
+from running import Service, free_ports
+from service_cases import ALL, shown
+
+SECOND = 1_000_000_000
+# Values that end the 7 kinds' ranges, and a float that is no number with bits of its own.
+ODD_FLOAT = struct.unpack(">f", bytes.fromhex("7fc12345"))[0]
+VALUES = {
+    STRING: [b"", b"shut down", b"\xe4\n\r\x1b", b"a" * 39],
+    SHORT: [0, -(2**15), 2**15 - 1, 10],
+    FLOAT: [0.0, -1.5, ODD_FLOAT, 2.0**-149],
+    ENUM: [0, 1, 15, 2**16 - 1],
+    CHAR: [0, 255, 10, 65],
+    LONG: [0, -(2**31), 2**31 - 1, 27],
+    DOUBLE: [0.0, -1e300, 5e-324, 0.1],
+}
+PB = {STRING: "STRING", SHORT: "SHORT", FLOAT: "FLOAT", ENUM: "ENUM", CHAR: "BYTE", LONG: "INT", DOUBLE: "DOUBLE"}
+
+
+class Bridge:
+    """The program between both, and what was posted of each variable."""
+
+    def __init__(self, channels, service, names, *words):
+        self.channels = channels
+        self.posted = {}
+        environment = dict(os.environ, **channels.environment(), EPICS_CA_REPEATER_PORT=str(free_ports(1)[0]))
+        command = [sys.executable, CLIENTS / "ca_feed.py", "--server", service.address, "--every", "0.1"]
+        self.process = subprocess.Popen([*command, *words, *names], env=environment, stderr=subprocess.PIPE, text=True)
+
+    def __enter__(self):
+        return self
+
+    def __exit__(self, *_):
+        self.process.kill()
+        self.process.wait()
+        self.process.stderr.close()
+
+    def end(self, number=signal.SIGINT):
+        """Ends it, and gives its status and what it told."""
+        self.process.send_signal(number)
+        _, told = self.process.communicate(timeout=30)
+        return self.process.returncode, told
+
+
+def post(channels, posted, name, elements, moment, severity=0, status=0):
+    """Posts a change, and keeps it."""
+    channels.post(name, elements, moment, severity, status)
+    posted.setdefault(name, []).append((moment, elements, severity, status))
+
+
+def value_shown(kind, elements, is_waveform):
+    """A posted value as it is to be shown of the archive: of floats the bits."""
+    if kind == CHAR:
+        return list(elements)
+    forms = {FLOAT: (">f", 8), DOUBLE: (">d", 16)}
+    if kind in forms:
+        found = ["0x" + struct.pack(forms[kind][0], one).hex() for one in elements]
+    elif kind == STRING:
+        found = [one.decode("utf-8", "replace") for one in elements]
+    else:
+        found = list(elements)
+    return found if is_waveform else found[0]
+
+
+def same(service, name, channel, posted):
+    """The archive has just what was posted, once and in order."""
+    got = archappl.get(service.address, name, *ALL)
+    is_waveform = channel.room > 1
+    want(f"the type of {name}", got.header.type_name, f"{'WAVEFORM' if is_waveform else 'SCALAR'}_{PB[channel.kind]}")
+    want(f"the times of {name}", got.times.astype("int64").tolist(), [moment for moment, _, _, _ in posted])
+    found = [shown(got.header.element, value) for value in got.values]
+    wanted = [value_shown(channel.kind, elements, is_waveform) for _, elements, _, _ in posted]
+    want(f"the values of {name}", found, wanted)
+    want(f"the severities of {name}", got.severities.tolist(), [severity for _, _, severity, _ in posted])
+    want(f"the statuses of {name}", got.statuses.tolist(), [status for _, _, _, status in posted])
+
+
+def accepted(service, name):
+    """How many samples of a variable the archive has; none where it doesn't know it."""
+    try:
+        return archappl.details(service.address, name)["durable"]
+    except archappl.ArchiverError:
+        return 0
+
+
+def has_all(service, posted):
+    """Whether the archive has as much as was posted."""
+    return all(accepted(service, name) >= len(samples) for name, samples in posted.items())
+
+
+def all_types(_, service, channels):
+    """Scalars and waveforms of all kinds, with severities, statuses and nanoseconds."""
+    posted, start = {}, time.time_ns() - 100 * SECOND
+    for kind, values in VALUES.items():
+        for name, first, room in ((f"S:{PB[kind]}", values[:1], 1), (f"W:{PB[kind]}", values, 6)):
+            channels.add(name, kind, first, start, room)
+            posted[name] = [(start, first, 0, 0)]
+    with Bridge(channels, service, posted) as bridge:
+        wait_for("all are archived", lambda: has_all(service, posted))
+        for number in range(1, 5):
+            for kind, values in VALUES.items():
+                moment = start + number * SECOND + 123_456_789
+                post(channels, posted, f"S:{PB[kind]}", [values[number % 4]], moment, number % 4, number)
+                post(channels, posted, f"W:{PB[kind]}", (values * 2)[: 1 + number], moment, number % 4, number)
+        wait_for("the changes are archived", lambda: has_all(service, posted))
+        status, told = bridge.end()
+    number = sum(map(len, posted.values()))
+    last = (f"ca_feed: {number} samples are durable, 0 weren't told durable, 0 were given up, "
+            "0 had a time stamp that no archive takes")
+    want("the end", (status, told.splitlines()[-1]), (0, last))
+    for name, samples in posted.items():
+        same(service, name, channels.channels[name], samples)
+
+
+def lost_connections(rng, service, channels):
+    """The service is killed and the channels are lost, more than once: each change that was posted is archived once."""
+    names, posted = [f"L:{number}" for number in range(5)], {}
+    moments = iter(range(time.time_ns() - 500 * SECOND, time.time_ns() - SECOND, SECOND // 10))
+    for name in names:
+        moment = next(moments)
+        channels.add(name, DOUBLE, [0.5], moment)
+        posted[name] = [(moment, [0.5], 0, 0)]
+
+    def changes(number):
+        for _ in range(number):
+            post(channels, posted, rng.choice(names), [rng.random()], next(moments))
+            time.sleep(0.002)
+
+    with Bridge(channels, service, names) as bridge:
+        wait_for("all are archived", lambda: has_all(service, posted))
+        for _ in range(2):
+            changes(100)
+            service.kill()
+            changes(100)
+            time.sleep(0.3)
+            service.start()
+            changes(100)
+            wait_for("the changes are archived", lambda: has_all(service, posted))
+            channels.stop()
+            time.sleep(0.3)
+            channels.start()
+            wait_for("all are subscribed again", lambda: all(channels.subscribers(name) for name in names), 30)
+            changes(50)
+        wait_for("the changes are archived", lambda: has_all(service, posted))
+        status, told = bridge.end(signal.SIGTERM)
+    want("the status", status, 0)
+    for what in ("Connection refused", "the service is there again", "channels are lost"):
+        want(f"{what!r} is told", what in told, True)
+    for name in names:
+        same(service, name, channels.channels[name], posted[name])
+
+
+def ended_without_service(_, service, channels):
+    """What it couldn't bring is told at its end."""
+    channels.add("E:A", LONG, [1], time.time_ns() - SECOND)
+    with Bridge(channels, service, ["E:A"], "--patience", "0.5") as bridge:
+        wait_for("it is archived", lambda: accepted(service, "E:A") == 1)
+        service.kill()
+        channels.post("E:A", [2], time.time_ns())
+        time.sleep(0.5)
+        status, told = bridge.end()
+    want("the end", (status, "1 weren't told durable" in told), (1, True))
+
+
+def left_out(_, service, channels):
+    """Names and types that the archive doesn't take, time stamps that it doesn't, and names that are nowhere."""
+    now = time.time_ns()
+    archappl.archive(service.address, "O:INT", "SCALAR_INT")
+    archappl.archive(service.address, "O:KEY", "SCALAR_DOUBLE")
+    for name in ("O:INT", "O-KEY", "O::BAD", "O:GOOD"):
+        channels.add(name, DOUBLE, [1.0], now - SECOND)
+    channels.add("O:NEVER", DOUBLE, [1.0], channel_access.EPOCH * SECOND)
+    channels.add("O:AHEAD", DOUBLE, [1.0], now + 3_600 * SECOND)
+    with Bridge(channels, service, [*channels.channels, "O:NOWHERE"]) as bridge:
+        wait_for("the good one is archived", lambda: accepted(service, "O:GOOD") == 1)
+        channels.post("O:AHEAD", [2.0], now)
+        wait_for("the later one is archived", lambda: accepted(service, "O:AHEAD") == 1)
+        status, told = bridge.end()
+    want("the status", status, 0)
+    for line in ("O:INT is left out: the archive has it as SCALAR_INT, and its channel is SCALAR_DOUBLE",
+                 "O-KEY is left out: the archive doesn't take it: E19",
+                 "O::BAD is left out: the archive doesn't take it: E31"):
+        want(f"{line!r} is told", line in told, True)
+    want("what has no time stamp", "2 had a time stamp" in told, True)
+    want("no sample of it", accepted(service, "O:NEVER"), 0)
+
+
+def cases(program):
+    """The cases, each with a service and channels of its own."""
+
+    def over(work):
+        def case(rng, _):
+            channels = ChannelServer()
+            channels.start()
+            try:
+                with Service(program) as service:
+                    work(rng, service, channels)
+            finally:
+                channels.stop()
+
+        case.__name__ = work.__name__
+        return case
+
+    return [(over(work), 1) for work in (all_types, lost_connections, ended_without_service, left_out)]

@@ -1,0 +1,183 @@
+"""Cases of `clients/viewer`: what its page shows in a headless Chromium, and what the program behind it answers."""
+
+import json
+import math
+import signal
+import subprocess
+import sys
+import time
+import urllib.error
+import urllib.request
+from datetime import datetime, timezone
+from urllib.parse import urlencode
+
+import archappl
+import pb_stream
+from browser import Browser
+from cases import CLIENTS, Failed, run, want
+from running import Service
+
+SECOND = 1_000_000_000
+START = 1_704_067_200
+# Where the picture of the page begins and ends, as viewer.html has it.
+LEFT, RIGHT = 76, 14
+# The unit of each variable of a day, and its value at a second.
+NUMBERS = {
+    "CELL01:TEMP": ("°C", lambda at: 21 + 3 * math.sin(at / 9_000) + 0.2 * math.sin(at / 700)),
+    "CELL02:TEMP": ("°C", lambda at: 23 + 2 * math.sin(at / 11_000 + 1)),
+    "CELL01:CURRENT": ("mA", lambda at: 401 - (at % 14_400) / 4_000),
+}
+MODES = ((0, "injecting"), (9_000, "stored beam"), (61_000, "shut down"))
+
+
+class Viewer:
+    """The program that serves the page."""
+
+    def __init__(self, service):
+        command = [sys.executable, CLIENTS / "viewer", "--server", service.address, "--port", "0"]
+        self.process = subprocess.Popen(command, stderr=subprocess.PIPE, text=True)
+        self.address = self.process.stderr.readline().split()[1]
+
+    def __enter__(self):
+        return self
+
+    def __exit__(self, *_):
+        self.process.send_signal(signal.SIGINT)
+        self.process.wait(10)
+        self.process.stderr.close()
+
+    def asked(self, path, **query):
+        """The status and what is answered."""
+        try:
+            with urllib.request.urlopen(f"{self.address}{path}?{urlencode(query)}", timeout=20) as reply:
+                return reply.status, json.load(reply)
+        except urllib.error.HTTPError as error:
+            with error:
+                return error.code, json.load(error)
+
+
+def iso(seconds):
+    """The text of a moment as the page has it."""
+    return datetime.fromtimestamp(seconds, timezone.utc).isoformat(timespec="milliseconds").replace("+00:00", "Z")
+
+
+def day(service, minutes=1_440):
+    """A day of three variables, brought by `ingest` with their units."""
+    service.stop()
+    for name, (unit, value) in NUMBERS.items():
+        lines = []
+        for number in range(minutes):
+            found = value(60 * number)
+            severity = (2 if found > 24.6 else 1) if 24.2 < found < 30 else 0
+            lines.append(f"{name} {START + 60 * number} {found} {severity} {3 * severity}\n")
+        service.archappl("ingest", data=run("import", "--unit", unit, data="".join(lines).encode())[0])
+    lines = "".join(f"CELL01:MODE {START + at} '{text}'\n" for at, text in MODES)
+    service.archappl("ingest", data=run("import", data=lines.encode())[0])
+    service.start()
+
+
+def answers(_, service):
+    """What the page is answered: all samples where there are few, and few that have the ends where there are many."""
+    number, header = 100_000, pb_stream.Header(6, "V:A", 2024)
+    values = [math.sin(second / 1_000) for second in range(number)]
+    values[54_321], values[77_777] = 9.0, float("nan")
+    archappl.archive(service.address, "V:A", "SCALAR_DOUBLE")
+    archappl.send(service.address, [pb_stream.chunk(header, [((START + second) * SECOND, value, 2 * (second == 500))
+                                                             for second, value in enumerate(values)])])
+    with Viewer(service) as viewer:
+        want("names", viewer.asked("/names"), (200, ["V:A"]))
+        interval = {"from": iso(START + 100), "to": iso(START + 109)}
+        status, few = viewer.asked("/samples", pv="V:A", columns=100, **interval)
+        want("few samples", (status, few["count"]), (200, 11))
+        want("their times", few["times"], [1000.0 * (START + at) for at in range(99, 110)])
+        want("their values", few["values"], values[99:110])
+        _, many = viewer.asked("/samples", pv="V:A", **{"from": iso(START), "to": iso(START + number)}, columns=200)
+        want("how many there are", many["count"], number)
+        want("fewer are sent", 400 < len(many["times"]) <= 5 * 202, True)
+        found = [value for value in many["values"] if value is not None]
+        want("the greatest", max(found), 9.0)
+        want("the least", min(found), min(value for value in values if value == value))
+        want("the severity", 2 in many["severities"], True)
+        _, new = viewer.asked("/newest", pv="V:A", since=str((START + number - 3) * SECOND))
+        want("new samples", new["values"], values[-2:])
+        want("no such variable", viewer.asked("/newest", pv="V:B")[0], 502)
+        want("not of the form", viewer.asked("/samples", pv="V:A")[0], 400)
+        want("nothing else", viewer.asked("/mgmt/bpl/flush")[0], 404)
+        request = urllib.request.Request(viewer.address + "/names", headers={"Host": "example.com"})
+        try:
+            urllib.request.urlopen(request, timeout=20).close()
+            raise Failed("a page of another name was answered")
+        except urllib.error.HTTPError as error:
+            want("another name", error.code, 403)
+            error.close()
+
+
+def shown_rows(browser):
+    """The rows below the picture: name, value, unit, time, severity and number of samples."""
+    return browser.value("[...document.querySelectorAll('#legend tr')].map("
+                         "row => [...row.cells].slice(1).map(cell => cell.textContent))")
+
+
+def page(_, service):
+    """The page shows what it was linked to, zooms where it is dragged over, goes back, and follows new samples."""
+    day(service)
+    words = [("from", iso(START)), ("to", iso(START + 86_400))] + [("pv", name) for name in [*NUMBERS, "CELL01:MODE"]]
+    with Viewer(service) as viewer, Browser() as browser:
+        browser.ask("Page.navigate", url=f"{viewer.address}#{urlencode(words)}")
+        browser.until("all are shown", "document.querySelectorAll('#legend tr').length === 4")
+        rows = shown_rows(browser)
+        last = 21 + 3 * math.sin(86_340 / 9_000) + 0.2 * math.sin(86_340 / 700)
+        want("the first row", rows[0][:4], ["CELL01:TEMP", repr(last), "°C", iso(START + 86_340)])
+        want("the last row", rows[3][:4], ["CELL01:MODE", "shut down", "", iso(START + 61_000)])
+        want("how many", [row[5] for row in rows], ["1,440", "1,440", "1,440", "3"])
+        want("the names", browser.value("document.querySelectorAll('#names input:checked').length"), 4)
+        colors = browser.value("new Set(paper.getImageData(0, 0, canvas.width, canvas.height).data).size")
+        want("it is drawn", colors > 20, True)
+        zoomed(browser)
+        followed(browser, viewer, service)
+
+
+def zoomed(browser):
+    """Dragging over the middle half shows that; a click on Back shows the whole again."""
+    box = browser.value("canvas.getBoundingClientRect().toJSON()")
+    begin, end = box["left"] + LEFT, box["left"] + box["width"] - RIGHT
+    quarter = (end - begin) / 4
+    browser.drag(begin + quarter, end - quarter, box["top"] + box["height"] / 2)
+    browser.until("fewer are shown", "document.querySelector('#legend tr').cells[6].textContent !== '1,440'")
+    for field, wanted in (("from", START + 21_600), ("to", START + 64_800)):
+        found = browser.value(f"Date.parse(document.getElementById('{field}').value)") / 1_000
+        if abs(found - wanted) > 2 * 21_600 / quarter:  # two columns of the picture
+            raise Failed(f"the zoom's {field} is {iso(found)}, and not {iso(wanted)}")
+    number = int(shown_rows(browser)[0][5])
+    want("the samples of half a day and the one before", 719 <= number <= 723, True)
+    browser.value("document.getElementById('back').click()")
+    browser.until("the whole is shown again", "document.querySelector('#legend tr').cells[6].textContent === '1,440'")
+    want("from", browser.value("document.getElementById('from').value"), iso(START))
+
+
+def followed(browser, viewer, service):
+    """New samples come by themselves."""
+    archappl.archive(service.address, "LIVE:A", "SCALAR_INT")
+    browser.ask("Page.navigate", url=f"{viewer.address}?live#pv=LIVE:A&live=1")
+    browser.until("it is chosen", "document.querySelectorAll('#legend tr').length === 1 && view.live")
+    for number in (41, 42):
+        now = time.time_ns()
+        header = pb_stream.Header(5, "LIVE:A", pb_stream.year_of(now))
+        archappl.send(service.address, [pb_stream.chunk(header, [(now, number, 1, 4)])])
+        shown = f"document.querySelector('#legend tr').cells[2].textContent === '{number}'"
+        browser.until("the new value is shown", shown)
+    want("its severity", shown_rows(browser)[0][4:], ["MINOR", "2"])
+
+
+def cases(program, has_browser):
+    """The cases, each with a service of its own."""
+
+    def over(work):
+        def case(rng, _):
+            with Service(program) as service:
+                work(rng, service)
+
+        case.__name__ = work.__name__
+        return case
+
+    return [(over(answers), 1)] + [(over(page), 1)] * has_browser

@@ -1,0 +1,311 @@
+"""Cases of `clients/archappl.py` over a running service.
+
+Samples and their bytes come from interop/serve_model.py, which is written apart from the clients.
+"""
+
+import json
+import os
+import signal
+import socket
+import struct
+import subprocess
+import sys
+import threading
+
+import archappl
+import drawing
+import numpy
+import pb_stream
+import serve_model
+from cases import CLIENTS, Failed, run, want
+from running import Service, free_ports
+
+SECOND = 1_000_000_000
+ALL = ("1991-01-01T00:00:00Z", "2499-12-31T23:59:59Z")
+
+
+# Samples
+
+
+def shown(element, value):
+    """A value as serve_model shows it: floats as their bits."""
+    if isinstance(value, bytes):
+        return list(value)
+    if isinstance(value, (list, numpy.ndarray)):
+        return [shown(element, one) for one in value]
+    forms = {"FLOAT": (numpy.uint32, 8), "DOUBLE": (numpy.uint64, 16)}
+    if element in forms:
+        form, digits = forms[element]
+        return f"0x{int(value.view(form)):0{digits}x}"
+    return value if isinstance(value, str) else int(value)
+
+
+def same_samples(what, piece, samples):
+    """A piece has just these samples of the model."""
+    want(f"the times of {what}", piece.times.astype("int64").tolist(), [sample.moment for sample in samples])
+    found = [shown(piece.header.element, value) for value in piece.values]
+    want(f"the values of {what}", found, [sample.shown["val"] for sample in samples])
+    want(f"the severities of {what}", piece.severities.tolist(), [sample.shown["severity"] for sample in samples])
+    want(f"the statuses of {what}", piece.statuses.tolist(), [sample.shown["status"] for sample in samples])
+
+
+def chunks_of(variable, number):
+    """Chunks of so many samples of a variable of the model."""
+    chunks = []
+    while variable.accepted < number:
+        end, lines = variable.chunk(number - variable.accepted)
+        chunks.append(b"".join(lines) + b"\n")
+        variable.accepted = end
+    return chunks
+
+
+def fed_and_got(rng, service):
+    """Samples of each type that are fed, and got by intervals."""
+    for number, type_name in enumerate(serve_model.TYPES):
+        variable = serve_model.Variable(f"ALL:{type_name}", number, serve_model.STEPS[number % 4], rng)
+        want("the row", archappl.archive(service.address, variable.name, type_name), number)
+        told = archappl.send(service.address, chunks_of(variable, 300))
+        want("what the feed is told", (told.sum(0), told.sum(1), told.sum(2), told.durable), (300, 0, 0, 300))
+        got = archappl.get(service.address, variable.name, *ALL)
+        want("the type of times", str(got.times.dtype), "datetime64[ns]")
+        want("the header", (got.header.name, got.header.type_name), (variable.name, type_name))
+        same_samples(type_name, got, variable.samples[:300])
+        for _ in range(3):
+            ends = sorted(rng.choice(variable.samples[:300]).moment + rng.choice((-1, 0, 1)) for _ in range(2))
+            interval = serve_model.Interval(*ends)
+            wanted = serve_model.answer(variable.samples, interval, 300)
+            start = numpy.datetime64(ends[0], "ns") if rng.random() < 0.5 else serve_model.iso(ends[0])
+            got = archappl.get(service.address, variable.name, start, ends[1])
+            same_samples(f"{type_name} {interval}", got, wanted)
+
+
+def long_answer(_, service):
+    """An answer of several pieces, in one array."""
+    start, number = pb_stream.year_start(2024) * SECOND, 150_000
+    lines = [serve_model.of_number(1, 6) + serve_model.of_bytes(2, b"LONG:ONE") + serve_model.of_number(3, 2024)]
+    lines += [serve_model.of_number(1, second) + b"\x10\x00\x19" + struct.pack("<d", second / 7)
+              for second in range(number)]
+    chunk = b"".join(serve_model.escape(line) + b"\n" for line in lines)
+    archappl.archive(service.address, "LONG:ONE", "SCALAR_DOUBLE")
+    told = archappl.send(service.address, [chunk[at : at + 100_000] for at in range(0, len(chunk), 100_000)])
+    want("how many are durable", told.durable, number)
+    got = archappl.get(service.address, "LONG:ONE", *ALL)
+    want("the times", got.times.astype("int64").tolist(), [start + second * SECOND for second in range(number)])
+    want("the values", got.values.tolist(), [second / 7 for second in range(number)])
+
+
+# Management
+
+
+def refused(work, status, word):
+    """Something is refused with this status and word, which the message names."""
+    try:
+        work()
+    except archappl.Refused as error:
+        want("what was refused", (error.status, error.word), (status, word))
+        want("the message", word in str(error), True)
+        return
+    raise Failed(f"{word} wasn't raised")
+
+
+def management(_, service):
+    """Requests of the management, and their refusals."""
+    server = service.address
+    want("no names", archappl.names(server), [])
+    want("a row", archappl.archive(server, "M:A", "SCALAR_INT"), 0)
+    want("another", archappl.archive(server, "M:B", "WAVEFORM_FLOAT", "0.5"), 1)
+    want("the names", archappl.names(server), ["M:A", "M:B"])
+    want("a state", archappl.status(server, "M:A"), "Being archived")
+    want("none", archappl.status(server, "M:C"), "Not being archived")
+    found = archappl.details(server, "M:B")
+    want("the details", [found[name] for name in ("type", "samplingMethod", "samplingPeriodNanos", "accepted")],
+         ["WAVEFORM_FLOAT", "SCAN", 500_000_000, 0])
+    archappl.pause(server, "M:A")
+    want("a pause", archappl.status(server, "M:A"), "Paused")
+    refused(lambda: archappl.pause(server, "M:A"), 409, "E21")
+    chunk = pb_stream.chunk(pb_stream.Header(5, "M:A", 2024), [(1_704_067_200 * SECOND, 1)])
+    want("what is paused drops", archappl.send(server, [chunk]).chunks, [(0, 0, 1)])
+    archappl.resume(server, "M:A")
+    refused(lambda: archappl.resume(server, "M:A"), 409, "E22")
+    want("what runs keeps", archappl.send(server, [chunk]).chunks, [(1, 0, 0)])
+    want("nothing is left to flush", archappl.flush(server), 0)
+    refused(lambda: archappl.archive(server, "M:A", "SCALAR_INT"), 409, "E18")
+    refused(lambda: archappl.archive(server, "M-A", "SCALAR_INT"), 409, "E19")
+    refused(lambda: archappl.get(server, "M:C", *ALL), 404, "E26")
+    refused(lambda: archappl.details(server, "M::A"), 400, "E31")
+    refused(lambda: archappl.get(server, "M:A", "yesterday", ALL[1]), 400, "E31")
+
+
+def bad_feeds(_, service):
+    """Feeds that are refused, with what was told before, and one whose source fails."""
+    archappl.archive(service.address, "F:A", "SCALAR_INT")
+    good = pb_stream.chunk(pb_stream.Header(5, "F:A", 2024), [(1_704_067_201 * SECOND, 7)])
+    header = b"\x08\x05\x12\x03F:A\x18\xe8\x0f\n"
+    for bad, last in ((header + b"\x08\x01\x1b\x04\n", "refused 5 E5"), (b"\x08", "refused 4 E35")):
+        try:
+            archappl.send(service.address, [good, bad])
+            raise Failed("a bad feed wasn't refused")
+        except archappl.FeedRefused as error:
+            want("what it was told last", error.told.last, last)
+            want("how many chunks were told", len(error.told.chunks), 1)
+    want("what was kept", len(archappl.get(service.address, "F:A", *ALL)), 1)
+
+    def failing():
+        yield good
+        raise KeyError("a source that fails")
+
+    try:
+        archappl.send(service.address, failing())
+        raise Failed("the source's failure wasn't raised")
+    except KeyError:
+        pass
+
+
+def bad_peers(_, service):
+    """No service, one that ends within a reply, and one that ends within a feed."""
+    port, other = free_ports()
+    nowhere = f"127.0.0.1:{port}:{other}"
+    for work in (lambda: archappl.names(nowhere), lambda: archappl.send(nowhere, [])):
+        try:
+            work()
+            raise Failed("no service wasn't told")
+        except archappl.NotReached as error:
+            want("it names the port", str(port) in str(error) or str(other) in str(error), True)
+    head = b"HTTP/1.1 200 OK\r\nTransfer-Encoding: chunked\r\nConnection: close\r\n\r\n"
+    line = b"\x08\x05\x12\x03A:B\x18\xe8\x0f\n"
+    for body in (b"b\r\n" + line + b"\r\n", b"b\r\n" + line[:5], b"", b"b\r\n" + line):
+        with answering(head + body) as port:
+            try:
+                archappl.get(f"127.0.0.1:1:{port}", "A:B", *ALL)
+                raise Failed(f"a reply that ends within its body wasn't told: {body!r}")
+            except archappl.CutOff:
+                pass
+    with answering(head + b"b\r\n" + line + b"\r\n0\r\n\r\n") as port:
+        want("a whole reply", len(archappl.get(f"127.0.0.1:1:{port}", "A:B", *ALL)), 0)
+    want("the service goes on", archappl.names(service.address), [])
+
+
+class answering:  # pylint: disable=invalid-name
+    """A peer that takes one connection, reads what comes first, sends bytes, and ends it."""
+
+    def __init__(self, data):
+        self.listener = socket.create_server(("127.0.0.1", 0))
+        self.thread = threading.Thread(target=self.answer, args=(data,))
+
+    def answer(self, data):
+        """Answers once."""
+        link, _ = self.listener.accept()
+        with link:
+            link.recv(65_536)
+            link.sendall(data)
+
+    def __enter__(self):
+        self.thread.start()
+        return self.listener.getsockname()[1]
+
+    def __exit__(self, *_):
+        self.thread.join()
+        self.listener.close()
+
+
+# Words
+
+TEXT = b"""name time value severity status
+W:A 2024-01-01T00:00:00.000000001Z 1.5 0 0
+W:A 2024-01-01T00:00:01.000000000Z -0.25 1 4
+W:A 2024-01-01T00:00:02.000000000Z 1e+300 2 3
+W:B 2024-01-01T00:00:00.500000000Z 'shut down' 0 0
+W:B 2025-01-01T00:00:00.000000000Z open 3 17
+"""
+
+
+def words(_, service):
+    """The program by its words: texts go in and come out."""
+    where = dict(os.environ, ARCHAPPL_SERVER=service.address)
+
+    def archappl_py(*given, data=b"", status=0):
+        return run("archappl.py", *given, data=data, status=status, environment=where)
+
+    stream, _ = run("import", data=TEXT)
+    want("a feed", archappl_py("feed", "--register", data=stream)[0], b"kept 5 held 0 dropped 0 durable 5\n")
+    want("it once more", archappl_py("feed", "--register", data=stream)[0], b"kept 0 held 0 dropped 5 durable 0\n")
+    want("names", archappl_py("names")[0], b"W:A\nW:B\n")
+    whole = ("--from", ALL[0], "--to", ALL[1])
+    want("get", archappl_py("get", *whole, "W:A", "W:B")[0], TEXT)
+    table = TEXT.replace(b" ", b",").replace(b"'shut,down'", b"shut down")
+    want("get --csv", archappl_py("get", *whole, "--csv", "W:A", "W:B")[0], table)
+    day = ("--from", "2024-01-01", "--to", "2024-01-01T00:00:01Z")
+    want("get of an interval", archappl_py("get", *day, "W:A")[0], b"".join(TEXT.splitlines(True)[:3]))
+    raw = archappl_py("get", *whole, "--raw", "W:A", "W:B")[0]
+    want("get --raw", sorted(run("export", data=raw)[0].splitlines()), sorted(TEXT.splitlines()))
+    want("details", json.loads(archappl_py("details", "W:B")[0])["accepted"], 2)
+    want("status", archappl_py("status", "W:B", "W:C")[0], b"W:B Being archived\nW:C Not being archived\n")
+    want("archive", archappl_py("archive", "--type", "SCALAR_INT", "W:C")[0], b"W:C 2\n")
+    want("pause", archappl_py("pause", "W:C")[0], b"W:C ok\n")
+    want("flush", archappl_py("flush")[0], b"0\n")
+    told = archappl_py("get", "W:D", status=1)[1]
+    want("a complaint", told, "archappl: E26: the archive has no such variable\n")
+    picture = service.folder / "picture.png"
+    told = archappl_py("plot", *whole, "--out", str(picture), "W:A", "W:B")[1]
+    want("what isn't drawn", told, "archappl: W:B is of type SCALAR_STRING, and isn't drawn\n")
+    want("a picture", picture.read_bytes()[:8], b"\x89PNG\r\n\x1a\n")
+    service.stop()
+    stored = [service.archappl("get", name, *ALL) for name in ("W:A", "W:B")]
+    want("the raw stream", raw, b"\n".join(stored))
+
+
+def watched(_, service):
+    """`watch` writes the last sample, and then each new one; Ctrl-C ends it."""
+    server = service.address
+    archappl.archive(server, "W:A", "SCALAR_INT")
+    header = pb_stream.Header(5, "W:A", 2024)
+    start = 1_704_067_200 * SECOND
+    archappl.send(server, [pb_stream.chunk(header, [(start, 1), (start + SECOND, 2)])])
+    command = [sys.executable, CLIENTS / "archappl.py", "--server", server, "watch", "--every", "0.1", "W:A"]
+    with subprocess.Popen(command, stdout=subprocess.PIPE, stderr=subprocess.PIPE, text=True) as process:
+        try:
+            want("the first line", process.stdout.readline(), "name time value severity status\n")
+            want("the last sample", process.stdout.readline(), "W:A 2024-01-01T00:00:01.000000000Z 2 0 0\n")
+            for number in (3, 4):
+                archappl.send(server, [pb_stream.chunk(header, [(start + number * SECOND, number, 1, 6)])])
+                line = f"W:A 2024-01-01T00:00:0{number}.000000000Z {number} 1 6\n"
+                want("a new one", process.stdout.readline(), line)
+            process.send_signal(signal.SIGINT)
+            want("the end", (process.wait(10), process.stderr.read()), (130, ""))
+        finally:
+            process.kill()
+
+
+def units_drawn(_, service):
+    """The unit that `ingest` brought stands at its axis, steps hold until now at most, and severities are told."""
+    service.stop()
+    lines = b"".join(b"P:A %d %d %d\n" % (1_704_067_200 + second, second % 7, second // 10 % 4)
+                     for second in range(0, 3_600, 10))
+    service.archappl("ingest", data=run("import", "--unit", "mm", data=lines)[0])
+    service.archappl("ingest", data=run("import", "--unit", "V", data=lines.replace(b"P:A", b"P:B"))[0])
+    service.start()
+    found = {name: archappl.get(service.address, name, *ALL) for name in ("P:A", "P:B")}
+    want("the unit", found["P:A"].headers, {"EGU": "mm"})
+    figure = drawing.picture(found, numpy.datetime64("2024-01-01T00:10:00"), numpy.datetime64("2024-01-01T01:10:00"))
+    axes = figure.get_axes()
+    want("the axes", [axis.get_ylabel() for axis in axes], ["mm", "V"])
+    want("the legend", axes[0].get_legend_handles_labels()[1], ["P:A", "MINOR", "MAJOR", "INVALID"])
+    want("steps", axes[0].lines[0].get_drawstyle(), "steps-post")
+    want("what is drawn", axes[0].lines[0].get_ydata().tolist(), [float(second % 7) for second in range(0, 3_600, 10)])
+    held = axes[0].lines[1].get_ydata()
+    want("the last value is held", list(held), [3590 % 7] * 2)
+
+
+def cases(program):
+    """The cases, each with a service of its own."""
+
+    def over(work):
+        def case(rng, _):
+            with Service(program) as service:
+                work(rng, service)
+
+        case.__name__ = work.__name__
+        return case
+
+    return [(over(work), 1) for work in (fed_and_got, long_answer, management, bad_feeds, bad_peers, words, watched,
+                                         units_drawn)]
