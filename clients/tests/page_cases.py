@@ -20,7 +20,7 @@ from running import Service
 SECOND = 1_000_000_000
 START = 1_704_067_200
 # Where the picture of the page begins and ends, as viewer.html has it.
-LEFT, RIGHT = 76, 14
+LEFT, RIGHT = 76, 44
 # The unit of each variable of a day, and its value at a second.
 NUMBERS = {
     "CELL01:TEMP": ("°C", lambda at: 21 + 3 * math.sin(at / 9_000) + 0.2 * math.sin(at / 700)),
@@ -49,7 +49,7 @@ class Viewer:
     def asked(self, path, **query):
         """The status and what is answered."""
         try:
-            with urllib.request.urlopen(f"{self.address}{path}?{urlencode(query)}", timeout=20) as reply:
+            with urllib.request.urlopen(f"{self.address}{path}?{urlencode(query)}", timeout=60) as reply:
                 return reply.status, json.load(reply)
         except urllib.error.HTTPError as error:
             with error:
@@ -105,7 +105,7 @@ def answers(_, service):
         want("nothing else", viewer.asked("/mgmt/bpl/flush")[0], 404)
         request = urllib.request.Request(viewer.address + "/names", headers={"Host": "example.com"})
         try:
-            urllib.request.urlopen(request, timeout=20).close()
+            urllib.request.urlopen(request, timeout=60).close()
             raise Failed("a page of another name was answered")
         except urllib.error.HTTPError as error:
             want("another name", error.code, 403)
