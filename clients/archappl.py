@@ -127,11 +127,11 @@ def told_failures(where):
 
 
 class Body(RawIOBase):
-    """The body of a reply, whose reading raises an `ArchiverError` alone."""
+    """The body of a reply, whose reading raises an `ArchiverError` alone, and tells how many bytes came."""
 
-    def __init__(self, found, where):
+    def __init__(self, found, where, tell):
         super().__init__()
-        self.found, self.where = found, where
+        self.found, self.where, self.tell = found, where, tell
 
     def readable(self):
         """It is read."""
@@ -140,11 +140,13 @@ class Body(RawIOBase):
     def readinto(self, room):
         """Reads some bytes, none at the end."""
         with told_failures(self.where):
-            return self.found.readinto(room)
+            size = self.found.readinto(room)
+        self.tell(size)
+        return size
 
 
 @contextmanager
-def reply(server, path, **query):
+def reply(server, path, query, tell=lambda size: None):
     """The body of the reply to a request that wasn't refused."""
     server = Server.of(server)
     where = f"{server.host} port {server.http_port}"
@@ -155,7 +157,7 @@ def reply(server, path, **query):
             found = link.getresponse()
             if found.status != 200:
                 raise Refused(found.status, json_of(found.read(), {}))
-        yield BufferedReader(Body(found, where), 1 << 16)
+        yield BufferedReader(Body(found, where, tell), 1 << 16)
     finally:
         link.close()
 
@@ -170,7 +172,7 @@ def json_of(data, otherwise):
 
 def asked(server, name, **query):
     """What the reply to a management request tells."""
-    with reply(server, f"/mgmt/bpl/{name}", **query) as body:
+    with reply(server, f"/mgmt/bpl/{name}", query) as body:
         found = json_of(body.read(), None)
     if found is None:
         raise CutOff(f"{name}: the reply was cut off")
@@ -225,8 +227,9 @@ class Progress:
         self.next = time.monotonic() + 1 if sys.stderr.isatty() else float("inf")
         self.width = 0
 
-    def show(self):
-        """Shows it, five times a second at most."""
+    def add(self, size):
+        """So many bytes more came. It is shown five times a second at most."""
+        self.size += size
         if time.monotonic() < self.next:
             return
         self.next = time.monotonic() + 0.2
@@ -241,30 +244,24 @@ class Progress:
 
 
 @contextmanager
-def raw(server, pv, start, end):
+def raw(server, pv, start, end, progress=None):
     """The raw stream, as a file, of a variable's samples of an interval, ends included, and the last one before it."""
     query = {"pv": pv, "from": sample_text.iso(start), "to": sample_text.iso(end)}
-    with reply(server, "/retrieval/data/getData.raw", **query) as body:
-        yield body
+    progress = progress or Progress(pv)
+    try:
+        with reply(server, "/retrieval/data/getData.raw", query, progress.add) as body:
+            yield body
+    finally:
+        progress.end()
 
 
 def pieces(server, pv, start, end):
     """The same samples as pieces of at most 65,536, in order; the first one may have none."""
     progress = Progress(pv)
-
-    def counted(stream):
-        for line in stream:
-            progress.size += len(line)
-            yield line
-
-    try:
-        with raw(server, pv, start, end) as stream:
-            for piece in pb_stream.pieces(counted(stream)):
-                progress.samples += len(piece)
-                progress.show()
-                yield piece
-    finally:
-        progress.end()
+    with raw(server, pv, start, end, progress) as stream:
+        for piece in pb_stream.pieces(stream):
+            progress.samples += len(piece)
+            yield piece
 
 
 def get(server, pv, start, end):

@@ -5,12 +5,14 @@ Samples and their bytes come from interop/serve_model.py, which is written apart
 
 import json
 import os
+import pty
 import signal
 import socket
 import struct
 import subprocess
 import sys
 import threading
+import time
 
 import archappl
 import drawing
@@ -81,7 +83,7 @@ def fed_and_got(rng, service):
 
 def long_answer(_, service):
     """An answer of several pieces, in one array."""
-    start, number = pb_stream.year_start(2024) * SECOND, 150_000
+    start, number = pb_stream.year_start(2024) * SECOND, 70_000
     lines = [serve_model.of_number(1, 6) + serve_model.of_bytes(2, b"LONG:ONE") + serve_model.of_number(3, 2024)]
     lines += [serve_model.of_number(1, second) + b"\x10\x00\x19" + struct.pack("<d", second / 7)
               for second in range(number)]
@@ -185,19 +187,39 @@ def bad_peers(_, service):
     want("the service goes on", archappl.names(service.address), [])
 
 
+def progress(_, service):
+    """An answer that takes longer than a second is told on a terminal, and the line is taken away at its end."""
+    want("the service is there", archappl.names(service.address), [])
+    head = b"HTTP/1.1 200 OK\r\nConnection: close\r\n\r\n\x08\x05\x12\x03A:B\x18\xe8\x0f\n"
+    seconds = (serve_model.of_number(1, second) for second in range(128, 8_192))
+    part = b"".join(serve_model.escape(second + b"\x10\x00\x1d\x01\x00\x00\x00") + b"\n" for second in seconds)
+    ours, theirs = pty.openpty()
+    with answering(head, *[part] * 4, pause=0.5) as port:
+        command = [sys.executable, CLIENTS / "archappl.py", "--server", f"127.0.0.1:1:{port}", "get", "--raw", "A:B"]
+        with subprocess.Popen(command, stdout=subprocess.PIPE, stderr=theirs) as process:
+            size = len(process.communicate(timeout=60)[0])
+    os.close(theirs)
+    told = os.read(ours, 65_536).decode()
+    os.close(ours)
+    want("the bytes", size, 11 + 4 * len(part))
+    want("the line", told.startswith("\rA:B: 0 samples, 0.") and told.endswith(" \r"), True)
+
+
 class answering:  # pylint: disable=invalid-name
-    """A peer that takes one connection, reads what comes first, sends bytes, and ends it."""
+    """A peer that takes one connection, reads what comes first, sends parts with a pause behind each, and ends it."""
 
-    def __init__(self, data):
+    def __init__(self, *parts, pause=0.0):
         self.listener = socket.create_server(("127.0.0.1", 0))
-        self.thread = threading.Thread(target=self.answer, args=(data,))
+        self.thread = threading.Thread(target=self.answer, args=(parts, pause))
 
-    def answer(self, data):
+    def answer(self, parts, pause):
         """Answers once."""
         link, _ = self.listener.accept()
         with link:
             link.recv(65_536)
-            link.sendall(data)
+            for part in parts:
+                link.sendall(part)
+                time.sleep(pause)
 
     def __enter__(self):
         self.thread.start()
@@ -307,5 +329,5 @@ def cases(program):
         case.__name__ = work.__name__
         return case
 
-    return [(over(work), 1) for work in (fed_and_got, long_answer, management, bad_feeds, bad_peers, words, watched,
-                                         units_drawn)]
+    return [(over(work), 1) for work in (fed_and_got, long_answer, management, bad_feeds, bad_peers, progress, words,
+                                         watched, units_drawn)]
