@@ -256,12 +256,25 @@ def raw(server, pv, start, end, progress=None):
 
 
 def pieces(server, pv, start, end):
-    """The same samples as pieces of at most 65,536, in order; the first one may have none."""
+    """The same samples as pieces of at most 65,536, in order; the first one may have none.
+
+    A service cuts an answer off after five minutes. Where samples came until then, the ones behind them are asked for.
+    """
     progress = Progress(pv)
-    with raw(server, pv, start, end, progress) as stream:
-        for piece in pb_stream.pieces(stream):
-            progress.samples += len(piece)
-            yield piece
+    begun = last = None
+    while True:
+        try:
+            with raw(server, pv, start if begun is None else begun + 1, end, progress) as stream:
+                for piece in pb_stream.pieces(stream):
+                    piece = piece if begun is None else later(piece, begun)
+                    last = int(piece.times[-1]) if len(piece) else last
+                    progress.samples += len(piece)
+                    yield piece
+            return
+        except CutOff:
+            if last == begun:
+                raise
+            begun = last
 
 
 def get(server, pv, start, end):

@@ -50,7 +50,8 @@ def picture(found, start=None, end=None):
         axis.grid(alpha=0.3)
         axis.margins(x=0.01)
         if axis.get_legend_handles_labels()[0]:
-            axis.legend(loc="upper left", fontsize="small")
+            # Above the axis, where it hides no samples.
+            axis.legend(loc="lower left", bbox_to_anchor=(0, 1), ncol=5, fontsize="small", frameon=False)
     bottom = axes[-1][0]
     if start is not None and end is not None and start < end:
         bottom.set_xlim(start, end)

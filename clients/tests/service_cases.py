@@ -176,14 +176,14 @@ def bad_peers(_, service):
     head = b"HTTP/1.1 200 OK\r\nTransfer-Encoding: chunked\r\nConnection: close\r\n\r\n"
     line = b"\x08\x05\x12\x03A:B\x18\xe8\x0f\n"
     for body in (b"b\r\n" + line + b"\r\n", b"b\r\n" + line[:5], b"", b"b\r\n" + line):
-        with answering(head + body) as port:
+        with answering([head + body]) as peer:
             try:
-                archappl.get(f"127.0.0.1:1:{port}", "A:B", *ALL)
+                archappl.get(peer.address, "A:B", *ALL)
                 raise Failed(f"a reply that ends within its body wasn't told: {body!r}")
             except archappl.CutOff:
                 pass
-    with answering(head + b"b\r\n" + line + b"\r\n0\r\n\r\n") as port:
-        want("a whole reply", len(archappl.get(f"127.0.0.1:1:{port}", "A:B", *ALL)), 0)
+    with answering([head + b"b\r\n" + line + b"\r\n0\r\n\r\n"]) as peer:
+        want("a whole reply", len(archappl.get(peer.address, "A:B", *ALL)), 0)
     want("the service goes on", archappl.names(service.address), [])
 
 
@@ -194,8 +194,8 @@ def progress(_, service):
     seconds = (serve_model.of_number(1, second) for second in range(128, 8_192))
     part = b"".join(serve_model.escape(second + b"\x10\x00\x1d\x01\x00\x00\x00") + b"\n" for second in seconds)
     ours, theirs = pty.openpty()
-    with answering(head, *[part] * 4, pause=0.5) as port:
-        command = [sys.executable, CLIENTS / "archappl.py", "--server", f"127.0.0.1:1:{port}", "get", "--raw", "A:B"]
+    with answering([head, *[part] * 4], pause=0.5) as peer:
+        command = [sys.executable, CLIENTS / "archappl.py", "--server", peer.address, "get", "--raw", "A:B"]
         with subprocess.Popen(command, stdout=subprocess.PIPE, stderr=theirs) as process:
             size = len(process.communicate(timeout=60)[0])
     os.close(theirs)
@@ -205,25 +205,46 @@ def progress(_, service):
     want("the line", told.startswith("\rA:B: 0 samples, 0.") and told.endswith(" \r"), True)
 
 
+def continued(_, service):
+    """An answer that is cut off after some samples goes on behind the last one that came whole."""
+    want("the service is there", archappl.names(service.address), [])
+    head = b"HTTP/1.1 200 OK\r\nTransfer-Encoding: chunked\r\nConnection: close\r\n\r\n"
+    lines = [serve_model.escape(serve_model.of_number(1, second) + b"\x10\x00\x1d\x01\x00\x00\x00") + b"\n"
+             for second in range(70_000)]
+
+    def chunk(part):
+        data = b"\x08\x05\x12\x03A:B\x18\xe8\x0f\n" + b"".join(part)
+        return f"{len(data):x}\r\n".encode() + data + b"\r\n"
+
+    with answering([head, chunk(lines[:69_000])], [head, chunk(lines[65_535:]) + b"0\r\n\r\n"]) as peer:
+        got = archappl.get(peer.address, "A:B", *ALL)
+    start = 1_704_067_200 * SECOND
+    want("the samples", got.times.astype("int64").tolist(), [start + second * SECOND for second in range(70_000)])
+    want("what is asked for then", b"from=2024-01-01T18%3A12%3A15.000000001Z" in peer.asked[1], True)
+
+
 class answering:  # pylint: disable=invalid-name
-    """A peer that takes one connection, reads what comes first, sends parts with a pause behind each, and ends it."""
+    """A peer that answers one connection after another: reads what comes, and sends parts, with pauses."""
 
-    def __init__(self, *parts, pause=0.0):
+    def __init__(self, *replies, pause=0.0):
         self.listener = socket.create_server(("127.0.0.1", 0))
-        self.thread = threading.Thread(target=self.answer, args=(parts, pause))
+        self.address = f"127.0.0.1:1:{self.listener.getsockname()[1]}"
+        self.asked = []
+        self.thread = threading.Thread(target=self.answer, args=(replies, pause))
 
-    def answer(self, parts, pause):
-        """Answers once."""
-        link, _ = self.listener.accept()
-        with link:
-            link.recv(65_536)
-            for part in parts:
-                link.sendall(part)
-                time.sleep(pause)
+    def answer(self, replies, pause):
+        """Answers each connection with its reply."""
+        for parts in replies:
+            link, _ = self.listener.accept()
+            with link:
+                self.asked.append(link.recv(65_536))
+                for part in parts:
+                    link.sendall(part)
+                    time.sleep(pause)
 
     def __enter__(self):
         self.thread.start()
-        return self.listener.getsockname()[1]
+        return self
 
     def __exit__(self, *_):
         self.thread.join()
@@ -329,5 +350,5 @@ def cases(program):
         case.__name__ = work.__name__
         return case
 
-    return [(over(work), 1) for work in (fed_and_got, long_answer, management, bad_feeds, bad_peers, progress, words,
-                                         watched, units_drawn)]
+    return [(over(work), 1) for work in (fed_and_got, long_answer, management, bad_feeds, bad_peers, progress,
+                                         continued, words, watched, units_drawn)]
