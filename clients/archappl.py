@@ -271,7 +271,7 @@ def pieces(server, pv, start, end):
                     progress.samples += len(piece)
                     yield piece
             return
-        except CutOff:
+        except (CutOff, NotReached):
             if last == begun:
                 raise
             begun = last
