@@ -125,8 +125,8 @@ pub(crate) fn lines(alloc: Global, signs: &str) -> Result<Vec<u8>, AllocError> {
     Ok(bytes)
 }
 
-// A run: what it is called where it isn't as it should be, its words, its input, which comes in pieces of so many bytes at most, and
-// the numbers of the reads and writes that fail.
+// A run: what it is called where it isn't as it should be, its words, its input, which comes in pieces of so many bytes at most, the
+// numbers of the reads and writes that fail, and the moment that the clock gives.
 #[derive(Clone, Copy)]
 pub(crate) struct Order<'a> {
     pub label: &'a str,
@@ -135,6 +135,7 @@ pub(crate) struct Order<'a> {
     pub most: usize,
     pub reads: &'a [u64],
     pub writes: &'a [u64],
+    pub now: u64,
 }
 
 // Words with an input, where nothing fails.
@@ -146,6 +147,7 @@ pub(crate) fn order_of<'a>(words: &'a str, input: &'a [u8]) -> Order<'a> {
         most: 65536,
         reads: &[],
         writes: &[],
+        now: NOW,
     }
 }
 
@@ -159,6 +161,12 @@ pub(crate) struct Unopened {
 // A disk that nothing was written to, whose calls with these numbers fail.
 pub(crate) fn empty(alloc: Global, failing: &[u64]) -> Result<Unopened, AllocError> {
     let disk = MemDisk::new(alloc, failing, None)?;
+    Ok(Unopened { disk })
+}
+
+// A disk that nothing was written to, all of whose calls fail from this number on.
+pub(crate) fn stopped(alloc: Global, call: u64) -> Result<Unopened, AllocError> {
+    let disk = MemDisk::new(alloc, &[], Some(call))?;
     Ok(Unopened { disk })
 }
 
@@ -241,7 +249,7 @@ pub(crate) fn outcome_of<R: Threads + Wait + Sync>(
     room: usize,
 ) -> Result<(Told, Unopened), AllocError> {
     let words: Vec<&str> = order.words.split(' ').collect(alloc)?;
-    let mut clock = ListClock::new(Vec::from_array(alloc, [NOW])?, Vec::new(alloc));
+    let mut clock = ListClock::new(Vec::from_array(alloc, [order.now])?, Vec::new(alloc));
     let mut source = Pieces {
         source: MemSource::new(alloc, order.input, order.reads)?,
         most: order.most,

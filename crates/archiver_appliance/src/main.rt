@@ -29,6 +29,8 @@ mod reporting;
 mod retrieving;
 mod run;
 #[cfg(test)]
+mod script_tests;
+#[cfg(test)]
 mod serve_tests;
 mod serve_words;
 mod serving;
