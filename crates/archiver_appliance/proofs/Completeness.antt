@@ -11,7 +11,8 @@ use Rattle.pv_catalog.specs.declared.row.Row.{Row}
 use Rattle.pv_catalog.specs.Rows.{HasName}
 use Rattle.store_manifest.specs.declared.entry.Entry.{Entry}
 use Rattle.archiver_appliance.specs.declared.command.Command.{Command}
-use Rattle.archiver_appliance.specs.declared.command.Command.TheVariants.{Extract, OverStore}
+use Rattle.archiver_appliance.specs.declared.command.Command.TheVariants.{Drill, Extract, OverStore}
+use Rattle.drill_feed.specs.declared.drill.Drill.{Drill as DrillState}
 use Rattle.archiver_appliance.specs.declared.command.StoreCommand.{StoreCommand}
 use Rattle.archiver_appliance.specs.declared.command.StoreCommand.TheVariants as command
 use Rattle.archiver_appliance.specs.declared.status.Status.{Status}
@@ -26,7 +27,8 @@ use Rattle.archiver_appliance.specs.Text.{Extracts}
 use Rattle.archiver_appliance.proofs.Opening.{first_stands}
 use Rattle.archiver_appliance.specs.Serving.{first_of}
 use Rattle.archiver_appliance.specs.declared.serve_words.ServeWords.{ServeWords}
-use Rattle.archiver_appliance.proofs.Words.{servable_same, serve_same, not_both}
+use Rattle.archiver_appliance.specs.Drilling.{Drills}
+use Rattle.archiver_appliance.proofs.Words.{drill_alone, servable_same, serve_same, not_both}
 use Rattle.etl_rules.specs.Config.{ConfigState}
 use Rattle.feed_session.specs.Session.{ReadsOf}
 use Rattle.feed_session.specs.declared.end.Fed.{Fed}
@@ -194,9 +196,22 @@ module _ {R : Type 0} (faults : R → ℕ) (words : List (List ℕ)) (config : C
   ends_same command.Check (command.Serve n) one two ends = absurd (serving_same command.Check (command.Serve n) one two tt)
   ends_same c d one two ends = ends
 
+  drilled_well : (hours : ℕ) (s : Status) → s ≡ status → Unless status SinkFault → Drills hours old.sink new.sink s → (number_of s ≡ 13) ⊎ EndsWell (number_of s)
+  drilled_well hours Done is six w = inr (inl refl)
+  drilled_well hours SinkFault is six w = absurd (six (sym is))
+  drilled_well hours OutOfMemory is six w = inr (inr refl)
+  drilled_well hours Spent is six w = inl refl
+  drilled_well hours s is six w = absurd w
+
+  drill_done : (d : DrillState) (b : Command) → (e : DrillState) × (b ≡ Drill e) → Unless status SinkFault → Does config tells b old new status → EndsWellBy (Drill d) (number_of status)
+  drill_done d b same six does = drilled_well same.0.hours status refl six (subst (λ (x : Command). Does config tells x old new status) same.1 does)
+
   done_by : (a b : Command) → IsCommand words a → IsCommand words b → CanBeDone config tells a old → IsQuiet a old new failed → (IsServing a → status ≡ DoorFault → ⊥) → Does config tells b old new status → EndsWellBy a (number_of status)
   done_by (Extract q) (Extract r) one two can quiet door does =
       extract_done r old.source old.sink new.sink status can (no_source faults old new status failed caused quiet.0) (no_sink faults old new status failed caused quiet.1) does
+  done_by (Extract q) (Drill e) one two can quiet door does = let same = drill_alone words (Extract q) e one two in absurd (cc (same.1))
+  done_by (Drill d) b one two can quiet door does = drill_done d b (drill_alone words b d two one) (no_sink faults old new status failed caused quiet) does
+  done_by (OverStore c) (Drill e) one two can quiet door does = let same = drill_alone words (OverStore c) e one two in absurd (cc (same.1))
   done_by (Extract q) (OverStore d) one two can quiet door does = absurd (not_both words q d one two)
   done_by (OverStore c) (Extract r) one two can quiet door does = absurd (not_both words r c two one)
   done_by (OverStore c) (OverStore d) one two can quiet door does =

@@ -8,6 +8,9 @@ pub mod Completeness
 pub mod Counting
 pub mod Damages
 pub mod Doing
+pub mod DrillReads
+pub mod DrillRuns
+pub mod Drills
 pub mod Extracting
 pub mod Gotten
 pub mod Ingests
@@ -23,4 +26,5 @@ pub mod Services
 pub mod ServingAll
 pub mod StoppedMoves
 pub mod Stream
+pub mod Tallies
 pub mod Words

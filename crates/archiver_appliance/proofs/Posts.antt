@@ -28,7 +28,7 @@ use Rattle.link_service.specs.Doors.{IsServed, ServesDoorAt}
 use Rattle.link_service.specs.Service.{PostWork, ServesAll, ServesPost, at_door, at_flushes, at_moves, fails, finds_none, told_of, told_want}
 use Rattle.archiver_appliance.specs.Serving.{CameOfPosts, DoorLeft, EachOf, HasFailed, IsUnserved, NobodyServed, PostServed, PostsServed, ServesPosts, are_not, are_served, first_of, status_of}
 use Rattle.archiver_appliance.specs.declared.command.Command.{Command}
-use Rattle.archiver_appliance.specs.declared.command.Command.TheVariants.{Extract, OverStore}
+use Rattle.archiver_appliance.specs.declared.command.Command.TheVariants.{Drill, Extract, OverStore}
 use Rattle.archiver_appliance.specs.declared.command.StoreCommand.TheVariants as asked
 use Rattle.archiver_appliance.specs.declared.serve_words.ServeWords.{ServeWords}
 use Rattle.archiver_appliance.specs.Command.{IsCommand}
@@ -191,6 +191,7 @@ module _ {D L : Type 0} (is_closed : D → Bool) (faults : D → ℕ) (ledger : 
   pub doors_hold : (command : Command) → IsCommand words command → AreDoorsQuiet faults command olds news → IsServing command → status ≡ DoorFault → ⊥
   doors_hold (OverStore (asked.Serve numbers)) asks quiet serving is = no_door is_closed faults ledger Is status olds news (serves numbers asks) quiet is
   doors_hold (Extract query) asks quiet serving is = serving
+  doors_hold (Drill drill) asks quiet serving is = serving
   doors_hold (OverStore asked.Ingest) asks quiet serving is = serving
   doors_hold (OverStore (asked.Get name query)) asks quiet serving is = serving
   doors_hold (OverStore asked.Etl) asks quiet serving is = serving

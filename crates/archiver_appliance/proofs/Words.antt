@@ -5,13 +5,14 @@ use Rattle.std.specs.List.{list_any}
 use Rattle.std.proofs.lemmas.Bool.{false≢true}
 use Rattle.series_model.specs.declared.sample.Query.{Query}
 use Rattle.archiver_appliance.specs.declared.command.Command.{Command}
-use Rattle.archiver_appliance.specs.declared.command.Command.TheVariants.{Extract, OverStore}
+use Rattle.archiver_appliance.specs.declared.command.Command.TheVariants.{Drill, Extract, OverStore}
 use Rattle.archiver_appliance.specs.declared.command.StoreCommand.{StoreCommand}
 use Rattle.archiver_appliance.specs.declared.command.StoreCommand.TheVariants.{Ingest, Get, Etl, Status, Check, Serve}
 use Rattle.pv_catalog.specs.Rows.{HasName}
 use Rattle.three_stores.specs.Stores.{Stores}
 use Rattle.archiver_appliance.specs.Run.{IsReport, IsServable}
-use Rattle.archiver_appliance.specs.ServeWords.{AsksToServe}
+use Rattle.archiver_appliance.specs.ServeWords.{AsksToDrill, AsksToServe}
+use Rattle.drill_feed.specs.declared.drill.Drill.{Drill as DrillState}
 use Rattle.archiver_appliance.specs.declared.serve_words.ServeWords.{ServeWords}
 use Rattle.archiver_appliance.specs.Command.{AsksFor, IsCommand, IsFaulty, IsInterval, has_dash}
 
@@ -47,6 +48,7 @@ letter words = get_or (get_or words 0 []) 0 0 + get_or (get_or words 0 []) 2 0
 
 letter_of : Command → ℕ
 letter_of (Extract query) = 217
+letter_of (Drill drill) = 205
 letter_of (OverStore Ingest) = 208
 letter_of (OverStore (Get name query)) = 219
 letter_of (OverStore Etl) = 209
@@ -57,6 +59,7 @@ letter_of (OverStore (Serve numbers)) = 229
 asked_letter : (words : List (List ℕ)) (c : Command) → AsksFor c words → letter words ≡ letter_of c
 unfolding letter letter_of
 asked_letter words (Extract query) h = ap letter h.2
+asked_letter words (Drill drill) h = ap letter h.written
 asked_letter words (OverStore (Get name query)) h = ap letter h.2
 asked_letter words (OverStore Ingest) h = ap letter h
 asked_letter words (OverStore Etl) h = ap letter h
@@ -116,6 +119,14 @@ unfolding letter_of
 not_both words q Ingest one two = omega (arith, same_letter words (Extract q) (OverStore Ingest) one two)
 not_both words q c one two = omega (arith, same_letter words (Extract q) (OverStore c) one two)
 
+-- words that ask for a drill ask for nothing else
+pub drill_alone : (words : List (List ℕ)) (c : Command) (d : DrillState) → IsCommand words c → IsCommand words (Drill d) → (e : DrillState) × (c ≡ Drill e)
+unfolding letter_of
+drill_alone words (Drill e) d one two = (e, refl)
+drill_alone words (Extract q) d one two = absurd (omega (arith, same_letter words (Extract q) (Drill d) one two))
+drill_alone words (OverStore Ingest) d one two = absurd (omega (arith, same_letter words (OverStore Ingest) (Drill d) one two))
+drill_alone words (OverStore c) d one two = absurd (omega (arith, same_letter words (OverStore c) (Drill d) one two))
+
 -- FAULTY WORDS
 
 dashes : (words : List (Bor (List ℕ))) → list_any has_dash (texts words) ≡ list_any (λ w. has_dash w.now) words
@@ -139,6 +150,7 @@ not_extract word from to none (Extract query) h =
     let first : h.0 ≡ from = sym (ap (λ (l : List (List ℕ)). get_or l 1 []) h.2) in
     let last : h.1 ≡ to = sym (ap (λ (l : List (List ℕ)). get_or l 2 []) h.2) in
     none query (subst (λ (t : List ℕ). IsInterval from t query) last (subst (λ (f : List ℕ). IsInterval f h.1 query) first h.3))
+not_extract word from to none (Drill drill) h = let long : 3 ≡ 2 = ap length h.written in omega (arith, long)
 not_extract word from to none (OverStore Ingest) h = let long : 3 ≡ 1 = ap length h in omega (arith, long)
 not_extract word from to none (OverStore (Get name query)) h = let long : 3 ≡ 4 = ap length h.2 in omega (arith, long)
 not_extract word from to none (OverStore Etl) h = let long : 3 ≡ 1 = ap length h in omega (arith, long)
@@ -148,6 +160,7 @@ not_extract word from to none (OverStore (Serve numbers)) h = let long : 3 ≡ 5
 
 pub not_get : (word name from to : List ℕ) → ((query : Query) → IsInterval from to query → ⊥) → (c : Command) → AsksFor c (word ∷ name ∷ from ∷ to ∷ []) → ⊥
 not_get word name from to none (Extract query) h = let long : 4 ≡ 3 = ap length h.2 in omega (arith, long)
+not_get word name from to none (Drill drill) h = let long : 4 ≡ 2 = ap length h.written in omega (arith, long)
 not_get word name from to none (OverStore Ingest) h = let long : 4 ≡ 1 = ap length h in omega (arith, long)
 not_get word name from to none (OverStore (Get other query)) h =
     let first : h.0 ≡ from = sym (ap (λ (l : List (List ℕ)). get_or l 2 []) h.2) in
@@ -159,15 +172,31 @@ not_get word name from to none (OverStore Check) h = let long : 4 ≡ 1 = ap len
 not_get word name from to none (OverStore (Serve numbers)) h = let long : 4 ≡ 5 = ap length h.written in omega (arith, long)
 
 -- no command but `serve` has another number of words
-pub other_length : (words : List (List ℕ)) → length words ≢ 1 → length words ≢ 3 → length words ≢ 4 → ((numbers : ServeWords) → AsksToServe words numbers → ⊥) → (c : Command) → AsksFor c words → ⊥
-other_length words one three four serves (Extract query) h = three (ap length h.2)
-other_length words one three four serves (OverStore Ingest) h = one (ap length h)
-other_length words one three four serves (OverStore (Get name query)) h = four (ap length h.2)
-other_length words one three four serves (OverStore Etl) h = one (ap length h)
-other_length words one three four serves (OverStore Status) h = one (ap length h)
-other_length words one three four serves (OverStore Check) h = one (ap length h)
-other_length words one three four serves (OverStore (Serve numbers)) h = serves numbers h
+pub other_length : (words : List (List ℕ)) → length words ≢ 1 → length words ≢ 2 → length words ≢ 3 → length words ≢ 4 → ((numbers : ServeWords) → AsksToServe words numbers → ⊥) → (c : Command) → AsksFor c words → ⊥
+other_length words one two three four serves (Extract query) h = three (ap length h.2)
+other_length words one two three four serves (Drill drill) h = two (ap length h.written)
+other_length words one two three four serves (OverStore Ingest) h = one (ap length h)
+other_length words one two three four serves (OverStore (Get name query)) h = four (ap length h.2)
+other_length words one two three four serves (OverStore Etl) h = one (ap length h)
+other_length words one two three four serves (OverStore Status) h = one (ap length h)
+other_length words one two three four serves (OverStore Check) h = one (ap length h)
+other_length words one two three four serves (OverStore (Serve numbers)) h = serves numbers h
 
-pub other_none : (words : List (List ℕ)) → length words ≢ 1 → length words ≢ 3 → length words ≢ 4 → (r : Option Command) → IfNone r ((numbers : ServeWords) → AsksToServe words numbers → ⊥) → IfNone r ((c : Command) → AsksFor c words → ⊥)
-other_none words one three four None serves = λ c h. other_length words one three four serves c h
-other_none words one three four (Some c) serves = tt
+pub other_none : (words : List (List ℕ)) → length words ≢ 1 → length words ≢ 2 → length words ≢ 3 → length words ≢ 4 → (r : Option Command) → IfNone r ((numbers : ServeWords) → AsksToServe words numbers → ⊥) → IfNone r ((c : Command) → AsksFor c words → ⊥)
+other_none words one two three four None serves = λ c h. other_length words one two three four serves c h
+other_none words one two three four (Some c) serves = tt
+
+-- two words are of no command but `drill`
+pub not_drill : (words : List (List ℕ)) → length words ≡ 2 → ((hours : ℕ) → AsksToDrill words hours → ⊥) → (c : Command) → AsksFor c words → ⊥
+not_drill words two none (Extract query) h = let long : length words ≡ 3 = ap length h.2 in omega (arith, two, long)
+not_drill words two none (Drill drill) h = none drill.hours h
+not_drill words two none (OverStore Ingest) h = let long : length words ≡ 1 = ap length h in omega (arith, two, long)
+not_drill words two none (OverStore (Get name query)) h = let long : length words ≡ 4 = ap length h.2 in omega (arith, two, long)
+not_drill words two none (OverStore Etl) h = let long : length words ≡ 1 = ap length h in omega (arith, two, long)
+not_drill words two none (OverStore Status) h = let long : length words ≡ 1 = ap length h in omega (arith, two, long)
+not_drill words two none (OverStore Check) h = let long : length words ≡ 1 = ap length h in omega (arith, two, long)
+not_drill words two none (OverStore (Serve numbers)) h = let long : length words ≡ 5 = ap length h.written in omega (arith, two, long)
+
+pub drill_none : (words : List (List ℕ)) → length words ≡ 2 → (r : Option Command) → IfNone r ((hours : ℕ) → AsksToDrill words hours → ⊥) → IfNone r ((c : Command) → AsksFor c words → ⊥)
+drill_none words two None none = λ c h. not_drill words two none c h
+drill_none words two (Some c) none = tt

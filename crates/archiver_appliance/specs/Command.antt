@@ -4,10 +4,10 @@ use Rattle.std.specs.List.{list_any}
 use Rattle.arch_time.specs.Iso.{IsIso}
 use Rattle.series_model.specs.declared.sample.Query.{Query}
 use Rattle.archiver_appliance.specs.declared.command.Command.{Command}
-use Rattle.archiver_appliance.specs.declared.command.Command.TheVariants.{Extract, OverStore}
+use Rattle.archiver_appliance.specs.declared.command.Command.TheVariants.{Drill, Extract, OverStore}
 use Rattle.archiver_appliance.specs.declared.command.StoreCommand.{StoreCommand}
 use Rattle.archiver_appliance.specs.declared.command.StoreCommand.TheVariants.{Ingest, Get, Etl, Status, Check, Serve}
-use Rattle.archiver_appliance.specs.ServeWords.{AsksToServe}
+use Rattle.archiver_appliance.specs.ServeWords.{AsksToDrill, AsksToServe}
 
 -- two texts and the two moments that they tell
 abbrev pub IsInterval : List ℕ → List ℕ → Query → Type 0
@@ -16,6 +16,7 @@ IsInterval from to query = IsIso from query.from × IsIso to query.to
 -- the words that ask for a command
 abbrev pub AsksFor : Command → List (List ℕ) → Type 0
 AsksFor (Extract query) words = (from : List ℕ) × (to : List ℕ) × (words ≡ codes "extract" ∷ from ∷ to ∷ []) × IsInterval from to query
+AsksFor (Drill drill) words = AsksToDrill words drill.hours
 AsksFor (OverStore Ingest) words = words ≡ codes "ingest" ∷ []
 AsksFor (OverStore (Get name query)) words = (from : List ℕ) × (to : List ℕ) × (words ≡ codes "get" ∷ name.now ∷ from ∷ to ∷ []) × IsInterval from to query
 AsksFor (OverStore Etl) words = words ≡ codes "etl" ∷ []

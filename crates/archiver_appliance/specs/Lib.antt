@@ -2,6 +2,7 @@ pub mod Acting
 pub mod Answer
 pub mod Command
 pub mod Complaint
+pub mod Drilling
 pub mod Extract
 pub mod Ingesting
 pub mod Judging
@@ -13,4 +14,5 @@ pub mod Run
 pub mod ServeWords
 pub mod Serving
 pub mod Status
+pub mod Tallying
 pub mod Text

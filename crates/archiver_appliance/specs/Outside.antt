@@ -9,7 +9,7 @@ use Rattle.disk_model.specs.Files.{Name, Files, Rose as DiskRose}
 use Rattle.disk_model.specs.Past.{Past}
 use Rattle.disk_model.specs.declared.disk.Disk.{Ghosts as OfDisk}
 use Rattle.archiver_appliance.specs.declared.command.Command.{Command}
-use Rattle.archiver_appliance.specs.declared.command.Command.TheVariants.{Extract, OverStore}
+use Rattle.archiver_appliance.specs.declared.command.Command.TheVariants.{Drill, Extract, OverStore}
 use Rattle.archiver_appliance.specs.declared.status.Status.{Status}
 use Rattle.archiver_appliance.specs.declared.status.Status.TheVariants.{SourceFault, SinkFault, DiskFault}
 
@@ -67,5 +67,6 @@ IsCaused {R} faults old new = IsCausedBy faults (Rose old.read_faults new.read_f
 -- No count of what a command uses rose, and no file is handed out.
 abbrev pub IsQuiet : {R : Type 0} → Command → Outside → Outside → Option R → Type 0
 IsQuiet {R} (Extract query) old new failed = (Rose old.read_faults new.read_faults → ⊥) × (Rose old.write_faults new.write_faults → ⊥)
+IsQuiet {R} (Drill drill) old new failed = Rose old.write_faults new.write_faults → ⊥
 IsQuiet {R} (OverStore command) old new failed =
     (Rose old.read_faults new.read_faults → ⊥) × (Rose old.write_faults new.write_faults → ⊥) × (DiskRose old.disk_faults new.disk_faults → ⊥) × (failed ≡ None)

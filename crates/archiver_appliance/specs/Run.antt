@@ -18,13 +18,14 @@ use Rattle.three_reopen.specs.Reopen.{HoldsEither, OpensEither, StillHolds, stor
 use Rattle.three_reopen.specs.Verdict.{IsWhole, Listings}
 use Rattle.three_reports.specs.Status.{status_text}
 use Rattle.archiver_appliance.specs.declared.command.Command.{Command}
-use Rattle.archiver_appliance.specs.declared.command.Command.TheVariants.{Extract, OverStore}
+use Rattle.archiver_appliance.specs.declared.command.Command.TheVariants.{Drill, Extract, OverStore}
 use Rattle.archiver_appliance.specs.declared.command.StoreCommand.{StoreCommand}
 use Rattle.archiver_appliance.specs.declared.command.StoreCommand.TheVariants as command
 use Rattle.archiver_appliance.specs.declared.status.Status.{Status}
 use Rattle.archiver_appliance.specs.declared.status.Status.TheVariants.{Done, Usage, Refused, NoSuchVariable, SourceFault, SinkFault, DiskFault, Damaged, OutOfMemory, DoorFault, Spent}
 use Rattle.archiver_appliance.specs.Command.{IsCommand, IsFaulty}
 use Rattle.archiver_appliance.specs.Complaint.{Complains, complaint_of}
+use Rattle.archiver_appliance.specs.Drilling.{Drills}
 use Rattle.archiver_appliance.specs.Ingesting.{IngestsInto}
 use Rattle.archiver_appliance.specs.Judging.{Judges, IsExact}
 use Rattle.archiver_appliance.specs.Moving.{MovesFrom}
@@ -159,6 +160,7 @@ pub record Serves (config : ConfigState) (asked : StoreCommand) (old new : Outsi
 -- What a command did, so far as its status tells. Of what a disk holds nothing is said where it doesn't tell its files.
 abbrev pub Does : ConfigState → Bool → Command → Outside → Outside → Status → Type 0
 Does config tells (Extract query) old new status = Extracts query old.source old.sink new.sink status
+Does config tells (Drill drill) old new status = Drills drill.hours old.sink new.sink status
 Does config tells (OverStore asked) old new status = EndsAs asked old.source status × (IsTrue tells → Serves config asked old new status × IsExact (stores_of config) asked old.files status)
 
 -- The words were obeyed, or they are of no command.
@@ -202,14 +204,16 @@ pub record IsServed (config : ConfigState) (tells : Bool) (asked : StoreCommand)
 -- what a command needs to be done
 abbrev pub CanBeDone : ConfigState → Bool → Command → Outside → Type 0
 CanBeDone config tells (Extract query) old = IsGoodSource old.source
+CanBeDone config tells (Drill drill) old = Unit {0}
 CanBeDone config tells (OverStore asked) old = IsServed config tells asked old
 
 -- it was done, or memory was wanting
 abbrev pub EndsWell : ℕ → Type 0
 EndsWell number = (number ≡ 0) ⊎ (number ≡ 9)
 
--- so a command ends, or a service that had no act left, which no count tells
+-- so a command ends, or a service or a drill that had no act left, which no count tells
 abbrev pub EndsWellBy : Command → ℕ → Type 0
+EndsWellBy (Drill drill) number = (number ≡ 13) ⊎ EndsWell number
 EndsWellBy (OverStore (command.Serve numbers)) number = (number ≡ 13) ⊎ EndsWell number
 EndsWellBy _ number = EndsWell number
 

@@ -1,4 +1,4 @@
--- The words of `serve`. A number is written in decimal, without a sign or a zero in front of other digits.
+-- The words of `serve` and of `drill`. A number is written in decimal, without a sign or a zero in front of other digits.
 use Rattle.std.specs.Prelude.{◌≡◌, ℕ, List, [], ◌∷◌, codes, decimal}
 use Rattle.std.specs.Int.{IsInRange}
 use Rattle.archiver_appliance.specs.declared.serve_words.ServeWords.{ServeWords}
@@ -10,3 +10,8 @@ pub record AsksToServe (words : List (List ℕ)) (asked : ServeWords) : Type 0 w
   pub http_port : IsInRange 1 65535 asked.http_port
   pub workers : IsInRange 1 64 asked.workers
   pub links : IsInRange 0 999999999 asked.links
+
+-- drill N
+pub record AsksToDrill (words : List (List ℕ)) (hours : ℕ) : Type 0 where
+  pub written : words ≡ codes "drill" ∷ decimal hours ∷ []
+  pub range : IsInRange 1 200 hours

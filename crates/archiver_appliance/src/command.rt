@@ -5,10 +5,11 @@ ghost use Rattle.series_model.specs.declared.sample.Query.{Query};
 ghost use Rattle.archiver_appliance.specs.declared.command.Command.{Command as CommandValue};
 ghost use Rattle.archiver_appliance.specs.declared.serve_words.ServeWords.{ServeWords as Numbers};
 ghost use Rattle.archiver_appliance.specs.Command.{IsInterval, AsksFor, IsCommand, IsFaulty, has_dash};
-ghost use Rattle.archiver_appliance.specs.ServeWords.{AsksToServe};
+ghost use Rattle.archiver_appliance.specs.ServeWords.{AsksToDrill, AsksToServe};
 
-use crate::serve_words::{ServeWords, serve_words};
+use crate::serve_words::{ServeWords, drill_words, serve_words};
 use arch_time::parse_iso;
+use drill_feed::Drill;
 use series_model::Query;
 
 /// What the words ask for.
@@ -16,6 +17,8 @@ use series_model::Query;
 pub enum Command<'a> {
     /// `extract FROM TO`
     Extract { query: Query },
+    /// `drill N`
+    Drill(Drill),
     /// A command over the archive.
     OverStore(StoreCommand<'a>),
 }
@@ -74,8 +77,17 @@ fn asked_for<'a>(words: &[&'a str]) -> Option<Command<'a>>
         [word] => bare_command(word),
         [word, from, to] => extract_command(word, from, to),
         [word, name, from, to] => get_command(word, name, from, to),
+        [_, _] => drill_command(words),
         _ => serve_command(words),
     }
+}
+
+// The command that drills, where the words are of it.
+fn drill_command<'a>(words: &[&str]) -> Option<Command<'a>>
+    ensures found { IfSome result (λ c. AsksFor c (map (λ w. w.now) words.now)) }
+    ensures none { IfNone result ((hours : ℕ) → AsksToDrill (map (λ w. w.now) words.now) hours → ⊥) }
+{
+    Some(Command::Drill(Drill::new(drill_words(words)?)?))
 }
 
 // The command that serves, where the words are of it.

@@ -17,6 +17,8 @@ mod command;
 mod command_tests;
 mod complaint;
 mod doors;
+mod drill_report;
+mod drilling;
 mod extract;
 #[cfg(test)]
 mod extract_tests;
@@ -36,6 +38,7 @@ mod serve_words;
 mod serving;
 mod status;
 mod stopping;
+mod tallying;
 mod telling;
 
 ghost use Rattle.std.specs.Prelude.{◌≤◌, ◌<◌, ◌^◌, length, vec_len, IfOk};

@@ -1,9 +1,10 @@
 // A run of the program, from its words to its status.
 ghost use Rattle.std.specs.Prelude.{◌≡◌, ◌↔◌, ◌≤◌, ◌<◌, ◌^◌, IsTrue, length, map};
 ghost use Rattle.series_model.specs.declared.sample.Query.{Query};
+ghost use Rattle.drill_feed.specs.declared.drill.Drill.{Drill as DrillValue};
 ghost use Rattle.three_reopen.specs.Reopen.{IsUnopened};
 ghost use Rattle.archiver_appliance.specs.declared.command.Command.{Command as CommandValue};
-ghost use Rattle.archiver_appliance.specs.declared.command.Command.TheVariants.{Extract, OverStore};
+ghost use Rattle.archiver_appliance.specs.declared.command.Command.TheVariants.{Drill as DrillOf, Extract, OverStore};
 ghost use Rattle.archiver_appliance.specs.declared.command.StoreCommand.{StoreCommand as Asked};
 ghost use Rattle.archiver_appliance.specs.declared.command.StoreCommand.TheVariants as asked;
 ghost use Rattle.archiver_appliance.specs.declared.serve_words.ServeWords.{ServeWords as Numbers};
@@ -17,6 +18,7 @@ ghost use Rattle.archiver_appliance.specs.Run.{Obeys, Ran, IsRefused, IsReport, 
 
 use crate::command::{Command, command_of};
 use crate::complaint::complain;
+use crate::drilling::run_drill;
 use crate::extract::extract;
 use crate::opened::{Came, serve};
 use crate::status::Status;
@@ -52,7 +54,7 @@ pub struct Ended<D: Disk> {
 /// | 9 | memory was wanting |
 /// | 11 | `serve`: a door's count of faults rose |
 /// | 12 | the disk keeps another granularity than the configured one |
-/// | 13 | `serve`: no act was left to make, or no number of a pass to draw |
+/// | 13 | `serve`, `drill`: no act was left to make, or no number of a pass to draw |
 ///
 /// `serve` serves the posts to the ends of their doors; every other command leaves them as they are. Of what befell a service it tells the
 /// first of 11, 7, 9 and 13.
@@ -91,6 +93,7 @@ where
     ensures usage { (result.status ≡ 2) ↔ IsFaulty (map (λ w. w.now) words.now) }
     ensures usage_does_nothing { result.status ≡ 2 → (source.new ≡ source.old) × (sink.new ≡ sink.old) × (result.disk ≡ disk) × (clock.new ≡ clock.old) × (posts.new ≡ posts.old) }
     ensures extract_alone { (query : Query) → IsCommand (map (λ w. w.now) words.now) (Extract query) → (result.disk ≡ disk) × (clock.new ≡ clock.old) }
+    ensures drill_alone { (drill : DrillValue) → IsCommand (map (λ w. w.now) words.now) (DrillOf drill) → (source.new ≡ source.old) × (result.disk ≡ disk) × (clock.new ≡ clock.old) }
     ensures ingest_alone { IsCommand (map (λ w. w.now) words.now) (OverStore asked.Ingest) → sink.new ≡ sink.old }
     ensures move_alone { IsCommand (map (λ w. w.now) words.now) (OverStore asked.Etl) → source.new ≡ source.old }
     ensures report_alone { (command : Asked) → IsCommand (map (λ w. w.now) words.now) (OverStore command) → IsReport command → (source.new ≡ source.old) × (clock.new ≡ clock.old) }
@@ -147,6 +150,7 @@ where
     ensures usage { result.status ≡ Status.Usage → IsFaulty (map (λ w. w.now) words.now) }
     ensures usage_does_nothing { result.status ≡ Status.Usage → (source.new ≡ source.old) × (sink.new ≡ sink.old) × (result.disk ≡ disk) × (clock.new ≡ clock.old) × (posts.new ≡ posts.old) }
     ensures extract_alone { (query : Query) → IsCommand (map (λ w. w.now) words.now) (Extract query) → (result.disk ≡ disk) × (clock.new ≡ clock.old) }
+    ensures drill_alone { (drill : DrillValue) → IsCommand (map (λ w. w.now) words.now) (DrillOf drill) → (source.new ≡ source.old) × (result.disk ≡ disk) × (clock.new ≡ clock.old) }
     ensures ingest_alone { IsCommand (map (λ w. w.now) words.now) (OverStore asked.Ingest) → sink.new ≡ sink.old }
     ensures move_alone { IsCommand (map (λ w. w.now) words.now) (OverStore asked.Etl) → source.new ≡ source.old }
     ensures report_alone { (command : Asked) → IsCommand (map (λ w. w.now) words.now) (OverStore command) → IsReport command → (source.new ≡ source.old) × (clock.new ≡ clock.old) }
@@ -164,6 +168,11 @@ where
         },
         Some(Command::Extract { query }) => Came {
             status: extract(alloc, query, source, sink),
+            disk,
+            failed: None,
+        },
+        Some(Command::Drill(drill)) => Came {
+            status: run_drill(rt, alloc, drill, sink),
             disk,
             failed: None,
         },

@@ -1,12 +1,13 @@
-// `serve` over doors, links and clocks in memory.
+// `serve` over doors, links and clocks in memory, and drills.
 ghost use Rattle.std.specs.Prelude.{◌<◌, ◌^◌, length};
 
-use crate::harness::{Unopened, empty, lines};
+use crate::harness::{Unopened, empty, lines, order_of, outcome_of};
 use crate::run::run;
 use edge_io::{ListClock, ListDoor, MemLink, MemSink, MemSource};
 use etl_rules::Config;
 use link_service::{Kind, Post};
 use std::alloc::{AllocError, Global};
+use std::process::Abort;
 use std::sync::Wait;
 use std::test::Fail;
 use std::thread::Threads;
@@ -116,5 +117,49 @@ fn a_disk_that_fails_at_its_opening_is_told(rt: HostRuntime) -> Result<(), Fail>
     assert_eq!(rt; status, 7);
     assert_eq!(rt; complaint.as_slice(), b"archappl: disk failed\n".as_slice());
     assert!(rt; posts[0].door.returned().is_empty());
+    Ok(())
+}
+
+const DRILL_OF_A_DAY: &[u8] =
+    b"DRILL:V0 1440 2024-01-01T00:00:00.000000000Z 2024-01-01T23:59:00.000000000Z
+DRILL:V1 1440 2024-01-01T00:00:01.000000000Z 2024-01-01T23:59:01.000000000Z
+DRILL:V2 1440 2024-01-01T00:00:02.000000000Z 2024-01-01T23:59:02.000000000Z
+DRILL:V3 1440 2024-01-01T00:00:03.000000000Z 2024-01-01T23:59:03.000000000Z
+tiers 12 4 0
+";
+
+// What a drill writes.
+fn drilled<R: Abort + Threads + Wait + Sync>(
+    rt: &R,
+    alloc: Global,
+    words: &str,
+) -> Result<Vec<u8>, Fail> {
+    let order = order_of(words, b"");
+    let (came, _) = outcome_of(
+        rt,
+        alloc,
+        order,
+        &Config::shipped(),
+        empty(alloc, &[])?,
+        100,
+    )?;
+    assert_eq!(rt; came.status, 0);
+    assert!(rt; came.complaint.is_empty());
+    Ok(came.output)
+}
+
+#[test]
+fn a_drill_of_a_day_writes_the_same_twice(rt: HostRuntime) -> Result<(), Fail> {
+    for _ in 0..2 {
+        let output = drilled(&rt, rt.alloc(), "drill 24")?;
+        assert_eq!(rt; output.as_slice(), DRILL_OF_A_DAY);
+    }
+    Ok(())
+}
+
+#[test]
+fn a_drill_of_four_days_has_files_in_each_store(rt: HostRuntime) -> Result<(), Fail> {
+    let output = drilled(&rt, rt.alloc(), "drill 96")?;
+    assert!(rt; output.ends_with(b"tiers 12 4 4\n"));
     Ok(())
 }

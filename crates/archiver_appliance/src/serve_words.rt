@@ -1,8 +1,8 @@
-// The words of `serve`, and the numbers that they tell.
+// The words of `serve` and of `drill`, and the numbers that they tell.
 ghost use Rattle.std.specs.Prelude.{◌≡◌, ℕ, ◌<◌, ◌^◌, ◌∷◌, [], IfSome, IfNone, codes, decimal, map};
 ghost use Rattle.std.specs.Int.{IsInRange};
 ghost use Rattle.archiver_appliance.specs.declared.serve_words.ServeWords.{ServeWords as ServeValue};
-ghost use Rattle.archiver_appliance.specs.ServeWords.{AsksToServe};
+ghost use Rattle.archiver_appliance.specs.ServeWords.{AsksToDrill, AsksToServe};
 
 use itoa::Buffer;
 
@@ -45,6 +45,17 @@ fn served(feed_port: &str, http_port: &str, workers: &str, links: &str) -> Optio
         workers: number(workers, 1, 64)?,
         links: number(links, 0, 999_999_999)?,
     })
+}
+
+/// The number of the words `drill N`, from 1 to 200. It is `None` exactly where the words aren't of this form. It takes no memory.
+pub fn drill_words(words: &[&str]) -> Option<u32>
+    ensures found { IfSome result (AsksToDrill (map (λ w. w.now) words.now)) }
+    ensures none { IfNone result ((hours : ℕ) → AsksToDrill (map (λ w. w.now) words.now) hours → ⊥) }
+{
+    match words {
+        ["drill", hours] => number(hours, 1, 200),
+        _ => None,
+    }
 }
 
 // The number in this range that the word is in decimal, without a sign or a zero in front of other digits.
@@ -97,5 +108,23 @@ fn serve_has_two_ports_its_workers_and_its_links(rt: HostRuntime) {
             asked.map(|s| (s.feed_port, s.http_port, s.workers, s.links)),
             numbers
         );
+    }
+}
+
+#[test]
+fn a_drill_has_its_hours(rt: HostRuntime) {
+    let table: [(&[&str], Option<u32>); 9] = [
+        (&["drill", "24"], Some(24)),
+        (&["drill", "1"], Some(1)),
+        (&["drill", "200"], Some(200)),
+        (&["drill", "201"], None),
+        (&["drill", "0"], None),
+        (&["drill", "024"], None),
+        (&["drill"], None),
+        (&["drill", "24", "1"], None),
+        (&["drills", "24"], None),
+    ];
+    for (words, hours) in table {
+        assert_eq!(rt; drill_words(words), hours);
     }
 }

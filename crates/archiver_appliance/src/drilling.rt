@@ -1,0 +1,214 @@
+// `drill N`: the stated workload over a disk, links and clocks in memory.
+ghost use Rattle.std.specs.Prelude.{◌≡◌, ◌≤◌, ◌<◌, List, IsTrue, true, IfOk};
+ghost use Rattle.edge_io.specs.Stream.{Rose};
+ghost use Rattle.etl_rules.specs.Config.{ConfigState};
+ghost use Rattle.three_stores.specs.Change.{Has};
+ghost use Rattle.three_stores.specs.Seen.{seen};
+ghost use Rattle.three_stores.specs.Stores.{Stores};
+ghost use Rattle.three_reopen.specs.Reopen.{IsUnopened, stores_of};
+ghost use Rattle.act_model.specs.History.{Done};
+ghost use Rattle.act_model.specs.Machine.{Machine};
+ghost use Rattle.archive_core.specs.Parts.{parts};
+ghost use Rattle.archive_core.specs.Stands.{Stands};
+ghost use Rattle.archiver_appliance.specs.Acting.{ActsAlone, IsFresh, IsOpenedOn};
+ghost use Rattle.archiver_appliance.specs.Drilling.{Drills, IsDrillText, OpensWell, shipped};
+
+use crate::drill_report::report;
+use crate::serving::serve_archive;
+use crate::status::Status;
+use act_model::{Registered, ask_register};
+use archive_actors::Alone;
+use archive_core::Archive;
+use disk_model::{Disk, MemDisk};
+use drill_feed::{DOORS, Drill, VARIABLES, about, name_of};
+use edge_io::{ListDoor, MemLink, Sink, write_whole};
+use etl_rules::Config;
+use link_service::{Kind, Post};
+use partition_names::Granularity;
+use pv_name::PvName;
+use serving_loops::{MoveErr, move_all_due};
+use std::alloc::{AllocError, Global};
+use std::sync::Wait;
+use std::thread::Threads;
+use three_reopen::laws::an_empty_disk_holds_nothing;
+use three_reopen::reopen;
+use three_stores::TierStore;
+
+/// What a drill lacks.
+#[derive(Drop)]
+pub enum Lack {
+    /// Acts, or numbers of passes.
+    Acts,
+    /// Memory. The disk and the doors are the drill's own, so a fault of theirs is a lack of memory too.
+    Memory,
+}
+
+impl From<AllocError> for Lack {
+    fn from(_err: AllocError) -> Lack {
+        Lack::Memory
+    }
+}
+
+/// Serves the feeds of the drill on an archive in memory, opens it again, moves what is due, and writes what it holds then: a line for each
+/// variable, and one for the files. Nothing is written before all of it is known.
+pub fn run_drill<R: Threads + Wait + Sync, K: Sink>(
+    rt: &R,
+    alloc: Global,
+    drill: Drill,
+    sink: &mut K,
+) -> Status
+    ensures drills { Drills drill.hours (K.written sink.old) (K.written sink.new) result }
+    ensures failed { result ≡ Status.SinkFault → Rose (K.write_faults sink.old) (K.write_faults sink.new) }
+    ensures faults { K.write_faults sink.old ≤ K.write_faults sink.new }
+{
+    match drilled(rt, alloc, drill) {
+        Ok(text) => match write_whole(sink, &text) {
+            Ok(()) => Status::Done,
+            Err(_) => Status::SinkFault,
+        },
+        Err(Lack::Acts) => Status::Spent,
+        Err(Lack::Memory) => Status::OutOfMemory,
+    }
+}
+
+// The text of the drill, over a disk in memory.
+fn drilled<R: Threads + Wait + Sync>(rt: &R, alloc: Global, drill: Drill) -> Result<Vec<u8>, Lack>
+    ensures { IfOk result (λ text. IsDrillText drill.hours text.items) }
+{
+    an_empty_disk_holds_nothing();
+    drill_on(rt, alloc, drill, MemDisk::new(alloc, &[], None)?)
+}
+
+// The text of the drill, over a disk that holds nothing.
+fn drill_on<R: Threads + Wait + Sync, D: Disk + Send>(
+    rt: &R,
+    alloc: Global,
+    drill: Drill,
+    disk: D,
+) -> Result<Vec<u8>, Lack>
+where
+    D::Reader: Send,
+    requires told { IsTrue D.tells }
+    requires unopened { IsTrue D.tells → IsUnopened (D.files disk) (D.opened disk) }
+    requires opens { OpensWell (stores_of shipped) (D.past disk) }
+    ensures { IfOk result (λ text. IsDrillText drill.hours text.items) }
+{
+    let disk = served(rt, alloc, drill, disk)?;
+    let mut archive = opened(alloc, disk, &Config::shipped(), 0)?;
+    moved(rt, &mut archive, drill.now())?;
+    report(alloc, &mut archive, drill)
+}
+
+// The disk once the feeds were served on it.
+fn served<R: Threads + Wait + Sync, D: Disk + Send>(
+    rt: &R,
+    alloc: Global,
+    drill: Drill,
+    disk: D,
+) -> Result<D, Lack>
+where
+    D::Reader: Send,
+    requires unopened { IsTrue D.tells → IsUnopened (D.files disk) (D.opened disk) }
+    requires opens { IsTrue D.tells → OpensWell (stores_of shipped) (D.past disk) }
+    ensures unopened { IfOk result (λ left. IsTrue D.tells → IsUnopened (D.files left) (D.opened left)) }
+    ensures opens { IfOk result (λ left. IsTrue D.tells → OpensWell (stores_of shipped) (D.past left)) }
+{
+    let mut posts = [post(alloc, drill, 0)?, post(alloc, drill, 1)?];
+    let mut clock = drill.clock(alloc)?;
+    let archive = begun(alloc, disk)?;
+    let Ok((told, archive)) = serve_archive(rt, alloc, archive, &mut posts, &mut clock) else {
+        return Err(Lack::Memory);
+    };
+    if told.spent {
+        return Err(Lack::Acts);
+    }
+    if told.memory || told.disk_fault || told.door_faults > 0 {
+        return Err(Lack::Memory);
+    }
+    Ok(archive.into_store().into_disk())
+}
+
+// The archive with the four variables, in which nothing moves by itself.
+fn begun<D: Disk>(alloc: Global, disk: D) -> Result<Archive<D>, Lack>
+    requires unopened { IsTrue D.tells → IsUnopened (D.files disk) (D.opened disk) }
+    requires opens { IsTrue D.tells → OpensWell (stores_of shipped) (D.past disk) }
+    ensures { IfOk result (λ archive. (m : Machine) × Stands D.tells (parts D.Disk archive) m × (m.rule.granularity ≡ stores_of shipped) × (IsTrue D.tells → m.told ≡ true)) }
+{
+    let mut archive = opened(alloc, disk, &unmoving(), DOORS)?;
+    for variable in 0..VARIABLES {
+        register(alloc, &mut archive, variable)?;
+    }
+    Ok(archive)
+}
+
+// The shipped settings but for these: no mover finds so many partitions that a move is due.
+fn unmoving() -> Config
+    ensures { stores_of result ≡ stores_of shipped }
+{
+    let granularity = [Granularity::Hour, Granularity::Day, Granularity::Year];
+    match Config::new(granularity, [u32::MAX, u32::MAX], [3, 1]) {
+        Some(config) => config,
+        None => unreachable!(),
+    }
+}
+
+// An archive on what the disk holds, which stands where the disk tells it.
+fn opened<D: Disk>(alloc: Global, disk: D, config: &Config, doors: u32) -> Result<Archive<D>, Lack>
+    requires unopened { IsTrue D.tells → IsUnopened (D.files disk) (D.opened disk) }
+    requires opens { IsTrue D.tells → OpensWell (stores_of config.now) (D.past disk) }
+    ensures { IfOk result (λ archive. (held : Stores) × (IsTrue D.tells → IsTrue held.stands) × (m : Machine) × IsOpenedOn D.tells config.now held m × Stands D.tells (parts D.Disk archive) m) }
+{
+    match reopen(alloc, disk, config) {
+        Ok(store) => on_stores(alloc, store, doors),
+        Err(_) => Err(Lack::Memory),
+    }
+}
+
+// An archive on stores that were just opened.
+fn on_stores<D: Disk>(alloc: Global, store: TierStore<D>, doors: u32) -> Result<Archive<D>, Lack>
+    requires fresh { IsFresh D.Disk store }
+    ensures { IfOk result (λ archive. (held : Stores) → Has D.tells (seen D.Disk store) held → (m : Machine) × IsOpenedOn D.tells store.config held m × Stands D.tells (parts D.Disk archive) m) }
+{
+    match Archive::of(alloc, store, doors) {
+        Ok(archive) => Ok(archive),
+        Err(_) => Err(Lack::Memory),
+    }
+}
+
+fn register<D: Disk>(alloc: Global, archive: &mut Archive<D>, variable: u32) -> Result<(), Lack>
+    requires known { variable < VARIABLES }
+    requires stands { (m : Machine) × Stands D.tells (parts D.Disk archive.old) m }
+    ensures { (done : List Done) × ActsAlone D.Disk archive.old done archive.new }
+{
+    let Ok(name) = PvName::new(alloc, name_of(variable).as_bytes()) else {
+        return Err(Lack::Memory);
+    };
+    let mut actor = Alone::new(archive, 0);
+    match ask_register(&mut actor, name, about(alloc)) {
+        Ok(Registered::Registered { .. }) => Ok(()),
+        Ok(_) => Err(Lack::Memory),
+        Err(_) => Err(Lack::Acts),
+    }
+}
+
+fn post(alloc: Global, drill: Drill, door: u32) -> Result<Post<ListDoor<MemLink>>, AllocError>
+    requires known { door < DOORS }
+{
+    Ok(Post {
+        kind: Kind::Feed,
+        door: drill.door(alloc, door)?,
+    })
+}
+
+// Moves all that is due.
+fn moved<D: Disk>(rt: &impl Wait, archive: &mut Archive<D>, now: u64) -> Result<(), Lack>
+    requires stands { (m : Machine) × Stands D.tells (parts D.Disk archive.old) m }
+    ensures { (done : List Done) × ActsAlone D.Disk archive.old done archive.new }
+{
+    let mut actor = Alone::new(archive, 0);
+    match move_all_due(rt, &mut actor, now) {
+        Ok(_) => Ok(()),
+        Err(MoveErr::Spent) => Err(Lack::Acts),
+        Err(_) => Err(Lack::Memory),
+    }
+}
