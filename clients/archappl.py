@@ -479,6 +479,20 @@ def run_details(options):
         print(json.dumps(details(options.server, pv)))
 
 
+def run_silent(options):
+    """Writes the variables that are archived and had no sample for so long, with the last one's time."""
+    since = sample_text.moment_of(options.since, time.time_ns())
+    quiet = False
+    for pv in options.pv or names(options.server):
+        if status(options.server, pv) != "Being archived":
+            continue
+        times = newest(options.server, pv).times
+        if not len(times) or int(times[-1].astype("int64")) < sample_text.nanoseconds(since):
+            quiet = True
+            print(pv, f"{times[-1]}Z" if len(times) else "none")
+    return 1 if quiet else 0
+
+
 def run_names(options):
     """Writes all names."""
     for name in names(options.server):
@@ -548,6 +562,9 @@ def add_words(command):
     feed_words = command("feed", run_feed)
     feed_words.add_argument("--register", action="store_true", help="register the variables that aren't in the archive")
     feed_words.add_argument("stream", nargs="?", help="a file; standard input where it is left out")
+    silent_words = command("silent", run_silent)
+    silent_words.add_argument("--since", default="10m", help="a time, or so long ago: 90s, 15m, 1h, 7d")
+    silent_words.add_argument("pv", nargs="*", help="names of variables; all where left out")
     command("names", run_names)
     command("flush", run_flush)
 
@@ -556,7 +573,7 @@ def main():
     """Does what the words ask for."""
     options = parser_of_words().parse_args()
     try:
-        options.run(options)
+        return options.run(options) or 0
     except (ArchiverError, pb_stream.BadStream, OSError, ValueError) as error:
         if isinstance(error, BrokenPipeError):
             raise
@@ -564,7 +581,6 @@ def main():
         return 1
     except KeyboardInterrupt:
         return 130
-    return 0
 
 
 if __name__ == "__main__":

@@ -13,6 +13,7 @@ import subprocess
 import sys
 import threading
 import time
+import urllib.request
 
 import archappl
 import drawing
@@ -319,6 +320,62 @@ def watched(_, service):
             process.kill()
 
 
+def silent(_, service):
+    """Variables without new samples are told, and those that are paused or have new ones aren't."""
+    where, now = dict(os.environ, ARCHAPPL_SERVER=service.address), time.time_ns() // SECOND * SECOND
+    for name, ages in (("S:NEW", (30,)), ("S:OLD", (7_200, 3_000)), ("S:NONE", ()), ("S:PAUSED", (3_600,))):
+        archappl.archive(service.address, name, "SCALAR_INT")
+        samples = [(now - age * SECOND, 1) for age in ages]
+        for moment, value in samples:
+            header = pb_stream.Header(5, name, time.gmtime(moment // SECOND).tm_year)
+            archappl.send(service.address, [pb_stream.chunk(header, [(moment, value)])])
+    archappl.pause(service.address, "S:PAUSED")
+    told = run("archappl.py", "silent", status=1, environment=where)[0].decode()
+    want("who is silent", told, f"S:OLD {serve_model.iso(now - 3_000 * SECOND)}\nS:NONE none\n")
+    told = run("archappl.py", "silent", "--since", "1h", status=1, environment=where)[0].decode()
+    want("who is for an hour", told, "S:NONE none\n")
+    want("one of them", run("archappl.py", "silent", "S:NEW", environment=where)[0], b"")
+
+
+def numbers_for_prometheus(_, service):
+    """What the exporter tells of a service, and of one that is away."""
+    moment = (time.time_ns() // SECOND - 90) * SECOND
+    for name, count in (("E:A", 3), ("E:B", 0)):
+        archappl.archive(service.address, name, "SCALAR_INT")
+        header = pb_stream.Header(5, name, time.gmtime(moment // SECOND).tm_year)
+        archappl.send(service.address, [pb_stream.chunk(header, [(moment - at * SECOND, at)]) for at in range(count - 1, -1, -1)])
+    command = [sys.executable, CLIENTS / "exporter", "--server", service.address, "--listen", "127.0.0.1:0"]
+    with subprocess.Popen(command, stderr=subprocess.PIPE, text=True, env=service.environment) as process:
+        try:
+            address = process.stderr.readline().split()[-1]
+
+            def numbers():
+                with urllib.request.urlopen(address, timeout=60) as body:
+                    rows = body.read().decode().splitlines()
+                return {row.rpartition(" ")[0]: float(row.rpartition(" ")[2]) for row in rows if not row.startswith("#")}
+
+            found = numbers()
+            for row, wanted in (
+                ("archappl_up", 1),
+                ('archappl_samples_accepted_total{pv="E:A"}', 3),
+                ('archappl_samples_durable_total{pv="E:B"}', 0),
+                ("archappl_all_samples_durable_total", 3),
+                ('archappl_variables{status="Being archived"}', 2),
+                ('archappl_files{pv="E:B",store="long"}', 0),
+            ):
+                want(row, found[row], wanted)
+            want("the age of the last sample", 89 < found['archappl_last_sample_age_seconds{pv="E:A"}'] < 300, True)
+            want("no age", 'archappl_last_sample_age_seconds{pv="E:B"}' in found, False)
+            size = (service.folder / "site/manifest1").stat().st_size
+            want("a manifest", found['archappl_journal_bytes{journal="manifest1"}'], size)
+            want("room", found['archappl_folder_free_bytes{folder="medium"}'] > 0, True)
+            want("memory", found["archappl_memory_bytes"] > 1 << 20, True)
+            service.stop()
+            want("a service that is away", numbers()["archappl_up"], 0)
+        finally:
+            process.kill()
+
+
 def units_drawn(_, service):
     """The unit that `ingest` brought stands at its axis, steps hold until now at most, and severities are told."""
     service.stop()
@@ -351,4 +408,4 @@ def cases(program):
         return case
 
     return [(over(work), 1) for work in (fed_and_got, long_answer, management, bad_feeds, bad_peers, progress,
-                                         continued, words, watched, units_drawn)]
+                                         continued, words, watched, silent, numbers_for_prometheus, units_drawn)]
