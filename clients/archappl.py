@@ -385,20 +385,44 @@ def writer_of(options):
     return writer
 
 
+class Each:
+    """Does something with one variable after another. What is refused of one is told with its name, and the others go on."""
+
+    def __init__(self, names_of_variables):
+        self.names = names_of_variables
+        self.status = 0
+
+    def do(self, work):
+        """What the work gives of each variable that isn't refused, by name."""
+        found = {}
+        for pv in self.names:
+            try:
+                found[pv] = work(pv)
+            except Refused as error:
+                self.status = 1
+                print(f"archappl: {pv}: {error}", file=sys.stderr)
+        return found
+
+
 def run_get(options):
     """Writes the samples of variables as lines, or as a raw stream."""
     now = time.time_ns()
     interval = [sample_text.moment_of(word, now) for word in (options.start, options.end)]
-    if options.raw:
-        for number, pv in enumerate(options.pv):
-            sys.stdout.buffer.write(b"\n" if number else b"")
-            with raw(options.server, pv, *interval) as stream:
-                shutil.copyfileobj(stream, sys.stdout.buffer)
-        return
-    writer = writer_of(options)
-    for pv in options.pv:
+    each, begun = Each(options.pv), []
+
+    def write_raw(pv):
+        with raw(options.server, pv, *interval) as stream:
+            sys.stdout.buffer.write(b"\n" if begun else b"")
+            begun.append(pv)
+            shutil.copyfileobj(stream, sys.stdout.buffer)
+
+    def write_lines(pv):
         for piece in pieces(options.server, pv, *interval):
             writer.piece(piece)
+
+    writer = None if options.raw else writer_of(options)
+    each.do(write_raw if options.raw else write_lines)
+    return each.status
 
 
 def run_plot(options):
@@ -408,12 +432,16 @@ def run_plot(options):
 
     now = time.time_ns()
     words = [sample_text.moment_of(word, now) for word in (options.start, options.end)]
-    found = {pv: get(options.server, pv, *words) for pv in options.pv}
+    each = Each(options.pv)
+    found = each.do(lambda pv: get(options.server, pv, *words))
+    if not found:
+        return each.status
     for line in drawing.left_out(found):
         print(f"archappl: {line}", file=sys.stderr)
     # Nothing is known of what a value is in the future.
     start, end = (numpy.datetime64(min(sample_text.nanoseconds(word), now), "ns") for word in words)
     drawing.picture(found, start, end).savefig(options.out, dpi=100)
+    return each.status
 
 
 def run_watch(options):
@@ -475,8 +503,9 @@ def run_feed(options):
 
 def run_details(options):
     """Writes what is known of variables, one a line."""
-    for pv in options.pv:
-        print(json.dumps(details(options.server, pv)))
+    each = Each(options.pv)
+    each.do(lambda pv: print(json.dumps(details(options.server, pv))))
+    return each.status
 
 
 def run_silent(options):
@@ -503,14 +532,16 @@ def run_each(options):
     """Does one thing with each of some variables, and writes what came of it."""
     acts = {"status": lambda pv: status(options.server, pv), "pause": lambda pv: pause(options.server, pv),
             "resume": lambda pv: resume(options.server, pv)}
-    for pv in options.pv:
-        print(pv, acts[options.word](pv) or "ok")
+    each = Each(options.pv)
+    each.do(lambda pv: print(pv, acts[options.word](pv) or "ok"))
+    return each.status
 
 
 def run_archive(options):
     """Registers variables."""
-    for pv in options.pv:
-        print(pv, archive(options.server, pv, options.type, options.scan))
+    each = Each(options.pv)
+    each.do(lambda pv: print(pv, archive(options.server, pv, options.type, options.scan)))
+    return each.status
 
 
 def run_flush(options):
@@ -535,7 +566,7 @@ def parser_of_words():
         found = commands.add_parser(word, help=run.__doc__.split("\n")[0], description=run.__doc__.split("\n")[0])
         found.set_defaults(run=run)
         if interval:
-            found.add_argument("--from", dest="start", default="1h", help="a time, or so long ago: 90s, 15m, 1h, 7d")
+            found.add_argument("--from", dest="start", default="1h", help=sample_text.FORMS)
             found.add_argument("--to", dest="end", default="now", help="the same, or now")
         if text:
             found.add_argument("--csv", action="store_true", help="commas between the fields")
@@ -563,7 +594,7 @@ def add_words(command):
     feed_words.add_argument("--register", action="store_true", help="register the variables that aren't in the archive")
     feed_words.add_argument("stream", nargs="?", help="a file; standard input where it is left out")
     silent_words = command("silent", run_silent)
-    silent_words.add_argument("--since", default="10m", help="a time, or so long ago: 90s, 15m, 1h, 7d")
+    silent_words.add_argument("--since", default="10m", help=sample_text.FORMS)
     silent_words.add_argument("pv", nargs="*", help="names of variables; all where left out")
     command("names", run_names)
     command("flush", run_flush)

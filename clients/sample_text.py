@@ -14,7 +14,10 @@ import numpy
 COLUMNS = ("name", "time", "value", "severity", "status")
 SECOND = 1_000_000_000
 ISO = re.compile(r"(\d{4}-\d\d-\d\dT\d\d:\d\d:\d\d)(?:\.(\d{1,9}))?(Z|[+-]\d\d:\d\d)")
-UNITS = {"s": 1, "m": 60, "h": 3_600, "d": 86_400}
+UNITS = {"s": 1, "m": 60, "h": 3_600, "d": 86_400, "w": 604_800}
+AGO = re.compile(r"(?:now ?- ?)?(\d+(?:\.\d+)?)([smhdw])")
+LOCAL = re.compile(r"\d{4}-\d\d-\d\d(?:[T ]\d\d:\d\d(?::\d\d(?:\.\d{1,6})?)?)?")
+FORMS = "as 2024-01-31, 2024-01-31T08:00, 2024-01-31T08:00:00Z, now, today, yesterday, 15m, now-1w"
 
 
 # Samples
@@ -92,11 +95,22 @@ def iso(moment):
 
 
 def moment_of(word, now):
-    """The ISO text of a word: `now`, so long ago as in `90s`, `15m`, `2h` and `7d`, a day, or an ISO text as it is."""
+    """The ISO text of a word: an ISO text with a zone as it is, a day or a time in the local zone, `now`, `today`, `yesterday`, or
+    so long ago, as `90s`, `15m`, `2h`, `7d`, `1w` or `now-1w`. Raises `ValueError` where it is none of these."""
+    if ISO.fullmatch(word):
+        nanoseconds(word)
+        return word
     if word == "now":
         return iso(now)
-    found = re.fullmatch(r"(\d+(?:\.\d+)?)([smhd])", word)
+    found = AGO.fullmatch(word)
     if found:
         return iso(now - int(float(found[1]) * UNITS[found[2]] * SECOND))
-    # A day alone is its beginning in UTC.
-    return f"{word}T00:00:00Z" if re.fullmatch(r"\d{4}-\d\d-\d\d", word) else word
+    if word in ("today", "yesterday"):
+        day = datetime.fromtimestamp(now // SECOND).replace(hour=0, minute=0, second=0)
+        return iso((day - timedelta(days=word == "yesterday")).astimezone())
+    if LOCAL.fullmatch(word):
+        try:
+            return iso(datetime.fromisoformat(word).astimezone())
+        except (ValueError, OverflowError):
+            raise ValueError(f"no such time: {word}") from None
+    raise ValueError(f"no time: {word} ({FORMS})")

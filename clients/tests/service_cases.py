@@ -265,7 +265,7 @@ W:B 2025-01-01T00:00:00.000000000Z open 3 17
 
 def words(_, service):
     """The program by its words: texts go in and come out."""
-    where = dict(os.environ, ARCHAPPL_SERVER=service.address)
+    where = dict(os.environ, ARCHAPPL_SERVER=service.address, TZ="UTC")
 
     def archappl_py(*given, data=b"", status=0):
         return run("archappl.py", *given, data=data, status=status, environment=where)
@@ -287,8 +287,11 @@ def words(_, service):
     want("archive", archappl_py("archive", "--type", "SCALAR_INT", "W:C")[0], b"W:C 2\n")
     want("pause", archappl_py("pause", "W:C")[0], b"W:C ok\n")
     want("flush", archappl_py("flush")[0], b"0\n")
-    told = archappl_py("get", "W:D", status=1)[1]
-    want("a complaint", told, "archappl: E26: the archive has no such variable\n")
+    wrote, told = archappl_py("get", *day, "W:D", "W:A", status=1)
+    want("a complaint", told, "archappl: W:D: E26: the archive has no such variable\n")
+    want("the others go on", wrote, b"".join(TEXT.splitlines(True)[:3]))
+    told = archappl_py("get", "--from", "last tuesday", "W:A", status=1)[1]
+    want("no time", told.startswith("archappl: no time: last tuesday (as 2024-01-31, "), True)
     picture = service.folder / "picture.png"
     told = archappl_py("plot", *whole, "--out", str(picture), "W:A", "W:B")[1]
     want("what isn't drawn", told, "archappl: W:B is of type SCALAR_STRING, and isn't drawn\n")
