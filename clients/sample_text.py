@@ -1,7 +1,7 @@
 """Samples as lines of text or CSV, and moments as texts.
 
-A line is NAME TIME VALUE SEVERITY STATUS, with blanks or commas between them. What is written here of scalars,
-`clients/import` reads back.
+A line is NAME TIME VALUE SEVERITY STATUS, with blanks between them, or with commas and the type behind. A text with blanks or
+newlines stands in quotes. What is written here `clients/import` reads back; the types alone stand in CSV only.
 """
 
 import csv
@@ -11,7 +11,7 @@ from datetime import datetime, timedelta, timezone
 
 import numpy
 
-COLUMNS = ("name", "time", "value", "severity", "status")
+COLUMNS = ("name", "time", "value", "severity", "status", "type")
 SECOND = 1_000_000_000
 ISO = re.compile(r"(\d{4}-\d\d-\d\dT\d\d:\d\d:\d\d)(?:\.(\d{1,9}))?(Z|[+-]\d\d:\d\d)")
 UNITS = {"s": 1, "m": 60, "h": 3_600, "d": 86_400, "w": 604_800}
@@ -24,11 +24,11 @@ FORMS = "as 2024-01-31, 2024-01-31T08:00, 2024-01-31T08:00:00Z, now, today, yest
 
 
 def shown(value):
-    """A value as a text."""
+    """A value as a text: the elements of a waveform with blanks between them, and its bytes in hexadecimal."""
     if isinstance(value, bytes):
         return value.decode("latin-1") if len(value) == 1 else value.hex(" ")
     if isinstance(value, (list, numpy.ndarray)):
-        return " ".join(shown(one) for one in value)
+        return " ".join(shlex.quote(one) if isinstance(one, str) else shown(one) for one in value)
     if isinstance(value, numpy.floating):
         return repr(value.item()) if value.dtype == numpy.float64 else str(value)
     return str(value)
@@ -36,9 +36,11 @@ def shown(value):
 
 def rows(piece):
     """The fields of each sample."""
+    header = piece.header
+    is_bytes = header.type_name == "WAVEFORM_BYTE"
     times = numpy.datetime_as_string(piece.times.astype("datetime64[ns]"), unit="ns")
     for time, value, severity, status in zip(times, piece.values, piece.severities, piece.statuses):
-        yield piece.header.name, f"{time}Z", shown(value), severity, status
+        yield header.name, f"{time}Z", value.hex(" ") if is_bytes else shown(value), severity, status, header.type_name
 
 
 class Writer:
@@ -47,6 +49,9 @@ class Writer:
     def __init__(self, out, is_csv):
         self.out = out
         self.writer = csv.writer(out, lineterminator="\n") if is_csv else None
+        # A return alone would end a row, and isn't quoted by the other.
+        self.quoting = csv.writer(out, lineterminator="\n", quoting=csv.QUOTE_ALL)
+        self.columns = 6 if is_csv else 5
 
     def begin(self):
         """The line that names the fields."""
@@ -54,8 +59,9 @@ class Writer:
 
     def line(self, row):
         """One line."""
+        row = row[: self.columns]
         if self.writer:
-            self.writer.writerow(row)
+            (self.quoting if any("\r" in str(field) for field in row) else self.writer).writerow(row)
         else:
             self.out.write(" ".join(shlex.quote(str(field)) for field in row) + "\n")
 

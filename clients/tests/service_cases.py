@@ -276,7 +276,9 @@ def words(_, service):
     want("names", archappl_py("names")[0], b"W:A\nW:B\n")
     whole = ("--from", ALL[0], "--to", ALL[1])
     want("get", archappl_py("get", *whole, "W:A", "W:B")[0], TEXT)
-    table = TEXT.replace(b" ", b",").replace(b"'shut,down'", b"shut down")
+    rows = TEXT.replace(b" ", b",").replace(b"'shut,down'", b"shut down").splitlines()
+    types = [b"type"] + [b"SCALAR_DOUBLE"] * 3 + [b"SCALAR_STRING"] * 2
+    table = b"".join(row + b"," + kind + b"\n" for row, kind in zip(rows, types))
     want("get --csv", archappl_py("get", *whole, "--csv", "W:A", "W:B")[0], table)
     day = ("--from", "2024-01-01", "--to", "2024-01-01T00:00:01Z")
     want("get of an interval", archappl_py("get", *day, "W:A")[0], b"".join(TEXT.splitlines(True)[:3]))
