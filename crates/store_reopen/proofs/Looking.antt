@@ -1,7 +1,6 @@
 -- Where a batch's gate stands in its file, and the look at the listed files.
-use Rattle.std.proofs.Common.{◌≡◌, ◌≢◌, ◌⊎◌, inl, inr, ℕ, zero, suc, ◌+◌, ◌<◌, ◌≤◌, min, List, [], ◌∷◌, ◌++◌, length, take, drop, get_or, Option, None, Some, refl, sym, ◌∙◌, ap, subst, arith, length-append, add-one}
+use Rattle.std.proofs.Common.{◌≡◌, ◌≢◌, ◌⊎◌, inl, inr, ℕ, zero, suc, ◌+◌, ◌<◌, ◌≤◌, List, [], ◌∷◌, ◌++◌, length, take, drop, get_or, Option, None, Some, refl, sym, ◌∙◌, ap, subst, arith, length-append, add-one}
 use Rattle.std.specs.Prelude.{All, slice_get}
-use Rattle.std.proofs.lemmas.Bool.{cases_lt}
 use Rattle.std.proofs.lemmas.List.{take_all}
 use Rattle.std.proofs.lemmas.List.Elements.{All-more}
 use Rattle.std.proofs.lemmas.Option.{none-some, same_Some}
@@ -32,14 +31,6 @@ gates_more_at (x ∷ bs) (suc i) b here =
 -- the next batch's gate stands behind the batch
 pub gates_more : (bs : List (List ℕ)) (i : ℕ) (b : List ℕ) → slice_get bs i ≡ Some b → length (open_gates (take (i + 1) bs)) ≡ length (open_gates (take i bs)) + (length b + 5)
 gates_more bs i b here = rw add-one (gates_more_at bs i b here)
-
-pub gates_all : (bs : List (List ℕ)) (n : ℕ) → length (open_gates (take (min n (length bs)) bs)) ≡ length (open_gates (take n bs))
-gates_all bs n = elim (cases_lt n (length bs)) [
-  | inl below ↦ let is : min n (length bs) ≡ n = omega arith in ap (λ (k : ℕ). length (open_gates (take k bs))) is
-  | inr behind ↦
-      let is : min n (length bs) ≡ length bs = omega arith in
-      ap (λ (k : ℕ). length (open_gates (take k bs))) is ∙ ap (λ (l : List (List ℕ)). length (open_gates l)) (take_all (length bs) bs (omega arith) ∙ sym (take_all n bs behind))
-]
 
 -- where the gate of a batch was found, or the form breaks off
 abbrev pub IsGate : Content → ℕ → ℕ → Type 0

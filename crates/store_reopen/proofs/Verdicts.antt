@@ -1,8 +1,8 @@
 -- An image has one verdict at most.
-use Rattle.std.proofs.Common.{◌≡◌, inl, inr, ℕ, ◌≤◌, List, [], ◌∷◌, ◌++◌, length, map, take, Some, None, true, refl, sym, ◌∙◌, ap, subst, arith}
+use Rattle.std.proofs.Common.{◌≡◌, inl, inr, ℕ, ◌≤◌, List, [], ◌∷◌, ◌++◌, length, map, take, Some, None, refl, sym, ◌∙◌, ap, subst, arith}
 use Rattle.std.specs.Prelude.{All, IsTrue}
 use Rattle.std.proofs.lemmas.List.{length-take}
-use Rattle.std.proofs.lemmas.List.Elements.{All-head, All-tail, All-map, All-weaker, All-contains, All-nil}
+use Rattle.std.proofs.lemmas.List.Elements.{All-head, All-tail, All-map, All-weaker, All-contains}
 use Rattle.std.proofs.lemmas.Option.{slice_get_within}
 use Rattle.disk_model.specs.Files.{Name, Content, Files, HasFile}
 use Rattle.gate_journal.specs.Batches.{HasBatches, IsBadJournal, open_gates}
@@ -193,11 +193,3 @@ held_whole g files held numbered holds stands =
       of_rows = All-map (HasRow held.rows) entry_of held.files (All-weaker (IsListed g held.rows) (λ (f : Filed). HasRow held.rows f.entry) (λ f listed. slice_get_within held.rows f.entry.series listed.row listed.stands) held.files holds.filed.listed);
       there = All-map (IsThere files held.rows) entry_of held.files (λ k d lt. in_there g held.rows files _ (holds.filed.filed stands k d lt) (within k d lt));
     }
-
-pub holds_nothing : (g : Granularity) (files : Files) → ((n : Name) → files n ≡ None) → Holds g files (record { store = 1; rows = []; files = []; stands = true })
-holds_nothing g files none = record {
-  rows = record { batches = []; has = subst (λ (c : Content). HasBatches c []) (sym (none catalogue_name)) refl; means = refl };
-  lists = record { batches = []; has = subst (λ (c : Content). HasBatches c []) (sym (none (manifest_name 1))) refl; means = refl };
-  filed = record { numbered = omega arith; listed = All-nil (IsListed g []); filed = λ stands. All-nil (IsFiled g []) };
-  files = λ stands. All-nil (IsIn (1, []) files);
-}

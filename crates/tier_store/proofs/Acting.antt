@@ -97,15 +97,6 @@ keeps_all tells s = record { still = lists_itself (listing_in s); leaves = λ to
 pub reads_keep : {A E : Type 0} (tells : Bool) (old new : Seen) (end : End A E) → ListsStill (listing_in old) (listing_in new) → OnlyReads tells old new end → KeepsLists tells old new
 reads_keep {A} {E} tells old new end still reads = record { still = still; leaves = λ told. leaves_read (listing_in old) old.files new.files old.past new.past (reads.files told) (reads.any_moment told) }
 
--- nothing was read
-pub nothing_read : {A E : Type 0} (tells : Bool) (s : Seen) (end : End A E) → (IsFailed end → ⊥) → OnlyReads tells s s end
-nothing_read {A} {E} tells s end not_failed = record {
-  files = λ told. refl;
-  any_moment = λ told. passes_none (λ (a b : Files). b ≡ a) s.past (λ image left. refl);
-  faults = omega arith;
-  cause = λ failed. absurd (not_failed failed);
-}
-
 -- the settling failed, so something stood in doubt
 pub cut_acts : {A B E : Type 0} (tells : Bool) (call : Call A E) (old new : Seen) (r : Result B DiskErr) (e : DiskErr) (end : End A E) → r ≡ Err e → end ≡ end_of_error e → (IsSettled old → (a : B) × (r ≡ Ok a)) → ((before after : Held) → IsOpen tells old before after → IsOpen tells new before after)
     → new.manifest.granularity ≡ old.manifest.granularity → OnlyReads tells old new (end_of_disk r) → (before : Held) × (after : Held) × IsOpen tells old before after → Acts tells call old new end
