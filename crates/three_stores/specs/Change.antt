@@ -184,13 +184,6 @@ pub record CanList (i : ℕ) (tells : Bool) (at : Seen) (changes : List Change) 
   pub valid : (m : ManifestState) → slice_get at.manifests i ≡ Some m → AreHeld m.granularity (tier i (with_list i files old))
   pub safe : IsTrue tells → AreSafe (tier i (with_list i files old)) at.files at.opened at.past
 
--- the list at the place becomes that of other files, which the changes make of it
-abbrev pub Relists : ℕ → Bool → Seen → List Change → Stores → Stores → Type 0
-Relists i tells at changes old new = (files : List Filed) × CanList i tells at changes old files × (new ≡ with_list i files old)
-
-abbrev pub relisting : ℕ → Bool → Seen → List Change → Call (Unit {0}) ⊥
-relisting i tells at changes = record { by = Relists i tells at changes; says = λ a old new. Unit {0}; refuses = λ e rows. ⊥ }
-
 -- the manifest of this store, which is at the place of its number less one, lists the entry
 pub record IsListedIn (manifests : List ManifestState) (store : ℕ) (entry : Entry) : Type 0 where
   pub place : ℕ
