@@ -8,7 +8,7 @@ use Rattle.disk_model.specs.declared.disk.DiskErr.TheVariants.{Fault, Memory}
 use Rattle.disk_model.proofs.Passing.{passes_then, passes_weaker, passes_none}
 use Rattle.partition_names.specs.declared.granularity.Granularity.{Granularity}
 use Rattle.tier_store.specs.Ends.{End, Done, Refused, Failed, Spent, end_of_error, end_of_disk, IsFailed}
-use Rattle.tier_store.proofs.Acting.{rose_after}
+use Rattle.tier_store.proofs.Rises.{rose_after}
 use Rattle.three_stores.specs.Stores.{Stores}
 use Rattle.three_stores.specs.Seen.{Seen, IsSettled, granularities}
 use Rattle.three_stores.specs.Stored.{HoldsAll}

@@ -14,7 +14,7 @@ use Rattle.store_manifest.specs.declared.entry.Entry.{Entry}
 use Rattle.tier_store.specs.Ends.{End, Done, Failed, Spent, end_of_disk}
 use Rattle.tier_store.specs.Flush.{put_all}
 use Rattle.tier_store.specs.Held.{Filed}
-use Rattle.tier_store.proofs.Acting.{rose_after}
+use Rattle.tier_store.proofs.Rises.{rose_after}
 use Rattle.three_stores.specs.Stores.{Stores, list_at}
 use Rattle.three_stores.specs.Stored.{HoldsAll}
 use Rattle.three_stores.specs.Seen.{Seen, granularities}

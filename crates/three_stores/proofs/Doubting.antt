@@ -16,7 +16,7 @@ use Rattle.store_manifest.specs.Manifest as manifest
 use Rattle.store_manifest.specs.Manifest.{ManifestState, manifest_name}
 use Rattle.tier_store.specs.Held.{Held, entry_of}
 use Rattle.tier_store.specs.Stored.{AreHeld, AreSafe, CatalogueStored, TierStored}
-use Rattle.tier_store.proofs.Doubting.{Quiet}
+use Rattle.tier_store.proofs.Quiet.{Quiet}
 use Rattle.tier_store.proofs.Frame.{catalogue_unsure_stays, tier_unsure_stays}
 use Rattle.tier_store.proofs.Reading.{Reads, reads_all, catalogue_read, tier_read, safe_read, unopened_same, quietly}
 use Rattle.tier_store.proofs.Three.{same_cases, set_long}
