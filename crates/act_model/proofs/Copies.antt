@@ -47,10 +47,6 @@ all_before to (x ∷ xs) = by_test (nat_lt x.t to) refl (all_before to xs)
     by_test true is more = (grind (arith, nat_tests), more)
     by_test false is more = more
 
-higher_all : (a b : ℕ) (xs : List Sample) → AllByRecursion (IsBefore a) xs → a ≤ b → AllByRecursion (IsBefore b) xs
-higher_all a b [] all low = tt
-higher_all a b (x ∷ xs) all low = ((let first : x.t < a = all.0 in omega arith), higher_all a b xs all.1 low)
-
 all_own : (n : ℕ) (xs : List Sample) → RisesFrom n xs → AllByRecursion (IsBefore (end_from n xs)) xs
 all_own n [] rises = tt
 all_own n (x ∷ xs) rises = ((let up = end_from-ge (x.t + 1) xs rises.1 in omega arith), all_own (x.t + 1) xs rises.1)

@@ -7,7 +7,7 @@ use Rattle.std.specs.Ordering.{nat_cmp}
 use Rattle.std.specs.FinMap.{FinMap, get, insert, remove, empty, get-empty, gets}
 use Rattle.event_types.specs.declared.about.Method.TheVariants.{Monitor, Scan}
 use Rattle.pb_wire.specs.declared.payload.PayloadType.TheVariants.{ScalarInt}
-use Rattle.act_model.specs.declared.acts.Answer.TheVariants.{NameTaken, KeyTaken, NotRunning, NotPaused, Done, IntakeFull, Flushed, Pinned, NotYours, NoPin, NoPiece, Unpinned}
+use Rattle.act_model.specs.declared.acts.Answer.TheVariants.{NotRunning, NotPaused, Done, IntakeFull, Flushed, Pinned, NotYours, NoPin, NoPiece, Unpinned}
 use Rattle.act_model.specs.Reply.{Reply}
 use Rattle.act_model.specs.Limbo.{FileState}
 use Rattle.act_model.specs.Rows.{RowState, Store, Short, Medium, Long, fresh_row, tier, window, is_empty}
@@ -24,7 +24,7 @@ use Rattle.act_model.specs.Flush.{Flushes, batch_of, count_in}
 use Rattle.act_model.specs.Pin.{Pins, pins, IsListedPiece}
 use Rattle.act_model.specs.OpenPiece.{Opens, refused_open, no_piece, opens, faults_opening, wants_memory_opening}
 use Rattle.act_model.specs.Unpin.{Unpins, refused_unpin, unpins, pin_refused}
-use Rattle.act_model.specs.Examples.{IsFailure, LateAndEarlyOffers, NamesAndKeysAreTaken, TheLastOfAPeriodIsKept, APauseGivesUpWhatIsHeld, three_lines, four_lines, AFullIntakeIsFlushed, WhatFindsNoRoomStays, two_rows, WholeTailsAreFlushed, NamesAreTold, DoorsAreCountedOff, PinsAreTheirOwners, all_moments, t0, second, line, name, about, with_row, with_tail}
+use Rattle.act_model.specs.Examples.{IsFailure, LateAndEarlyOffers, APauseGivesUpWhatIsHeld, three_lines, four_lines, AFullIntakeIsFlushed, PinsAreTheirOwners, all_moments, t0, second, line, name, about, with_row, with_tail}
 
 -- NO OTHER ANSWER
 
@@ -119,26 +119,6 @@ late_and_early =
     let m1 = after_offer m0 (t0 + 1) now in
     let m2 = after_offer m1 (t0 + 5400 * second) now in
     (m0, inl (refl, refl), ends_only refl, (m1, inl (refl, refl), ends_only refl, (m2, inl (refl, refl), ends_only refl, (m2, inl (refl, refl), ends_only refl, tt))))
-
-pub taken : NamesAndKeysAreTaken
-taken =
-    let m = with_row (fresh_row name (about Monitor)) in
-    (m, refused_at_once (NameTaken 0) refl, (λ other new step. refused_only _ _ _ _ (NameTaken 0) refl step), (m, refused_at_once (KeyTaken 0) refl, (λ other new step. refused_only _ _ _ _ (KeyTaken 0) refl step), tt))
-
-pub last_of_period : TheLastOfAPeriodIsKept
-last_of_period =
-    let m0 = with_row (fresh_row name (about (Scan (10 * second)))) in
-    let m1 = after_offer m0 (t0 + 1 * second) (t0 + 1 * second) in
-    let m2 = after_offer m1 (t0 + 2 * second) (t0 + 2 * second) in
-    let m3 = after_tick m2 (t0 + 3 * second) in
-    let m4 = after_offer m3 (t0 + 4 * second) (t0 + 4 * second) in
-    let m5 = after_tick m4 (t0 + 13 * second) in
-    let m6 = after_tick m5 (t0 + 23 * second) in (
-      m1,
-      inl (refl, refl),
-      ends_only refl,
-      (m2, inl (refl, refl), ends_only refl, (m3, inl (refl, refl), ends_only refl, (m4, inl (refl, refl), ends_only refl, (m4, inl (refl, refl), ends_only refl, (m5, inl (refl, refl), ends_only refl, (m6, inl (refl, refl), ends_only refl, tt)))))),
-    )
 
 -- the state after a pause or a resume of the row
 abbrev after_set : Machine → State → Machine
@@ -241,80 +221,6 @@ full_intake a b c d p q r s =
             runs _ refl (no_doubt refl) refl ((4, (λ t. refl), refl), refl) (omega arith),
             (λ other new step. runs_only _ _ _ _ (Flushed 4 0 0) refl refl (flushed_only 67108864 4 0 m0 refl refl refl) step),
             (m2, inl (refl, refl), ends_only refl, tt),
-          ),
-        ),
-      ),
-    )
-
-pub no_room_stays : WhatFindsNoRoomStays
-no_room_stays a b c d p q r s =
-    let m0 = with_row (record (four_lines a b c d) { about = about (Scan (10 * second)) }) in
-    let m1 = after_offer m0 (t0 + 5) t0 in
-    let m2 = made [] (Appends (batch_of 67108864 m1)) m1 in
-    let m3 = after_tick m2 t0 in
-    let bytes : held_bytes m1.rows ≡ 67108864 = full_bytes a b c d p q r s in
-    let full : nat_lt room (held_bytes m1.rows + (length line + 1)) ≡ true = no_room (held_bytes m1.rows) bytes in (
-      m1,
-      inl (refl, refl),
-      ends_only refl,
-      (
-        m1,
-        inl (rw full (ap (λ n. IntakeFull n) (sym bytes)), rw full refl),
-        ends_only (rw full (ap (λ n. IntakeFull n) bytes)),
-        (
-          m2,
-          runs _ refl (no_doubt refl) refl ((4, (λ t. refl), refl), refl) (omega arith),
-          (λ other new step. runs_only _ _ _ _ (Flushed 4 0 0) refl refl (flushed_only 67108864 4 0 m1 refl refl refl) step),
-          (m3, inl (refl, refl), ends_only refl, tt),
-        ),
-      ),
-    )
-
--- TWO ROWS
-
-pub whole_tails : WholeTailsAreFlushed
-whole_tails =
-    let m0 = two_rows in
-    let m1 = made [] (Appends (batch_of 1 m0)) m0 in
-    let m2 = made [] (Appends (batch_of 1 m1)) m1 in
-    let m3 = made [] (Appends (batch_of 1 m2)) m2 in (
-      m1,
-      runs _ refl (no_doubt refl) refl ((2, (λ t. refl), refl), refl) (omega arith),
-      (λ other new step. runs_only _ _ _ _ (Flushed 2 10 2) refl refl (flushed_only 1 2 10 m0 refl refl refl) step),
-      (
-        m2,
-        runs _ refl (no_doubt refl) refl ((1, (λ t. refl), refl), refl) (omega arith),
-        (λ other new step. runs_only _ _ _ _ (Flushed 1 0 2) refl refl (flushed_only 1 1 0 m1 refl refl refl) step),
-        (m3, runs _ refl (no_doubt refl) refl ((0, (λ t. refl), refl), refl) (omega arith), (λ other new step. runs_only _ _ _ _ (Flushed 0 0 2) refl refl (flushed_only 1 0 0 m2 refl refl refl) step), tt),
-      ),
-    )
-
-pub names_told : NamesAreTold
-names_told =
-    let m = two_rows in
-    (m, inl (refl, refl), ends_only refl, (m, inl (refl, refl), ends_only refl, (m, inl (refl, refl), ends_only refl, (m, inl (refl, refl), ends_only refl, tt))))
-
-pub doors_off : DoorsAreCountedOff
-doors_off =
-    let m0 = two_rows in
-    let m1 : Machine = record m0 { doors = 1 } in
-    let m2 : Machine = record m0 { doors = 0 } in (
-      m0,
-      (refl, refl),
-      (λ other new step. inl step.0),
-      (
-        m1,
-        (refl, refl),
-        (λ other new step. inl step.0),
-        (
-          m2,
-          (refl, refl),
-          (λ other new step. inl step.0),
-          (
-            m2,
-            (refl, refl),
-            (λ other new step. inl step.0),
-            (m2, (refl, refl), (λ other new step. inl step.0), tt),
           ),
         ),
       ),

@@ -28,5 +28,4 @@ mod LivesLaws
 mod AnswerLaws
 mod ToldLaws
 mod ExampleLaws
-mod SweepExample
 mod Places

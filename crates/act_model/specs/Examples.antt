@@ -1,8 +1,8 @@
--- Small histories worked out, each over an archive of one variable, A:B of type SCALAR_INT, or of two. They show what the definitions say in plain
+-- Small histories worked out, each over an archive of one variable, A:B of type SCALAR_INT. They show what the definitions say in plain
 -- cases: each act has this answer and no other, want of memory and faults of the disk apart. `src/examples.rt` has each of them as a
 -- clause.
-use Rattle.std.specs.Prelude.{◌≡◌, ◌⊎◌, ℕ, ◌+◌, ◌*◌, List, [], ◌∷◌, length, codes, true, false, None}
-use Rattle.std.specs.FinMap.{empty, insert}
+use Rattle.std.specs.Prelude.{◌≡◌, ◌⊎◌, ℕ, ◌+◌, ◌*◌, List, [], ◌∷◌, length, codes, true, None}
+use Rattle.std.specs.FinMap.{empty}
 use Rattle.series_model.specs.declared.sample.Sample.{Sample}
 use Rattle.series_model.specs.declared.sample.Query.{Query}
 use Rattle.series_model.specs.declared.admission.Reason.TheVariants.{Paused, NotLater, Future}
@@ -11,12 +11,11 @@ use Rattle.event_types.specs.declared.about.Method.{Method}
 use Rattle.event_types.specs.declared.about.Method.TheVariants.{Monitor, Scan}
 use Rattle.pb_wire.specs.declared.payload.PayloadType.TheVariants.{ScalarInt}
 use Rattle.act_model.specs.declared.acts.Act.{Act}
-use Rattle.act_model.specs.declared.acts.Act.TheVariants.{Register, Pause, Resume, Offer, Tick, Flush, Pin, OpenPiece, Unpin, Sweep, Names, Doors, DoorDone}
-use Rattle.act_model.specs.declared.acts.Answer.TheVariants.{NameTaken, KeyTaken, NotRunning, NotPaused, Done, Dropped, IntakeFull, Kept, Held, TickNone, NotDue, TickKept, Flushed, Pinned, NoPin, NotYours, NoPiece, Unpinned, Swept, NamesAre, DoorsLeft, DiskFault, Memory}
+use Rattle.act_model.specs.declared.acts.Act.TheVariants.{Pause, Resume, Offer, Tick, Flush, Pin, OpenPiece, Unpin}
+use Rattle.act_model.specs.declared.acts.Answer.TheVariants.{NotRunning, NotPaused, Done, Dropped, IntakeFull, Kept, Held, TickNone, NotDue, TickKept, Flushed, Pinned, NoPin, NotYours, NoPiece, Unpinned, DiskFault, Memory}
 use Rattle.act_model.specs.Reply.{Reply}
-use Rattle.act_model.specs.Limbo.{FileState}
-use Rattle.act_model.specs.Rows.{RowState, Short, Medium, fresh_row}
-use Rattle.act_model.specs.Machine.{Machine, PinState, MoveState, Copies}
+use Rattle.act_model.specs.Rows.{RowState, fresh_row}
+use Rattle.act_model.specs.Machine.{Machine}
 use Rattle.act_model.specs.Step.{Step}
 use Rattle.act_model.specs.History.{Entry}
 
@@ -77,29 +76,7 @@ LateAndEarlyOffers =
     ∷ by 1 (offer (t0 + 5400 * second) now) Kept
     ∷ by 1 (offer (t0 + 5401 * second) now) (Dropped (Future now)) ∷ [])
 
--- REGISTRATION
-
--- the same name is taken, and so is one that differs in a separator alone
-abbrev pub NamesAndKeysAreTaken : Type 0
-NamesAndKeysAreTaken =
-    Follows (with_row (fresh_row name (about Monitor)))
-    (by 1 (Register (codes "A:B") (about Monitor)) (NameTaken 0)
-    ∷ by 1 (Register (codes "A-B") (about Monitor)) (KeyTaken 0) ∷ [])
-
 -- SAMPLING
-
--- A row is sampled every ten seconds. Of two offers the last is kept at the first tick; the next tick comes too early, the one after that
--- keeps what was offered since, and the last finds nothing.
-abbrev pub TheLastOfAPeriodIsKept : Type 0
-TheLastOfAPeriodIsKept =
-    Follows (with_row (fresh_row name (about (Scan (10 * second)))))
-    (by 1 (offer (t0 + 1 * second) (t0 + 1 * second)) Held
-    ∷ by 1 (offer (t0 + 2 * second) (t0 + 2 * second)) Held
-    ∷ by 2 (Tick 0 (t0 + 3 * second)) (TickKept (t0 + 2 * second))
-    ∷ by 1 (offer (t0 + 4 * second) (t0 + 4 * second)) Held
-    ∷ by 2 (Tick 0 (t0 + 12 * second)) (NotDue (t0 + 13 * second))
-    ∷ by 2 (Tick 0 (t0 + 13 * second)) (TickKept (t0 + 4 * second))
-    ∷ by 2 (Tick 0 (t0 + 23 * second)) TickNone ∷ [])
 
 -- A row holds an offer and is paused. While it is paused offers are dropped and a tick keeps nothing. Once it is resumed it holds nothing,
 -- and is due at once.
@@ -138,48 +115,6 @@ AFullIntakeIsFlushed =
     ∷ by 2 (Flush 67_108_864) (Flushed 4 0 0)
     ∷ by 1 (offer (t0 + 5) t0) Kept ∷ [])
 
--- So they do of a sampled row. A tick that finds no room leaves what the row holds, for a tick after a flush.
-abbrev pub WhatFindsNoRoomStays : Type 0
-WhatFindsNoRoomStays =
-    (a b c d : List ℕ) → length a ≡ 16_777_215 → length b ≡ 16_777_215 → length c ≡ 16_777_215 → length d ≡ 16_777_215
-    → Follows (with_row (record (four_lines a b c d) { about = about (Scan (10 * second)) }))
-    (by 1 (offer (t0 + 5) t0) Held
-    ∷ by 2 (Tick 0 t0) (IntakeFull 67_108_864)
-    ∷ by 2 (Flush 67_108_864) (Flushed 4 0 0)
-    ∷ by 2 (Tick 0 t0) (TickKept (t0 + 5)) ∷ [])
-
--- TWO ROWS
-
--- an archive of A:B with two samples in the intake and C:D with one, and two open doors
-abbrev pub two_rows : Machine
-two_rows =
-    let first = with_tail (record { t = t0; line = line } ∷ record { t = t0 + 1; line = line } ∷ []) (t0 + 2) in
-    let second = record (with_tail (record { t = t0; line = line } ∷ []) (t0 + 1)) { name = codes "C:D" } in
-    record (with_row first) { rows = first ∷ second ∷ []; doors = 2 }
-
--- A flush of one byte takes the first row's whole tail and leaves the second's line of ten bytes, which the next one takes.
-abbrev pub WholeTailsAreFlushed : Type 0
-WholeTailsAreFlushed = Follows two_rows (by 1 (Flush 1) (Flushed 2 10 2) ∷ by 1 (Flush 1) (Flushed 1 0 2) ∷ by 1 (Flush 1) (Flushed 0 0 2) ∷ [])
-
--- names are told from a number on, with whether a row stands behind them
-abbrev pub NamesAreTold : Type 0
-NamesAreTold =
-    Follows two_rows
-    (by 1 (Names 0 1) (NamesAre (name ∷ []) true)
-    ∷ by 1 (Names 1 1) (NamesAre (codes "C:D" ∷ []) false)
-    ∷ by 1 (Names 0 5) (NamesAre (name ∷ codes "C:D" ∷ []) false)
-    ∷ by 1 (Names 2 1) (NamesAre [] false) ∷ [])
-
--- doors are counted off, down to none
-abbrev pub DoorsAreCountedOff : Type 0
-DoorsAreCountedOff =
-    Follows two_rows
-    (by 1 Doors (DoorsLeft 2)
-    ∷ by 1 DoorDone (DoorsLeft 1)
-    ∷ by 2 DoorDone (DoorsLeft 0)
-    ∷ by 2 DoorDone (DoorsLeft 0)
-    ∷ by 1 Doors (DoorsLeft 0) ∷ [])
-
 -- PINS
 
 abbrev pub all_moments : Query
@@ -196,28 +131,3 @@ PinsAreTheirOwners =
     ∷ by 0 (Unpin 0) Unpinned
     ∷ by 0 (OpenPiece 0 0) NoPin
     ∷ by 0 (Unpin 0) NoPin ∷ [])
-
--- LIMBO
-
--- a file that has left the row's medium term, of the partition of one second that begins at this moment
-abbrev pub retired_file : ℕ → FileState
-retired_file start = record { row = 0; store = Medium; part = record { start = start; end = start + second; name = [] }; head = []; samples = record { t = start; line = line } ∷ [] }
-
-abbrev pub pin_of_first : PinState
-pin_of_first = record { owner = 1; pieces = retired_file t0 ∷ [] }
-
-abbrev pub move_into_second : MoveState
-move_into_second = record { store = Short; row = 0; parts = 1; to = t0 + 2 * second; stage = Copies; copied = record { t = t0 + second + 1; line = line } ∷ [] }
-
--- three files in limbo: a pin names the first, and a running move has copied into the partition of the second
-abbrev pub with_limbo : Machine
-with_limbo =
-    record (with_row (fresh_row name (about Monitor))) {
-      limbo = retired_file t0 ∷ retired_file (t0 + second) ∷ retired_file (t0 + 2 * second) ∷ [];
-      pins = insert empty 0 pin_of_first;
-      moves = insert empty 0 move_into_second;
-    }
-
--- A sweep takes the third file alone. Once the pin is gone the next one takes the first, and the one after that finds nothing to take.
-abbrev pub UnneededFilesAreSwept : Type 0
-UnneededFilesAreSwept = Follows with_limbo (by 2 Sweep (Swept 1) ∷ by 1 (Unpin 0) Unpinned ∷ by 2 Sweep (Swept 1) ∷ by 2 Sweep (Swept 0) ∷ [])

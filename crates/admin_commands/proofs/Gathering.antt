@@ -1,12 +1,12 @@
 -- The names of all rows, page after page.
-use Rattle.std.proofs.Common.{◌≡◌, ℕ, ◌+◌, List, [], ◌∷◌, ◌++◌, Bool, true, false, refl, ap, sym, ◌∙◌, subst, append_assoc, append-nil}
+use Rattle.std.proofs.Common.{◌≡◌, ℕ, ◌+◌, List, [], ◌∷◌, ◌++◌, true, false, ap, sym, ◌∙◌, subst, append_assoc, append-nil}
 use Rattle.std.specs.Prelude.{Ok, Err}
 use Rattle.std.proofs.lemmas.List.{map-append}
 use Rattle.act_model.specs.declared.acts.Act.TheVariants.{Names}
 use Rattle.act_model.specs.declared.acts.Answer.TheVariants.{NamesAre}
 use Rattle.act_model.specs.History.{Done, Entry, Made, MadeOne}
 use Rattle.act_model.specs.Reply.{Reply}
-use Rattle.act_model.proofs.Histories.{made_joined, made_nothing}
+use Rattle.act_model.proofs.Histories.{made_joined}
 use Rattle.http_front.specs.declared.request.WebCall.TheVariants.{AllPvs}
 use Rattle.admin_commands.specs.declared.reply.WebReply.TheVariants.{Success}
 use Rattle.admin_commands.specs.declared.end.Stopped.TheVariants as stopped
@@ -22,13 +22,7 @@ pub record Gathered {A : Type 0} (number : A → ℕ) (between : A → List Entr
   pub follows : Follows AllPvs [] done
   pub goes_on : (rest : List Reply) → names_from 0 [] (answers_of done ++ rest) ≡ names_from from names rest
 
-page_done : ℕ → List (List ℕ) → Bool → Done
-page_done from names more = record { act = Names from page; answer = NamesAre names more }
-
 module _ {A : Type 0} (number : A → ℕ) (between : A → List Entry → A → Type 0) (is_spent : A → Type 0) where
-  pub gathering_starts : ((a : A) → between a [] a) → (start : A) → Gathered number between start [] 0 start
-  gathering_starts nothing start = record { done = []; made = made_nothing number between nothing start; follows = tt; goes_on = λ rest. refl }
-
   -- the next page is asked for
   asks_page : (start now : A) (names : List (List ℕ)) (from : ℕ) (g : Gathered number between start names from now) → names_from 0 [] (answers_of g.done) ≡ asks (Names from page)
   asks_page start now names from g = subst (λ (w : List Reply). names_from 0 [] w ≡ asks (Names from page)) (append-nil (answers_of g.done)) (g.goes_on [])

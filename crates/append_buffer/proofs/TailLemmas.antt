@@ -2,11 +2,11 @@
 use Rattle.std.proofs.Common.{◌≡◌, ℕ, ◌+◌, ◌^◌, ◌<◌, ◌≤◌, List, [], ◌∷◌, ◌++◌, length, get_or, set, zero, suc, Bool, true, false, cond, refl, ap, ◌∙◌, arith}
 use Rattle.std.specs.Prelude.{filter, nat_le, nat_lt}
 use Rattle.std.proofs.lemmas.Bool.Decides.{nat_tests}
-use Rattle.std.proofs.lemmas.List.{get_or-set_same, get_or-set_other, get_or_default, length-set}
+use Rattle.std.proofs.lemmas.List.{get_or_default, length-set}
 use Rattle.std.proofs.lemmas.List.Elements.{filter_agree}
 use Rattle.series_model.specs.declared.sample.Sample.{Sample}
 use Rattle.series_model.specs.Series.{since}
-use Rattle.append_buffer.specs.Tails.{TailState, IsIntake, no_tail, tail_at, size_of, held_bytes, KeepsTails, KeepsSpares, SetsTail}
+use Rattle.append_buffer.specs.Tails.{TailState, IsIntake, no_tail, tail_at, size_of, held_bytes}
 
 -- BYTES
 
@@ -46,27 +46,6 @@ held_bytes-new [] = refl
 held_bytes-new (tail ∷ tails) = let more = held_bytes-new tails in omega arith
 
 -- ONE TAIL IN PLACE OF ANOTHER
-
--- where the row's samples are the same ones, all are
-pub keeps_tails : (tails : List TailState) (row : ℕ) (tail : TailState) → row < length tails → tail.samples ≡ (tail_at tails row).samples → KeepsTails tails (set tails row tail)
-keeps_tails [] row tail within same other = absurd (omega arith)
-keeps_tails (first ∷ tails) zero tail within same zero = same
-keeps_tails (first ∷ tails) zero tail within same (suc other) = refl
-keeps_tails (first ∷ tails) (suc row) tail within same zero = refl
-keeps_tails (first ∷ tails) (suc row) tail within same (suc other) = keeps_tails tails row tail (omega arith) same other
-
-pub keeps_spares : (tails : List TailState) (row : ℕ) (tail : TailState) → row < length tails → (tail_at tails row).spare ≤ tail.spare → KeepsSpares tails (set tails row tail)
-keeps_spares [] row tail within more other = absurd (omega arith)
-keeps_spares (first ∷ tails) zero tail within more zero = more
-keeps_spares (first ∷ tails) zero tail within more (suc other) = omega arith
-keeps_spares (first ∷ tails) (suc row) tail within more zero = omega arith
-keeps_spares (first ∷ tails) (suc row) tail within more (suc other) = keeps_spares tails row tail (omega arith) more other
-
-pub sets_tail : (tails : List TailState) (row : ℕ) (tail : TailState) → row < length tails → SetsTail row tail.samples tails (set tails row tail)
-sets_tail tails row tail within = record {
-  own = ap (λ (t : TailState). t.samples) (get_or-set_same tails row tail no_tail within);
-  others = λ other apart. ap (λ (t : TailState). t.samples) (get_or-set_other tails row other tail no_tail apart);
-}
 
 -- what a tail is that was read
 pub read_at : (tails : List TailState) (row : ℕ) (old : TailState) → row < length tails → old ≡ get_or tails row old → old ≡ tail_at tails row

@@ -1,7 +1,6 @@
 -- Reading digits from the left.
-use Rattle.std.proofs.Common.{◌≡◌, ℕ, zero, suc, ◌+◌, ◌-◌, ◌*◌, ◌/◌, ◌%◌, ◌^◌, ◌<◌, ◌≤◌, List, [], ◌∷◌, length, drop, get_or, pow-add, refl, sym, ap, ◌∙◌, arith, add-one}
-use Rattle.std.proofs.Math.Seq.{drop-cons}
-use Rattle.std.proofs.Math.Nat.{pow-suc, pow-le-pow_right, one-le-pow, mul-le-mul_right, suc-mul}
+use Rattle.std.proofs.Common.{◌≡◌, ℕ, zero, suc, ◌+◌, ◌-◌, ◌*◌, ◌/◌, ◌%◌, ◌^◌, ◌<◌, ◌≤◌, List, [], ◌∷◌, length, drop, get_or, pow-add, sym, ap, ◌∙◌, arith}
+use Rattle.std.proofs.Math.Nat.{pow-le-pow_right, one-le-pow, mul-le-mul_right, suc-mul}
 use Rattle.std.specs.Int.{IsInRange}
 use Rattle.arch_time.specs.Digits.{IsDigits, number_after, IsNumber}
 
@@ -11,24 +10,6 @@ pub record HasRead (text : List ℕ) (i value : ℕ) : Type 0 where
   pub forth : IsDigits (drop i text) → IsDigits text
   pub back : IsDigits text → IsDigits (drop i text)
   pub bound : value < 10 ^ i
-
-pub read_none : (text : List ℕ) → HasRead text 0 0
-read_none text = record { rest = refl; forth = λ h. h; back = λ h. h; bound = omega arith }
-
-pub read_more : (text : List ℕ) (i value : ℕ) → HasRead text i value → i < length text → IsInRange 48 57 (get_or text i 0) → HasRead text (i + 1) (value * 10 + (get_or text i 0 - 48))
-read_more text i value read below digit =
-    let cut = drop-cons text i 0 below in
-    record {
-      rest = rw add-one ((rw cut at read.rest));
-      forth = λ h. read.forth (rw cut (digit, rw add-one at h));
-      back = λ h. rw add-one ((rw cut at (read.back h)).1);
-      bound = rw (add-one, pow-suc) (omega (arith, read.bound));
-    }
-
--- a byte that is no digit
-pub not_digit : (text : List ℕ) (i value : ℕ) → HasRead text i value → i < length text → IsDigits text → IsInRange 48 57 (get_or text i 0)
-not_digit text i value read below h =
-    let cut = drop-cons text i 0 below in (rw cut at (read.back h)).0
 
 -- up to eight digits spell a number below 10^8
 pub eight_digits : (value i : ℕ) → value < 10 ^ i → i ≤ 8 → value < 100_000_000

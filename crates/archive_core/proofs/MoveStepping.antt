@@ -14,7 +14,7 @@ use Rattle.etl_mover.specs.Move.{MoveState as Moving}
 use Rattle.partition_names.specs.declared.granularity.Granularity.{Granularity}
 use Rattle.running_moves.specs.Table as table
 use Rattle.running_moves.specs.declared.table.Running.{Running}
-use Rattle.tier_store.proofs.Acting.{rose_after}
+use Rattle.tier_store.proofs.Rises.{rose_after}
 use Rattle.three_stores.specs.Pinned.{SeenAll, beside}
 use Rattle.three_stores.specs.Change.{Has}
 use Rattle.three_stores.specs.Seen.{IsSettled, Seen, granularities}

@@ -39,7 +39,7 @@ use Rattle.act_model.specs.Rule.{index_of}
 use Rattle.archive_core.specs.LimboTies.{filed_of}
 use Rattle.archive_core.proofs.Batches.{told_stands}
 use Rattle.archive_core.proofs.LimboLists.{from_filter}
-use Rattle.archive_core.proofs.MoveCopying.{ahead_filed, files_filed, in_all, in_one}
+use Rattle.archive_core.proofs.MoveCopying.{ahead_filed, in_all, in_one}
 use Rattle.archive_core.proofs.MoveLimbo.{HaveMachine, back_at, back_inside, from_put, has_file, none_put, none_window, own_free, own_named, own_part, some_window}
 use Rattle.archive_core.proofs.MovePuts.{GoesWith, rises_before, window_has}
 use Rattle.archive_core.proofs.Opens.{told_tells}
@@ -109,9 +109,6 @@ module _ (tells : Bool) (at : Seen) (limbo : List Retired) (m : Machine) (held :
 
   filed_then : All (IsFiled n.granularity held.rows) (put_all listed more)
   filed_then = ahead_filed tells at limbo m held have told move n managed r here (beside later limbo) same_g new more then
-
-  more_filed : All (IsFiled n.granularity held.rows) more
-  more_filed = files_filed tells at limbo m held have told move n managed r here (beside later limbo) same_g new more then
 
   more_in : All (IsIn (place + 1, held.rows) later.files) more
   more_in = (then.ahead.safe tells_now).left later.files (later_now tells_now) stands

@@ -1,12 +1,10 @@
 -- Acts that only read the disk, or don't call it.
-use Rattle.std.proofs.Common.{◌≡◌, List, Bool, refl, sym, ◌∙◌, ap, subst}
+use Rattle.std.proofs.Common.{◌≡◌, Bool, refl, sym, ◌∙◌, ap, subst}
 use Rattle.disk_model.specs.Past.{Passes}
 use Rattle.disk_model.proofs.Passing.{passes_none, passes_then}
 use Rattle.tier_store.specs.Ends.{End}
 use Rattle.three_stores.specs.Change.{OnlyReads}
-use Rattle.three_stores.specs.Pinned.{SeenAll, beside, IsThereTo, LeavesFronts}
-use Rattle.three_stores.specs.Seen.{Seen}
-use Rattle.three_stores.specs.declared.limbo.Retired.{Retired}
+use Rattle.three_stores.specs.Pinned.{SeenAll, IsThereTo, LeavesFronts}
 use Rattle.three_stores.proofs.LeavingFronts.{fronts_read}
 use Rattle.archive_core.specs.Leaving.{ReadsAlone, files_of}
 use Rattle.archive_core.specs.Parts.{Parts}
@@ -18,9 +16,6 @@ reads_none tells p q same = record {
   any_moment = λ told. subst (λ (all : SeenAll). Passes (λ a b. b ≡ a) p.at.past all.stores.past) (sym same) (passes_none (λ a b. b ≡ a) p.at.past (λ a left. refl));
   there = λ name len was. subst (λ (all : SeenAll). IsThereTo all name len) (sym same) was;
 }
-
-pub same_files : (p q : Parts) → q.at ≡ p.at → q.limbo ≡ p.limbo → files_of q ≡ files_of p
-same_files p q at limbo = ap (λ (s : Seen). beside s q.limbo) at ∙ ap (λ (l : List Retired). beside p.at l) limbo
 
 -- one read after another
 pub reads_then : (tells : Bool) (p q r : Parts) → ReadsAlone tells p q → ReadsAlone tells q r → ReadsAlone tells p r

@@ -204,9 +204,6 @@ module _ (tells : Bool) (old new : Seen) (limbo : List Retired) (m : Machine) (s
   has_less : Has tells new (without_oldest at i n before)
   has_less = subst (λ (s : Stores). Has tells new s) doubted.same now
 
-  same_rows : after.rows ≡ before.rows
-  same_rows = ap (λ (s : Stores). s.rows) doubted.same
-
   variables : KeepsRows old.catalogue.rows new.catalogue.rows
   variables = subst (λ (rows : List Row). KeepsRows old.catalogue.rows rows) (was.rows ∙ sym has_less.known.rows) (keeps_same old.catalogue.rows)
 

@@ -13,7 +13,7 @@ use Rattle.pinned_pieces.specs.Pieces.{PinOf}
 use Rattle.pv_catalog.specs.Catalogue.{CatalogueState}
 use Rattle.pv_catalog.specs.Rows.{KeepsRows}
 use Rattle.tier_store.specs.Ends.{end_of_disk, IsFailed}
-use Rattle.tier_store.proofs.Acting.{rose_after}
+use Rattle.tier_store.proofs.Rises.{rose_after}
 use Rattle.three_stores.specs.Change.{Acts as StoreActs, EndsFrom, Has, HoldsChange, IsEither, OnlyReads}
 use Rattle.three_stores.specs.Limbo.{IsListedName, IsNeeded, IsSwept as IsSweptOf, LeavesKept, LimboStands, staying}
 use Rattle.three_stores.specs.Moving.{LeavesLater, LeavesNames}

@@ -6,8 +6,7 @@ use Rattle.partition_names.specs.declared.granularity.Granularity.{Granularity}
 use Rattle.series_model.specs.declared.sample.Query.{Query}
 use Rattle.pv_catalog.specs.declared.row.Row.{Row}
 use Rattle.store_manifest.specs.declared.entry.Entry.{Entry}
-use Rattle.store_reopen.specs.Verdict.{HasRow}
-use Rattle.three_reopen.specs.Verdict.{AreSaid, IsDamaged, IsThere, IsWhole, Differs, Listings}
+use Rattle.three_reopen.specs.Verdict.{HasRow, AreSaid, IsDamaged, IsThere, IsWhole, Differs, Listings}
 use Rattle.three_reopen.specs.declared.error.ReopenErr.{ReopenErr}
 use Rattle.three_reopen.specs.declared.error.ReopenErr.TheVariants as reopening
 use Rattle.archiver_appliance.specs.declared.command.StoreCommand.{StoreCommand}

@@ -14,12 +14,11 @@ use Rattle.store_manifest.proofs.Committing.{one_listing}
 use Rattle.tier_store.specs.Held.{KeepsListed}
 use Rattle.tier_store.specs.Writing.{LeavesListed}
 use Rattle.tier_store.proofs.KeptBytes.{keeps_outside, leaves_on}
-use Rattle.store_reopen.specs.Reopen.{SameStores}
-use Rattle.store_reopen.proofs.Keeping.{one_list_of_rows}
+use Rattle.three_reopen.specs.Reopen.{SameStores, AllIn, ChangesOne, HoldsEither, OpensEither, Reopens, StillHolds}
+use Rattle.three_reopen.proofs.OneJournal.{one_list_of_rows}
 use Rattle.three_stores.specs.Change.{IsEither}
 use Rattle.three_stores.specs.Stored.{HoldsAll}
 use Rattle.three_stores.specs.Stores.{Stores}
-use Rattle.three_reopen.specs.Reopen.{AllIn, ChangesOne, HoldsEither, OpensEither, Reopens, StillHolds}
 use Rattle.three_reopen.specs.Verdict.{AreSaid, Listings}
 use Rattle.three_reopen.proofs.Having.{granularity_here}
 use Rattle.archiver_appliance.specs.Run.{OnlyReads}

@@ -10,11 +10,10 @@ use Rattle.pb_lines.specs.Stream.{Item, Stop, IsWholeStream}
 use Rattle.pv_catalog.specs.declared.row.Row.{Row}
 use Rattle.pv_catalog.specs.Rows.{HasName}
 use Rattle.tier_store.specs.Writing.{LeavesListed}
-use Rattle.store_reopen.specs.Reopen.{SameStores}
+use Rattle.three_reopen.specs.Reopen.{SameStores, HoldsEither, OpensEither, StillHolds, stores_of}
 use Rattle.three_stores.specs.Change.{IsEither}
 use Rattle.three_stores.specs.Stored.{HoldsAll}
 use Rattle.three_stores.specs.Stores.{Stores}
-use Rattle.three_reopen.specs.Reopen.{HoldsEither, OpensEither, StillHolds, stores_of}
 use Rattle.three_reopen.specs.Verdict.{IsWhole, Listings}
 use Rattle.three_reports.specs.Status.{status_text}
 use Rattle.archiver_appliance.specs.declared.command.Command.{Command}

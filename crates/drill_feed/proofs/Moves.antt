@@ -1,5 +1,5 @@
 -- How many partitions are ripe, and how many are left once no move is due.
-use Rattle.std.proofs.Common.{◌≡◌, ℕ, zero, suc, ◌+◌, ◌-◌, ◌*◌, ◌/◌, ◌<◌, ◌≤◌, inl, inr, List, ◌∷◌, map, min, true, false, Bool, cond, arith, refl, sym, ap, ◌∙◌, subst}
+use Rattle.std.proofs.Common.{◌≡◌, ℕ, zero, suc, ◌+◌, ◌-◌, ◌*◌, ◌/◌, ◌<◌, ◌≤◌, inl, inr, List, ◌∷◌, map, min, Bool, cond, arith, refl, sym, ap, ◌∙◌, subst}
 use Rattle.std.specs.Prelude.{nat_le, ◌==◌, if◌then◌else◌}
 use Rattle.std.specs.List.{range_with_len}
 use Rattle.std.proofs.lemmas.Bool.{le-leb, lt-leb, ne_eqb, cases_lt}
@@ -74,9 +74,6 @@ one_end hours a b one two =
 
 chosen_due : (hold gather left : ℕ) → 1 ≤ hold → hold ≤ left → chosen hold gather left ≡ min gather left
 chosen_due hold gather left some due = rw (ne_eqb hold 0 (omega arith), le-leb hold left due) refl
-
-pub chosen_none : (hold gather left : ℕ) → 1 ≤ hold → left < hold → chosen hold gather left ≡ 0
-chosen_none hold gather left some few = rw (ne_eqb hold 0 (omega arith), lt-leb hold left few) refl
 
 -- a move that is due takes as many as it gathers, or all
 pub one_move : (hold gather count left m : ℕ) → 1 ≤ hold → hold ≤ left → left ≡ after_moves hold gather count m → left - min left gather ≡ after_moves hold gather count (m + 1)

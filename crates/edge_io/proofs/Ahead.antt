@@ -1,40 +1,13 @@
 -- What is still to come, over the steps of a reader of lines.
 use Rattle.std.proofs.Common.{◌≡◌, ◌≢◌, ℕ, ◌+◌, ◌-◌, ◌<◌, ◌≤◌, List, [], ◌∷◌, ◌++◌, Option, Some, None, All, length, take, drop, get_or, arith, refl, sym, ◌∙◌, ap, subst, append_assoc, inl, inr, zero, suc}
 use Rattle.std.specs.Prelude.{◌^◌, IfSome, IfNone}
-use Rattle.std.proofs.lemmas.List.{drop-append-le, take-append-drop, drop_more, get_or_append_left, get_or-take, length-take-le, length-append, take-take, take_all, take_at, drop_at, take-append-le, append-nil, get_or_default, nil_from_length}
+use Rattle.std.proofs.lemmas.List.{take-append-drop, drop_more, get_or_append_left, get_or-take, length-take-le, length-append, take-take, take_all, take_at, drop_at, take-append-le, append-nil, get_or_default, nil_from_length}
 use Rattle.std.proofs.Math.Seq.{take-add}
 use Rattle.std.proofs.lemmas.List.Elements.{All-from_get_or}
 use Rattle.std.specs.Io.KnownBytes.{Consumes, Keeps, IsAtEnd, prepend_known}
-use Rattle.edge_io.specs.declared.lines.Filled.{Filled}
-use Rattle.edge_io.specs.declared.lines.Filled.TheVariants as filled
 use Rattle.edge_io.specs.declared.lines.LineRead.{LineRead}
 use Rattle.edge_io.specs.declared.lines.LineRead.TheVariants.{Line, End, Torn, TooLong, InputTooLong, SourceFault, Memory}
-use Rattle.edge_io.specs.Lines.{Reader, ahead, IsTorn, IsTooLong, IsInputTooLong, NoneBelow, Stays, Reads, HoldsAnswer, AnswersHeld, Wants, Fills, ReadsOn}
-
--- bytes went from the source to the reader
-keeps_moved : (held chunk : List ℕ) (before after : Option (List ℕ)) → Consumes before after chunk → Keeps (prepend_known held before) (prepend_known (held ++ chunk) after)
-keeps_moved held chunk None after h = tt
-keeps_moved held chunk (Some xs) None h = h
-keeps_moved held chunk (Some xs) (Some ys) h = append_assoc held chunk ys ∙ ap (λ (v : List ℕ). held ++ v) (sym h)
-
-keeps_same : (held : List ℕ) (before after : Option (List ℕ)) → Keeps before after → Keeps (prepend_known held before) (prepend_known held after)
-keeps_same held None after h = tt
-keeps_same held (Some xs) None h = h
-keeps_same held (Some xs) (Some ys) h = ap (λ (v : List ℕ). held ++ v) h
-
-pub fills : (xs ys held : List ℕ) (start : ℕ) (before after : Option (List ℕ)) (r : Filled) → start ≤ length xs → drop start xs ≡ held → ReadsOn xs ys before after r → Fills held (drop start ys) (prepend_known held before) (prepend_known (drop start ys) after) r
-fills xs ys held start before after filled.More within o h =
-    let grown : drop start ys ≡ held ++ h.0 = ap (λ (v : List ℕ). drop start v) h.2 ∙ drop-append-le start xs h.0 within ∙ ap (λ (v : List ℕ). v ++ h.0) o in
-    (rw grown (keeps_moved held h.0 before after h.3), (h.0, h.1, grown))
-fills xs ys held start before after filled.End within o h =
-    let same : drop start ys ≡ held = ap (λ (v : List ℕ). drop start v) h.0 ∙ o in
-    (rw same (keeps_same held before after h.1), same)
-fills xs ys held start before after filled.Fault within o h =
-    let same : drop start ys ≡ held = ap (λ (v : List ℕ). drop start v) h.0 ∙ o in
-    (rw same (keeps_same held before after h.1), same)
-fills xs ys held start before after filled.Memory within o h =
-    let same : drop start ys ≡ held = ap (λ (v : List ℕ). drop start v) h.0 ∙ o in
-    (rw same (keeps_same held before after h.1), same)
+use Rattle.edge_io.specs.Lines.{Reader, ahead, IsTorn, IsTooLong, IsInputTooLong, NoneBelow, Stays, Reads, HoldsAnswer, AnswersHeld, Wants}
 
 -- a line went from the reader to the caller
 pub consumes_line : (a : Option (List ℕ)) (held line rest : List ℕ) (left : Option (List ℕ)) → Keeps a (prepend_known held left) → held ≡ line ++ 10 ∷ rest → Consumes a (prepend_known rest left) (line ++ 10 ∷ [])

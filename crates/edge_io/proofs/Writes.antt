@@ -3,7 +3,7 @@ use Rattle.std.proofs.Common.{ℕ, ◌+◌, List, ◌++◌, Option, length, take
 use Rattle.std.specs.Io.KnownBytes.{Appends}
 use Rattle.std.proofs.KnownBytes.{Appends-trans}
 use Rattle.std.proofs.lemmas.List.{length-append, take-append-le}
-use Rattle.std.proofs.Math.Seq.{take-append-add, take-length}
+use Rattle.std.proofs.Math.Seq.{take-append-add}
 use Rattle.edge_io.specs.Stream.{AppendsFront}
 
 -- what was written, and then more
@@ -17,7 +17,3 @@ front_first a b xs ys (n, bound, p) = (n, omega (arith, length-append xs ys), su
 -- all the first bytes, and then a front of the rest
 pub front_more : (a b c : Option (List ℕ)) (xs ys : List ℕ) → Appends a b xs → AppendsFront b c ys → AppendsFront a c (xs ++ ys)
 front_more a b c xs ys p (n, bound, q) = (length xs + n, omega (arith, length-append xs ys), subst (Appends a c) (sym (take-append-add xs ys n)) (appends_more a b c xs (take n ys) p q))
-
--- all the bytes are a front of themselves
-pub front_all : (a b : Option (List ℕ)) (xs : List ℕ) → Appends a b xs → AppendsFront a b xs
-front_all a b xs p = (length xs, omega arith, subst (Appends a b) (sym (take-length xs)) p)

@@ -1,22 +1,12 @@
 -- The lines that are taken of bytes of a file are the next ones of its samples.
-use Rattle.std.proofs.Common.{◌≡◌, ◌≢◌, ◌⊎◌, inl, inr, ℕ, ℤ, suc, ◌+◌, ◌≤◌, ◌<◌, List, [], ◌∷◌, ◌++◌, length, take, drop, get_or, true, false, refl, sym, ◌∙◌, ap, subst, arith, append_assoc, append-nil}
+use Rattle.std.proofs.Common.{◌≡◌, ◌⊎◌, inl, inr, ℕ, suc, ◌+◌, ◌≤◌, ◌<◌, List, [], ◌∷◌, ◌++◌, length, take, get_or, true, false, sym, ◌∙◌, ap, subst, arith}
 use Rattle.std.specs.Prelude.{Contains, ◌-◌, ◌&&◌, nat_lt}
 use Rattle.std.proofs.lemmas.Bool.{cases_lt, cond-true, cond-false}
 use Rattle.std.proofs.lemmas.Bool.Decides.{nat_tests}
-use Rattle.std.proofs.lemmas.List.{length-append, length-take, get_or-take, get_or_default, take_all, take-take, take-append-drop, take-append-le}
+use Rattle.std.proofs.lemmas.List.{length-append, length-take, get_or-take, get_or_default, take_all, take-take}
 use Rattle.std.proofs.Math.Seq.{take-append-add, take-suc, get_or-append_seam}
-use Rattle.pb_wire.specs.declared.payload.PayloadType.{PayloadType}
 use Rattle.line_escape.specs.Unescaping.{HasNoNewline}
-use Rattle.series_model.specs.declared.sample.Sample.{Sample}
-use Rattle.pb_lines.specs.File.{AreSamples, lines_of}
-use Rattle.pb_lines.proofs.FileLines.{one_run}
-use Rattle.store_manifest.specs.declared.entry.Entry.{Entry}
-use Rattle.etl_mover.specs.Lines.{TakesLines}
 use Rattle.etl_mover.specs.Reading.{IsChunk, cut_to_line}
-
-lines_nil : (xs : List Sample) (u : List ℕ) → lines_of xs ++ u ≡ [] → xs ≡ []
-lines_nil [] u is = refl
-lines_nil (x ∷ xs) u is = absurd (omega (arith, simp (length-append) at (ap length is)))
 
 one_more : (k : ℕ) → 1 + k ≡ suc k
 one_more k = omega arith
@@ -28,50 +18,6 @@ cut line more n lt =
 
 pub no_ten : (line : List ℕ) (n : ℕ) → HasNoNewline line → Contains (take n line) 10 → ⊥
 no_ten line n whole (k, low, is) = let long = length-take n line in whole k 10 (omega (arith, low, long)) (sym (get_or-take n line k 10 (omega (arith, low, long))) ∙ is)
-
--- What is taken of a chunk of the lines of samples are the first of them, at least one where there is one.
-pub record TakesNext (ys samples : List Sample) : Type 0 where
-  pub left : List Sample
-  pub are : ys ≡ samples ++ left
-  pub some : ys ≢ [] → samples ≢ []
-
-pub takes_next : (ty : PayloadType) (year : ℤ) (ys : List Sample) (most : ℕ) (chunk : List ℕ) (entry new : Entry) (len : ℕ) → AreSamples ty year ys → IsChunk (lines_of ys) (length (lines_of ys)) most chunk → (takes : TakesLines ty year chunk entry len new) → TakesNext ys takes.samples
-takes_next ty year ys most chunk entry new len are is takes =
-    let whole : lines_of takes.samples ++ (takes.rest ++ drop is.count (lines_of ys)) ≡ lines_of ys ++ [] =
-    sym (append_assoc (lines_of takes.samples) takes.rest (drop is.count (lines_of ys)))
-    ∙ ap (λ (l : List ℕ). l ++ drop is.count (lines_of ys)) (sym takes.begin ∙ is.are)
-    ∙ take-append-drop is.count (lines_of ys)
-    ∙ sym (append-nil (lines_of ys)) in
-    elim (one_run ty year takes.samples ys (takes.rest ++ drop is.count (lines_of ys)) [] takes.are are whole) [
-      | inl on ↦ record { left = on.more; are = on.list; some = some on.more on.list (on.left ∙ append-nil (lines_of on.more)) }
-      | inr on ↦
-          let none : on.more ≡ [] = lines_nil on.more (takes.rest ++ drop is.count (lines_of ys)) (sym on.left) in
-          let same : takes.samples ≡ ys = on.list ∙ (ap (λ (l : List Sample). ys ++ l) none ∙ append-nil ys) in
-          record { left = []; are = sym same ∙ sym (append-nil takes.samples); some = λ is is₂. is (sym same ∙ is₂) }
-    ]
-  where
-    some : (more : List Sample) → ys ≡ takes.samples ++ more → takes.rest ++ drop is.count (lines_of ys) ≡ lines_of more → ys ≢ [] → takes.samples ≢ []
-    some more list left given none = go ys are refl
-      where
-        bytes : takes.rest ≡ take is.count (lines_of ys)
-        bytes = ap (λ (xs : List Sample). lines_of xs ++ takes.rest) (sym none) ∙ (sym takes.begin ∙ is.are)
-
-        go : (xs : List Sample) → AreSamples ty year xs → xs ≡ ys → ⊥
-        go [] samples same = given (sym same)
-        go (x ∷ xs) samples same = elim (cases_lt (length x.line) is.count) [
-          | inl enough ↦ takes.all (record {
-            sample = x;
-            rest = take (is.count - (length x.line + 1)) (lines_of xs);
-            are = bytes ∙ (ap (λ (l : List Sample). take is.count (lines_of l)) (sym same) ∙ cut x.line (lines_of xs) is.count enough);
-            is = samples.0;
-          })
-          | inr short ↦ elim is.enough [
-            | inl newline ↦
-                let part : chunk ≡ take is.count x.line = is.are ∙ (ap (λ (l : List Sample). take is.count (lines_of l)) (sym same) ∙ take-append-le is.count x.line (10 ∷ lines_of xs) short) in
-                no_ten x.line is.count samples.0.whole (subst (λ (l : List ℕ). Contains l 10) part newline)
-            | inr all ↦ let long = ap (λ (l : List Sample). length (lines_of l)) same ∙ sym all in omega (arith, long, length-append x.line (10 ∷ lines_of xs), short)
-          ]
-        ]
 
 -- WHAT IS READ
 

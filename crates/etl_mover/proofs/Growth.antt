@@ -1,20 +1,11 @@
 -- Whether a part has grown since it was copied.
-use Rattle.std.proofs.Common.{◌≡◌, inl, inr, ℕ, ◌≤◌, ◌<◌, List, length, Option, Some, Result, Ok, slice_get, sym, ◌∙◌, ap, arith}
+use Rattle.std.proofs.Common.{◌≡◌, inl, inr, ℕ, ◌<◌, List, Option, Some, Result, Ok, slice_get, sym, ◌∙◌, ap, arith}
 use Rattle.std.proofs.lemmas.Bool.{cases_order}
-use Rattle.std.proofs.lemmas.List.{length-append, length-map}
 use Rattle.disk_model.specs.declared.disk.DiskErr.{DiskErr}
 use Rattle.store_manifest.specs.declared.entry.Entry.{Entry}
-use Rattle.store_manifest.specs.Manifest.{ManifestState}
 use Rattle.etl_mover.specs.declared.moving.RetireEnd.{RetireEnd}
 use Rattle.etl_mover.specs.declared.moving.RetireEnd.TheVariants.{Retired, Again}
-use Rattle.etl_mover.specs.Move.{MoveState, StillLists, HasGrown, HasNotGrown, of_series}
-
--- the source lists no fewer than the parts
-pub parts_within : (move : MoveState) (m : ManifestState) → StillLists move m → length move.parts ≤ length (of_series move.series m.entries)
-parts_within move m lists =
-    let all = ap length lists.entries ∙ length-append lists.now lists.others in
-    let same = sym (length-map lists.now (λ (e : Entry). e.part)) ∙ ap length lists.parts ∙ length-map move.parts (λ (e : Entry). e.part) in
-    omega (arith, all, same)
+use Rattle.etl_mover.specs.Move.{HasGrown, HasNotGrown}
 
 pub none_grown : (parts now : List Entry) (len copied : ℕ) → ((k : ℕ) → HasNotGrown parts now k) → HasGrown parts now len copied → ⊥
 none_grown parts now len copied none is = let le = none is.place is.part is.entry is.in_parts is.in_now in omega (arith, le, is.listed, is.published, is.longer)

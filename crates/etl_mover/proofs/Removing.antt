@@ -190,13 +190,6 @@ keeps_pinned pins names now left is = record {
 nothing_left : (xs : List Name) (n : Name) → 0 ≡ length xs → Contains xs n → ⊥
 nothing_left xs n none (k, low, is) = omega (arith, low, none)
 
--- at the end all that is kept is pinned
-pub all_pinned : (pins : FinMap nat_cmp PinState) (names now : List Name) → IsDecided pins names now 0 → (n : Name) → Contains now n → IsPinned pins n
-all_pinned pins names now is n there = elim (Contains-append_cases is.front is.kept n (subst (λ (l : List Name). Contains l n) is.now_are there)) [
-  | inl front ↦ absurd (nothing_left is.front n is.left_is front)
-  | inr kept ↦ is.pinned n kept
-]
-
 -- THE DISK
 
 spares_then : (pins : FinMap nat_cmp PinState) (names : List Name) (old mid new : Past) → Passes (Spares pins names) old mid → Passes (Spares pins names) mid new → Passes (Spares pins names) old new

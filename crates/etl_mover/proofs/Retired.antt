@@ -1,5 +1,5 @@
 -- A retirement: the parts are dropped, and then their files are removed.
-use Rattle.std.proofs.Common.{◌≡◌, ◌≢◌, inr, ℕ, ◌≤◌, List, length, get_or, map, Bool, true, false, Option, None, Some, Ok, Err, refl, sym, ◌∙◌, ap, subst, arith}
+use Rattle.std.proofs.Common.{◌≡◌, ◌≢◌, inr, ℕ, ◌≤◌, List, length, get_or, map, Bool, true, false, Option, Some, Ok, Err, refl, sym, ◌∙◌, ap, subst, arith}
 use Rattle.std.specs.Prelude.{All, Contains}
 use Rattle.std.specs.FinMap.{FinMap}
 use Rattle.std.specs.Ordering.{nat_cmp}
@@ -135,10 +135,6 @@ commit_knows m made next Fault same doubt fault memory = subst (λ (b : Bool). K
 pub removal_failed : (e : DiskErr) (sound : Bool) → (e ≡ Memory → ⊥) → sound ≡ true → retired (Err e) sound ≡ Made
 removal_failed Memory sound never is = absurd (never refl)
 removal_failed Fault sound never is = ap (λ (b : Bool). retired (Err Fault) b) is
-
-none_left : {A : Type 0} (o : Option A) → ((a : A) → o ≡ Some a → ⊥) → o ≡ None
-none_left {A} None other = refl
-none_left {A} (Some a) other = absurd (other a refl)
 
 -- ALL OF IT
 

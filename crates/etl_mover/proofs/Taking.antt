@@ -1,7 +1,7 @@
 -- Lines are taken one after another.
-use Rattle.std.proofs.Common.{◌≡◌, ℕ, ℤ, suc, ◌+◌, ◌≤◌, ◌<◌, List, [], ◌∷◌, ◌++◌, length, take, drop, get_or, refl, sym, ◌∙◌, ap, subst, arith, append_assoc}
+use Rattle.std.proofs.Common.{◌≡◌, ℕ, ℤ, suc, ◌+◌, ◌<◌, List, [], ◌∷◌, ◌++◌, length, take, drop, get_or, refl, sym, ◌∙◌, ap, subst, arith, append_assoc}
 use Rattle.std.proofs.Math.Seq.{drop-append_seam, drop-cons}
-use Rattle.std.proofs.lemmas.List.{length-append, length-take, length-drop, take-append-drop}
+use Rattle.std.proofs.lemmas.List.{length-append, length-take, take-append-drop}
 use Rattle.pb_wire.specs.declared.payload.PayloadType.{PayloadType}
 use Rattle.line_escape.specs.Unescaping.{HasNoNewline}
 use Rattle.series_model.specs.declared.sample.Sample.{Sample}
@@ -19,9 +19,6 @@ pub record IsTaking (ty : PayloadType) (year : ℤ) (bytes : List ℕ) (entry : 
   pub begin : bytes ≡ lines_of samples ++ rest
   pub long : len ≡ length (lines_of samples)
   pub grows : new ≡ with_lines samples entry
-
-pub begins_taking : (ty : PayloadType) (year : ℤ) (bytes : List ℕ) (entry : Entry) → IsTaking ty year bytes entry 0 entry
-begins_taking ty year bytes entry = record { samples = []; rest = bytes; are = tt; begin = refl; long = refl; grows = refl }
 
 with_lines-push : (xs : List Sample) (s : Sample) (e : Entry) → with_lines (xs ++ s ∷ []) e ≡ with_line (length s.line + 1) s.t (with_lines xs e)
 with_lines-push [] s e = refl
@@ -66,10 +63,6 @@ takes_all ty year bytes entry len new is none = record {
   grows = is.grows;
   all = λ start. none (subst (IsSampleStart ty year) (sym (rest_is ty year bytes entry len new is)) start);
 }
-
--- since nothing does, since no newline does, or since the line is no sample's
-pub none_at_end : (ty : PayloadType) (year : ℤ) (bytes : List ℕ) (len : ℕ) → length bytes ≤ len → IsSampleStart ty year (drop len bytes) → ⊥
-none_at_end ty year bytes len past start = let long = ap length start.are in omega (arith, long, length-drop len bytes, length-append start.sample.line (10 ∷ start.rest), past)
 
 pub none_torn : (ty : PayloadType) (year : ℤ) (rest : List ℕ) (end : ℕ) → HasNoNewline (take end rest) → end ≡ length rest → IsSampleStart ty year rest → ⊥
 none_torn ty year rest end whole all start = no_line rest start.sample.line start.rest (subst HasNoNewline (ap (λ (n : ℕ). take n rest) all ∙ take_whole rest) whole) start.are

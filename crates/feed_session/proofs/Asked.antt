@@ -1,16 +1,15 @@
 -- What one act comes to, and what several come to one after another.
-use Rattle.std.proofs.Common.{◌≡◌, ◌⊎◌, inl, inr, ◌∙◌, ap, sym, refl, subst, ℕ, List, [], ◌∷◌, ◌++◌, append-nil, add-zero, Bool, true, false, Option, Some, None, Result, Ok, Err}
+use Rattle.std.proofs.Common.{◌≡◌, inl, inr, ◌∙◌, ap, sym, refl, subst, ℕ, List, [], ◌∷◌, ◌++◌, append-nil, add-zero, false, Some, None, Ok, Err}
 use Rattle.act_model.specs.declared.acts.Act.{Act}
 use Rattle.act_model.specs.declared.acts.Answer.TheVariants as answer
 use Rattle.act_model.specs.Reply.{Reply}
 use Rattle.act_model.specs.History.{Done, Entry, Made}
 use Rattle.act_model.proofs.Histories.{made_joined, made_nothing}
 use Rattle.feed_session.specs.Asks.{AreMade, FailsWith, NoneFails, asked_again, flush_all, is_failure}
-use Rattle.feed_session.specs.Asking.{Asking, Closes, OffersOnce, StopsIn, Tried, both, end_by, none, one_more, tally_of}
+use Rattle.feed_session.specs.Asking.{Asking, OffersOnce, StopsIn, both, none, one_more, tally_of}
 use Rattle.feed_session.specs.Session.{IsFlushed}
 use Rattle.feed_session.specs.declared.asking.Stopped.{Stopped}
 use Rattle.feed_session.specs.declared.asking.Stopped.TheVariants as stopped
-use Rattle.feed_session.specs.declared.end.Fed.{Fed}
 use Rattle.feed_session.specs.declared.tally.Outcome.{Outcome}
 use Rattle.feed_session.specs.declared.tally.Outcome.TheVariants.{Kept, Held, Dropped}
 use Rattle.feed_session.specs.declared.tally.Tally.{Tally}
@@ -44,26 +43,13 @@ module _ {A : Type 0} (number : A → ℕ) (between : A → List Entry → A →
     ends = stops;
   }
 
-  -- no act was made
-  pub asked_none : {X : Type 0} (Are : X → List Done → Type 0) (old new : A) (asked : List Act) (s : Stopped) → Made number between old [] new → StopsIn s [] → Asking number between old asked Are (Err s) new
-  asked_none Are old new asked s made stops = record { done = []; left = asked; made = made; are = refl; ends = stops }
-
   pub asked_nothing : {X : Type 0} (Are : X → List Done → Type 0) (old new : A) (x : X) → Made number between old [] new → Are x [] → Asking number between old [] Are (Ok x) new
   asked_nothing Are old new x made are = record { done = []; left = []; made = made; are = refl; ends = (refl, tt, are) }
 
   -- ONE TRY OF AN OFFER
 
-  pub tried_well : (old new : A) (act : Act) (reply : Reply) (outcome : Outcome) → Made number between old (done_as act reply ∷ []) new → asked_again act reply ≡ [] → is_failure reply ≡ false → tally_of (done_as act reply ∷ []) ≡ one_more outcome none → OffersOnce number between old act (Ok (Some outcome)) new
-  tried_well old new act reply outcome made again well is = record { done = done_as act reply ∷ []; left = []; made = made; are = (refl, sym (append-nil (asked_again act reply) ∙ again)); ends = (refl, (well, tt), is) }
-
-  pub tried_full : (old new : A) (act : Act) (held : ℕ) → Made number between old (done_as act (answer.IntakeFull held) ∷ []) new → OffersOnce number between old act (Ok None) new
-  tried_full old new act held made = record { done = done_as act (answer.IntakeFull held) ∷ []; left = flush_all ∷ act ∷ []; made = made; are = (refl, refl); ends = (refl, (refl, tt), refl) }
-
   pub tried_badly : (old new : A) (act : Act) → Made number between old (done_as act answer.Memory ∷ []) new → OffersOnce number between old act (Err stopped.Memory) new
   tried_badly old new act made = record { done = done_as act answer.Memory ∷ []; left = []; made = made; are = (refl, refl); ends = inr (fails_one act answer.Memory) }
-
-  pub tried_none : (old new : A) (act : Act) (s : Stopped) → Made number between old [] new → StopsIn s [] → OffersOnce number between old act (Err s) new
-  tried_none old new act s made stops = record { done = []; left = act ∷ []; made = made; are = refl; ends = stops }
 
   -- TRIES
 

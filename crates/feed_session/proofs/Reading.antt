@@ -1,11 +1,11 @@
 -- What was read of a stream, from its start.
-use Rattle.std.proofs.Common.{◌≡◌, ◌∙◌, ap, sym, refl, subst, ℕ, List, [], ◌∷◌, ◌++◌, append_assoc, append-nil, arith, inl, inr, lit≤, ◌+◌, ◌^◌, ◌≤◌, Option, Some, None}
+use Rattle.std.proofs.Common.{◌≡◌, ◌∙◌, sym, subst, ℕ, List, [], ◌++◌, append_assoc, append-nil, arith, inl, inr, lit≤, ◌+◌, ◌^◌, ◌≤◌, Option, Some, None}
 use Rattle.std.specs.Prelude.{IfSome}
 use Rattle.std.proofs.KnownBytes.{prepend_known-nil}
 use Rattle.payload_info.specs.declared.info.PayloadInfo.{PayloadInfo}
 use Rattle.pb_lines.specs.declared.reader.ChunkItem.TheVariants as it
-use Rattle.pb_lines.specs.Stream.{Item, Section, Stop, IsWholeStream, header, sample, first_section}
-use Rattle.pb_lines.specs.Reader.{Chunks, Holds, IsFresh, Passes, ReadsItem, IsLineOf, Stops, bytes_taken, lines_taken, to_come, work_left}
+use Rattle.pb_lines.specs.Stream.{Item, Stop, IsWholeStream, first_section}
+use Rattle.pb_lines.specs.Reader.{Chunks, Holds, IsFresh, Passes, IsLineOf, Stops, bytes_taken, lines_taken, to_come, work_left}
 use Rattle.pb_lines.proofs.Whole.{every_stream}
 use Rattle.series_model.specs.declared.sample.Sample.{Sample}
 use Rattle.pv_name.specs.Name.{IsName, IsRefusedAt}
@@ -65,14 +65,6 @@ pub same_some : (x y : PayloadInfo) → ◌≡◌ {A = Option PayloadInfo} (Some
 same_some x y is = cc
 
 -- ITEMS
-
-pub header_read : (old new : Chunks) (before after : Option (List ℕ)) (info : PayloadInfo) → ReadsItem old new before after it.Header → new.section.chunk ≡ Some info → Passes old new before after (header info new.lines.line ∷ [])
-header_read old new before after info read inside =
-    let same : read.0 ≡ info = same_some read.0 info (sym (ap (λ (s : Section). s.chunk) read.1) ∙ inside) in
-    subst (λ (i : PayloadInfo). Passes old new before after (header i new.lines.line ∷ [])) same read.2
-
-pub sample_read : (old new : Chunks) (before after : Option (List ℕ)) (t : ℕ) (line : List ℕ) → line ≡ new.lines.line → ReadsItem old new before after (it.Sample t) → Passes old new before after (sample (record { t = t; line = line }) ∷ [])
-sample_read old new before after t line is read = subst (λ (l : List ℕ). Passes old new before after (sample (record { t = t; line = l }) ∷ [])) (sym is) read.1
 
 -- what a header's and a sample's line is
 abbrev the_sample : ℕ → List ℕ → Sample

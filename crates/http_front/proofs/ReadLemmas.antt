@@ -1,8 +1,8 @@
 -- What the bytes that were taken are answered.
-use Rattle.std.proofs.Common.{◌≡◌, ℕ, ◌+◌, ◌-◌, ◌<◌, ◌≤◌, List, [], ◌++◌, Option, Some, None, Result, Ok, Err, length, take, drop, sym, ap, ◌∙◌, subst, inl, inr, arith}
+use Rattle.std.proofs.Common.{◌≡◌, ℕ, ◌+◌, ◌-◌, ◌<◌, ◌≤◌, List, ◌++◌, Option, Some, None, Result, Ok, Err, length, take, drop, sym, ap, ◌∙◌, subst, inl, inr, arith}
 use Rattle.std.specs.Prelude.{◌⊎◌, codes, IfOk, IfSome, IfNone}
 use Rattle.std.specs.Io.KnownBytes.{Consumes, ReadConsumes}
-use Rattle.std.proofs.KnownBytes.{Consumes-nil, Consumes-trans}
+use Rattle.std.proofs.KnownBytes.{Consumes-trans}
 use Rattle.std.proofs.lemmas.List.{length-take, take-append-le}
 use Rattle.std.proofs.Math.Seq.{take-append-add}
 use borrow.Rule.Slice.PartMut.{put_mid}
@@ -14,7 +14,7 @@ use Rattle.http_front.specs.declared.reading.Due.{Due}
 use Rattle.http_front.specs.declared.reading.Due.TheVariants as due
 use Rattle.http_front.specs.Calls.{Answers, CallOf}
 use Rattle.http_front.specs.Heads.{BeginsWith, IsUnfinished}
-use Rattle.http_front.specs.Reading.{AnswersHead, Judges, HasRead, ReadsBehind, GoesOn, NoHeadYet}
+use Rattle.http_front.specs.Reading.{AnswersHead, Judges, ReadsBehind, GoesOn, NoHeadYet}
 
 bad_is_no_fault : (a : Result Request HttpErr) → a ≡ Err BadHead → a ≡ Err SourceFault → ⊥
 bad_is_no_fault a p q = cc
@@ -102,10 +102,6 @@ judged_so taken P Q (Err BadMethod) f x = x
 judged_so taken P Q (Err BadPath) f x = x
 judged_so taken P Q (Err (BadParameter which)) f x = x
 judged_so taken P Q (Err Memory) f x = x
-
--- nothing was taken, for want of memory
-pub nothing_read : (left : Option (List ℕ)) → HasRead left left (Err Memory)
-nothing_read left = record { taken = []; most = omega arith; consumes = Consumes-nil left; judges = tt }
 
 -- a read behind the first bytes
 pub reads_behind : (old new : List ℕ) (len : ℕ) (before after : Option (List ℕ)) (r : Result ℕ Failed) → len < length old → length new ≡ length old - len → IfOk r (λ n. n ≤ length new) → ReadConsumes before after r new → ReadsBehind old (put_mid len (length old - len) old new) len before after r

@@ -1,16 +1,15 @@
 -- What stays told of what is behind a sink.
-use Rattle.std.proofs.Common.{◌≡◌, ℕ, ◌+◌, ◌*◌, ◌≤◌, Bool, true, false, ◌&&◌, List, [], ◌∷◌, ◌++◌, Option, Some, None, inl, inr, length, take, drop, refl, sym, ap, ◌∙◌, arith, append_assoc, rules}
+use Rattle.std.proofs.Common.{◌≡◌, ℕ, ◌+◌, ◌*◌, ◌≤◌, Bool, true, false, ◌&&◌, List, [], ◌∷◌, ◌++◌, Option, Some, None, inr, length, take, drop, refl, sym, ap, ◌∙◌, arith, append_assoc, rules}
 use Rattle.std.specs.Prelude.{if◌then◌else◌, nat_le, not, ◌||◌, IfSome, OnOk, Result, Ok, Err}
 use Rattle.std.specs.Cmp.Lexicographic.{bytes_decides}
 use Rattle.std.specs.Io.KnownBytes.{Keeps, Appends, WriteAppends, append_known}
-use Rattle.std.proofs.KnownBytes.{append_known-moved, Keeps-trans}
+use Rattle.std.proofs.KnownBytes.{Keeps-trans}
 use Rattle.std.proofs.lemmas.List.{append-nil, take_at, drop_at, length-append}
 use Rattle.std.specs.Option.{option_map}
 use Rattle.std.proofs.lemmas.Bool.Decides.{nat_tests}
 use Rattle.http_front.specs.Chunks.{chunk_of, last_chunk, rest_chunk, full_in, chunked}
 use Rattle.http_front.specs.Behind.{known, tells, in_chunks, as_it_is, behind, coded, is_full, has_got, has_kept, stands, text_of, written_behind, whole_of, ended, told_of, HasFront, EndsBody}
 use Rattle.edge_io.specs.declared.stream.Failed.{Failed}
-use Rattle.http_front.specs.Sends.{Sends}
 use Rattle.http_front.proofs.Chunking.{chunked_joined, chunked_short, full_behind}
 
 pub both : (a b : Bool) → a && b ≡ true → (a ≡ true) × (b ≡ true)
@@ -28,12 +27,6 @@ appends_if : (s t : Bool) (x y bs : List ℕ) → (s ≡ true → (t ≡ true) �
 appends_if false t x y bs h = tt
 appends_if true t x y bs h = let got = h refl in rw (got.0, got.1) refl
 
-has_got_kept : (start x y : Option (List ℕ)) (text : List ℕ) → Keeps x y → has_got start x text ≡ true → has_got start y text ≡ true
-has_got_kept None x y text k h = refl
-has_got_kept (Some f) None y text k h = cc
-has_got_kept (Some f) (Some xs) None text k h = absurd k
-has_got_kept (Some f) (Some xs) (Some ys) text k h = rw k h
-
 -- more is on its way, and more was taken
 has_got_more : (start a : Option (List ℕ)) (p text q : List ℕ) → has_got start (append_known a p) text ≡ true → has_got start (append_known a (p ++ q)) (text ++ q) ≡ true
 has_got_more None a p text q h = refl
@@ -41,11 +34,6 @@ has_got_more (Some f) None p text q h = cc
 has_got_more (Some f) (Some xs) p text q h =
     let is : xs ++ p ≡ f ++ text = (bytes_decides (xs ++ p) (f ++ text)).0 h in
     (bytes_decides (xs ++ (p ++ q)) (f ++ (text ++ q))).1 (sym (append_assoc xs p q) ∙ ap (λ (u : List ℕ). u ++ q) is ∙ append_assoc f text q)
-
--- what went out was on its way
-has_got_sent : (start a b : Option (List ℕ)) (text p q : List ℕ) → Sends a b p q → has_got start (append_known a p) text ≡ true → has_got start (append_known b q) text ≡ true
-has_got_sent start a b text p q sends h =
-    has_got_kept start (append_known a p) (append_known b q) text (append_known-moved a b sends.0 q p sends.2 sends.1) h
 
 pub full_of : (taken : List ℕ) → is_full taken ≡ true → length taken ≡ 8192 * full_in taken
 full_of taken h = let e = h in search rules
@@ -62,9 +50,6 @@ has_kept_more (Some f) (Some xs) (Some ys) out p h =
     let long : length ys ≡ length xs + length out = ap length p ∙ length-append xs out in
     grind (arith, nat_tests)
 
-kept_all : (f : List ℕ) → nat_le (length f) (length f) ≡ true
-kept_all f = grind (arith, nat_tests)
-
 kept_long : (f xs : List ℕ) → nat_le (length f) (length xs) ≡ true → length f ≤ length xs
 kept_long f xs h = grind (arith, nat_tests)
 
@@ -79,16 +64,6 @@ stood start now chunks taken going h =
     let first = both (has_got start (append_known now going) (coded chunks taken)) (has_kept start now && (not chunks || is_full taken)) h in
     let rest = both (has_kept start now) (not chunks || is_full taken) first.1 in
     record { got = first.0; kept = rest.0; full = rest.1 }
-
-stands_so : (start now : Option (List ℕ)) (chunks : Bool) (taken going : List ℕ) → Stood start now chunks taken going → stands start now chunks taken going ≡ true
-stands_so start now chunks taken going s = and_both _ _ s.got (and_both _ _ s.kept s.full)
-
-pub flushed : (start a b : Option (List ℕ)) (name : ℕ) (chunks : Bool) (taken held p q : List ℕ) → Sends a b p q
-    → Keeps (written_behind start a name chunks taken held p) (written_behind start b name chunks taken held q)
-flushed start a b name chunks taken held p q sends =
-    keeps_if (stands start a chunks taken p) (stands start b chunks taken q) _ _ (λ h.
-    let s = stood start a chunks taken p h in
-    (stands_so start b chunks taken q (record { got = has_got_sent start a b (coded chunks taken) p q sends s.got; kept = has_kept_more start a b sends.0 sends.2 s.kept; full = s.full }), refl))
 
 pub chunk_closed : (start a : Option (List ℕ)) (name : ℕ) (taken held : List ℕ) → length held ≡ 8192
     → Keeps (written_behind start a name true taken held []) (written_behind start a name true (taken ++ held) [] (chunk_of held))
@@ -136,16 +111,6 @@ passed start a b name taken held bs appends =
     appends_if (stands start a false taken []) (stands start b false (taken ++ bs) []) _ _ bs (λ h.
     let s = stood start a false taken [] h in
     (and_both _ _ (has_got_passed start a b taken bs appends s.got) (and_both _ _ (has_kept_more start a b bs appends s.kept) refl), ap (λ (u : List ℕ). 0 ∷ name ∷ tells start ∷ length (known start) ∷ u) (sym (append_assoc (known start) taken bs))))
-
--- a text that goes out as it is has no other end
-pub plain_ended : (start a : Option (List ℕ)) (name : ℕ) (taken held p : List ℕ) → Keeps (option_map ended (written_behind start a name false taken held p)) (written_behind start a name false taken held p)
-plain_ended start a name taken held p = ended_if (stands start a false taken p) (stands start a false taken p) _ _ (λ h. (h, refl))
-
-pub begun : (start : Option (List ℕ)) (name : ℕ) (chunks : Bool) → written_behind start start name chunks [] [] [] ≡ Some (behind chunks name start [])
-begun None name true = refl
-begun None name false = refl
-begun (Some f) name true = let e = (bytes_decides (f ++ []) (f ++ [])).1 refl in rw (e, kept_all f) refl
-begun (Some f) name false = let e = (bytes_decides (f ++ []) (f ++ [])).1 refl in rw (e, kept_all f) refl
 
 if_some : (s : Bool) (x : List ℕ) (P : List ℕ → Type 0) → (s ≡ true → P x) → IfSome (if s then Some x else None) P
 if_some false x P h = tt
@@ -227,11 +192,6 @@ ends (Some told) (Some x) (Some y) now start name taken held going r first close
     let target = ended told in
     let same : y ≡ ended told = close ∙ ap ended first in
     ends_at now start name taken held going told r (kept_is y (written_behind start now name false taken held going) last ∙ ap Some same) out
-
--- an end that has not begun
-pub not_ended : (w v now : Option (List ℕ)) (e : Failed) → Keeps w v → EndsBody w v now (Err e)
-not_ended None v now e h = tt
-not_ended (Some told) v now e h = inl (kept_is told v h)
 
 -- nothing was done, and then bytes were written
 pub kept_appends : (a b c : Option (List ℕ)) (bs : List ℕ) → Keeps a b → Appends b c bs → Appends a c bs

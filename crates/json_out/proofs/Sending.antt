@@ -4,7 +4,7 @@ use Rattle.std.specs.Io.KnownBytes.{Appends}
 use Rattle.std.proofs.lemmas.List.{append-nil}
 use Rattle.edge_io.specs.Stream.{AppendsFront}
 use Rattle.sink_buffer.specs.Sent.{Sends}
-use Rattle.sink_buffer.proofs.Sending.{front_then, front_longer, front_kept, sends_none, sends_then, all_out, front_out}
+use Rattle.sink_buffer.proofs.Sending.{front_then, front_longer, sends_then, all_out, front_out}
 use Rattle.series_model.specs.declared.sample.Sample.{Sample}
 use Rattle.pb_wire.specs.declared.payload.PayloadType.{PayloadType}
 use Rattle.event_types.specs.declared.about.About.{About}
@@ -22,12 +22,6 @@ use Rattle.json_out.proofs.Texts.{separated_more}
 begun_none : (name : List ℕ) (about : About) → head_text name about.headers ≡ begun_text name about []
 begun_none name about = sym (append-nil (head_text name about.headers))
 
-pub begun : (a b : Option (List ℕ)) (old piece new : List ℕ) (subject : Subject) → piece ≡ head_text subject.name subject.about.headers → Sends a b (old ++ piece) new
-    → Sends a b (old ++ begun_text subject.name subject.about []) new
-begun a b old piece new subject is sent =
-    let P : List ℕ → Type 0 = λ u. Sends a b (old ++ u) new in
-    subst P (is ∙ begun_none subject.name subject.about) sent
-
 pub begin_broken : (a b : Option (List ℕ)) (old piece : List ℕ) (subject : Subject) (all : List Sample) → piece ≡ head_text subject.name subject.about.headers
     → AppendsFront a b (old ++ piece) → Breaks a b old subject all
 begin_broken a b old piece subject all is front =
@@ -35,10 +29,6 @@ begin_broken a b old piece subject all is front =
     let whole : old ++ json subject.name subject.about all ≡ (old ++ piece) ++ rest.0 =
     ap (λ (u : List ℕ). old ++ u) (rest.1 ∙ ap (λ (u : List ℕ). u ++ rest.0) (sym (is ∙ begun_none subject.name subject.about))) ∙ sym (append_assoc old piece rest.0) in
     front_of a b (old ++ json subject.name subject.about all) ((old ++ piece) ++ rest.0) whole (front_longer a b (old ++ piece) rest.0 front)
-
--- where memory ran out before anything was put
-pub nothing_sent : (a : Option (List ℕ)) (old : List ℕ) (subject : Subject) (all : List Sample) → Breaks a a old subject all
-nothing_sent a old subject all = front_kept a a [] [] (old ++ json subject.name subject.about all) (sends_none a)
 
 -- a piece that was put into an empty buffer
 pub put_alone : (piece items old text : List ℕ) → piece ≡ items → items ≡ old ++ text → old ≡ [] → piece ≡ text

@@ -1,5 +1,5 @@
 -- What a reply came to: the parts of a reply to a request for data, why it ended, and how it begins.
-use Rattle.std.proofs.Common.{◌≡◌, ◌⊎◌, inl, inr, ℕ, ◌≤◌, Bool, true, IsTrue, List, ◌++◌, Option, Some, None, Result, Ok, Err, drop, codes, refl, sym, ◌∙◌, subst, arith}
+use Rattle.std.proofs.Common.{◌≡◌, ◌⊎◌, inl, inr, ℕ, Bool, true, IsTrue, List, ◌++◌, Option, Some, None, Result, Ok, Err, drop, codes, refl, sym, subst}
 use Rattle.std.specs.Io.KnownBytes.{Appends}
 use Rattle.edge_io.specs.Stream.{AppendsFront}
 use Rattle.edge_io.proofs.Writes.{appends_more}
@@ -12,10 +12,8 @@ use Rattle.act_model.specs.Sound.{IsSound}
 use Rattle.http_front.specs.declared.reply.Head.{Head}
 use Rattle.http_front.specs.declared.request.HttpErr.{HttpErr}
 use Rattle.http_front.specs.declared.request.HttpErr.TheVariants as http
-use Rattle.http_front.specs.declared.request.Request.{Request}
 use Rattle.http_front.specs.declared.request.WebCall.{WebCall}
 use Rattle.http_front.specs.declared.request.WebCall.TheVariants as call
-use Rattle.http_front.specs.Reading.{HasRead}
 use Rattle.http_front.specs.Reply.{head_text}
 use Rattle.admin_commands.specs.declared.end.AdminErr.{AdminErr}
 use Rattle.admin_commands.specs.declared.end.AdminErr.TheVariants as admin
@@ -23,12 +21,10 @@ use Rattle.admin_commands.specs.declared.refusal.Refusal.{Refusal}
 use Rattle.admin_commands.specs.Next.{is_management}
 use Rattle.admin_commands.specs.Replies.{refused_reply, reply_text}
 use Rattle.admin_commands.specs.Serving.{Serves}
-use Rattle.retrieval_query.specs.declared.variable.PinErr.{PinErr}
-use Rattle.retrieval_query.specs.declared.variable.PinErr.TheVariants as pin_err
 use Rattle.retrieval_query.specs.declared.variable.PinnedVariable.{PinnedVariable}
 use Rattle.retrieval_query.specs.declared.retrieved.Retrieved.{Retrieved}
 use Rattle.retrieval_query.specs.declared.retrieved.Retrieved.TheVariants as retrieved
-use Rattle.retrieval_query.specs.Pinning.{AnswersPinned, FailsToPin, ended_by}
+use Rattle.retrieval_query.specs.Pinning.{AnswersPinned, ended_by}
 use Rattle.retrieval_query.specs.Retrieving.{ReadsHeaders}
 use Rattle.retrieval_query.proofs.Answered.{whole_answer}
 use Rattle.link_service.specs.declared.format.Format.{Format}
@@ -51,10 +47,6 @@ module _ {A R : Type 0} (number : A → ℕ) (between : A → List Entry → A �
       let answers = head.2 in
       inr (inr (head.0, head.1, record { pin = v.pin; name_told = v.name; about = v.about; pieces = v.pieces; tail = v.tail; pinned = mid; pins = pins; reads = answers.reads; writes = answers.some }))
 
-  -- it wasn't
-  pub refused_acts : (why : PinErr) → FailsToPin number between is_spent old name query why new → Tells (pin_refusal why) rose (ended_by why) retrieved.SinkFault retrieved.Memory a result b → MakesActs number between is_spent tells faults rose old a new b form version name query result
-  refused_acts why fails told = inl (record { why = why; fails = fails; tells = told })
-
   module _ (legal : (a b : A) (entries : List Entry) (m : Machine) → between a entries b → stands a m → Goes (stands b) m entries) (sound : (a : A) (m : Machine) → stands a m → IsSound m)
       (joined : (a b c : A) (xs ys : List Entry) → between a xs b → between b ys c → between a (xs ++ ys) c) (number_stays : (a b : A) (entries : List Entry) → between a entries b → number b ≡ number a)
       (m : Machine) (is : stands old m) (told : m.told ≡ true) (headers : ReadsHeaders m.rule) (telling : IsTrue tells) where
@@ -64,41 +56,6 @@ module _ {A R : Type 0} (number : A → ℕ) (between : A → List Entry → A �
     whole_of v pins (inl lost) = inr (inl (record { pin = v.pin; name_told = v.name; about = v.about; pieces = v.pieces; tail = v.tail; pinned = mid; pins = pins; loses = lost }))
     whole_of v pins (inr head) =
         inr (inr (head.0, head.1, whole_answer number between stands legal sound joined number_stays is_spent tells faults (FinishesBody form version) (BreaksBody form version) rose old mid new name query v m head.0 b result pins is told headers telling head.2))
-
--- WHY IT ENDED
-
-not_fault : {R : Type 0} (why : PinErr) → ◌≡◌ {A = Retrieved R} (ended_by why) retrieved.SinkFault → ⊥
-not_fault pin_err.NoSuchVariable is = cc
-not_fault pin_err.DiskFault is = cc
-not_fault pin_err.Spent is = cc
-not_fault pin_err.Memory is = cc
-
-told_rose : {R : Type 0} (refusal : Option Refusal) (rose : Type 0) (why : PinErr) (a b : Option (List ℕ)) (result : Retrieved R) → Tells refusal rose (ended_by why) retrieved.SinkFault retrieved.Memory a result b → result ≡ retrieved.SinkFault → rose
-told_rose None rose why a b result t is = absurd (let bad : retrieved.Memory ≡ retrieved.SinkFault = sym t.0 ∙ is in cc)
-told_rose (Some refusal) rose why a b result (inl t) is = absurd (not_fault why (sym t.0 ∙ is))
-told_rose (Some refusal) rose why a b result (inr (inl t)) is = t.1
-told_rose (Some refusal) rose why a b result (inr (inr t)) is = absurd (let bad : retrieved.Memory ≡ retrieved.SinkFault = sym t.0 ∙ is in cc)
-
--- a write failed only where the count of that rose
-pub data_rose : {A R : Type 0} (number : A → ℕ) (between : A → List Entry → A → Type 0) (is_spent : A → Type 0) (tells : Bool) (faults : R → ℕ) (rose : Type 0) (old new : A) (a b : Option (List ℕ)) (form : Format) (version : ℕ) (name : List ℕ) (query : Query) (result : Retrieved R)
-    → MakesActs number between is_spent tells faults rose old a new b form version name query result → result ≡ retrieved.SinkFault → rose
-data_rose number between is_spent tells faults rose old new a b form version name query result (inl r) is = told_rose (pin_refusal r.why) rose r.why a b result r.tells is
-data_rose number between is_spent tells faults rose old new a b form version name query result (inr (inl p)) is = by_why p.loses.why
-  where
-    by_why : ((result ≡ retrieved.SinkFault) × rose × AppendsFront a b (head_text (data_head form version))) ⊎ ((result ≡ retrieved.Memory) × (b ≡ a)) → rose
-    by_why (inl w) = w.1
-    by_why (inr w) = absurd (let bad : retrieved.Memory ≡ retrieved.SinkFault = sym w.0 ∙ is in cc)
-data_rose number between is_spent tells faults rose old new a b form version name query result (inr (inr h)) is = let ends = rw is at h.2.reads.ends in ends.1
-
--- the same of the reply
-pub peer_rose : {R : Type 0} (rose : Type 0) (end : Retrieved R) → (end ≡ retrieved.SinkFault → rose) → replied_by end ≡ PeerFault → rose
-peer_rose rose (retrieved.Finished count) r is = absurd (cc)
-peer_rose rose retrieved.NoSuchVariable r is = absurd (cc)
-peer_rose rose (retrieved.ReadFault failed) r is = absurd (cc)
-peer_rose rose (retrieved.Damaged name at) r is = absurd (cc)
-peer_rose rose retrieved.SinkFault r is = r refl
-peer_rose rose retrieved.Spent r is = absurd (cc)
-peer_rose rose retrieved.Memory r is = absurd (cc)
 
 -- HOW A REPLY BEGINS
 
@@ -210,21 +167,3 @@ call_begins number between is_spent tells faults rose version old new (call.Arch
 call_begins number between is_spent tells faults rose version old new (call.PausePv pv) a b result (end, is, s) = subst (λ r. BeginsReply r a b) (sym is) (managed_begins _ number between is_spent (call.PausePv pv) old new a b end s)
 call_begins number between is_spent tells faults rose version old new (call.ResumePv pv) a b result (end, is, s) = subst (λ r. BeginsReply r a b) (sym is) (managed_begins _ number between is_spent (call.ResumePv pv) old new a b end s)
 call_begins number between is_spent tells faults rose version old new call.FlushAll a b result (end, is, s) = subst (λ r. BeginsReply r a b) (sym is) (managed_begins _ number between is_spent call.FlushAll old new a b end s)
-
--- A REQUEST
-
--- the minor version of a request that was read
-pub version_low : (left later : Option (List ℕ)) (request : Request) → HasRead left later (Ok request) → request.version ≤ 1
-version_low left later request read =
-    let head = read.judges in
-    omega (arith, head.begins.reads.0.minor, head.begins.minor_is, head.answers.2)
-
--- nothing is replied where memory ran out
-pub unheard : {R : Type 0} (why : HttpErr) → (why ≡ http.SourceFault → ⊥) → unreplied {R = R} why ≡ Memory
-unheard http.SourceFault heard = absurd (heard refl)
-unheard http.BadHead heard = refl
-unheard http.HeadTooLong heard = refl
-unheard http.BadMethod heard = refl
-unheard http.BadPath heard = refl
-unheard (http.BadParameter which) heard = refl
-unheard http.Memory heard = refl

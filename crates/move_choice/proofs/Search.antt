@@ -1,27 +1,16 @@
 -- The search for the series that moves next, series by series.
-use Rattle.std.proofs.Common.{◌≡◌, ◌⊎◌, inl, inr, ℕ, List, below_more, ap, ◌+◌, ◌<◌, ◌≤◌, zero, suc, Option, Some, None, refl, sym, ◌∙◌, subst, arith}
+use Rattle.std.proofs.Common.{◌≡◌, inl, inr, ℕ, List, below_more, ap, ◌+◌, ◌≤◌, zero, suc, Option, Some, None, sym, ◌∙◌, subst, arith}
 use Rattle.std.specs.Option.{is_some, unwrap_or}
 use Rattle.store_manifest.specs.declared.entry.Entry.{Entry}
 use Rattle.move_choice.specs.declared.parts.MoveRule.{MoveRule}
 use Rattle.move_choice.specs.Parts.{parts_of}
-use Rattle.move_choice.specs.declared.series.ToMove.TheVariants.{Begin}
-use Rattle.move_choice.specs.declared.series.Turn.{Turn}
-use Rattle.move_choice.specs.declared.series.Turn.TheVariants.{Free, On}
+use Rattle.move_choice.specs.declared.series.Turn.TheVariants.{On}
 use Rattle.move_choice.specs.Search.{IsTurn, turned, answer}
 use Rattle.move_choice.specs.Series.{IsToMove, IsPassed, of_series, parts_in}
 
 -- so many partitions of a series move, by its own entries
 pub many_of : (rule : MoveRule) (source destination es ds : List Entry) (s n : ℕ) → n ≡ parts_of rule es ds → es ≡ of_series s source → ds ≡ of_series s destination → n ≡ parts_in rule source destination s
 many_of rule source destination es ds s n are left right = are ∙ ap (λ l. parts_of rule l ds) left ∙ ap (λ l. parts_of rule (of_series s source) l) right
-
--- all series so far are passed by
-all_passed : (parts : ℕ → ℕ) (running : ℕ → Option ℕ) (k : ℕ) (first : Option ℕ) → IsToMove parts running k (answer first) → (s : ℕ) → s < k → IsPassed parts running s
-all_passed parts running k None none s less = inl (none s less)
-all_passed parts running k (Some m) some s less = some.all s less
-
--- the search begins
-pub begun : (parts : ℕ → ℕ) (running : ℕ → Option ℕ) → IsToMove parts running 0 (answer None)
-begun parts running s less = absurd (omega arith)
 
 -- it goes on behind a series that has no move to make
 idle : (parts : ℕ → ℕ) (running : ℕ → Option ℕ) (k : ℕ) (first : Option ℕ) → parts k ≡ 0 → IsToMove parts running k (answer first) → IsToMove parts running (k + 1) (answer first)
@@ -68,17 +57,3 @@ goes_on parts running k (suc n) (Some m) first next many runs turn so_far =
     let moved = busy parts running k m first (omega (arith, many)) (sym runs) so_far in
     let same : Some (unwrap_or first m) ≡ next = cc in
     subst (λ o. IsToMove parts running (k + 1) (answer o)) same moved
-
--- it ends at one that is free
-pub free : (parts : ℕ → ℕ) (running : ℕ → Option ℕ) (count k n : ℕ) (number first : Option ℕ) → k < count → n ≡ parts k → number ≡ running k → IsTurn n number first Free → IsToMove parts running k (answer first) → IsToMove parts running count (Begin k n)
-free parts running count k zero number first less many runs turn so_far = absurd cc
-free parts running count k (suc n) None first less many runs turn so_far = (
-  record {
-    within = less;
-    some = omega (arith, many);
-    none_runs = sym runs;
-    least = all_passed parts running k first so_far;
-  },
-  many,
-)
-free parts running count k (suc n) (Some m) first less many runs turn so_far = absurd cc

@@ -3,12 +3,6 @@ use Rattle.std.proofs.Common.{◌≡◌, List, [], ◌∷◌, ◌++◌, refl, ar
 use Rattle.pair_work.specs.Pairs.{AllCan, AllGive}
 
 module _ {T U : Type 0} where
-  pub can_lengths : (C : T → U → Type 0) (xs : List T) (ys : List U) → AllCan C xs ys → length xs ≡ length ys
-  can_lengths C [] [] a = refl
-  can_lengths C [] (y ∷ ys) a = absurd a
-  can_lengths C (x ∷ xs) [] a = absurd a
-  can_lengths C (x ∷ xs) (y ∷ ys) a = let i = can_lengths C xs ys a.1 in omega arith
-
   pub can_front : (C : T → U → Type 0) (xs xs' : List T) (ys ys' : List U) → AllCan C (xs ++ xs') (ys ++ ys') → length xs ≡ length ys → AllCan C xs ys
   can_front C [] xs' [] ys' a l = tt
   can_front C [] xs' (y ∷ ys) ys' a l = absurd (omega arith)
@@ -32,13 +26,6 @@ module _ {T U : Type 0} where
   pub gives_none : (G : T → U → T → U → Type 0) (a : List T) (c : List U) → length a ≡ 0 → AllGive G a c a c
   gives_none G [] c l = (refl, refl)
   gives_none G (x ∷ a) c l = absurd (omega arith)
-
-  -- what each pair may be, it may also be in other words
-  pub can_map : (C C' : T → U → Type 0) (xs : List T) (ys : List U) → ((x : T) (y : U) → C x y → C' x y) → AllCan C xs ys → AllCan C' xs ys
-  can_map C C' [] [] h a = tt
-  can_map C C' [] (y ∷ ys) h a = absurd a
-  can_map C C' (x ∷ xs) [] h a = absurd a
-  can_map C C' (x ∷ xs) (y ∷ ys) h a = (h x y a.0, can_map C C' xs ys h a.1)
 
   -- the same of what each pair became
   pub give_map : (G G' : T → U → T → U → Type 0) (a : List T) (c : List U) (a' : List T) (c' : List U) → ((x : T) (y : U) (x' : T) (y' : U) → G x y x' y' → G' x y x' y') → AllGive G a c a' c' → AllGive G' a c a' c'

@@ -146,15 +146,6 @@ parts_of_name Year at unit = record {
   minute = inl (omega arith, unit.starts.3);
 }
 
-pub length-name_of : (g : Granularity) (at : CivilMinute) → length (name_of g at) ≡ name_length g
-length-name_of FiveMinutes at = refl
-length-name_of FifteenMinutes at = refl
-length-name_of ThirtyMinutes at = refl
-length-name_of Hour at = refl
-length-name_of Day at = refl
-length-name_of Month at = refl
-length-name_of Year at = refl
-
 -- a text has the parts of one minute
 same_part_at : (text : List ℕ) (i otherwise m n : ℕ) → IsPartAt text i otherwise m → IsPartAt text i otherwise n → m ≡ n
 same_part_at text i otherwise m n (inl a) (inl b) = a.1 ∙ sym b.1

@@ -13,7 +13,7 @@ use Rattle.partition_names.specs.Part.{IsPartFrom, IsPart, HoldsMoment}
 use Rattle.partition_names.proofs.UnitLemmas.{day_span, first_day, first_of, LiesIn, lies_in, HoldsSecond, same_unit, before_2500, lasts, longer}
 use Rattle.std.proofs.Math.Nat.{lt_of_not-le}
 use Rattle.partition_names.specs.Granularity.{Holds}
-use Rattle.partition_names.proofs.NameLemmas.{name_of_parts, parts_of_name, length-name_of, same_parts}
+use Rattle.partition_names.proofs.NameLemmas.{name_of_parts, parts_of_name, same_parts}
 
 -- one unit is one partition
 pub same_part : (g : Granularity) (from : CivilMinute) (p q : Part) → IsPartFrom g from p → IsPartFrom g from q → p ≡ q
@@ -27,9 +27,6 @@ same_part g from p q a b =
 -- a partition's name has the parts of its first minute
 pub parts_of_part : (g : Granularity) (from : CivilMinute) (part : Part) (text : List ℕ) → IsPartFrom g from part → part.name ≡ text → HasParts text from
 parts_of_part g from part text h e = rw (sym e ∙ h.name) (parts_of_name g from h.unit)
-
-pub length_of_part : (g : Granularity) (from : CivilMinute) (part : Part) (text : List ℕ) → IsPartFrom g from part → part.name ≡ text → length text ≡ name_length g
-length_of_part g from part text h e = rw (sym e ∙ h.name) (length-name_of g from)
 
 -- of one granularity no two partitions have one name
 pub one_name : (g : Granularity) (p q : Part) → IsPart g p → IsPart g q → p.name ≡ q.name → p ≡ q

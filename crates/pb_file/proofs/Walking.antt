@@ -93,10 +93,6 @@ pub stays : (old : Walk) (piece : Piece) (file : List ℕ) (front : Option Front
 stays old piece file None h is = record { going = h.going; within = h.within; read = h.read; piece = is }
 stays old piece file (Some f) h is = record { going = h.going; within = h.within; read = h.read; piece = is }
 
-pub fails : (front : Option Front) (file line : List ℕ) (new : Walk) → HasWalked new file front → Walks front file line walked.ReadFault new
-fails None file line new h = h
-fails (Some f) file line new h = h
-
 pub lacks_memory : (front : Option Front) (file line : List ℕ) (new : Walk) → HasWalked new file front → Walks front file line walked.Memory new
 lacks_memory None file line new h = h
 lacks_memory (Some f) file line new h = h

@@ -362,9 +362,6 @@ pub record Later (old new : Chunks) (before after : Option (List ℕ)) : Type 0 
   pub lines : lines_taken new ≡ lines_taken old + skipped
   pub bytes : bytes_taken new ≡ bytes_taken old + skipped
 
-pub later_start : (c : Chunks) (left : Option (List ℕ)) → c.refused ≡ None → Later c c left left
-later_start c left going = record { section = refl; passes = passes_nothing c left; going = going; work = omega arith; skipped = 0; lines = omega arith; bytes = omega arith }
-
 passes_behind : (old mid new : Chunks) (before middle after : Option (List ℕ)) (items : List Item) → Passes old mid before middle [] → Passes mid new middle after items → Passes old new before after items
 passes_behind old mid new None middle after items f h = tt
 passes_behind old mid new (Some xs) None after items f h = absurd f

@@ -9,6 +9,5 @@ pub mod MessageLemmas
 pub mod SignedLemmas
 pub mod LengthLemmas
 mod ShortLemmas
-pub mod EachLemmas
 pub mod PairTexts
 pub mod PairWritten

@@ -1,5 +1,5 @@
 -- The pins of the two tables, by their numbers.
-use Rattle.std.proofs.Common.{◌≡◌, ℕ, List, [], ◌∷◌, Bool, true, false, cond, nat_eq, Some, None, Ok, Err, refl, ap, sym, ◌∙◌, subst, arith}
+use Rattle.std.proofs.Common.{◌≡◌, ℕ, List, [], ◌∷◌, Bool, true, false, cond, nat_eq, Some, None, Ok, Err, refl, ap, sym, ◌∙◌, arith}
 use Rattle.std.proofs.lemmas.Bool.Decides.{nat_tests}
 use Rattle.std.proofs.lemmas.Cmp.{nat_cmp_total}
 use Rattle.std.proofs.lemmas.Map.Views.{tells_apart}
@@ -81,15 +81,6 @@ pub asked_own : (owner : ℕ) (found : Option PinOf) (pin : PinOf) → found ≡
 asked_own owner found pin is own =
     let test : nat_eq pin.owner owner ≡ true = grind (arith, nat_tests) in
     rw (is, test) refl
-
--- the two tables refuse alike
-pub refused_alike : (owner : ℕ) (found : Option PinOf) (e : PinErr) → dropped owner (named found) ≡ Err e → asked owner found ≡ Err e
-refused_alike owner None e is = let same : NoPin ≡ e = cc in ap (λ (x : PinErr). Err x) same
-refused_alike owner (Some pin) e is = by_test (nat_eq pin.owner owner) is
-  where
-    by_test : (b : Bool) → ◌≡◌ {A = Result (Unit {0}) PinErr} (cond b (Ok tt) (Err (NotYours pin.owner))) (Err e) → cond b (Ok pin) (Err (NotYours pin.owner)) ≡ Err e
-    by_test true is = absurd cc
-    by_test false is = cc
 
 pub granted_alike : (owner : ℕ) (found : Option PinOf) → dropped owner (named found) ≡ Ok tt → (pin : PinOf) × (asked owner found ≡ Ok pin)
 granted_alike owner None is = absurd cc

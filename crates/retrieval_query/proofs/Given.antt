@@ -103,10 +103,6 @@ module _ {P O R : Type 0} (tells : Bool) (bytes : R → List ℕ) (left : P → 
           let all : xs ≡ g.given ++ s ∷ a.0 = w.1 ∙ ap (λ (l : List Sample). g.given ++ l) a.1 in
           subst (λ (l : List Sample). broke old subject l now) (sym all) (breaks a.0 (subst (λ (l : List Sample). AreEvents subject.about.ty l) all events))
 
-    -- the merge came to its end
-    pub gives_some : ty ≡ subject.about.ty → GivesSome {O = O} {R = R} gave broke old subject (Ok count) out
-    gives_some same = record { given = g.given; events = subst (λ (y : PayloadType). AreEvents y g.given) same g.events; rising = g.rising; gives = (g.has, g.number) }
-
     pub gives_whole : (answered : IsTrue tells → (ps : List NamedBytes) (xs : List Sample) → left pieces ps → Rest bytes merge ps xs → xs ≡ [])
         → IsTrue tells → (ps : List NamedBytes) (xs : List Sample) → left first ps → Rest bytes start ps xs → Gives {O = O} {R = R} gave broke old subject xs (Ok count) out
     gives_whole answered told ps xs is rest =

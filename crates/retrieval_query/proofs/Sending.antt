@@ -41,12 +41,6 @@ some_here subject head last has =
     let P : Head → Type 0 = λ h. IsHeader subject h.info × (h.last ≡ last) × (last ≡ None → IsNearestYear h.info.year subject.query.from) in
     subst P same (has.info, has.last_is, has.nearest)
 
-no_head : (subject : Subject) (last : Option ℤ) → HasHead subject None last → ⊥
-no_head subject last has = cc (has.is)
-
-pub never_here : (subject : Subject) (o : Option Head) (last : Option ℤ) → o ≡ None → HasHead subject o last → ⊥
-never_here subject o last is has = let P : Option Head → Type 0 = λ x. HasHead subject x last in no_head subject last (subst P is has)
-
 is_none : (o : Option ℤ) → is_some o ≡ false → o ≡ None
 is_none None h = refl
 is_none (Some y) h = cc
@@ -56,11 +50,6 @@ pub none_last : (o last : Option ℤ) → o ≡ last → is_some o ≡ false →
 none_last o last same empty = sym same ∙ is_none o empty
 
 -- THE ENDING
-
-pub closes_some : (a : Option (List ℕ)) (old : List ℕ) (subject : Subject) (last : Option ℤ) (year : ℤ) → last ≡ Some year → Closes a a old old subject last
-closes_some a old subject last year is =
-    let P : Option ℤ → Type 0 = λ l. Closes a a old old subject l in
-    subst P (sym is) (record { piece = []; ending = refl; sent = sends_nothing a old })
 
 -- the opening of a text without samples is its one header line
 alone : (subject : Subject) (year : ℤ) (piece : List ℕ) → IsNearestYear year subject.query.from → IsOpening subject None year piece → IsHeaderAlone subject piece

@@ -1,19 +1,12 @@
 -- How one's own list grows, and how a part of a history gives the law's premises.
 use Rattle.std.proofs.Common.{◌≡◌, ℕ, ◌+◌, List, [], ◌∷◌, ◌++◌, length, Bool, true, false, refl, ap, sym, ◌∙◌, arith, subst}
 use Rattle.std.specs.Prelude.{◌==◌, map, filter}
-use Rattle.std.proofs.lemmas.List.Elements.{filter-append, All-push}
-use Rattle.act_model.specs.declared.acts.Act.{Act}
-use Rattle.act_model.specs.declared.acts.Act.TheVariants.{Doors, DoorDone}
+use Rattle.std.proofs.lemmas.List.Elements.{filter-append}
 use Rattle.act_model.specs.declared.acts.Answer.TheVariants.{NoRow}
 use Rattle.act_model.specs.History.{Entry, Done, own}
-use Rattle.act_model.specs.Roles.{is_of_link, AllAre}
-use Rattle.serving_end.specs.Rounds.{IsShift, IsTick, AreTicks, EndsAtNoRow}
+use Rattle.serving_end.specs.Rounds.{IsTick, AreTicks, EndsAtNoRow}
 
 -- ONE MORE ACT
-
--- the door is done
-pub shift_done : (links : List Done) (d : Done) → AllAre is_of_link links → d.act ≡ DoorDone → IsShift (links ++ d ∷ [])
-shift_done links d are done = record { links = links; last = d; is = refl; are = are; done = done }
 
 pub ticks_more : (now row : ℕ) (ds : List Done) (d : Done) → AreTicks now row ds → IsTick now (row + length ds) d.act → AreTicks now row (ds ++ d ∷ [])
 ticks_more now row [] d are one = let plain : row + 0 ≡ row = omega arith in (subst (λ n. IsTick now n d.act) plain one, tt)

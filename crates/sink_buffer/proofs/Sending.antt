@@ -1,13 +1,11 @@
 -- What went out of gathered bytes, and what goes out behind it.
-use Rattle.std.proofs.Common.{◌≡◌, ℕ, ◌+◌, List, [], ◌++◌, Option, Result, Ok, Err, length, take, arith, refl, sym, ap, ◌∙◌, append_assoc}
+use Rattle.std.proofs.Common.{◌≡◌, ℕ, ◌+◌, List, [], ◌++◌, Option, Result, Ok, Err, arith, refl, sym, ap, ◌∙◌, append_assoc}
 use Rattle.std.specs.Prelude.{OnErr}
 use Rattle.std.specs.Io.KnownBytes.{Appends}
 use Rattle.std.proofs.KnownBytes.{Appends-trans, Appends-nil}
-use Rattle.std.proofs.lemmas.List.{append-nil, length-append, take-append-le}
-use Rattle.std.proofs.Math.Seq.{take-append-add, take-length}
+use Rattle.std.proofs.lemmas.List.{append-nil}
 use Rattle.edge_io.specs.Stream.{AppendsFront}
 use Rattle.edge_io.proofs.Writes.{front_first, front_more}
-use Rattle.edge_io.proofs.Writes as edge
 use Rattle.sink_buffer.specs.Sent.{Sends}
 
 pub on_err : {A E : Type 0} (r : Result A E) (P : Type 0) → P → OnErr r P
@@ -19,9 +17,6 @@ front_then a b c out rest sent f = front_more a b c out rest sent f
 
 pub front_longer : (a c : Option (List ℕ)) (xs ys : List ℕ) → AppendsFront a c xs → AppendsFront a c (xs ++ ys)
 front_longer a c xs ys f = front_first a c xs ys f
-
-pub front_all : (a c : Option (List ℕ)) (xs : List ℕ) → Appends a c xs → AppendsFront a c xs
-front_all a c xs all = edge.front_all a c xs all
 
 -- WHAT IS GATHERED, CALL BY CALL
 

@@ -1,14 +1,14 @@
 -- Where a place is among the entries of one series.
-use Rattle.std.proofs.Common.{◌≡◌, inl, inr, ℕ, zero, suc, ◌+◌, ◌<◌, ◌≤◌, ◌==◌, ◌||◌, Bool, true, false, List, [], ◌∷◌, ◌++◌, length, get_or, take, drop, All, ltb, refl, sym, ◌∙◌, ap, subst, arith, take-append-drop, append-nil, length-take, length-drop}
+use Rattle.std.proofs.Common.{◌≡◌, inl, inr, ℕ, zero, suc, ◌+◌, ◌<◌, ◌≤◌, ◌||◌, Bool, true, false, List, [], ◌∷◌, ◌++◌, length, get_or, take, drop, ltb, refl, sym, ◌∙◌, ap, subst, arith, take-append-drop, append-nil, length-drop}
 use Rattle.std.proofs.lemmas.Bool.{cases_order}
 use Rattle.std.proofs.lemmas.Bool.Decides.{nat_tests}
 use Rattle.std.proofs.lemmas.List.{drop_more, get_or-take, get_or-drop, length-take-le}
 use Rattle.std.proofs.lemmas.List.Elements.{filter-append, recursion_from_All}
 use Rattle.std.proofs.lemmas.List.Folds.{list_any-append}
 use Rattle.std.specs.List.{filter, list_any, AllByRecursion, AllWithin}
-use Rattle.std.specs.List.Sorted.{IsPartitionedBy, IsPartitionPoint}
+use Rattle.std.specs.List.Sorted.{IsPartitionedBy}
 use Rattle.store_manifest.specs.declared.entry.Entry.{Entry}
-use Rattle.store_manifest.specs.Entries.{Place, place, comes_before, is_place, is_listed, spliced, InOrder}
+use Rattle.store_manifest.specs.Entries.{Place, place, comes_before, is_place, is_listed, spliced}
 use Rattle.store_manifest.specs.Listing.{OfSeries, IsAround}
 use Rattle.store_manifest.proofs.Changes.{filter_all, filter_none, each}
 
@@ -88,10 +88,6 @@ there s t x series start = grind (arith, nat_tests)
 none_any : (test : Entry → Bool) (xs : List Entry) → AllByRecursion (λ x. test x ≡ false) xs → list_any test xs ≡ false
 none_any test [] all = refl
 none_any test (x ∷ xs) all = ap (λ (b : Bool). b || list_any test xs) all.0 ∙ none_any test xs all.1
-
-any_behind : (b : Bool) → (b || true) ≡ true
-any_behind true = refl
-any_behind false = refl
 
 module _ (s t : ℕ) (xs : List Entry) (i : ℕ) (of : OfSeries s xs) (le : i ≤ length xs) (low : AllWithin (λ e. Front t e ≡ true) xs 0 i) (high : AllWithin (λ e. Front t e ≡ false) xs i (length xs)) where
   abbrev front : List Entry

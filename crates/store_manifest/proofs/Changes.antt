@@ -1,12 +1,11 @@
 -- What a change makes of entries in order.
-use Rattle.std.proofs.Common.{◌≡◌, ℕ, ◌+◌, ◌-◌, ◌&&◌, Bool, true, false, cond, List, [], ◌∷◌, ◌++◌, length, take, refl, sym, ◌∙◌, ap, subst, arith}
+use Rattle.std.proofs.Common.{◌≡◌, ◌+◌, Bool, true, false, cond, List, [], ◌∷◌, ◌++◌, refl, sym, ◌∙◌, ap, subst, arith}
 use Rattle.std.proofs.lemmas.Bool.Decides.{nat_tests}
-use Rattle.std.proofs.Math.Seq.{take-append_seam}
-use Rattle.std.specs.List.{filter, list_all, AllByRecursion}
+use Rattle.std.specs.List.{filter, AllByRecursion}
 use Rattle.store_manifest.specs.declared.entry.Entry.{Entry}
 use Rattle.store_manifest.specs.declared.entry.Change.{Change}
 use Rattle.store_manifest.specs.declared.entry.Change.TheVariants.{Set, Drop}
-use Rattle.store_manifest.specs.Entries.{Place, place, place_of, comes_before, spliced, put, changed, InOrder}
+use Rattle.store_manifest.specs.Entries.{Place, place, place_of, comes_before, spliced, changed, InOrder}
 
 -- FILTERS
 
@@ -91,72 +90,3 @@ each_changed P xs c all mid =
     let behind : Entry → Bool = λ y. comes_before (place_of c) (place y) in
     let Q : List Entry → Type 0 = λ l. AllByRecursion P l in
     subst Q (sym (changed_is xs c)) (joined P (filter before xs) (mid_of c ++ filter behind xs) (filtered before P xs all) (joined P (mid_of c) (filter behind xs) mid (filtered behind P xs all)))
-
--- THE END OF A LIST
-
-front_of : (P : Entry → Type 0) (xs ys : List Entry) → AllByRecursion P (xs ++ ys) → AllByRecursion P xs
-front_of P [] ys all = tt
-front_of P (x ∷ xs) ys all = (all.0, front_of P xs ys all.1)
-
-last_of : (P : Entry → Type 0) (xs : List Entry) (y : Entry) → AllByRecursion P (xs ++ y ∷ []) → P y
-last_of P [] y all = all.0
-last_of P (x ∷ xs) y all = last_of P xs y all.1
-
-order_front : (xs ys : List Entry) → InOrder (xs ++ ys) → InOrder xs
-order_front [] ys order = tt
-order_front (x ∷ xs) ys order = (front_of (λ d. comes_before (place x) (place d) ≡ true) xs ys order.0, order_front xs ys order.1)
-
-one_way : (q : Place) (x : Entry) → comes_before (place x) q ≡ true → comes_before q (place x) ≡ false
-one_way q x before = grind (arith, nat_tests)
-
--- what is left without the last one
-rest_is : (xs ys rest : List Entry) (x : Entry) (n : ℕ) → xs ≡ rest ++ x ∷ [] → length rest + 1 ≡ n → ys ≡ take (n - 1) xs → ys ≡ rest
-rest_is xs ys rest x n split counted is =
-    is ∙ ap (λ (k : ℕ). take k xs) (omega (arith, counted)) ∙ ap (λ (l : List Entry). take (length rest) l) split ∙ take-append_seam rest (x ∷ [])
-
-pub cleared_order : (xs ys rest : List Entry) (x : Entry) (n : ℕ) → xs ≡ rest ++ x ∷ [] → length rest + 1 ≡ n → ys ≡ take (n - 1) xs → InOrder xs → InOrder ys
-cleared_order xs ys rest x n split counted is order =
-    let P : List Entry → Type 0 = λ l. InOrder l in
-    subst P (sym (rest_is xs ys rest x n split counted is)) (order_front rest (x ∷ []) (subst P split order))
-
-and_true : (b : Bool) → (b && true) ≡ b
-and_true true = refl
-and_true false = refl
-
-and_false : (b : Bool) → (b && false) ≡ false
-and_false true = refl
-and_false false = refl
-
-last_before : (q : Place) (xs : List Entry) (y : Entry) → InOrder (xs ++ y ∷ []) → list_all (λ e. comes_before (place e) q) (xs ++ y ∷ []) ≡ comes_before (place y) q
-last_before q [] y order = and_true (comes_before (place y) q)
-last_before q (x ∷ xs) y order = ap (λ (b : Bool). comes_before (place x) q && b) (last_before q xs y order.1) ∙ go (comes_before (place y) q) refl
-  where
-    go : (b : Bool) → comes_before (place y) q ≡ b → (comes_before (place x) q && b) ≡ b
-    go true below = ap (λ (b : Bool). b && true) (before_trans (place x) (place y) q (last_of (λ d. comes_before (place x) (place d) ≡ true) xs y order.0) below)
-    go false below = and_false (comes_before (place x) q)
-
--- entries in order are all before a place if the last one is
-pub all_before : (q : Place) (xs rest : List Entry) (y : Entry) → xs ≡ rest ++ y ∷ [] → InOrder xs → comes_before (place y) q ≡ list_all (λ e. comes_before (place e) q) xs
-all_before q xs rest y split order =
-    let P : List Entry → Type 0 = λ l. InOrder l in
-    sym (ap (λ (l : List Entry). list_all (λ e. comes_before (place e) q) l) split ∙ last_before q rest y (subst P split order))
-
-each_true : (p : Entry → Bool) (xs : List Entry) → list_all p xs ≡ true → AllByRecursion (λ x. p x ≡ true) xs
-each_true p [] all = tt
-each_true p (x ∷ xs) all = go (λ rest. each_true p xs rest) (p x) refl all
-  where
-    go : (list_all p xs ≡ true → AllByRecursion (λ x. p x ≡ true) xs) → (b : Bool) → p x ≡ b → (b && list_all p xs) ≡ true → (p x ≡ true) × AllByRecursion (λ x. p x ≡ true) xs
-    go more true is rest = (is, more rest)
-    go more false is rest = let no : false ≡ true = rest in absurd (cc no)
-
--- one whose place is behind all entries comes last
-pub put_end : (e : Entry) (xs : List Entry) → list_all (λ y. comes_before (place y) (place e)) xs ≡ true → xs ++ e ∷ [] ≡ put place e xs
-put_end e xs below =
-    let before : Entry → Bool = λ y. comes_before (place y) (place e) in
-    let behind : Entry → Bool = λ y. comes_before (place e) (place y) in
-    let all = each_true before xs below in
-    sym
-    (
-    ap (λ (l : List Entry). l ++ (e ∷ filter behind xs)) (filter_all before xs all)
-    ∙ ap (λ (l : List Entry). xs ++ (e ∷ l)) (filter_none behind xs (each (λ y. before y ≡ true) (λ y. behind y ≡ false) (one_way (place e)) xs all))
-    )

@@ -11,10 +11,10 @@ use Rattle.gate_journal.proofs.Keeping.{commit_says, either_says, load_says, one
 use Rattle.partition_names.specs.declared.granularity.Granularity.{Granularity}
 use Rattle.store_manifest.specs.declared.entry.Entry.{Entry}
 use Rattle.store_manifest.specs.declared.entry.Change.{Change}
-use Rattle.store_manifest.specs.Batches.{config, batch_of, Configured, Folds, IsBadBatch}
+use Rattle.store_manifest.specs.Batches.{config, batch_of, Configured, Folds}
 use Rattle.store_manifest.specs.Entries.{all_changed, AllCanFollow}
 use Rattle.store_manifest.specs.declared.folding.Folded.{Folded}
-use Rattle.store_manifest.specs.declared.folding.Folded.TheVariants.{Nothing, Good, Bad}
+use Rattle.store_manifest.specs.declared.folding.Folded.TheVariants.{Nothing, Good}
 use Rattle.store_manifest.specs.declared.lists.SeriesLists.{SeriesLists}
 use Rattle.store_manifest.specs.Folded.{IsFolded}
 use Rattle.store_manifest.specs.Listing.{entries_of, AreLists}
@@ -101,6 +101,3 @@ nothing_folded bs f is folded = let P : Folded → Type 0 = λ x. IsFolded bs x 
 
 pub good_folded : (bs : List (List ℕ)) (f : Folded) (g : Granularity) (lists : SeriesLists) → f ≡ Good g lists → IsFolded bs f → AreLists lists.listed.entries × Configured g bs (entries_of lists.listed.entries)
 good_folded bs f g lists is folded = let P : Folded → Type 0 = λ x. IsFolded bs x in subst P is folded
-
-pub bad_folded : (bs : List (List ℕ)) (f : Folded) (n : ℕ) → f ≡ Bad n → IsFolded bs f → IsBadBatch bs n
-bad_folded bs f n is folded = let P : Folded → Type 0 = λ x. IsFolded bs x in subst P is folded

@@ -1,11 +1,7 @@
 -- Batches have one meaning, and each one more goes on from what those before it mean.
-use Rattle.std.proofs.Common.{◌≡◌, ◌≢◌, inl, inr, ℕ, zero, suc, ◌+◌, ◌<◌, ◌≤◌, List, [], ◌∷◌, ◌++◌, Some, length, take, drop, All, refl, sym, ◌∙◌, ap, subst, arith, append_assoc, take-append-drop}
-use Rattle.std.proofs.lemmas.Bool.{cases_order}
-use Rattle.std.proofs.lemmas.List.{take_at, take-append-le, take_more, take_all, drop_more, length-take-le, length_push}
+use Rattle.std.proofs.Common.{◌≡◌, ◌≢◌, ℕ, zero, suc, ◌+◌, List, [], ◌∷◌, ◌++◌, length, All, refl, sym, ◌∙◌, ap, subst, arith}
 use Rattle.std.proofs.lemmas.List.Elements.{All-head, All-tail}
-use Rattle.std.proofs.lemmas.Option.{get_or_from_slice_get}
-use Rattle.std.specs.List.{slice_get}
-use Rattle.gate_journal.proofs.FirstBad.{HaveFronts, last_is_bad, none_is_bad, one_is_bad, stays_bad}
+use Rattle.gate_journal.proofs.FirstBad.{HaveFronts, last_is_bad, none_is_bad, one_is_bad}
 use Rattle.partition_names.specs.declared.granularity.Granularity.{Granularity}
 use Rattle.partition_names.specs.declared.granularity.Granularity.TheVariants.{FiveMinutes, FifteenMinutes, ThirtyMinutes, Hour, Day, Month, Year}
 use Rattle.partition_names.specs.Granularity.{number_of}
@@ -57,12 +53,6 @@ one_made g es bytes a b one two =
     one.next_is ∙ ap (λ (cs : List Change). all_changed es cs) (same_changes g es one.changes two.changes bytes one.bytes_are two.bytes_are one.follow two.follow) ∙ sym two.next_is
 
 -- READING ON
-
-pub made_none : (g : Granularity) (es : List Entry) → Makes g es [] es
-made_none g es = record { changes = []; bytes_are = refl; follow = tt; next_is = refl }
-
-pub only_none : (g : Granularity) (es next : List Entry) → Makes g es [] next → next ≡ es
-only_none g es next made = one_made g es [] next es made (made_none g es)
 
 pub made_first : (g : Granularity) (es : List Entry) (bytes rest : List ℕ) (c : Change) (next : List Entry) → IsFront g bytes c rest → IsAllowed es c → Makes g (changed es c) rest next → Makes g es bytes next
 made_first g es bytes rest c next front allowed made = record {
@@ -187,9 +177,6 @@ one_bad bs m n one two = one_is_bad FoldsTo fronts bs m n one two
 
 -- BATCH BY BATCH
 
-pub begins_good : (g : Granularity) (bs : List (List ℕ)) (batch : List ℕ) → bs ≡ [] → batch ≡ config g → Configured g (bs ++ batch ∷ []) []
-begins_good g bs batch none is = let P : List (List ℕ) → Type 0 = λ l. Configured g (l ++ batch ∷ []) [] in subst P (sym none) (is, refl)
-
 pub begins_bad : (bs : List (List ℕ)) (batch : List ℕ) (n : ℕ) → bs ≡ [] → n ≡ length bs → ((g : Granularity) → batch ≡ config g → ⊥) → IsBadBatch (bs ++ batch ∷ []) n
 begins_bad bs batch n none counted bad =
     let P : List (List ℕ) → Type 0 = λ l. Folds FiveMinutes l [] in
@@ -208,6 +195,3 @@ goes_on g (b ∷ bs) batch es good h last folds =
 
 pub goes_bad : (g : Granularity) (bs : List (List ℕ)) (batch : List ℕ) (es : List Entry) (n : ℕ) → n ≡ length bs → Configured g bs es → ((next : List Entry) → IsBatch g es batch next → ⊥) → IsBadBatch (bs ++ batch ∷ []) n
 goes_bad g bs batch es n counted good bad = last_is_bad FoldsTo bs batch (g, es) n counted (configured_folds g bs es good) (λ said folds. bad said.1 (goes_on g bs batch es good said.0 said.1 folds))
-
-pub goes_on_bad : (bs : List (List ℕ)) (batch : List ℕ) (n : ℕ) → IsBadBatch bs n → IsBadBatch (bs ++ batch ∷ []) n
-goes_on_bad bs batch n bad = stays_bad FoldsTo bs batch n bad

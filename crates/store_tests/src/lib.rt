@@ -14,7 +14,3 @@ mod listed_files;
 mod manifest;
 #[cfg(test)]
 mod partition_file;
-#[cfg(test)]
-mod reopening;
-#[cfg(test)]
-mod row_states;

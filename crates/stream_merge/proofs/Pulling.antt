@@ -26,7 +26,7 @@ use Rattle.stream_merge.specs.declared.source.OpenPiece.{OpenPiece}
 use Rattle.stream_merge.specs.Pieces.{NamedBytes}
 use Rattle.stream_merge.specs.Reading.{IsReadAs, IsBadFor, IsDamaged}
 use Rattle.stream_merge.specs.Beginning.{IsAtLine, MovesOn, BeginsWell, TellsAs}
-use Rattle.stream_merge.specs.Source.{open_pieces, HasBegun, IsBegun, IsReady, GoesOnAs, IsOpenAs, BeginsAs, ReadsOpen, ClosesAs, IsFailure, HasRisen}
+use Rattle.stream_merge.specs.Source.{open_pieces, HasBegun, IsBegun, IsReady, GoesOnAs, IsOpenAs, BeginsAs, ReadsOpen, ClosesAs, HasRisen}
 use Rattle.stream_merge.proofs.Reading.{next_read, end_read, same_header, file_from, refused_bad}
 
 -- OF THE OPEN PIECE
@@ -257,16 +257,6 @@ pub told_damaged : {R : Type 0} (p : OpenPiece R) (e : SearchErr) (r : Merged R)
 told_damaged {R} p refused.ReadFault r name at is bad = absurd (cc)
 told_damaged {R} p (refused.Damaged n) r name at is bad = let same : n ≡ at = cc in (ap (λ (k : ℕ). refused.Damaged k) same, cc)
 told_damaged {R} p refused.Memory r name at is bad = absurd (cc)
-
-pub told_fault : {R : Type 0} (p : OpenPiece R) (e : SearchErr) (r : Merged R) (failed : Option R) → TellsAs p e r → r ≡ ReadFault failed → (e ≡ refused.ReadFault) × (failed ≡ Some p.reader)
-told_fault {R} p refused.ReadFault r failed is fault = (refl, cc)
-told_fault {R} p (refused.Damaged n) r failed is fault = absurd (cc)
-told_fault {R} p refused.Memory r failed is fault = absurd (cc)
-
-pub told_failure : {R : Type 0} (p : OpenPiece R) (e : SearchErr) (r : Merged R) → TellsAs p e r → IsFailure r
-told_failure {R} p refused.ReadFault r is = let P : Merged R → Type 0 = IsFailure in subst P (sym is) tt
-told_failure {R} p (refused.Damaged n) r is = let P : Merged R → Type 0 = IsFailure in subst P (sym is) tt
-told_failure {R} p refused.Memory r is = let P : Merged R → Type 0 = IsFailure in subst P (sym is) tt
 
 -- the open piece has a bad line
 pub open_damaged : {R : Type 0} (bytes : R → List ℕ) (ty : PayloadType) (o : Option (OpenPiece R)) (p : OpenPiece R) (name : Name) (at : ℕ) → o ≡ Some p → name ≡ p.name → IsBadFor ty (take p.walk.len (bytes p.reader)) at → IsDamaged ty (open_pieces bytes o) name at

@@ -1,22 +1,20 @@
 -- Where a piece begins to give its samples.
-use Rattle.std.proofs.Common.{◌≡◌, ◌⊎◌, ℕ, ◌+◌, ◌<◌, ◌≤◌, inl, inr, List, [], ◌∷◌, ◌++◌, Option, None, Some, Result, Ok, Err, length, take, drop, refl, ap, sym, ◌∙◌, subst, arith, append_assoc}
+use Rattle.std.proofs.Common.{◌≡◌, ℕ, ◌+◌, ◌<◌, ◌≤◌, inl, inr, List, [], ◌∷◌, ◌++◌, Option, None, Some, Result, Ok, Err, length, take, refl, ap, sym, ◌∙◌, subst, arith, append_assoc}
 use Rattle.std.specs.Prelude.{OnOk}
 use Rattle.std.specs.List.{AllByRecursion}
 use Rattle.std.proofs.lemmas.Bool.{cases_lt}
-use Rattle.std.proofs.lemmas.List.{length-append}
 use Rattle.series_model.specs.declared.sample.Sample.{Sample}
 use Rattle.series_model.specs.declared.sample.Query.{Query}
 use Rattle.series_model.specs.Series.{RisesFrom, IsRising, before, since, end_from}
 use Rattle.series_model.proofs.RisingLists.{RisesFrom-front, RisesFrom-rest, RisesFrom-lower, RisesFrom-since, end_from-ge}
 use Rattle.payload_info.specs.declared.info.PayloadInfo.{PayloadInfo}
-use Rattle.pb_lines.specs.File.{IsFile, IsSample, lines_of}
 use Rattle.pb_lines.proofs.FileLines.{all_rest}
 use Rattle.pb_file.specs.Walk.{Walk, behind}
 use Rattle.pb_file.specs.Search.{end_place, place_from, IsLastLine, IsLineStart}
-use Rattle.pb_file.specs.Skip.{HasHeader, HasSkipped, from_place}
-use Rattle.pb_file.proofs.Placing.{end_is, end-append, drop_front, split_two}
+use Rattle.pb_file.specs.Skip.{HasHeader, HasSkipped}
+use Rattle.pb_file.proofs.Placing.{end_is, end-append, split_two}
 use Rattle.pb_file.proofs.Skipping.{headed}
-use Rattle.stream_merge.specs.Beginning.{early_count, IsPlaced, AnswersAs, IsAtLine, MovesOn, Splits, BeginsBefore, BeginsFrom, BeginsWell}
+use Rattle.stream_merge.specs.Beginning.{early_count, IsAtLine, Splits, BeginsBefore, BeginsFrom, BeginsWell}
 use Rattle.stream_merge.proofs.Leaving.{split_at, are_before, early-append, early_last, gone_answers, answers_on, answers_same, passed_answers}
 
 -- THE WALK
@@ -32,16 +30,6 @@ went old new at within moves stays =
       | inl less ↦ moved less (moves less within)
       | inr past ↦ stayed past (stays (λ less more. omega (arith, less, past)))
     ]
-
-pub same_place : (old new : Walk) → new ≡ old → old.stop ≡ None → old.place ≤ old.len → MovesOn old new
-same_place old new is going within = let P : Walk → Type 0 = λ w. MovesOn old w in subst P (sym is) (record { going = going; within = within; same = refl })
-
-pub moves_on : (old new : Walk) (at : ℕ) → at ≤ old.len → old.stop ≡ None → old.place ≤ old.len → Went old new at → MovesOn old new
-moves_on old new at low going within (moved less is) = let P : Walk → Type 0 = λ w. MovesOn old w in subst P (sym is) (record { going = refl; within = low; same = refl })
-moves_on old new at low going within (stayed past is) = same_place old new is going within
-
-pub moves_both : (a b c : Walk) → MovesOn a b → MovesOn b c → MovesOn a c
-moves_both a b c one two = record { going = two.going; within = two.within; same = two.same ∙ ap (λ (w : Walk). record w { place = c.place; earliest = c.earliest; stop = c.stop }) one.same }
 
 pub at_line : (head_len : ℕ) (old new : Walk) (bytes : List ℕ) (at : ℕ) → Went old new at → IsLineStart (take old.len bytes) head_len at
     → (old.place < at → at ≤ old.len → (bytes head : List ℕ) (info : PayloadInfo) → HasHeader old bytes head info → HasSkipped new bytes at (record { head = head; info = info; samples = [] })) → at ≤ old.len → IsAtLine head_len old bytes → IsAtLine head_len new bytes

@@ -19,7 +19,7 @@ use Rattle.three_stores.specs.Stored.{HoldsAll, IsStoredAt, PlaceUnsure, RowsUns
 use Rattle.three_stores.specs.Change.{Has, Doubts, IsOpen, PlaceInDoubt}
 use Rattle.three_stores.proofs.Left.{has_left, open_left}
 use Rattle.three_stores.proofs.Places.{manifest_at, one_manifest, tier_other, within_three, granularity_at}
-use Rattle.store_reopen.proofs.Keeping.{one_list_of_rows}
+use Rattle.three_reopen.proofs.OneJournal.{one_list_of_rows}
 use Rattle.three_reopen.specs.Reopen.{AllIn, IsUnopened, Opens, OpensEither}
 use Rattle.three_reopen.proofs.Having.{said_of, listing, granularity_here}
 

@@ -33,14 +33,15 @@ use Rattle.three_stores.specs.Seen.{Seen, AtEach, granularities}
 use Rattle.three_stores.specs.Stored.{HoldsAll}
 use Rattle.three_stores.specs.Change.{IsKnown, Has, IsEither}
 use Rattle.three_stores.proofs.Places.{within_three, granularity_at as granularity_of, list_other}
-use Rattle.store_reopen.specs.Verdict.{HasRow}
-use Rattle.store_reopen.specs.Reopen.{SameStores}
-use Rattle.store_reopen.proofs.Having.{listed_elsewhere}
-use Rattle.store_reopen.proofs.Keeping.{one_list_of_rows}
-use Rattle.three_reopen.specs.Verdict.{AreSaid, IsThere, Listings}
-use Rattle.three_reopen.specs.Reopen.{IsReady, IsUnopened, OpensEither, HoldsEither, ChangesOne, AllIn, StillHolds, Reopens, stores_of, lists_of, entries_in}
+use Rattle.three_reopen.specs.Verdict.{HasRow, AreSaid, IsThere, Listings}
+use Rattle.three_reopen.specs.Reopen.{IsReady, IsUnopened, OpensEither, HoldsEither, ChangesOne, AllIn, StillHolds, SameStores, Reopens, stores_of, lists_of, entries_in}
 use Rattle.three_reopen.specs.Loading.{Journal, Catalogue, Manifest, Value, Means, name_of, granularity_at, StillSay, KeepsSaid}
 use Rattle.three_reopen.proofs.Keeping.{is_at, journal_cases}
+use Rattle.three_reopen.proofs.OneJournal.{one_list_of_rows}
+
+-- no partition's file is a journal
+pub listed_elsewhere : (shelf : Shelf) (e : Entry) → 1 ≤ shelf.0 → (file_of shelf e).0 ≢ 0
+listed_elsewhere shelf e numbered is = let none : shelf.0 ≡ 0 = is in omega (arith, numbered, none)
 
 -- PLACES
 

@@ -14,8 +14,8 @@ use Rattle.pv_catalog.specs.Rows.{IsCatalogue}
 use Rattle.store_manifest.specs.declared.entry.Entry.{Entry}
 use Rattle.store_manifest.specs.Batches.{Configured, Folds}
 use Rattle.store_manifest.specs.Manifest.{ManifestState, IsKept, manifest_name}
-use Rattle.store_reopen.specs.Loading as one
-use Rattle.store_reopen.proofs.Keeping.{SameRows, SameEntries, LoadsAgain, journals_differ, kept_catalogue, kept_manifest, catalogue_again, manifest_again}
+use Rattle.three_reopen.specs.OneJournal as one
+use Rattle.three_reopen.proofs.OneJournal.{SameRows, SameEntries, LoadsAgain, journals_differ, kept_catalogue, kept_manifest, catalogue_again, manifest_again}
 use Rattle.three_reopen.specs.Loading.{Journal, Catalogue, Manifest, Value, Means, name_of, granularity_at, StillSay, KeepsSaid}
 
 -- the granularity at a place that has one

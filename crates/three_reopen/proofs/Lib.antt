@@ -2,5 +2,6 @@ pub mod HandedBack
 pub mod Having
 pub mod Keeping
 pub mod Looking
+pub mod OneJournal
 pub mod Manifests
 pub mod Verdicts

@@ -1,5 +1,5 @@
 -- The look at the listed files.
-use Rattle.std.proofs.Common.{◌≡◌, ◌≢◌, inl, inr, ℕ, zero, suc, ◌+◌, ◌<◌, ◌≤◌, List, [], ◌∷◌, ◌++◌, length, take, drop, get_or, Some, refl, sym, ◌∙◌, ap, subst, arith}
+use Rattle.std.proofs.Common.{◌≡◌, ◌≢◌, inl, inr, ℕ, zero, suc, ◌+◌, ◌<◌, ◌≤◌, List, [], ◌∷◌, ◌++◌, length, take, drop, get_or, Option, None, Some, refl, sym, ◌∙◌, ap, subst, arith}
 use Rattle.std.specs.Prelude.{All, Contains, slice_get}
 use Rattle.std.proofs.lemmas.Bool.{cases_lt}
 use Rattle.std.proofs.lemmas.List.{take_all}
@@ -13,14 +13,16 @@ use Rattle.pv_catalog.specs.declared.row.Row.{Row}
 use Rattle.tier_store.specs.Held.{file_of}
 use Rattle.three_stores.specs.Seen.{AtEach}
 use Rattle.three_stores.proofs.Places.{manifest_at, manifest_here, one_manifest, within_three}
-use Rattle.store_reopen.specs.Verdict.{HasRow, EndsEarly}
-use Rattle.store_reopen.proofs.Having.{listed_elsewhere}
 use Rattle.three_reopen.specs.declared.error.Refusal.{Refusal}
 use Rattle.three_reopen.specs.declared.error.Refusal.TheVariants.{Disk, Damaged, GranularityDiffers}
 use Rattle.three_reopen.specs.Refusal.{IsTold, IsToldShort}
 use Rattle.three_reopen.specs.Reopen.{lists_of}
-use Rattle.three_reopen.specs.Verdict.{AreSaid, AreOfRows, AreThere, IsThere, IsFirstShort, HasShortFile, HasStranger, file_short, stranger}
-use Rattle.three_reopen.proofs.Having.{all_there_in, listed_at}
+use Rattle.three_reopen.specs.Verdict.{HasRow, EndsEarly, AreSaid, AreOfRows, AreThere, IsThere, IsFirstShort, HasShortFile, HasStranger, file_short, stranger}
+use Rattle.three_reopen.proofs.Having.{all_there_in, listed_at, listed_elsewhere}
+
+pub no_some : (o : Option ℕ) → ((x : ℕ) → o ≡ Some x → ⊥) → o ≡ None
+no_some None not = refl
+no_some (Some x) not = absurd (not x refl)
 
 split_at : (xs : List Entry) (n : ℕ) (e : Entry) → n < length xs → e ≡ get_or xs n e → xs ≡ take n xs ++ e ∷ drop (suc n) xs
 split_at [] n e within is = absurd (omega arith)

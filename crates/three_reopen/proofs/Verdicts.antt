@@ -23,10 +23,9 @@ use Rattle.pv_catalog.proofs.Meaning as catalogue_meaning
 use Rattle.tier_store.specs.Held.{Filed, Held, IsFiled, IsListed, IsIn, entry_of, file_of, bytes_of}
 use Rattle.three_stores.specs.Stores.{Stores, list_at, tier, at_place}
 use Rattle.three_stores.specs.Stored.{HoldsAll}
-use Rattle.store_reopen.specs.Verdict.{IsBadFile, IsBadCatalogue, IsBadManifest, HasRow, EndsEarly}
-use Rattle.store_reopen.proofs.Keeping.{one_list_of_rows}
-use Rattle.store_reopen.proofs.Verdicts.{same_batches}
-use Rattle.three_reopen.specs.Verdict.{Listings, AreSaidBelow, AreSaid, AreOfRows, IsThere, AreThere, IsFirstShort, IsWhole, Differs, CatalogueIsBad, ManifestIsBad, HasStranger, HasShortFile, IsDamaged, catalogue_bad, manifest_bad, stranger, file_short}
+use Rattle.three_reopen.specs.OneJournal.{IsBadFile, IsBadCatalogue, IsBadManifest}
+use Rattle.three_reopen.proofs.OneJournal.{one_list_of_rows, same_batches}
+use Rattle.three_reopen.specs.Verdict.{HasRow, EndsEarly, Listings, AreSaidBelow, AreSaid, AreOfRows, IsThere, AreThere, IsFirstShort, IsWhole, Differs, CatalogueIsBad, ManifestIsBad, HasStranger, HasShortFile, IsDamaged, catalogue_bad, manifest_bad, stranger, file_short}
 use Rattle.three_reopen.proofs.Having.{said_of, listing, granularity_here}
 
 -- a manifest that says a granularity is of no other

@@ -1,4 +1,5 @@
 pub mod Loading
+pub mod OneJournal
 pub mod Refusal
 pub mod Reopen
 pub mod Verdict

@@ -20,12 +20,10 @@ use Rattle.three_stores.specs.Stored.{HoldsAll}
 use Rattle.three_stores.specs.Change.{Has, IsEither}
 use Rattle.three_stores.specs.declared.store.TierStore.{TierStore}
 use Rattle.etl_rules.specs.Config.{ConfigState}
-use Rattle.store_reopen.specs.Reopen.{SameStores}
-use Rattle.store_reopen.specs.Verdict.{HasRow}
 use Rattle.three_reopen.specs.declared.error.ReopenErr.{ReopenErr}
 use Rattle.three_reopen.specs.declared.error.ReopenErr.TheVariants.{DiskFault, Damaged, GranularityDiffers, Memory}
 use Rattle.three_reopen.specs.Loading.{granularity_at}
-use Rattle.three_reopen.specs.Verdict.{Listings}
+use Rattle.three_reopen.specs.Verdict.{HasRow, Listings}
 
 -- the granularities of stores 1 to 3
 abbrev pub stores_of : ConfigState → List Granularity
@@ -84,6 +82,10 @@ Opens gs past held = OpensEither gs past held held
 -- an image that holds what reads gave at first still does
 abbrev pub StillHolds : List Granularity → Files → Files → Files → Type 0
 StillHolds gs files old new = (held : Stores) → HoldsAll gs files held → HoldsAll gs old held → HoldsAll gs new held
+
+-- every store of partition files is as it was, whatever is in its files
+abbrev pub SameStores : Files → Files → Type 0
+SameStores old new = (n : Name) → n.0 ≢ 0 → new n ≡ old n
 
 -- What opening makes of a disk that tells its files, whatever it answers: each image goes on to hold what it held, at each moment, and
 -- the disk may be opened again. No store of partition files changes at any moment, also where it is damaged.

@@ -1,7 +1,7 @@
 -- What opening finds of an image: it is whole, or this is the first that is wrong, or a store is of another granularity.
-use Rattle.std.specs.Prelude.{◌≡◌, ◌≢◌, ◌≤◌, ◌<◌, ◌+◌, ℕ, List, ◌∷◌, ◌++◌, length, Some, All, Contains, slice_get}
+use Rattle.std.specs.Prelude.{◌≡◌, ◌≢◌, ◌≤◌, ◌<◌, ◌+◌, ℕ, List, ◌∷◌, ◌++◌, length, None, Some, All, Contains, slice_get}
 use Rattle.partition_names.specs.declared.granularity.Granularity.{Granularity}
-use Rattle.disk_model.specs.Files.{Name, Files, HasFile}
+use Rattle.disk_model.specs.Files.{Name, Content, Files, HasFile}
 use Rattle.gate_journal.specs.Kept.{Says}
 use Rattle.store_manifest.specs.declared.entry.Entry.{Entry}
 use Rattle.store_manifest.specs.Batches as manifest
@@ -10,7 +10,7 @@ use Rattle.pv_catalog.specs.declared.row.Row.{Row}
 use Rattle.pv_catalog.specs.Catalogue.{catalogue_name}
 use Rattle.pv_catalog.specs.Rows as catalogue
 use Rattle.tier_store.specs.Held.{file_of}
-use Rattle.store_reopen.specs.Verdict.{IsBadCatalogue, IsBadManifest, HasRow, EndsEarly}
+use Rattle.three_reopen.specs.OneJournal.{IsBadCatalogue, IsBadManifest}
 
 -- A store's place is its number less one. There are as many stores as there are granularities.
 
@@ -31,6 +31,10 @@ pub record AreSaid (gs : List Granularity) (files : Files) (rows : List Row) (li
 
 -- THE LISTED FILES
 
+-- the entry is of one of the rows
+abbrev pub HasRow : List Row → Entry → Type 0
+HasRow rows e = e.series < length rows
+
 -- below this place each entry is of one of the rows
 abbrev pub AreOfRows : ℕ → List Row → Listings → Type 0
 AreOfRows n rows lists = (i : ℕ) → i < n → All (HasRow rows) (lists i)
@@ -42,6 +46,11 @@ IsThere i files rows e = HasFile files (file_of (i + 1, rows) e) (λ b. e.len �
 -- below this place each listed file is there, and long enough
 abbrev pub AreThere : ℕ → Files → List Row → Listings → Type 0
 AreThere n files rows lists = (i : ℕ) → i < n → All (IsThere i files rows) (lists i)
+
+-- no file, told at 0; or one that is shorter than this, told at its end
+abbrev pub EndsEarly : ℕ → ℕ → Content → Type 0
+EndsEarly len at None = at ≡ 0
+EndsEarly len at (Some bytes) = (at ≡ length bytes) × (at < len)
 
 -- of the entries of this place the first whose file is absent or short is that of this name, and it ends at this place of its own
 pub record IsFirstShort (i : ℕ) (files : Files) (rows : List Row) (entries : List Entry) (name : Name) (at : ℕ) : Type 0 where

@@ -2,7 +2,7 @@
 use Rattle.std.proofs.Common.{refl, ◌∙◌, arith}
 use Rattle.disk_model.specs.declared.disk.Disk.{Ghosts}
 use Rattle.tier_store.specs.Ends.{End, IsFailed}
-use Rattle.tier_store.proofs.Acting.{rose_after}
+use Rattle.tier_store.proofs.Rises.{rose_after}
 use Rattle.tier_store.proofs.Stays.{same_then}
 use Rattle.three_stores.specs.Seen.{seen}
 use Rattle.three_stores.specs.declared.store.TierStore.{TierStore}

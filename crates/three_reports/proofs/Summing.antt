@@ -8,8 +8,7 @@ use Rattle.std.proofs.lemmas.List.Concat.{flat_map-cons}
 use Rattle.std.proofs.lemmas.Option.{same_Some}
 use Rattle.edge_io.specs.Stream.{Rose, AppendsFront}
 use Rattle.disk_model.specs.declared.disk.Disk.{Ghosts}
-use Rattle.disk_model.specs.declared.disk.DiskErr.{DiskErr}
-use Rattle.disk_model.specs.declared.disk.DiskErr.TheVariants.{Fault, Memory}
+use Rattle.disk_model.specs.declared.disk.DiskErr.TheVariants.{Memory}
 use Rattle.pv_catalog.specs.Catalogue.{CatalogueState}
 use Rattle.pv_catalog.specs.declared.row.Row.{Row}
 use Rattle.sink_buffer.specs.declared.buffer.PutErr.{PutErr}
@@ -18,7 +17,7 @@ use Rattle.sink_buffer.specs.Sent.{Sends}
 use Rattle.sink_buffer.proofs.Sending.{front_longer, front_out}
 use Rattle.store_manifest.specs.Manifest.{ManifestState}
 use Rattle.store_manifest.specs.declared.entry.Entry.{Entry}
-use Rattle.tier_store.specs.Ends.{End, IsFailed, end_of_disk}
+use Rattle.tier_store.specs.Ends.{End, IsFailed}
 use Rattle.tier_store.specs.Plan.{of_row}
 use Rattle.three_stores.specs.Change.{Has}
 use Rattle.three_stores.specs.Pinning.{entries_of}
@@ -29,7 +28,7 @@ use Rattle.three_stores.specs.declared.store.TierStore.{TierStore}
 use Rattle.three_reports.specs.declared.summary.StatusErr.{StatusErr}
 use Rattle.three_reports.specs.declared.summary.StatusErr.TheVariants.{SinkFault, DiskFault, OutOfMemory}
 use Rattle.three_reports.specs.Keeping.{KeepsStores}
-use Rattle.three_reports.specs.Status.{AreLines, EndsAs, Gathers, IsLine, Lines, Reports, RowLines, Writes, end_of_status, files_of, held_line, lines_from, row_line, status_of_disk, status_of_put, status_text}
+use Rattle.three_reports.specs.Status.{AreLines, EndsAs, Gathers, IsLine, Lines, Reports, RowLines, Writes, end_of_status, files_of, held_line, lines_from, row_line, status_of_put, status_text}
 use Rattle.three_reports.proofs.Keeping.{keeps_as}
 use Rattle.three_reports.proofs.Listing.{own_number}
 use Rattle.three_reports.proofs.Sending.{front_then, sends_still}
@@ -173,14 +172,6 @@ module _ {D R : Type 0} (disk : Ghosts D R) where
             ∙ (ap (λ (n : ℕ). row_line is.row is.count (files_of 0 i (seen disk old)) n (files_of 2 i (seen disk new))) (files 1) ∙ ap (λ (n : ℕ). row_line is.row is.count (files_of 0 i (seen disk old)) (files_of 1 i (seen disk old)) n) (files 2)));
       }
 
-  -- the disk failed, or memory was wanting, in a call of the stores
-  pub keeps_stopped : {A : Type 0} (old new : TierStore D R) (r : Result A DiskErr) (e : DiskErr) → r ≡ Err e → KeepsStores disk old new (end_of_disk r) → KeepsStores disk old new (end_of_status (Err (status_of_disk e)))
-  keeps_stopped {A} old new r e is kept = go e (subst (λ (x : Result A DiskErr). KeepsStores disk old new (end_of_disk x)) is kept)
-    where
-      go : (e : DiskErr) → KeepsStores disk old new (end_of_disk {A = A} (Err e)) → KeepsStores disk old new (end_of_status (Err (status_of_disk e)))
-      go Fault kept = keeps_as disk old new (end_of_disk {A = A} (Err Fault)) (end_of_status (Err DiskFault)) (λ failed. failed) kept
-      go Memory kept = keeps_as disk old new (end_of_disk {A = A} (Err Memory)) (end_of_status (Err OutOfMemory)) (λ failed. failed) kept
-
   -- what a status ended as is what it came to
   pub keeps_ended : (old new : TierStore D R) (before now : ℕ) (told r : Result Unit StatusErr) → EndsAs before now told r → KeepsStores disk old new (end_of_status told) → KeepsStores disk old new (end_of_status r)
   keeps_ended old new before now (Ok x) (Ok y) ends kept = kept
@@ -192,10 +183,6 @@ module _ {D R : Type 0} (disk : Ghosts D R) where
 pub put_quiet : (e : PutErr) → IsFailed (end_of_status (Err (status_of_put e))) → ⊥
 put_quiet put.SinkFault failed = failed
 put_quiet put.Memory failed = failed
-
-pub put_faulted : (e : PutErr) → ◌≡◌ {A = Result Unit StatusErr} (Err (status_of_put e)) (Err SinkFault) → e ≡ put.SinkFault
-put_faulted put.SinkFault is = refl
-put_faulted put.Memory is = absurd (cc (is))
 
 rose_within : (a b c d : ℕ) → a ≤ b → c ≤ d → Rose b c → Rose a d
 rose_within a b c d low high rose = grind arith

@@ -5,7 +5,6 @@ use Rattle.std.specs.List.{cons_option, filter_map}
 use Rattle.std.specs.Option.{option_or}
 use Rattle.std.proofs.lemmas.List.{append-nil, length-take-le, map_push, flat_map_more, take_all, take_more, take-append-drop}
 use Rattle.std.proofs.lemmas.List.Elements.{All-contains, All-contains_itself, All-head, All-nil, All-push, All-tail, filter_map-append, recursion_from_All}
-use Rattle.std.specs.Io.KnownBytes.{Appends}
 use Rattle.edge_io.specs.Stream.{AppendsFront}
 use Rattle.disk_model.specs.Files.{Files, HasFile}
 use Rattle.disk_model.specs.Past.{MayLeave}
@@ -27,7 +26,7 @@ use Rattle.three_stores.proofs.There.{listed_file, front_there}
 use Rattle.sink_buffer.specs.declared.buffer.PutErr.{PutErr}
 use Rattle.sink_buffer.specs.declared.buffer.PutErr.TheVariants as fault
 use Rattle.sink_buffer.specs.Sent.{Sends}
-use Rattle.sink_buffer.proofs.Sending.{sends_none, sends_then, all_out, front_out}
+use Rattle.sink_buffer.proofs.Sending.{sends_none, sends_then, front_out}
 use Rattle.three_reports.specs.declared.report.Damage.{Damage}
 use Rattle.three_reports.specs.declared.report.Finding.{Finding}
 use Rattle.three_reports.specs.declared.report.Finding.TheVariants as found
@@ -130,10 +129,6 @@ module _ (tells : Bool) (rows : List Row) (files : Files) where
       remains DiskFault other text sends = sends
       remains (ReadFault file) other text sends = sends
       remains OutOfMemory other text sends = sends
-
-  -- what was gathered went out, or a front of it
-  pub told_out : (es : List Listed) (a b c : Option (List ℕ)) (left : List ℕ) (first : Option Damage) → AreTold tells rows files es a b left first → Appends b c left → Inspects tells rows files es first (Appends a c)
-  told_out es a b c left first told all = become es first _ _ (λ text sends. all_out a b c text left sends all) told
 
   pub told_front : (es : List Listed) (a b c : Option (List ℕ)) (left : List ℕ) (first : Option Damage) → AreTold tells rows files es a b left first → AppendsFront b c left → InspectsSome tells rows files es (AppendsFront a c)
   told_front es a b c left first told front = all_some es first _ (become es first _ _ (λ text sends. front_out a b c text left sends front) told)

@@ -7,8 +7,8 @@ use Rattle.disk_model.specs.declared.disk.DiskErr.{DiskErr}
 use Rattle.disk_model.specs.declared.disk.DiskErr.TheVariants.{Fault, Memory}
 use Rattle.disk_model.proofs.Passing.{passes_then, passes_weaker, passes_none}
 use Rattle.partition_names.specs.declared.granularity.Granularity.{Granularity}
-use Rattle.tier_store.specs.Ends.{End, Done, Refused, Failed, Spent, end_of_error, end_of_disk, IsFailed, IsCut}
-use Rattle.tier_store.proofs.Acting.{rose_after}
+use Rattle.tier_store.specs.Ends.{End, Done, Refused, Failed, Spent, end_of_error, end_of_disk, IsFailed}
+use Rattle.tier_store.proofs.Rises.{rose_after}
 use Rattle.three_stores.specs.Stores.{Stores}
 use Rattle.three_stores.specs.Seen.{Seen, IsSettled, granularities}
 use Rattle.three_stores.specs.Stored.{HoldsAll}
@@ -154,16 +154,3 @@ still_open {A} {E} tells call old new end before after acts was = elim (acts.end
   | inl cut ↦ (before, after, cut.1)
   | inr done ↦ from_open tells call new done.0 end done.2
 ]
-
--- where it is done or refused, nothing stands in doubt
-pub settled_end : {A E : Type 0} (tells : Bool) (call : Call A E) (old new : Seen) (end : End A E) (before after : Stores) → Acts tells call old new end → (IsCut end → ⊥) → IsOpen tells old before after → (held : Stores) × Has tells new held
-settled_end {A} {E} tells call old new end before after acts not_cut was = elim (acts.ends before after was) [
-  | inl cut ↦ absurd (not_cut cut.0)
-  | inr done ↦ go end not_cut done.0 done.2
-]
-  where
-    go : (end : End A E) → (IsCut end → ⊥) → (held : Stores) → EndsFrom tells call new held end → (h : Stores) × Has tells new h
-    go (Done a) not_cut held ends = (ends.0, ends.3)
-    go (Refused e) not_cut held ends = (held, ends.0)
-    go Failed not_cut held ends = absurd (not_cut tt)
-    go Spent not_cut held ends = absurd (not_cut tt)

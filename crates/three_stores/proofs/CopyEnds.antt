@@ -28,7 +28,6 @@ use Rattle.tier_store.specs.Flush.{put_all, with_files}
 use Rattle.tier_store.specs.Held.{Filed, IsFiled, entry_of, filed_at}
 use Rattle.tier_store.specs.Plan.{IsLastOf}
 use Rattle.tier_store.specs.Stored.{AreHeld}
-use Rattle.tier_store.proofs.Lasts.{same_last}
 use Rattle.three_stores.specs.Change.{Has}
 use Rattle.three_stores.specs.Copied.{end_after, samples_at}
 use Rattle.three_stores.specs.Copying.{CopiesFurther, FindsLine, IsDamaged, SaysLines}
@@ -49,12 +48,6 @@ use Rattle.three_stores.proofs.MovedFiles.{same_size, valid_with}
 set_ends : (e : Entry) (xs ys : List Entry) → SetsLast e xs ys → (rest : List Entry) × (ys ≡ rest ++ e ∷ [])
 set_ends e xs ys (inl takes) = (takes.rest, takes.becomes)
 set_ends e xs ys (inr stands) = (xs, stands.becomes)
-
-pub set_once : (e g : Entry) (xs ys : List Entry) → SetsLast e xs ys → SetsLast g xs ys → e ≡ g
-set_once e g xs ys one two =
-    let a = set_ends e xs ys one in
-    let c = set_ends g xs ys two in
-    (same_last a.0 c.0 e g (sym a.1 ∙ c.1)).1
 
 -- samples that rise from a moment end later
 pub ends_behind : (n k : ℕ) (xs : List Sample) → xs ≢ [] → RisesFrom n xs → n < end_from k xs

@@ -12,7 +12,7 @@ use Rattle.pv_catalog.proofs.Standing.{keeps_same}
 use Rattle.store_manifest.specs.Manifest.{ManifestState}
 use Rattle.tier_store.specs.Ends.{End, IsFailed, end_of_disk}
 use Rattle.tier_store.specs.Held.{Filed, IsListedTo}
-use Rattle.tier_store.proofs.Acting.{rose_after}
+use Rattle.tier_store.proofs.Rises.{rose_after}
 use Rattle.tier_store.proofs.Stays.{same_then}
 use Rattle.three_stores.specs.Stores.{Stores}
 use Rattle.three_stores.specs.Seen.{Seen, granularities}

@@ -1,5 +1,5 @@
 -- One step of copying where nothing stands in doubt, by what the move's own call says.
-use Rattle.std.proofs.Common.{◌≡◌, ◌≢◌, inl, inr, refl, Bool, ℕ, ◌<◌, ◌≤◌, ◌+◌, List, length, Some, None, Ok, Err, Result}
+use Rattle.std.proofs.Common.{◌≡◌, ◌≢◌, inl, inr, refl, Bool, ℕ, ◌<◌, ◌≤◌, ◌+◌, List, length, Some, None, Err, Result}
 use Rattle.std.specs.Prelude.{Contains, IsTrue, slice_get}
 use Rattle.disk_model.specs.Files.{Name, Files, Rose}
 use Rattle.disk_model.specs.Past.{Past, MayLeave}
@@ -15,7 +15,7 @@ use Rattle.pv_catalog.proofs.Standing.{keeps_same}
 use Rattle.store_manifest.specs.Manifest.{ManifestState}
 use Rattle.store_manifest.specs.declared.entry.Entry.{Entry}
 use Rattle.partition_names.specs.declared.granularity.Granularity.{Granularity}
-use Rattle.tier_store.specs.Ends.{Done, end_of_disk}
+use Rattle.tier_store.specs.Ends.{end_of_disk}
 use Rattle.tier_store.specs.Held.{Filed, file_of}
 use Rattle.three_stores.specs.Stores.{Stores}
 use Rattle.three_stores.specs.Seen.{seen_on}
@@ -63,9 +63,6 @@ module _ {S : Type 0} (files_of : S → Files) (opened_of : S → Name → ℕ) 
     step_changes {A} files r faults cause =
         changes files_of opened_of past_of faults_of tells c ms limbo from to.0 to.1 d after seen_it (CopiesFurther from tells old move files) files (begun.2.settled.manifests (from + 1) to.0 to.1) (λ held has is told. stays_in files held has is told)
         (λ told. on_store files_of opened_of past_of faults_of tells c ms limbo from to.0 to.1 d after seen_it move part.0 begun.0 begun.1 begun.2 begun.3 wrote told) faults r cause
-
-    pub step_changes_ok : {A : Type 0} (files : List Filed) (a : A) → faults_of d ≤ faults_of after → ChangesGiven (CopiesFurther from tells old move files) tells (staying {A = A}) old.stores new.stores (Done a)
-    step_changes_ok {A} files a faults = step_changes files (Ok a) faults (λ is. let no : ◌≡◌ {A = Result A DiskErr} (Ok a) (Err Fault) = is in absurd (cc (no)))
 
     pub step_has : (files : List Filed) (held : Stores) → faults_of d ≤ faults_of after → Has tells old.stores held → CopiesFurther from tells old move files held → Has tells new.stores held
     step_has files held faults has is =

@@ -1,14 +1,12 @@
 -- A step of copying behind the look for what is left.
-use Rattle.std.proofs.Common.{◌≡◌, inl, inr, Bool, ℕ, ◌≤◌, ◌+◌, ◌++◌, List, [], Option, length, Ok, Err, Result, refl, sym, ◌∙◌, ap, subst, arith, append-nil}
+use Rattle.std.proofs.Common.{◌≡◌, inl, Bool, ℕ, ◌≤◌, ◌+◌, ◌++◌, List, [], length, Ok, Err, Result, refl, sym, ◌∙◌, ap, subst, arith, append-nil}
 use Rattle.std.specs.Prelude.{Contains, IfOk, IsTrue, OnErr}
-use Rattle.std.proofs.lemmas.List.{length-set}
 use Rattle.disk_model.specs.Files.{Name, Files}
 use Rattle.disk_model.specs.Past.{Passes}
 use Rattle.disk_model.specs.declared.disk.DiskErr.{DiskErr}
 use Rattle.disk_model.specs.declared.disk.DiskErr.TheVariants.{Fault, Memory}
 use Rattle.disk_model.proofs.Passing.{passes_then, passes_weaker}
 use Rattle.etl_mover.specs.Move.{MoveState, part_file}
-use Rattle.etl_mover.specs.Step.{Advances}
 use Rattle.partition_names.specs.declared.granularity.Granularity.{Granularity}
 use Rattle.series_model.specs.Series.{end_of}
 use Rattle.series_model.specs.declared.sample.Sample.{Sample}
@@ -16,7 +14,7 @@ use Rattle.store_manifest.specs.declared.entry.Entry.{Entry}
 use Rattle.tier_store.specs.Ends.{End, Done, Failed, Spent, end_of_disk}
 use Rattle.tier_store.specs.Flush.{put_all}
 use Rattle.tier_store.specs.Held.{Filed}
-use Rattle.tier_store.proofs.Acting.{rose_after}
+use Rattle.tier_store.proofs.Rises.{rose_after}
 use Rattle.three_stores.specs.Stores.{Stores, list_at}
 use Rattle.three_stores.specs.Stored.{HoldsAll}
 use Rattle.three_stores.specs.Seen.{Seen, granularities}
@@ -163,18 +161,6 @@ moves_then old mid new one two = record {
   is = two.is ∙ ap (λ (x : MoveState). record x { parts = new.parts; at = new.at; pending = new.pending }) one.is;
   long = two.long ∙ one.long;
 }
-
-pub moves_advance : (move new : MoveState) (revived : Option Entry) (len : ℕ) → Advances move new revived len → MovesOn move new
-moves_advance move new revived len adv = elim adv.is [
-  | inl same ↦ record {
-    is = subst (λ (x : MoveState). x ≡ record move { parts = x.parts; at = x.at; pending = x.pending }) (sym same) refl;
-    long = ap (λ (x : MoveState). length x.parts) same;
-  }
-  | inr (p, at_hand, same) ↦ record {
-    is = subst (λ (x : MoveState). x ≡ record move { parts = x.parts; at = x.at; pending = x.pending }) (sym same) refl;
-    long = ap (λ (x : MoveState). length x.parts) same ∙ length-set move.parts move.at (record p { len = len });
-  }
-]
 
 -- OTHER NAMES
 

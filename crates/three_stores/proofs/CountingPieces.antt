@@ -25,9 +25,6 @@ pub record IsBetween (files : Files) (name : Name) (from at end : ℕ) (ty : Pay
   pub counted : count ≡ length (since n done)
   pub place : at ≡ from + length (lines_of done)
 
-pub starts_between : (files : Files) (name : Name) (from end : ℕ) (ty : PayloadType) (year : ℤ) (n : ℕ) (samples : List Sample) → HasLines files name from end ty year samples → IsBetween files name from from end ty year n samples 0
-starts_between files name from end ty year n samples has = record { done = []; left = samples; split = refl; here = has; counted = refl; place = omega arith }
-
 no_lines : (xs : List Sample) (u : List ℕ) → lines_of xs ++ u ≡ [] → xs ≡ []
 no_lines [] u is = refl
 no_lines (x ∷ xs) u is = absurd (omega (arith, simp (length-append) at (ap length is)))

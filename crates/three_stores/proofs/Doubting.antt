@@ -16,7 +16,7 @@ use Rattle.store_manifest.specs.Manifest as manifest
 use Rattle.store_manifest.specs.Manifest.{ManifestState, manifest_name}
 use Rattle.tier_store.specs.Held.{Held, entry_of}
 use Rattle.tier_store.specs.Stored.{AreHeld, AreSafe, CatalogueStored, TierStored}
-use Rattle.tier_store.proofs.Doubting.{Quiet}
+use Rattle.tier_store.proofs.Quiet.{Quiet}
 use Rattle.tier_store.proofs.Frame.{catalogue_unsure_stays, tier_unsure_stays}
 use Rattle.tier_store.proofs.Reading.{Reads, reads_all, catalogue_read, tier_read, safe_read, unopened_same, quietly}
 use Rattle.tier_store.proofs.Three.{same_cases, set_long}
@@ -217,11 +217,3 @@ list_in_doubt tells at before next i m here (inr doubt) unsound told = elim doub
         let n = p.manifest in
         subst (λ (es : List Entry). IsUnsure (Configured n.granularity) n.journal at.files at.opened at.past es n.next) (sym (doubt.known.each k n p.here).entries)
         (subst (IsUnsure (Configured n.granularity) n.journal at.files at.opened at.past (map entry_of (list_at k before))) (sym p.next) (p.disk told).list.unsure)
-
--- with all journals sound nothing is in doubt
-pub sound_has : (tells : Bool) (at : Seen) (before next : Stores) → IsOpen tells at before next → at.catalogue.journal.sound ≡ true → AtEach at.manifests (λ i m. m.journal.sound ≡ true) → HasEither tells at before next
-sound_has tells at before next (inl has) sound all_sound = inl has
-sound_has tells at before next (inr doubt) sound all_sound = elim doubt.change [
-  | inl r ↦ absurd (cc (sound, r.unsound))
-  | inr p ↦ absurd (cc (all_sound p.0 p.1.manifest p.1.here, p.1.unsound))
-]

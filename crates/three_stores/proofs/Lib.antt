@@ -29,7 +29,6 @@ pub mod CopyWhole
 pub mod CountingLines
 pub mod CountingPieces
 pub mod CopyUncovered
-pub mod Covering
 pub mod Doubting
 pub mod Dropped
 pub mod Drops

@@ -10,7 +10,7 @@ use Rattle.pv_catalog.specs.Catalogue.{CatalogueState}
 use Rattle.pv_catalog.specs.Rows.{KeepsRows}
 use Rattle.series_model.specs.declared.sample.Sample.{Sample}
 use Rattle.store_manifest.specs.Manifest.{ManifestState}
-use Rattle.tier_store.proofs.Acting.{rose_after}
+use Rattle.tier_store.proofs.Rises.{rose_after}
 use Rattle.tier_store.proofs.Reading.{Reads, catalogue_read, tier_read, unopened_same}
 use Rattle.tier_store.proofs.Stays.{same_then}
 use Rattle.tier_store.specs.Ends.{End, Done, Refused, Failed, Spent, IsFailed}

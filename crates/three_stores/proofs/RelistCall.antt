@@ -20,7 +20,7 @@ use Rattle.tier_store.specs.Three.{Anything, Beside}
 use Rattle.tier_store.specs.Writing.{IsStoredAs, IsDoubtedAs}
 use Rattle.three_stores.specs.Stores.{Stores, tier, with_list}
 use Rattle.three_stores.specs.Seen.{Seen, seen_on}
-use Rattle.three_stores.specs.Change.{Has, CanList, Call, Changes, relisting}
+use Rattle.three_stores.specs.Change.{Has, CanList, Call, Changes}
 use Rattle.three_stores.proofs.Beside.{OnStore}
 use Rattle.three_stores.proofs.FlushCall.{list_unsure, stored_as, on_store}
 use Rattle.three_stores.proofs.OnePlace.{place_done, place_cut}
@@ -91,14 +91,3 @@ module _ {S : Type 0} (files_of : S → Files) (opened_of : S → Name → ℕ) 
           (λ told held has sound. (unmade told c.journal shelf (tier i held) (holding i held (files held has)) (can_relist held has told) sound).stored.tier)
           (λ told held has unsound. list_unsure c.journal made shelf (files_of after) (opened_of after) (past_of after) (tier i held) (holding i held (files held has)) (in_doubt told c.journal shelf (tier i held) (holding i held (files held has)) (can_relist held has told) unsound) unsound)
           e end is memory cause
-
-    pub relist_done : made.entries ≡ all_changed m.entries changes → made.journal.sound ≡ true
-        → (IsTrue tells → (catalogue : JournalState) (s : Shelf) (held next : Held) → Can catalogue s held next → IsStoredAs catalogue made s (files_of after) (opened_of after) (past_of after) next)
-        → Changes tells (relisting i tells before changes) before behind (Done tt)
-    relist_done = call_done (relisting i tells before changes) (λ held has. (files held has, (can held has).1, refl)) (λ held has. tt)
-
-    pub relist_cut : made.entries ≡ m.entries → (made.journal.sound ≡ false → made.next ≡ all_changed m.entries changes)
-        → (IsTrue tells → (catalogue : JournalState) (s : Shelf) (held next : Held) → Can catalogue s held next → made.journal.sound ≡ true → IsStoredAs catalogue made s (files_of after) (opened_of after) (past_of after) held)
-        → (IsTrue tells → (catalogue : JournalState) (s : Shelf) (held next : Held) → Can catalogue s held next → made.journal.sound ≡ false → IsDoubtedAs catalogue made s (files_of after) (opened_of after) (past_of after) held next)
-        → (e : DiskErr) (end : End (Unit {0}) ⊥) → end ≡ end_of_error e → (e ≡ Memory → made.journal ≡ m.journal) → (e ≡ Fault → Rose (faults_of d) (faults_of after)) → Changes tells (relisting i tells before changes) before behind end
-    relist_cut = call_cut (relisting i tells before changes) (λ held has. (files held has, (can held has).1, refl)) (λ held has. tt)

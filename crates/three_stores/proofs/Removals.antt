@@ -1,6 +1,6 @@
 -- What a sweep finds in lists and in limbo, and how files are removed one after another.
 use Rattle.std.proofs.Common.{◌≡◌, ◌≢◌, inl, inr, Bool, true, false, cond, ◌==◌, ℕ, ◌<◌, ◌≤◌, ◌+◌, List, [], ◌∷◌, length, map, filter, get_or, Some, None, Ok, Err, refl, sym, ◌∙◌, ap, subst, arith}
-use Rattle.std.specs.Prelude.{All, Contains, IsTrue, ◌↔◌, not, nat_lt, slice_get, Result, OnOk, OnErr, IfOk}
+use Rattle.std.specs.Prelude.{All, Contains, IsTrue, ◌↔◌, not, nat_lt, slice_get, Result, OnOk, OnErr}
 use Rattle.std.specs.FinMap.{FinMap}
 use Rattle.std.specs.Ordering.{nat_cmp}
 use Rattle.std.specs.Result.{result_and}
@@ -13,7 +13,7 @@ use Rattle.std.proofs.lemmas.List.Elements.{All-head, All-tail}
 use Rattle.disk_model.specs.Files.{Name, Content, Files, At, Becomes, KeptOr, Rose, size_of}
 use Rattle.disk_model.specs.Past.{Past, Passes, Only}
 use Rattle.disk_model.specs.declared.disk.DiskErr.{DiskErr}
-use Rattle.disk_model.specs.declared.disk.DiskErr.TheVariants.{Fault, Memory}
+use Rattle.disk_model.specs.declared.disk.DiskErr.TheVariants.{Fault}
 use Rattle.disk_model.proofs.Passing.{passes_weaker}
 use Rattle.disk_model.specs.Record.{is_same}
 use Rattle.pin_table.specs.Pinned.{PinState, IsPinned}
@@ -24,7 +24,6 @@ use Rattle.store_manifest.specs.Entries.{place, comes_before, is_listed, InOrder
 use Rattle.store_manifest.specs.Listing.{OfSeries}
 use Rattle.store_manifest.specs.Manifest.{ManifestState}
 use Rattle.store_manifest.proofs.Around.{not_listed, is_there}
-use Rattle.tier_store.specs.Ends.{end_of_disk, IsFailed}
 use Rattle.tier_store.specs.Flush.{PlacesRise}
 use Rattle.tier_store.specs.Held.{Filed, entry_of, filed_at}
 use Rattle.tier_store.proofs.Names.{name_cases}
@@ -120,11 +119,6 @@ retained {F} R P Q f says xs ys k = subst (λ (l : List Retired). Stay P Q xs l)
         let one = says r b t.0 t.1 in
         step b bs r rs one.0 (go bs rs q (omega arith) (subst (λ (y : F). ReturnsInTurn R y bs rs q) one.1 t.2))
 
-pub stay_length : (P Q : Retired → Type 0) (xs ys : List Retired) → Stay P Q xs ys → length ys ≤ length xs
-stay_length P Q [] ys s = let is = ap length s in omega (arith, is)
-stay_length P Q (x ∷ xs) ys (inl s) = let is = ap length s.2 in let rest = stay_length P Q xs s.0 s.3 in omega (arith, is, rest)
-stay_length P Q (x ∷ xs) ys (inr s) = let rest = stay_length P Q xs ys s.1 in omega (arith, rest)
-
 -- ONE FILE
 
 -- a name without a size has no file
@@ -205,15 +199,6 @@ on_ok {A} (Err e) P Q to was = tt
 pub on_err : {A : Type 0} (r : Result A DiskErr) (P Q : Type 0) → (P → Q) → OnErr r P → OnErr r Q
 on_err {A} (Ok a) P Q to was = tt
 on_err {A} (Err e) P Q to was = to was
-
-pub if_ok : {A : Type 0} (r : Result A DiskErr) (P : Type 0) (Q S : A → Type 0) → ((a : A) → P → Q a → S a) → OnOk r P → IfOk r Q → IfOk r S
-if_ok {A} (Ok a) P Q S to one two = to a one two
-if_ok {A} (Err e) P Q S to one two = tt
-
-pub disk_failed : {A : Type 0} (r : Result A DiskErr) (before after : ℕ) → (r ≡ Err Fault → Rose before after) → IsFailed (end_of_disk r) → Rose before after
-disk_failed {A} (Ok a) before after cause none = absurd none
-disk_failed {A} (Err Fault) before after cause failed = cause refl
-disk_failed {A} (Err Memory) before after cause none = absurd none
 
 -- a count that rose has risen by any later number
 pub rose_until : (a b c : ℕ) → b ≤ c → Rose a b → Rose a c

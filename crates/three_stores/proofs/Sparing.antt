@@ -32,7 +32,7 @@ use Rattle.three_stores.specs.declared.store.TierStore.{TierStore}
 use Rattle.disk_model.specs.declared.disk.Disk.{Ghosts}
 use Rattle.three_stores.specs.Change.{IsKnown, Has, HoldsBy, EndsFrom, Changes}
 use Rattle.three_stores.specs.Pinned.{SeenAll, beside, IsHeldTo, IsNoShorter, IsThereTo, KeepsShown, PinsStand}
-use Rattle.three_stores.specs.Limbo.{IsOfPlace, LimboStands, IsListedName, IsPinnedFile, IsNeeded, IsKeptName, IsSwept, StayUnlisted, StayNeeded, LeaveListed, AreGone, AreFree, Spares, SparesKept, LeavesKept, staying}
+use Rattle.three_stores.specs.Limbo.{IsOfPlace, LimboStands, IsListedName, IsPinnedFile, IsNeeded, IsKeptName, IsSwept, StayUnlisted, StayNeeded, AreGone, AreFree, Spares, SparesKept, LeavesKept, staying}
 use Rattle.three_stores.specs.declared.limbo.Retired.{Retired}
 use Rattle.three_stores.proofs.Left.{has_left}
 use Rattle.three_stores.proofs.Showing.{shown, fronts_same}
@@ -253,9 +253,6 @@ module _ (tells : Bool) (at : Seen) (pins : FinMap nat_cmp PinOf) (copied : List
     needed = needed;
     count = count;
   }
-
-  pub leave_listed : LeaveListed swept limbo retired
-  leave_listed = stay_by Unlisted Listed (λ x. Unit {0}) (λ x. IsListedName swept x.name) (λ r. Unit {0}) (λ r known not_listed. tt) (λ r known listed. listed_now r.name listed) limbo retired (nothing_known limbo) unlisted
 
   pub are_gone : AreFree pins copied (λ n. Only past n None) retired → AreGone swept pins copied limbo
   are_gone free k d lt unneeded =

@@ -105,7 +105,3 @@ file_at files entries i e samples are low is rises = go files refl
           entry = sym (is ∙ (ap (λ (l : List Entry). get_or l i e) are ∙ get_or-map entry_of files i d e within));
           adds = ap (over samples) more ∙ sym (over_flushed samples (flat (take i files)) f.samples front);
         }
-
--- of no file
-pub no_files : (files : List Filed) (samples : List Sample) → over samples (flat (take 0 files)) ≡ samples
-no_files files samples = append-nil samples

@@ -10,13 +10,13 @@ use Rattle.pv_catalog.specs.Catalogue.{CatalogueState, HasState, Refuses, regist
 use Rattle.pv_catalog.specs.Rows.{switched}
 use Rattle.pv_catalog.specs.declared.error.RegisterErr.{RegisterErr}
 use Rattle.pv_catalog.specs.declared.error.StateErr.{StateErr}
+use Rattle.pv_catalog.specs.declared.error.StateErr.TheVariants.{NotRunning, NotPaused, Disk}
 use Rattle.pv_catalog.specs.declared.row.Row.{Row}
 use Rattle.store_manifest.specs.Entries.{all_changed}
 use Rattle.store_manifest.specs.Manifest.{ManifestState}
 use Rattle.store_manifest.specs.declared.entry.Change.{Change}
 use Rattle.store_manifest.specs.declared.entry.Entry.{Entry}
 use Rattle.series_model.specs.declared.batch.RowSamples.{RowSamples}
-use Rattle.tier_store.specs.Change.{RefusesPause, RefusesResume}
 use Rattle.tier_store.specs.Ends.{End, Done, Refused, Failed, Spent, IsFailed, IsCut}
 use Rattle.tier_store.specs.Flush.{IsFlushed}
 use Rattle.tier_store.specs.Held.{Filed, Held, entry_of, count_of}
@@ -171,6 +171,16 @@ registering name about = record {
 abbrev pub Switches : ℕ → State → State → Stores → Stores → Type 0
 Switches row from to old new = HasState old.rows row from × (new ≡ with_rows old (switched row to old.rows))
 
+abbrev pub RefusesPause : ℕ → StateErr → List Row → Type 0
+RefusesPause row NotRunning rows = HasState rows row Running → ⊥
+RefusesPause row NotPaused rows = ⊥
+RefusesPause row (Disk e) rows = ⊥
+
+abbrev pub RefusesResume : ℕ → StateErr → List Row → Type 0
+RefusesResume row NotRunning rows = ⊥
+RefusesResume row NotPaused rows = HasState rows row Paused → ⊥
+RefusesResume row (Disk e) rows = ⊥
+
 abbrev pub pausing : ℕ → Call (Unit {0}) StateErr
 pausing row = record { by = Switches row Running Paused; says = λ a old new. Unit {0}; refuses = RefusesPause row }
 
@@ -183,13 +193,6 @@ pub record CanList (i : ℕ) (tells : Bool) (at : Seen) (changes : List Change) 
   pub lists : all_changed (map entry_of (list_at i old)) changes ≡ map entry_of files
   pub valid : (m : ManifestState) → slice_get at.manifests i ≡ Some m → AreHeld m.granularity (tier i (with_list i files old))
   pub safe : IsTrue tells → AreSafe (tier i (with_list i files old)) at.files at.opened at.past
-
--- the list at the place becomes that of other files, which the changes make of it
-abbrev pub Relists : ℕ → Bool → Seen → List Change → Stores → Stores → Type 0
-Relists i tells at changes old new = (files : List Filed) × CanList i tells at changes old files × (new ≡ with_list i files old)
-
-abbrev pub relisting : ℕ → Bool → Seen → List Change → Call (Unit {0}) ⊥
-relisting i tells at changes = record { by = Relists i tells at changes; says = λ a old new. Unit {0}; refuses = λ e rows. ⊥ }
 
 -- the manifest of this store, which is at the place of its number less one, lists the entry
 pub record IsListedIn (manifests : List ManifestState) (store : ℕ) (entry : Entry) : Type 0 where

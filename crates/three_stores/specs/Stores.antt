@@ -1,5 +1,5 @@
 -- What the three stores hold together: the rows, and in each store the partition files that are listed.
-use Rattle.std.specs.Prelude.{ℕ, zero, suc, ◌+◌, List, [], ◌∷◌, Bool, nat_eq, if◌then◌else◌}
+use Rattle.std.specs.Prelude.{ℕ, zero, suc, ◌+◌, List, Bool, nat_eq, if◌then◌else◌}
 use Rattle.series_model.specs.declared.sample.Sample.{Sample}
 use Rattle.series_model.specs.Series.{over}
 use Rattle.pv_catalog.specs.declared.row.Row.{Row}
@@ -26,9 +26,6 @@ list_at i s = at_place i s.short s.medium s.long
 -- the store at this place
 abbrev pub tier : ℕ → Stores → Held
 tier i s = record { store = i + 1; rows = s.rows; files = list_at i s; stands = s.stands }
-
-abbrev pub tiers_of : Stores → List Held
-tiers_of s = tier 0 s ∷ tier 1 s ∷ tier 2 s ∷ []
 
 -- the same stores, but at this place with other files
 abbrev pub with_list : ℕ → List Filed → Stores → Stores

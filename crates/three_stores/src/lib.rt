@@ -41,7 +41,6 @@ mod opening_pieces;
 mod pinning;
 mod publication;
 mod registry;
-mod relisting;
 mod removing;
 mod retirement;
 mod retiring;

@@ -19,13 +19,11 @@ use Rattle.pv_catalog.specs.Rows.{IsCatalogue}
 use Rattle.pv_catalog.specs.Catalogue.{catalogue_name}
 use Rattle.store_manifest.specs.Batches.{Configured, Folds}
 use Rattle.store_manifest.specs.Manifest.{manifest_name}
-use Rattle.tier_store.specs.Held.{Filed, Held, IsFiled, IsListed, AreIn, entry_of, filed_at, shelf_of, Shelf}
-use Rattle.tier_store.specs.Flush.{Grows, MakesFiles, put_all, with_files}
+use Rattle.tier_store.specs.Held.{Filed, Held, AreIn, entry_of, filed_at, shelf_of, Shelf}
+use Rattle.tier_store.specs.Flush.{Grows, put_all}
 use Rattle.tier_store.specs.Stored.{HoldsEither, AreHeld, AreSafe, CatalogueStored, IsStored, IsInDoubt}
 use Rattle.tier_store.specs.Writing.{set_of}
-use Rattle.tier_store.proofs.Listed.{all_put_all, rise_put_all}
 use Rattle.tier_store.proofs.Stays.{AreApart, all_apart, apart_stay, apart_long, safe_stays}
-use Rattle.tier_store.proofs.WrittenPiece.{all_listed, all_filed}
 use Rattle.tier_store.proofs.Holding.{not_in, stored_left}
 
 -- WHAT THE CHANGES LIST
@@ -58,17 +56,6 @@ pub all_follow : (g : Granularity) (ps : List Piece) (entries : List Entry) → 
 all_follow g [] entries parts = tt
 all_follow g (p ∷ ps) entries parts =
     (All-head (λ (q : Piece). IsPart g q.entry.part) p ps parts, all_follow g ps (changed entries (set_of p)) (All-tail (λ (q : Piece). IsPart g q.entry.part) p ps parts))
-
-pub valid_with : (g : Granularity) (held : Held) (ps : List Piece) (fs : List Filed) → AreHeld g held → MakesFiles g held ps fs → AreHeld g (with_files held fs)
-valid_with g held ps fs valid makes = record {
-  keys = valid.keys;
-  filed = record {
-    numbered = valid.filed.numbered;
-    listed = all_put_all (IsListed g held.rows) held.files fs valid.filed.listed (all_listed g held ps fs makes.each);
-    filed = λ stands. all_put_all (IsFiled g held.rows) held.files fs (valid.filed.filed stands) (all_filed g held ps fs makes.each stands);
-  };
-  apart = rise_put_all held.files fs valid.apart;
-}
 
 -- WHAT THE COMMIT LEAVES
 

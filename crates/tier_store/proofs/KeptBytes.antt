@@ -1,26 +1,15 @@
 -- Listed bytes stay, and listed files are listed still.
-use Rattle.std.proofs.Common.{◌≡◌, ◌≢◌, ℕ, get_or, refl, sym, ◌∙◌, ap, subst, arith}
-use Rattle.std.proofs.lemmas.List.Elements.{All-contains, Contains-get_or}
+use Rattle.std.proofs.Common.{◌≡◌, ◌≢◌, ℕ, get_or, refl, sym, ap, subst}
+use Rattle.std.proofs.lemmas.List.Elements.{All-contains}
 use Rattle.disk_model.specs.Files.{Name, Content, Files, At}
 use Rattle.disk_model.specs.Past.{Past, Passes}
 use Rattle.disk_model.proofs.Passing.{passes_none, passes_then, passes_weaker}
 use Rattle.store_files.specs.Fronts.{Keeps}
 use Rattle.store_files.proofs.Stays.{keeps_shorter}
 use Rattle.store_manifest.specs.declared.entry.Entry.{Entry}
-use Rattle.tier_store.specs.Held.{Listing, KeepsListed, IsListedTo, ListsStill, file_of}
+use Rattle.tier_store.specs.Held.{Listing, KeepsListed, ListsStill, file_of}
 use Rattle.tier_store.specs.Writing.{LeavesListed}
 use Rattle.tier_store.proofs.Names.{outside}
-
--- WHAT IS LISTED
-
-pub lists_itself : (l : Listing) → ListsStill l l
-lists_itself l k d lt = record { entry = get_or l.1 k d; within = Contains-get_or l.1 k d lt; named = refl; longer = omega arith }
-
-pub lists_on : (a b c : Listing) → ListsStill a b → ListsStill b c → ListsStill a c
-lists_on a b c one two k d lt =
-    let first = one k d lt in
-    let next = All-contains (λ (e : Entry). IsListedTo c (file_of b.0 e) e.len) b.1 first.entry two first.within in
-    record { entry = next.entry; within = next.within; named = next.named ∙ first.named; longer = (let less = first.longer in let more = next.longer in omega (arith, less, more)) }
 
 -- FROM IMAGE TO IMAGE
 
@@ -55,10 +44,6 @@ keeps_earlier l later a c still keeps k d lt =
 
 pub leaves_none : (l : Listing) (files : Files) (past : Past) → LeavesListed l files files past past
 leaves_none l files past = record { now = keeps_same l files files refl; any_moment = passes_none (KeepsListed l) past (λ a left. keeps_same l a a refl) }
-
--- calls that only read
-pub leaves_read : (l : Listing) (files later : Files) (old new : Past) → later ≡ files → Passes (λ a b. b ≡ a) old new → LeavesListed l files later old new
-leaves_read l files later old new same passes = record { now = keeps_same l files later same; any_moment = passes_weaker (λ a b. b ≡ a) (KeepsListed l) old new passes (λ a c left is. keeps_same l a c is) }
 
 -- calls that change one name beside the store
 pub leaves_beside : (l : Listing) (name : Name) (R : Content → Content → Type 0) (files later : Files) (old new : Past) → name.0 ≢ l.0.0 → ((n : Name) → n ≢ name → later n ≡ files n) → Passes (At name R) old new → LeavesListed l files later old new

@@ -1,17 +1,15 @@
 // One commit of a manifest that lists other files: how a flush, a publication and a retirement end.
-ghost use Rattle.std.specs.Prelude.{◌≡◌, ◌≢◌, ◌≤◌, ◌<◌, ℕ, Some, List, length, slice_get, slice_set, OnOk, OnErr, IsErrOf, IsTrue, true, false};
+ghost use Rattle.std.specs.Prelude.{◌≡◌, ◌≢◌, ◌≤◌, length, OnOk, OnErr, IsErrOf, IsTrue, true, false};
 ghost use Rattle.disk_model.specs.Files.{Name, Rose, At};
 ghost use Rattle.disk_model.specs.Past.{Passes};
 ghost use Rattle.gate_journal.specs.Journal.{JournalState};
 ghost use Rattle.store_manifest.specs.Entries.{AllCanFollow, all_changed};
-ghost use Rattle.pv_catalog.specs.declared.row.Row.{Row as RowValue};
-ghost use Rattle.store_manifest.specs.Manifest.{ManifestState};
 ghost use Rattle.store_manifest.specs.Batches.{batch_of};
 ghost use Rattle.tier_store.specs.Held.{Held, Shelf};
 ghost use Rattle.tier_store.specs.Stored.{HoldsEither};
 ghost use Rattle.tier_store.specs.Writing.{IsStoredAs, IsDoubtedAs};
 ghost use Rattle.tier_store.specs.Ahead.{CanRelist};
-ghost use Rattle.tier_store.specs.Three.{Anything, AllStored, PlaceInDoubt, HoldsAllEither, CanRelistIn};
+ghost use Rattle.tier_store.specs.Three.{Anything};
 
 use disk_model::{Disk, DiskErr};
 use gate_journal::GREATEST_BATCH;
@@ -50,35 +48,5 @@ pub fn relist<D: Disk>(
     ensures cause { IsErrOf result DiskErr.Fault → Rose (D.faults disk.old) (D.faults disk.new) }
 {
     manifest.commit(disk, changes)?;
-    Ok(())
-}
-
-/// Lists other files in the store at this place, which is its number less one. A crash at any moment leaves what all stores held, or
-/// that with these files.
-pub fn relist_in<D: Disk>(
-    disk: &mut D,
-    manifests: &mut Vec<Manifest>,
-    i: usize,
-    changes: &[Change],
-) -> Result<(), DiskErr>
-    requires within { i < length manifests.old.items }
-    requires sound { (m : ManifestState) → slice_get manifests.old.items i ≡ Some m → IsTrue m.journal.sound }
-    requires follow { (m : ManifestState) → slice_get manifests.old.items i ≡ Some m → AllCanFollow m.granularity m.entries changes.now }
-    requires few { length (batch_of changes.now) ≤ GREATEST_BATCH }
-    requires can { IsTrue D.tells → (catalogue : JournalState) × (rows : List RowValue) × (ts : List Held) × (next : Held) × CanRelistIn i catalogue manifests.old.items (D.files disk.old) (D.opened disk.old) (D.past disk.old) rows ts next changes.now }
-
-    ensures any_moment { IsTrue D.tells → (catalogue : JournalState) (rows : List RowValue) (ts : List Held) (next : Held) → CanRelistIn i catalogue manifests.old.items (D.files disk.old) (D.opened disk.old) (D.past disk.old) rows ts next changes.now
-        → Passes (HoldsAllEither manifests.old.items ts (slice_set ts i next)) (D.past disk.old) (D.past disk.new) }
-    ensures made { IsTrue D.tells → (catalogue : JournalState) (rows : List RowValue) (ts : List Held) (next : Held) → CanRelistIn i catalogue manifests.old.items (D.files disk.old) (D.opened disk.old) (D.past disk.old) rows ts next changes.now
-        → OnOk result (AllStored catalogue manifests.new.items (D.files disk.new) (D.opened disk.new) (D.past disk.new) rows (slice_set ts i next)) }
-    ensures unmade { IsTrue D.tells → (catalogue : JournalState) (rows : List RowValue) (ts : List Held) (next : Held) → CanRelistIn i catalogue manifests.old.items (D.files disk.old) (D.opened disk.old) (D.past disk.old) rows ts next changes.now
-        → OnErr result ((m : ManifestState) → slice_get manifests.new.items i ≡ Some m → m.journal.sound ≡ true → AllStored catalogue manifests.new.items (D.files disk.new) (D.opened disk.new) (D.past disk.new) rows ts) }
-    ensures in_doubt { IsTrue D.tells → (catalogue : JournalState) (rows : List RowValue) (ts : List Held) (next : Held) → CanRelistIn i catalogue manifests.old.items (D.files disk.old) (D.opened disk.old) (D.past disk.old) rows ts next changes.now
-        → OnErr result ((m : ManifestState) → slice_get manifests.new.items i ≡ Some m → m.journal.sound ≡ false → PlaceInDoubt i catalogue manifests.new.items (D.files disk.new) (D.opened disk.new) (D.past disk.new) rows ts next) }
-    ensures frame { (k : ℕ) → k ≢ i → slice_get manifests.new.items k ≡ slice_get manifests.old.items k }
-    ensures faults { D.faults disk.old ≤ D.faults disk.new }
-    ensures cause { IsErrOf result DiskErr.Fault → Rose (D.faults disk.old) (D.faults disk.new) }
-{
-    relist(disk, &mut manifests[i], changes)?;
     Ok(())
 }

@@ -64,10 +64,6 @@ module _ {S A B : Type 0} where
   more_gave : (ns : List (Pass S A B)) (n : Pass S A B) → flat_map (λ (n : Pass S A B). gave n) (ns ++ n ∷ []) ≡ flat_map (λ (n : Pass S A B). gave n) ns ++ gave n
   more_gave ns n = flat_map-append (λ (n : Pass S A B). gave n) ns (n ∷ []) ∙ ap (λ (xs : List ℕ). flat_map (λ (n : Pass S A B). gave n) ns ++ xs) (append-nil (gave n))
 
-  -- it came back to itself
-  pub back_self : (p : Pass S A B) → IsLast p → IsBack p p
-  back_self p last = record { last = last; same_number = refl; goes_on = prefix_self (known p); drained_rises = omega arith }
-
 module _ {S A B : Type 0} (steps : S → ℕ → ℕ → A → B → S → Type 0) (r : Rooms S A B) where
   abbrev Q : Type 0
   Q = Pass S A B

@@ -1,7 +1,6 @@
 use Rattle.std.proofs.Common.{List, arith}
 use Rattle.std.specs.Prelude.{All}
-use Rattle.store_reopen.specs.Verdict.{HasRow}
-use Rattle.three_reopen.specs.Verdict.{stranger}
+use Rattle.three_reopen.specs.Verdict.{HasRow, stranger}
 use Rattle.three_reopen.proofs.Looking.{here_from, next_place, at_all, told_stranger}
 use Rattle.three_reopen.proofs.files.check_rows.Goals as goal
 

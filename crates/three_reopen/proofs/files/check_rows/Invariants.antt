@@ -1,7 +1,7 @@
 use Rattle.std.proofs.Common.{◌≡◌, ◌≤◌, ◌<◌, ℕ, All, Some}
 use Rattle.std.specs.Prelude.{slice_get}
 use Rattle.store_manifest.specs.Manifest.{ManifestState}
-use Rattle.store_reopen.specs.Verdict.{HasRow}
+use Rattle.three_reopen.specs.Verdict.{HasRow}
 use Rattle.three_reopen.proofs.files.check_rows.Given as goal
 
 abbrev pub invariant-loop-place : goal.invariant-loop-place

@@ -1,6 +1,6 @@
 use Rattle.std.proofs.Common.{ℕ, List, length, take, inl, inr, ◌∙◌, ap, Err}
 use Rattle.gate_journal.specs.Batches.{open_gates}
-use Rattle.store_reopen.proofs.Verdicts.{same_batches}
+use Rattle.three_reopen.proofs.OneJournal.{same_batches}
 use Rattle.three_reopen.proofs.journals.gate_of.Goals as goal
 
 pub returns-in-Ok-clause-gate : goal.returns-in-Ok-clause-gate

@@ -4,7 +4,7 @@ use Rattle.pv_catalog.specs.Catalogue.{catalogue_name}
 use Rattle.pv_catalog.specs.Rows.{IsBadBatch}
 use Rattle.three_reopen.specs.Verdict.{catalogue_bad}
 use Rattle.three_reopen.proofs.Keeping.{kept_rows, kept_then, rows_again}
-use Rattle.store_reopen.proofs.Looking.{IsGate, bad_again, no_bad_rows}
+use Rattle.three_reopen.proofs.OneJournal.{IsGate, bad_again, no_bad_rows}
 use Rattle.three_reopen.proofs.journals.load_catalogue.Goals as goal
 
 pub returns-in-Ok-clause-keeps : goal.returns-in-Ok-clause-keeps

@@ -6,9 +6,8 @@ use Rattle.partition_names.specs.declared.granularity.Granularity.{Granularity}
 use Rattle.store_manifest.specs.Batches.{Configured, Folds, IsBadBatch}
 use Rattle.store_manifest.specs.Entries.{AreEntries}
 use Rattle.store_manifest.specs.Manifest.{Lists, manifest_name}
-use Rattle.store_reopen.specs.Verdict.{IsBadManifest}
-use Rattle.store_reopen.proofs.Keeping.{catalogue_stays}
-use Rattle.store_reopen.proofs.Looking.{IsGate, bad_again, no_bad_entries}
+use Rattle.three_reopen.specs.OneJournal.{IsBadManifest}
+use Rattle.three_reopen.proofs.OneJournal.{catalogue_stays, IsGate, bad_again, no_bad_entries}
 use Rattle.three_reopen.specs.Reopen.{stores_of}
 use Rattle.three_reopen.specs.Verdict.{manifest_bad}
 use Rattle.three_reopen.proofs.Having.{here_at}

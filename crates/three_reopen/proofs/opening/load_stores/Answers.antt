@@ -7,10 +7,9 @@ use Rattle.store_manifest.specs.Batches.{Configured}
 use Rattle.store_manifest.specs.Manifest.{ManifestState, manifest_name}
 use Rattle.pv_catalog.specs.declared.row.Row.{Row}
 use Rattle.pv_catalog.specs.Rows.{IsCatalogue}
-use Rattle.store_reopen.specs.Verdict.{HasRow}
-use Rattle.store_reopen.proofs.Keeping.{journals_differ, kept_reads}
+use Rattle.three_reopen.specs.Verdict.{HasRow, AreSaid, IsThere}
+use Rattle.three_reopen.proofs.OneJournal.{journals_differ, kept_reads}
 use Rattle.three_reopen.specs.Reopen.{stores_of, lists_of}
-use Rattle.three_reopen.specs.Verdict.{AreSaid, IsThere}
 use Rattle.three_reopen.proofs.Having.{all_there_in, same_granularities}
 use Rattle.three_reopen.proofs.Keeping.{kept_then, kept_reading}
 use Rattle.three_reopen.proofs.Manifests.{are_said}

@@ -3,7 +3,7 @@ use Rattle.std.specs.Prelude.{OnOk, Result}
 use Rattle.disk_model.specs.Files.{Rose}
 use Rattle.disk_model.specs.Past.{Only}
 use Rattle.disk_model.specs.declared.disk.DiskErr.{DiskErr}
-use Rattle.tier_store.proofs.Acting.{rose_after}
+use Rattle.tier_store.proofs.Rises.{rose_after}
 use Rattle.three_stores.specs.Limbo.{AreFree}
 use Rattle.three_stores.proofs.Removals.{removes_read, gone_for_good, both_done, both_cause, rose_until}
 use Rattle.three_stores.proofs.removing.remove_for_good.Goals as goal

@@ -4,7 +4,7 @@ use Rattle.std.proofs.lemmas.List.{take_all}
 use Rattle.disk_model.specs.Files.{Content, Files, Rose}
 use Rattle.disk_model.specs.Past.{Only}
 use Rattle.disk_model.specs.declared.disk.DiskErr.{DiskErr}
-use Rattle.tier_store.proofs.Acting.{rose_after}
+use Rattle.tier_store.proofs.Rises.{rose_after}
 use Rattle.tier_store.proofs.Stays.{same_then}
 use Rattle.three_stores.specs.Limbo.{AreFree}
 use Rattle.three_stores.specs.declared.limbo.Retired.{Retired}

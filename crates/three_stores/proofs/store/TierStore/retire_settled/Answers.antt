@@ -10,7 +10,7 @@ use Rattle.disk_model.specs.declared.disk.DiskErr.TheVariants.{Fault, Memory}
 use Rattle.pinned_pieces.specs.Pieces.{PinOf}
 use Rattle.store_manifest.specs.declared.entry.Entry.{Entry}
 use Rattle.tier_store.specs.Ends.{Done, end_of_disk}
-use Rattle.tier_store.proofs.Acting.{rose_after}
+use Rattle.tier_store.proofs.Rises.{rose_after}
 use Rattle.three_stores.specs.Change.{Has, Changes}
 use Rattle.three_stores.specs.Limbo.{LimboStands, IsListedName, IsKeptName, LeaveListed, Stay, AreFree}
 use Rattle.disk_model.specs.Past.{Only}

@@ -3,7 +3,7 @@ use Rattle.std.specs.Prelude.{slice_set}
 use Rattle.std.proofs.lemmas.Result.{err_from_is_err_and}
 use Rattle.disk_model.specs.declared.disk.DiskErr.{DiskErr}
 use Rattle.store_manifest.specs.Manifest.{ManifestState}
-use Rattle.tier_store.proofs.Doubting.{quiet}
+use Rattle.tier_store.proofs.Quiet.{quiet}
 use Rattle.three_stores.specs.Seen.{seen_on}
 use Rattle.three_stores.specs.Change.{IsOpen}
 use Rattle.three_stores.proofs.Acting.{only_reads}

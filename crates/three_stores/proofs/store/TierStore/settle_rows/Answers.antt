@@ -5,7 +5,7 @@ use Rattle.pv_catalog.specs.Catalogue.{CatalogueState}
 use Rattle.three_stores.specs.Seen.{seen_on}
 use Rattle.three_stores.specs.Change.{IsOpen}
 use Rattle.three_stores.proofs.Acting.{only_reads}
-use Rattle.tier_store.proofs.Doubting.{quiet}
+use Rattle.tier_store.proofs.Quiet.{quiet}
 use Rattle.three_stores.proofs.Doubting.{open_read, rows_settled, rows_in_doubt}
 use Rattle.three_stores.proofs.LeavingNames.{read_leaves}
 use Rattle.three_stores.proofs.store.TierStore.settle_rows.Goals as goal

@@ -8,7 +8,7 @@ use Rattle.pinned_pieces.specs.Pieces.{PinOf}
 use Rattle.pv_catalog.specs.Catalogue.{CatalogueState}
 use Rattle.pv_catalog.specs.Rows.{KeepsRows}
 use Rattle.tier_store.specs.Ends.{end_of_disk}
-use Rattle.tier_store.proofs.Acting.{rose_after}
+use Rattle.tier_store.proofs.Rises.{rose_after}
 use Rattle.three_stores.specs.Limbo.{LimboStands, IsSwept, AreGone, LeavesKept, staying}
 use Rattle.three_stores.specs.Pinned.{beside}
 use Rattle.three_stores.specs.Seen.{seen_on}

@@ -1,10 +1,13 @@
--- What the journals say goes on through loads and reads.
-use Rattle.std.proofs.Common.{◌≡◌, ◌≢◌, ◌+◌, ◌⊎◌, inl, inr, ℕ, List, [], get_or, Some, None, refl, sym, ◌∙◌, ap, subst, arith}
+-- What one journal says goes on through loads and reads, and where it is bad.
+use Rattle.std.proofs.Common.{◌≡◌, ◌≢◌, ◌+◌, ◌⊎◌, inl, inr, ℕ, zero, suc, List, [], ◌∷◌, ◌++◌, length, take, get_or, Some, None, refl, sym, ◌∙◌, ap, subst, arith, length-append, add-one}
+use Rattle.std.specs.Int.{to_le_bytes, w32}
+use Rattle.std.specs.Prelude.{slice_get}
 use Rattle.std.proofs.lemmas.Bool.{cases_eq}
+use Rattle.std.proofs.lemmas.Option.{none-some, same_Some}
 use Rattle.disk_model.specs.Files.{Name, Content, Files, At}
 use Rattle.disk_model.specs.Past.{Past, Passes}
-use Rattle.disk_model.proofs.Passing.{passes_then, passes_weaker}
-use Rattle.gate_journal.specs.Batches.{HasBatches, IsShort}
+use Rattle.disk_model.proofs.Passing.{passes_weaker}
+use Rattle.gate_journal.specs.Batches.{HasBatches, IsBadJournal, IsShort, open_gates, framed_bytes}
 use Rattle.gate_journal.specs.Journal.{JournalState}
 use Rattle.gate_journal.specs.Kept.{Says, StillSays, IsKept}
 use Rattle.gate_journal.specs.Load.{Loads}
@@ -12,14 +15,16 @@ use Rattle.gate_journal.proofs.Keeping.{one_value, load_says, kept_stays}
 use Rattle.partition_names.specs.declared.granularity.Granularity.{Granularity}
 use Rattle.store_manifest.specs.declared.entry.Entry.{Entry}
 use Rattle.store_manifest.specs.Batches.{Folds}
+use Rattle.store_manifest.specs.Batches as manifest
 use Rattle.store_manifest.specs.Manifest.{manifest_name}
 use Rattle.store_manifest.proofs.Committing.{one_listing}
 use Rattle.pv_catalog.specs.declared.row.Row.{Row}
 use Rattle.pv_catalog.specs.Catalogue.{catalogue_name}
 use Rattle.pv_catalog.specs.Rows.{IsCatalogue}
+use Rattle.pv_catalog.specs.Rows as catalogue
 use Rattle.pv_catalog.proofs.Meaning.{one_meaning}
 use Rattle.tier_store.proofs.Names.{name_cases}
-use Rattle.store_reopen.specs.Loading.{Journal, Catalogue, Manifest, Value, Means, name_of, StillSay, KeepsSaid}
+use Rattle.three_reopen.specs.OneJournal.{Journal, Catalogue, Manifest, Value, Means, name_of, StillSay, KeepsSaid, IsBadFile}
 
 pub one_list_of_rows : (content : Content) (a b : List Row) → Says IsCatalogue a content → Says IsCatalogue b content → a ≡ b
 one_list_of_rows content a b one two = one_value IsCatalogue (one_meaning []) content a b one two
@@ -57,37 +62,6 @@ opened_alike name opened after others was is n = elim (name_cases n name) [
 ]
 
 -- ONE CALL AFTER ANOTHER
-
-says_then : {A : Type 0} (Means : List (List ℕ) → A → Type 0) (seen mid_seen a b c : Content) → ((value : A) → Says Means value seen → Says Means value mid_seen) → StillSays Means seen a b → StillSays Means mid_seen b c → StillSays Means seen a c
-says_then {A} Means seen mid_seen a b c still one two value says = elim (two value (still value says)) [
-  | inl same ↦ elim (one value says) [
-    | inl before ↦ inl (same ∙ before)
-    | inr means ↦ inr (subst (Says Means value) (sym same) means)
-  ]
-  | inr means ↦ inr means
-]
-
-pub kept_then : (g : Granularity) (f₀ : Files) (o₀ : Name → ℕ) (p₀ : Past) (f₁ : Files) (o₁ : Name → ℕ) (p₁ : Past) (f₂ : Files) (o₂ : Name → ℕ) (p₂ : Past) → KeepsSaid g f₀ o₀ p₀ f₁ o₁ p₁ → KeepsSaid g f₁ o₁ p₁ f₂ o₂ p₂ → KeepsSaid g f₀ o₀ p₀ f₂ o₂ p₂
-kept_then g f₀ o₀ p₀ f₁ o₁ p₁ f₂ o₂ p₂ one two = record {
-  passes = passes_then (StillSay g f₀) (StillSay g f₁) p₀ p₁ p₂ one.passes two.passes (λ a b c was before now step. record {
-    journals = λ j. says_then (Means g j) (f₀ (name_of j)) (f₁ (name_of j)) (a (name_of j)) (b (name_of j)) (c (name_of j)) (one.said j) (before.journals j) (step.journals j);
-    elsewhere = λ n other. step.elsewhere n other ∙ before.elsewhere n other;
-  });
-  elsewhere = λ n other. two.elsewhere n other ∙ one.elsewhere n other;
-  said = λ j value says. two.said j value (one.said j value says);
-  no_more = λ h j value says. one.no_more h j value (two.no_more h j value says);
-  same_opened = λ n. two.same_opened n ∙ one.same_opened n;
-}
-
--- calls that only read
-pub kept_reading : (g : Granularity) (files later : Files) (opened after : Name → ℕ) (old new : Past) → later ≡ files → Passes (λ a b. b ≡ a) old new → after ≡ opened → KeepsSaid g files opened old later after new
-kept_reading g files later opened after old new same passes opened_same = record {
-  passes = passes_weaker (λ a b. b ≡ a) (StillSay g files) old new passes (λ a c was is. subst (StillSay g files a) (sym is) (record { journals = λ j value says. inl refl; elsewhere = λ n other. refl }));
-  elsewhere = λ n other. ap (λ (f : Files). f n) same;
-  said = λ j value says. subst (λ (f : Files). Says (Means g j) value (f (name_of j))) (sym same) says;
-  no_more = λ h j value says. subst (λ (f : Files). Says (Means h j) value (f (name_of j))) same says;
-  same_opened = λ n. ap (λ (o : Name → ℕ). o n) opened_same;
-}
 
 -- what is kept of a journal stays while calls only read
 pub kept_reads : {A : Type 0} (Means : List (List ℕ) → A → Type 0) (journal : JournalState) (files : Files) (opened : Name → ℕ) (old : Past) (later : Files) (after : Name → ℕ) (new : Past) (value : A) → IsKept Means journal files opened old value → later ≡ files → Passes (λ a b. b ≡ a) old new → after ≡ opened
@@ -237,3 +211,43 @@ pub manifest_again : (store : ℕ) (g : Granularity) (name : Name) (files later 
 manifest_again store g name files later opened after old new named loads =
     let at = subst (λ (n : Name). LoadsAgain n files opened old later after new) named loads in
     kept_manifest store g files later opened after old new (load_says (Folds g) (files (manifest_name store)) (manifest_name store) old new at.passes) at.kept.elsewhere (loads_entries g (files (manifest_name store)) (later (manifest_name store)) at.kept.here) at.others at.was at.is
+
+-- WHERE A BATCH'S GATE STANDS
+
+pub same_batches : (content : Content) (bs cs : List (List ℕ)) → HasBatches content bs → HasBatches content cs → bs ≡ cs
+same_batches content bs cs one two =
+    let Means : List (List ℕ) → List (List ℕ) → Type 0 = λ batches value. value ≡ batches in
+    one_value Means (λ batches x y p q. p ∙ sym q) content bs cs (record { batches = bs; has = one; means = refl }) (record { batches = cs; has = two; means = refl })
+
+length_gate : (b rest : List ℕ) → length (1 ∷ framed_bytes b ++ rest) ≡ length rest + (length b + 5)
+unfolding framed_bytes
+length_gate b rest = let long : length (to_le_bytes w32 (length b)) ≡ 4 = omega arith in omega (arith, long, length-append (1 ∷ (to_le_bytes w32 (length b) ++ b)) rest, length-append (to_le_bytes w32 (length b)) b)
+
+gates_more_at : (bs : List (List ℕ)) (i : ℕ) (b : List ℕ) → slice_get bs i ≡ Some b → length (open_gates (take (suc i) bs)) ≡ length (open_gates (take i bs)) + (length b + 5)
+gates_more_at [] i b here = absurd (none-some b here)
+gates_more_at (x ∷ bs) zero b here = let is : x ≡ b = same_Some x b here in subst (λ (y : List ℕ). length (open_gates (x ∷ take 0 bs)) ≡ 0 + (length y + 5)) is (length_gate x (open_gates (take 0 bs)))
+gates_more_at (x ∷ bs) (suc i) b here =
+    let more = gates_more_at bs i b here in
+    omega (arith, more, length_gate x (open_gates (take (suc i) bs)), length_gate x (open_gates (take i bs)))
+
+-- the next batch's gate stands behind the batch
+pub gates_more : (bs : List (List ℕ)) (i : ℕ) (b : List ℕ) → slice_get bs i ≡ Some b → length (open_gates (take (i + 1) bs)) ≡ length (open_gates (take i bs)) + (length b + 5)
+gates_more bs i b here = rw add-one (gates_more_at bs i b here)
+
+-- where the gate of a batch was found, or the form breaks off
+abbrev pub IsGate : Content → ℕ → ℕ → Type 0
+IsGate content number at = (bs : List (List ℕ)) → HasBatches content bs → IsBadJournal content at ⊎ (at ≡ length (open_gates (take number bs)))
+
+-- the file that is read once more has the batch, since what has no batch has no bad one
+pub bad_again : (IsBad : List (List ℕ) → ℕ → Type 0) → ((n : ℕ) → IsBad [] n → ⊥) → (old new : Content) (X : Type 0) (bs : List (List ℕ)) (n at : ℕ) → HasBatches old bs → IsBad bs n → (new ≡ old) ⊎ (HasBatches old [] × X) → IsGate new n at → IsBadFile IsBad old at
+bad_again IsBad none old new X bs n at has bad (inl same) gate = elim (gate bs (subst (λ (c : Content). HasBatches c bs) (sym same) has)) [
+  | inl broken ↦ inl (subst (λ (c : Content). IsBadJournal c at) same broken)
+  | inr is ↦ inr (record { batches = bs; number = n; has = has; bad = bad; gate = is })
+]
+bad_again IsBad none old new X bs n at has bad (inr empty) gate = absurd (none n (subst (λ (l : List (List ℕ)). IsBad l n) (same_batches old bs [] has empty.0) bad))
+
+pub no_bad_rows : (n : ℕ) → catalogue.IsBadBatch [] n → ⊥
+no_bad_rows n bad = let long = ap length bad.split in omega (arith, long, length-append bad.front (bad.batch ∷ bad.rest))
+
+pub no_bad_entries : (n : ℕ) → manifest.IsBadBatch [] n → ⊥
+no_bad_entries n bad = let long = ap length bad.split in omega (arith, long, length-append bad.front (bad.batch ∷ bad.rest))

@@ -1,15 +1,20 @@
--- What the loads of the journals keep of a disk.
-use Rattle.std.specs.Prelude.{◌≡◌, ◌≢◌, ℕ, List}
+-- One journal: what its load keeps of a disk, and where it is bad.
+use Rattle.std.specs.Prelude.{◌≡◌, ◌≢◌, ◌⊎◌, ℕ, List, length, take}
 use Rattle.partition_names.specs.declared.granularity.Granularity.{Granularity}
-use Rattle.disk_model.specs.Files.{Name, Files}
+use Rattle.disk_model.specs.Files.{Name, Content, Files}
 use Rattle.disk_model.specs.Past.{Past, Passes}
+use Rattle.gate_journal.specs.Batches.{HasBatches, IsBadJournal, open_gates}
 use Rattle.gate_journal.specs.Kept.{Says, StillSays}
 use Rattle.store_manifest.specs.declared.entry.Entry.{Entry}
 use Rattle.store_manifest.specs.Batches.{Folds}
+use Rattle.store_manifest.specs.Batches as manifest
 use Rattle.store_manifest.specs.Manifest.{manifest_name}
 use Rattle.pv_catalog.specs.declared.row.Row.{Row}
 use Rattle.pv_catalog.specs.Catalogue.{catalogue_name}
 use Rattle.pv_catalog.specs.Rows.{IsCatalogue}
+use Rattle.pv_catalog.specs.Rows as catalogue
+
+-- WHAT ITS LOAD KEEPS
 
 -- the journals of store 0: the catalogue, and the manifest of each store
 pub data Journal : Type 0 where
@@ -42,3 +47,25 @@ pub record KeepsSaid (g : Granularity) (files : Files) (opened : Name → ℕ) (
   pub said : (j : Journal) (value : Value j) → Says (Means g j) value (files (name_of j)) → Says (Means g j) value (later (name_of j))
   pub no_more : (h : Granularity) (j : Journal) (value : Value j) → Says (Means h j) value (later (name_of j)) → Says (Means h j) value (files (name_of j))
   pub same_opened : (n : Name) → after n ≡ opened n
+
+-- WHERE IT IS BAD
+
+-- a batch means nothing behind those before it, and its open gate stands at this place
+pub record HasBadBatch (IsBad : List (List ℕ) → ℕ → Type 0) (content : Content) (at : ℕ) : Type 0 where
+  pub batches : List (List ℕ)
+  pub number : ℕ
+  pub has : HasBatches content batches
+  pub bad : IsBad batches number
+  pub gate : at ≡ length (open_gates (take number batches))
+
+-- at this place stands an open gate behind which something is cut off, or that of the first batch that means nothing
+abbrev pub IsBadFile : (List (List ℕ) → ℕ → Type 0) → Content → ℕ → Type 0
+IsBadFile IsBad content at = IsBadJournal content at ⊎ HasBadBatch IsBad content at
+
+-- the catalogue is bad at this place
+abbrev pub IsBadCatalogue : Content → ℕ → Type 0
+IsBadCatalogue content at = IsBadFile catalogue.IsBadBatch content at
+
+-- the manifest is bad at this place
+abbrev pub IsBadManifest : Content → ℕ → Type 0
+IsBadManifest content at = IsBadFile manifest.IsBadBatch content at

@@ -1,5 +1,0 @@
-pub mod HandedBack
-pub mod Having
-pub mod Keeping
-pub mod Looking
-pub mod Verdicts

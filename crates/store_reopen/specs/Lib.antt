@@ -1,4 +1,0 @@
-pub mod Loading
-pub mod Refusal
-pub mod Reopen
-pub mod Verdict
