@@ -204,7 +204,6 @@ module _ (tells : Bool) (all new : SeenAll) (limbo : new.limbo ≡ all.limbo) (f
 
 module _ (tells : Bool) (all : SeenAll) (from : ℕ) (move : MoveState) (files : List Filed) (held : Stores) (has : Has tells all.stores held) (is : CopiesFurther from tells all move files held) (stand : LimboStands all.stores all.limbo) (retired : List Filed) (whole : AreWhole (from + 1) tells all.stores all.limbo held.stands retired)
     (q : Filed) (q_next : IsNextPart from move held q) (part : Entry) (at_hand : slice_get move.parts move.at ≡ Some part) where
-
   -- the files that are to be listed, with the one in limbo
   abbrev pub turn_files : (revived : Option Entry) → SaysBehind all.limbo (from + 2) move.series (last_of move.pending move.listed) q.entry.part.start revived → List Filed
   turn_files None says = files
