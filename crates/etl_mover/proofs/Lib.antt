@@ -5,13 +5,9 @@ pub mod Beginning
 pub mod Chunks
 pub mod StepEnds
 pub mod StepWrites
-pub mod Dropping
-pub mod Growth
 pub mod Listing
 pub mod Loading
 pub mod Onward
 pub mod Parts
-pub mod Removing
-pub mod Retired
 pub mod Taking
 pub mod Written

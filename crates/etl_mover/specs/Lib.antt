@@ -6,6 +6,5 @@ pub mod Lists
 pub mod Move
 pub mod Moving
 pub mod Reading
-pub mod Removal
 pub mod Step
 pub mod Writing

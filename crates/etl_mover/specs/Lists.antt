@@ -3,15 +3,12 @@ use Rattle.std.specs.Prelude.{◌≡◌, ℕ, Bool, true, false, List, Result, O
 use Rattle.disk_model.specs.Files.{Name, Files}
 use Rattle.disk_model.specs.Past.{Past, Passes}
 use Rattle.disk_model.specs.declared.disk.DiskErr.{DiskErr}
-use Rattle.disk_model.specs.declared.disk.DiskErr.TheVariants.{Fault, Memory}
 use Rattle.gate_journal.specs.Journal.{JournalState}
 use Rattle.store_manifest.specs.declared.entry.Entry.{Entry}
 use Rattle.store_manifest.specs.Manifest.{ManifestState}
 use Rattle.tier_store.specs.Held.{Held, Shelf}
 use Rattle.tier_store.specs.Stored.{HoldsEither}
 use Rattle.tier_store.specs.Writing.{IsStoredAs, IsDoubtedAs}
-use Rattle.etl_mover.specs.declared.moving.RetireEnd.{RetireEnd}
-use Rattle.etl_mover.specs.declared.moving.RetireEnd.TheVariants.{Retired, Again}
 
 -- the commit wasn't made, it was, or it isn't known whether it was
 pub data Outcome : Type 0 where
@@ -24,14 +21,6 @@ abbrev pub published : Result Unit DiskErr → Bool → Outcome
 published (Ok done) sound = Made
 published (Err e) true = Unmade
 published (Err e) false = Doubtful
-
--- By a retirement's answer: after a fault with a sound manifest the commit was made, and the removal of a file failed.
-abbrev pub retired : Result RetireEnd DiskErr → Bool → Outcome
-retired (Ok Retired) sound = Made
-retired (Ok (Again len copied)) sound = Unmade
-retired (Err Memory) sound = Unmade
-retired (Err Fault) true = Made
-retired (Err Fault) false = Doubtful
 
 -- what the store has then, of what it had and what it was to have
 abbrev pub Stands : JournalState → ManifestState → Shelf → Files → (Name → ℕ) → Past → Held → Held → Outcome → Type 0

@@ -1,5 +1,5 @@
 -- A move between its calls, and how what it has written stands ahead of what its destination lists.
-use Rattle.std.specs.Prelude.{◌≡◌, ◌⊎◌, ◌≤◌, ◌<◌, ◌+◌, ◌==◌, ℕ, List, [], ◌∷◌, ◌++◌, All, Option, Some, length, map, filter, take, slice_get, IfSome}
+use Rattle.std.specs.Prelude.{◌≡◌, ◌⊎◌, ◌≤◌, ◌+◌, ◌==◌, ℕ, List, [], ◌∷◌, ◌++◌, All, Option, Some, length, map, filter, take, slice_get, IfSome}
 use Rattle.disk_model.specs.Files.{Name}
 use Rattle.partition_names.specs.declared.granularity.Granularity.{Granularity}
 use Rattle.partition_names.specs.Granularity.{Holds}
@@ -7,12 +7,11 @@ use Rattle.partition_names.specs.Part.{IsPart, HoldsMoment}
 use Rattle.partition_names.specs.Path.{path_of}
 use Rattle.store_manifest.specs.declared.entry.Entry.{Entry}
 use Rattle.store_manifest.specs.declared.entry.Change.{Change}
-use Rattle.store_manifest.specs.declared.entry.Change.TheVariants.{Set, Drop}
+use Rattle.store_manifest.specs.declared.entry.Change.TheVariants.{Set}
 use Rattle.store_manifest.specs.Entries.{InOrder}
 use Rattle.store_manifest.specs.Manifest.{ManifestState, manifest_name}
 use Rattle.pv_catalog.specs.declared.row.Row.{Row}
 use Rattle.tier_store.specs.Held.{Filed, Held, Shelf, entry_of}
-use Rattle.tier_store.specs.Ahead.{without_files}
 use Rattle.tier_store.specs.Flush.{with_files}
 use Rattle.tier_store.specs.Plan.{IsLastOf}
 use Rattle.etl_mover.specs.declared.moving.Stage.{Stage}
@@ -22,7 +21,7 @@ use Rattle.etl_mover.specs.declared.moving.Stage.TheVariants.{Copying}
 
 -- The stores from which and to which it moves, the granularity of the destination, the series and its name, the last entry that the
 -- destination lists of it, the entries of the parts in the source with the lengths up to which they are copied once they are, how
--- many parts are copied, the entries that the destination is to list, how far it has come, and which of the parts' files are left.
+-- many parts are copied, the entries that the destination is to list, how far it has come, and the parts' files.
 pub record MoveState : Type 0 where
   pub source : ℕ
   pub destination : ℕ
@@ -101,7 +100,7 @@ pub record IsCopied (move : MoveState) : Type 0 where
 abbrev pub set_entry : Entry → Change
 set_entry e = Set e
 
--- THE RETIREMENT
+-- WHAT THE SOURCE LISTS
 
 -- the source still lists the parts as its oldest of the series, each as long as it was copied or longer
 pub record StillLists (move : MoveState) (source : ManifestState) : Type 0 where
@@ -109,32 +108,6 @@ pub record StillLists (move : MoveState) (source : ManifestState) : Type 0 where
   pub others : List Entry
   pub entries : of_series move.series source.entries ≡ now ++ others
   pub parts : map (λ (e : Entry). e.part) now ≡ map (λ (e : Entry). e.part) move.parts
-
-abbrev pub drop_entry : Entry → Change
-drop_entry e = Drop e.series e.part.start
-
--- a part is no longer than it was copied
-abbrev pub HasNotGrown : List Entry → List Entry → ℕ → Type 0
-HasNotGrown parts now k = (p e : Entry) → slice_get parts k ≡ Some p → slice_get now k ≡ Some e → e.len ≤ p.len
-
--- the first part that is longer than it was copied, and both lengths
-pub record HasGrown (parts now : List Entry) (len copied : ℕ) : Type 0 where
-  pub place : ℕ
-  pub part : Entry
-  pub entry : Entry
-  pub in_parts : slice_get parts place ≡ Some part
-  pub in_now : slice_get now place ≡ Some entry
-  pub listed : entry.len ≡ len
-  pub published : part.len ≡ copied
-  pub longer : copied < len
-  pub first : (k : ℕ) → k < place → HasNotGrown parts now k
-
--- the files without those of the parts
-pub record IsWithoutParts (move : MoveState) (held next : Held) : Type 0 where
-  pub files : List Filed
-  pub are : next ≡ without_files held files
-  pub parts : map (λ (f : Filed). f.entry.part) files ≡ map (λ (e : Entry). e.part) move.parts
-  pub own : All (λ (f : Filed). f.entry.series ≡ move.series) files
 
 -- the move's row has its name
 pub record IsOfRow (move : MoveState) (shelf : Shelf) : Type 0 where

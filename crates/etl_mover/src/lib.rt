@@ -7,8 +7,7 @@ mod lines;
 mod moving;
 mod publishing;
 mod reading;
-mod retiring;
 mod stepping;
 mod writing;
 
-pub use moving::{Copied, MOST_PARTS, Move, RetireEnd, Stage};
+pub use moving::{Copied, MOST_PARTS, Move, Stage};

@@ -23,8 +23,6 @@ pub enum Stage {
     Copying,
     /// The destination lists what was copied.
     Published,
-    /// It has ended.
-    Ended,
 }
 
 /// How a step of copying left the move.
@@ -34,15 +32,6 @@ pub enum Copied {
     More,
     /// All parts are copied.
     Done,
-}
-
-/// How a retirement ended the move.
-#[derive(Clone, Copy, Debug, PartialEq, Eq)]
-pub enum RetireEnd {
-    /// The source lists the parts no more.
-    Retired,
-    /// The source lists a part at `len` bytes, of which `copied` were published. Nothing has changed: another move copies the rest.
-    Again { len: u64, copied: u64 },
 }
 
 /// A running move of the oldest partitions of one series from a store to the next.
@@ -154,8 +143,7 @@ impl Move {
         self.at
     }
 
-    /// The files of the parts that the move hasn't removed: all of them until the retirement, those that a pin names once it is done,
-    /// and after a fault in it also those that may be there still.
+    /// The files of the parts in the source, in their order.
     pub fn kept(&self) -> &[FileName]
         ensures { result.now ≡ self.now.files }
     {

@@ -1,7 +1,7 @@
 //! Work on pairs in threads: one call on each pair of two slices, each in a thread of its own.
 //!
-//! [`run_all`] pairs the values of two slices by their places and calls a closure on each pair; [`run_beside`] makes two calls on two
-//! values at a time; [`run_with`] is two `run_all` at a time. Each call returns once all its threads have ended.
+//! [`run_all`] pairs the values of two slices by their places and calls a closure on each pair; [`run_with`] is two `run_all` at a time.
+//! Each call returns once all its threads have ended.
 //!
 //! Model: what each call may leave of its pair, pair by pair, as if the calls were made one after another. Nothing is claimed of which
 //! calls run at the same time, nor of their order: where no thread can be made, calls are made one after another by the caller.
@@ -12,7 +12,7 @@
 ghost use Rattle.std.specs.Prelude.{◌≡◌, ◌<◌, ◌≤◌, length};
 ghost use Rattle.std.specs.Thread.{IsSync};
 ghost use Rattle.pair_work.specs.Pairs.{AllCan, AllGive};
-ghost use Rattle.pair_work.specs.Calls.{TakesPair, LeavesPair, Takes, Leaves};
+ghost use Rattle.pair_work.specs.Calls.{TakesPair, LeavesPair};
 
 use std::thread::{Threads, join_mut};
 
@@ -56,40 +56,6 @@ pub fn run_all<R: Threads + Sync, T: Send, U: Send, F: Fn(&mut T, &mut U) + Sync
             requires { IsSync R.row × IsSync F.row × AllCan (TakesPair F.Fn f.now) xs_back.now ys_back.now × (length xs_back.now ≡ length ys_back.now) }
             ensures { AllGive (LeavesPair F.Fn f.entry.now) xs_back.entry.now ys_back.entry.now xs_back.exit.now ys_back.exit.now }
         { run_all(rt, f, xs_back, ys_back) },
-    );
-}
-
-// One value.
-fn run_at<T, F: Fn(&mut T)>(f: &F, x: &mut T)
-    requires can { Takes F.Fn f.now x.old }
-    ensures gives { Leaves F.Fn f.now x.old x.new }
-{
-    f(x);
-}
-
-/// Calls `f` on one value beside `g` on another. Where no thread can be made, `g` comes first: what waits for the other belongs in `f`.
-pub fn run_beside<R: Threads + Sync, T: Send, U: Send, F: Fn(&mut T) + Sync, G: Fn(&mut U) + Sync>(
-    rt: &R,
-    f: &F,
-    x: &mut T,
-    g: &G,
-    y: &mut U,
-)
-    requires first { Takes F.Fn f.now x.old }
-    requires second { Takes G.Fn g.now y.old }
-    ensures first { Leaves F.Fn f.now x.old x.new }
-    ensures second { Leaves G.Fn g.now y.old y.new }
-{
-    join_mut(
-        rt,
-        &mut ||
-            requires { Takes F.Fn f.now x.now }
-            ensures { Leaves F.Fn f.entry.now x.entry.now x.exit.now }
-        { run_at(f, x) },
-        &mut ||
-            requires { Takes G.Fn g.now y.now }
-            ensures { Leaves G.Fn g.entry.now y.entry.now y.exit.now }
-        { run_at(g, y) },
     );
 }
 

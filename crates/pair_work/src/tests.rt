@@ -1,5 +1,5 @@
 // Pairs over threads: each pair is called on once, with its partner, and nothing else changes.
-use crate::{run_all, run_beside, run_with};
+use crate::{run_all, run_with};
 
 // Counts the call, and takes in the partner.
 fn add(sum: &mut (u64, u64), other: &mut u64) {
@@ -23,17 +23,7 @@ fn each_pair_is_called_on_once_with_its_partner(rt: HostRuntime) {
 }
 
 #[test]
-fn calls_beside_one_another_are_each_made_once(rt: HostRuntime) {
-    let mut one = 3u64;
-    let mut other = (0u64, 7u64);
-    run_beside(
-        &rt,
-        &|x: &mut u64| *x = x.wrapping_add(1),
-        &mut one,
-        &|x: &mut (u64, u64)| x.0 = x.0.wrapping_add(x.1),
-        &mut other,
-    );
-    assert!(rt; one == 4 && other == (7, 7));
+fn pairs_beside_one_another_are_each_called_on_once(rt: HostRuntime) {
     let mut no_sums: [(u64, u64); 0] = [];
     let mut no_others: [u64; 0] = [];
     let mut sums = [(0u64, 0u64); 3];

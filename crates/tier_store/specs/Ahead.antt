@@ -49,6 +49,3 @@ drop_of f = Drop f.entry.series f.entry.part.start
 abbrev pub without_all : List Filed → List Filed → List Filed
 without_all files [] = files
 without_all files (f ∷ fs) = without_all (without filed_at (filed_at f) files) fs
-
-abbrev pub without_files : Held → List Filed → Held
-without_files held parts = record { store = held.store; rows = held.rows; files = without_all held.files parts; stands = held.stands }

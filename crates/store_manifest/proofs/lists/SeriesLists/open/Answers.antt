@@ -1,6 +1,6 @@
 use Rattle.std.proofs.Common.{sym, ◌∙◌}
 use Rattle.store_manifest.specs.Listing.{list_of}
-use Rattle.store_manifest.proofs.InMemory.{opened, opened_entries, none_from_test, differ_other, is_there, differ_same}
+use Rattle.store_manifest.proofs.InMemory.{opened, opened_entries, none_from_test, differ_other}
 use Rattle.store_manifest.proofs.lists.SeriesLists.open.Goals as goal
 
 pub returns-clause-good : goal.returns-clause-good
