@@ -348,7 +348,9 @@ def numbers_for_prometheus(_, service):
     for name, count in (("E:A", 3), ("E:B", 0)):
         archappl.archive(service.address, name, "SCALAR_INT")
         header = pb_stream.Header(5, name, time.gmtime(moment // SECOND).tm_year)
-        archappl.send(service.address, [pb_stream.chunk(header, [(moment - at * SECOND, at)]) for at in range(count - 1, -1, -1)])
+        if count:
+            samples = [(moment - at * SECOND, at) for at in reversed(range(count))]
+            archappl.send(service.address, [pb_stream.chunk(header, samples)])
     command = [sys.executable, CLIENTS / "exporter", "--server", service.address, "--listen", "127.0.0.1:0"]
     with subprocess.Popen(command, stderr=subprocess.PIPE, text=True, env=service.environment) as process:
         try:
