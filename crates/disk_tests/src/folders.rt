@@ -1,6 +1,6 @@
-// Each call over folders of the operating system.
-use super::*;
+// Each call of a disk over folders of the operating system.
 use disk_model::{Disk, DiskErr, FileName, ReadAt};
+use folder_disk::{Access, FolderDisk};
 use std::alloc::{AllocError, Global};
 use std::fs::File;
 use std::rt::Files;
