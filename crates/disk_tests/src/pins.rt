@@ -1,6 +1,6 @@
 // Tests of pins and their owners.
-use crate::{PinErr, Pins};
 use disk_model::FileName;
+use pin_table::{PinErr, Pins};
 use std::alloc::{AllocError, Global};
 use std::test::Fail;
 
