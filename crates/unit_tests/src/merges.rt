@@ -2,7 +2,6 @@
 ghost use Rattle.std.specs.Prelude.{◌≡◌, ◌<◌};
 ghost use Rattle.stream_merge.specs.Merging.{IsGoing};
 
-use crate::{Merge, Merged, Opened, Pieces};
 use disk_model::{FileName, ReadAt, ReadFailed};
 use line_escape::escape;
 use pb_file::Steps;
@@ -14,6 +13,7 @@ use std::marker::Brand;
 use std::process::Abort;
 use std::sync::ledger::{Blank, Ledger};
 use std::test::Fail;
+use stream_merge::{Merge, Merged, Opened, Pieces};
 
 const SECOND: u64 = 1_000_000_000;
 

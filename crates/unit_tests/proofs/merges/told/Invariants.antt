@@ -1,4 +1,4 @@
-use Rattle.stream_merge.proofs.tests.told.Given as goal
+use Rattle.unit_tests.proofs.merges.told.Given as goal
 
 -- the counter is of a ledger of its own
 abbrev pub ghosts-told_by : goal.ghosts-told_by

@@ -1,5 +1,5 @@
 use Rattle.stream_merge.specs.Merging.{IsGoing}
-use Rattle.stream_merge.proofs.tests.told_by.Given as goal
+use Rattle.unit_tests.proofs.merges.told_by.Given as goal
 
 -- it answered with lines so far
 abbrev pub invariant-lines : goal.invariant-lines
