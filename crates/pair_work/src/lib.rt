@@ -122,6 +122,3 @@ pub fn run_with<
         { run_all(rt, g, us, vs) },
     );
 }
-
-#[cfg(test)]
-mod tests;
