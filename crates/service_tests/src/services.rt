@@ -1,9 +1,9 @@
 // Tests of whole services: links that wait for one another, and for the flusher and the mover.
 ghost use Rattle.std.specs.Prelude.{◌<◌, ◌^◌, length, None};
 
-use crate::{AllServed, Gate, Kind, NoGate, Post, serve_all};
 use archive_actors::Shared;
 use edge_io::{Clock, ListClock, ListDoor, MemLink};
+use link_service::{AllServed, Gate, Kind, NoGate, Post, serve_all};
 use serving_loops::{FLUSHER_RESTS, MOVER_RESTS};
 use std::alloc::Global;
 use std::sync::Wait;
