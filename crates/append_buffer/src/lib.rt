@@ -14,6 +14,3 @@ pub mod laws;
 mod tail;
 
 pub use intake::{Intake, OfferErr, ROOM};
-
-#[cfg(test)]
-mod tests;

@@ -31,6 +31,3 @@ pub use drill::{Drill, MOST_HOURS, START, VARIABLES, about, name_of};
 pub use feeds::DOORS;
 pub use report::{Tally, tiers_line, variable_line};
 pub use tiers::Tiers;
-
-#[cfg(test)]
-mod tests;

@@ -22,7 +22,7 @@
 //! Caveats: a link of HTTP serves one request. A feed registers no variables. A reply's text isn't kept, so memory doesn't grow with the
 //! answer.
 //!
-//! Tests: `feed_tests` and `reply_tests` run the two sessions; the tests here run whole services, over the board of `turn_tests`.
+//! Tests: `feed_tests` and `reply_tests` run the two sessions, and `service_tests` whole services, over the board of `turn_tests`.
 #![tactic(auto)]
 
 mod body;
@@ -48,6 +48,3 @@ pub use replied::Replied;
 pub use request::reply_to_request;
 pub use served::{FeedTold, Kind, Served};
 pub use service::{AllServed, serve_all};
-
-#[cfg(test)]
-mod tests;

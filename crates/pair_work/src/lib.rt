@@ -88,6 +88,3 @@ pub fn run_with<
         { run_all(rt, g, us, vs) },
     );
 }
-
-#[cfg(test)]
-mod tests;

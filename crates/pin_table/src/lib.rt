@@ -10,6 +10,3 @@ mod pin;
 mod table;
 
 pub use table::{PinErr, Pins};
-
-#[cfg(test)]
-mod tests;

@@ -11,6 +11,3 @@ pub mod laws;
 mod sampling;
 
 pub use sampling::Scan;
-
-#[cfg(test)]
-mod tests;

@@ -19,7 +19,7 @@
 //! them isn't found, and `TakesFew` isn't promised. Of readers that don't tell their bytes, as real files, the contracts say besides why a
 //! call fails, and not which lines come.
 //!
-//! Tests: `tests`, of worked merges and of the bytes that are read of a large file.
+//! Tests: `unit_tests`, of worked merges and of the bytes that are read of a large file.
 #![tactic(auto)]
 
 mod beginning;
@@ -30,6 +30,3 @@ mod source;
 
 pub use merge::Merge;
 pub use pieces::{Merged, Opened, Pieces};
-
-#[cfg(test)]
-mod tests;

@@ -1,2 +1,3 @@
 pub mod Boards
 pub mod Worked
+pub mod Counting

@@ -1,0 +1,11 @@
+//! The tests of `append_buffer`, `sampler` and `stream_merge`.
+//!
+//! They stand apart from the crates that they test, since a crate with tests of its own is proved twice.
+#![tactic(auto)]
+
+#[cfg(test)]
+mod buffers;
+#[cfg(test)]
+mod merges;
+#[cfg(test)]
+mod scans;
