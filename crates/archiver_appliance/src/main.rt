@@ -13,27 +13,17 @@
 
 mod answer;
 mod command;
-#[cfg(test)]
-mod command_tests;
 mod complaint;
 mod doors;
 mod drill_report;
 mod drilling;
 mod extract;
-#[cfg(test)]
-mod extract_tests;
-#[cfg(test)]
-mod harness;
 mod ingesting;
 mod moving;
 mod opened;
 mod reporting;
 mod retrieving;
 mod run;
-#[cfg(test)]
-mod script_tests;
-#[cfg(test)]
-mod serve_tests;
 mod serve_words;
 mod serving;
 mod status;

@@ -7,7 +7,7 @@ ghost use Rattle.archiver_appliance.specs.ServeWords.{AsksToDrill, AsksToServe};
 use itoa::Buffer;
 
 /// What `serve` is asked for.
-#[derive(Clone, Copy, Debug, PartialEq, Eq)]
+#[derive(Clone, Copy)]
 pub struct ServeWords {
     /// The port of the feeds.
     pub feed_port: u16,
@@ -71,60 +71,4 @@ fn number(word: &str, least: u32, most: u32) -> Option<u32>
         return None;
     }
     Some(number)
-}
-
-#[test]
-fn serve_has_two_ports_its_workers_and_its_links(rt: HostRuntime) {
-    let table: [(&[&str], Option<(u16, u16, u32, u32)>); 19] = [
-        (
-            &["serve", "5071", "17668", "4", "0"],
-            Some((5071, 17_668, 4, 0)),
-        ),
-        (
-            &["serve", "1", "65535", "64", "999999999"],
-            Some((1, 65_535, 64, 999_999_999)),
-        ),
-        (&["serve", "1", "1", "1", "1"], Some((1, 1, 1, 1))),
-        (&["serve", "0", "1", "1", "1"], None),
-        (&["serve", "1", "65536", "1", "1"], None),
-        (&["serve", "1", "1", "0", "1"], None),
-        (&["serve", "1", "1", "65", "1"], None),
-        (&["serve", "1", "1", "1", "1000000000"], None),
-        (&["serve", "1", "1", "1", "4294967297"], None),
-        (&["serve", "01", "1", "1", "1"], None),
-        (&["serve", "1", "1", "1", "00"], None),
-        (&["serve", "+1", "1", "1", "1"], None),
-        (&["serve", "1", "1", "1", "-1"], None),
-        (&["serve", "1", "1", "1", ""], None),
-        (&["serve", "1", "1", "1", "1x"], None),
-        (&["serve", "1", "1", "1"], None),
-        (&["serve", "1", "1", "1", "1", "1"], None),
-        (&["Serve", "1", "1", "1", "1"], None),
-        (&[], None),
-    ];
-    for (words, numbers) in table {
-        let asked = serve_words(words);
-        assert_eq!(rt;
-            asked.map(|s| (s.feed_port, s.http_port, s.workers, s.links)),
-            numbers
-        );
-    }
-}
-
-#[test]
-fn a_drill_has_its_hours(rt: HostRuntime) {
-    let table: [(&[&str], Option<u32>); 9] = [
-        (&["drill", "24"], Some(24)),
-        (&["drill", "1"], Some(1)),
-        (&["drill", "200"], Some(200)),
-        (&["drill", "201"], None),
-        (&["drill", "0"], None),
-        (&["drill", "024"], None),
-        (&["drill"], None),
-        (&["drill", "24", "1"], None),
-        (&["drills", "24"], None),
-    ];
-    for (words, hours) in table {
-        assert_eq!(rt; drill_words(words), hours);
-    }
 }
