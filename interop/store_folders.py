@@ -17,7 +17,7 @@ from comparing import agree, compare_runs
 from pb_model import Run
 from store_model import STORES, Archive, complaint
 from store_place import (
-    DEFAULTS, FOLDERS, WHOLE_WORDS, compare_files, compare_listed, compare_whole, now_within_an_hour, state_after_break,
+    DEFAULTS, FOLDERS, MARK, WHOLE_WORDS, compare_files, compare_listed, compare_whole, now_within_an_hour, state_after_break,
     state_after_moves,
 )
 
@@ -151,7 +151,8 @@ COPIES = 12
 
 
 def copied(place, folder):
-    """A copy of an archive beside an ingest, in the order in which it may be taken: what a file needs is copied behind it."""
+    """A copy of an archive beside an ingest, in the order in which it may be taken: what a file needs is copied behind it. The marks
+    are left out."""
     copy = place.elsewhere(folder)
     copy.site.mkdir(parents=True)
     for name in (*(f"manifest{store}" for store in STORES), "catalogue"):
@@ -159,7 +160,7 @@ def copied(place, folder):
             shutil.copyfile(place.site / name, copy.site / name)
     for store, folder in place.stores.items():
         if folder.exists():
-            shutil.copytree(folder, copy.stores[store], ignore_dangling_symlinks=True)
+            shutil.copytree(folder, copy.stores[store], ignore=shutil.ignore_patterns(MARK), ignore_dangling_symlinks=True)
     return copy
 
 

@@ -18,6 +18,8 @@ from store_model import CONFIGURED, HOUR, STORES
 
 FOLDERS = ("SHORT_TERM", "MEDIUM_TERM", "LONG_TERM", "SITE")
 DEFAULTS = ("sts", "mts", "lts", "site")
+# The file of each folder that tells of which archive it is.
+MARK = "archive-mark"
 # All of time, as moments and as words.
 WHOLE = (0, pb_model.END - 1)
 WHOLE_WORDS = tuple(pb_model.iso(t) for t in WHOLE)
@@ -140,6 +142,11 @@ class Place:
         """Where a file of the model is."""
         return self.stores[file.store] / file.path.decode()
 
+    def stored(self):
+        """All files of the stores, but the marks of their folders."""
+        marks = {folder / MARK for folder in self.stores.values()}
+        return {path for folder in self.stores.values() for path in folder.rglob("*") if path.is_file()} - marks
+
     def front(self, file):
         """The listed bytes of a file as they are."""
         try:
@@ -253,5 +260,4 @@ def compare_files(place, model):
         path = place.path(file)
         agree(f"the length of {path}", path.stat().st_size, len(file.content))
         agree(f"the samples in {path}", store_model.check_file(file.content, file.span), len(file.samples))
-    found = {path for folder in place.stores.values() for path in folder.rglob("*") if path.is_file()}
-    agree("the files", found, {place.path(file) for file in files})
+    agree("the files", place.stored(), {place.path(file) for file in files})

@@ -70,9 +70,12 @@ impl ReadAt for FolderFile {
 /// short, medium and long term's for the stores 1, 2 and 3. A folder that is absent is made before the first file in it. It keeps
 /// the last used file of each store open, and after a sync that failed it syncs nothing more.
 ///
-/// Its first call takes the lock of the site's folder, which it keeps: one program writes and no other reads or writes, or some
-/// read. Where another has the lock, each call is a fault. So it is where two stores have one folder, and where a link, a pipe or a
-/// folder stands in a file's place.
+/// Its first call takes the locks of the folders, which it keeps: one program writes and no other reads or writes, or some
+/// read. Where another has a lock, each call is a fault. So it is where two stores have one folder, where a store's folder isn't the
+/// archive's by its mark, and where a link, a pipe or a folder stands in a file's place.
+///
+/// The folders of an archive that has no marks yet get them before the first change of a file of a store. Whoever makes it has found
+/// in the stores what the site lists.
 ///
 /// A disk that only reads makes no folder, and where the site's is absent there are no files. What loading writes into the journals
 /// of the site's folder, to begin them, it keeps in memory. Any other change is a fault.
@@ -135,7 +138,13 @@ impl<R: Files<File = File> + Drop> FolderDisk<R> {
             Err(error) => {
                 self.faults = self.faults.saturating_add(1);
                 let path = self.folders.place_of(name);
-                note(self.lines, &mut self.trouble, Trouble { path, error });
+                // One by which the folders can't be used is told by whoever tells why nothing was done.
+                let lines = if self.folders.is_begun() {
+                    self.lines
+                } else {
+                    None
+                };
+                note(lines, &mut self.trouble, Trouble { path, error });
                 Err(DiskErr::Fault)
             }
         }

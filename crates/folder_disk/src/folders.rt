@@ -1,21 +1,24 @@
 // The calls of the operating system on the files of four folders.
+mod opening;
+
 ghost use Rattle.std.specs.Prelude.{◌≤◌, ◌<◌, ◌+◌, ◌^◌, IfOk, OnOk, length};
 
 use crate::drafts::{Drafts, copy_from, written};
+use crate::marks::MARK;
 use crate::paths::{ancestors, parent, stays_inside, trimmed};
 use disk_model::FileName;
 use std::alloc::{AllocError, Global};
 use std::collections::BTreeSet;
-use std::fs::{self, File, OpenOptions, TryLockError};
+use std::fs::{self, File, OpenOptions};
 use std::io::{self, ErrorKind};
-use std::os::unix::fs::{FileExt, MetadataExt};
+use std::os::unix::fs::FileExt;
 use std::rt::Files;
 use std::str;
 
 /// What a disk of folders may do with them.
 #[derive(Clone, Copy, Debug, PartialEq, Eq)]
 pub enum Access {
-    /// Read alone, beside others that read. No file and no folder is made but the lock, and none is changed.
+    /// Read alone, beside others that read. No file and no folder is made but the site's lock, and none is changed.
     Read,
     /// Read and write, and nobody else meanwhile.
     Write,
@@ -29,8 +32,8 @@ const LOCK: &str = "lock";
 enum Turn {
     // No call was made yet that could be.
     Waits,
-    // The site's folder is locked, or it has no file to lock and this program may make none.
-    Taken(Option<File>),
+    // The folders are locked that have a file to lock. Where one has none, this program may make none.
+    Taken(Vec<File>),
     // There is no site's folder, and none is made. No store has a file.
     Empty,
 }
@@ -49,6 +52,8 @@ pub struct Folders<R: Files<File = File> + Drop> {
     access: Access,
     roots: Vec<String>,
     turn: Turn,
+    // All folders have the archive's marks.
+    is_marked: bool,
     // Of each store the file that was used last.
     held: Vec<Option<Held>>,
     // The journals that a disk which only reads was to write.
@@ -88,6 +93,11 @@ fn only_reads() -> io::Error {
     io::Error::new(ErrorKind::ReadOnlyFilesystem, "opened to read alone")
 }
 
+// Whether a path in a store's folder is that of its mark or lock, which are no files of the store.
+fn is_own(store: u8, path: &str) -> bool {
+    path == MARK || store == 0 && path == LOCK
+}
+
 // Whether nothing may be written there.
 fn is_closed(kind: ErrorKind) -> bool {
     matches!(
@@ -115,6 +125,7 @@ impl<R: Files<File = File> + Drop> Folders<R> {
             access,
             roots: paths,
             turn: Turn::Waits,
+            is_marked: false,
             held,
             drafts: Drafts::new(alloc),
             synced: BTreeSet::new(alloc),
@@ -155,95 +166,11 @@ impl<R: Files<File = File> + Drop> Folders<R> {
     fn path(&self, name: &FileName) -> io::Result<String> {
         let root = self.root(name.store)?;
         match str::from_utf8(&name.path) {
-            Ok(path) if stays_inside(path) && (name.store != 0 || path != LOCK) => {
+            Ok(path) if stays_inside(path) && !is_own(name.store, path) => {
                 Ok(format!(in self.alloc; "{root}/{path}")?)
             }
             _ => Err(ErrorKind::InvalidInput.into()),
         }
-    }
-
-    // Before the first call: takes the lock, and looks whether the stores have folders of their own.
-    fn begin(&mut self) -> io::Result<()> {
-        if matches!(self.turn, Turn::Waits) {
-            let site = self.root_copy(0)?;
-            let turn = self.take_turn(site.as_str())?;
-            self.stand_apart()?;
-            self.turn = turn;
-        }
-        Ok(())
-    }
-
-    fn take_turn(&mut self, site: &str) -> io::Result<Turn> {
-        match self.access {
-            Access::Write => {
-                self.make_folder(site, site.len())?;
-            }
-            Access::Read => {
-                let found = fs::exists(&self.files, site);
-                if !self.noted(site, found)? {
-                    return Ok(Turn::Empty);
-                }
-            }
-        }
-        let path = format!(in self.alloc; "{site}/{LOCK}")?;
-        let locked = self.lock(path.as_str());
-        Ok(Turn::Taken(self.noted(path.as_str(), locked)?))
-    }
-
-    // The lock, alone or with others that read, if there is a file for it.
-    fn lock(&self, path: &str) -> io::Result<Option<File>> {
-        let Some(file) = self.open_lock(path)? else {
-            return Ok(None);
-        };
-        let taken = match self.access {
-            Access::Read => file.try_lock_shared(),
-            Access::Write => file.try_lock(),
-        };
-        match taken {
-            Ok(()) => Ok(Some(file)),
-            Err(TryLockError::WouldBlock) => {
-                let held = "lock held by another program";
-                Err(io::Error::new(ErrorKind::WouldBlock, held))
-            }
-            Err(TryLockError::Error(e)) => Err(e),
-        }
-    }
-
-    // The file that is locked, which is made where there is none. One that only reads goes without where it may make none.
-    fn open_lock(&self, path: &str) -> io::Result<Option<File>> {
-        let is_there = self.size_of(path)?.is_some();
-        let made = OpenOptions::new()
-            .read(true)
-            .write(true)
-            .create(true)
-            .open(&self.files, path);
-        match made {
-            Ok(file) => Ok(Some(file)),
-            Err(e) if is_closed(e.kind()) && is_there => Ok(Some(fs::open(&self.files, path)?)),
-            Err(e) if is_closed(e.kind()) && self.access == Access::Read => Ok(None),
-            Err(e) => Err(e),
-        }
-    }
-
-    // Two stores in one folder would write over each other's files.
-    fn stand_apart(&mut self) -> io::Result<()> {
-        let mut seen: Vec<(u64, u64)> = Vec::new(self.alloc);
-        for store in 0..4u8 {
-            let root = self.root_copy(store)?;
-            match fs::metadata(&self.files, root.as_str()) {
-                Ok(found) => {
-                    let folder = (found.dev(), found.ino());
-                    if seen.contains(&folder) {
-                        let twice = io::Error::new(ErrorKind::InvalidInput, "folder of two stores");
-                        return self.noted(root.as_str(), Err(twice));
-                    }
-                    seen.push(folder)?;
-                }
-                Err(e) if e.kind() == ErrorKind::NotFound => {}
-                Err(e) => return self.noted(root.as_str(), Err(e)),
-            }
-        }
-        Ok(())
     }
 
     // The size of a path's file, if there is one. A link, a pipe or a folder in its place is refused.
@@ -299,8 +226,13 @@ impl<R: Files<File = File> + Drop> Folders<R> {
         }
     }
 
+    // Whether the folders may be used.
+    pub fn is_begun(&self) -> bool {
+        !matches!(self.turn, Turn::Waits)
+    }
+
     pub fn create(&mut self, name: &FileName) -> io::Result<()> {
-        self.begin()?;
+        self.begin_change(name.store)?;
         if self.access == Access::Read {
             self.may_draft(name)?;
             self.drafts.put(name, &[])?;
@@ -375,7 +307,7 @@ impl<R: Files<File = File> + Drop> Folders<R> {
         if bytes.len() as u64 > u64::MAX - at {
             return Err(ErrorKind::InvalidInput.into());
         }
-        self.begin()?;
+        self.begin_change(name.store)?;
         match self.access {
             Access::Write => self.file(name)?.write_all_at(bytes, at),
             Access::Read => {
@@ -435,7 +367,7 @@ impl<R: Files<File = File> + Drop> Folders<R> {
     }
 
     pub fn cut(&mut self, name: &FileName, len: u64) -> io::Result<()> {
-        self.begin()?;
+        self.begin_change(name.store)?;
         if self.access == Access::Read {
             return Err(only_reads());
         }
@@ -452,9 +384,7 @@ impl<R: Files<File = File> + Drop> Folders<R> {
         if matches!(self.turn, Turn::Empty) || self.drafts.get(name).is_some() {
             return Ok(());
         }
-        if self.failed {
-            return Err(io::Error::new(ErrorKind::Other, "an earlier sync failed"));
-        }
+        self.may_sync()?;
         let written = match self.file(name) {
             Ok(file) => file.sync_data(),
             Err(e) if e.kind() == ErrorKind::NotFound => Ok(()),
@@ -462,6 +392,14 @@ impl<R: Files<File = File> + Drop> Folders<R> {
         };
         self.synced_well(written)?;
         self.sync_folders(name)
+    }
+
+    fn may_sync(&self) -> io::Result<()> {
+        if self.failed {
+            Err(io::Error::new(ErrorKind::Other, "an earlier sync failed"))
+        } else {
+            Ok(())
+        }
     }
 
     // Remembers a sync that failed. A file system that is only read may have none.
@@ -522,7 +460,7 @@ impl<R: Files<File = File> + Drop> Folders<R> {
     }
 
     pub fn remove(&mut self, name: &FileName) -> io::Result<()> {
-        self.begin()?;
+        self.begin_change(name.store)?;
         if self.access == Access::Read {
             return Err(only_reads());
         }
@@ -578,7 +516,7 @@ impl<R: Files<File = File> + Drop> Folders<R> {
                 waiting.push(format!(in self.alloc; "{name}/")?)?;
             } else if !kind.is_file() {
                 return Err(not_a_file());
-            } else if store != 0 || name.as_str() != LOCK {
+            } else if !is_own(store, name.as_str()) {
                 let path = name.into_bytes();
                 names.push(FileName { store, path })?;
             }
