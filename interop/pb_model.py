@@ -23,11 +23,14 @@ END = 16_725_225_600 * SECOND
 
 
 class Fault(Exception):
-    """Bytes aren't of the form: the number that a complaint tells."""
+    """Bytes aren't of the form: the number that a complaint tells, and what it is of, where there is
+    one: the place of a varint, tag, value or escape, the field that is missing or has another wire
+    type, or the type or the year that there isn't."""
 
-    def __init__(self, number):
+    def __init__(self, number, of=None):
         super().__init__(f"E{number}")
         self.number = number
+        self.of = of
 
 
 class Refused(Exception):
@@ -51,8 +54,9 @@ def escape(message):
 
 
 def unescape(line):
-    if re.search(rb"\x1b(?![\x01\x02\x03])", line):
-        raise Fault(BAD_ESCAPE)
+    bad = re.search(rb"\x1b(?![\x01\x02\x03])", line)
+    if bad is not None:
+        raise Fault(BAD_ESCAPE, bad.start())
     return re.sub(rb"\x1b[\x01\x02\x03]", lambda pair: MEANING[pair.group()], line)
 
 
@@ -61,41 +65,45 @@ def unescape(line):
 VARINT = re.compile(rb"[\x80-\xff]{0,9}[\x00-\x7f]")
 
 
-def varint(data, at):
-    """The varint at a place, and the place behind it."""
+def varint(data, at, start=0):
+    """The varint at a place, and the place behind it. The data begins at `start`."""
     found = VARINT.match(data, at)
     if found is None:
-        raise Fault(BAD_VARINT if len(data) - at >= 10 else SHORT)
+        raise Fault(BAD_VARINT if len(data) - at >= 10 else SHORT, start + at)
     groups = enumerate(found.group())
     return sum((byte & 0x7F) << 7 * i for i, byte in groups) % 2**64, found.end()
 
 
-def varints(data):
+def varints(data, start=0):
     at = 0
     while at < len(data):
-        number, at = varint(data, at)
+        number, at = varint(data, at, start)
         yield number
 
 
-def fields(data):
-    """Number, wire type and value of each field: a number, or the bytes as they stand."""
+def fields(data, start=0):
+    """Number, wire type, value and place of each field of a message that begins at `start`. The value
+    is a number, or the bytes as they stand."""
     at = 0
     while at < len(data):
-        tag, at = varint(data, at)
+        begin = start + at
+        tag, at = varint(data, at, start)
         number, kind = divmod(tag, 8)
         if number == 0 or tag >= 2**32 or kind > 5:
-            raise Fault(BAD_TAG)
+            raise Fault(BAD_TAG, begin)
         if kind in (3, 4):
-            raise Fault(GROUP)
+            raise Fault(GROUP, begin)
+        place = start + at
         if kind == 0:
-            value, at = varint(data, at)
+            value, at = varint(data, at, start)
         else:
-            size, at = varint(data, at) if kind == 2 else ({1: 8, 5: 4}[kind], at)
+            size, at = varint(data, at, start) if kind == 2 else ({1: 8, 5: 4}[kind], at)
+            place = start + at
             if size > len(data) - at:
-                raise Fault(SHORT)
+                raise Fault(SHORT, place)
             value = data[at : at + size]
             at += size
-        yield number, kind, value
+        yield number, kind, value, place
 
 
 def low(number):
@@ -155,61 +163,63 @@ class Header:
     headers: list
 
 
-def expect(kind, wanted):
+def expect(kind, wanted, number):
     if kind != wanted:
-        raise Fault(WRONG_WIRE)
+        raise Fault(WRONG_WIRE, number)
 
 
-def pair(data):
-    """Name and value, None for one that is missing."""
+def pair(data, start, listed):
+    """Name and value, None for one that is missing. The field `listed` holds the pair."""
     members = {}
-    for number, kind, value in fields(data):
+    for number, kind, value, _ in fields(data, start):
         if number in (1, 2):
-            expect(kind, 2)
+            expect(kind, 2, listed)
             members[number] = value
     return members.get(1), members.get(2)
 
 
-def elements(element, repeated, kind, value):
+def elements(element, repeated, kind, value, place):
     """The elements that one field of val brings."""
     own_kind, size, read = element
     if kind == own_kind:
         return [read(value)]
     if kind != 2 or not repeated:
-        raise Fault(WRONG_WIRE)
+        raise Fault(WRONG_WIRE, 3)
     if size is None:
-        return [read(number) for number in varints(value)]
+        return [read(number) for number in varints(value, place)]
     if len(value) % size:
-        raise Fault(SHORT)
+        raise Fault(SHORT, place)
     return [read(value[at : at + size]) for at in range(0, len(value), size)]
 
 
 def members(data, singular, pairs, val=None):
     """The last value of each singular number, the pairs, and the elements of val."""
     last, listed, values = {}, [], []
-    for number, kind, value in fields(data):
+    for number, kind, value, place in fields(data):
         if number in singular:
-            expect(kind, singular[number])
+            expect(kind, singular[number], number)
             last[number] = value
         elif number == pairs:
-            expect(kind, 2)
-            listed.append(pair(value))
+            expect(kind, 2, number)
+            listed.append(pair(value, place, number))
         elif number == 3 and val is not None:
-            values += elements(*val, kind, value)
+            values += elements(*val, kind, value, place)
     return last, listed, values
 
 
-def require(present):
+def require(present, number):
     if not present:
-        raise Fault(MISSING)
+        raise Fault(MISSING, number)
 
 
 def event(type_number, data):
     """The event that a message holds."""
     val = VAL[type_number]
     last, listed, values = members(data, dict.fromkeys((1, 2, 4, 5, 6, 8), 0), 7, val)
-    require(1 in last and 2 in last and (values or val[1]))
-    require(all(None not in one for one in listed))
+    require(1 in last, 1)
+    require(2 in last, 2)
+    require(values or val[1], 3)
+    require(all(None not in one for one in listed), 7)
     return Event(
         secs=low(last[1]),
         nano=low(last[2]),
@@ -225,13 +235,14 @@ def event(type_number, data):
 def header(data):
     """The header that a message holds."""
     last, listed, _ = members(data, {1: 0, 2: 2, 3: 0, 4: 0}, 15)
-    require(1 in last and 2 in last and 3 in last)
-    require(all(None not in one for one in listed))
+    for number in (1, 2, 3):
+        require(number in last, number)
+    require(all(None not in one for one in listed), 15)
     if low(last[1]) >= len(VAL):
-        raise Fault(UNKNOWN_TYPE)
+        raise Fault(UNKNOWN_TYPE, low(last[1]))
     year = signed(last[3])
     if not FIRST_YEAR <= year <= LAST_YEAR:
-        raise Fault(YEAR_RANGE)
+        raise Fault(YEAR_RANGE, year)
     count = signed(last[4]) if 4 in last else None
     return Header(low(last[1]), last[2], year, count, listed)
 
