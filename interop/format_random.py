@@ -32,7 +32,7 @@ def blob(rng, most=12):
 
 def moment(rng):
     """Mostly one of the years of samples, often beside the start of a unit."""
-    t = rng.choice((0, START, END, rng.randrange(2 * END), rng.randrange(START, END)))
+    t = rng.choice((0, START, END, rng.randrange(2**64 - 1), rng.randrange(START, END)))
     unit = rng.choice((1, 60, 300, 3_600, 86_400)) * SECOND
     return max(t // unit * unit + rng.choice((-1, 0, 1)), 0) if chance(rng, 60) else t
 
