@@ -13,7 +13,7 @@
 //! are taken and given up. Header fields are read and not looked at. A body that isn't
 //! finished has no end.
 //!
-//! Tests: `http_tests`.
+//! Tests: `http_cases`.
 #![tactic(auto)]
 
 mod call;
