@@ -11,6 +11,8 @@ from comparing import Difference
 from pb_model import Run
 
 STORES = ("sts", "mts", "lts")
+# The file of each folder that tells of which archive it is.
+MARK = "archive-mark"
 SECONDS = 60
 # A pipe keeps writes of at most so many bytes apart.
 MOST_APART = 4096
@@ -42,9 +44,9 @@ class CasePlace:
         return Run(process.returncode, output or b"", complaint or b"")
 
     def files(self):
-        """All files of the three stores, by their paths."""
+        """All files of the three stores but the marks of their folders, by their paths."""
         found = (path for store in STORES for path in (self.folder / store).rglob("*") if path.is_file())
-        return {str(path.relative_to(self.folder)): path.read_bytes() for path in found}
+        return {str(path.relative_to(self.folder)): path.read_bytes() for path in found if path.name != MARK}
 
 
 class Source:
