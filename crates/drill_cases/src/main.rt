@@ -39,7 +39,8 @@ fn feed(alloc: Global, drill: Drill, variable: u32) -> Result<String, AllocError
     if variable >= VARIABLES {
         return Ok(String::new(alloc));
     }
-    hex::encode(alloc, &drill.chunk(alloc, variable)?)
+    let bytes = drill.chunk(alloc, variable)?;
+    hex::encode(alloc, bytes.as_slice())
 }
 
 // How many bytes a variable's feed has, and a sum of them in which each has a weight of its own.
