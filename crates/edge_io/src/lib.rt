@@ -15,7 +15,7 @@
 //! `StdSource` and `StdSink` tell only what std's reader and writer tell, `TcpLink` and `TcpDoor`
 //! nothing of content, and `SystemClock` nothing of the moments to come.
 //!
-//! Tests: `format_tests`.
+//! Tests: `format_cases`.
 #![tactic(auto)]
 
 mod clock;

@@ -17,7 +17,7 @@
 //! past the 64th are dropped. Groups are refused. Names and values are bytes and need not be UTF-8; of
 //! a member that stands there twice the last holds, and unknown ones are passed over, as Protocol
 //! Buffers has it. Which fields a message has is said where that message is. Tests are those of
-//! `format_tests`.
+//! `format_cases`.
 #![tactic(auto)]
 
 mod cursor;
