@@ -48,7 +48,7 @@ class Browser:
         try:
             self.session = None
             self.ask("Browser.close")
-            self.process.wait(10)
+            self.process.wait(60)
         except (Failed, OSError, subprocess.TimeoutExpired):
             self.process.kill()
             self.process.wait()

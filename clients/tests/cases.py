@@ -26,7 +26,7 @@ def run(*words, data=b"", status=0, environment=None):
     return done.stdout, done.stderr.decode()
 
 
-def wait_for(what, is_so, seconds=20):
+def wait_for(what, is_so, seconds=120):
     """Waits until something is so."""
     until = time.monotonic() + seconds
     while not is_so():

@@ -43,7 +43,7 @@ class Viewer:
 
     def __exit__(self, *_):
         self.process.send_signal(signal.SIGINT)
-        self.process.wait(10)
+        self.process.wait(60)
         self.process.stderr.close()
 
     def asked(self, path, **query):

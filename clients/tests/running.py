@@ -10,7 +10,7 @@ from pathlib import Path
 from cases import Failed, want
 
 # How long a service may take until its doors are open, or to end.
-PATIENCE = 20
+PATIENCE = 120
 
 
 class Service:

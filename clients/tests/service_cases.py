@@ -320,7 +320,7 @@ def watched(_, service):
                 line = f"W:A 2024-01-01T00:00:0{number}.000000000Z {number} 1 6\n"
                 want("a new one", process.stdout.readline(), line)
             process.send_signal(signal.SIGINT)
-            want("the end", (process.wait(10), process.stderr.read()), (130, ""))
+            want("the end", (process.wait(60), process.stderr.read()), (130, ""))
         finally:
             process.kill()
 
