@@ -1,4 +1,4 @@
-"""What the variables of a drill send, and what a drill tells in the end, as README.md and the specification's words have it. It takes
+"""What the variables of a drill send, and what a drill tells in the end, as README.md and docs/FORMATS.md have it. It takes
 nothing from the program. Other scripts may import it.
 
 There are four variables of whole numbers, and each sends a sample a minute from 2024-01-01T00:00:00Z on, one second behind the variable
