@@ -26,15 +26,15 @@ use Rattle.retrieval_query.specs.declared.retrieved.Retrieved.TheVariants as got
 use Rattle.archive_core.specs.Parts.{Parts}
 use Rattle.archive_core.specs.Stands.{Stands}
 use Rattle.event_types.specs.declared.about.About.{About}
-use Rattle.archiver_appliance.specs.declared.status.Status.{Status}
-use Rattle.archiver_appliance.specs.declared.status.Status.TheVariants.{Done as IsDone, NoSuchVariable, SinkFault, DiskFault, Damaged, OutOfMemory}
+use Rattle.command_words.specs.declared.status.Status.{Status}
+use Rattle.command_words.specs.declared.status.Status.TheVariants.{Done as IsDone, NoSuchVariable, SinkFault, DiskFault, Damaged, OutOfMemory}
 use Rattle.archiver_appliance.specs.Acting.{IsOpenedOn, header_by, rule_of}
 use Rattle.archiver_appliance.specs.Judging.{IsOfOpened, IsOneOf}
 use Rattle.archiver_appliance.specs.Retrieving.{Answers, EndsBy, Gets, GetsSome, HasAnswer, HasNone, IsPinless, IsRetrieved, WritesAccepted, WritesOfPin, subject_of}
 use Rattle.archiver_appliance.specs.Outside.{IsCausedBy}
 use Rattle.archiver_appliance.specs.Run.{EndsAs}
-use Rattle.archiver_appliance.specs.Status.{number_of}
-use Rattle.archiver_appliance.specs.declared.command.StoreCommand.TheVariants as command
+use Rattle.command_words.specs.Status.{number_of}
+use Rattle.command_words.specs.declared.command.StoreCommand.TheVariants as command
 use Rattle.archiver_appliance.proofs.PinSteps.{IsPinnedRow, first_step, found_name, held_row, none_has, one_has, pin_named, pin_rows, pin_unknown}
 
 -- OF WHAT IS HELD

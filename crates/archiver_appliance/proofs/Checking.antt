@@ -22,8 +22,8 @@ use Rattle.three_reports.specs.declared.inspection.CheckErr.{CheckErr}
 use Rattle.three_reports.specs.declared.inspection.CheckErr.TheVariants as checked
 use Rattle.three_reports.specs.declared.summary.StatusErr.{StatusErr}
 use Rattle.three_reports.specs.declared.summary.StatusErr.TheVariants as summed
-use Rattle.archiver_appliance.specs.declared.status.Status.{Status}
-use Rattle.archiver_appliance.specs.declared.status.Status.TheVariants.{Done, SinkFault, DiskFault, Damaged, OutOfMemory}
+use Rattle.command_words.specs.declared.status.Status.{Status}
+use Rattle.command_words.specs.declared.status.Status.TheVariants.{Done, SinkFault, DiskFault, Damaged, OutOfMemory}
 use Rattle.archiver_appliance.specs.Reporting.{AreRowLines, ChecksAll, IsFirstDamage, IsRowLine, TellsListed, TellsRows, checked_status, listed_files, own_entries, reported_status}
 
 -- THE LINES OF ROWS

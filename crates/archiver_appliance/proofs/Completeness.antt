@@ -10,25 +10,26 @@ use Rattle.pb_lines.proofs.Unique.{one_stream}
 use Rattle.pv_catalog.specs.declared.row.Row.{Row}
 use Rattle.pv_catalog.specs.Rows.{HasName}
 use Rattle.store_manifest.specs.declared.entry.Entry.{Entry}
-use Rattle.archiver_appliance.specs.declared.command.Command.{Command}
-use Rattle.archiver_appliance.specs.declared.command.Command.TheVariants.{Drill, Extract, OverStore}
+use Rattle.command_words.specs.declared.command.Command.{Command}
+use Rattle.command_words.specs.declared.command.Command.TheVariants.{Drill, Extract, OverStore}
 use Rattle.drill_feed.specs.declared.drill.Drill.{Drill as DrillState}
-use Rattle.archiver_appliance.specs.declared.command.StoreCommand.{StoreCommand}
-use Rattle.archiver_appliance.specs.declared.command.StoreCommand.TheVariants as command
-use Rattle.archiver_appliance.specs.declared.status.Status.{Status}
-use Rattle.archiver_appliance.specs.declared.status.Status.TheVariants.{Done, Usage, Refused, NoSuchVariable, SourceFault, SinkFault, DiskFault, Damaged, OutOfMemory, GranularityDiffers, DoorFault, Spent}
-use Rattle.archiver_appliance.specs.Command.{IsCommand, IsFaulty}
+use Rattle.command_words.specs.declared.command.StoreCommand.{StoreCommand}
+use Rattle.command_words.specs.declared.command.StoreCommand.TheVariants as command
+use Rattle.command_words.specs.declared.status.Status.{Status}
+use Rattle.command_words.specs.declared.status.Status.TheVariants.{Done, Usage, Refused, NoSuchVariable, SourceFault, SinkFault, DiskFault, Damaged, OutOfMemory, GranularityDiffers, DoorFault, Spent}
+use Rattle.command_words.specs.Command.{IsCommand, IsFaulty}
 use Rattle.archiver_appliance.specs.Ingesting.{IsIngested}
 use Rattle.archiver_appliance.specs.Outside.{Outside, IsCaused, IsQuiet}
 use Rattle.archiver_appliance.specs.Reporting.{Tells, ChecksAll}
 use Rattle.archiver_appliance.specs.Run.{NoDamage, IsUnasked, Makes, MakesOfRead, Serves, Does, Obeys, IsGoodSource, IsServable, CanBeDone, EndsWell, EndsWellBy, IsServe}
-use Rattle.archiver_appliance.specs.Status.{number_of}
-use Rattle.archiver_appliance.specs.Text.{Extracts}
+use Rattle.command_words.specs.Status.{number_of}
+use Rattle.stream_extract.specs.Text.{Extracts}
 use Rattle.archiver_appliance.proofs.Opening.{first_stands}
 use Rattle.archiver_appliance.specs.Serving.{first_of}
-use Rattle.archiver_appliance.specs.declared.serve_words.ServeWords.{ServeWords}
+use Rattle.command_words.specs.declared.service_words.ServeWords.{ServeWords}
 use Rattle.archiver_appliance.specs.Drilling.{Drills}
-use Rattle.archiver_appliance.proofs.Words.{drill_alone, servable_same, serve_same, not_both}
+use Rattle.command_words.proofs.Words.{drill_alone, serve_same, not_both}
+use Rattle.archiver_appliance.proofs.Words.{servable_same}
 use Rattle.etl_rules.specs.Config.{ConfigState}
 use Rattle.feed_session.specs.Session.{ReadsOf}
 use Rattle.feed_session.specs.declared.end.Fed.{Fed}

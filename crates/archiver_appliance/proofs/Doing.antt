@@ -25,10 +25,10 @@ use Rattle.three_reopen.specs.Verdict.{AreSaid, IsWhole, Listings}
 use Rattle.three_reports.specs.Status.{status_text}
 use Rattle.three_reopen.proofs.Having.{listed_at}
 use Rattle.three_stores.proofs.Places.{manifest_at as manifest_there}
-use Rattle.archiver_appliance.specs.declared.command.Command.TheVariants.{OverStore}
-use Rattle.archiver_appliance.specs.declared.command.StoreCommand.TheVariants as command
-use Rattle.archiver_appliance.specs.declared.status.Status.{Status}
-use Rattle.archiver_appliance.specs.declared.status.Status.TheVariants.{Done, Usage, Refused, NoSuchVariable, SourceFault, SinkFault, DiskFault, Damaged, OutOfMemory, GranularityDiffers, DoorFault, Spent}
+use Rattle.command_words.specs.declared.command.Command.TheVariants.{OverStore}
+use Rattle.command_words.specs.declared.command.StoreCommand.TheVariants as command
+use Rattle.command_words.specs.declared.status.Status.{Status}
+use Rattle.command_words.specs.declared.status.Status.TheVariants.{Done, Usage, Refused, NoSuchVariable, SourceFault, SinkFault, DiskFault, Damaged, OutOfMemory, GranularityDiffers, DoorFault, Spent}
 use Rattle.archiver_appliance.specs.Acting.{IsFresh, IsNotMade}
 use Rattle.act_model.specs.Machine.{Machine}
 use Rattle.archiver_appliance.specs.Ingesting.{IngestsInto, LeavesNone}
@@ -38,7 +38,7 @@ use Rattle.archiver_appliance.specs.Outside.{Outside, outside}
 use Rattle.archiver_appliance.specs.Reporting.{ChecksAll, Tells, TellsListed}
 use Rattle.archiver_appliance.specs.Retrieving.{Gets, GetsSome, HasNone, RetrievesFrom}
 use Rattle.archiver_appliance.specs.Run.{Does, EndsAs, IsRefused, IsUnasked, Makes, NoDamage, OnlyReads}
-use Rattle.archiver_appliance.specs.Status.{number_of}
+use Rattle.command_words.specs.Status.{number_of}
 use Rattle.archiver_appliance.proofs.Acting.{acts_behind, same_end}
 use Rattle.archiver_appliance.proofs.Checking.{checks_in, first_in, with_lists}
 use Rattle.archiver_appliance.proofs.Judgements.{OneVerdict, check_judges, etl_judges, exactly, get_judges, ingest_judges, status_judges, whole_with}

@@ -21,7 +21,7 @@ use Rattle.feed_session.specs.declared.end.Fed.TheVariants as fed
 use Rattle.archiver_appliance.specs.Ingesting.{AllIsDurable, IsIngested, LeavesNone}
 use Rattle.archiver_appliance.specs.Judging.{IsOfOpened}
 use Rattle.archiver_appliance.specs.Run.{NoDamage}
-use Rattle.archiver_appliance.specs.declared.status.Status.{Status}
+use Rattle.command_words.specs.declared.status.Status.{Status}
 use Rattle.archiver_appliance.proofs.PinSteps.{first_own}
 
 -- THE LAST ACT

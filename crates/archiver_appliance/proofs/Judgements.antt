@@ -9,14 +9,14 @@ use Rattle.store_manifest.specs.declared.entry.Entry.{Entry}
 use Rattle.three_reopen.specs.Verdict.{HasRow, AreSaid, IsDamaged, IsThere, IsWhole, Differs, Listings}
 use Rattle.three_reopen.specs.declared.error.ReopenErr.{ReopenErr}
 use Rattle.three_reopen.specs.declared.error.ReopenErr.TheVariants as reopening
-use Rattle.archiver_appliance.specs.declared.command.StoreCommand.{StoreCommand}
-use Rattle.archiver_appliance.specs.declared.command.StoreCommand.TheVariants as command
-use Rattle.archiver_appliance.specs.declared.status.Status.{Status}
-use Rattle.archiver_appliance.specs.declared.status.Status.TheVariants.{Done, Refused, SourceFault, SinkFault, Usage, NoSuchVariable, DiskFault, Damaged, OutOfMemory, GranularityDiffers, DoorFault, Spent}
+use Rattle.command_words.specs.declared.command.StoreCommand.{StoreCommand}
+use Rattle.command_words.specs.declared.command.StoreCommand.TheVariants as command
+use Rattle.command_words.specs.declared.status.Status.{Status}
+use Rattle.command_words.specs.declared.status.Status.TheVariants.{Done, Refused, SourceFault, SinkFault, Usage, NoSuchVariable, DiskFault, Damaged, OutOfMemory, GranularityDiffers, DoorFault, Spent}
 use Rattle.archiver_appliance.specs.Judging.{Judges, refusal_of, FindsDamage, IsWholeWith, HasDamage, of_image, of_file, AsksInVain, IsOneOf, IsExact}
 use Rattle.archiver_appliance.specs.Retrieving.{HasNone}
 use Rattle.archiver_appliance.specs.Run.{EndsAs}
-use Rattle.archiver_appliance.specs.Status.{number_of}
+use Rattle.command_words.specs.Status.{number_of}
 use Rattle.archiver_appliance.proofs.Opening.{same_said}
 
 -- an image that is whole is so with the rows and entries that its journals say

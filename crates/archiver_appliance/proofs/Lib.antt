@@ -1,9 +1,7 @@
 pub mod Acting
 pub mod Answering
-pub mod Answers
 pub mod Chained
 pub mod Checking
-pub mod Complaining
 pub mod Completeness
 pub mod Counting
 pub mod Damages
@@ -11,7 +9,6 @@ pub mod Doing
 pub mod DrillReads
 pub mod DrillRuns
 pub mod Drills
-pub mod Extracting
 pub mod Gotten
 pub mod Ingests
 pub mod Judgements
@@ -25,6 +22,5 @@ pub mod Retrievals
 pub mod Services
 pub mod ServingAll
 pub mod StoppedMoves
-pub mod Stream
 pub mod Tallies
 pub mod Words

@@ -16,10 +16,10 @@ use Rattle.three_reports.specs.declared.inspection.CheckErr.{CheckErr}
 use Rattle.three_reports.specs.declared.inspection.CheckErr.TheVariants as checked
 use Rattle.three_reports.specs.declared.summary.StatusErr.{StatusErr}
 use Rattle.three_reports.specs.declared.summary.StatusErr.TheVariants as summed
-use Rattle.archiver_appliance.specs.declared.command.StoreCommand.{StoreCommand}
-use Rattle.archiver_appliance.specs.declared.command.StoreCommand.TheVariants as command
-use Rattle.archiver_appliance.specs.declared.status.Status.{Status}
-use Rattle.archiver_appliance.specs.declared.status.Status.TheVariants.{SourceFault, SinkFault, DiskFault, OutOfMemory}
+use Rattle.command_words.specs.declared.command.StoreCommand.{StoreCommand}
+use Rattle.command_words.specs.declared.command.StoreCommand.TheVariants as command
+use Rattle.command_words.specs.declared.status.Status.{Status}
+use Rattle.command_words.specs.declared.status.Status.TheVariants.{SourceFault, SinkFault, DiskFault, OutOfMemory}
 use Rattle.archiver_appliance.specs.Ingesting.{IsIngested}
 use Rattle.archiver_appliance.specs.Judging.{IsOfOpened, refusal_of}
 use Rattle.archiver_appliance.specs.Outside.{Outside, IsCaused, IsCausedBy}

@@ -27,15 +27,15 @@ use Rattle.link_service.specs.declared.service.AllServed.{AllServed}
 use Rattle.link_service.specs.Doors.{IsServed, ServesDoorAt}
 use Rattle.link_service.specs.Service.{PostWork, ServesAll, ServesPost, at_door, at_flushes, at_moves, fails, finds_none, told_of, told_want}
 use Rattle.archiver_appliance.specs.Serving.{CameOfPosts, DoorLeft, EachOf, HasFailed, IsUnserved, NobodyServed, PostServed, PostsServed, ServesPosts, are_not, are_served, first_of, status_of}
-use Rattle.archiver_appliance.specs.declared.command.Command.{Command}
-use Rattle.archiver_appliance.specs.declared.command.Command.TheVariants.{Drill, Extract, OverStore}
-use Rattle.archiver_appliance.specs.declared.command.StoreCommand.TheVariants as asked
-use Rattle.archiver_appliance.specs.declared.serve_words.ServeWords.{ServeWords}
-use Rattle.archiver_appliance.specs.Command.{IsCommand}
+use Rattle.command_words.specs.declared.command.Command.{Command}
+use Rattle.command_words.specs.declared.command.Command.TheVariants.{Drill, Extract, OverStore}
+use Rattle.command_words.specs.declared.command.StoreCommand.TheVariants as asked
+use Rattle.command_words.specs.declared.service_words.ServeWords.{ServeWords}
+use Rattle.command_words.specs.Command.{IsCommand}
 use Rattle.archiver_appliance.specs.Run.{AreDoorsQuiet}
 use Rattle.archiver_appliance.proofs.Completeness.{IsServing}
-use Rattle.archiver_appliance.specs.declared.status.Status.{Status}
-use Rattle.archiver_appliance.specs.declared.status.Status.TheVariants.{Done, DoorFault}
+use Rattle.command_words.specs.declared.status.Status.{Status}
+use Rattle.command_words.specs.declared.status.Status.TheVariants.{Done, DoorFault}
 
 -- HOW EACH DOOR WAS LEFT
 

@@ -18,10 +18,10 @@ use Rattle.three_reopen.specs.declared.error.ReopenErr.{ReopenErr}
 use Rattle.three_reopen.specs.declared.error.ReopenErr.TheVariants as reopening
 use Rattle.three_reopen.proofs.Verdicts.{held_whole}
 use Rattle.three_reports.specs.Check.{InspectsSome, IsFound}
-use Rattle.archiver_appliance.specs.declared.command.StoreCommand.{StoreCommand}
-use Rattle.archiver_appliance.specs.declared.command.StoreCommand.TheVariants as command
-use Rattle.archiver_appliance.specs.declared.status.Status.TheVariants.{DiskFault, OutOfMemory}
-use Rattle.archiver_appliance.specs.declared.command.Command.TheVariants.{OverStore}
+use Rattle.command_words.specs.declared.command.StoreCommand.{StoreCommand}
+use Rattle.command_words.specs.declared.command.StoreCommand.TheVariants as command
+use Rattle.command_words.specs.declared.status.Status.TheVariants.{DiskFault, OutOfMemory}
+use Rattle.command_words.specs.declared.command.Command.TheVariants.{OverStore}
 use Rattle.archiver_appliance.specs.Judging.{refusal_of}
 use Rattle.archiver_appliance.specs.Outside.{Outside}
 use Rattle.archiver_appliance.specs.Reporting.{TellsRows, listed_files}

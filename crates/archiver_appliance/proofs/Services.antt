@@ -51,9 +51,9 @@ use Rattle.archiver_appliance.specs.Outside.{HasNotFallen, IsCausedBy}
 use Rattle.archiver_appliance.specs.Judging.{IsOfOpened}
 use Rattle.archiver_appliance.specs.Run.{EndsAs, NoDamage}
 use Rattle.archiver_appliance.specs.Serving.{HasFailedFlush, LeavesArchive, LeavesRoom, ServesFrom, WasSpent, first_of, status_of}
-use Rattle.archiver_appliance.specs.declared.command.StoreCommand.TheVariants as command
-use Rattle.archiver_appliance.specs.declared.status.Status.{Status}
-use Rattle.archiver_appliance.specs.declared.serve_words.ServeWords.{ServeWords}
+use Rattle.command_words.specs.declared.command.StoreCommand.TheVariants as command
+use Rattle.command_words.specs.declared.status.Status.{Status}
+use Rattle.command_words.specs.declared.service_words.ServeWords.{ServeWords}
 use Rattle.archiver_appliance.proofs.Acting.{both_hold, count_given, handed, opens_again, rose_given, tells_headers, unopened_given}
 use Rattle.archiver_appliance.proofs.Counting.{runs_counts, runs_rose}
 

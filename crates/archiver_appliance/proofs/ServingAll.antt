@@ -15,11 +15,11 @@ use Rattle.three_stores.specs.Stores.{Stores}
 use Rattle.three_stores.specs.declared.store.TierStore.{TierStore}
 use Rattle.three_reopen.specs.Reopen.{HasRead, HoldsEither, OpensEither, Reopens, stores_of}
 use Rattle.three_reopen.specs.Verdict.{IsWhole}
-use Rattle.archiver_appliance.specs.declared.command.Command.TheVariants.{OverStore}
-use Rattle.archiver_appliance.specs.declared.command.StoreCommand.TheVariants as command
-use Rattle.archiver_appliance.specs.declared.serve_words.ServeWords.{ServeWords}
-use Rattle.archiver_appliance.specs.declared.status.Status.{Status}
-use Rattle.archiver_appliance.specs.declared.status.Status.TheVariants.{Usage, NoSuchVariable, DiskFault, Damaged, OutOfMemory, GranularityDiffers}
+use Rattle.command_words.specs.declared.command.Command.TheVariants.{OverStore}
+use Rattle.command_words.specs.declared.command.StoreCommand.TheVariants as command
+use Rattle.command_words.specs.declared.service_words.ServeWords.{ServeWords}
+use Rattle.command_words.specs.declared.status.Status.{Status}
+use Rattle.command_words.specs.declared.status.Status.TheVariants.{Usage, NoSuchVariable, DiskFault, Damaged, OutOfMemory, GranularityDiffers}
 use Rattle.archiver_appliance.specs.Acting.{IsNotMade}
 use Rattle.archiver_appliance.specs.Judging.{IsOfOpened, Judges}
 use Rattle.archiver_appliance.specs.Outside.{outside}

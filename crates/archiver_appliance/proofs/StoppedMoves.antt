@@ -22,9 +22,9 @@ use Rattle.archiver_appliance.specs.Judging.{IsOfOpened}
 use Rattle.archiver_appliance.specs.Moving.{TellsMoved}
 use Rattle.archiver_appliance.specs.Outside.{IsCausedBy}
 use Rattle.archiver_appliance.specs.Run.{EndsAs}
-use Rattle.archiver_appliance.specs.declared.command.StoreCommand.TheVariants as command
-use Rattle.archiver_appliance.specs.declared.status.Status.{Status}
-use Rattle.archiver_appliance.specs.declared.status.Status.TheVariants.{Done as IsDone, SinkFault, DiskFault, Damaged, OutOfMemory}
+use Rattle.command_words.specs.declared.command.StoreCommand.TheVariants as command
+use Rattle.command_words.specs.declared.status.Status.{Status}
+use Rattle.command_words.specs.declared.status.Status.TheVariants.{Done as IsDone, SinkFault, DiskFault, Damaged, OutOfMemory}
 
 -- the last act is answered so
 pub record EndsWith (Such : Reply → Type 0) (ds : List Done) : Type 0 where

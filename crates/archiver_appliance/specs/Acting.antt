@@ -25,8 +25,8 @@ use Rattle.archive_core.specs.Parts.{parts}
 use Rattle.archive_core.specs.Running.{HoldsBetween}
 use Rattle.archive_core.specs.Stands.{Stands, HoldsDurable}
 use Rattle.archive_core.specs.declared.archive.Archive.{Archive}
-use Rattle.archiver_appliance.specs.declared.status.Status.{Status}
-use Rattle.archiver_appliance.specs.declared.status.Status.TheVariants.{OutOfMemory}
+use Rattle.command_words.specs.declared.status.Status.{Status}
+use Rattle.command_words.specs.declared.status.Status.TheVariants.{OutOfMemory}
 
 -- THE STORES
 

@@ -28,8 +28,8 @@ use Rattle.archive_core.specs.declared.archive.Archive.{Archive}
 use Rattle.retrieval_query.specs.Retrieving.{ReadsHeaders}
 use Rattle.archiver_appliance.specs.Acting.{IsOpenedOn}
 use Rattle.archiver_appliance.specs.Tallying.{AreTallied}
-use Rattle.archiver_appliance.specs.declared.status.Status.{Status}
-use Rattle.archiver_appliance.specs.declared.status.Status.TheVariants.{Done as IsDone, SinkFault, OutOfMemory, Spent}
+use Rattle.command_words.specs.declared.status.Status.{Status}
+use Rattle.command_words.specs.declared.status.Status.TheVariants.{Done as IsDone, SinkFault, OutOfMemory, Spent}
 
 -- THE STATES
 

@@ -11,8 +11,8 @@ use Rattle.act_model.specs.Rows.{RowState, accepted, durable}
 use Rattle.feed_session.specs.Session.{Session, Taken}
 use Rattle.feed_session.specs.declared.end.Fed.{Fed}
 use Rattle.feed_session.specs.declared.end.Fed.TheVariants as fed
-use Rattle.archiver_appliance.specs.declared.status.Status.{Status}
-use Rattle.archiver_appliance.specs.declared.status.Status.TheVariants.{Done as IsDone, Refused, SourceFault, DiskFault, OutOfMemory}
+use Rattle.command_words.specs.declared.status.Status.{Status}
+use Rattle.command_words.specs.declared.status.Status.TheVariants.{Done as IsDone, Refused, SourceFault, DiskFault, OutOfMemory}
 use Rattle.archiver_appliance.specs.Acting.{ActsFrom}
 
 -- The status of what an ingest came to. One who acts alone never lacks acts.

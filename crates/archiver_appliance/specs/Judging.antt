@@ -10,13 +10,13 @@ use Rattle.tier_store.specs.Held.{file_of}
 use Rattle.three_reopen.specs.Verdict.{Listings, IsWhole, IsDamaged, Differs}
 use Rattle.three_reopen.specs.declared.error.ReopenErr.{ReopenErr}
 use Rattle.three_reopen.specs.declared.error.ReopenErr.TheVariants as reopening
-use Rattle.archiver_appliance.specs.declared.command.StoreCommand.{StoreCommand}
-use Rattle.archiver_appliance.specs.declared.command.StoreCommand.TheVariants.{Get, Etl, Check}
-use Rattle.archiver_appliance.specs.declared.status.Status.{Status}
-use Rattle.archiver_appliance.specs.declared.status.Status.TheVariants.{Usage, NoSuchVariable, DiskFault, Damaged, OutOfMemory, GranularityDiffers}
+use Rattle.command_words.specs.declared.command.StoreCommand.{StoreCommand}
+use Rattle.command_words.specs.declared.command.StoreCommand.TheVariants.{Get, Etl, Check}
+use Rattle.command_words.specs.declared.status.Status.{Status}
+use Rattle.command_words.specs.declared.status.Status.TheVariants.{Usage, NoSuchVariable, DiskFault, Damaged, OutOfMemory, GranularityDiffers}
 use Rattle.archiver_appliance.specs.Reporting.{IsFirstDamage}
 use Rattle.archiver_appliance.specs.Retrieving.{HasNone}
-use Rattle.archiver_appliance.specs.Status.{number_of}
+use Rattle.command_words.specs.Status.{number_of}
 
 -- the status of a disk that isn't opened
 abbrev pub refusal_of : {D R : Type 0} → ReopenErr D R → Status

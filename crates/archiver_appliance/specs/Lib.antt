@@ -1,9 +1,5 @@
 pub mod Acting
-pub mod Answer
-pub mod Command
-pub mod Complaint
 pub mod Drilling
-pub mod Extract
 pub mod Ingesting
 pub mod Judging
 pub mod Moving
@@ -11,8 +7,5 @@ pub mod Outside
 pub mod Reporting
 pub mod Retrieving
 pub mod Run
-pub mod ServeWords
 pub mod Serving
-pub mod Status
 pub mod Tallying
-pub mod Text

@@ -12,8 +12,8 @@ use Rattle.serving_loops.specs.Due.{MovesDue}
 use Rattle.serving_loops.specs.declared.due.DueMoved.{DueMoved}
 use Rattle.serving_loops.specs.declared.moves.MoveErr.{MoveErr}
 use Rattle.serving_loops.specs.declared.moves.MoveErr.TheVariants as err
-use Rattle.archiver_appliance.specs.declared.status.Status.{Status}
-use Rattle.archiver_appliance.specs.declared.status.Status.TheVariants.{Done as IsDone, SinkFault, DiskFault, Damaged, OutOfMemory}
+use Rattle.command_words.specs.declared.status.Status.{Status}
+use Rattle.command_words.specs.declared.status.Status.TheVariants.{Done as IsDone, SinkFault, DiskFault, Damaged, OutOfMemory}
 use Rattle.archiver_appliance.specs.Acting.{ActsFrom}
 
 -- how many partitions were retired from stores 1 and 2

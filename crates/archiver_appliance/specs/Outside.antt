@@ -8,10 +8,10 @@ use Rattle.edge_io.specs.declared.clock.Clock.{Ghosts as OfClock}
 use Rattle.disk_model.specs.Files.{Name, Files, Rose as DiskRose}
 use Rattle.disk_model.specs.Past.{Past}
 use Rattle.disk_model.specs.declared.disk.Disk.{Ghosts as OfDisk}
-use Rattle.archiver_appliance.specs.declared.command.Command.{Command}
-use Rattle.archiver_appliance.specs.declared.command.Command.TheVariants.{Drill, Extract, OverStore}
-use Rattle.archiver_appliance.specs.declared.status.Status.{Status}
-use Rattle.archiver_appliance.specs.declared.status.Status.TheVariants.{SourceFault, SinkFault, DiskFault}
+use Rattle.command_words.specs.declared.command.Command.{Command}
+use Rattle.command_words.specs.declared.command.Command.TheVariants.{Drill, Extract, OverStore}
+use Rattle.command_words.specs.declared.status.Status.{Status}
+use Rattle.command_words.specs.declared.status.Status.TheVariants.{SourceFault, SinkFault, DiskFault}
 
 -- The bytes left of the source, those written to the sink, the clock's moments to come; of the disk the files, how far each name was
 -- opened, and what a crash might have left; and the counts of failed reads, failed writes and faults of the disk.

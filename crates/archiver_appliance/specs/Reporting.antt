@@ -16,8 +16,8 @@ use Rattle.three_reports.specs.declared.inspection.CheckErr.{CheckErr}
 use Rattle.three_reports.specs.declared.inspection.CheckErr.TheVariants as checked
 use Rattle.three_reports.specs.declared.summary.StatusErr.{StatusErr}
 use Rattle.three_reports.specs.declared.summary.StatusErr.TheVariants as summed
-use Rattle.archiver_appliance.specs.declared.status.Status.{Status}
-use Rattle.archiver_appliance.specs.declared.status.Status.TheVariants.{Done, SinkFault, DiskFault, Damaged, OutOfMemory}
+use Rattle.command_words.specs.declared.status.Status.{Status}
+use Rattle.command_words.specs.declared.status.Status.TheVariants.{Done, SinkFault, DiskFault, Damaged, OutOfMemory}
 
 -- the status of what a report of the rows came to
 abbrev pub reported_status : Result Unit StatusErr → Status

@@ -34,8 +34,8 @@ use Rattle.retrieval_query.specs.Raw.{IsRaw}
 use Rattle.retrieval_query.specs.Retrieving.{ReadsHeaders, given_up}
 use Rattle.retrieval_query.specs.declared.retrieved.Retrieved.{Retrieved}
 use Rattle.retrieval_query.specs.declared.retrieved.Retrieved.TheVariants as got
-use Rattle.archiver_appliance.specs.declared.status.Status.{Status}
-use Rattle.archiver_appliance.specs.declared.status.Status.TheVariants.{Done as IsDone, NoSuchVariable, SinkFault, DiskFault, Damaged, OutOfMemory}
+use Rattle.command_words.specs.declared.status.Status.{Status}
+use Rattle.command_words.specs.declared.status.Status.TheVariants.{Done as IsDone, NoSuchVariable, SinkFault, DiskFault, Damaged, OutOfMemory}
 use Rattle.archiver_appliance.specs.Acting.{ActsAlone, ActsFrom}
 
 -- The status of what a retrieval came to, and the file of which a read failed. One who acts alone never lacks acts.

@@ -16,14 +16,14 @@ use Rattle.three_stores.specs.Stored.{HoldsAll}
 use Rattle.three_stores.specs.Stores.{Stores}
 use Rattle.three_reopen.specs.Verdict.{IsWhole, Listings}
 use Rattle.three_reports.specs.Status.{status_text}
-use Rattle.archiver_appliance.specs.declared.command.Command.{Command}
-use Rattle.archiver_appliance.specs.declared.command.Command.TheVariants.{Drill, Extract, OverStore}
-use Rattle.archiver_appliance.specs.declared.command.StoreCommand.{StoreCommand}
-use Rattle.archiver_appliance.specs.declared.command.StoreCommand.TheVariants as command
-use Rattle.archiver_appliance.specs.declared.status.Status.{Status}
-use Rattle.archiver_appliance.specs.declared.status.Status.TheVariants.{Done, Usage, Refused, NoSuchVariable, SourceFault, SinkFault, DiskFault, Damaged, OutOfMemory, DoorFault, Spent}
-use Rattle.archiver_appliance.specs.Command.{IsCommand, IsFaulty}
-use Rattle.archiver_appliance.specs.Complaint.{Complains, complaint_of}
+use Rattle.command_words.specs.declared.command.Command.{Command}
+use Rattle.command_words.specs.declared.command.Command.TheVariants.{Drill, Extract, OverStore}
+use Rattle.command_words.specs.declared.command.StoreCommand.{StoreCommand}
+use Rattle.command_words.specs.declared.command.StoreCommand.TheVariants as command
+use Rattle.command_words.specs.declared.status.Status.{Status}
+use Rattle.command_words.specs.declared.status.Status.TheVariants.{Done, Usage, Refused, NoSuchVariable, SourceFault, SinkFault, DiskFault, Damaged, OutOfMemory, DoorFault, Spent}
+use Rattle.command_words.specs.Command.{IsCommand, IsFaulty}
+use Rattle.command_words.specs.Complaint.{Complains, complaint_of}
 use Rattle.archiver_appliance.specs.Drilling.{Drills}
 use Rattle.archiver_appliance.specs.Ingesting.{IngestsInto}
 use Rattle.archiver_appliance.specs.Judging.{Judges, IsExact}
@@ -32,8 +32,8 @@ use Rattle.archiver_appliance.specs.Outside.{Outside, IsCaused}
 use Rattle.archiver_appliance.specs.Reporting.{Tells, TellsListed, ChecksAll}
 use Rattle.archiver_appliance.specs.Retrieving.{GetsSome, RetrievesFrom}
 use Rattle.archiver_appliance.specs.Serving.{ServesFrom}
-use Rattle.archiver_appliance.specs.Status.{number_of}
-use Rattle.archiver_appliance.specs.Text.{Extracts}
+use Rattle.command_words.specs.Status.{number_of}
+use Rattle.stream_extract.specs.Text.{Extracts}
 
 -- WITH WHICH STATUS A COMMAND MAY END
 

@@ -35,8 +35,8 @@ use Rattle.link_service.specs.declared.served.Kind.{Kind}
 use Rattle.link_service.specs.declared.service.AllServed.{AllServed}
 use Rattle.link_service.specs.Doors.{IsAtEnd, with_back}
 use Rattle.link_service.specs.Service.{at_door, at_flushes, at_moves, told_of, told_want}
-use Rattle.archiver_appliance.specs.declared.status.Status.{Status}
-use Rattle.archiver_appliance.specs.declared.status.Status.TheVariants.{Done, DiskFault, Damaged, OutOfMemory, GranularityDiffers, DoorFault, Spent}
+use Rattle.command_words.specs.declared.status.Status.{Status}
+use Rattle.command_words.specs.declared.status.Status.TheVariants.{Done, DiskFault, Damaged, OutOfMemory, GranularityDiffers, DoorFault, Spent}
 use Rattle.archiver_appliance.specs.Acting.{IsOpenedOn, OpensAgain}
 
 -- THE STATUS

@@ -1,9 +1,9 @@
 // The doors of a service: connections of TCP, by two ports.
 ghost use Rattle.std.specs.Prelude.{◌≡◌, ◌≤◌, ◌+◌, vec_len, None, IfOk};
 
-use crate::serve_words::ServeWords;
 use crate::stopping::{Ports, Stop};
 use crate::telling::Telling;
+use command_words::ServeWords;
 use edge_io::{Door, Limits, Next, TcpDoor, TcpLink};
 use link_service::{Kind, Post};
 use std::alloc::{AllocError, Global};

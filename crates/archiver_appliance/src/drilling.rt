@@ -15,10 +15,10 @@ ghost use Rattle.archiver_appliance.specs.Drilling.{Drills, IsDrillText, OpensWe
 
 use crate::drill_report::report;
 use crate::serving::serve_archive;
-use crate::status::Status;
 use act_model::{Registered, ask_register};
 use archive_actors::Alone;
 use archive_core::Archive;
+use command_words::Status;
 use disk_model::{Disk, MemDisk};
 use drill_feed::{DOORS, Drill, VARIABLES, about, name_of};
 use edge_io::{ListDoor, MemLink, Sink, write_whole};

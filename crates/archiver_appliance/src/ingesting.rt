@@ -17,14 +17,14 @@ ghost use Rattle.archiver_appliance.specs.Acting.{ActsAlone, IsFresh, IsNotMade}
 ghost use Rattle.archiver_appliance.specs.Ingesting.{IngestsInto, IsIngested};
 ghost use Rattle.archiver_appliance.specs.Judging.{IsOfOpened};
 ghost use Rattle.archiver_appliance.specs.Run.{EndsAs, NoDamage};
-ghost use Rattle.archiver_appliance.specs.declared.command.StoreCommand.TheVariants as asked;
+ghost use Rattle.command_words.specs.declared.command.StoreCommand.TheVariants as asked;
 ghost use Rattle.archiver_appliance.specs.Outside.{HasNotFallen, IsCausedBy};
 
 use crate::opened::{Came, out_of_memory};
-use crate::status::Status;
 use act_model::laws::soundness_stays;
 use archive_actors::Alone;
 use archive_core::Archive;
+use command_words::Status;
 use disk_model::Disk;
 use edge_io::{Clock, Source};
 use feed_session::{Fed, ingest};

@@ -11,28 +11,23 @@
 //! image, a status and a complaint.
 #![tactic(auto)]
 
-mod answer;
-mod command;
-mod complaint;
 mod doors;
 mod drill_report;
 mod drilling;
-mod extract;
 mod ingesting;
 mod moving;
 mod opened;
 mod reporting;
 mod retrieving;
 mod run;
-mod serve_words;
 mod serving;
-mod status;
 mod stopping;
 mod tallying;
 mod telling;
 
 ghost use Rattle.std.specs.Prelude.{◌≤◌, ◌<◌, ◌^◌, length, vec_len, IfOk};
 
+use command_words::{Status, complain, serve_words};
 use doors::{Doors, ServiceDoor, Unbound};
 use edge_io::{StdSink, StdSource, SystemClock};
 use etl_rules::Config;
@@ -72,10 +67,10 @@ fn main(rt: HostRuntime) -> ExitCode {
         Ok(number) => ExitCode::from(number),
         Err(err) => {
             let status = match err {
-                VarError::OutOfMemory => status::Status::OutOfMemory,
-                VarError::NotPresent | VarError::NotUnicode => status::Status::DiskFault,
+                VarError::OutOfMemory => Status::OutOfMemory,
+                VarError::NotPresent | VarError::NotUnicode => Status::DiskFault,
             };
-            complaint::complain(&status, &mut StdSink::new(rt.stderr()));
+            complain(&status, &mut StdSink::new(rt.stderr()));
             ExitCode::from(status.number())
         }
     }
@@ -173,7 +168,7 @@ fn run_over<H: Threads + Wait + Sync>(
         &mut clock,
         posts.as_mut_slice(),
     );
-    if ended.status == status::Status::DiskFault.number() {
+    if ended.status == Status::DiskFault.number() {
         let trouble = match &mut ended.failed {
             Some(file) => file.take_trouble(),
             None => ended.disk.take_trouble(),
@@ -194,7 +189,7 @@ fn opened_doors<'a>(
 ) -> Result<Doors<'a>, VarError>
     ensures { IfOk result (λ doors. vec_len doors.posts ≤ 128) }
 {
-    let Some(asked) = serve_words::serve_words(words) else {
+    let Some(asked) = serve_words(words) else {
         return Ok(Doors::none(rt.alloc()));
     };
     let address = variable(rt, "ARCHAPPL_LISTEN_ADDRESS", "127.0.0.1")?;

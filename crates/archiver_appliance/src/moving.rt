@@ -17,15 +17,14 @@ ghost use Rattle.archiver_appliance.specs.Acting.{ActsAlone, IsFresh, IsNotMade}
 ghost use Rattle.archiver_appliance.specs.Moving.{MovesFrom, TellsMoved, moved_text};
 ghost use Rattle.archiver_appliance.specs.Judging.{IsOfOpened};
 ghost use Rattle.archiver_appliance.specs.Run.{EndsAs};
-ghost use Rattle.archiver_appliance.specs.declared.command.StoreCommand.TheVariants as asked;
+ghost use Rattle.command_words.specs.declared.command.StoreCommand.TheVariants as asked;
 ghost use Rattle.archiver_appliance.specs.Outside.{HasNotFallen, IsCausedBy};
 
-use crate::complaint::write_pieces;
 use crate::opened::{Came, out_of_memory};
-use crate::status::Status;
 use act_model::laws::{moves_are_as_told, soundness_stays};
 use archive_actors::Alone;
 use archive_core::Archive;
+use command_words::{Status, write_pieces};
 use disk_model::Disk;
 use edge_io::{Clock, Sink};
 use itoa::Buffer;

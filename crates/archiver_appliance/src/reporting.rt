@@ -12,10 +12,10 @@ ghost use Rattle.archiver_appliance.specs.Judging.{IsOfOpened};
 ghost use Rattle.archiver_appliance.specs.Outside.{IsCausedBy};
 ghost use Rattle.archiver_appliance.specs.Reporting.{ChecksAll, Tells, TellsListed, checked_file, checked_status, reported_status};
 ghost use Rattle.archiver_appliance.specs.Run.{EndsAs, NoDamage};
-ghost use Rattle.archiver_appliance.specs.declared.command.StoreCommand.TheVariants as asked;
+ghost use Rattle.command_words.specs.declared.command.StoreCommand.TheVariants as asked;
 
 use crate::opened::Came;
-use crate::status::Status;
+use command_words::Status;
 use disk_model::{Disk, ReadAt};
 use edge_io::Sink;
 use std::alloc::Global;

@@ -3,25 +3,22 @@ ghost use Rattle.std.specs.Prelude.{◌≡◌, ◌↔◌, ◌≤◌, ◌<◌, �
 ghost use Rattle.series_model.specs.declared.sample.Query.{Query};
 ghost use Rattle.drill_feed.specs.declared.drill.Drill.{Drill as DrillValue};
 ghost use Rattle.three_reopen.specs.Reopen.{IsUnopened};
-ghost use Rattle.archiver_appliance.specs.declared.command.Command.{Command as CommandValue};
-ghost use Rattle.archiver_appliance.specs.declared.command.Command.TheVariants.{Drill as DrillOf, Extract, OverStore};
-ghost use Rattle.archiver_appliance.specs.declared.command.StoreCommand.{StoreCommand as Asked};
-ghost use Rattle.archiver_appliance.specs.declared.command.StoreCommand.TheVariants as asked;
-ghost use Rattle.archiver_appliance.specs.declared.serve_words.ServeWords.{ServeWords as Numbers};
-ghost use Rattle.archiver_appliance.specs.declared.status.Status.{Status as StatusValue};
+ghost use Rattle.command_words.specs.declared.command.Command.{Command as CommandValue};
+ghost use Rattle.command_words.specs.declared.command.Command.TheVariants.{Drill as DrillOf, Extract, OverStore};
+ghost use Rattle.command_words.specs.declared.command.StoreCommand.{StoreCommand as Asked};
+ghost use Rattle.command_words.specs.declared.command.StoreCommand.TheVariants as asked;
+ghost use Rattle.command_words.specs.declared.service_words.ServeWords.{ServeWords as Numbers};
+ghost use Rattle.command_words.specs.declared.status.Status.{Status as StatusValue};
 ghost use Rattle.link_service.specs.Doors.{IsServed};
 ghost use Rattle.archiver_appliance.specs.Serving.{ServesPosts};
-ghost use Rattle.archiver_appliance.specs.Command.{IsCommand, IsFaulty};
+ghost use Rattle.command_words.specs.Command.{IsCommand, IsFaulty};
 ghost use Rattle.archiver_appliance.specs.Outside.{outside, IsCaused, IsQuiet, NoneFell};
-ghost use Rattle.archiver_appliance.specs.Status.{number_of};
+ghost use Rattle.command_words.specs.Status.{number_of};
 ghost use Rattle.archiver_appliance.specs.Run.{Obeys, Ran, IsRefused, IsReport, CanBeDone, AreDoorsQuiet, EndsWellBy};
 
-use crate::command::{Command, command_of};
-use crate::complaint::complain;
 use crate::drilling::run_drill;
-use crate::extract::extract;
 use crate::opened::{Came, serve};
-use crate::status::Status;
+use command_words::{Command, Status, command_of, complain};
 use disk_model::Disk;
 use edge_io::{Clock, Door, Sink, Source};
 use etl_rules::Config;
@@ -29,6 +26,7 @@ use link_service::Post;
 use std::alloc::Global;
 use std::sync::Wait;
 use std::thread::Threads;
+use stream_extract::extract;
 
 /// What a run came to.
 #[derive(Drop)]

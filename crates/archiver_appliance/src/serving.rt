@@ -16,15 +16,15 @@ ghost use Rattle.archiver_appliance.specs.Judging.{IsOfOpened};
 ghost use Rattle.archiver_appliance.specs.Outside.{HasNotFallen, IsCausedBy};
 ghost use Rattle.archiver_appliance.specs.Run.{EndsAs, NoDamage};
 ghost use Rattle.archiver_appliance.specs.Serving.{ArchiveStep, LeavesArchive, LeavesRoom, NobodyServed, PostsServed, ServesFrom, ServesPosts, status_of};
-ghost use Rattle.archiver_appliance.specs.declared.command.StoreCommand.TheVariants as asked;
-ghost use Rattle.archiver_appliance.specs.declared.serve_words.ServeWords.{ServeWords as Numbers};
+ghost use Rattle.command_words.specs.declared.command.StoreCommand.TheVariants as asked;
+ghost use Rattle.command_words.specs.declared.service_words.ServeWords.{ServeWords as Numbers};
 
 use crate::opened::{Came, out_of_memory};
-use crate::status::Status;
 use act_model::laws::soundness_stays;
 use archive_actors::Shared;
 use archive_core::Archive;
 use archive_core::laws::turns_lose_no_more;
+use command_words::Status;
 use disk_model::Disk;
 use edge_io::{Clock, Door};
 use link_service::{AllServed, NoGate, Post, serve_all};

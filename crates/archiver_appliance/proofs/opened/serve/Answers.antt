@@ -1,9 +1,9 @@
 use Rattle.std.proofs.Common.{refl, sym, ap, subst, Err}
 use Rattle.three_reopen.specs.Reopen.{disk_in, stores_of}
-use Rattle.archiver_appliance.specs.declared.command.Command.TheVariants.{OverStore}
-use Rattle.archiver_appliance.specs.declared.command.StoreCommand.{StoreCommand}
-use Rattle.archiver_appliance.specs.declared.command.StoreCommand.TheVariants as command
-use Rattle.archiver_appliance.specs.declared.status.Status.{Status}
+use Rattle.command_words.specs.declared.command.Command.TheVariants.{OverStore}
+use Rattle.command_words.specs.declared.command.StoreCommand.{StoreCommand}
+use Rattle.command_words.specs.declared.command.StoreCommand.TheVariants as command
+use Rattle.command_words.specs.declared.status.Status.{Status}
 use Rattle.archiver_appliance.specs.Outside.{outside}
 use Rattle.archiver_appliance.specs.Run.{Does, EndsAs}
 use Rattle.archiver_appliance.proofs.Judgements.{OneVerdict}

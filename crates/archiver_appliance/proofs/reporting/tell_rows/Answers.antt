@@ -4,7 +4,7 @@ use Rattle.three_reopen.specs.Reopen.{IsUnopened, lists_of}
 use Rattle.three_reopen.proofs.HandedBack.{open_unopened}
 use Rattle.three_reports.specs.Status.{status_text}
 use Rattle.archiver_appliance.specs.Reporting.{Tells, TellsListed}
-use Rattle.archiver_appliance.specs.declared.status.Status.{Status}
+use Rattle.command_words.specs.declared.status.Status.{Status}
 use Rattle.archiver_appliance.proofs.Checking.{told_rows}
 use Rattle.archiver_appliance.proofs.Outcomes.{tells_of}
 use Rattle.archiver_appliance.proofs.reporting.tell_rows.Goals as goal

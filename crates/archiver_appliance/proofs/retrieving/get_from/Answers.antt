@@ -9,7 +9,7 @@ use Rattle.retrieval_query.specs.declared.retrieved.Retrieved.TheVariants as got
 use Rattle.archiver_appliance.specs.Acting.{IsOpenedOn}
 use Rattle.archiver_appliance.specs.Judging.{IsDamagedFile, IsOneOf}
 use Rattle.archiver_appliance.specs.Retrieving.{EndsBy, Gets, GetsSome, HasNone, IsRetrieval}
-use Rattle.archiver_appliance.specs.Status.{number_of}
+use Rattle.command_words.specs.Status.{number_of}
 use Rattle.archiver_appliance.proofs.Acting.{acts_from, acts_given, begins, both_hold, count_given, handed, has_not_fallen, has_risen_within, nested_in, ran, rose_given, stands_at_first, unopened_back, unopened_given}
 use Rattle.archiver_appliance.proofs.Answering.{found_damaged, found_none, gets_held, none_ends, reads_headers, retrieved_caused, some_events, unknown_none}
 use Rattle.archiver_appliance.proofs.Chained.{retrieval_looking}

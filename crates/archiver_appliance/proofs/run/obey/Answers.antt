@@ -1,9 +1,10 @@
 use Rattle.std.proofs.Common.{inl, map, subst}
-use Rattle.archiver_appliance.specs.declared.command.Command.{Command}
-use Rattle.archiver_appliance.specs.declared.command.Command.TheVariants.{OverStore}
-use Rattle.archiver_appliance.specs.declared.command.StoreCommand.TheVariants as asked
-use Rattle.archiver_appliance.specs.Command.{IsCommand}
-use Rattle.archiver_appliance.proofs.Words.{move_same, ingest_same, not_both, report_same, serve_same}
+use Rattle.command_words.specs.declared.command.Command.{Command}
+use Rattle.command_words.specs.declared.command.Command.TheVariants.{OverStore}
+use Rattle.command_words.specs.declared.command.StoreCommand.TheVariants as asked
+use Rattle.command_words.specs.Command.{IsCommand}
+use Rattle.command_words.proofs.Words.{move_same, ingest_same, not_both, serve_same}
+use Rattle.archiver_appliance.proofs.Words.{report_same}
 use Rattle.archiver_appliance.proofs.run.obey.Goals as goal
 
 pub returns-in-Some-Extract-clause-report_alone : goal.returns-in-Some-Extract-clause-report_alone

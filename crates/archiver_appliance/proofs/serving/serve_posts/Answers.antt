@@ -2,7 +2,7 @@ use Rattle.std.proofs.Common.{◌≡◌, inr, sym, ◌∙◌, ap, subst}
 use Rattle.std.specs.Prelude.{None, length}
 use Rattle.disk_model.specs.Files.{Rose as DiskRose}
 use Rattle.link_service.specs.Doors.{IsServed}
-use Rattle.archiver_appliance.specs.declared.status.Status.{Status}
+use Rattle.command_words.specs.declared.status.Status.{Status}
 use Rattle.archiver_appliance.specs.Outside.{IsCausedBy}
 use Rattle.archiver_appliance.specs.Serving.{ServesFrom, ServesPosts}
 use Rattle.archiver_appliance.proofs.Acting.{nested_in, unopened_back}

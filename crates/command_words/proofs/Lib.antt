@@ -1,0 +1,3 @@
+pub mod Complaining
+pub mod Fronts
+pub mod Words
