@@ -17,8 +17,6 @@ mod end;
 mod refusal;
 mod reply;
 mod serving;
-#[cfg(test)]
-mod tests;
 
 pub use end::AdminErr;
 pub use refusal::Refusal;
