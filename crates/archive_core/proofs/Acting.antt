@@ -7,8 +7,8 @@ use Rattle.disk_model.specs.declared.disk.DiskErr.{DiskErr}
 use Rattle.disk_model.specs.declared.disk.DiskErr.TheVariants.{Fault, Memory}
 use Rattle.disk_model.proofs.Passing.{passes_none, passes_then, passes_weaker}
 use Rattle.partition_names.specs.declared.granularity.Granularity.{Granularity}
-use Rattle.tier_store.proofs.Rises.{rose_after}
-use Rattle.three_stores.specs.Seen.{granularities}
+use Rattle.durable_write.proofs.Rises.{rose_after}
+use Rattle.tier_store.specs.Seen.{granularities}
 use Rattle.act_model.specs.Changes.{made, Settles}
 use Rattle.act_model.specs.Crash.{before_it, settled_there, with_change}
 use Rattle.act_model.specs.Machine.{Machine, Change}

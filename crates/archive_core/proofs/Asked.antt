@@ -5,8 +5,8 @@ use Rattle.act_model.specs.Machine.{Machine}
 use Rattle.act_model.specs.Reply.{Reply}
 use Rattle.act_model.specs.Step.{Step, refuse_by, change_by}
 use Rattle.act_model.specs.declared.acts.Act.{Act}
-use Rattle.three_stores.specs.Pinned.{SeenAll}
-use Rattle.three_stores.specs.Seen.{granularities}
+use Rattle.tier_store.specs.Pinned.{SeenAll}
+use Rattle.tier_store.specs.Seen.{granularities}
 use Rattle.archive_core.specs.Ends.{LeavesByAct, LeavesWithin, Steps}
 use Rattle.archive_core.specs.Leaving.{Leaves, LeavesFiles, LeavesMove, LeavesPins, LeavesWanting, files_of}
 use Rattle.archive_core.specs.Parts.{Parts}

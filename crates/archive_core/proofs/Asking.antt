@@ -5,9 +5,9 @@ use Rattle.disk_model.specs.Past.{Passes}
 use Rattle.disk_model.specs.declared.disk.DiskErr.{DiskErr}
 use Rattle.disk_model.specs.declared.disk.DiskErr.TheVariants.{Fault, Memory}
 use Rattle.disk_model.proofs.Passing.{passes_then}
-use Rattle.tier_store.specs.Ends.{Done, end_of_disk, IsFailed}
-use Rattle.three_stores.specs.Change.{OnlyReads}
-use Rattle.three_stores.specs.Opening.{answer_of, end_of_answer}
+use Rattle.durable_write.specs.Ends.{Done, end_of_disk, IsFailed}
+use Rattle.tier_store.specs.Change.{OnlyReads}
+use Rattle.tier_store.specs.Opening.{answer_of, end_of_answer}
 use Rattle.act_model.specs.Details.{details_refused}
 use Rattle.act_model.specs.Machine.{Machine, Change, find_row}
 use Rattle.act_model.specs.Outcome.{Acts, all_go}

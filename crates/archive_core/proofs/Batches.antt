@@ -16,11 +16,11 @@ use Rattle.series_model.specs.declared.sample.Sample.{Sample}
 use Rattle.series_model.proofs.OverLemmas.{end_of-over}
 use Rattle.series_model.proofs.RisingLists.{end_from-append, end_from-ge, RisesFrom-front, RisesFrom-rest, RisesFrom-lower}
 use Rattle.store_manifest.specs.Manifest.{ManifestState}
-use Rattle.tier_store.specs.Flush.{CanFlush, IsOfRow, IsSampleOf, bytes_in}
-use Rattle.tier_store.specs.Held.{samples_of}
-use Rattle.three_stores.specs.Change.{Has}
-use Rattle.three_stores.specs.Seen.{Seen}
-use Rattle.three_stores.specs.Stores.{Stores}
+use Rattle.durable_write.specs.Flush.{CanFlush, IsOfRow, IsSampleOf, bytes_in}
+use Rattle.durable_write.specs.Held.{samples_of}
+use Rattle.tier_store.specs.Change.{Has}
+use Rattle.tier_store.specs.Seen.{Seen}
+use Rattle.tier_store.specs.Stores.{Stores}
 use Rattle.act_model.specs.Changes.{each, changed, made, of_row}
 use Rattle.act_model.specs.Crash.{DurableRow, kept_of, kept}
 use Rattle.act_model.specs.Event.{IsEvent}

@@ -13,18 +13,18 @@ use Rattle.pv_catalog.specs.declared.row.Row.{Row}
 use Rattle.pv_catalog.proofs.Standing.{keeps_same}
 use Rattle.series_model.specs.declared.batch.RowSamples.{RowSamples}
 use Rattle.store_manifest.specs.Manifest.{ManifestState}
-use Rattle.tier_store.specs.Flush.{EndsRow, PlacesRise, put_all}
-use Rattle.tier_store.specs.Held.{Filed, Held, AreFiled, IsListed}
-use Rattle.tier_store.specs.Plan.{of_row}
-use Rattle.tier_store.proofs.Revival.{listed_stays, put_all_new}
-use Rattle.three_stores.specs.Change.{IsKnown, Registers, Switches}
-use Rattle.three_stores.specs.Moving.{GoesBeside, parts_in}
-use Rattle.three_stores.specs.Revival.{FlushesOver}
-use Rattle.three_stores.specs.Seen.{granularities}
-use Rattle.three_stores.specs.Stores.{Stores, list_at, tier}
-use Rattle.three_stores.specs.declared.limbo.Retired.{Retired}
-use Rattle.three_stores.proofs.Places.{granularity_at, list_other, manifest_at, manifest_of}
-use Rattle.three_stores.proofs.Showing.{registers_on, switches_on}
+use Rattle.durable_write.specs.Flush.{EndsRow, PlacesRise, put_all}
+use Rattle.durable_write.specs.Held.{Filed, Held, AreFiled, IsListed}
+use Rattle.durable_write.specs.Plan.{of_row}
+use Rattle.durable_write.proofs.Revival.{listed_stays, put_all_new}
+use Rattle.tier_store.specs.Change.{IsKnown, Registers, Switches}
+use Rattle.tier_store.specs.Moving.{GoesBeside, parts_in}
+use Rattle.tier_store.specs.Revival.{FlushesOver}
+use Rattle.tier_store.specs.Seen.{granularities}
+use Rattle.tier_store.specs.Stores.{Stores, list_at, tier}
+use Rattle.tier_store.specs.declared.limbo.Retired.{Retired}
+use Rattle.tier_store.proofs.Places.{granularity_at, list_other, manifest_at, manifest_of}
+use Rattle.tier_store.proofs.Showing.{registers_on, switches_on}
 use Rattle.archive_core.proofs.FlushOver.{IsFiledAt}
 use Rattle.archive_core.proofs.Growth.{rows_beside}
 use Rattle.archive_core.proofs.PartsGrow.{parts_grow}

@@ -6,13 +6,13 @@ use Rattle.std.specs.Prelude.{IsTrue}
 use Rattle.disk_model.specs.Past.{Passes}
 use Rattle.disk_model.specs.declared.disk.DiskErr.{DiskErr}
 use Rattle.disk_model.proofs.Passing.{passes_weaker}
-use Rattle.tier_store.specs.Ends.{End, Failed}
-use Rattle.three_stores.specs.Change.{Call, Acts, Has, IsEither, HoldsChange, EndsFrom}
+use Rattle.durable_write.specs.Ends.{End, Failed}
+use Rattle.tier_store.specs.Change.{Call, Acts, Has, IsEither, HoldsChange, EndsFrom}
 use Rattle.pinned_pieces.specs.Pieces.{PinOf}
-use Rattle.three_stores.specs.Pinned.{beside}
-use Rattle.three_stores.specs.Seen.{Seen, granularities}
-use Rattle.three_stores.specs.Stores.{Stores}
-use Rattle.three_stores.specs.declared.limbo.Retired.{Retired}
+use Rattle.tier_store.specs.Pinned.{beside}
+use Rattle.tier_store.specs.Seen.{Seen, granularities}
+use Rattle.tier_store.specs.Stores.{Stores}
+use Rattle.tier_store.specs.declared.limbo.Retired.{Retired}
 use Rattle.act_model.specs.Changes.{made}
 use Rattle.act_model.specs.Machine.{Machine, Change}
 use Rattle.archive_core.specs.Ends.{HoldsChanged, ChangesTo}

@@ -21,26 +21,26 @@ use Rattle.running_moves.specs.Table.{at}
 use Rattle.running_moves.specs.declared.table.Running.{Running}
 use Rattle.store_manifest.specs.Entries.{comes_before}
 use Rattle.store_manifest.specs.Manifest.{ManifestState}
-use Rattle.tier_store.specs.Ends.{IsFailed, end_of_disk}
-use Rattle.tier_store.specs.Flush.{PlacesRise}
-use Rattle.tier_store.specs.Held.{Filed, IsListed, file_of, filed_at}
-use Rattle.tier_store.specs.Held as held_files
-use Rattle.tier_store.specs.Plan.{of_row}
-use Rattle.tier_store.specs.Stored.{AreHeld}
-use Rattle.three_stores.specs.Change.{Has, HoldsChange, IsEither, IsOpen}
-use Rattle.three_stores.specs.Copying.{CopiesAmong, CopiesBeside, LeavesOthers, MovesOn, NoneOfMove, SaysCopied, StillCopies}
-use Rattle.three_stores.specs.Given.{ActsGiven}
-use Rattle.three_stores.specs.Limbo.{LimboStands, staying}
-use Rattle.three_stores.specs.Moving.{GoesBeside, names_of, parts_in}
-use Rattle.three_stores.specs.Pinned.{KeepsShown, SeenAll, beside}
-use Rattle.three_stores.specs.Revival.{AreWhole, KeepsWhole}
-use Rattle.three_stores.specs.Seen.{Seen, granularities}
-use Rattle.three_stores.specs.Stores.{Stores, list_at, tier, with_list}
-use Rattle.three_stores.specs.declared.copying.CopyEnd.{CopyEnd}
-use Rattle.three_stores.specs.declared.copying.CopyEnd.TheVariants as ends
-use Rattle.three_stores.specs.declared.limbo.Retired.{Retired}
-use Rattle.three_stores.proofs.LeavingNames.{later_names, nothing_leaves}
-use Rattle.three_stores.proofs.Places.{granularity_at, list_other, list_set, manifest_at}
+use Rattle.durable_write.specs.Ends.{IsFailed, end_of_disk}
+use Rattle.durable_write.specs.Flush.{PlacesRise}
+use Rattle.durable_write.specs.Held.{Filed, IsListed, file_of, filed_at}
+use Rattle.durable_write.specs.Held as held_files
+use Rattle.durable_write.specs.Plan.{of_row}
+use Rattle.durable_write.specs.Stored.{AreHeld}
+use Rattle.tier_store.specs.Change.{Has, HoldsChange, IsEither, IsOpen}
+use Rattle.tier_store.specs.Copying.{CopiesAmong, CopiesBeside, LeavesOthers, MovesOn, NoneOfMove, SaysCopied, StillCopies}
+use Rattle.tier_store.specs.Given.{ActsGiven}
+use Rattle.tier_store.specs.Limbo.{LimboStands, staying}
+use Rattle.tier_store.specs.Moving.{GoesBeside, names_of, parts_in}
+use Rattle.tier_store.specs.Pinned.{KeepsShown, SeenAll, beside}
+use Rattle.tier_store.specs.Revival.{AreWhole, KeepsWhole}
+use Rattle.tier_store.specs.Seen.{Seen, granularities}
+use Rattle.tier_store.specs.Stores.{Stores, list_at, tier, with_list}
+use Rattle.tier_store.specs.declared.copying.CopyEnd.{CopyEnd}
+use Rattle.tier_store.specs.declared.copying.CopyEnd.TheVariants as ends
+use Rattle.tier_store.specs.declared.limbo.Retired.{Retired}
+use Rattle.tier_store.proofs.LeavingNames.{later_names, nothing_leaves}
+use Rattle.tier_store.proofs.Places.{granularity_at, list_other, list_set, manifest_at}
 use Rattle.act_model.specs.Machine.{Machine, MoveState, Stage, Copies, HasCopied, HasPublished}
 use Rattle.act_model.specs.MoveBegin.{with_move}
 use Rattle.act_model.specs.MoveStep.{ends_move, moved, without_move}

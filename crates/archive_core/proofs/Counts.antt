@@ -4,7 +4,7 @@ use Rattle.std.specs.List.{AllByRecursion, flat_map}
 use Rattle.std.specs.Prelude.{nat_eq, filter}
 use Rattle.std.proofs.lemmas.Bool.Decides.{nat_tests}
 use Rattle.series_model.specs.declared.batch.RowSamples.{RowSamples}
-use Rattle.tier_store.specs.Held.{Filed, samples_of, count_of}
+use Rattle.durable_write.specs.Held.{Filed, samples_of, count_of}
 use Rattle.act_model.specs.Changes.{of_row}
 use Rattle.act_model.specs.Flush.{count_in}
 use Rattle.archive_core.specs.Stands.{IsPartOf}

@@ -3,9 +3,9 @@ use Rattle.std.proofs.Common.{◌≡◌, ◌⊎◌, inl, inr, Bool, true, [], sy
 use Rattle.std.specs.Prelude.{IsTrue}
 use Rattle.disk_model.specs.Files.{Files}
 use Rattle.disk_model.specs.Past.{MayLeave}
-use Rattle.three_stores.specs.Seen.{granularities}
-use Rattle.three_stores.specs.Change.{Has}
-use Rattle.three_stores.proofs.Left.{has_left, open_left}
+use Rattle.tier_store.specs.Seen.{granularities}
+use Rattle.tier_store.specs.Change.{Has}
+use Rattle.tier_store.proofs.Left.{has_left, open_left}
 use Rattle.act_model.specs.Machine.{Machine}
 use Rattle.act_model.specs.Changes.{made}
 use Rattle.act_model.specs.Crash.{as_it_is, with_doubt}

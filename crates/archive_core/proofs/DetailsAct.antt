@@ -9,16 +9,16 @@ use Rattle.pv_catalog.specs.declared.row.Row.{Row}
 use Rattle.series_model.specs.Series.{end_of}
 use Rattle.series_model.specs.declared.sample.Sample.{Sample}
 use Rattle.series_model.proofs.RisingLists.{since_all}
-use Rattle.tier_store.specs.Ends.{End, IsFailed}
-use Rattle.tier_store.specs.Held.{Filed}
-use Rattle.tier_store.specs.Plan.{of_row}
-use Rattle.three_stores.specs.Change.{Has}
-use Rattle.three_stores.specs.Details.{AreCounted, IsDescribed, SaysDescribed, none_has, is_described}
-use Rattle.three_stores.specs.Opening.{end_of_answer}
-use Rattle.three_stores.specs.Pinned.{beside}
-use Rattle.three_stores.specs.Seen.{Seen, granularities}
-use Rattle.three_stores.specs.Settling.{SettlesAndReads, ReadsOf}
-use Rattle.three_stores.specs.Stores.{Stores, list_at, samples_in}
+use Rattle.durable_write.specs.Ends.{End, IsFailed}
+use Rattle.durable_write.specs.Held.{Filed}
+use Rattle.durable_write.specs.Plan.{of_row}
+use Rattle.tier_store.specs.Change.{Has}
+use Rattle.tier_store.specs.Details.{AreCounted, IsDescribed, SaysDescribed, none_has, is_described}
+use Rattle.tier_store.specs.Opening.{end_of_answer}
+use Rattle.tier_store.specs.Pinned.{beside}
+use Rattle.tier_store.specs.Seen.{Seen, granularities}
+use Rattle.tier_store.specs.Settling.{SettlesAndReads, ReadsOf}
+use Rattle.tier_store.specs.Stores.{Stores, list_at, samples_in}
 use Rattle.act_model.specs.declared.acts.Answer.{Answer}
 use Rattle.act_model.specs.declared.acts.Answer.TheVariants as answer
 use Rattle.act_model.specs.declared.details.Details.{Details}

@@ -7,9 +7,9 @@ use Rattle.event_types.specs.declared.about.About.{About}
 use Rattle.pv_catalog.specs.Catalogue.{Refuses}
 use Rattle.pv_catalog.specs.declared.error.RegisterErr.{RegisterErr}
 use Rattle.pv_catalog.specs.declared.error.RegisterErr.TheVariants.{Disk}
-use Rattle.tier_store.specs.Ends.{end_of_disk, IsFailed}
-use Rattle.three_stores.specs.Change.{OnlyReads}
-use Rattle.three_stores.specs.Seen.{granularities}
+use Rattle.durable_write.specs.Ends.{end_of_disk, IsFailed}
+use Rattle.tier_store.specs.Change.{OnlyReads}
+use Rattle.tier_store.specs.Seen.{granularities}
 use Rattle.act_model.specs.declared.acts.Answer.TheVariants.{CatalogueFull, KeyTaken, Memory, NameTaken, Registered}
 use Rattle.act_model.specs.Machine.{Machine, Change, AddsRow, find_row, with_key}
 use Rattle.act_model.specs.Register.{RegisterStep, Registers, register_refused}

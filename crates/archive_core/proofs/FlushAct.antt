@@ -5,9 +5,9 @@ use Rattle.append_buffer.specs.Tails as tails
 use Rattle.disk_model.specs.Past.{Passes}
 use Rattle.disk_model.specs.declared.disk.DiskErr.{DiskErr}
 use Rattle.series_model.specs.declared.batch.RowSamples.{RowSamples}
-use Rattle.tier_store.specs.Ends.{end_of_disk, IsFailed}
-use Rattle.three_stores.specs.Change.{OnlyReads}
-use Rattle.three_stores.specs.Seen.{granularities}
+use Rattle.durable_write.specs.Ends.{end_of_disk, IsFailed}
+use Rattle.tier_store.specs.Change.{OnlyReads}
+use Rattle.tier_store.specs.Seen.{granularities}
 use Rattle.act_model.specs.Changes.{made}
 use Rattle.act_model.specs.Flush.{FlushStep, Flushes, batch_of, count_in}
 use Rattle.act_model.specs.Machine.{Machine, Change, Appends, held_bytes}

@@ -9,17 +9,17 @@ use Rattle.series_model.specs.Series.{RisesFrom, end_of}
 use Rattle.series_model.specs.declared.batch.RowSamples.{RowSamples}
 use Rattle.series_model.specs.declared.sample.Sample.{Sample}
 use Rattle.store_manifest.specs.Manifest.{ManifestState}
-use Rattle.tier_store.specs.Flush.{HasHeaderOf, file_at, put_all}
-use Rattle.tier_store.specs.Held.{Filed, Held, AreFiled, IsFiled, IsListed, filed_at}
-use Rattle.tier_store.specs.Plan.{of_row}
-use Rattle.tier_store.proofs.Revival.{put_all_new}
-use Rattle.three_stores.specs.Change.{Has, IsKnownAt}
-use Rattle.three_stores.specs.Pinned.{beside}
-use Rattle.three_stores.specs.Revival.{AreWhole, FlushesOver}
-use Rattle.three_stores.specs.Seen.{Seen, granularities}
-use Rattle.three_stores.specs.Stores.{Stores, samples_in, tier}
-use Rattle.three_stores.specs.declared.limbo.Retired.{Retired}
-use Rattle.three_stores.proofs.Places.{granularity_at, manifest_at}
+use Rattle.durable_write.specs.Flush.{HasHeaderOf, file_at, put_all}
+use Rattle.durable_write.specs.Held.{Filed, Held, AreFiled, IsFiled, IsListed, filed_at}
+use Rattle.durable_write.specs.Plan.{of_row}
+use Rattle.durable_write.proofs.Revival.{put_all_new}
+use Rattle.tier_store.specs.Change.{Has, IsKnownAt}
+use Rattle.tier_store.specs.Pinned.{beside}
+use Rattle.tier_store.specs.Revival.{AreWhole, FlushesOver}
+use Rattle.tier_store.specs.Seen.{Seen, granularities}
+use Rattle.tier_store.specs.Stores.{Stores, samples_in, tier}
+use Rattle.tier_store.specs.declared.limbo.Retired.{Retired}
+use Rattle.tier_store.proofs.Places.{granularity_at, manifest_at}
 use Rattle.act_model.specs.Changes.{of_row as own_of}
 use Rattle.act_model.specs.Machine.{Machine, Appends}
 use Rattle.act_model.specs.Rows.{RowState}

@@ -10,18 +10,18 @@ use Rattle.pv_catalog.specs.Catalogue.{CatalogueState}
 use Rattle.pv_catalog.specs.declared.row.Row.{Row}
 use Rattle.series_model.specs.declared.batch.RowSamples.{RowSamples}
 use Rattle.store_manifest.specs.Manifest.{ManifestState}
-use Rattle.tier_store.specs.Flush.{PlacesRise, put_all}
-use Rattle.tier_store.specs.Held.{Filed, Held, AreFiled, IsListed, entry_of, samples_of}
-use Rattle.tier_store.specs.Stored.{KeysDiffer}
-use Rattle.tier_store.proofs.Listed.{all_put_all, rise_put_all}
-use Rattle.tier_store.proofs.Revival.{put_all_new}
-use Rattle.three_stores.specs.Change.{Has, IsKnown, IsKnownAt}
-use Rattle.three_stores.specs.Pinned.{beside}
-use Rattle.three_stores.specs.Revival.{AreWhole, FlushesOver}
-use Rattle.three_stores.specs.Seen.{Seen, granularities}
-use Rattle.three_stores.specs.Stores.{Stores, tier, with_list}
-use Rattle.three_stores.specs.declared.limbo.Retired.{Retired}
-use Rattle.three_stores.proofs.Places.{granularity_at, manifest_at, manifest_of, same_granularities, set_cases, tier_other}
+use Rattle.durable_write.specs.Flush.{PlacesRise, put_all}
+use Rattle.durable_write.specs.Held.{Filed, Held, AreFiled, IsListed, entry_of, samples_of}
+use Rattle.durable_write.specs.Stored.{KeysDiffer}
+use Rattle.durable_write.proofs.Listed.{all_put_all, rise_put_all}
+use Rattle.durable_write.proofs.Revival.{put_all_new}
+use Rattle.tier_store.specs.Change.{Has, IsKnown, IsKnownAt}
+use Rattle.tier_store.specs.Pinned.{beside}
+use Rattle.tier_store.specs.Revival.{AreWhole, FlushesOver}
+use Rattle.tier_store.specs.Seen.{Seen, granularities}
+use Rattle.tier_store.specs.Stores.{Stores, tier, with_list}
+use Rattle.tier_store.specs.declared.limbo.Retired.{Retired}
+use Rattle.tier_store.proofs.Places.{granularity_at, manifest_at, manifest_of, same_granularities, set_cases, tier_other}
 use Rattle.act_model.specs.Changes.{changed, made, of_row}
 use Rattle.act_model.specs.Crash.{kept_of}
 use Rattle.act_model.specs.Flush.{batch_of}

@@ -13,19 +13,19 @@ use Rattle.disk_model.specs.declared.disk.DiskErr.TheVariants.{Fault, Memory}
 use Rattle.partition_names.specs.declared.granularity.Granularity.{Granularity}
 use Rattle.pv_catalog.specs.declared.row.Row.{Row}
 use Rattle.series_model.specs.declared.batch.RowSamples.{RowSamples}
-use Rattle.tier_store.specs.Ends.{End, Done, Failed, Spent, end_of_disk}
+use Rattle.durable_write.specs.Ends.{End, Done, Failed, Spent, end_of_disk}
 use Rattle.store_manifest.specs.Manifest.{ManifestState}
-use Rattle.tier_store.specs.Flush.{CanFlush, put_all}
-use Rattle.tier_store.specs.Held.{Filed, AreFiled, IsListed, count_of}
-use Rattle.three_stores.specs.Change.{EndsFrom, Has, HoldsChange, IsEither}
-use Rattle.three_stores.specs.Given.{ActsGiven}
-use Rattle.three_stores.specs.Pinned.{beside}
-use Rattle.three_stores.specs.Revival.{AreWhole, CountsOver, FlushesOver, flushing_over}
-use Rattle.three_stores.specs.Seen.{Seen, granularities}
-use Rattle.three_stores.specs.Stores.{Stores, tier}
-use Rattle.three_stores.specs.declared.limbo.Retired.{Retired}
-use Rattle.three_stores.proofs.Left.{has_left}
-use Rattle.three_stores.proofs.Places.{manifest_at, manifest_of}
+use Rattle.durable_write.specs.Flush.{CanFlush, put_all}
+use Rattle.durable_write.specs.Held.{Filed, AreFiled, IsListed, count_of}
+use Rattle.tier_store.specs.Change.{EndsFrom, Has, HoldsChange, IsEither}
+use Rattle.tier_store.specs.Given.{ActsGiven}
+use Rattle.tier_store.specs.Pinned.{beside}
+use Rattle.tier_store.specs.Revival.{AreWhole, CountsOver, FlushesOver, flushing_over}
+use Rattle.tier_store.specs.Seen.{Seen, granularities}
+use Rattle.tier_store.specs.Stores.{Stores, tier}
+use Rattle.tier_store.specs.declared.limbo.Retired.{Retired}
+use Rattle.tier_store.proofs.Left.{has_left}
+use Rattle.tier_store.proofs.Places.{manifest_at, manifest_of}
 use Rattle.act_model.specs.Changes.{made}
 use Rattle.act_model.specs.Flush.{batch_of, count_in}
 use Rattle.act_model.specs.Machine.{Machine, Change, Appends}

@@ -16,14 +16,14 @@ use Rattle.series_model.specs.Series.{RisesFrom}
 use Rattle.series_model.specs.declared.sample.Sample.{Sample}
 use Rattle.series_model.proofs.RisingLists.{RisesFrom-front}
 use Rattle.store_manifest.specs.Entries.{Place, comes_before, put}
-use Rattle.tier_store.specs.Flush.{EndsRow, PlacesRise, file_at, put_all}
-use Rattle.tier_store.specs.Held.{Filed, IsFiled, IsListed, filed_at, samples_of}
-use Rattle.tier_store.specs.Plan.{of_row}
-use Rattle.tier_store.specs.Revival.{AreUnlisted}
-use Rattle.tier_store.proofs.Listed.{all_put, found, rise_filter, rise_put_all}
-use Rattle.tier_store.proofs.PutFile.{later, put_other, put_own, sooner}
-use Rattle.tier_store.proofs.Revival.{listed_stays, one_of_place}
-use Rattle.tier_store.proofs.Steps.{of_files}
+use Rattle.durable_write.specs.Flush.{EndsRow, PlacesRise, file_at, put_all}
+use Rattle.durable_write.specs.Held.{Filed, IsFiled, IsListed, filed_at, samples_of}
+use Rattle.durable_write.specs.Plan.{of_row}
+use Rattle.durable_write.specs.Revival.{AreUnlisted}
+use Rattle.durable_write.proofs.Listed.{all_put, found, rise_filter, rise_put_all}
+use Rattle.durable_write.proofs.PutFile.{later, put_other, put_own, sooner}
+use Rattle.durable_write.proofs.Revival.{listed_stays, one_of_place}
+use Rattle.durable_write.proofs.Steps.{of_files}
 use Rattle.archive_core.specs.Growing.{FilesGoOn, HasMore}
 
 abbrev Comes : Filed → Filed → Type 0

@@ -14,19 +14,19 @@ use Rattle.pv_catalog.specs.declared.row.Row.{Row}
 use Rattle.pv_catalog.proofs.Standing.{keeps_same}
 use Rattle.series_model.specs.Series.{end_of}
 use Rattle.store_manifest.specs.declared.entry.Entry.{Entry}
-use Rattle.tier_store.specs.Held.{Held, Listing, IsListed, IsListedTo, ListsStill, file_of, listing_of}
-use Rattle.tier_store.proofs.Growing.{file_grows}
-use Rattle.tier_store.proofs.There.{contains_map}
-use Rattle.tier_store.proofs.Three.{same_cases}
-use Rattle.tier_store.specs.Plan.{of_row}
-use Rattle.three_stores.specs.Change.{IsKnown, Registers, Switches}
-use Rattle.three_stores.specs.Limbo.{IsListedName}
-use Rattle.three_stores.specs.Moving.{GoesBeside, parts_in}
-use Rattle.three_stores.specs.Seen.{Seen}
-use Rattle.three_stores.specs.Stores.{Stores, list_at, samples_in, tier, with_list, with_rows}
-use Rattle.three_stores.proofs.BesideMoves.{beside_itself}
-use Rattle.three_stores.proofs.Places.{list_other, manifest_at, tier_other}
-use Rattle.three_stores.proofs.Showing.{known_to, registers_on, switches_on}
+use Rattle.durable_write.specs.Held.{Held, Listing, IsListed, IsListedTo, ListsStill, file_of, listing_of}
+use Rattle.durable_write.proofs.Growing.{file_grows}
+use Rattle.durable_write.proofs.There.{contains_map}
+use Rattle.durable_write.proofs.Three.{same_cases}
+use Rattle.durable_write.specs.Plan.{of_row}
+use Rattle.tier_store.specs.Change.{IsKnown, Registers, Switches}
+use Rattle.tier_store.specs.Limbo.{IsListedName}
+use Rattle.tier_store.specs.Moving.{GoesBeside, parts_in}
+use Rattle.tier_store.specs.Seen.{Seen}
+use Rattle.tier_store.specs.Stores.{Stores, list_at, samples_in, tier, with_list, with_rows}
+use Rattle.tier_store.proofs.BesideMoves.{beside_itself}
+use Rattle.tier_store.proofs.Places.{list_other, manifest_at, tier_other}
+use Rattle.tier_store.proofs.Showing.{known_to, registers_on, switches_on}
 use Rattle.act_model.specs.Machine.{MoveState}
 use Rattle.archive_core.specs.Growing.{FilesGoOn, HasRunning}
 use Rattle.archive_core.specs.Stands.{StoresGrow}

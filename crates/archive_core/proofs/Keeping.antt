@@ -1,9 +1,9 @@
 -- What a call of the stores keeps that leaves limbo as it is.
 use Rattle.std.proofs.Common.{Bool}
-use Rattle.three_stores.specs.Moving.{LeavesLater}
-use Rattle.three_stores.specs.Pinned.{SeenAll, KeepsShown}
-use Rattle.three_stores.specs.Revival.{KeepsWhole}
-use Rattle.three_stores.proofs.LeavingNames.{nothing_leaves}
+use Rattle.tier_store.specs.Moving.{LeavesLater}
+use Rattle.tier_store.specs.Pinned.{SeenAll, KeepsShown}
+use Rattle.tier_store.specs.Revival.{KeepsWhole}
+use Rattle.tier_store.proofs.LeavingNames.{nothing_leaves}
 
 -- whatever was shown is so still, and limbo stays whole
 pub record KeepsLimbo (tells : Bool) (old new : SeenAll) : Type 0 where

@@ -7,26 +7,26 @@ use Rattle.disk_model.specs.Files.{Name}
 use Rattle.partition_names.specs.declared.granularity.Granularity.{Granularity}
 use Rattle.pv_catalog.specs.declared.row.Row.{Row}
 use Rattle.store_manifest.specs.declared.entry.Entry.{Entry}
-use Rattle.tier_store.specs.Ahead.{without_all}
-use Rattle.tier_store.specs.Flush.{PlacesRise}
-use Rattle.tier_store.specs.Held.{Filed, IsListed, file_of, filed_at}
-use Rattle.tier_store.specs.Plan.{of_row}
-use Rattle.tier_store.specs.Stored.{KeysDiffer}
-use Rattle.tier_store.proofs.Listed.{before_apart}
-use Rattle.tier_store.proofs.Names.{same_place}
-use Rattle.tier_store.proofs.PutFile.{Comes}
-use Rattle.tier_store.proofs.Retiring.{all_without_all}
-use Rattle.tier_store.proofs.There.{contains_map}
-use Rattle.tier_store.proofs.Three.{same_cases}
-use Rattle.three_stores.specs.Change.{IsKnown}
-use Rattle.three_stores.specs.Limbo.{IsListedName}
-use Rattle.three_stores.specs.Retiring.{oldest, without_oldest, retired_of, Leaves}
-use Rattle.three_stores.specs.Seen.{Seen}
-use Rattle.three_stores.specs.Stores.{Stores, list_at}
-use Rattle.three_stores.specs.declared.limbo.Retired.{Retired}
-use Rattle.three_stores.proofs.Dropped.{from_oldest, stays_or}
-use Rattle.three_stores.proofs.Places.{list_other, list_set, manifest_at, within_three}
-use Rattle.three_stores.proofs.Sparing.{listed_name}
+use Rattle.durable_write.specs.Ahead.{without_all}
+use Rattle.durable_write.specs.Flush.{PlacesRise}
+use Rattle.durable_write.specs.Held.{Filed, IsListed, file_of, filed_at}
+use Rattle.durable_write.specs.Plan.{of_row}
+use Rattle.durable_write.specs.Stored.{KeysDiffer}
+use Rattle.durable_write.proofs.Listed.{before_apart}
+use Rattle.durable_write.proofs.Names.{same_place}
+use Rattle.durable_write.proofs.PutFile.{Comes}
+use Rattle.durable_write.proofs.Retiring.{all_without_all}
+use Rattle.durable_write.proofs.There.{contains_map}
+use Rattle.durable_write.proofs.Three.{same_cases}
+use Rattle.tier_store.specs.Change.{IsKnown}
+use Rattle.tier_store.specs.Limbo.{IsListedName}
+use Rattle.tier_store.specs.Retiring.{oldest, without_oldest, retired_of, Leaves}
+use Rattle.tier_store.specs.Seen.{Seen}
+use Rattle.tier_store.specs.Stores.{Stores, list_at}
+use Rattle.tier_store.specs.declared.limbo.Retired.{Retired}
+use Rattle.tier_store.proofs.Dropped.{from_oldest, stays_or}
+use Rattle.tier_store.proofs.Places.{list_other, list_set, manifest_at, within_three}
+use Rattle.tier_store.proofs.Sparing.{listed_name}
 use Rattle.archive_core.specs.LimboTies.{NamesDiffer}
 use Rattle.archive_core.proofs.Pieces.{rise_filter}
 use Rattle.archive_core.proofs.SameNames.{contains_cases, of_all}

@@ -11,18 +11,18 @@ use Rattle.pv_catalog.specs.declared.row.Row.{Row}
 use Rattle.store_files.specs.Fronts.{Begins}
 use Rattle.store_manifest.specs.Manifest.{ManifestState}
 use Rattle.store_manifest.specs.declared.entry.Entry.{Entry}
-use Rattle.tier_store.specs.Held.{Filed, IsFiled, IsIn, file_of}
-use Rattle.tier_store.specs.Held as held
-use Rattle.tier_store.specs.Plan.{of_row}
-use Rattle.tier_store.proofs.Ahead.{contains_entry}
-use Rattle.three_stores.specs.Change.{Has, IsKnownAt}
-use Rattle.three_stores.specs.Pinned.{beside, Shows}
-use Rattle.three_stores.specs.Pinning.{placed_at, state_of}
-use Rattle.three_stores.specs.Retiring.{retired_of}
-use Rattle.three_stores.specs.Seen.{Seen}
-use Rattle.three_stores.specs.Stores.{Stores, list_at, tier}
-use Rattle.three_stores.specs.declared.limbo.Retired.{Retired}
-use Rattle.three_stores.proofs.Places.{manifest_at, granularity_at}
+use Rattle.durable_write.specs.Held.{Filed, IsFiled, IsIn, file_of}
+use Rattle.durable_write.specs.Held as held
+use Rattle.durable_write.specs.Plan.{of_row}
+use Rattle.durable_write.proofs.Ahead.{contains_entry}
+use Rattle.tier_store.specs.Change.{Has, IsKnownAt}
+use Rattle.tier_store.specs.Pinned.{beside, Shows}
+use Rattle.tier_store.specs.Pinning.{placed_at, state_of}
+use Rattle.tier_store.specs.Retiring.{retired_of}
+use Rattle.tier_store.specs.Seen.{Seen}
+use Rattle.tier_store.specs.Stores.{Stores, list_at, tier}
+use Rattle.tier_store.specs.declared.limbo.Retired.{Retired}
+use Rattle.tier_store.proofs.Places.{manifest_at, granularity_at}
 use Rattle.act_model.specs.Crash.{kept_of}
 use Rattle.act_model.specs.Limbo.{FileState}
 use Rattle.act_model.specs.Machine.{Machine}

@@ -4,13 +4,13 @@ use Rattle.std.specs.List.{AllByRecursion}
 use Rattle.std.specs.Prelude.{Contains, IsTrue}
 use Rattle.pv_catalog.specs.Rows.{KeepsRows}
 use Rattle.pv_catalog.proofs.Standing.{keeps_same}
-use Rattle.three_stores.specs.Change.{Has, IsKnown}
-use Rattle.three_stores.specs.Limbo.{LimboStands, IsListedName}
-use Rattle.three_stores.specs.Pinned.{beside, KeepsShown}
-use Rattle.three_stores.specs.Seen.{Seen, granularities}
-use Rattle.three_stores.specs.Stores.{Stores}
-use Rattle.three_stores.specs.declared.limbo.Retired.{Retired}
-use Rattle.three_stores.proofs.Staying.{limbo_kept}
+use Rattle.tier_store.specs.Change.{Has, IsKnown}
+use Rattle.tier_store.specs.Limbo.{LimboStands, IsListedName}
+use Rattle.tier_store.specs.Pinned.{beside, KeepsShown}
+use Rattle.tier_store.specs.Seen.{Seen, granularities}
+use Rattle.tier_store.specs.Stores.{Stores}
+use Rattle.tier_store.specs.declared.limbo.Retired.{Retired}
+use Rattle.tier_store.proofs.Staying.{limbo_kept}
 use Rattle.act_model.specs.Changes.{each, made}
 use Rattle.act_model.specs.Crash.{DurableRow, kept_of}
 use Rattle.act_model.specs.Limbo.{FileState, unlisted}

@@ -12,16 +12,16 @@ use Rattle.partition_names.proofs.PartLemmas.{one_part, within}
 use Rattle.pv_catalog.specs.declared.row.Row.{Row}
 use Rattle.series_model.specs.declared.sample.Sample.{Sample}
 use Rattle.store_manifest.specs.declared.entry.Entry.{Entry}
-use Rattle.tier_store.specs.Held.{Filed, IsFiled}
-use Rattle.tier_store.specs.Plan.{of_row}
-use Rattle.tier_store.proofs.Ahead.{contains_entry}
-use Rattle.tier_store.proofs.There.{contains_map}
-use Rattle.three_stores.specs.Change.{Has}
-use Rattle.three_stores.specs.Limbo.{ListsPlace}
-use Rattle.three_stores.specs.Seen.{Seen, granularities}
-use Rattle.three_stores.specs.Stores.{Stores, list_at}
-use Rattle.three_stores.specs.declared.limbo.Retired.{Retired}
-use Rattle.three_stores.proofs.Places.{manifest_at}
+use Rattle.durable_write.specs.Held.{Filed, IsFiled}
+use Rattle.durable_write.specs.Plan.{of_row}
+use Rattle.durable_write.proofs.Ahead.{contains_entry}
+use Rattle.durable_write.proofs.There.{contains_map}
+use Rattle.tier_store.specs.Change.{Has}
+use Rattle.tier_store.specs.Limbo.{ListsPlace}
+use Rattle.tier_store.specs.Seen.{Seen, granularities}
+use Rattle.tier_store.specs.Stores.{Stores, list_at}
+use Rattle.tier_store.specs.declared.limbo.Retired.{Retired}
+use Rattle.tier_store.proofs.Places.{manifest_at}
 use Rattle.act_model.specs.Limbo.{FileState}
 use Rattle.act_model.specs.Machine.{Machine}
 use Rattle.act_model.specs.Rows.{RowState, tier, window, is_empty}

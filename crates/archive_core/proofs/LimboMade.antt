@@ -6,13 +6,13 @@ use Rattle.std.proofs.lemmas.Option.{same_Some}
 use Rattle.disk_model.specs.Files.{Name}
 use Rattle.partition_names.specs.declared.part.Part.{Part}
 use Rattle.partition_names.specs.Part.{IsPart}
-use Rattle.three_stores.specs.Change.{Has}
-use Rattle.three_stores.specs.Limbo.{IsOfPlace, IsListedName, LimboStands}
-use Rattle.three_stores.specs.Pinned.{SeenAll, beside}
-use Rattle.three_stores.specs.Seen.{Seen, granularities}
-use Rattle.three_stores.specs.Stores.{Stores}
-use Rattle.three_stores.specs.declared.limbo.Retired.{Retired}
-use Rattle.three_stores.proofs.Staying.{listed_place, place_listed}
+use Rattle.tier_store.specs.Change.{Has}
+use Rattle.tier_store.specs.Limbo.{IsOfPlace, IsListedName, LimboStands}
+use Rattle.tier_store.specs.Pinned.{SeenAll, beside}
+use Rattle.tier_store.specs.Seen.{Seen, granularities}
+use Rattle.tier_store.specs.Stores.{Stores}
+use Rattle.tier_store.specs.declared.limbo.Retired.{Retired}
+use Rattle.tier_store.proofs.Staying.{listed_place, place_listed}
 use Rattle.act_model.specs.Changes.{made}
 use Rattle.act_model.specs.Limbo.{FileState, tier_at, unlisted}
 use Rattle.act_model.specs.Machine.{Machine, Change}

@@ -16,8 +16,8 @@ use Rattle.partition_names.proofs.PathLemmas.{one_path}
 use Rattle.pinned_pieces.specs.Pieces.{PinOf}
 use Rattle.pinned_pieces.specs.Pieces.{file_of as piece_file}
 use Rattle.pinned_pieces.specs.declared.piece.PinnedFile.{PinnedFile}
-use Rattle.three_stores.specs.Limbo.{IsPinnedFile}
-use Rattle.three_stores.specs.Pinned.{SeenAll}
+use Rattle.tier_store.specs.Limbo.{IsPinnedFile}
+use Rattle.tier_store.specs.Pinned.{SeenAll}
 use Rattle.act_model.specs.Limbo.{FileState}
 use Rattle.act_model.specs.Machine.{Machine, PinState}
 use Rattle.act_model.specs.OpenPiece.{name_of}

@@ -9,11 +9,11 @@ use Rattle.std.proofs.lemmas.List.Folds.{Any-from_list_any, list_any-from_Any}
 use Rattle.std.proofs.lemmas.Option.{same_Some}
 use Rattle.disk_model.specs.Files.{Name}
 use Rattle.pinned_pieces.specs.Pieces.{PinOf}
-use Rattle.tier_store.proofs.Names.{name_cases}
-use Rattle.three_stores.specs.Limbo.{IsListedName, IsNeeded, IsPinnedFile, IsSwept as StoresSwept, Stay}
-use Rattle.three_stores.specs.Pinned.{SeenAll}
-use Rattle.three_stores.specs.declared.limbo.Retired.{Retired}
-use Rattle.three_stores.proofs.Staying.{stay_cases, stay_from}
+use Rattle.durable_write.proofs.Names.{name_cases}
+use Rattle.tier_store.specs.Limbo.{IsListedName, IsNeeded, IsPinnedFile, IsSwept as StoresSwept, Stay}
+use Rattle.tier_store.specs.Pinned.{SeenAll}
+use Rattle.tier_store.specs.declared.limbo.Retired.{Retired}
+use Rattle.tier_store.proofs.Staying.{stay_cases, stay_from}
 use Rattle.act_model.specs.Limbo.{FileState, PlacesDiffer, IsElsewhere}
 use Rattle.act_model.specs.Machine.{Machine}
 use Rattle.act_model.specs.OpenPiece.{name_of}

@@ -6,12 +6,12 @@ use Rattle.std.proofs.lemmas.Option.{same_Some}
 use Rattle.event_types.specs.declared.about.About.{About}
 use Rattle.disk_model.specs.Files.{Name}
 use Rattle.pv_catalog.specs.Rows.{KeepsRows}
-use Rattle.tier_store.proofs.Growing.{filed_grows}
-use Rattle.three_stores.specs.Limbo.{IsListedName}
-use Rattle.three_stores.specs.Pinned.{SeenAll, beside, Shows}
-use Rattle.three_stores.specs.Seen.{Seen, granularities}
-use Rattle.three_stores.specs.declared.limbo.Retired.{Retired}
-use Rattle.three_stores.proofs.Staying.{limbo_kept}
+use Rattle.durable_write.proofs.Growing.{filed_grows}
+use Rattle.tier_store.specs.Limbo.{IsListedName}
+use Rattle.tier_store.specs.Pinned.{SeenAll, beside, Shows}
+use Rattle.tier_store.specs.Seen.{Seen, granularities}
+use Rattle.tier_store.specs.declared.limbo.Retired.{Retired}
+use Rattle.tier_store.proofs.Staying.{limbo_kept}
 use Rattle.act_model.specs.Changes.{changed, changed_rows, added, without_held, Retires}
 use Rattle.act_model.specs.Limbo.{FileState, tier_at, IsThere, files_of}
 use Rattle.act_model.specs.Machine.{Machine, Change, AddsRow, SetsState, Appends, Publishes, Unlists}

@@ -13,12 +13,12 @@ use Rattle.partition_names.specs.Part.{HoldsMoment}
 use Rattle.partition_names.proofs.PartLemmas.{within}
 use Rattle.pv_catalog.specs.declared.row.Row.{Row}
 use Rattle.store_manifest.specs.declared.entry.Entry.{Entry}
-use Rattle.tier_store.specs.Held.{Filed, IsFiled, entry_of, samples_of}
-use Rattle.three_stores.specs.Change.{Has}
-use Rattle.three_stores.specs.Seen.{Seen}
-use Rattle.three_stores.specs.Stores.{Stores, list_at}
-use Rattle.three_stores.proofs.Places.{manifest_at}
-use Rattle.three_stores.proofs.Rising.{row_rises}
+use Rattle.durable_write.specs.Held.{Filed, IsFiled, entry_of, samples_of}
+use Rattle.tier_store.specs.Change.{Has}
+use Rattle.tier_store.specs.Seen.{Seen}
+use Rattle.tier_store.specs.Stores.{Stores, list_at}
+use Rattle.tier_store.proofs.Places.{manifest_at}
+use Rattle.tier_store.proofs.Rising.{row_rises}
 use Rattle.archive_core.specs.Opening.{listed_from, listed_end, entries_at, end_at}
 
 -- a list that isn't empty ends where it ends, whatever comes before

@@ -18,11 +18,11 @@ use Rattle.series_model.proofs.OverLemmas.{end_of-over}
 use Rattle.series_model.proofs.RisingLists.{end_from-append, RisesFrom-front, RisesFrom-rest, RisesFrom-lower, since_all}
 use Rattle.partition_names.specs.declared.granularity.Granularity.{Granularity}
 use Rattle.store_manifest.specs.Manifest.{ManifestState}
-use Rattle.tier_store.specs.Flush.{with_batch}
-use Rattle.tier_store.specs.Held.{Filed, IsListed, samples_of}
-use Rattle.three_stores.specs.Change.{IsKnown, Registers, Switches, Flushes}
-use Rattle.three_stores.specs.Stores.{Stores, list_at, with_rows}
-use Rattle.three_stores.proofs.Places.{manifest_at}
+use Rattle.durable_write.specs.Flush.{with_batch}
+use Rattle.durable_write.specs.Held.{Filed, IsListed, samples_of}
+use Rattle.tier_store.specs.Change.{IsKnown, Registers, Switches, Flushes}
+use Rattle.tier_store.specs.Stores.{Stores, list_at, with_rows}
+use Rattle.tier_store.proofs.Places.{manifest_at}
 use Rattle.act_model.specs.Changes.{each, changed, added, made, of_row}
 use Rattle.act_model.specs.Crash.{DurableRow, kept_of, kept}
 use Rattle.act_model.specs.Flush.{batch_of}

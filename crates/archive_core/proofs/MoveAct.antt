@@ -13,14 +13,14 @@ use Rattle.move_choice.specs.declared.series.ToMove.{ToMove}
 use Rattle.move_choice.specs.declared.series.ToMove.TheVariants as chosen
 use Rattle.running_moves.specs.Table as table
 use Rattle.running_moves.specs.declared.table.Running.{Running}
-use Rattle.tier_store.specs.Ends.{IsFailed, end_of_disk}
-use Rattle.three_stores.specs.Beginning.{BeginsMove, IsChoice, SaysBegun}
-use Rattle.three_stores.specs.Change.{Has}
-use Rattle.three_stores.specs.Pinned.{SeenAll, beside}
-use Rattle.three_stores.specs.Seen.{Seen}
-use Rattle.three_stores.specs.Settling.{Settles, SaysOf}
-use Rattle.three_stores.specs.declared.moving.MoveBegun as own
-use Rattle.three_stores.specs.Stores.{Stores}
+use Rattle.durable_write.specs.Ends.{IsFailed, end_of_disk}
+use Rattle.tier_store.specs.Beginning.{BeginsMove, IsChoice, SaysBegun}
+use Rattle.tier_store.specs.Change.{Has}
+use Rattle.tier_store.specs.Pinned.{SeenAll, beside}
+use Rattle.tier_store.specs.Seen.{Seen}
+use Rattle.tier_store.specs.Settling.{Settles, SaysOf}
+use Rattle.tier_store.specs.declared.moving.MoveBegun as own
+use Rattle.tier_store.specs.Stores.{Stores}
 use Rattle.act_model.specs.Asks.{move_begun_reply}
 use Rattle.act_model.specs.Changes.{no_doubt}
 use Rattle.act_model.specs.Limbo.{FileState}

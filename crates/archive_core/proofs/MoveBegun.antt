@@ -14,16 +14,16 @@ use Rattle.move_choice.specs.declared.series.ToMove.TheVariants.{Begin}
 use Rattle.running_moves.specs.Table.{at, IsOf}
 use Rattle.running_moves.specs.declared.table.Running.{Running}
 use Rattle.store_manifest.specs.declared.entry.Entry.{Entry}
-use Rattle.tier_store.specs.Held.{entry_of}
-use Rattle.three_stores.specs.Beginning.{BeginsMove, IsChoice, parts_at}
-use Rattle.three_stores.specs.Change.{Has}
-use Rattle.three_stores.specs.Copying.{CopiesBeside}
-use Rattle.three_stores.specs.Moving.{RunsBeside}
-use Rattle.three_stores.specs.Pinned.{SeenAll}
-use Rattle.three_stores.specs.Stores.{Stores, list_at}
-use Rattle.three_stores.proofs.Beginning.{parts_listed}
-use Rattle.three_stores.proofs.BesideMoves.{runs_begun}
-use Rattle.three_stores.proofs.CopyBegun.{copies_begun}
+use Rattle.durable_write.specs.Held.{entry_of}
+use Rattle.tier_store.specs.Beginning.{BeginsMove, IsChoice, parts_at}
+use Rattle.tier_store.specs.Change.{Has}
+use Rattle.tier_store.specs.Copying.{CopiesBeside}
+use Rattle.tier_store.specs.Moving.{RunsBeside}
+use Rattle.tier_store.specs.Pinned.{SeenAll}
+use Rattle.tier_store.specs.Stores.{Stores, list_at}
+use Rattle.tier_store.proofs.Beginning.{parts_listed}
+use Rattle.tier_store.proofs.BesideMoves.{runs_begun}
+use Rattle.tier_store.proofs.CopyBegun.{copies_begun}
 use Rattle.act_model.specs.Limbo.{FileState}
 use Rattle.act_model.specs.Machine.{Machine, MoveState}
 use Rattle.act_model.specs.MoveBegin.{new_move}

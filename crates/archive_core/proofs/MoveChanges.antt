@@ -15,17 +15,17 @@ use Rattle.series_model.proofs.RisingLists.{since-append, since_all, since_none}
 use Rattle.store_manifest.specs.Entries.{Place, comes_before, without}
 use Rattle.store_manifest.specs.Manifest.{ManifestState}
 use Rattle.store_manifest.specs.declared.entry.Entry.{Entry}
-use Rattle.tier_store.specs.Ahead.{without_all}
-use Rattle.tier_store.specs.Flush.{PlacesRise, put_all}
-use Rattle.tier_store.specs.Held.{Filed, IsFiled, entry_of, filed_at, samples_of}
-use Rattle.tier_store.specs.Plan.{of_row}
-use Rattle.tier_store.proofs.PutFile.{Comes, filter_swap}
-use Rattle.tier_store.proofs.Rows.{put_all_other}
-use Rattle.three_stores.specs.Moving.{ListsAlso}
-use Rattle.three_stores.specs.Retiring.{oldest, without_oldest}
-use Rattle.three_stores.specs.Stores.{Stores, list_at, with_list}
-use Rattle.three_stores.proofs.Places.{manifest_at}
-use Rattle.three_stores.proofs.Rising.{own_series}
+use Rattle.durable_write.specs.Ahead.{without_all}
+use Rattle.durable_write.specs.Flush.{PlacesRise, put_all}
+use Rattle.durable_write.specs.Held.{Filed, IsFiled, entry_of, filed_at, samples_of}
+use Rattle.durable_write.specs.Plan.{of_row}
+use Rattle.durable_write.proofs.PutFile.{Comes, filter_swap}
+use Rattle.durable_write.proofs.Rows.{put_all_other}
+use Rattle.tier_store.specs.Moving.{ListsAlso}
+use Rattle.tier_store.specs.Retiring.{oldest, without_oldest}
+use Rattle.tier_store.specs.Stores.{Stores, list_at, with_list}
+use Rattle.tier_store.proofs.Places.{manifest_at}
+use Rattle.tier_store.proofs.Rising.{own_series}
 use Rattle.act_model.specs.Changes.{added, at, changed, made}
 use Rattle.act_model.specs.Crash.{DurableRow, kept_of}
 use Rattle.act_model.specs.Limbo.{files_of, put}

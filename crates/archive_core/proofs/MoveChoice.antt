@@ -23,13 +23,13 @@ use Rattle.series_model.specs.Series.{end_of, end_from, RisesFrom}
 use Rattle.series_model.proofs.RisingLists.{end_from-ge}
 use Rattle.store_manifest.specs.Manifest.{ManifestState}
 use Rattle.store_manifest.specs.declared.entry.Entry.{Entry}
-use Rattle.tier_store.specs.Held.{Filed, IsFiled, entry_of, samples_of}
-use Rattle.tier_store.specs.Plan.{of_row}
-use Rattle.three_stores.specs.Beginning.{IsChoice}
-use Rattle.three_stores.specs.Stores.{Stores, list_at}
-use Rattle.three_stores.proofs.Beginning.{parts_listed}
-use Rattle.three_stores.proofs.Places.{manifest_at, granularity_at}
-use Rattle.three_stores.proofs.Rising.{own_series}
+use Rattle.durable_write.specs.Held.{Filed, IsFiled, entry_of, samples_of}
+use Rattle.durable_write.specs.Plan.{of_row}
+use Rattle.tier_store.specs.Beginning.{IsChoice}
+use Rattle.tier_store.specs.Stores.{Stores, list_at}
+use Rattle.tier_store.proofs.Beginning.{parts_listed}
+use Rattle.tier_store.proofs.Places.{manifest_at, granularity_at}
+use Rattle.tier_store.proofs.Rising.{own_series}
 use Rattle.act_model.specs.Crash.{kept_of}
 use Rattle.act_model.specs.Machine.{Machine}
 use Rattle.act_model.specs.MoveBegin.{HasMove, HasNoMove, IsFree, IsMoving, IsPassed, begins, all_run, none_to_make, chosen, front_length, parts_of}

@@ -8,7 +8,7 @@ use Rattle.pv_catalog.specs.declared.row.Row.{Row}
 use Rattle.series_model.specs.Series.{before, end_from, end_of}
 use Rattle.series_model.specs.declared.sample.Sample.{Sample}
 use Rattle.series_model.proofs.RisingLists.{end_from-append}
-use Rattle.tier_store.specs.Held.{Filed, IsFiled, entry_of}
+use Rattle.durable_write.specs.Held.{Filed, IsFiled, entry_of}
 use Rattle.act_model.specs.Limbo.{FileState, put, revived}
 use Rattle.act_model.proofs.RowLaws.{before_none}
 use Rattle.archive_core.specs.MoveTies.{ends_from}

@@ -14,19 +14,19 @@ use Rattle.series_model.specs.declared.sample.Sample.{Sample}
 use Rattle.store_manifest.specs.Entries.{Place}
 use Rattle.store_manifest.specs.Manifest.{ManifestState}
 use Rattle.store_manifest.specs.declared.entry.Entry.{Entry}
-use Rattle.tier_store.specs.Flush.{PlacesRise, file_at, put_all}
-use Rattle.tier_store.specs.Held.{Filed, IsFiled, entry_of, filed_at, samples_of}
-use Rattle.tier_store.specs.Plan.{of_row}
-use Rattle.tier_store.proofs.Listed.{all_put_all, found, listed_at, rise_put_all}
-use Rattle.three_stores.specs.Moving.{RunsBeside}
-use Rattle.three_stores.specs.Pinned.{SeenAll, beside}
-use Rattle.three_stores.specs.Retiring.{oldest}
-use Rattle.three_stores.specs.Revival.{AreWhole, samples_at}
-use Rattle.three_stores.specs.Revival as revival
-use Rattle.three_stores.specs.Seen.{Seen, granularities}
-use Rattle.three_stores.specs.Stores.{Stores, list_at}
-use Rattle.three_stores.specs.declared.limbo.Retired.{Retired}
-use Rattle.three_stores.proofs.Places.{granularity_at}
+use Rattle.durable_write.specs.Flush.{PlacesRise, file_at, put_all}
+use Rattle.durable_write.specs.Held.{Filed, IsFiled, entry_of, filed_at, samples_of}
+use Rattle.durable_write.specs.Plan.{of_row}
+use Rattle.durable_write.proofs.Listed.{all_put_all, found, listed_at, rise_put_all}
+use Rattle.tier_store.specs.Moving.{RunsBeside}
+use Rattle.tier_store.specs.Pinned.{SeenAll, beside}
+use Rattle.tier_store.specs.Retiring.{oldest}
+use Rattle.tier_store.specs.Revival.{AreWhole, samples_at}
+use Rattle.tier_store.specs.Revival as revival
+use Rattle.tier_store.specs.Seen.{Seen, granularities}
+use Rattle.tier_store.specs.Stores.{Stores, list_at}
+use Rattle.tier_store.specs.declared.limbo.Retired.{Retired}
+use Rattle.tier_store.proofs.Places.{granularity_at}
 use Rattle.act_model.specs.Limbo.{FileState, Fits, files_of, put, revived}
 use Rattle.act_model.specs.Machine.{Machine, MoveState}
 use Rattle.act_model.specs.MoveStep.{is_later, remaining}
@@ -47,8 +47,8 @@ use Rattle.archive_core.proofs.SameNames.{all_of, contains_cases, contains_head,
 use Rattle.archive_core.proofs.Windows.{all_in}
 use Rattle.archive_core.proofs.MoveRows.{ahead_own}
 use Rattle.archive_core.proofs.PutFirst.{holds_at}
-use Rattle.tier_store.proofs.Revival.{put_all_new}
-use Rattle.three_stores.specs.Reviving.{AreBack, past}
+use Rattle.durable_write.proofs.Revival.{put_all_new}
+use Rattle.tier_store.specs.Reviving.{AreBack, past}
 
 -- TESTS OF LISTS
 

@@ -18,9 +18,9 @@ use Rattle.series_model.specs.declared.sample.Sample.{Sample}
 use Rattle.series_model.proofs.RisingLists.{RisesFrom-front, RisesFrom-lower, end_from-append, end_from-ge}
 use Rattle.store_manifest.specs.Manifest.{ManifestState}
 use Rattle.store_manifest.specs.declared.entry.Entry.{Entry}
-use Rattle.tier_store.specs.Held.{Filed, IsFiled, entry_of}
-use Rattle.three_stores.specs.Retiring.{oldest, HasGrown, HasNotGrown}
-use Rattle.three_stores.specs.Stores.{Stores, list_at}
+use Rattle.durable_write.specs.Held.{Filed, IsFiled, entry_of}
+use Rattle.tier_store.specs.Retiring.{oldest, HasGrown, HasNotGrown}
+use Rattle.tier_store.specs.Stores.{Stores, list_at}
 use Rattle.act_model.specs.Machine.{Machine, MoveState}
 use Rattle.act_model.specs.MoveStep.{is_covered, IsGrown}
 use Rattle.act_model.specs.Rows.{RowState, Store, next_store, size_of, tier, window}

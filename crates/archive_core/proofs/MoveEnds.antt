@@ -6,10 +6,10 @@ use Rattle.etl_mover.specs.Move.{MoveState as Moving}
 use Rattle.running_moves.specs.declared.table.Running.{Running}
 use Rattle.series_model.specs.Series.{end_from, end_of, over}
 use Rattle.series_model.proofs.OverLemmas.{end_of-over}
-use Rattle.tier_store.specs.Flush.{put_all}
-use Rattle.tier_store.specs.Held.{samples_of}
-use Rattle.three_stores.specs.Pinned.{SeenAll}
-use Rattle.three_stores.specs.Stores.{Stores, list_at, samples_in}
+use Rattle.durable_write.specs.Flush.{put_all}
+use Rattle.durable_write.specs.Held.{samples_of}
+use Rattle.tier_store.specs.Pinned.{SeenAll}
+use Rattle.tier_store.specs.Stores.{Stores, list_at, samples_in}
 use Rattle.act_model.specs.Crash.{kept_of}
 use Rattle.act_model.specs.Limbo.{files_of}
 use Rattle.act_model.specs.Machine.{Machine, MoveState, Stage, Copies, HasCopied, HasPublished}

@@ -19,27 +19,27 @@ use Rattle.store_files.specs.Fronts.{Begins}
 use Rattle.store_manifest.specs.Entries.{Place, place}
 use Rattle.store_manifest.specs.Manifest.{ManifestState}
 use Rattle.store_manifest.specs.declared.entry.Entry.{Entry}
-use Rattle.tier_store.specs.Flush.{PlacesRise, file_at, is_place, put_all}
-use Rattle.tier_store.specs.Held.{Filed, IsFiled, IsIn, IsListed, entry_of, file_of, filed_at}
-use Rattle.tier_store.specs.Held as held_files
-use Rattle.tier_store.specs.Plan.{of_row}
-use Rattle.tier_store.proofs.Ahead.{contains_entry, put_has, put_itself}
-use Rattle.tier_store.proofs.Listed.{all_put_all, found, is_place-same, is_place-true, listed_at, rise_put_all}
-use Rattle.tier_store.proofs.Names.{same_file}
-use Rattle.tier_store.proofs.There.{contains_map}
+use Rattle.durable_write.specs.Flush.{PlacesRise, file_at, is_place, put_all}
+use Rattle.durable_write.specs.Held.{Filed, IsFiled, IsIn, IsListed, entry_of, file_of, filed_at}
+use Rattle.durable_write.specs.Held as held_files
+use Rattle.durable_write.specs.Plan.{of_row}
+use Rattle.durable_write.proofs.Ahead.{contains_entry, put_has, put_itself}
+use Rattle.durable_write.proofs.Listed.{all_put_all, found, is_place-same, is_place-true, listed_at, rise_put_all}
+use Rattle.durable_write.proofs.Names.{same_file}
+use Rattle.durable_write.proofs.There.{contains_map}
 use Rattle.store_manifest.specs.Entries as entries
-use Rattle.three_stores.specs.Change.{Has}
-use Rattle.three_stores.specs.Limbo.{IsListedName, IsOfPlace, ListsPlace}
-use Rattle.three_stores.specs.Pinned.{beside}
-use Rattle.three_stores.specs.Revival.{AreWhole, IsOfLimbo, samples_at}
-use Rattle.three_stores.specs.Seen.{Seen, granularities}
-use Rattle.three_stores.specs.Stores.{Stores, list_at}
-use Rattle.three_stores.specs.declared.limbo.Retired.{Retired}
-use Rattle.three_stores.specs.Reviving.{AreBack}
-use Rattle.three_stores.proofs.Dropped.{one_file as one_of_list}
-use Rattle.three_stores.proofs.Places.{granularity_at, one_manifest}
-use Rattle.three_stores.proofs.Rising.{own_series}
-use Rattle.three_stores.proofs.Staying.{as_filed, listed_place, retired_listed}
+use Rattle.tier_store.specs.Change.{Has}
+use Rattle.tier_store.specs.Limbo.{IsListedName, IsOfPlace, ListsPlace}
+use Rattle.tier_store.specs.Pinned.{beside}
+use Rattle.tier_store.specs.Revival.{AreWhole, IsOfLimbo, samples_at}
+use Rattle.tier_store.specs.Seen.{Seen, granularities}
+use Rattle.tier_store.specs.Stores.{Stores, list_at}
+use Rattle.tier_store.specs.declared.limbo.Retired.{Retired}
+use Rattle.tier_store.specs.Reviving.{AreBack}
+use Rattle.tier_store.proofs.Dropped.{one_file as one_of_list}
+use Rattle.tier_store.proofs.Places.{granularity_at, one_manifest}
+use Rattle.tier_store.proofs.Rising.{own_series}
+use Rattle.tier_store.proofs.Staying.{as_filed, listed_place, retired_listed}
 use Rattle.act_model.specs.Limbo.{FileState, files_of, revived}
 use Rattle.act_model.specs.Machine.{Machine}
 use Rattle.act_model.specs.MoveStep.{is_later}

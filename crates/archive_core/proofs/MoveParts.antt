@@ -15,14 +15,14 @@ use Rattle.series_model.specs.declared.sample.Sample.{Sample}
 use Rattle.series_model.proofs.RisingLists.{since-append}
 use Rattle.store_manifest.specs.Manifest.{ManifestState}
 use Rattle.store_manifest.specs.declared.entry.Entry.{Entry}
-use Rattle.tier_store.specs.Held.{Filed, IsFiled, entry_of}
-use Rattle.tier_store.specs.Plan.{of_row}
-use Rattle.three_stores.specs.Copying.{IsAllLater, KnowsCopied, samples_ahead}
-use Rattle.three_stores.specs.Finding.{BeginsAt}
-use Rattle.three_stores.specs.Moving.{RunsBeside}
-use Rattle.three_stores.specs.Pinned.{SeenAll}
-use Rattle.three_stores.specs.Retiring.{oldest}
-use Rattle.three_stores.specs.Stores.{Stores, list_at}
+use Rattle.durable_write.specs.Held.{Filed, IsFiled, entry_of}
+use Rattle.durable_write.specs.Plan.{of_row}
+use Rattle.tier_store.specs.Copying.{IsAllLater, KnowsCopied, samples_ahead}
+use Rattle.tier_store.specs.Finding.{BeginsAt}
+use Rattle.tier_store.specs.Moving.{RunsBeside}
+use Rattle.tier_store.specs.Pinned.{SeenAll}
+use Rattle.tier_store.specs.Retiring.{oldest}
+use Rattle.tier_store.specs.Stores.{Stores, list_at}
 use Rattle.archive_core.specs.MoveTies.{HasCopiedParts, IsCopiedTo, ends_from}
 use Rattle.archive_core.proofs.ListEnds.{own_entries}
 use Rattle.archive_core.proofs.Windows.{all_in}

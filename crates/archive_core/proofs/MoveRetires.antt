@@ -19,12 +19,12 @@ use Rattle.pv_catalog.specs.declared.row.Row.{Row}
 use Rattle.series_model.specs.declared.sample.Sample.{Sample}
 use Rattle.store_manifest.specs.Manifest.{ManifestState}
 use Rattle.store_manifest.specs.declared.entry.Entry.{Entry}
-use Rattle.tier_store.specs.Held.{Filed, IsFiled, entry_of, file_of}
-use Rattle.tier_store.specs.Held.{name_of as held_name}
-use Rattle.tier_store.specs.Plan.{of_row}
-use Rattle.three_stores.specs.Pinning.{placed_at, state_of}
-use Rattle.three_stores.specs.Retiring.{oldest}
-use Rattle.three_stores.specs.Stores.{Stores, list_at}
+use Rattle.durable_write.specs.Held.{Filed, IsFiled, entry_of, file_of}
+use Rattle.durable_write.specs.Held.{name_of as held_name}
+use Rattle.durable_write.specs.Plan.{of_row}
+use Rattle.tier_store.specs.Pinning.{placed_at, state_of}
+use Rattle.tier_store.specs.Retiring.{oldest}
+use Rattle.tier_store.specs.Stores.{Stores, list_at}
 use Rattle.act_model.specs.Changes.{IsRetired, StaysPinned, Retires}
 use Rattle.act_model.specs.Crash.{kept_of}
 use Rattle.act_model.specs.Limbo.{FileState, files_of, tier_at, IsThere, IsElsewhere, PlacesDiffer}

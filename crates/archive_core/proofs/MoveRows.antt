@@ -9,13 +9,13 @@ use Rattle.partition_names.specs.Part.{IsPart}
 use Rattle.series_model.specs.declared.sample.Sample.{Sample}
 use Rattle.store_manifest.specs.Entries.{Place, put as put_at}
 use Rattle.store_manifest.specs.declared.entry.Entry.{Entry}
-use Rattle.tier_store.specs.Flush.{file_at, put_all}
-use Rattle.tier_store.specs.Held.{Filed, entry_of, filed_at}
-use Rattle.tier_store.specs.Plan.{of_row}
-use Rattle.tier_store.proofs.PutFile.{put_own, sooner, later}
-use Rattle.three_stores.specs.Moving.{RunsBeside}
-use Rattle.three_stores.specs.Pinned.{SeenAll}
-use Rattle.three_stores.specs.Stores.{Stores}
+use Rattle.durable_write.specs.Flush.{file_at, put_all}
+use Rattle.durable_write.specs.Held.{Filed, entry_of, filed_at}
+use Rattle.durable_write.specs.Plan.{of_row}
+use Rattle.durable_write.proofs.PutFile.{put_own, sooner, later}
+use Rattle.tier_store.specs.Moving.{RunsBeside}
+use Rattle.tier_store.specs.Pinned.{SeenAll}
+use Rattle.tier_store.specs.Stores.{Stores}
 use Rattle.act_model.specs.Rows.{Store, Short, Medium, Long, next_store}
 use Rattle.act_model.specs.Rule.{index_of}
 use Rattle.archive_core.specs.MoveTies.{GetsOne, GoInto}

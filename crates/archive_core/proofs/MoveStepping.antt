@@ -14,12 +14,12 @@ use Rattle.etl_mover.specs.Move.{MoveState as Moving}
 use Rattle.partition_names.specs.declared.granularity.Granularity.{Granularity}
 use Rattle.running_moves.specs.Table as table
 use Rattle.running_moves.specs.declared.table.Running.{Running}
-use Rattle.tier_store.proofs.Rises.{rose_after}
-use Rattle.three_stores.specs.Pinned.{SeenAll, beside}
-use Rattle.three_stores.specs.Change.{Has}
-use Rattle.three_stores.specs.Seen.{IsSettled, Seen, granularities}
-use Rattle.three_stores.specs.Stores.{Stores}
-use Rattle.three_stores.specs.declared.limbo.Retired.{Retired}
+use Rattle.durable_write.proofs.Rises.{rose_after}
+use Rattle.tier_store.specs.Pinned.{SeenAll, beside}
+use Rattle.tier_store.specs.Change.{Has}
+use Rattle.tier_store.specs.Seen.{IsSettled, Seen, granularities}
+use Rattle.tier_store.specs.Stores.{Stores}
+use Rattle.tier_store.specs.declared.limbo.Retired.{Retired}
 use Rattle.act_model.specs.Changes.{Settles, made, IsRetired}
 use Rattle.act_model.specs.Crash.{settled_there, with_change}
 use Rattle.act_model.specs.Limbo.{FileState}

@@ -14,20 +14,20 @@ use Rattle.series_model.specs.Series.{end_of, since}
 use Rattle.series_model.specs.declared.sample.Sample.{Sample}
 use Rattle.store_manifest.specs.Manifest.{ManifestState}
 use Rattle.store_manifest.specs.declared.entry.Entry.{Entry}
-use Rattle.tier_store.specs.Flush.{put_all}
-use Rattle.tier_store.specs.Held.{Filed, entry_of, samples_of}
-use Rattle.three_stores.specs.Copying.{CopiesBeside, CopiesNext, KnowsCopied, MovesOn, SaysCopied, StillCopies, left_to_copy, samples_ahead}
-use Rattle.three_stores.specs.Moving.{RunsBeside}
-use Rattle.three_stores.specs.Pinned.{KeepsShown, SeenAll, beside}
-use Rattle.three_stores.specs.Retiring.{oldest}
-use Rattle.three_stores.specs.Revival.{AreWhole}
-use Rattle.three_stores.specs.Revival as revival
-use Rattle.three_stores.specs.Seen.{Seen, granularities}
-use Rattle.three_stores.specs.Stores.{Stores, list_at}
-use Rattle.three_stores.specs.declared.copying.CopyEnd.TheVariants as ends
-use Rattle.three_stores.specs.declared.limbo.Retired.{Retired}
-use Rattle.three_stores.specs.Reviving.{AreBack, past}
-use Rattle.three_stores.proofs.Places.{manifest_at}
+use Rattle.durable_write.specs.Flush.{put_all}
+use Rattle.durable_write.specs.Held.{Filed, entry_of, samples_of}
+use Rattle.tier_store.specs.Copying.{CopiesBeside, CopiesNext, KnowsCopied, MovesOn, SaysCopied, StillCopies, left_to_copy, samples_ahead}
+use Rattle.tier_store.specs.Moving.{RunsBeside}
+use Rattle.tier_store.specs.Pinned.{KeepsShown, SeenAll, beside}
+use Rattle.tier_store.specs.Retiring.{oldest}
+use Rattle.tier_store.specs.Revival.{AreWhole}
+use Rattle.tier_store.specs.Revival as revival
+use Rattle.tier_store.specs.Seen.{Seen, granularities}
+use Rattle.tier_store.specs.Stores.{Stores, list_at}
+use Rattle.tier_store.specs.declared.copying.CopyEnd.TheVariants as ends
+use Rattle.tier_store.specs.declared.limbo.Retired.{Retired}
+use Rattle.tier_store.specs.Reviving.{AreBack, past}
+use Rattle.tier_store.proofs.Places.{manifest_at}
 use Rattle.act_model.specs.Changes.{no_doubt}
 use Rattle.act_model.specs.Limbo.{files_of, put}
 use Rattle.act_model.specs.Machine.{Machine, MoveState, Stage, Copies, HasCopied}

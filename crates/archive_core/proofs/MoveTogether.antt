@@ -20,17 +20,17 @@ use Rattle.series_model.specs.declared.sample.Sample.{Sample}
 use Rattle.store_files.specs.Fronts.{Begins}
 use Rattle.store_manifest.specs.Entries.{Place}
 use Rattle.store_manifest.specs.Manifest.{ManifestState}
-use Rattle.tier_store.specs.Flush.{PlacesRise, file_at, put_all}
-use Rattle.tier_store.specs.Held.{Filed, IsFiled, IsIn, bytes_of, file_of, filed_at, samples_of}
-use Rattle.tier_store.specs.Plan.{of_row}
-use Rattle.tier_store.proofs.Listed.{found, rise_put_all}
-use Rattle.three_stores.specs.Moving.{RunsBeside}
-use Rattle.three_stores.specs.Pinned.{KeepsShown, beside}
-use Rattle.three_stores.specs.Revival.{AreWhole, samples_at}
-use Rattle.three_stores.specs.Seen.{Seen, granularities}
-use Rattle.three_stores.specs.Stores.{Stores, list_at}
-use Rattle.three_stores.specs.declared.limbo.Retired.{Retired}
-use Rattle.three_stores.specs.Reviving.{AreBack, past}
+use Rattle.durable_write.specs.Flush.{PlacesRise, file_at, put_all}
+use Rattle.durable_write.specs.Held.{Filed, IsFiled, IsIn, bytes_of, file_of, filed_at, samples_of}
+use Rattle.durable_write.specs.Plan.{of_row}
+use Rattle.durable_write.proofs.Listed.{found, rise_put_all}
+use Rattle.tier_store.specs.Moving.{RunsBeside}
+use Rattle.tier_store.specs.Pinned.{KeepsShown, beside}
+use Rattle.tier_store.specs.Revival.{AreWhole, samples_at}
+use Rattle.tier_store.specs.Seen.{Seen, granularities}
+use Rattle.tier_store.specs.Stores.{Stores, list_at}
+use Rattle.tier_store.specs.declared.limbo.Retired.{Retired}
+use Rattle.tier_store.specs.Reviving.{AreBack, past}
 use Rattle.act_model.specs.Limbo.{FileState, files_of}
 use Rattle.act_model.specs.Machine.{Machine, MoveState}
 use Rattle.act_model.specs.OpenPiece.{bytes_of as piece_bytes}

@@ -9,14 +9,14 @@ use Rattle.etl_mover.specs.Move.{MoveState as Moving}
 use Rattle.running_moves.specs.Table.{at}
 use Rattle.running_moves.specs.declared.table.Running.{Running}
 use Rattle.series_model.specs.Series.{end_of}
-use Rattle.tier_store.specs.Held.{Filed}
-use Rattle.tier_store.specs.Plan.{of_row}
-use Rattle.three_stores.specs.Moving.{GoesBeside, LeavesLater, LeavesNames, RunsBeside, names_of}
-use Rattle.three_stores.specs.Pinned.{SeenAll}
-use Rattle.three_stores.specs.Seen.{granularities}
-use Rattle.three_stores.specs.Stores.{Stores, list_at, samples_in}
-use Rattle.three_stores.proofs.BesideMoves.{beside_itself, runs_still}
-use Rattle.three_stores.proofs.LeavingNames.{later_names}
+use Rattle.durable_write.specs.Held.{Filed}
+use Rattle.durable_write.specs.Plan.{of_row}
+use Rattle.tier_store.specs.Moving.{GoesBeside, LeavesLater, LeavesNames, RunsBeside, names_of}
+use Rattle.tier_store.specs.Pinned.{SeenAll}
+use Rattle.tier_store.specs.Seen.{granularities}
+use Rattle.tier_store.specs.Stores.{Stores, list_at, samples_in}
+use Rattle.tier_store.proofs.BesideMoves.{beside_itself, runs_still}
+use Rattle.tier_store.proofs.LeavingNames.{later_names}
 use Rattle.act_model.specs.Limbo.{FileState, files_of, put}
 use Rattle.act_model.specs.Machine.{MoveState, Stage, Copies, HasCopied, HasPublished}
 use Rattle.act_model.specs.Rows.{RowState, Store, next_store, tier}

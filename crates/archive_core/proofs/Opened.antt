@@ -12,15 +12,15 @@ use Rattle.pv_name.specs.Key.{key_of}
 use Rattle.pv_catalog.specs.Rows.{AreRows, HasKey}
 use Rattle.pv_catalog.specs.declared.row.Row.{Row}
 use Rattle.store_manifest.specs.Manifest.{ManifestState}
-use Rattle.tier_store.specs.Held.{Filed, samples_of}
+use Rattle.durable_write.specs.Held.{Filed, samples_of}
 use Rattle.pinned_pieces.specs.Pieces.{PinOf}
-use Rattle.three_stores.specs.Change.{Has}
-use Rattle.three_stores.specs.Pinned.{beside}
-use Rattle.three_stores.proofs.OpeningPieces.{stand_none}
-use Rattle.three_stores.specs.Seen.{Seen, granularities}
-use Rattle.three_stores.specs.Stores.{Stores}
-use Rattle.three_stores.specs.declared.limbo.Retired.{Retired}
-use Rattle.three_stores.proofs.WithoutLimbo.{none_whole}
+use Rattle.tier_store.specs.Change.{Has}
+use Rattle.tier_store.specs.Pinned.{beside}
+use Rattle.tier_store.proofs.OpeningPieces.{stand_none}
+use Rattle.tier_store.specs.Seen.{Seen, granularities}
+use Rattle.tier_store.specs.Stores.{Stores}
+use Rattle.tier_store.specs.declared.limbo.Retired.{Retired}
+use Rattle.tier_store.proofs.WithoutLimbo.{none_whole}
 use Rattle.act_model.specs.Crash.{DurableRow, kept_of, kept}
 use Rattle.act_model.specs.Machine.{Machine, PinState, MoveState, held_bytes}
 use Rattle.act_model.specs.NextLife.{opened_row, opened}

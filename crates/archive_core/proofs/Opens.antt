@@ -11,13 +11,13 @@ use Rattle.pinned_pieces.specs.Pieces.{PinOf, asked}
 use Rattle.pinned_pieces.specs.declared.piece.PinnedFile.{PinnedFile}
 use Rattle.pv_catalog.specs.Catalogue.{CatalogueState}
 use Rattle.store_manifest.specs.Manifest.{ManifestState}
-use Rattle.tier_store.specs.Ends.{IsFailed}
-use Rattle.three_stores.specs.Change.{Has, IsOpen, Doubts}
-use Rattle.three_stores.specs.Opening.{IsOpened, IsReaderOf, end_of_answer, refusal}
-use Rattle.three_stores.specs.Moving.{KeepsBeside, MayHold}
-use Rattle.three_stores.specs.Pinned.{SeenAll, beside}
-use Rattle.three_stores.specs.Seen.{Seen, IsSettled, granularities}
-use Rattle.three_stores.specs.Stores.{Stores}
+use Rattle.durable_write.specs.Ends.{IsFailed}
+use Rattle.tier_store.specs.Change.{Has, IsOpen, Doubts}
+use Rattle.tier_store.specs.Opening.{IsOpened, IsReaderOf, end_of_answer, refusal}
+use Rattle.tier_store.specs.Moving.{KeepsBeside, MayHold}
+use Rattle.tier_store.specs.Pinned.{SeenAll, beside}
+use Rattle.tier_store.specs.Seen.{Seen, IsSettled, granularities}
+use Rattle.tier_store.specs.Stores.{Stores}
 use Rattle.act_model.specs.declared.acts.Answer.{Answer}
 use Rattle.act_model.specs.declared.acts.Answer.TheVariants as answer
 use Rattle.act_model.specs.Limbo.{FileState}

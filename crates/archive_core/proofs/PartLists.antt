@@ -8,11 +8,11 @@ use Rattle.partition_names.specs.declared.part.Part.{Part}
 use Rattle.partition_names.proofs.PartLemmas.{within}
 use Rattle.pv_catalog.specs.declared.row.Row.{Row}
 use Rattle.series_model.specs.declared.sample.Sample.{Sample}
-use Rattle.tier_store.specs.Held.{Filed, IsFiled}
-use Rattle.tier_store.specs.Plan.{of_row}
-use Rattle.three_stores.specs.Change.{Has}
-use Rattle.three_stores.specs.Seen.{Seen, granularities}
-use Rattle.three_stores.specs.Stores.{Stores, list_at}
+use Rattle.durable_write.specs.Held.{Filed, IsFiled}
+use Rattle.durable_write.specs.Plan.{of_row}
+use Rattle.tier_store.specs.Change.{Has}
+use Rattle.tier_store.specs.Seen.{Seen, granularities}
+use Rattle.tier_store.specs.Stores.{Stores, list_at}
 use Rattle.act_model.specs.Machine.{Machine}
 use Rattle.act_model.specs.Parts.{PartsFrom, AreParts}
 use Rattle.act_model.specs.Rows.{RowState, Store, tier, window, is_empty}

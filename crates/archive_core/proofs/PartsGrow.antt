@@ -9,13 +9,13 @@ use Rattle.partition_names.specs.declared.part.Part.{Part}
 use Rattle.partition_names.specs.Part.{IsPart}
 use Rattle.partition_names.proofs.PartLemmas.{one_part, within}
 use Rattle.store_manifest.specs.Entries.{comes_before, put}
-use Rattle.tier_store.specs.Flush.{EndsRow, PlacesRise, put_all}
-use Rattle.tier_store.specs.Held.{Filed, filed_at}
-use Rattle.tier_store.specs.Plan.{of_row}
-use Rattle.tier_store.proofs.Listed.{all_put, rise_filter, rise_put_all}
-use Rattle.tier_store.proofs.PutFile.{later, put_other, put_own, sooner}
-use Rattle.three_stores.specs.Moving.{parts_in}
-use Rattle.three_stores.proofs.Rising.{own_series}
+use Rattle.durable_write.specs.Flush.{EndsRow, PlacesRise, put_all}
+use Rattle.durable_write.specs.Held.{Filed, filed_at}
+use Rattle.durable_write.specs.Plan.{of_row}
+use Rattle.durable_write.proofs.Listed.{all_put, rise_filter, rise_put_all}
+use Rattle.durable_write.proofs.PutFile.{later, put_other, put_own, sooner}
+use Rattle.tier_store.specs.Moving.{parts_in}
+use Rattle.tier_store.proofs.Rising.{own_series}
 
 abbrev part_of : Filed → Part
 part_of f = f.entry.part

@@ -12,16 +12,16 @@ use Rattle.pb_wire.specs.declared.payload.PayloadType.{PayloadType}
 use Rattle.pv_catalog.specs.declared.row.Row.{Row}
 use Rattle.series_model.specs.declared.sample.Sample.{Sample}
 use Rattle.store_manifest.specs.Manifest.{ManifestState}
-use Rattle.tier_store.specs.Flush.{PlacesRise}
-use Rattle.tier_store.specs.Held.{Filed, IsFiled, samples_of}
-use Rattle.tier_store.specs.Plan.{of_row}
-use Rattle.tier_store.proofs.PutFile.{Comes}
-use Rattle.three_stores.specs.Change.{Has}
-use Rattle.three_stores.specs.Pinning.{Placed, placed_at, placed, files_in, state_of}
-use Rattle.three_stores.specs.Seen.{Seen, granularities}
-use Rattle.three_stores.specs.Stores.{Stores, list_at, samples_in}
-use Rattle.three_stores.proofs.Places.{manifest_at}
-use Rattle.three_stores.proofs.Rising.{own_series}
+use Rattle.durable_write.specs.Flush.{PlacesRise}
+use Rattle.durable_write.specs.Held.{Filed, IsFiled, samples_of}
+use Rattle.durable_write.specs.Plan.{of_row}
+use Rattle.durable_write.proofs.PutFile.{Comes}
+use Rattle.tier_store.specs.Change.{Has}
+use Rattle.tier_store.specs.Pinning.{Placed, placed_at, placed, files_in, state_of}
+use Rattle.tier_store.specs.Seen.{Seen, granularities}
+use Rattle.tier_store.specs.Stores.{Stores, list_at, samples_in}
+use Rattle.tier_store.proofs.Places.{manifest_at}
+use Rattle.tier_store.proofs.Rising.{own_series}
 use Rattle.act_model.specs.Crash.{kept_of}
 use Rattle.act_model.specs.Files.{IsEventIn, IsFileOf}
 use Rattle.act_model.specs.Limbo.{FileState}

@@ -19,14 +19,14 @@ use Rattle.series_model.specs.declared.sample.Sample.{Sample}
 use Rattle.series_model.specs.Retrieval.{answer as answer_to}
 use Rattle.series_model.specs.Series.{end_of, over, IsRising}
 use Rattle.series_model.proofs.RisingLists.{RisesFrom-lower}
-use Rattle.tier_store.specs.Ends.{End, IsCut}
-use Rattle.three_stores.specs.Change.{Has}
-use Rattle.three_stores.specs.Opening.{end_of_answer}
-use Rattle.three_stores.specs.Pinned.{beside, PinsStand}
-use Rattle.three_stores.specs.Pinning.{files_in, state_of, listed_of, piece_of, has_bytes, IsPinned, AreEnough, SaysPinned, none_has, is_pinned}
-use Rattle.three_stores.specs.Seen.{Seen, granularities}
-use Rattle.three_stores.specs.Settling.{Settles, SaysOf}
-use Rattle.three_stores.specs.Stores.{Stores}
+use Rattle.durable_write.specs.Ends.{End, IsCut}
+use Rattle.tier_store.specs.Change.{Has}
+use Rattle.tier_store.specs.Opening.{end_of_answer}
+use Rattle.tier_store.specs.Pinned.{beside, PinsStand}
+use Rattle.tier_store.specs.Pinning.{files_in, state_of, listed_of, piece_of, has_bytes, IsPinned, AreEnough, SaysPinned, none_has, is_pinned}
+use Rattle.tier_store.specs.Seen.{Seen, granularities}
+use Rattle.tier_store.specs.Settling.{Settles, SaysOf}
+use Rattle.tier_store.specs.Stores.{Stores}
 use Rattle.act_model.specs.declared.acts.Answer.{Answer}
 use Rattle.act_model.specs.declared.acts.Answer.TheVariants as answer
 use Rattle.act_model.specs.Limbo.{FileState}

@@ -5,9 +5,9 @@ use Rattle.std.specs.Ordering.{nat_cmp, eq_by_cmp}
 use Rattle.std.specs.Prelude.{◌==◌}
 use Rattle.std.proofs.lemmas.Cmp.{nat_cmp_total}
 use Rattle.pinned_pieces.specs.Pieces.{PinOf, asked}
-use Rattle.three_stores.specs.Opening.{given_up, pins_left}
-use Rattle.three_stores.specs.Pinned.{SeenAll, beside}
-use Rattle.three_stores.proofs.OpeningPieces.{stand_fewer}
+use Rattle.tier_store.specs.Opening.{given_up, pins_left}
+use Rattle.tier_store.specs.Pinned.{SeenAll, beside}
+use Rattle.tier_store.proofs.OpeningPieces.{stand_fewer}
 use Rattle.act_model.specs.declared.acts.Answer.TheVariants.{NoPin, NotYours, Unpinned}
 use Rattle.act_model.specs.Machine.{Machine, PinState}
 use Rattle.act_model.specs.Reply.{reply_of}

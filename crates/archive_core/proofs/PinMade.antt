@@ -19,16 +19,16 @@ use Rattle.pinned_pieces.specs.declared.piece.PinnedFile.{PinnedFile}
 use Rattle.pv_catalog.specs.declared.row.Row.{Row}
 use Rattle.series_model.specs.declared.sample.Sample.{Sample}
 use Rattle.store_files.specs.Fronts.{Begins}
-use Rattle.tier_store.specs.Held.{Filed, IsFiled, IsIn, file_of}
-use Rattle.tier_store.specs.Held as held
-use Rattle.tier_store.specs.Plan.{of_row}
-use Rattle.three_stores.specs.Change.{Has}
-use Rattle.three_stores.specs.Pinned.{SeenAll, Shows, IsShown, PinsStand}
-use Rattle.three_stores.specs.Pinning.{Placed, placed_at, placed, files_in, state_of, listed_of, piece_of}
-use Rattle.three_stores.specs.Seen.{Seen}
-use Rattle.three_stores.specs.Stores.{Stores, list_at}
-use Rattle.three_stores.proofs.Places.{manifest_at}
-use Rattle.three_stores.proofs.Rising.{own_series}
+use Rattle.durable_write.specs.Held.{Filed, IsFiled, IsIn, file_of}
+use Rattle.durable_write.specs.Held as held
+use Rattle.durable_write.specs.Plan.{of_row}
+use Rattle.tier_store.specs.Change.{Has}
+use Rattle.tier_store.specs.Pinned.{SeenAll, Shows, IsShown, PinsStand}
+use Rattle.tier_store.specs.Pinning.{Placed, placed_at, placed, files_in, state_of, listed_of, piece_of}
+use Rattle.tier_store.specs.Seen.{Seen}
+use Rattle.tier_store.specs.Stores.{Stores, list_at}
+use Rattle.tier_store.proofs.Places.{manifest_at}
+use Rattle.tier_store.proofs.Rising.{own_series}
 use Rattle.act_model.specs.Crash.{kept_of}
 use Rattle.act_model.specs.Limbo.{FileState}
 use Rattle.act_model.specs.Machine.{Machine, PinState}

@@ -4,8 +4,8 @@ use Rattle.std.specs.FinMap.{FinMap}
 use Rattle.std.specs.Ordering.{nat_cmp}
 use Rattle.std.specs.Prelude.{◌==◌, slice_get}
 use Rattle.pinned_pieces.specs.Pieces.{PinOf}
-use Rattle.three_stores.specs.Pinned.{SeenAll, KeepsShown}
-use Rattle.three_stores.proofs.OpeningPieces.{stand_kept}
+use Rattle.tier_store.specs.Pinned.{SeenAll, KeepsShown}
+use Rattle.tier_store.proofs.OpeningPieces.{stand_kept}
 use Rattle.event_types.specs.declared.about.State.{State}
 use Rattle.act_model.specs.Changes.{each, at, changed, added, made, without_held}
 use Rattle.act_model.specs.Crash.{DurableRow, kept_of}

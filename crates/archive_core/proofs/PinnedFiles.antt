@@ -18,18 +18,18 @@ use Rattle.series_model.specs.declared.sample.Query.{Query}
 use Rattle.series_model.specs.declared.sample.Sample.{Sample}
 use Rattle.store_manifest.specs.Manifest.{ManifestState}
 use Rattle.store_manifest.specs.declared.entry.Entry.{Entry}
-use Rattle.tier_store.specs.Held.{Filed, entry_of}
-use Rattle.tier_store.specs.Plan.{of_row}
-use Rattle.three_stores.specs.Change.{IsKnown}
-use Rattle.three_stores.specs.Opening.{IsOpened, IsReaderOf, answer_of, end_of_answer, refusal}
-use Rattle.three_stores.specs.Pinned.{IsShown, PinsStand, beside}
-use Rattle.three_stores.specs.Pinning.{Placed, placed, placed_at, files_in, listed_of, piece_of, has_bytes, SaysPinned, none_has, is_pinned}
-use Rattle.three_stores.specs.Seen.{Seen, IsSettled}
-use Rattle.three_stores.specs.Settling.{Settles}
-use Rattle.three_stores.specs.Stores.{Stores, list_at}
-use Rattle.three_stores.proofs.OpeningPieces.{begins_there}
-use Rattle.three_stores.proofs.Places.{manifest_at}
-use Rattle.three_stores.proofs.Rising.{own_series}
+use Rattle.durable_write.specs.Held.{Filed, entry_of}
+use Rattle.durable_write.specs.Plan.{of_row}
+use Rattle.tier_store.specs.Change.{IsKnown}
+use Rattle.tier_store.specs.Opening.{IsOpened, IsReaderOf, answer_of, end_of_answer, refusal}
+use Rattle.tier_store.specs.Pinned.{IsShown, PinsStand, beside}
+use Rattle.tier_store.specs.Pinning.{Placed, placed, placed_at, files_in, listed_of, piece_of, has_bytes, SaysPinned, none_has, is_pinned}
+use Rattle.tier_store.specs.Seen.{Seen, IsSettled}
+use Rattle.tier_store.specs.Settling.{Settles}
+use Rattle.tier_store.specs.Stores.{Stores, list_at}
+use Rattle.tier_store.proofs.OpeningPieces.{begins_there}
+use Rattle.tier_store.proofs.Places.{manifest_at}
+use Rattle.tier_store.proofs.Rising.{own_series}
 use Rattle.act_model.specs.Machine.{Machine}
 use Rattle.act_model.specs.Reply.{Reply, reply_of}
 use Rattle.act_model.specs.Rows.{Store, Short, Medium, Long}

@@ -6,8 +6,8 @@ use Rattle.std.specs.Prelude.{slice_get}
 use Rattle.disk_model.specs.Files.{Name}
 use Rattle.pinned_pieces.specs.Pieces.{PinOf}
 use Rattle.pinned_pieces.specs.declared.piece.PinnedFile.{PinnedFile}
-use Rattle.three_stores.specs.Limbo.{IsPinnedFile}
-use Rattle.three_stores.specs.Pinned.{SeenAll, Shows}
+use Rattle.tier_store.specs.Limbo.{IsPinnedFile}
+use Rattle.tier_store.specs.Pinned.{SeenAll, Shows}
 use Rattle.act_model.specs.Limbo.{FileState}
 use Rattle.act_model.specs.Machine.{PinState}
 use Rattle.act_model.specs.OpenPiece.{bytes_of}

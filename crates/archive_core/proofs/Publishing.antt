@@ -20,22 +20,22 @@ use Rattle.running_moves.specs.Table.{at}
 use Rattle.running_moves.specs.declared.table.Running.{Running}
 use Rattle.series_model.specs.Series.{end_of}
 use Rattle.store_manifest.specs.Manifest.{ManifestState}
-use Rattle.tier_store.specs.Ends.{Done, Failed, Spent, End, end_of_disk}
-use Rattle.tier_store.specs.Flush.{PlacesRise, file_at, put_all}
-use Rattle.tier_store.specs.Held.{Filed, IsListedTo, filed_at, listing_of, samples_of}
-use Rattle.tier_store.specs.Plan.{of_row}
-use Rattle.tier_store.proofs.Rows.{put_all_other}
-use Rattle.tier_store.proofs.Three.{same_cases}
-use Rattle.three_stores.specs.Change.{EndsFrom, Has, HoldsChange, IsEither, IsOpen}
-use Rattle.three_stores.specs.Given.{ActsGiven}
-use Rattle.three_stores.specs.Moving.{ListsAlso, RunsBeside, parts_in, publishing}
-use Rattle.three_stores.specs.Pinned.{SeenAll, beside}
-use Rattle.three_stores.specs.Seen.{Seen, granularities}
-use Rattle.three_stores.specs.Stores.{Stores, list_at, tier}
-use Rattle.three_stores.specs.declared.limbo.Retired.{Retired}
-use Rattle.three_stores.proofs.BesideMoves.{runs_listed}
-use Rattle.three_stores.proofs.MovedFiles.{goes_on}
-use Rattle.three_stores.proofs.Places.{list_other, list_set, manifest_at}
+use Rattle.durable_write.specs.Ends.{Done, Failed, Spent, End, end_of_disk}
+use Rattle.durable_write.specs.Flush.{PlacesRise, file_at, put_all}
+use Rattle.durable_write.specs.Held.{Filed, IsListedTo, filed_at, listing_of, samples_of}
+use Rattle.durable_write.specs.Plan.{of_row}
+use Rattle.durable_write.proofs.Rows.{put_all_other}
+use Rattle.durable_write.proofs.Three.{same_cases}
+use Rattle.tier_store.specs.Change.{EndsFrom, Has, HoldsChange, IsEither, IsOpen}
+use Rattle.tier_store.specs.Given.{ActsGiven}
+use Rattle.tier_store.specs.Moving.{ListsAlso, RunsBeside, parts_in, publishing}
+use Rattle.tier_store.specs.Pinned.{SeenAll, beside}
+use Rattle.tier_store.specs.Seen.{Seen, granularities}
+use Rattle.tier_store.specs.Stores.{Stores, list_at, tier}
+use Rattle.tier_store.specs.declared.limbo.Retired.{Retired}
+use Rattle.tier_store.proofs.BesideMoves.{runs_listed}
+use Rattle.tier_store.proofs.MovedFiles.{goes_on}
+use Rattle.tier_store.proofs.Places.{list_other, list_set, manifest_at}
 use Rattle.act_model.specs.Changes.{no_doubt}
 use Rattle.act_model.specs.Changes as changes
 use Rattle.act_model.specs.Machine.{Machine, MoveState, Stage, Copies, HasCopied, HasPublished, Change}

@@ -2,10 +2,10 @@
 use Rattle.std.proofs.Common.{◌≡◌, Bool, refl, sym, ◌∙◌, ap, subst}
 use Rattle.disk_model.specs.Past.{Passes}
 use Rattle.disk_model.proofs.Passing.{passes_none, passes_then}
-use Rattle.tier_store.specs.Ends.{End}
-use Rattle.three_stores.specs.Change.{OnlyReads}
-use Rattle.three_stores.specs.Pinned.{SeenAll, IsThereTo, LeavesFronts}
-use Rattle.three_stores.proofs.LeavingFronts.{fronts_read}
+use Rattle.durable_write.specs.Ends.{End}
+use Rattle.tier_store.specs.Change.{OnlyReads}
+use Rattle.tier_store.specs.Pinned.{SeenAll, IsThereTo, LeavesFronts}
+use Rattle.tier_store.proofs.LeavingFronts.{fronts_read}
 use Rattle.archive_core.specs.Leaving.{ReadsAlone, files_of}
 use Rattle.archive_core.specs.Parts.{Parts}
 

@@ -13,12 +13,12 @@ use Rattle.pv_catalog.specs.Rows.{HasName, HasKey}
 use Rattle.pv_catalog.specs.declared.error.RegisterErr.{RegisterErr}
 use Rattle.pv_catalog.specs.declared.error.RegisterErr.TheVariants.{NameTaken, KeyTaken, Full, Disk}
 use Rattle.pv_catalog.specs.declared.row.Row.{Row}
-use Rattle.tier_store.specs.Ends.{Done, Refused, Failed, Spent}
-use Rattle.three_stores.specs.Change.{Acts, Has, EndsFrom, registering}
-use Rattle.three_stores.specs.Pinned.{beside}
-use Rattle.three_stores.specs.Seen.{Seen, granularities}
-use Rattle.three_stores.specs.Stores.{Stores}
-use Rattle.three_stores.proofs.Left.{has_left}
+use Rattle.durable_write.specs.Ends.{Done, Refused, Failed, Spent}
+use Rattle.tier_store.specs.Change.{Acts, Has, EndsFrom, registering}
+use Rattle.tier_store.specs.Pinned.{beside}
+use Rattle.tier_store.specs.Seen.{Seen, granularities}
+use Rattle.tier_store.specs.Stores.{Stores}
+use Rattle.tier_store.proofs.Left.{has_left}
 use Rattle.act_model.specs.Changes.{made}
 use Rattle.act_model.specs.Machine.{Machine, Change, AddsRow, place, find_row, with_key, same_bytes}
 use Rattle.act_model.specs.Register.{register_refused}

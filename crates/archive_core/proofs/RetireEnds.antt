@@ -9,11 +9,11 @@ use Rattle.partition_names.specs.declared.granularity.Granularity.{Granularity}
 use Rattle.pv_catalog.specs.Catalogue.{CatalogueState}
 use Rattle.store_manifest.specs.Manifest.{ManifestState}
 use Rattle.store_manifest.specs.declared.entry.Entry.{Entry}
-use Rattle.tier_store.specs.Held.{entry_of}
-use Rattle.three_stores.specs.Change.{HoldsChange, IsEither}
-use Rattle.three_stores.specs.Retiring.{oldest, without_oldest, HasGrown, HasNotGrown}
-use Rattle.three_stores.specs.Retiring.{Retires as StoresRetire}
-use Rattle.three_stores.specs.Stores.{Stores}
+use Rattle.durable_write.specs.Held.{entry_of}
+use Rattle.tier_store.specs.Change.{HoldsChange, IsEither}
+use Rattle.tier_store.specs.Retiring.{oldest, without_oldest, HasGrown, HasNotGrown}
+use Rattle.tier_store.specs.Retiring.{Retires as StoresRetire}
+use Rattle.tier_store.specs.Stores.{Stores}
 use Rattle.act_model.specs.Changes.{Retires, made}
 use Rattle.act_model.specs.Limbo.{FileState}
 use Rattle.act_model.specs.Machine.{Machine, Change, MoveState, Stage, Unlists}

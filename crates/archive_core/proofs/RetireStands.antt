@@ -15,21 +15,21 @@ use Rattle.pinned_pieces.specs.Pieces.{PinOf}
 use Rattle.pv_catalog.specs.declared.row.Row.{Row}
 use Rattle.running_moves.specs.declared.table.Running.{Running}
 use Rattle.store_manifest.specs.declared.entry.Entry.{Entry}
-use Rattle.tier_store.specs.Ends.{Done, end_of_disk}
-use Rattle.tier_store.specs.Held.{Filed, entry_of}
-use Rattle.three_stores.specs.Change.{Acts as StoreActs, EndsFrom, Has, HoldsChange, IsOpen, Doubts}
-use Rattle.three_stores.specs.Limbo.{IsListedName, LimboStands}
-use Rattle.three_stores.specs.Moving.{LeavesNames}
-use Rattle.three_stores.specs.Pinned.{beside}
-use Rattle.three_stores.specs.Retiring.{AreApart, FailsRetired, HandedOver, HasGrown, Remain, oldest, ShowsKept, StayOrEnter, retiring, without_oldest}
-use Rattle.three_stores.specs.Retiring.{Retires as StoresRetire}
-use Rattle.three_stores.specs.Revival.{AreWhole, KeepsWholeOf}
-use Rattle.three_stores.specs.Seen.{IsSettled, granularities}
-use Rattle.three_stores.specs.Stores.{Stores}
-use Rattle.three_stores.specs.declared.limbo.Retired.{Retired}
-use Rattle.three_stores.specs.declared.retirement.RetireEnd.{RetireEnd}
-use Rattle.three_stores.specs.declared.retirement.RetireEnd.TheVariants as ends
-use Rattle.three_stores.proofs.Handing.{all_stay}
+use Rattle.durable_write.specs.Ends.{Done, end_of_disk}
+use Rattle.durable_write.specs.Held.{Filed, entry_of}
+use Rattle.tier_store.specs.Change.{Acts as StoreActs, EndsFrom, Has, HoldsChange, IsOpen, Doubts}
+use Rattle.tier_store.specs.Limbo.{IsListedName, LimboStands}
+use Rattle.tier_store.specs.Moving.{LeavesNames}
+use Rattle.tier_store.specs.Pinned.{beside}
+use Rattle.tier_store.specs.Retiring.{AreApart, FailsRetired, HandedOver, HasGrown, Remain, oldest, ShowsKept, StayOrEnter, retiring, without_oldest}
+use Rattle.tier_store.specs.Retiring.{Retires as StoresRetire}
+use Rattle.tier_store.specs.Revival.{AreWhole, KeepsWholeOf}
+use Rattle.tier_store.specs.Seen.{IsSettled, granularities}
+use Rattle.tier_store.specs.Stores.{Stores}
+use Rattle.tier_store.specs.declared.limbo.Retired.{Retired}
+use Rattle.tier_store.specs.declared.retirement.RetireEnd.{RetireEnd}
+use Rattle.tier_store.specs.declared.retirement.RetireEnd.TheVariants as ends
+use Rattle.tier_store.proofs.Handing.{all_stay}
 use Rattle.act_model.specs.Changes.{made, no_doubt}
 use Rattle.act_model.specs.Machine.{Machine, MoveState, Change, Unlists}
 use Rattle.act_model.specs.MoveStep.{GoesOn, change_of, ends_move, no_move, without_move}

@@ -13,23 +13,23 @@ use Rattle.pv_catalog.proofs.Standing.{keeps_same}
 use Rattle.running_moves.specs.declared.table.Running.{Running}
 use Rattle.series_model.specs.Series.{end_of}
 use Rattle.store_manifest.specs.Entries.{Place, comes_before, without}
-use Rattle.tier_store.specs.Ahead.{without_all}
-use Rattle.tier_store.specs.Held.{Filed, IsListed, file_of, filed_at}
-use Rattle.tier_store.specs.Plan.{of_row}
-use Rattle.tier_store.proofs.Names.{same_place}
-use Rattle.tier_store.proofs.PutFile.{filter_swap}
-use Rattle.tier_store.proofs.Three.{same_cases}
-use Rattle.three_stores.specs.Change.{IsKnown}
-use Rattle.three_stores.specs.Moving.{GoesBeside, LeavesLater, LeavesNames, RunsBeside, names_of}
-use Rattle.three_stores.specs.Pinned.{SeenAll, beside}
-use Rattle.three_stores.specs.Retiring.{AreApart, oldest, without_oldest}
-use Rattle.three_stores.specs.Seen.{Seen, granularities}
-use Rattle.three_stores.specs.Stores.{Stores, list_at, samples_in}
-use Rattle.three_stores.specs.declared.limbo.Retired.{Retired}
-use Rattle.three_stores.proofs.Dropped.{from_oldest}
-use Rattle.three_stores.proofs.LeavingNames.{later_names}
-use Rattle.three_stores.proofs.Places.{granularity_at, list_other, list_set, manifest_at}
-use Rattle.three_stores.proofs.Rising.{own_series}
+use Rattle.durable_write.specs.Ahead.{without_all}
+use Rattle.durable_write.specs.Held.{Filed, IsListed, file_of, filed_at}
+use Rattle.durable_write.specs.Plan.{of_row}
+use Rattle.durable_write.proofs.Names.{same_place}
+use Rattle.durable_write.proofs.PutFile.{filter_swap}
+use Rattle.durable_write.proofs.Three.{same_cases}
+use Rattle.tier_store.specs.Change.{IsKnown}
+use Rattle.tier_store.specs.Moving.{GoesBeside, LeavesLater, LeavesNames, RunsBeside, names_of}
+use Rattle.tier_store.specs.Pinned.{SeenAll, beside}
+use Rattle.tier_store.specs.Retiring.{AreApart, oldest, without_oldest}
+use Rattle.tier_store.specs.Seen.{Seen, granularities}
+use Rattle.tier_store.specs.Stores.{Stores, list_at, samples_in}
+use Rattle.tier_store.specs.declared.limbo.Retired.{Retired}
+use Rattle.tier_store.proofs.Dropped.{from_oldest}
+use Rattle.tier_store.proofs.LeavingNames.{later_names}
+use Rattle.tier_store.proofs.Places.{granularity_at, list_other, list_set, manifest_at}
+use Rattle.tier_store.proofs.Rising.{own_series}
 use Rattle.act_model.specs.Changes.{Retires, made}
 use Rattle.act_model.specs.Limbo.{FileState, put}
 use Rattle.act_model.specs.Machine.{Machine, MoveState, Unlists}

@@ -14,18 +14,18 @@ use Rattle.pv_catalog.specs.Rows.{KeepsRows}
 use Rattle.pv_catalog.specs.declared.row.Row.{Row}
 use Rattle.pv_catalog.proofs.Standing.{keeps_same}
 use Rattle.store_manifest.specs.declared.entry.Entry.{Entry}
-use Rattle.tier_store.specs.Held.{Filed, Shelf, entry_of}
-use Rattle.three_stores.specs.Change.{Has, IsKnown}
-use Rattle.three_stores.specs.Limbo.{LimboStands, IsListedName}
-use Rattle.three_stores.specs.Pinned.{SeenAll, beside, KeepsShown}
-use Rattle.three_stores.specs.Pinning.{placed_at, state_of}
-use Rattle.three_stores.specs.Retiring.{AreOldest, Enter, HandedOver, Leaves, StayOrEnter, ShowsKept, oldest, retired_of, without_oldest}
-use Rattle.three_stores.specs.Seen.{Seen, granularities}
-use Rattle.three_stores.specs.Stores.{Stores}
-use Rattle.three_stores.specs.declared.limbo.Retired.{Retired}
-use Rattle.three_stores.proofs.Dropped.{same_entries}
-use Rattle.three_stores.proofs.Handing.{name_left}
-use Rattle.three_stores.proofs.Staying.{among_is, is_among, limbo_kept, stay_cases, stay_from}
+use Rattle.durable_write.specs.Held.{Filed, Shelf, entry_of}
+use Rattle.tier_store.specs.Change.{Has, IsKnown}
+use Rattle.tier_store.specs.Limbo.{LimboStands, IsListedName}
+use Rattle.tier_store.specs.Pinned.{SeenAll, beside, KeepsShown}
+use Rattle.tier_store.specs.Pinning.{placed_at, state_of}
+use Rattle.tier_store.specs.Retiring.{AreOldest, Enter, HandedOver, Leaves, StayOrEnter, ShowsKept, oldest, retired_of, without_oldest}
+use Rattle.tier_store.specs.Seen.{Seen, granularities}
+use Rattle.tier_store.specs.Stores.{Stores}
+use Rattle.tier_store.specs.declared.limbo.Retired.{Retired}
+use Rattle.tier_store.proofs.Dropped.{same_entries}
+use Rattle.tier_store.proofs.Handing.{name_left}
+use Rattle.tier_store.proofs.Staying.{among_is, is_among, limbo_kept, stay_cases, stay_from}
 use Rattle.act_model.specs.Changes.{made, Retires}
 use Rattle.act_model.specs.Limbo.{FileState}
 use Rattle.act_model.specs.Machine.{Machine, Change, Unlists}

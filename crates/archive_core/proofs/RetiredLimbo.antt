@@ -13,16 +13,16 @@ use Rattle.pinned_pieces.specs.Pieces.{PinOf}
 use Rattle.pv_catalog.specs.Rows.{KeepsRows}
 use Rattle.pv_catalog.specs.declared.row.Row.{Row}
 use Rattle.pv_catalog.proofs.Standing.{keeps_same}
-use Rattle.tier_store.specs.Held.{Filed, entry_of}
-use Rattle.three_stores.specs.Change.{Has}
-use Rattle.three_stores.specs.Limbo.{LimboStands, IsListedName, IsPinnedFile}
-use Rattle.three_stores.specs.Pinned.{SeenAll, beside}
-use Rattle.three_stores.specs.Retiring.{oldest, without_oldest, retired_of, Leaves, IsFree, Stays, Remain, ShowsKept, names_in}
-use Rattle.three_stores.specs.Seen.{Seen, granularities}
-use Rattle.three_stores.specs.Stores.{Stores}
-use Rattle.three_stores.specs.declared.limbo.Retired.{Retired}
-use Rattle.three_stores.proofs.Handing.{name_left}
-use Rattle.three_stores.proofs.Staying.{among_is, is_among, stay_cases, stay_from}
+use Rattle.durable_write.specs.Held.{Filed, entry_of}
+use Rattle.tier_store.specs.Change.{Has}
+use Rattle.tier_store.specs.Limbo.{LimboStands, IsListedName, IsPinnedFile}
+use Rattle.tier_store.specs.Pinned.{SeenAll, beside}
+use Rattle.tier_store.specs.Retiring.{oldest, without_oldest, retired_of, Leaves, IsFree, Stays, Remain, ShowsKept, names_in}
+use Rattle.tier_store.specs.Seen.{Seen, granularities}
+use Rattle.tier_store.specs.Stores.{Stores}
+use Rattle.tier_store.specs.declared.limbo.Retired.{Retired}
+use Rattle.tier_store.proofs.Handing.{name_left}
+use Rattle.tier_store.proofs.Staying.{among_is, is_among, stay_cases, stay_from}
 use Rattle.act_model.specs.Changes.{at, made, retired, Retires}
 use Rattle.act_model.specs.Limbo.{FileState, unlisted}
 use Rattle.act_model.specs.Machine.{Machine, Change, Unlists}

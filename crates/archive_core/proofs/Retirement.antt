@@ -16,19 +16,19 @@ use Rattle.running_moves.specs.Table.{at}
 use Rattle.running_moves.specs.declared.table.Running.{Running}
 use Rattle.series_model.specs.Series.{end_of}
 use Rattle.store_manifest.specs.declared.entry.Entry.{Entry}
-use Rattle.tier_store.specs.Held.{Filed, samples_of}
-use Rattle.tier_store.specs.Ends.{end_of_disk, IsFailed}
-use Rattle.tier_store.specs.Plan.{of_row}
-use Rattle.three_stores.specs.Change.{IsOpen}
-use Rattle.three_stores.specs.Limbo.{LimboStands}
-use Rattle.three_stores.specs.Pinned.{SeenAll, beside}
-use Rattle.three_stores.specs.Retiring.{oldest}
-use Rattle.three_stores.specs.Seen.{Seen, granularities}
-use Rattle.three_stores.proofs.Left.{has_left}
-use Rattle.three_stores.specs.Stores.{Stores, list_at}
-use Rattle.three_stores.specs.declared.limbo.Retired.{Retired}
-use Rattle.three_stores.specs.declared.retirement.RetireEnd.{RetireEnd}
-use Rattle.three_stores.specs.declared.retirement.RetireEnd.TheVariants as ends
+use Rattle.durable_write.specs.Held.{Filed, samples_of}
+use Rattle.durable_write.specs.Ends.{end_of_disk, IsFailed}
+use Rattle.durable_write.specs.Plan.{of_row}
+use Rattle.tier_store.specs.Change.{IsOpen}
+use Rattle.tier_store.specs.Limbo.{LimboStands}
+use Rattle.tier_store.specs.Pinned.{SeenAll, beside}
+use Rattle.tier_store.specs.Retiring.{oldest}
+use Rattle.tier_store.specs.Seen.{Seen, granularities}
+use Rattle.tier_store.proofs.Left.{has_left}
+use Rattle.tier_store.specs.Stores.{Stores, list_at}
+use Rattle.tier_store.specs.declared.limbo.Retired.{Retired}
+use Rattle.tier_store.specs.declared.retirement.RetireEnd.{RetireEnd}
+use Rattle.tier_store.specs.declared.retirement.RetireEnd.TheVariants as ends
 use Rattle.act_model.specs.Machine.{Machine, MoveState, Stage, Copies, HasCopied, HasPublished, Unlists}
 use Rattle.act_model.specs.MoveStep.{ends_move, without_move}
 use Rattle.act_model.specs.Rows.{next_store}

@@ -24,26 +24,26 @@ use Rattle.store_files.specs.Fronts.{Begins}
 use Rattle.store_manifest.specs.Entries.{place}
 use Rattle.store_manifest.specs.Manifest.{ManifestState}
 use Rattle.store_manifest.specs.declared.entry.Entry.{Entry}
-use Rattle.tier_store.specs.Flush.{file_at, put_all, with_batch}
-use Rattle.tier_store.specs.Held.{Filed, IsFiled, IsIn, file_of, filed_at, samples_of}
-use Rattle.tier_store.specs.Held as held_files
-use Rattle.tier_store.proofs.Ahead.{contains_entry}
-use Rattle.tier_store.proofs.Listed.{all_put_all, listed_at}
-use Rattle.tier_store.proofs.There.{contains_map}
-use Rattle.three_stores.specs.Change.{Has, IsKnown}
-use Rattle.three_stores.specs.Limbo.{IsListedName, IsOfPlace}
-use Rattle.three_stores.specs.Pinned.{beside}
-use Rattle.three_stores.specs.Revival.{AreWhole, FlushesOver, IsOfLimbo, fresh, samples_at}
-use Rattle.three_stores.specs.Revival as revival
-use Rattle.three_stores.specs.Seen.{Seen, granularities}
-use Rattle.three_stores.specs.Stores.{Stores}
-use Rattle.three_stores.specs.declared.limbo.Retired.{Retired}
-use Rattle.three_stores.proofs.Dropped.{one_file as one_of_list}
-use Rattle.three_stores.proofs.Places.{manifest_at}
-use Rattle.three_stores.proofs.RevivalCall.{listed_there}
-use Rattle.three_stores.proofs.RevivalShown.{place_named}
-use Rattle.three_stores.proofs.Revived.{flush_revives}
-use Rattle.three_stores.proofs.Staying.{listed_place}
+use Rattle.durable_write.specs.Flush.{file_at, put_all, with_batch}
+use Rattle.durable_write.specs.Held.{Filed, IsFiled, IsIn, file_of, filed_at, samples_of}
+use Rattle.durable_write.specs.Held as held_files
+use Rattle.durable_write.proofs.Ahead.{contains_entry}
+use Rattle.durable_write.proofs.Listed.{all_put_all, listed_at}
+use Rattle.durable_write.proofs.There.{contains_map}
+use Rattle.tier_store.specs.Change.{Has, IsKnown}
+use Rattle.tier_store.specs.Limbo.{IsListedName, IsOfPlace}
+use Rattle.tier_store.specs.Pinned.{beside}
+use Rattle.tier_store.specs.Revival.{AreWhole, FlushesOver, IsOfLimbo, fresh, samples_at}
+use Rattle.tier_store.specs.Revival as revival
+use Rattle.tier_store.specs.Seen.{Seen, granularities}
+use Rattle.tier_store.specs.Stores.{Stores}
+use Rattle.tier_store.specs.declared.limbo.Retired.{Retired}
+use Rattle.tier_store.proofs.Dropped.{one_file as one_of_list}
+use Rattle.tier_store.proofs.Places.{manifest_at}
+use Rattle.tier_store.proofs.RevivalCall.{listed_there}
+use Rattle.tier_store.proofs.RevivalShown.{place_named}
+use Rattle.tier_store.proofs.Revived.{flush_revives}
+use Rattle.tier_store.proofs.Staying.{listed_place}
 use Rattle.act_model.specs.Changes.{of_row}
 use Rattle.act_model.specs.Crash.{kept_of}
 use Rattle.act_model.specs.Limbo.{FileState, files_of, put, revived, tier_at}

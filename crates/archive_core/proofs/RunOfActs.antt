@@ -7,7 +7,7 @@ use Rattle.disk_model.specs.Files.{Files}
 use Rattle.disk_model.proofs.Passing.{passes_none, passes_then, passes_weaker}
 use Rattle.partition_names.specs.declared.granularity.Granularity.{Granularity}
 use Rattle.series_model.specs.Archive.{IsPrefix}
-use Rattle.three_stores.specs.Seen.{granularities}
+use Rattle.tier_store.specs.Seen.{granularities}
 use Rattle.act_model.specs.declared.acts.Act.{Act}
 use Rattle.act_model.specs.declared.acts.Act.TheVariants.{Doors}
 use Rattle.act_model.specs.Alone.{Chain}

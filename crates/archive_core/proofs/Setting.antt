@@ -6,9 +6,9 @@ use Rattle.disk_model.specs.declared.disk.DiskErr.{DiskErr}
 use Rattle.event_types.specs.declared.about.State.{State}
 use Rattle.event_types.specs.declared.about.State.TheVariants.{Running, Paused, Retired}
 use Rattle.pv_catalog.specs.Catalogue.{HasState}
-use Rattle.tier_store.specs.Ends.{end_of_disk, IsFailed}
-use Rattle.three_stores.specs.Change.{OnlyReads}
-use Rattle.three_stores.specs.Seen.{granularities}
+use Rattle.durable_write.specs.Ends.{end_of_disk, IsFailed}
+use Rattle.tier_store.specs.Change.{OnlyReads}
+use Rattle.tier_store.specs.Seen.{granularities}
 use Rattle.act_model.specs.Machine.{Machine, Change, SetsState, find_row}
 use Rattle.act_model.specs.Pause.{StateStep, Sets, state_refused, sets_of}
 use Rattle.act_model.specs.Reply.{Reply}

@@ -21,15 +21,15 @@ use Rattle.series_model.proofs.RisingLists.{RisesFrom-lower}
 use Rattle.etl_rules.specs.Config.{ConfigState}
 use Rattle.etl_mover.specs.Move.{MoveState as Moving}
 use Rattle.running_moves.specs.declared.table.Running.{Running}
-use Rattle.tier_store.specs.Held.{Filed}
-use Rattle.tier_store.specs.Plan.{of_row as files_in}
-use Rattle.three_stores.specs.Beginning.{AreNested}
-use Rattle.three_stores.specs.Change.{Has, IsKnown, IsOpen, HasEither}
-use Rattle.three_stores.specs.Pinned.{beside}
-use Rattle.three_stores.specs.Revival.{AreWhole}
-use Rattle.three_stores.specs.Seen.{Seen, IsSettled, granularities}
-use Rattle.three_stores.specs.Stores.{Stores, list_at, samples_in}
-use Rattle.three_stores.specs.declared.limbo.Retired.{Retired}
+use Rattle.durable_write.specs.Held.{Filed}
+use Rattle.durable_write.specs.Plan.{of_row as files_in}
+use Rattle.tier_store.specs.Beginning.{AreNested}
+use Rattle.tier_store.specs.Change.{Has, IsKnown, IsOpen, HasEither}
+use Rattle.tier_store.specs.Pinned.{beside}
+use Rattle.tier_store.specs.Revival.{AreWhole}
+use Rattle.tier_store.specs.Seen.{Seen, IsSettled, granularities}
+use Rattle.tier_store.specs.Stores.{Stores, list_at, samples_in}
+use Rattle.tier_store.specs.declared.limbo.Retired.{Retired}
 use Rattle.act_model.specs.Changes.{each, at, changed, made, of_row, Settles, no_doubt, as_not_made, as_made, without_held}
 use Rattle.act_model.specs.Crash.{kept_of, kept}
 use Rattle.act_model.specs.Limbo.{FileState}

@@ -10,16 +10,16 @@ use Rattle.series_model.specs.Series.{end_from, end_of}
 use Rattle.series_model.specs.declared.sample.Sample.{Sample}
 use Rattle.series_model.proofs.RisingLists.{RisesFrom-append, RisesFrom-lower, end_from-append}
 use Rattle.store_manifest.specs.declared.entry.Entry.{Entry}
-use Rattle.tier_store.specs.Held.{Filed, entry_of}
-use Rattle.tier_store.specs.Plan.{of_row}
-use Rattle.three_stores.specs.Copying.{CopiesBeside, KnowsHeads}
-use Rattle.three_stores.specs.Moving.{GoesBeside, LeavesNames, RunsBeside, names_of}
-use Rattle.three_stores.specs.Pinned.{SeenAll}
-use Rattle.three_stores.specs.Retiring.{oldest}
-use Rattle.three_stores.specs.Seen.{granularities}
-use Rattle.three_stores.specs.Stores.{Stores, list_at}
-use Rattle.three_stores.proofs.CopyBegun.{copies_still}
-use Rattle.three_stores.proofs.Places.{manifest_of}
+use Rattle.durable_write.specs.Held.{Filed, entry_of}
+use Rattle.durable_write.specs.Plan.{of_row}
+use Rattle.tier_store.specs.Copying.{CopiesBeside, KnowsHeads}
+use Rattle.tier_store.specs.Moving.{GoesBeside, LeavesNames, RunsBeside, names_of}
+use Rattle.tier_store.specs.Pinned.{SeenAll}
+use Rattle.tier_store.specs.Retiring.{oldest}
+use Rattle.tier_store.specs.Seen.{granularities}
+use Rattle.tier_store.specs.Stores.{Stores, list_at}
+use Rattle.tier_store.proofs.CopyBegun.{copies_still}
+use Rattle.tier_store.proofs.Places.{manifest_of}
 use Rattle.act_model.specs.Machine.{Stage, Copies, HasCopied, HasPublished}
 use Rattle.archive_core.specs.Growing.{FilesGoOn, GoesFurther, LastGoesOn}
 use Rattle.archive_core.specs.MoveTies.{HasCopiedParts, IsAtStage, IsCopiedTo, end_ahead, listed_end}

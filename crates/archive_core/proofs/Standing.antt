@@ -29,13 +29,13 @@ use Rattle.archive_core.proofs.Making.{count_of}
 use Rattle.archive_core.proofs.MovesKept.{SameLater, moves_left}
 use Rattle.etl_mover.specs.Move.{MoveState as Moving}
 use Rattle.running_moves.specs.declared.table.Running.{Running}
-use Rattle.three_stores.proofs.LeavingNames.{nothing_leaves}
+use Rattle.tier_store.proofs.LeavingNames.{nothing_leaves}
 use Rattle.archive_core.proofs.PinTies.{KeepsNames, pins_stay, names_at}
 use Rattle.archive_core.proofs.StoresGoing.{go_named}
-use Rattle.three_stores.specs.Pinned.{beside}
-use Rattle.three_stores.specs.Change.{Has}
-use Rattle.three_stores.specs.Seen.{Seen}
-use Rattle.three_stores.specs.declared.limbo.Retired.{Retired}
+use Rattle.tier_store.specs.Pinned.{beside}
+use Rattle.tier_store.specs.Change.{Has}
+use Rattle.tier_store.specs.Seen.{Seen}
+use Rattle.tier_store.specs.declared.limbo.Retired.{Retired}
 
 -- the stores are as much those of the machine
 between_rows : (tells : Bool) (at : Seen) (limbo : List Retired) (slots : List (Option (Running Moving))) (m : Machine) (g : ℕ → RowState → RowState) → KeepsNames m.rows (each g 0 m.rows) → ((i : ℕ) (r : RowState) → kept_of (g i r) ≡ kept_of r) → IsBetween tells at limbo slots m → IsBetween tells at limbo slots (with_rows m g)

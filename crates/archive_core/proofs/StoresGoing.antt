@@ -2,11 +2,11 @@
 use Rattle.std.proofs.Common.{◌≡◌, ℕ, List, Bool, refl}
 use Rattle.std.specs.FinMap.{FinMap}
 use Rattle.std.specs.Ordering.{nat_cmp}
-use Rattle.three_stores.specs.Change.{IsKnown}
-use Rattle.three_stores.specs.Pinned.{SeenAll, beside, KeepsShown}
-use Rattle.three_stores.specs.Seen.{Seen, granularities}
-use Rattle.three_stores.specs.Stores.{Stores}
-use Rattle.three_stores.specs.declared.limbo.Retired.{Retired}
+use Rattle.tier_store.specs.Change.{IsKnown}
+use Rattle.tier_store.specs.Pinned.{SeenAll, beside, KeepsShown}
+use Rattle.tier_store.specs.Seen.{Seen, granularities}
+use Rattle.tier_store.specs.Stores.{Stores}
+use Rattle.tier_store.specs.declared.limbo.Retired.{Retired}
 use Rattle.pv_catalog.proofs.Standing.{keeps_same}
 use Rattle.act_model.specs.Machine.{MoveState, Change, AddsRow, SetsState, Appends, Publishes, Unlists}
 use Rattle.act_model.specs.Rows.{RowState}

@@ -12,18 +12,18 @@ use Rattle.partition_names.specs.declared.granularity.Granularity.{Granularity}
 use Rattle.pinned_pieces.specs.Pieces.{PinOf}
 use Rattle.pv_catalog.specs.Catalogue.{CatalogueState}
 use Rattle.pv_catalog.specs.Rows.{KeepsRows}
-use Rattle.tier_store.specs.Ends.{end_of_disk, IsFailed}
-use Rattle.tier_store.proofs.Rises.{rose_after}
-use Rattle.three_stores.specs.Change.{Acts as StoreActs, EndsFrom, Has, HoldsChange, IsEither, OnlyReads}
-use Rattle.three_stores.specs.Limbo.{IsListedName, IsNeeded, IsSwept as IsSweptOf, LeavesKept, LimboStands, staying}
-use Rattle.three_stores.specs.Moving.{LeavesLater, LeavesNames}
-use Rattle.three_stores.specs.Pinned.{SeenAll, beside, KeepsShown}
-use Rattle.three_stores.specs.Revival.{KeepsWhole}
-use Rattle.three_stores.specs.Seen.{IsSettled, granularities}
-use Rattle.three_stores.specs.Stored.{HoldsAll}
-use Rattle.three_stores.specs.Stores.{Stores}
-use Rattle.three_stores.specs.declared.limbo.Retired.{Retired}
-use Rattle.three_stores.specs.declared.removing.Swept.{Swept}
+use Rattle.durable_write.specs.Ends.{end_of_disk, IsFailed}
+use Rattle.durable_write.proofs.Rises.{rose_after}
+use Rattle.tier_store.specs.Change.{Acts as StoreActs, EndsFrom, Has, HoldsChange, IsEither, OnlyReads}
+use Rattle.tier_store.specs.Limbo.{IsListedName, IsNeeded, IsSwept as IsSweptOf, LeavesKept, LimboStands, staying}
+use Rattle.tier_store.specs.Moving.{LeavesLater, LeavesNames}
+use Rattle.tier_store.specs.Pinned.{SeenAll, beside, KeepsShown}
+use Rattle.tier_store.specs.Revival.{KeepsWhole}
+use Rattle.tier_store.specs.Seen.{IsSettled, granularities}
+use Rattle.tier_store.specs.Stored.{HoldsAll}
+use Rattle.tier_store.specs.Stores.{Stores}
+use Rattle.tier_store.specs.declared.limbo.Retired.{Retired}
+use Rattle.tier_store.specs.declared.removing.Swept.{Swept}
 use Rattle.act_model.specs.Changes.{no_doubt}
 use Rattle.act_model.specs.Crash.{settled_there}
 use Rattle.act_model.specs.Limbo.{FileState}

@@ -19,21 +19,21 @@ use Rattle.series_model.specs.declared.sample.Sample.{Sample}
 use Rattle.store_manifest.specs.Manifest.{ManifestState}
 use Rattle.store_manifest.specs.declared.entry.Entry.{Entry}
 use Rattle.pv_catalog.specs.declared.row.Row.{Row}
-use Rattle.tier_store.specs.Flush.{file_at}
-use Rattle.tier_store.specs.Held.{Filed, IsListed, file_of, filed_at}
-use Rattle.tier_store.specs.Held as held_files
-use Rattle.tier_store.proofs.Listed.{listed_at}
-use Rattle.tier_store.proofs.Names.{same_file}
-use Rattle.tier_store.proofs.There.{contains_map}
-use Rattle.three_stores.specs.Change.{Has, IsKnownAt}
-use Rattle.three_stores.specs.Limbo.{IsListedName}
-use Rattle.three_stores.specs.Moving.{LeavesNames, names_of}
-use Rattle.three_stores.specs.Pinned.{SeenAll, beside}
-use Rattle.three_stores.specs.Stores.{Stores, list_at}
-use Rattle.three_stores.specs.Stores.{tier as tier_at}
-use Rattle.three_stores.proofs.Dropped.{entry_in}
-use Rattle.three_stores.proofs.LeavingNames.{fewer_names}
-use Rattle.three_stores.proofs.Places.{granularity_at, manifest_at}
+use Rattle.durable_write.specs.Flush.{file_at}
+use Rattle.durable_write.specs.Held.{Filed, IsListed, file_of, filed_at}
+use Rattle.durable_write.specs.Held as held_files
+use Rattle.durable_write.proofs.Listed.{listed_at}
+use Rattle.durable_write.proofs.Names.{same_file}
+use Rattle.durable_write.proofs.There.{contains_map}
+use Rattle.tier_store.specs.Change.{Has, IsKnownAt}
+use Rattle.tier_store.specs.Limbo.{IsListedName}
+use Rattle.tier_store.specs.Moving.{LeavesNames, names_of}
+use Rattle.tier_store.specs.Pinned.{SeenAll, beside}
+use Rattle.tier_store.specs.Stores.{Stores, list_at}
+use Rattle.tier_store.specs.Stores.{tier as tier_at}
+use Rattle.tier_store.proofs.Dropped.{entry_in}
+use Rattle.tier_store.proofs.LeavingNames.{fewer_names}
+use Rattle.tier_store.proofs.Places.{granularity_at, manifest_at}
 use Rattle.act_model.specs.Limbo.{FileState, files_of, put, revived}
 use Rattle.act_model.specs.Machine.{Machine, MoveState}
 use Rattle.act_model.specs.OpenPiece.{name_of}

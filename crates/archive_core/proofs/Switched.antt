@@ -10,11 +10,11 @@ use Rattle.pv_catalog.specs.Rows.{switched}
 use Rattle.pv_catalog.specs.declared.error.StateErr.{StateErr}
 use Rattle.pv_catalog.specs.declared.error.StateErr.TheVariants as of_state
 use Rattle.pv_catalog.specs.declared.row.Row.{Row}
-use Rattle.tier_store.specs.Ends.{Done, Refused, Failed, Spent}
-use Rattle.three_stores.specs.Change.{Acts, Has, EndsFrom, Switches}
-use Rattle.three_stores.specs.Pinned.{beside}
-use Rattle.three_stores.specs.Seen.{Seen, granularities}
-use Rattle.three_stores.specs.Stores.{Stores}
+use Rattle.durable_write.specs.Ends.{Done, Refused, Failed, Spent}
+use Rattle.tier_store.specs.Change.{Acts, Has, EndsFrom, Switches}
+use Rattle.tier_store.specs.Pinned.{beside}
+use Rattle.tier_store.specs.Seen.{Seen, granularities}
+use Rattle.tier_store.specs.Stores.{Stores}
 use Rattle.act_model.specs.Changes.{made}
 use Rattle.act_model.specs.Machine.{Machine, Change, SetsState, find_row}
 use Rattle.act_model.specs.Pause.{state_refused}

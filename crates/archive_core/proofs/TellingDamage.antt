@@ -8,19 +8,19 @@ use Rattle.running_moves.specs.Table.{at}
 use Rattle.running_moves.specs.declared.table.Running.{Running}
 use Rattle.store_manifest.specs.Manifest.{ManifestState}
 use Rattle.store_manifest.specs.declared.entry.Entry.{Entry}
-use Rattle.tier_store.specs.Held.{Filed, entry_of, file_of}
-use Rattle.tier_store.specs.Plan.{of_row}
-use Rattle.tier_store.proofs.Ahead.{contains_entry}
-use Rattle.three_stores.specs.Change.{Has}
-use Rattle.three_stores.specs.Copying.{IsDamaged}
-use Rattle.three_stores.specs.Moving.{RunsBeside}
-use Rattle.three_stores.specs.Pinned.{beside}
-use Rattle.three_stores.specs.Retiring.{oldest}
-use Rattle.three_stores.specs.Seen.{Seen}
-use Rattle.three_stores.specs.Stores.{Stores, list_at}
-use Rattle.three_stores.proofs.Dropped.{from_oldest}
-use Rattle.three_stores.proofs.Places.{manifest_at}
-use Rattle.three_stores.proofs.Rising.{own_series}
+use Rattle.durable_write.specs.Held.{Filed, entry_of, file_of}
+use Rattle.durable_write.specs.Plan.{of_row}
+use Rattle.durable_write.proofs.Ahead.{contains_entry}
+use Rattle.tier_store.specs.Change.{Has}
+use Rattle.tier_store.specs.Copying.{IsDamaged}
+use Rattle.tier_store.specs.Moving.{RunsBeside}
+use Rattle.tier_store.specs.Pinned.{beside}
+use Rattle.tier_store.specs.Retiring.{oldest}
+use Rattle.tier_store.specs.Seen.{Seen}
+use Rattle.tier_store.specs.Stores.{Stores, list_at}
+use Rattle.tier_store.proofs.Dropped.{from_oldest}
+use Rattle.tier_store.proofs.Places.{manifest_at}
+use Rattle.tier_store.proofs.Rising.{own_series}
 use Rattle.act_model.specs.Reply.{Reply}
 use Rattle.act_model.specs.declared.acts.Answer.TheVariants.{Damaged}
 use Rattle.archive_core.specs.Leaving.{TellsDamage}

@@ -4,7 +4,7 @@ use Rattle.pb_wire.specs.declared.payload.PayloadType.{PayloadType}
 use Rattle.series_model.specs.declared.sample.Sample.{Sample}
 use Rattle.series_model.specs.Sampling.{Cell}
 use Rattle.sampler.specs.Row.{SampledRow}
-use Rattle.tier_store.proofs.Years.{in_calendar}
+use Rattle.durable_write.proofs.Years.{in_calendar}
 use Rattle.act_model.specs.Event.{IsEvent}
 use Rattle.act_model.specs.Rows.{RowState}
 use Rattle.act_model.specs.Sound.{IsHeld, LinesSound}

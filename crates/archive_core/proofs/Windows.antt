@@ -13,10 +13,10 @@ use Rattle.pv_catalog.specs.declared.row.Row.{Row}
 use Rattle.series_model.specs.declared.sample.Sample.{Sample}
 use Rattle.series_model.specs.Series.{end_from, since, before, RisesFrom, IsRising}
 use Rattle.series_model.proofs.RisingLists.{RisesFrom-append, RisesFrom-lower, end_from-ge, since-append, since_all, since_none}
-use Rattle.tier_store.specs.Flush.{PlacesRise}
-use Rattle.tier_store.specs.Held.{Filed, IsFiled}
-use Rattle.tier_store.proofs.PutFile.{Comes}
-use Rattle.three_stores.proofs.Rising.{parts_apart}
+use Rattle.durable_write.specs.Flush.{PlacesRise}
+use Rattle.durable_write.specs.Held.{Filed, IsFiled}
+use Rattle.durable_write.proofs.PutFile.{Comes}
+use Rattle.tier_store.proofs.Rising.{parts_apart}
 use Rattle.act_model.specs.Rows.{window}
 use Rattle.act_model.proofs.RowLaws.{before_none}
 

@@ -8,9 +8,9 @@ use Rattle.disk_model.specs.declared.disk.DiskErr.TheVariants.{Fault, Memory}
 use Rattle.partition_names.specs.declared.granularity.Granularity.{Granularity}
 use Rattle.pv_catalog.specs.declared.error.RegisterErr.{RegisterErr}
 use Rattle.pv_catalog.specs.declared.error.RegisterErr.TheVariants as refusal
-use Rattle.three_stores.specs.Seen.{granularities}
-use Rattle.three_stores.specs.Stores.{Stores}
-use Rattle.three_stores.specs.Stored.{HoldsAll}
+use Rattle.tier_store.specs.Seen.{granularities}
+use Rattle.tier_store.specs.Stores.{Stores}
+use Rattle.tier_store.specs.Stored.{HoldsAll}
 use Rattle.act_model.specs.Machine.{Machine, Change, find_row}
 use Rattle.act_model.specs.Changes.{made, Settles}
 use Rattle.act_model.specs.Crash.{DurableRow, LeftBetween, LeftWithin, kept}

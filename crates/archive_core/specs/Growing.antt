@@ -4,7 +4,7 @@ use Rattle.std.specs.Ordering.{nat_cmp}
 use Rattle.std.specs.Prelude.{◌≡◌, ◌⊎◌, ◌≤◌, ℕ, List, [], ◌∷◌, ◌++◌, Bool, IsTrue, Some}
 use Rattle.series_model.specs.Series.{RisesFrom}
 use Rattle.series_model.specs.declared.sample.Sample.{Sample}
-use Rattle.tier_store.specs.Held.{Filed}
+use Rattle.durable_write.specs.Held.{Filed}
 use Rattle.act_model.specs.Machine.{MoveState}
 
 -- a file goes on with samples from a moment on

@@ -12,10 +12,10 @@ use Rattle.running_moves.specs.Table.{at as move_at}
 use Rattle.running_moves.specs.declared.table.Running.{Running}
 use Rattle.store_manifest.specs.Manifest.{ManifestState}
 use Rattle.store_manifest.specs.declared.entry.Entry.{Entry as FileEntry}
-use Rattle.tier_store.specs.Held.{file_of}
-use Rattle.three_stores.specs.Pinned.{SeenAll, beside, IsThereTo, LeavesFronts}
-use Rattle.three_stores.specs.Pinning.{piece_of}
-use Rattle.three_stores.specs.Seen.{Seen, IsSettled}
+use Rattle.durable_write.specs.Held.{file_of}
+use Rattle.tier_store.specs.Pinned.{SeenAll, beside, IsThereTo, LeavesFronts}
+use Rattle.tier_store.specs.Pinning.{piece_of}
+use Rattle.tier_store.specs.Seen.{Seen, IsSettled}
 use Rattle.act_model.specs.History.{Entry}
 use Rattle.act_model.specs.Machine.{Machine}
 use Rattle.act_model.specs.Reply.{Reply, Opened}

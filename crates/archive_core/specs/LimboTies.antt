@@ -10,11 +10,11 @@ use Rattle.std.specs.Prelude.{◌≡◌, ◌≢◌, ℕ, List, [], ◌∷◌, Bo
 use Rattle.disk_model.specs.Files.{Name}
 use Rattle.partition_names.specs.declared.granularity.Granularity.{Granularity}
 use Rattle.store_manifest.specs.declared.entry.Entry.{Entry}
-use Rattle.tier_store.specs.Held.{Filed, IsFiled}
-use Rattle.three_stores.specs.Limbo.{LimboStands, IsListedName}
-use Rattle.three_stores.specs.Pinned.{SeenAll, Shows}
-use Rattle.three_stores.specs.Seen.{granularities}
-use Rattle.three_stores.specs.declared.limbo.Retired.{Retired}
+use Rattle.durable_write.specs.Held.{Filed, IsFiled}
+use Rattle.tier_store.specs.Limbo.{LimboStands, IsListedName}
+use Rattle.tier_store.specs.Pinned.{SeenAll, Shows}
+use Rattle.tier_store.specs.Seen.{granularities}
+use Rattle.tier_store.specs.declared.limbo.Retired.{Retired}
 use Rattle.act_model.specs.Limbo.{FileState}
 use Rattle.act_model.specs.OpenPiece.{bytes_of, name_of}
 use Rattle.act_model.specs.Rows.{RowState, Store, tier}

@@ -8,12 +8,12 @@ use Rattle.move_choice.specs.declared.series.ToMove.TheVariants as chosen
 use Rattle.partition_names.specs.declared.part.Part.{Part}
 use Rattle.pv_catalog.specs.Catalogue.{CatalogueState}
 use Rattle.store_manifest.specs.Manifest.{ManifestState}
-use Rattle.tier_store.specs.Held.{Filed, entry_of}
-use Rattle.tier_store.specs.Plan.{of_row}
-use Rattle.three_stores.specs.Beginning.{parts_at}
-use Rattle.three_stores.specs.Change.{IsKnown}
-use Rattle.three_stores.specs.Seen.{granularities}
-use Rattle.three_stores.specs.Stores.{Stores, list_at}
+use Rattle.durable_write.specs.Held.{Filed, entry_of}
+use Rattle.durable_write.specs.Plan.{of_row}
+use Rattle.tier_store.specs.Beginning.{parts_at}
+use Rattle.tier_store.specs.Change.{IsKnown}
+use Rattle.tier_store.specs.Seen.{granularities}
+use Rattle.tier_store.specs.Stores.{Stores, list_at}
 use Rattle.act_model.specs.Machine.{Machine, MoveState}
 use Rattle.act_model.specs.MoveBegin.{Begins, IsMoving, new_move, with_move}
 use Rattle.act_model.specs.Outcome.{Same}

@@ -17,13 +17,13 @@ use Rattle.running_moves.specs.declared.table.Running.{Running}
 use Rattle.series_model.specs.Series.{end_of, RisesFrom}
 use Rattle.series_model.specs.declared.sample.Sample.{Sample}
 use Rattle.store_manifest.specs.declared.entry.Entry.{Entry}
-use Rattle.tier_store.specs.Flush.{file_at, put_all}
-use Rattle.tier_store.specs.Held.{Filed, filed_at, samples_of}
-use Rattle.three_stores.specs.Copying.{CopiesBeside, samples_ahead}
-use Rattle.three_stores.specs.Moving.{RunsBeside}
-use Rattle.three_stores.specs.Pinned.{SeenAll}
-use Rattle.three_stores.specs.Retiring.{oldest}
-use Rattle.three_stores.specs.Stores.{Stores, list_at}
+use Rattle.durable_write.specs.Flush.{file_at, put_all}
+use Rattle.durable_write.specs.Held.{Filed, filed_at, samples_of}
+use Rattle.tier_store.specs.Copying.{CopiesBeside, samples_ahead}
+use Rattle.tier_store.specs.Moving.{RunsBeside}
+use Rattle.tier_store.specs.Pinned.{SeenAll}
+use Rattle.tier_store.specs.Retiring.{oldest}
+use Rattle.tier_store.specs.Stores.{Stores, list_at}
 use Rattle.act_model.specs.Limbo.{FileState, files_of, put}
 use Rattle.act_model.specs.Machine.{MoveState, Stage, Copies, HasCopied, HasPublished}
 use Rattle.act_model.specs.Rows.{RowState, Long, next_store, tier, holds}

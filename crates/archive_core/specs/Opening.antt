@@ -4,9 +4,9 @@ use Rattle.etl_rules.specs.Config.{ConfigState}
 use Rattle.pv_catalog.specs.declared.row.Row.{Row}
 use Rattle.store_manifest.specs.Manifest.{ManifestState}
 use Rattle.store_manifest.specs.declared.entry.Entry.{Entry}
-use Rattle.three_stores.specs.Change.{Has}
-use Rattle.three_stores.specs.Seen.{Seen, granularities}
-use Rattle.three_stores.specs.Stores.{Stores}
+use Rattle.tier_store.specs.Change.{Has}
+use Rattle.tier_store.specs.Seen.{Seen, granularities}
+use Rattle.tier_store.specs.Stores.{Stores}
 use Rattle.act_model.specs.Crash.{kept}
 use Rattle.act_model.specs.Machine.{Machine}
 use Rattle.act_model.specs.NextLife.{opened}

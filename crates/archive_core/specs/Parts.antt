@@ -9,8 +9,8 @@ use Rattle.etl_rules.specs.Config.{ConfigState}
 use Rattle.pinned_pieces.specs.Pieces.{PinOf}
 use Rattle.etl_mover.specs.Move.{MoveState as Moving}
 use Rattle.running_moves.specs.declared.table.Running.{Running}
-use Rattle.three_stores.specs.Seen.{Seen, seen}
-use Rattle.three_stores.specs.declared.limbo.Retired.{Retired}
+use Rattle.tier_store.specs.Seen.{Seen, seen}
+use Rattle.tier_store.specs.declared.limbo.Retired.{Retired}
 use Rattle.archive_core.specs.declared.memory.RowMemory.{RowMemory}
 use Rattle.archive_core.specs.declared.memory.Doubt.{Doubt}
 use Rattle.archive_core.specs.declared.archive.Archive.{Archive}

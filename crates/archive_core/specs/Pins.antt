@@ -4,7 +4,7 @@ use Rattle.std.specs.Ordering.{nat_cmp}
 use Rattle.std.specs.Prelude.{◌≡◌, ◌+◌, ℕ, List, length, Bool, true, Some, None, slice_get}
 use Rattle.pinned_pieces.specs.Pieces.{PinOf}
 use Rattle.pinned_pieces.specs.declared.piece.PinnedFile.{PinnedFile}
-use Rattle.three_stores.specs.Pinned.{SeenAll, Shows, PinsStand}
+use Rattle.tier_store.specs.Pinned.{SeenAll, Shows, PinsStand}
 use Rattle.act_model.specs.declared.acts.Answer.{Answer}
 use Rattle.act_model.specs.declared.acts.Answer.TheVariants as answer
 use Rattle.act_model.specs.Limbo.{FileState}

@@ -9,11 +9,11 @@ use Rattle.std.specs.Ordering.{nat_cmp}
 use Rattle.std.specs.Prelude.{◌≡◌, ◌≢◌, ◌<◌, ℕ, List, Bool, true, Contains, Some, length, map, slice_get}
 use Rattle.series_model.specs.Series.{end_of}
 use Rattle.store_manifest.specs.declared.entry.Entry.{Entry}
-use Rattle.tier_store.specs.Held.{Filed, entry_of}
-use Rattle.three_stores.specs.Pinned.{SeenAll}
-use Rattle.three_stores.specs.Pinning.{placed_at, state_of}
-use Rattle.three_stores.specs.Retiring.{oldest, without_oldest}
-use Rattle.three_stores.specs.Stores.{Stores}
+use Rattle.durable_write.specs.Held.{Filed, entry_of}
+use Rattle.tier_store.specs.Pinned.{SeenAll}
+use Rattle.tier_store.specs.Pinning.{placed_at, state_of}
+use Rattle.tier_store.specs.Retiring.{oldest, without_oldest}
+use Rattle.tier_store.specs.Stores.{Stores}
 use Rattle.act_model.specs.Changes.{Retires, made}
 use Rattle.act_model.specs.Limbo.{FileState}
 use Rattle.act_model.specs.Machine.{Machine, MoveState, HasPublished, Unlists}

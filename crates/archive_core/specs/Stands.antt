@@ -15,16 +15,16 @@ use Rattle.running_moves.specs.declared.table.Running.{Running}
 use Rattle.series_model.specs.Series.{end_of}
 use Rattle.series_model.specs.declared.batch.RowSamples.{RowSamples}
 use Rattle.series_model.specs.declared.sample.Sample.{Sample}
-use Rattle.tier_store.specs.Held.{Filed, IsListedTo, listing_of, samples_of}
-use Rattle.tier_store.specs.Plan.{of_row}
-use Rattle.three_stores.specs.Beginning.{AllNested}
-use Rattle.three_stores.specs.Moving.{GoesBeside}
-use Rattle.three_stores.specs.Stores.{Stores, list_at, samples_in, tier}
-use Rattle.three_stores.specs.Seen.{Seen, granularities}
-use Rattle.three_stores.specs.Change.{Has, Doubts}
-use Rattle.three_stores.specs.Pinned.{SeenAll, beside}
-use Rattle.three_stores.specs.Revival.{AreWhole}
-use Rattle.three_stores.specs.declared.limbo.Retired.{Retired}
+use Rattle.durable_write.specs.Held.{Filed, IsListedTo, listing_of, samples_of}
+use Rattle.durable_write.specs.Plan.{of_row}
+use Rattle.tier_store.specs.Beginning.{AllNested}
+use Rattle.tier_store.specs.Moving.{GoesBeside}
+use Rattle.tier_store.specs.Stores.{Stores, list_at, samples_in, tier}
+use Rattle.tier_store.specs.Seen.{Seen, granularities}
+use Rattle.tier_store.specs.Change.{Has, Doubts}
+use Rattle.tier_store.specs.Pinned.{SeenAll, beside}
+use Rattle.tier_store.specs.Revival.{AreWhole}
+use Rattle.tier_store.specs.declared.limbo.Retired.{Retired}
 use Rattle.act_model.specs.Rows.{RowState, Store, is_empty}
 use Rattle.act_model.specs.Machine.{Machine, MoveState, Change, AddsRow, SetsState, Appends, Publishes, Unlists}
 use Rattle.act_model.specs.Changes.{made}

@@ -8,7 +8,7 @@ use Rattle.etl_mover.specs.Move.{MoveState}
 use Rattle.partition_names.specs.declared.granularity.Granularity.{Granularity}
 use Rattle.running_moves.specs.Table.{at}
 use Rattle.running_moves.specs.declared.table.Running.{Running}
-use Rattle.three_stores.specs.Seen.{granularities}
+use Rattle.tier_store.specs.Seen.{granularities}
 use Rattle.act_model.specs.Asks.{move_stepped_reply}
 use Rattle.act_model.specs.Changes.{made}
 use Rattle.act_model.specs.Machine.{Machine, Change}

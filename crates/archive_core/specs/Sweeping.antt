@@ -3,7 +3,7 @@ use Rattle.std.specs.Prelude.{Result, Ok, Err}
 use Rattle.disk_model.specs.declared.disk.DiskErr.{DiskErr}
 use Rattle.act_model.specs.Reply.{Reply}
 use Rattle.act_model.specs.declared.acts.Answer.TheVariants as answer
-use Rattle.three_stores.specs.declared.removing.Swept.{Swept}
+use Rattle.tier_store.specs.declared.removing.Swept.{Swept}
 use Rattle.archive_core.specs.Ends.{disk_reply}
 
 -- what is answered where so many files left limbo, whether they could be removed or not, or where it failed

@@ -6,7 +6,7 @@ use Rattle.pv_catalog.specs.Catalogue.{HasState}
 use Rattle.pv_catalog.specs.Rows.{HasName}
 use Rattle.pv_catalog.specs.declared.error.StateErr.{StateErr}
 use Rattle.pv_catalog.specs.declared.row.Row.{Row}
-use Rattle.three_stores.specs.Change.{Call, pausing, resuming}
+use Rattle.tier_store.specs.Change.{Call, pausing, resuming}
 use Rattle.act_model.specs.declared.acts.Answer.TheVariants as answer
 use Rattle.act_model.specs.Pause.{not_running}
 use Rattle.act_model.specs.Reply.{Reply}

@@ -7,8 +7,8 @@ use Rattle.disk_model.specs.declared.disk.DiskErr.{DiskErr}
 use Rattle.disk_model.specs.declared.disk.DiskErr.TheVariants.{Fault, Memory}
 use Rattle.etl_mover.specs.Move.{MoveState as Moving}
 use Rattle.running_moves.specs.declared.table.Running.{Running}
-use Rattle.three_stores.specs.Pinned.{beside}
-use Rattle.three_stores.specs.Seen.{granularities}
+use Rattle.tier_store.specs.Pinned.{beside}
+use Rattle.tier_store.specs.Seen.{granularities}
 use Rattle.act_model.specs.Changes.{made}
 use Rattle.act_model.specs.Machine.{Machine, MoveState, Change, HasPublished, Publishes}
 use Rattle.act_model.specs.MoveBegin.{with_move}

@@ -6,7 +6,7 @@ use Rattle.etl_mover.specs.Move.{MoveState as Moving}
 use Rattle.running_moves.specs.Table.{at}
 use Rattle.running_moves.specs.declared.table.Running.{Running}
 use Rattle.store_manifest.specs.declared.entry.Entry.{Entry}
-use Rattle.tier_store.specs.Held.{file_of}
+use Rattle.durable_write.specs.Held.{file_of}
 
 -- where the next store has what a move is to list there by this entry
 abbrev pub written_name : List Row → Running Moving → Entry → Name

@@ -1,6 +1,6 @@
 // What the acts share that only ask the stores: a tail is copied for the answer, and a call of the disk may fail.
 ghost use Rattle.std.specs.Prelude.{◌≡◌, IfOk};
-ghost use Rattle.three_stores.specs.Opening.{answer_of};
+ghost use Rattle.tier_store.specs.Opening.{answer_of};
 
 use act_model::Answer;
 use disk_model::{DiskErr, ReadAt};

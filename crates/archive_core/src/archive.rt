@@ -6,7 +6,7 @@ use etl_mover::Move;
 use etl_rules::Config;
 use running_moves::RunningMoves;
 use std::alloc::Global;
-use three_stores::TierStore;
+use tier_store::TierStore;
 
 /// Three stores on a disk with the intake before them, and the moves that run between them.
 #[derive(Drop)]

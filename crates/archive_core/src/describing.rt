@@ -1,7 +1,7 @@
 // Details: what is known of a variable, with the numbers of its accepted and durable samples.
 ghost use Rattle.std.specs.Prelude.{◌≡◌, ◌≤◌, IfOk, OnErr};
 ghost use Rattle.pv_catalog.specs.Rows.{HasName};
-ghost use Rattle.three_stores.specs.Opening.{answer_of};
+ghost use Rattle.tier_store.specs.Opening.{answer_of};
 ghost use Rattle.act_model.specs.Asks.{details_told_reply};
 ghost use Rattle.act_model.specs.Details.{DetailsStep, Describes};
 ghost use Rattle.act_model.specs.Machine.{Machine};

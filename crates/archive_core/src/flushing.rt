@@ -2,7 +2,7 @@
 ghost use Rattle.std.specs.Prelude.{◌≡◌, ◌≤◌, ◌∷◌, ◌↔◌, [], ℕ, length, true, IfOk, IsTrue};
 ghost use Rattle.append_buffer.specs.Tails.{tail_at, batch_of};
 ghost use Rattle.series_model.specs.Series.{end_of, since};
-ghost use Rattle.three_stores.specs.Pinned.{LeavesFronts};
+ghost use Rattle.tier_store.specs.Pinned.{LeavesFronts};
 ghost use Rattle.act_model.specs.Asks.{flushed_reply};
 ghost use Rattle.act_model.specs.Changes.{of_row};
 ghost use Rattle.act_model.specs.Flush.{FlushStep, count_in};
@@ -23,7 +23,7 @@ use act_model::Flushed;
 use append_buffer::Intake;
 use disk_model::{Disk, DiskErr};
 use series_model::{Batch, RowSamples};
-use three_stores::TierStore;
+use tier_store::TierStore;
 
 // Gives up what the intake holds of one row of a batch.
 fn give_up_row(intake: &mut Intake, part: &RowSamples)

@@ -2,7 +2,7 @@
 ghost use Rattle.std.specs.Prelude.{◌≡◌, ◌⊎◌, ◌≤◌, ◌-◌, IfOk, IfErr, OnErr, slice_index};
 ghost use Rattle.disk_model.specs.Files.{Rose};
 ghost use Rattle.disk_model.specs.declared.disk.DiskErr.TheVariants.{Memory};
-ghost use Rattle.three_stores.specs.Seen.{seen, IsSettled};
+ghost use Rattle.tier_store.specs.Seen.{seen, IsSettled};
 ghost use Rattle.act_model.specs.Asks.{move_begun_reply};
 ghost use Rattle.act_model.specs.Machine.{Machine};
 ghost use Rattle.act_model.specs.MoveBegin.{Begins, MoveBeginStep};
@@ -51,7 +51,7 @@ impl<D: Disk> Archive<D> {
             .store
             .begin_move(usize::from(store) - 1, &rule, &running)?;
         match begun {
-            three_stores::MoveBegun::Begun { row, parts, moving } => {
+            tier_store::MoveBegun::Begun { row, parts, moving } => {
                 let m = self.moves.begin(Running {
                     series: row,
                     store,
@@ -59,8 +59,8 @@ impl<D: Disk> Archive<D> {
                 })?;
                 Ok(MoveBegun::Begun { m, row, parts })
             }
-            three_stores::MoveBegun::Running { number } => Ok(MoveBegun::Busy { m: number }),
-            three_stores::MoveBegun::Nothing => Ok(MoveBegun::Nothing { doors: self.doors }),
+            tier_store::MoveBegun::Running { number } => Ok(MoveBegun::Busy { m: number }),
+            tier_store::MoveBegun::Nothing => Ok(MoveBegun::Nothing { doors: self.doors }),
         }
     }
 

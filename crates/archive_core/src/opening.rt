@@ -2,10 +2,10 @@
 ghost use Rattle.std.specs.FinMap as map;
 ghost use Rattle.std.specs.Prelude.{◌≡◌, ◌≤◌, ◌+◌, ◌==◌, ◌^◌, ◌-◌, [], ℕ, length, map, filter, min, IfOk, IfErr};
 ghost use Rattle.pv_catalog.specs.Rows.{AreRows};
-ghost use Rattle.three_stores.specs.Change.{Has};
-ghost use Rattle.three_stores.specs.Beginning.{AllNested};
-ghost use Rattle.three_stores.specs.Seen.{seen, granularities};
-ghost use Rattle.three_stores.specs.Stores.{Stores};
+ghost use Rattle.tier_store.specs.Change.{Has};
+ghost use Rattle.tier_store.specs.Beginning.{AllNested};
+ghost use Rattle.tier_store.specs.Seen.{seen, granularities};
+ghost use Rattle.tier_store.specs.Stores.{Stores};
 ghost use Rattle.archive_core.specs.Opening.{listed_end, end_at, memory_of, OpensAs};
 ghost use Rattle.archive_core.specs.Memory.{sampling_by};
 ghost use Rattle.archive_core.specs.Parts.{parts};
@@ -20,7 +20,7 @@ use running_moves::RunningMoves;
 use sampler::Scan;
 use std::alloc::{AllocError, Global};
 use store_manifest::Entry;
-use three_stores::TierStore;
+use tier_store::TierStore;
 
 // The first moment later than all that a row's entries in a store list, 0 where they list nothing.
 fn end_of(entries: &[Entry]) -> u64

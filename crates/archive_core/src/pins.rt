@@ -3,7 +3,7 @@ ghost use Rattle.std.specs.Prelude.{◌≡◌, ◌≤◌, Result, IfOk, OnErr};
 ghost use Rattle.pin_table.specs.declared.table.PinErr.{PinErr};
 ghost use Rattle.pinned_pieces.specs.Pieces.{PinOf};
 ghost use Rattle.pv_catalog.specs.Rows.{HasName};
-ghost use Rattle.three_stores.specs.Opening.{answer_of, given_up};
+ghost use Rattle.tier_store.specs.Opening.{answer_of, given_up};
 ghost use Rattle.act_model.specs.Asks.{pinned_reply, unpinned_reply, piece_opened_reply};
 ghost use Rattle.act_model.specs.Machine.{Machine};
 ghost use Rattle.act_model.specs.OpenPiece.{Opens};

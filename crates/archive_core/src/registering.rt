@@ -2,7 +2,7 @@
 ghost use Rattle.std.specs.Prelude.{◌≡◌, ◌≤◌, ◌++◌, ◌∷◌, [], ℕ, length, take, IfOk, IfErr, OnOk, OnErr, Some};
 ghost use Rattle.pv_catalog.specs.Catalogue.{Refuses};
 ghost use Rattle.pv_catalog.specs.declared.error.RegisterErr.{RegisterErr};
-ghost use Rattle.three_stores.specs.Pinned.{LeavesFronts};
+ghost use Rattle.tier_store.specs.Pinned.{LeavesFronts};
 ghost use Rattle.act_model.specs.Asks.{registered_reply};
 ghost use Rattle.act_model.specs.Machine.{Machine, AddsRow};
 ghost use Rattle.act_model.specs.Register.{RegisterStep, register_refused};

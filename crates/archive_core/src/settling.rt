@@ -1,10 +1,10 @@
 // The settling of a change that stands in doubt.
 ghost use Rattle.std.specs.Prelude.{◌≡◌, ◌↔◌, IsTrue, OnOk, OnErr};
 ghost use Rattle.pv_catalog.specs.Catalogue.{HasState};
-ghost use Rattle.tier_store.specs.Ends.{end_of_disk};
-ghost use Rattle.three_stores.specs.Change.{OnlyReads};
-ghost use Rattle.three_stores.specs.Pinned.{LeavesFronts};
-ghost use Rattle.three_stores.specs.Seen.{seen, IsSettled, granularities};
+ghost use Rattle.durable_write.specs.Ends.{end_of_disk};
+ghost use Rattle.tier_store.specs.Change.{OnlyReads};
+ghost use Rattle.tier_store.specs.Pinned.{LeavesFronts};
+ghost use Rattle.tier_store.specs.Seen.{seen, IsSettled, granularities};
 ghost use Rattle.act_model.specs.Machine.{Machine};
 ghost use Rattle.archive_core.specs.Ends.{SettlesTo, StandsStill};
 ghost use Rattle.archive_core.specs.Leaving.{files_of};

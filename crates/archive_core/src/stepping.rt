@@ -22,7 +22,7 @@ use disk_model::{Disk, DiskErr};
 use etl_mover::{Move, Stage};
 use running_moves::Running;
 use std::alloc::{AllocError, Global};
-use three_stores::{CopyEnd, RetireEnd};
+use tier_store::{CopyEnd, RetireEnd};
 
 // The lengths up to which a move's parts are published.
 fn published_lengths(alloc: Global, moving: &Move) -> Result<Vec<u64>, AllocError>

@@ -18,7 +18,7 @@ use disk_model::{Disk, DiskErr, FileName};
 use std::alloc::AllocError;
 
 // The stores' answer to a sweep, in the act's own type.
-fn swept(done: Result<three_stores::Swept, DiskErr>) -> Swept
+fn swept(done: Result<tier_store::Swept, DiskErr>) -> Swept
     ensures { swept_reply result ≡ sweep_reply done }
 {
     match done {
@@ -42,7 +42,7 @@ impl<D: Disk> Archive<D> {
     }
 
     // Sweeps the stores, but for the files that running moves have written to.
-    fn sweep_stores(&mut self) -> Result<three_stores::Swept, DiskErr>
+    fn sweep_stores(&mut self) -> Result<tier_store::Swept, DiskErr>
         requires stands { (m : Machine) × Stands D.tells (parts D.Disk self.old) m }
         ensures step { Steps D.tells SweepStep (parts D.Disk self.old) (sweep_reply result) (parts D.Disk self.new) }
         ensures crash { LeavesByAct D.tells (refuse_by SweepAct) (change_by SweepAct) (parts D.Disk self.old) (parts D.Disk self.new) }

@@ -2,13 +2,13 @@
 ghost use Rattle.std.specs.Prelude.{◌≡◌, ◌<◌, ℕ, length, IfOk, IfErr, Some};
 ghost use Rattle.event_types.specs.declared.about.State.{State};
 ghost use Rattle.pv_catalog.specs.Catalogue.{HasState};
-ghost use Rattle.tier_store.specs.Ends.{end_of_switch};
-ghost use Rattle.three_stores.specs.Change.{Has, Acts};
-ghost use Rattle.three_stores.specs.Moving.{LeavesLater};
-ghost use Rattle.three_stores.specs.Pinned.{seen_all, KeepsShown, LeavesFronts};
-ghost use Rattle.three_stores.specs.Revival.{KeepsWhole};
-ghost use Rattle.three_stores.specs.Seen.{seen};
-ghost use Rattle.three_stores.specs.Stores.{Stores};
+ghost use Rattle.durable_write.specs.Ends.{end_of_switch};
+ghost use Rattle.tier_store.specs.Change.{Has, Acts};
+ghost use Rattle.tier_store.specs.Moving.{LeavesLater};
+ghost use Rattle.tier_store.specs.Pinned.{seen_all, KeepsShown, LeavesFronts};
+ghost use Rattle.tier_store.specs.Revival.{KeepsWhole};
+ghost use Rattle.tier_store.specs.Seen.{seen};
+ghost use Rattle.tier_store.specs.Stores.{Stores};
 ghost use Rattle.act_model.specs.Asks.{paused_reply, resumed_reply};
 ghost use Rattle.act_model.specs.Machine.{Machine, SetsState, find_row};
 ghost use Rattle.act_model.specs.Pause.{PauseStep, StateStep, state_refused, sets_of};
@@ -30,7 +30,7 @@ use act_model::{Paused, Resumed};
 use disk_model::{Disk, DiskErr};
 use event_types::State;
 use pv_catalog::{Catalogue, StateErr};
-use three_stores::TierStore;
+use tier_store::TierStore;
 
 /// How a row's state is set.
 #[derive(Clone, Copy)]

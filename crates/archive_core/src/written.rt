@@ -6,11 +6,11 @@ ghost use Rattle.running_moves.specs.declared.table.Running.{Running as RunningV
 ghost use Rattle.archive_core.specs.Written.{AreWritten, IsListable, written_name};
 
 use disk_model::FileName;
+use durable_write::file_name;
 use etl_mover::Move;
 use pv_catalog::Row;
 use running_moves::Running;
 use std::alloc::{AllocError, Global};
-use tier_store::file_name;
 
 // Adds the names of the files that a move is to list in the next store.
 fn add_names(

@@ -3,14 +3,14 @@ use Rattle.std.specs.FinMap.{FinMap, empty}
 use Rattle.std.specs.Ordering.{nat_cmp}
 use Rattle.std.proofs.Common.{◌≡◌, inl, inr, true, sym, subst}
 use Rattle.pinned_pieces.specs.Pieces.{PinOf}
-use Rattle.tier_store.specs.Ends.{End}
-use Rattle.three_stores.specs.Stores.{Stores}
-use Rattle.three_stores.specs.Seen.{Seen}
-use Rattle.three_stores.specs.Change.{Has, IsOpen, Call, Acts}
-use Rattle.three_stores.specs.Pinned.{SeenAll, PinsStand, KeepsShown}
-use Rattle.three_stores.specs.Settling.{Settles}
-use Rattle.three_stores.proofs.Acting.{still_open}
-use Rattle.three_stores.proofs.OpeningPieces.{stand_none, stand_kept}
+use Rattle.durable_write.specs.Ends.{End}
+use Rattle.tier_store.specs.Stores.{Stores}
+use Rattle.tier_store.specs.Seen.{Seen}
+use Rattle.tier_store.specs.Change.{Has, IsOpen, Call, Acts}
+use Rattle.tier_store.specs.Pinned.{SeenAll, PinsStand, KeepsShown}
+use Rattle.tier_store.specs.Settling.{Settles}
+use Rattle.tier_store.proofs.Acting.{still_open}
+use Rattle.tier_store.proofs.OpeningPieces.{stand_none, stand_kept}
 use Rattle.archive_tests.specs.Usable.{IsUsable}
 
 -- the pieces of the same pins are shown after a call that keeps what is shown

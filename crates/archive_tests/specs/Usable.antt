@@ -3,9 +3,9 @@ use Rattle.std.specs.FinMap.{FinMap}
 use Rattle.std.specs.Ordering.{nat_cmp}
 use Rattle.std.specs.Prelude.{Bool}
 use Rattle.pinned_pieces.specs.Pieces.{PinOf}
-use Rattle.three_stores.specs.Stores.{Stores}
-use Rattle.three_stores.specs.Change.{IsOpen}
-use Rattle.three_stores.specs.Pinned.{SeenAll, PinsStand}
+use Rattle.tier_store.specs.Stores.{Stores}
+use Rattle.tier_store.specs.Change.{IsOpen}
+use Rattle.tier_store.specs.Pinned.{SeenAll, PinsStand}
 
 -- something is held, also where a change stands in doubt, and each pinned piece is shown
 pub record IsUsable (tells : Bool) (all : SeenAll) (pins : FinMap nat_cmp PinOf) : Type 0 where

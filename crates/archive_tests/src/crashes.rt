@@ -1,7 +1,7 @@
 // How scripts end, also where one call of the disk fails or the machine stops at it, and what crashes leave then.
 ghost use Rattle.std.specs.Prelude.{◌≡◌, ◌≤◌, length};
 ghost use Rattle.disk_model.specs.Record.{files_of, opened_of};
-ghost use Rattle.three_reopen.specs.Reopen.{IsUnopened};
+ghost use Rattle.store_reopen.specs.Reopen.{IsUnopened};
 
 use crate::script::{Ended, Row, opened, run, run_list, step_by_step};
 use crate::told::Told;
@@ -12,8 +12,8 @@ use std::alloc::Global;
 use std::fmt::Write as _;
 use std::str;
 use std::test::Fail;
-use three_reopen::reopen;
-use three_stores::TierStore;
+use store_reopen::reopen;
+use tier_store::TierStore;
 
 /// Settings by which each partition that has ended moves.
 pub(crate) fn eager() -> Result<Config, Fail> {

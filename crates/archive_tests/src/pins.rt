@@ -2,8 +2,8 @@
 ghost use Rattle.std.specs.FinMap.{empty};
 ghost use Rattle.std.specs.Prelude.{◌≡◌, ◌≤◌, [], length, pos, true, IfOk, OnOk};
 ghost use Rattle.pb_lines.specs.File.{IsSample, lines_of};
-ghost use Rattle.tier_store.specs.Flush.{IsOfRow, CanFlush};
-ghost use Rattle.three_stores.specs.Pinned.{seen_all};
+ghost use Rattle.durable_write.specs.Flush.{IsOfRow, CanFlush};
+ghost use Rattle.tier_store.specs.Pinned.{seen_all};
 ghost use Rattle.archive_tests.specs.Usable.{IsUsable};
 
 use crate::asking::about;
@@ -19,8 +19,8 @@ use std::alloc::Global;
 use std::fmt::Write as _;
 use std::str;
 use std::test::Fail;
-use three_reopen::reopen;
-use three_stores::TierStore;
+use store_reopen::reopen;
+use tier_store::TierStore;
 
 // THE STORES
 

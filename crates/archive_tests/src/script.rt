@@ -6,7 +6,7 @@ ghost use Rattle.act_model.specs.Machine.{Machine};
 ghost use Rattle.act_model.specs.Step.{MayAsk};
 ghost use Rattle.archive_core.specs.Parts.{parts};
 ghost use Rattle.archive_core.specs.Stands.{Stands};
-ghost use Rattle.three_reopen.specs.Reopen.{IsUnopened, disk_in};
+ghost use Rattle.store_reopen.specs.Reopen.{IsUnopened, disk_in};
 
 use crate::asking::{Ask, act_of};
 use crate::told::{Told, as_told};
@@ -16,7 +16,7 @@ use disk_model::{Disk, MemDisk};
 use etl_rules::Config;
 use std::alloc::{AllocError, Global};
 use std::test::Fail;
-use three_reopen::{ReopenErr, reopen};
+use store_reopen::{ReopenErr, reopen};
 
 /// Who asks, what is asked, and what is told.
 pub(crate) type Row<'a> = (u64, Ask<'a>, Told);

@@ -7,13 +7,13 @@ use Rattle.disk_model.specs.declared.disk.Disk.{Ghosts}
 use Rattle.disk_model.proofs.Passing.{passes_then, passes_weaker}
 use Rattle.etl_rules.specs.Config.{ConfigState}
 use Rattle.partition_names.specs.declared.granularity.Granularity.{Granularity}
-use Rattle.three_stores.specs.Beginning.{AllNested}
-use Rattle.three_stores.specs.Change.{Has}
-use Rattle.three_stores.specs.Seen.{Seen, seen, granularities}
-use Rattle.three_stores.specs.Stores.{Stores}
-use Rattle.three_stores.specs.declared.store.TierStore.{TierStore}
-use Rattle.three_reopen.specs.Reopen.{IsUnopened, OpensEither, stores_of}
-use Rattle.three_reopen.proofs.HandedBack.{has_opens, doubt_opens, open_unopened}
+use Rattle.tier_store.specs.Beginning.{AllNested}
+use Rattle.tier_store.specs.Change.{Has}
+use Rattle.tier_store.specs.Seen.{Seen, seen, granularities}
+use Rattle.tier_store.specs.Stores.{Stores}
+use Rattle.tier_store.specs.declared.store.TierStore.{TierStore}
+use Rattle.store_reopen.specs.Reopen.{IsUnopened, OpensEither, stores_of}
+use Rattle.store_reopen.proofs.HandedBack.{has_opens, doubt_opens, open_unopened}
 use Rattle.act_model.specs.Alone.{Alone, Chain}
 use Rattle.act_model.specs.Growth.{Onward}
 use Rattle.act_model.specs.History.{Done, Entry, mine, own}

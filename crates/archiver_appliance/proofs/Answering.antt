@@ -7,7 +7,7 @@ use Rattle.disk_model.specs.Files.{Name}
 use Rattle.etl_rules.specs.Config.{ConfigState}
 use Rattle.series_model.specs.declared.sample.Query.{Query}
 use Rattle.series_model.specs.Retrieval.{answer as answer_of}
-use Rattle.three_stores.specs.Stores.{Stores}
+use Rattle.tier_store.specs.Stores.{Stores}
 use Rattle.act_model.specs.declared.acts.Act.TheVariants.{Pin}
 use Rattle.act_model.specs.declared.acts.Answer.TheVariants as answer
 use Rattle.act_model.specs.Event.{AreEvents}

@@ -12,14 +12,14 @@ use Rattle.series_model.specs.declared.sample.Query.{Query}
 use Rattle.store_files.specs.Fronts.{Begins, Keeps}
 use Rattle.store_manifest.specs.Manifest.{ManifestState}
 use Rattle.store_manifest.specs.declared.entry.Entry.{Entry as FileEntry}
-use Rattle.tier_store.specs.Held.{KeepsListed, Listing, file_of}
-use Rattle.tier_store.specs.Writing.{LeavesListed}
-use Rattle.three_stores.specs.Change.{Has}
-use Rattle.three_stores.specs.Pinned.{IsThereTo, LeavesFronts}
-use Rattle.three_stores.specs.Stores.{Stores}
-use Rattle.three_stores.proofs.LeavingFronts.{fronts_on, nothing_fronts}
-use Rattle.three_stores.proofs.OpenedBeside.{listed_to}
-use Rattle.three_stores.proofs.Showing.{fronts_same}
+use Rattle.durable_write.specs.Held.{KeepsListed, Listing, file_of}
+use Rattle.durable_write.specs.Writing.{LeavesListed}
+use Rattle.tier_store.specs.Change.{Has}
+use Rattle.tier_store.specs.Pinned.{IsThereTo, LeavesFronts}
+use Rattle.tier_store.specs.Stores.{Stores}
+use Rattle.tier_store.proofs.LeavingFronts.{fronts_on, nothing_fronts}
+use Rattle.tier_store.proofs.OpenedBeside.{listed_to}
+use Rattle.tier_store.proofs.Showing.{fronts_same}
 use Rattle.act_model.specs.Alone.{Chain}
 use Rattle.act_model.specs.History.{Done, Entry, done_of, mine, own}
 use Rattle.act_model.specs.Machine.{Machine}

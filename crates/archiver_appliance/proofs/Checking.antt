@@ -10,18 +10,18 @@ use Rattle.store_manifest.specs.Manifest.{ManifestState}
 use Rattle.store_manifest.specs.declared.entry.Entry.{Entry}
 use Rattle.piece_choice.specs.Choosing.{listed}
 use Rattle.piece_choice.specs.declared.choosing.Listed.{Listed}
-use Rattle.three_stores.specs.Pinning.{entries_of}
-use Rattle.three_stores.specs.Seen.{Seen}
-use Rattle.three_reopen.specs.Reopen.{entries_in, lists_of}
-use Rattle.three_reopen.specs.Verdict.{Listings}
-use Rattle.three_reports.specs.Check.{Checks, Inspected, Inspects, file_in, InspectsSome, IsFound, lines_of}
-use Rattle.three_reports.specs.Listing.{all_entries, files_listed, name_of}
-use Rattle.three_reports.specs.Status.{AreLines, IsLine, Reports, RowLines}
-use Rattle.three_reports.specs.declared.report.Damage.{Damage}
-use Rattle.three_reports.specs.declared.inspection.CheckErr.{CheckErr}
-use Rattle.three_reports.specs.declared.inspection.CheckErr.TheVariants as checked
-use Rattle.three_reports.specs.declared.summary.StatusErr.{StatusErr}
-use Rattle.three_reports.specs.declared.summary.StatusErr.TheVariants as summed
+use Rattle.tier_store.specs.Pinning.{entries_of}
+use Rattle.tier_store.specs.Seen.{Seen}
+use Rattle.store_reopen.specs.Reopen.{entries_in, lists_of}
+use Rattle.store_reopen.specs.Verdict.{Listings}
+use Rattle.store_reports.specs.Check.{Checks, Inspected, Inspects, file_in, InspectsSome, IsFound, lines_of}
+use Rattle.store_reports.specs.Listing.{all_entries, files_listed, name_of}
+use Rattle.store_reports.specs.Status.{AreLines, IsLine, Reports, RowLines}
+use Rattle.store_reports.specs.declared.report.Damage.{Damage}
+use Rattle.store_reports.specs.declared.inspection.CheckErr.{CheckErr}
+use Rattle.store_reports.specs.declared.inspection.CheckErr.TheVariants as checked
+use Rattle.store_reports.specs.declared.summary.StatusErr.{StatusErr}
+use Rattle.store_reports.specs.declared.summary.StatusErr.TheVariants as summed
 use Rattle.command_words.specs.declared.status.Status.{Status}
 use Rattle.command_words.specs.declared.status.Status.TheVariants.{Done, SinkFault, DiskFault, Damaged, OutOfMemory}
 use Rattle.archiver_appliance.specs.Reporting.{AreRowLines, ChecksAll, IsFirstDamage, IsRowLine, TellsListed, TellsRows, checked_status, listed_files, own_entries, reported_status}

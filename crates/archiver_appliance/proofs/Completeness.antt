@@ -37,11 +37,11 @@ use Rattle.feed_session.specs.declared.end.Fed.TheVariants as fed
 use Rattle.serving_loops.specs.declared.due.DueMoved.{DueMoved}
 use Rattle.serving_loops.specs.declared.moves.MoveErr.{MoveErr}
 use Rattle.serving_loops.specs.declared.moves.MoveErr.TheVariants as err
-use Rattle.three_stores.specs.Change.{IsEither}
-use Rattle.three_stores.specs.Stores.{Stores}
-use Rattle.three_reopen.specs.Reopen.{OpensEither, stores_of}
-use Rattle.three_reopen.specs.Verdict.{IsWhole}
-use Rattle.three_reopen.proofs.Verdicts.{held_whole}
+use Rattle.tier_store.specs.Change.{IsEither}
+use Rattle.tier_store.specs.Stores.{Stores}
+use Rattle.store_reopen.specs.Reopen.{OpensEither, stores_of}
+use Rattle.store_reopen.specs.Verdict.{IsWhole}
+use Rattle.store_reopen.proofs.Verdicts.{held_whole}
 use Rattle.archiver_appliance.specs.Moving.{TellsMoved}
 use Rattle.archiver_appliance.specs.Retrieving.{Gets}
 

@@ -20,14 +20,14 @@ use Rattle.series_model.specs.declared.sample.Query.{Query}
 use Rattle.series_model.specs.declared.sample.Sample.{Sample}
 use Rattle.store_manifest.specs.Manifest.{ManifestState}
 use Rattle.store_manifest.specs.declared.entry.Entry.{Entry as FileEntry}
-use Rattle.tier_store.specs.Held.{IsFiled, bytes_of, file_of}
-use Rattle.tier_store.specs.Stored.{KeysDiffer}
-use Rattle.three_stores.specs.Change.{Has, IsListedIn}
-use Rattle.three_stores.specs.Seen.{Seen, IsSettled}
-use Rattle.three_stores.specs.Stores.{Stores, list_at}
-use Rattle.three_stores.proofs.Showing.{low_of}
-use Rattle.three_stores.proofs.There.{Listed, front_there, listed_file}
-use Rattle.three_reopen.specs.Reopen.{entries_in, lists_of}
+use Rattle.durable_write.specs.Held.{IsFiled, bytes_of, file_of}
+use Rattle.durable_write.specs.Stored.{KeysDiffer}
+use Rattle.tier_store.specs.Change.{Has, IsListedIn}
+use Rattle.tier_store.specs.Seen.{Seen, IsSettled}
+use Rattle.tier_store.specs.Stores.{Stores, list_at}
+use Rattle.tier_store.proofs.Showing.{low_of}
+use Rattle.tier_store.proofs.There.{Listed, front_there, listed_file}
+use Rattle.store_reopen.specs.Reopen.{entries_in, lists_of}
 use Rattle.act_model.specs.Alone.{Chain}
 use Rattle.act_model.specs.History.{Done, Entry, done_of}
 use Rattle.act_model.specs.Machine.{Machine}

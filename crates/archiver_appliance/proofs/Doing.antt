@@ -15,16 +15,16 @@ use Rattle.pv_catalog.specs.declared.row.Row.{Row}
 use Rattle.series_model.specs.declared.sample.Query.{Query}
 use Rattle.store_manifest.specs.Manifest.{ManifestState}
 use Rattle.store_manifest.specs.declared.entry.Entry.{Entry}
-use Rattle.tier_store.specs.Writing.{LeavesListed}
-use Rattle.three_stores.specs.Change.{Has}
-use Rattle.three_stores.specs.Seen.{granularities, seen}
-use Rattle.three_stores.specs.Stores.{Stores}
-use Rattle.three_stores.specs.declared.store.TierStore.{TierStore}
-use Rattle.three_reopen.specs.Reopen.{HasRead, HoldsEither, IsReady, OpensEither, Reopens, lists_of, stores_of}
-use Rattle.three_reopen.specs.Verdict.{AreSaid, IsWhole, Listings}
-use Rattle.three_reports.specs.Status.{status_text}
-use Rattle.three_reopen.proofs.Having.{listed_at}
-use Rattle.three_stores.proofs.Places.{manifest_at as manifest_there}
+use Rattle.durable_write.specs.Writing.{LeavesListed}
+use Rattle.tier_store.specs.Change.{Has}
+use Rattle.tier_store.specs.Seen.{granularities, seen}
+use Rattle.tier_store.specs.Stores.{Stores}
+use Rattle.tier_store.specs.declared.store.TierStore.{TierStore}
+use Rattle.store_reopen.specs.Reopen.{HasRead, HoldsEither, IsReady, OpensEither, Reopens, lists_of, stores_of}
+use Rattle.store_reopen.specs.Verdict.{AreSaid, IsWhole, Listings}
+use Rattle.store_reports.specs.Status.{status_text}
+use Rattle.store_reopen.proofs.Having.{listed_at}
+use Rattle.tier_store.proofs.Places.{manifest_at as manifest_there}
 use Rattle.command_words.specs.declared.command.Command.TheVariants.{OverStore}
 use Rattle.command_words.specs.declared.command.StoreCommand.TheVariants as command
 use Rattle.command_words.specs.declared.status.Status.{Status}

@@ -9,14 +9,14 @@ use Rattle.disk_model.specs.Record.{files_of, opened_of, past_of}
 use Rattle.disk_model.specs.declared.disk.Disk.{Ghosts}
 use Rattle.etl_rules.specs.Config.{ConfigState}
 use Rattle.partition_names.specs.declared.granularity.Granularity.{Granularity}
-use Rattle.tier_store.specs.Held.{Filed, IsIn, shelf_of}
+use Rattle.durable_write.specs.Held.{Filed, IsIn, shelf_of}
 use Rattle.drill_feed.specs.Report.{tiers_text}
-use Rattle.three_stores.specs.Change.{Has}
-use Rattle.three_stores.specs.Seen.{seen}
-use Rattle.three_stores.specs.Stored.{HoldsAll}
-use Rattle.three_stores.specs.Stores.{Stores, list_at, tier}
-use Rattle.three_stores.specs.declared.store.TierStore.{TierStore}
-use Rattle.three_reopen.specs.Reopen.{AllIn, HasRead, IsUnopened, OpensEither, stores_of}
+use Rattle.tier_store.specs.Change.{Has}
+use Rattle.tier_store.specs.Seen.{seen}
+use Rattle.tier_store.specs.Stored.{HoldsAll}
+use Rattle.tier_store.specs.Stores.{Stores, list_at, tier}
+use Rattle.tier_store.specs.declared.store.TierStore.{TierStore}
+use Rattle.store_reopen.specs.Reopen.{AllIn, HasRead, IsUnopened, OpensEither, stores_of}
 use Rattle.act_model.specs.Growth.{Onward}
 use Rattle.act_model.specs.History.{Done, Entry, Runs}
 use Rattle.act_model.specs.Machine.{Machine}

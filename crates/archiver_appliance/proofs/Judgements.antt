@@ -6,9 +6,9 @@ use Rattle.partition_names.specs.declared.granularity.Granularity.{Granularity}
 use Rattle.series_model.specs.declared.sample.Query.{Query}
 use Rattle.pv_catalog.specs.declared.row.Row.{Row}
 use Rattle.store_manifest.specs.declared.entry.Entry.{Entry}
-use Rattle.three_reopen.specs.Verdict.{HasRow, AreSaid, IsDamaged, IsThere, IsWhole, Differs, Listings}
-use Rattle.three_reopen.specs.declared.error.ReopenErr.{ReopenErr}
-use Rattle.three_reopen.specs.declared.error.ReopenErr.TheVariants as reopening
+use Rattle.store_reopen.specs.Verdict.{HasRow, AreSaid, IsDamaged, IsThere, IsWhole, Differs, Listings}
+use Rattle.store_reopen.specs.declared.error.ReopenErr.{ReopenErr}
+use Rattle.store_reopen.specs.declared.error.ReopenErr.TheVariants as reopening
 use Rattle.command_words.specs.declared.command.StoreCommand.{StoreCommand}
 use Rattle.command_words.specs.declared.command.StoreCommand.TheVariants as command
 use Rattle.command_words.specs.declared.status.Status.{Status}

@@ -7,13 +7,13 @@ use Rattle.disk_model.specs.declared.disk.Disk.{Ghosts}
 use Rattle.series_model.specs.declared.sample.Query.{Query}
 use Rattle.event_types.specs.declared.about.About.{About}
 use Rattle.store_manifest.specs.Manifest.{ManifestState}
-use Rattle.tier_store.specs.Writing.{LeavesListed}
-use Rattle.three_stores.specs.Change.{Has}
-use Rattle.three_stores.specs.Pinned.{LeavesFronts}
-use Rattle.three_stores.specs.Seen.{seen}
-use Rattle.three_stores.specs.Stores.{Stores}
-use Rattle.three_stores.specs.declared.store.TierStore.{TierStore}
-use Rattle.three_reopen.specs.Reopen.{lists_of}
+use Rattle.durable_write.specs.Writing.{LeavesListed}
+use Rattle.tier_store.specs.Change.{Has}
+use Rattle.tier_store.specs.Pinned.{LeavesFronts}
+use Rattle.tier_store.specs.Seen.{seen}
+use Rattle.tier_store.specs.Stores.{Stores}
+use Rattle.tier_store.specs.declared.store.TierStore.{TierStore}
+use Rattle.store_reopen.specs.Reopen.{lists_of}
 use Rattle.act_model.specs.History.{Done, Runs}
 use Rattle.act_model.specs.Machine.{Machine}
 use Rattle.act_model.specs.declared.acts.Act.{Act}

@@ -11,16 +11,16 @@ use Rattle.pv_catalog.specs.Catalogue.{catalogue_name}
 use Rattle.store_manifest.specs.declared.entry.Entry.{Entry}
 use Rattle.store_manifest.specs.Manifest.{manifest_name}
 use Rattle.store_manifest.proofs.Committing.{one_listing}
-use Rattle.tier_store.specs.Held.{KeepsListed}
-use Rattle.tier_store.specs.Writing.{LeavesListed}
-use Rattle.tier_store.proofs.KeptBytes.{keeps_outside, leaves_on}
-use Rattle.three_reopen.specs.Reopen.{SameStores, AllIn, ChangesOne, HoldsEither, OpensEither, Reopens, StillHolds}
-use Rattle.three_reopen.proofs.OneJournal.{one_list_of_rows}
-use Rattle.three_stores.specs.Change.{IsEither}
-use Rattle.three_stores.specs.Stored.{HoldsAll}
-use Rattle.three_stores.specs.Stores.{Stores}
-use Rattle.three_reopen.specs.Verdict.{AreSaid, Listings}
-use Rattle.three_reopen.proofs.Having.{granularity_here}
+use Rattle.durable_write.specs.Held.{KeepsListed}
+use Rattle.durable_write.specs.Writing.{LeavesListed}
+use Rattle.durable_write.proofs.KeptBytes.{keeps_outside, leaves_on}
+use Rattle.store_reopen.specs.Reopen.{SameStores, AllIn, ChangesOne, HoldsEither, OpensEither, Reopens, StillHolds}
+use Rattle.store_reopen.proofs.OneJournal.{one_list_of_rows}
+use Rattle.tier_store.specs.Change.{IsEither}
+use Rattle.tier_store.specs.Stored.{HoldsAll}
+use Rattle.tier_store.specs.Stores.{Stores}
+use Rattle.store_reopen.specs.Verdict.{AreSaid, Listings}
+use Rattle.store_reopen.proofs.Having.{granularity_here}
 use Rattle.archiver_appliance.specs.Run.{OnlyReads}
 
 -- an image's journals say one list of rows, and of each store one of entries

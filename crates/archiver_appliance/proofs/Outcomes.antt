@@ -2,20 +2,20 @@
 use Rattle.std.proofs.Common.{◌≡◌, ℕ, List, Option, Some, None, Result, Ok, Err, refl, sym, subst}
 use Rattle.std.specs.Prelude.{IfErr, IfOk}
 use Rattle.disk_model.specs.Files.{Rose as DiskRose}
-use Rattle.tier_store.specs.Ends.{IsFailed}
+use Rattle.durable_write.specs.Ends.{IsFailed}
 use Rattle.feed_session.specs.Session.{ReadsOf}
 use Rattle.feed_session.specs.declared.end.Fed.{Fed}
 use Rattle.feed_session.specs.declared.end.Fed.TheVariants as fed
 use Rattle.pb_lines.specs.Stream.{Item}
-use Rattle.three_reopen.specs.declared.error.ReopenErr.{ReopenErr}
-use Rattle.three_reopen.specs.declared.error.ReopenErr.TheVariants as reopening
-use Rattle.three_reports.specs.Status as summary
-use Rattle.three_reports.specs.Telling as telling
-use Rattle.three_reports.specs.declared.report.Damage.{Damage}
-use Rattle.three_reports.specs.declared.inspection.CheckErr.{CheckErr}
-use Rattle.three_reports.specs.declared.inspection.CheckErr.TheVariants as checked
-use Rattle.three_reports.specs.declared.summary.StatusErr.{StatusErr}
-use Rattle.three_reports.specs.declared.summary.StatusErr.TheVariants as summed
+use Rattle.store_reopen.specs.declared.error.ReopenErr.{ReopenErr}
+use Rattle.store_reopen.specs.declared.error.ReopenErr.TheVariants as reopening
+use Rattle.store_reports.specs.Status as summary
+use Rattle.store_reports.specs.Telling as telling
+use Rattle.store_reports.specs.declared.report.Damage.{Damage}
+use Rattle.store_reports.specs.declared.inspection.CheckErr.{CheckErr}
+use Rattle.store_reports.specs.declared.inspection.CheckErr.TheVariants as checked
+use Rattle.store_reports.specs.declared.summary.StatusErr.{StatusErr}
+use Rattle.store_reports.specs.declared.summary.StatusErr.TheVariants as summed
 use Rattle.command_words.specs.declared.command.StoreCommand.{StoreCommand}
 use Rattle.command_words.specs.declared.command.StoreCommand.TheVariants as command
 use Rattle.command_words.specs.declared.status.Status.{Status}

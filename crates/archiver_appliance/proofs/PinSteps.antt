@@ -10,7 +10,7 @@ use Rattle.pv_catalog.specs.declared.row.Row.{Row}
 use Rattle.series_model.specs.Series.{over}
 use Rattle.series_model.specs.declared.sample.Query.{Query}
 use Rattle.series_model.specs.declared.sample.Sample.{Sample}
-use Rattle.three_stores.specs.Stores.{Stores, samples_in}
+use Rattle.tier_store.specs.Stores.{Stores, samples_in}
 use Rattle.act_model.specs.declared.acts.Act.{Act}
 use Rattle.act_model.specs.declared.acts.Answer.TheVariants as answer
 use Rattle.act_model.specs.Changes.{Settles, no_doubt, as_not_made, as_made}

@@ -11,13 +11,13 @@ use Rattle.partition_names.specs.declared.granularity.Granularity.{Granularity}
 use Rattle.piece_choice.specs.declared.choosing.Listed.{Listed}
 use Rattle.pv_catalog.specs.declared.row.Row.{Row}
 use Rattle.store_manifest.specs.declared.entry.Entry.{Entry}
-use Rattle.three_stores.specs.Stores.{Stores}
-use Rattle.three_reopen.specs.Reopen.{OpensEither, stores_of}
-use Rattle.three_reopen.specs.Verdict.{IsWhole, IsDamaged, Differs, Listings}
-use Rattle.three_reopen.specs.declared.error.ReopenErr.{ReopenErr}
-use Rattle.three_reopen.specs.declared.error.ReopenErr.TheVariants as reopening
-use Rattle.three_reopen.proofs.Verdicts.{held_whole}
-use Rattle.three_reports.specs.Check.{InspectsSome, IsFound}
+use Rattle.tier_store.specs.Stores.{Stores}
+use Rattle.store_reopen.specs.Reopen.{OpensEither, stores_of}
+use Rattle.store_reopen.specs.Verdict.{IsWhole, IsDamaged, Differs, Listings}
+use Rattle.store_reopen.specs.declared.error.ReopenErr.{ReopenErr}
+use Rattle.store_reopen.specs.declared.error.ReopenErr.TheVariants as reopening
+use Rattle.store_reopen.proofs.Verdicts.{held_whole}
+use Rattle.store_reports.specs.Check.{InspectsSome, IsFound}
 use Rattle.command_words.specs.declared.command.StoreCommand.{StoreCommand}
 use Rattle.command_words.specs.declared.command.StoreCommand.TheVariants as command
 use Rattle.command_words.specs.declared.status.Status.TheVariants.{DiskFault, OutOfMemory}

@@ -9,12 +9,12 @@ use Rattle.disk_model.specs.Past.{Passes}
 use Rattle.disk_model.specs.declared.disk.Disk.{Ghosts}
 use Rattle.etl_rules.specs.Config.{ConfigState}
 use Rattle.partition_names.specs.declared.granularity.Granularity.{Granularity}
-use Rattle.three_stores.specs.Change.{Has}
-use Rattle.three_stores.specs.Seen.{seen}
-use Rattle.three_stores.specs.Stores.{Stores}
-use Rattle.three_stores.specs.declared.store.TierStore.{TierStore}
-use Rattle.three_reopen.specs.Reopen.{HasRead, HoldsEither, OpensEither, Reopens, stores_of}
-use Rattle.three_reopen.specs.Verdict.{IsWhole}
+use Rattle.tier_store.specs.Change.{Has}
+use Rattle.tier_store.specs.Seen.{seen}
+use Rattle.tier_store.specs.Stores.{Stores}
+use Rattle.tier_store.specs.declared.store.TierStore.{TierStore}
+use Rattle.store_reopen.specs.Reopen.{HasRead, HoldsEither, OpensEither, Reopens, stores_of}
+use Rattle.store_reopen.specs.Verdict.{IsWhole}
 use Rattle.command_words.specs.declared.command.Command.TheVariants.{OverStore}
 use Rattle.command_words.specs.declared.command.StoreCommand.TheVariants as command
 use Rattle.command_words.specs.declared.service_words.ServeWords.{ServeWords}

@@ -6,7 +6,7 @@ use Rattle.command_words.specs.declared.command.StoreCommand.TheVariants.{Ingest
 use Rattle.command_words.specs.Command.{IsCommand}
 use Rattle.command_words.proofs.Words.{same_letter, same_name}
 use Rattle.pv_catalog.specs.Rows.{HasName}
-use Rattle.three_stores.specs.Stores.{Stores}
+use Rattle.tier_store.specs.Stores.{Stores}
 use Rattle.archiver_appliance.specs.Run.{IsReport, IsServable}
 
 -- words ask for one command: what one needs of its name and the input, the other needs

@@ -8,11 +8,11 @@ use Rattle.disk_model.specs.declared.disk.Disk.{Ghosts}
 use Rattle.etl_rules.specs.Config.{ConfigState}
 use Rattle.payload_info.specs.Info.{info_of}
 use Rattle.payload_info.specs.declared.info.PayloadInfo.{PayloadInfo}
-use Rattle.three_stores.specs.Change.{Has}
-use Rattle.three_stores.specs.Seen.{seen}
-use Rattle.three_stores.specs.Stores.{Stores}
-use Rattle.three_stores.specs.declared.store.TierStore.{TierStore}
-use Rattle.three_reopen.specs.Reopen.{IsReady, OpensEither, stores_of}
+use Rattle.tier_store.specs.Change.{Has}
+use Rattle.tier_store.specs.Seen.{seen}
+use Rattle.tier_store.specs.Stores.{Stores}
+use Rattle.tier_store.specs.declared.store.TierStore.{TierStore}
+use Rattle.store_reopen.specs.Reopen.{IsReady, OpensEither, stores_of}
 use Rattle.act_model.specs.Alone.{Chain}
 use Rattle.act_model.specs.Changes.{made}
 use Rattle.act_model.specs.Crash.{kept}

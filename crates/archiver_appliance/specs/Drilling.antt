@@ -15,8 +15,8 @@ use Rattle.drill_feed.specs.Report.{IsVariableLine, tiers_text}
 use Rattle.drill_feed.specs.Workload.{name_text, now_of}
 use Rattle.drill_feed.specs.declared.report.Tally.{Tally}
 use Rattle.drill_feed.specs.declared.tiers.Tiers.{Tiers}
-use Rattle.three_stores.specs.Stores.{Stores}
-use Rattle.three_reopen.specs.Reopen.{OpensEither}
+use Rattle.tier_store.specs.Stores.{Stores}
+use Rattle.store_reopen.specs.Reopen.{OpensEither}
 use Rattle.act_model.specs.History.{Entry, Runs}
 use Rattle.act_model.specs.Machine.{Machine, find_row}
 use Rattle.act_model.specs.Parts.{AreParts}

@@ -4,7 +4,7 @@ use Rattle.disk_model.specs.Files.{Files}
 use Rattle.disk_model.specs.Past.{Past}
 use Rattle.edge_io.specs.Moments.{Moments}
 use Rattle.etl_rules.specs.Config.{ConfigState}
-use Rattle.three_stores.specs.Stores.{Stores}
+use Rattle.tier_store.specs.Stores.{Stores}
 use Rattle.act_model.specs.History.{Done}
 use Rattle.act_model.specs.Machine.{Machine}
 use Rattle.act_model.specs.Rows.{RowState, accepted, durable}

@@ -6,10 +6,10 @@ use Rattle.pv_catalog.specs.Rows.{HasName}
 use Rattle.pv_catalog.specs.declared.row.Row.{Row}
 use Rattle.store_manifest.specs.declared.entry.Entry.{Entry}
 use Rattle.stream_merge.specs.Reading.{IsBadFor}
-use Rattle.tier_store.specs.Held.{file_of}
-use Rattle.three_reopen.specs.Verdict.{Listings, IsWhole, IsDamaged, Differs}
-use Rattle.three_reopen.specs.declared.error.ReopenErr.{ReopenErr}
-use Rattle.three_reopen.specs.declared.error.ReopenErr.TheVariants as reopening
+use Rattle.durable_write.specs.Held.{file_of}
+use Rattle.store_reopen.specs.Verdict.{Listings, IsWhole, IsDamaged, Differs}
+use Rattle.store_reopen.specs.declared.error.ReopenErr.{ReopenErr}
+use Rattle.store_reopen.specs.declared.error.ReopenErr.TheVariants as reopening
 use Rattle.command_words.specs.declared.command.StoreCommand.{StoreCommand}
 use Rattle.command_words.specs.declared.command.StoreCommand.TheVariants.{Get, Etl, Check}
 use Rattle.command_words.specs.declared.status.Status.{Status}

@@ -6,7 +6,7 @@ use Rattle.edge_io.specs.Stream.{AppendsFront}
 use Rattle.disk_model.specs.Files.{Files}
 use Rattle.disk_model.specs.Past.{Past}
 use Rattle.etl_rules.specs.Config.{ConfigState}
-use Rattle.three_stores.specs.Stores.{Stores}
+use Rattle.tier_store.specs.Stores.{Stores}
 use Rattle.act_model.specs.History.{Done}
 use Rattle.serving_loops.specs.Due.{MovesDue}
 use Rattle.serving_loops.specs.declared.due.DueMoved.{DueMoved}

@@ -8,14 +8,14 @@ use Rattle.piece_choice.specs.Choosing.{listed}
 use Rattle.piece_choice.specs.declared.choosing.Listed.{Listed}
 use Rattle.pv_catalog.specs.declared.row.Row.{Row}
 use Rattle.store_manifest.specs.declared.entry.Entry.{Entry}
-use Rattle.three_stores.specs.Tallying.{RiseFrom, listed_count}
-use Rattle.three_reports.specs.Check.{Inspects, InspectsSome}
-use Rattle.three_reports.specs.Status.{row_line}
-use Rattle.three_reports.specs.declared.report.Damage.{Damage}
-use Rattle.three_reports.specs.declared.inspection.CheckErr.{CheckErr}
-use Rattle.three_reports.specs.declared.inspection.CheckErr.TheVariants as checked
-use Rattle.three_reports.specs.declared.summary.StatusErr.{StatusErr}
-use Rattle.three_reports.specs.declared.summary.StatusErr.TheVariants as summed
+use Rattle.tier_store.specs.Tallying.{RiseFrom, listed_count}
+use Rattle.store_reports.specs.Check.{Inspects, InspectsSome}
+use Rattle.store_reports.specs.Status.{row_line}
+use Rattle.store_reports.specs.declared.report.Damage.{Damage}
+use Rattle.store_reports.specs.declared.inspection.CheckErr.{CheckErr}
+use Rattle.store_reports.specs.declared.inspection.CheckErr.TheVariants as checked
+use Rattle.store_reports.specs.declared.summary.StatusErr.{StatusErr}
+use Rattle.store_reports.specs.declared.summary.StatusErr.TheVariants as summed
 use Rattle.command_words.specs.declared.status.Status.{Status}
 use Rattle.command_words.specs.declared.status.Status.TheVariants.{Done, SinkFault, DiskFault, Damaged, OutOfMemory}
 

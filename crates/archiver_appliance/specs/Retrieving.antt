@@ -13,7 +13,7 @@ use Rattle.series_model.specs.declared.sample.Query.{Query}
 use Rattle.series_model.specs.declared.sample.Sample.{Sample}
 use Rattle.series_model.specs.Series.{IsRising}
 use Rattle.series_model.specs.Retrieval.{answer as answer_of}
-use Rattle.three_stores.specs.Stores.{Stores, samples_in}
+use Rattle.tier_store.specs.Stores.{Stores, samples_in}
 use Rattle.act_model.specs.declared.acts.Act.{Act}
 use Rattle.act_model.specs.declared.acts.Act.TheVariants.{Pin}
 use Rattle.act_model.specs.declared.acts.Answer.TheVariants as answer

@@ -9,13 +9,13 @@ use Rattle.partition_names.specs.declared.granularity.Granularity.{Granularity}
 use Rattle.pb_lines.specs.Stream.{Item, Stop, IsWholeStream}
 use Rattle.pv_catalog.specs.declared.row.Row.{Row}
 use Rattle.pv_catalog.specs.Rows.{HasName}
-use Rattle.tier_store.specs.Writing.{LeavesListed}
-use Rattle.three_reopen.specs.Reopen.{SameStores, HoldsEither, OpensEither, StillHolds, stores_of}
-use Rattle.three_stores.specs.Change.{IsEither}
-use Rattle.three_stores.specs.Stored.{HoldsAll}
-use Rattle.three_stores.specs.Stores.{Stores}
-use Rattle.three_reopen.specs.Verdict.{IsWhole, Listings}
-use Rattle.three_reports.specs.Status.{status_text}
+use Rattle.durable_write.specs.Writing.{LeavesListed}
+use Rattle.store_reopen.specs.Reopen.{SameStores, HoldsEither, OpensEither, StillHolds, stores_of}
+use Rattle.tier_store.specs.Change.{IsEither}
+use Rattle.tier_store.specs.Stored.{HoldsAll}
+use Rattle.tier_store.specs.Stores.{Stores}
+use Rattle.store_reopen.specs.Verdict.{IsWhole, Listings}
+use Rattle.store_reports.specs.Status.{status_text}
 use Rattle.command_words.specs.declared.command.Command.{Command}
 use Rattle.command_words.specs.declared.command.Command.TheVariants.{Drill, Extract, OverStore}
 use Rattle.command_words.specs.declared.command.StoreCommand.{StoreCommand}

@@ -5,8 +5,8 @@ use Rattle.disk_model.specs.Past.{Past, Passes}
 use Rattle.edge_io.specs.Doors.{Ledger}
 use Rattle.edge_io.specs.Stream.{Rose}
 use Rattle.etl_rules.specs.Config.{ConfigState}
-use Rattle.three_stores.specs.Stores.{Stores}
-use Rattle.three_reopen.specs.Reopen.{stores_of}
+use Rattle.tier_store.specs.Stores.{Stores}
+use Rattle.store_reopen.specs.Reopen.{stores_of}
 use Rattle.disk_model.specs.declared.disk.Disk.{Ghosts}
 use Rattle.turn_rooms.specs.declared.room.Entry.{Entry as RoomEntry}
 use Rattle.turn_rooms.specs.Histories.{Legal, end_of, most_acts}

@@ -2,10 +2,10 @@
 ghost use Rattle.std.specs.Prelude.{◌≡◌, ◌≤◌, ◌<◌, List, IsTrue, true, IfOk};
 ghost use Rattle.edge_io.specs.Stream.{Rose};
 ghost use Rattle.etl_rules.specs.Config.{ConfigState};
-ghost use Rattle.three_stores.specs.Change.{Has};
-ghost use Rattle.three_stores.specs.Seen.{seen};
-ghost use Rattle.three_stores.specs.Stores.{Stores};
-ghost use Rattle.three_reopen.specs.Reopen.{IsUnopened, stores_of};
+ghost use Rattle.tier_store.specs.Change.{Has};
+ghost use Rattle.tier_store.specs.Seen.{seen};
+ghost use Rattle.tier_store.specs.Stores.{Stores};
+ghost use Rattle.store_reopen.specs.Reopen.{IsUnopened, stores_of};
 ghost use Rattle.act_model.specs.History.{Done};
 ghost use Rattle.act_model.specs.Machine.{Machine};
 ghost use Rattle.archive_core.specs.Parts.{parts};
@@ -30,9 +30,9 @@ use serving_loops::{MoveErr, move_all_due};
 use std::alloc::{AllocError, Global};
 use std::sync::Wait;
 use std::thread::Threads;
-use three_reopen::laws::an_empty_disk_holds_nothing;
-use three_reopen::reopen;
-use three_stores::TierStore;
+use store_reopen::laws::an_empty_disk_holds_nothing;
+use store_reopen::reopen;
+use tier_store::TierStore;
 
 /// What a drill lacks.
 #[derive(Drop)]

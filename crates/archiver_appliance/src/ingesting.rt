@@ -3,11 +3,11 @@ ghost use Rattle.std.specs.Prelude.{◌≡◌, ◌≤◌, ◌<◌, ◌+◌, ◌�
 ghost use Rattle.edge_io.specs.Stream.{Rose};
 ghost use Rattle.disk_model.specs.Files.{Rose as DiskRose};
 ghost use Rattle.store_manifest.specs.Manifest.{ManifestState};
-ghost use Rattle.tier_store.specs.Writing.{LeavesListed};
-ghost use Rattle.three_stores.specs.Change.{Has};
-ghost use Rattle.three_stores.specs.Seen.{seen};
-ghost use Rattle.three_stores.specs.Stores.{Stores};
-ghost use Rattle.three_reopen.specs.Reopen.{IsUnopened};
+ghost use Rattle.durable_write.specs.Writing.{LeavesListed};
+ghost use Rattle.tier_store.specs.Change.{Has};
+ghost use Rattle.tier_store.specs.Seen.{seen};
+ghost use Rattle.tier_store.specs.Stores.{Stores};
+ghost use Rattle.store_reopen.specs.Reopen.{IsUnopened};
 ghost use Rattle.act_model.specs.History.{Done};
 ghost use Rattle.act_model.specs.Machine.{Machine};
 ghost use Rattle.archive_core.specs.Parts.{parts};
@@ -30,7 +30,7 @@ use edge_io::{Clock, Source};
 use feed_session::{Fed, ingest};
 use std::alloc::Global;
 use std::sync::Wait;
-use three_stores::TierStore;
+use tier_store::TierStore;
 
 /// Opens an archive on the stores, and brings the source's stream into it.
 pub fn ingest_into<S: Source, D: Disk, C: Clock>(

@@ -4,10 +4,10 @@ ghost use Rattle.disk_model.specs.Files.{Name, Rose as DiskRose};
 ghost use Rattle.edge_io.specs.Moments.{Gives};
 ghost use Rattle.edge_io.specs.Stream.{Rose, AppendsFront};
 ghost use Rattle.std.specs.Io.KnownBytes.{Appends};
-ghost use Rattle.three_stores.specs.Change.{Has};
-ghost use Rattle.three_stores.specs.Seen.{seen};
-ghost use Rattle.three_stores.specs.Stores.{Stores};
-ghost use Rattle.three_reopen.specs.Reopen.{IsUnopened};
+ghost use Rattle.tier_store.specs.Change.{Has};
+ghost use Rattle.tier_store.specs.Seen.{seen};
+ghost use Rattle.tier_store.specs.Stores.{Stores};
+ghost use Rattle.store_reopen.specs.Reopen.{IsUnopened};
 ghost use Rattle.act_model.specs.History.{Done};
 ghost use Rattle.act_model.specs.Machine.{Machine};
 ghost use Rattle.archive_core.specs.Parts.{parts};
@@ -31,7 +31,7 @@ use itoa::Buffer;
 use serving_loops::{DueMoved, MoveErr, move_all_due};
 use std::alloc::Global;
 use std::sync::Wait;
-use three_stores::TierStore;
+use tier_store::TierStore;
 
 /// Opens an archive on the stores, reads one moment, and moves all that is due then. It tells how many partitions stores 1 and 2 retired.
 pub fn move_due<K: Sink, D: Disk, C: Clock>(

@@ -1,6 +1,6 @@
 // The commands over the archive.
 ghost use Rattle.std.specs.Prelude.{◌≡◌, ◌<◌, ◌^◌, IsTrue, None, length};
-ghost use Rattle.three_reopen.specs.Reopen.{IsUnopened, disk_in};
+ghost use Rattle.store_reopen.specs.Reopen.{IsUnopened, disk_in};
 ghost use Rattle.archiver_appliance.specs.Judging.{refusal_of};
 ghost use Rattle.archiver_appliance.specs.Outside.{outside, IsCaused, NoneFell};
 ghost use Rattle.archiver_appliance.specs.Run.{Does, IsRefused, IsReport};
@@ -24,9 +24,9 @@ use link_service::Post;
 use std::alloc::Global;
 use std::sync::Wait;
 use std::thread::Threads;
-use three_reopen::laws::one_verdict;
-use three_reopen::{ReopenErr, reopen};
-use three_stores::TierStore;
+use store_reopen::laws::one_verdict;
+use store_reopen::{ReopenErr, reopen};
+use tier_store::TierStore;
 
 /// What a command over the archive came to.
 #[derive(Drop)]

@@ -3,11 +3,11 @@ ghost use Rattle.std.specs.Prelude.{◌≡◌, ◌≤◌, ℕ, List, Option, IsT
 ghost use Rattle.disk_model.specs.Files.{Rose as DiskRose};
 ghost use Rattle.disk_model.specs.Past.{Passes};
 ghost use Rattle.edge_io.specs.Stream.{Rose};
-ghost use Rattle.three_stores.specs.Change.{Has};
-ghost use Rattle.three_stores.specs.Seen.{seen};
-ghost use Rattle.three_stores.specs.Stores.{Stores};
-ghost use Rattle.three_reopen.specs.Reopen.{IsUnopened, lists_of};
-ghost use Rattle.three_reports.specs.Status.{status_text};
+ghost use Rattle.tier_store.specs.Change.{Has};
+ghost use Rattle.tier_store.specs.Seen.{seen};
+ghost use Rattle.tier_store.specs.Stores.{Stores};
+ghost use Rattle.store_reopen.specs.Reopen.{IsUnopened, lists_of};
+ghost use Rattle.store_reports.specs.Status.{status_text};
 ghost use Rattle.archiver_appliance.specs.Judging.{IsOfOpened};
 ghost use Rattle.archiver_appliance.specs.Outside.{IsCausedBy};
 ghost use Rattle.archiver_appliance.specs.Reporting.{ChecksAll, Tells, TellsListed, checked_file, checked_status, reported_status};
@@ -19,8 +19,8 @@ use command_words::Status;
 use disk_model::{Disk, ReadAt};
 use edge_io::Sink;
 use std::alloc::Global;
-use three_reports::{CheckErr, Damage, StatusErr, check, status};
-use three_stores::TierStore;
+use store_reports::{CheckErr, Damage, StatusErr, check, status};
+use tier_store::TierStore;
 
 /// Writes one line for each row.
 pub fn tell_rows<K: Sink, D: Disk>(alloc: Global, mut store: TierStore<D>, sink: &mut K) -> Came<D>

@@ -3,10 +3,10 @@ ghost use Rattle.std.specs.Prelude.{◌≡◌, ◌≤◌, ◌⊎◌, ℕ, List, 
 ghost use Rattle.disk_model.specs.Files.{Name, Rose as DiskRose};
 ghost use Rattle.disk_model.specs.Past.{Passes};
 ghost use Rattle.edge_io.specs.Stream.{Rose};
-ghost use Rattle.three_stores.specs.Change.{Has};
-ghost use Rattle.three_stores.specs.Seen.{seen};
-ghost use Rattle.three_stores.specs.Stores.{Stores};
-ghost use Rattle.three_reopen.specs.Reopen.{IsUnopened, lists_of};
+ghost use Rattle.tier_store.specs.Change.{Has};
+ghost use Rattle.tier_store.specs.Seen.{seen};
+ghost use Rattle.tier_store.specs.Stores.{Stores};
+ghost use Rattle.store_reopen.specs.Reopen.{IsUnopened, lists_of};
 ghost use Rattle.act_model.specs.Machine.{Machine};
 ghost use Rattle.archive_core.specs.Parts.{parts};
 ghost use Rattle.archive_core.specs.Stands.{Stands};
@@ -28,7 +28,7 @@ use edge_io::Sink;
 use retrieval_query::{RawOut, Retrieved, retrieve};
 use series_model::Query;
 use std::alloc::Global;
-use three_stores::TierStore;
+use tier_store::TierStore;
 
 /// Opens an archive on the stores, and writes the raw text of a variable's answer.
 pub fn get_from<K: Sink, D: Disk>(

@@ -2,7 +2,7 @@
 ghost use Rattle.std.specs.Prelude.{◌≡◌, ◌↔◌, ◌≤◌, ◌<◌, ◌^◌, IsTrue, length, map};
 ghost use Rattle.series_model.specs.declared.sample.Query.{Query};
 ghost use Rattle.drill_feed.specs.declared.drill.Drill.{Drill as DrillValue};
-ghost use Rattle.three_reopen.specs.Reopen.{IsUnopened};
+ghost use Rattle.store_reopen.specs.Reopen.{IsUnopened};
 ghost use Rattle.command_words.specs.declared.command.Command.{Command as CommandValue};
 ghost use Rattle.command_words.specs.declared.command.Command.TheVariants.{Drill as DrillOf, Extract, OverStore};
 ghost use Rattle.command_words.specs.declared.command.StoreCommand.{StoreCommand as Asked};

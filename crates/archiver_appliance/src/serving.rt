@@ -1,10 +1,10 @@
 // `serve`: many feeds and clients at once on an archive, beside one who flushes and one who moves.
 ghost use Rattle.std.specs.Prelude.{◌≡◌, ◌<◌, ◌^◌, ◌⊎◌, ℕ, List, Option, IfOk, IfErr, length, IsTrue};
 ghost use Rattle.disk_model.specs.Files.{Rose as DiskRose};
-ghost use Rattle.three_stores.specs.Change.{Has};
-ghost use Rattle.three_stores.specs.Seen.{seen};
-ghost use Rattle.three_stores.specs.Stores.{Stores};
-ghost use Rattle.three_reopen.specs.Reopen.{IsUnopened};
+ghost use Rattle.tier_store.specs.Change.{Has};
+ghost use Rattle.tier_store.specs.Seen.{seen};
+ghost use Rattle.tier_store.specs.Stores.{Stores};
+ghost use Rattle.store_reopen.specs.Reopen.{IsUnopened};
 ghost use Rattle.turn_rooms.specs.Passes.{Opens, opened};
 ghost use Rattle.act_model.specs.Machine.{Machine};
 ghost use Rattle.act_model.specs.Reply.{reply_of};
@@ -31,7 +31,7 @@ use link_service::{AllServed, NoGate, Post, serve_all};
 use std::alloc::Global;
 use std::sync::Wait;
 use std::thread::Threads;
-use three_stores::TierStore;
+use tier_store::TierStore;
 use turn_rooms::{Pass, Rooms};
 
 /// Opens an archive on the stores, with as many doors as there are posts; serves all posts on it to the ends of their doors; and gives the

@@ -13,7 +13,7 @@ use Rattle.partition_names.specs.Part.{IsPart, HoldsMoment}
 use Rattle.partition_names.proofs.PartLemmas as parts
 use Rattle.store_manifest.specs.declared.entry.Entry.{Entry}
 use Rattle.store_manifest.specs.Entries.{Place, place, comes_before, InOrder}
-use Rattle.tier_store.proofs.Lasts.{same_last}
+use Rattle.durable_write.proofs.Lasts.{same_last}
 use Rattle.etl_mover.specs.declared.copying.Start.{Start}
 use Rattle.etl_mover.specs.Copying.{last_of, starts, after, fresh, behind, SetsLast}
 use Rattle.etl_mover.specs.Move.{MoveState, IsMove, FewPending, OfNext, part_file}

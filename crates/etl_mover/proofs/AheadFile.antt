@@ -11,16 +11,16 @@ use Rattle.store_files.proofs.Stays.{front_file}
 use Rattle.partition_names.specs.declared.granularity.Granularity.{Granularity}
 use Rattle.store_manifest.specs.Entries.{Place, comes_before}
 use Rattle.store_manifest.specs.Manifest.{ManifestState}
-use Rattle.tier_store.specs.Held.{Filed, Held, IsFiled, IsListed, IsIn, file_of, filed_at, bytes_of, shelf_of, Shelf}
-use Rattle.tier_store.specs.Flush.{file_at, listed_bytes, listed_len, start_of, with_files, put_all}
-use Rattle.tier_store.specs.Stored.{AreHeld, AreLong, AreSafe, Holds}
-use Rattle.tier_store.specs.Writing.{Behind, IsSafe, IsStoredAs}
-use Rattle.tier_store.specs.Ahead.{Leads, HasCopied}
-use Rattle.tier_store.proofs.Ahead.{copied_moment, leads_on, leads_behind, leads_long, put_all_has}
-use Rattle.tier_store.proofs.Names.{name_cases, same_place, same_file}
-use Rattle.tier_store.proofs.Listed.{found, listed_at, all_put_all, rise_put_all}
-use Rattle.tier_store.proofs.Stays.{having, AllowTo, whole_in, call_behind, still_safe, safe_both}
-use Rattle.tier_store.proofs.Whole.{still_stored_as}
+use Rattle.durable_write.specs.Held.{Filed, Held, IsFiled, IsListed, IsIn, file_of, filed_at, bytes_of, shelf_of, Shelf}
+use Rattle.durable_write.specs.Flush.{file_at, listed_bytes, listed_len, start_of, with_files, put_all}
+use Rattle.durable_write.specs.Stored.{AreHeld, AreLong, AreSafe, Holds}
+use Rattle.durable_write.specs.Writing.{Behind, IsSafe, IsStoredAs}
+use Rattle.durable_write.specs.Ahead.{Leads, HasCopied}
+use Rattle.durable_write.proofs.Ahead.{copied_moment, leads_on, leads_behind, leads_long, put_all_has}
+use Rattle.durable_write.proofs.Names.{name_cases, same_place, same_file}
+use Rattle.durable_write.proofs.Listed.{found, listed_at, all_put_all, rise_put_all}
+use Rattle.durable_write.proofs.Stays.{having, AllowTo, whole_in, call_behind, still_safe, safe_both}
+use Rattle.durable_write.proofs.Whole.{still_stored_as}
 use Rattle.etl_mover.specs.Writing.{WritesFile, LeavesFile}
 use Rattle.etl_mover.specs.Growing.{IsPlaced, BecomesFile}
 

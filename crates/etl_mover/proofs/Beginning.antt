@@ -11,7 +11,7 @@ use Rattle.partition_names.specs.Part.{IsPart}
 use Rattle.store_manifest.specs.declared.entry.Entry.{Entry}
 use Rattle.store_manifest.specs.Entries.{place, comes_before, InOrder, AreEntries}
 use Rattle.store_manifest.specs.Manifest.{ManifestState}
-use Rattle.tier_store.specs.Plan.{IsLastOf}
+use Rattle.durable_write.specs.Plan.{IsLastOf}
 use Rattle.etl_mover.specs.Move.{MoveState, HasBegun, IsMove, StillLists, of_series, part_file}
 
 -- each comes before all behind it also where some are left out

@@ -12,14 +12,14 @@ use Rattle.partition_names.specs.Part.{IsPart}
 use Rattle.store_manifest.specs.declared.entry.Entry.{Entry}
 use Rattle.store_manifest.specs.Entries.{put, all_changed, changed, AllCanFollow}
 use Rattle.store_manifest.specs.Manifest.{ManifestState}
-use Rattle.tier_store.specs.Held.{Filed, Held, Shelf, entry_of, filed_at}
-use Rattle.tier_store.specs.Flush.{put_all}
-use Rattle.tier_store.specs.Stored.{HoldsEither}
-use Rattle.tier_store.specs.Writing.{IsStoredAs, IsDoubtedAs}
-use Rattle.tier_store.specs.Ahead.{HasCopied, CanRelist}
-use Rattle.tier_store.proofs.Ending.{map-put}
-use Rattle.tier_store.proofs.Holding.{stored_left}
-use Rattle.tier_store.proofs.Retiring.{can_publish}
+use Rattle.durable_write.specs.Held.{Filed, Held, Shelf, entry_of, filed_at}
+use Rattle.durable_write.specs.Flush.{put_all}
+use Rattle.durable_write.specs.Stored.{HoldsEither}
+use Rattle.durable_write.specs.Writing.{IsStoredAs, IsDoubtedAs}
+use Rattle.durable_write.specs.Ahead.{HasCopied, CanRelist}
+use Rattle.durable_write.proofs.Ending.{map-put}
+use Rattle.durable_write.proofs.Holding.{stored_left}
+use Rattle.durable_write.proofs.Retiring.{can_publish}
 use Rattle.etl_mover.specs.Move.{MoveState, IsAhead, set_entry}
 use Rattle.etl_mover.specs.Lists.{Unmade, published, Stands, Relists, Knows}
 

@@ -16,13 +16,13 @@ use Rattle.pv_catalog.specs.declared.row.Row.{Row}
 use Rattle.store_manifest.specs.declared.entry.Entry.{Entry}
 use Rattle.store_manifest.specs.Entries.{Place, comes_before, put, spliced}
 use Rattle.store_manifest.specs.Manifest.{ManifestState}
-use Rattle.tier_store.specs.Held.{Filed, Held, Shelf, bytes_of, entry_of, filed_at, file_of, name_of, shelf_of}
-use Rattle.tier_store.specs.Flush.{put_all, with_files}
-use Rattle.tier_store.specs.Plan.{IsLastOf}
-use Rattle.tier_store.specs.Ahead.{HasCopied}
-use Rattle.tier_store.specs.Writing.{IsStoredAs}
-use Rattle.tier_store.proofs.Ahead.{put_itself}
-use Rattle.tier_store.proofs.Lasts.{last_view, same_last}
+use Rattle.durable_write.specs.Held.{Filed, Held, Shelf, bytes_of, entry_of, filed_at, file_of, name_of, shelf_of}
+use Rattle.durable_write.specs.Flush.{put_all, with_files}
+use Rattle.durable_write.specs.Plan.{IsLastOf}
+use Rattle.durable_write.specs.Ahead.{HasCopied}
+use Rattle.durable_write.specs.Writing.{IsStoredAs}
+use Rattle.durable_write.proofs.Ahead.{put_itself}
+use Rattle.durable_write.proofs.Lasts.{last_view, same_last}
 use Rattle.etl_mover.specs.declared.copying.Start.{Start}
 use Rattle.etl_mover.specs.Copying.{last_of, starts, fresh, SetsLast}
 use Rattle.etl_mover.specs.Move.{MoveState, IsMove, IsAhead, StillLists, part_file}

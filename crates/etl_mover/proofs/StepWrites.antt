@@ -6,7 +6,7 @@ use Rattle.disk_model.proofs.Passing.{passes_none, passes_weaker}
 use Rattle.store_files.specs.Fronts.{Begins, Keeps}
 use Rattle.store_files.proofs.Stays.{keeps_more}
 use Rattle.store_manifest.specs.declared.entry.Entry.{Entry}
-use Rattle.tier_store.specs.Flush.{start_of}
+use Rattle.durable_write.specs.Flush.{start_of}
 use Rattle.etl_mover.specs.declared.copying.Start.{Start}
 use Rattle.etl_mover.specs.Copying.{SetsLast}
 use Rattle.etl_mover.specs.Reading.{OnlyReads}

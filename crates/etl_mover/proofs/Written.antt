@@ -5,8 +5,8 @@ use Rattle.disk_model.specs.Files.{Name, Content, Files, HasFile, At, Overwritte
 use Rattle.disk_model.specs.Past.{Past, Passes, Only}
 use Rattle.store_files.specs.Fronts.{Keeps}
 use Rattle.store_files.proofs.Stays.{keeps_more, torn_keeps}
-use Rattle.tier_store.proofs.Appending.{appended, cut_kept, cut_of, written_keeps}
-use Rattle.tier_store.proofs.Names.{name_cases}
+use Rattle.durable_write.proofs.Appending.{appended, cut_kept, cut_of, written_keeps}
+use Rattle.durable_write.proofs.Names.{name_cases}
 use Rattle.etl_mover.specs.Writing.{WritesFile, LeavesFile}
 
 pub all_names : (name : Name) (opened after : Name → ℕ) → ((n : Name) → n ≢ name → after n ≡ opened n) → after name ≤ opened name → (n : Name) → after n ≤ opened n

@@ -1,8 +1,8 @@
 -- What becomes of a destination's file.
 use Rattle.std.specs.Prelude.{◌≡◌, ◌+◌, ℕ, List, ◌++◌, length, Option, IsTrue}
 use Rattle.partition_names.specs.declared.granularity.Granularity.{Granularity}
-use Rattle.tier_store.specs.Held.{Filed, Held, IsFiled, IsListed, bytes_of, filed_at}
-use Rattle.tier_store.specs.Flush.{bytes_at, len_at, start_of}
+use Rattle.durable_write.specs.Held.{Filed, Held, IsFiled, IsListed, bytes_of, filed_at}
+use Rattle.durable_write.specs.Flush.{bytes_at, len_at, start_of}
 
 -- the file is of its row, and has these bytes behind those that were ahead of it
 pub record HasBytes (g : Granularity) (held : Held) (bytes : List ℕ) (f : Filed) : Type 0 where

@@ -6,9 +6,9 @@ use Rattle.disk_model.specs.declared.disk.DiskErr.{DiskErr}
 use Rattle.gate_journal.specs.Journal.{JournalState}
 use Rattle.store_manifest.specs.declared.entry.Entry.{Entry}
 use Rattle.store_manifest.specs.Manifest.{ManifestState}
-use Rattle.tier_store.specs.Held.{Held, Shelf}
-use Rattle.tier_store.specs.Stored.{HoldsEither}
-use Rattle.tier_store.specs.Writing.{IsStoredAs, IsDoubtedAs}
+use Rattle.durable_write.specs.Held.{Held, Shelf}
+use Rattle.durable_write.specs.Stored.{HoldsEither}
+use Rattle.durable_write.specs.Writing.{IsStoredAs, IsDoubtedAs}
 
 -- the commit wasn't made, it was, or it isn't known whether it was
 pub data Outcome : Type 0 where

@@ -11,9 +11,9 @@ use Rattle.store_manifest.specs.declared.entry.Change.TheVariants.{Set}
 use Rattle.store_manifest.specs.Entries.{InOrder}
 use Rattle.store_manifest.specs.Manifest.{ManifestState, manifest_name}
 use Rattle.pv_catalog.specs.declared.row.Row.{Row}
-use Rattle.tier_store.specs.Held.{Filed, Held, Shelf, entry_of}
-use Rattle.tier_store.specs.Flush.{with_files}
-use Rattle.tier_store.specs.Plan.{IsLastOf}
+use Rattle.durable_write.specs.Held.{Filed, Held, Shelf, entry_of}
+use Rattle.durable_write.specs.Flush.{with_files}
+use Rattle.durable_write.specs.Plan.{IsLastOf}
 use Rattle.etl_mover.specs.declared.moving.Stage.{Stage}
 use Rattle.etl_mover.specs.declared.moving.Stage.TheVariants.{Copying}
 

@@ -11,7 +11,7 @@ use Rattle.partition_names.specs.Part.{IsPart, HoldsMoment}
 use Rattle.store_manifest.specs.declared.entry.Entry.{Entry}
 use Rattle.pv_catalog.specs.declared.row.Row.{Row}
 use Rattle.pb_lines.specs.File.{AreSamples, lines_of}
-use Rattle.tier_store.specs.Held.{Shelf}
+use Rattle.durable_write.specs.Held.{Shelf}
 use Rattle.etl_mover.specs.declared.copying.Start.{Start}
 use Rattle.etl_mover.specs.Copying.{last_of, starts, SetsLast}
 use Rattle.etl_mover.specs.Lines.{IsSampleStart, with_lines}

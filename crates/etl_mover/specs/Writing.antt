@@ -3,7 +3,7 @@ use Rattle.std.specs.Prelude.{◌≡◌, ◌≢◌, ◌≤◌, ℕ, List, ◌++�
 use Rattle.disk_model.specs.Files.{Name, Files, HasFile, At}
 use Rattle.disk_model.specs.Past.{Past, Passes, Only}
 use Rattle.store_files.specs.Fronts.{Keeps}
-use Rattle.tier_store.specs.Flush.{start_of}
+use Rattle.durable_write.specs.Flush.{start_of}
 
 -- it has the bytes behind the first ones of a file that goes on, or alone where the file is made anew, and has synced them
 pub record WritesFile (name : Name) (at : Option ℕ) (bytes : List ℕ) (files later : Files) (after : Name → ℕ) (new : Past) : Type 0 where

@@ -3,7 +3,7 @@ ghost use Rattle.std.specs.Prelude.{◌≡◌, ◌≤◌, IfOk, length, map, sli
 ghost use Rattle.std.specs.Option.{option_copied};
 ghost use Rattle.partition_names.specs.Granularity.{Holds};
 ghost use Rattle.store_manifest.specs.Entries.{AreEntries};
-ghost use Rattle.tier_store.specs.Plan.{IsLastOf};
+ghost use Rattle.durable_write.specs.Plan.{IsLastOf};
 ghost use Rattle.etl_mover.specs.Move.{HasBegun, IsMove, StillLists, of_series, part_file};
 
 use disk_model::FileName;

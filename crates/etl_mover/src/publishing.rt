@@ -5,18 +5,18 @@ ghost use Rattle.disk_model.specs.Past.{Passes};
 ghost use Rattle.gate_journal.specs.Journal.{JournalState};
 ghost use Rattle.partition_names.specs.declared.granularity.Granularity.{Granularity};
 ghost use Rattle.store_manifest.specs.Entries.{all_changed};
-ghost use Rattle.tier_store.specs.Held.{Held, Shelf};
-ghost use Rattle.tier_store.specs.Ahead.{HasCopied};
-ghost use Rattle.tier_store.specs.Three.{Anything};
+ghost use Rattle.durable_write.specs.Held.{Held, Shelf};
+ghost use Rattle.durable_write.specs.Ahead.{HasCopied};
+ghost use Rattle.durable_write.specs.Three.{Anything};
 ghost use Rattle.etl_mover.specs.Move.{IsMove, IsAhead, IsCopied, set_entry};
 ghost use Rattle.etl_mover.specs.Lists.{Relists, Commits, published};
 ghost use Rattle.etl_mover.specs.declared.moving.Stage.TheVariants.{Published};
 
 use crate::moving::{Move, Stage};
 use disk_model::{Disk, DiskErr};
+use durable_write::relist;
 use std::alloc::AllocError;
 use store_manifest::{Change, Manifest};
-use tier_store::relist;
 
 impl Move {
     // The changes that list the pending entries.

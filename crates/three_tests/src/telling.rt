@@ -8,9 +8,9 @@ use std::alloc::Global;
 use std::fmt::Write as _;
 use std::str;
 use std::test::Fail;
-use three_reopen::{ReopenErr, reopen};
-use three_reports::{check, status};
-use three_stores::TierStore;
+use store_reopen::{ReopenErr, reopen};
+use store_reports::{check, status};
+use tier_store::TierStore;
 
 // Each file that a store lists of a row: how many samples it has, and the first and the last moment.
 fn put_row(stores: &TierStore<MemDisk>, store: u8, row: u32, text: &mut String) -> Result<(), Fail>

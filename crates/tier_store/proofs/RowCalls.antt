@@ -1,68 +1,263 @@
--- What a change of the rows makes of their keys and states.
-use Rattle.std.proofs.Common.{◌≡◌, ◌⊎◌, inl, inr, ℕ, zero, suc, ◌<◌, ◌++◌, ◌∷◌, [], List, length, Err, refl, sym, ◌∙◌, ap, arith}
-use Rattle.std.specs.Prelude.{Result}
-use Rattle.std.proofs.lemmas.Option.{same_Some}
-use Rattle.disk_model.specs.declared.disk.DiskErr.{DiskErr}
+-- A change of the rows where nothing stands in doubt, by what the catalogue's call says.
+use Rattle.std.proofs.Common.{◌≡◌, ◌≢◌, ◌⊎◌, inl, inr, true, false, Bool, ℕ, ◌≤◌, ◌<◌, ◌+◌, ◌++◌, ◌∷◌, [], List, length, map, Ok, Err, refl, sym, ◌∙◌, ap, subst, arith}
+use Rattle.std.specs.Prelude.{IsTrue, Result, OnOk, OnErr, IfOk, IfErr, ◌↔◌}
+use Rattle.disk_model.specs.Files.{Name, Content, Files, Rose, At}
+use Rattle.disk_model.specs.Past.{Past, Passes}
+use Rattle.disk_model.specs.declared.disk.DiskErr.TheVariants.{Fault, Memory}
+use Rattle.disk_model.proofs.Passing.{passes_none, passes_weaker}
 use Rattle.event_types.specs.declared.about.About.{About}
 use Rattle.event_types.specs.declared.about.State.{State}
-use Rattle.event_types.specs.declared.about.State.TheVariants.{Running, Paused, Retired}
-use Rattle.pv_name.specs.Key.{key_of}
-use Rattle.pv_catalog.specs.Catalogue.{HasState, Refuses, registered}
-use Rattle.pv_catalog.specs.Rows.{HasKey, switched}
+use Rattle.event_types.specs.declared.about.State.TheVariants.{Running, Paused}
+use Rattle.gate_journal.specs.Journal.{JournalState}
+use Rattle.gate_journal.specs.Kept as journal
+use Rattle.gate_journal.specs.Kept.{Says, SaysEither}
+use Rattle.partition_names.specs.declared.granularity.Granularity.{Granularity}
+use Rattle.pv_catalog.specs.Catalogue as catalogue
+use Rattle.pv_catalog.specs.Catalogue.{CatalogueState, HasState, Refuses, IsRefusal, IsOfRows, registered, catalogue_name}
+use Rattle.pv_catalog.specs.Rows.{IsCatalogue, KeepsRows, switched}
 use Rattle.pv_catalog.specs.declared.error.RegisterErr.{RegisterErr}
 use Rattle.pv_catalog.specs.declared.error.RegisterErr.TheVariants as of_register
+use Rattle.pv_catalog.specs.declared.error.StateErr.{StateErr}
+use Rattle.pv_catalog.specs.declared.error.StateErr.TheVariants as of_state
 use Rattle.pv_catalog.specs.declared.row.Row.{Row}
-use Rattle.pv_catalog.proofs.Standing.{in_pushed, in_switched}
-use Rattle.tier_store.specs.Stored.{KeysDiffer}
+use Rattle.pv_catalog.proofs.Standing.{keeps_more, keeps_switched}
+use Rattle.store_manifest.specs.Batches.{Folds}
+use Rattle.store_manifest.specs.Manifest.{ManifestState, manifest_name}
+use Rattle.durable_write.specs.Held.{Held, AreIn, entry_of, shelf_of}
+use Rattle.durable_write.specs.Ends.{End, Done, Refused, Failed, Spent, IsFailed, end_of_register, end_of_switch}
+use Rattle.durable_write.specs.Stored.{Holds, KeysDiffer, AreHeld, CatalogueStored, TierStored}
+use Rattle.durable_write.proofs.Ending.{other_journal}
+use Rattle.durable_write.proofs.Frame.{tier_stays}
+use Rattle.durable_write.proofs.Growing.{filed_still, held_grows, in_grows, safe_grows}
+use Rattle.durable_write.proofs.Holding.{not_in}
+use Rattle.durable_write.proofs.RowCalls.{keys_pushed, keys_switched, of_disk, has_state}
+use Rattle.durable_write.proofs.Stays.{AreApart, all_apart, apart_stay, apart_long, safe_stays}
+use Rattle.tier_store.specs.Stores.{Stores, tier, with_rows}
+use Rattle.tier_store.specs.Seen.{Seen, seen_on, AtEach, granularities}
+use Rattle.tier_store.specs.Change.{IsKnown, Has, HoldsBy, Call, EndsFrom, Changes, registering, pausing, resuming, Registers, Switches}
+use Rattle.tier_store.proofs.Left.{all_left, has_left}
 
--- a name that isn't refused has a key of its own
-pub keys_pushed : (rows : List Row) (name : List ℕ) (about : About) → ((e : RegisterErr) → Refuses rows name e → ⊥) → KeysDiffer rows → KeysDiffer (rows ++ registered rows name about ∷ [])
-keys_pushed rows name about free differ i j a b here there same = elim (in_pushed rows (registered rows name about) a i here) [
-  | inl first ↦ elim (in_pushed rows (registered rows name about) b j there) [
-    | inl second ↦ differ i j a b first second same
-    | inr second ↦ absurd (taken i (record { row = a; here = first; is = same ∙ ap (λ (r : Row). key_of r.name) second.1 }))
-  ]
-  | inr first ↦ elim (in_pushed rows (registered rows name about) b j there) [
-    | inl second ↦ absurd (taken j (record { row = b; here = second; is = sym same ∙ ap (λ (r : Row). key_of r.name) first.1 }))
-    | inr second ↦ first.0 ∙ sym second.0
-  ]
-]
-  where
-    taken : (k : ℕ) → HasKey rows k (key_of name) → ⊥
-    taken k has = free (of_register.KeyTaken k) (has, λ named. free (of_register.NameTaken k) named)
+registers : (c : List Row) (name : List ℕ) (about : About) → ((e : RegisterErr) → Refuses c name e → ⊥) → (held : Stores) → held.rows ≡ c → Registers name about held (with_rows held (c ++ registered c name about ∷ []))
+registers c name about free held same = (λ e refuses. free e (subst (λ (rs : List Row). Refuses rs name e) same refuses), ap (λ (rs : List Row). with_rows held (rs ++ registered rs name about ∷ [])) (sym same))
 
-pub keys_switched : (row : ℕ) (state : State) (rows : List Row) → KeysDiffer rows → KeysDiffer (switched row state rows)
-keys_switched row state rows differ i j a b here there same =
-    let first = in_switched row state rows i a here in
-    let second = in_switched row state rows j b there in
-    differ i j first.0 second.0 first.1 second.1 (ap key_of (sym first.2.name) ∙ same ∙ ap key_of second.2.name)
+switches : (row : ℕ) (from to : State) (c : List Row) (held : Stores) → held.rows ≡ c → HasState c row from → Switches row from to held (with_rows held (switched row to c))
+switches row from to c held same has = (subst (λ (rs : List Row). HasState rs row from) (sym same) has, ap (λ (rs : List Row). with_rows held (switched row to rs)) (sym same))
 
--- the disk's error isn't a reason of the rows
-pub of_disk : (rows : List Row) (name : List ℕ) (e : RegisterErr) (failed : DiskErr) → ◌≡◌ {A = Result ℕ RegisterErr} (Err (of_register.Disk failed)) (Err e) → Refuses rows name e → ⊥
-of_disk rows name (of_register.NameTaken i) failed is refuses = absurd (cc (is))
-of_disk rows name (of_register.KeyTaken i) failed is refuses = absurd (cc (is))
-of_disk rows name of_register.Full failed is refuses = absurd (cc (is))
-of_disk rows name (of_register.Disk e) failed is refuses = refuses
+-- BESIDE A COMMIT OF THE CATALOGUE
 
-same_state : (a b : State) → (a ≡ b) ⊎ (a ≡ b → ⊥)
-same_state Running Running = inl refl
-same_state Running Paused = inr (λ is. cc (is))
-same_state Running Retired = inr (λ is. cc (is))
-same_state Paused Running = inr (λ is. cc (is))
-same_state Paused Paused = inl refl
-same_state Paused Retired = inr (λ is. cc (is))
-same_state Retired Running = inr (λ is. cc (is))
-same_state Retired Paused = inr (λ is. cc (is))
-same_state Retired Retired = inl refl
+module _ (name : Name) (R : Content → Content → Type 0) (named : name ≡ catalogue_name) where
+  -- no listed file is the catalogue
+  files_out : (t : Held) → 1 ≤ t.store → AreApart (shelf_of t) name t.files
+  files_out t numbered = all_apart (shelf_of t) name t.files (not_in t.store name catalogue_name numbered named refl)
 
--- a row has the state, or it hasn't
-pub has_state : (rows : List Row) (row : ℕ) (state : State) → row < length rows → HasState rows row state ⊎ (HasState rows row state → ⊥)
-has_state [] row state within = absurd (omega (arith, within))
-has_state (r ∷ rows) zero state within = elim (same_state r.state state) [
-  | inl is ↦ inl (record { row = r; here = refl; is = is })
-  | inr not ↦ inr (λ has. let one : r ≡ has.row = same_Some r has.row has.here in not (ap (λ (x : Row). x.state) one ∙ has.is))
-]
-has_state (r ∷ rows) (suc row) state within = elim (has_state rows row state (omega (arith, within))) [
-  | inl has ↦ inl (record { row = has.row; here = has.here; is = has.is })
-  | inr not ↦ inr (λ has. not (record { row = has.row; here = has.here; is = has.is }))
-]
+  manifest_out : (store : ℕ) → manifest_name store ≢ name
+  manifest_out store is = other_journal store (sym (is ∙ named))
+
+  in_still : (t : Held) (a c : Files) → 1 ≤ t.store → At name R a c → AreIn t a → AreIn t c
+  in_still t a c numbered step was = apart_stay t name R a c (files_out t numbered) step was
+
+  -- an image holds a store under the rows that it has now
+  holds_old : (g : Granularity) (t : Held) (a c : Files) → At name R a c → Says IsCatalogue t.rows (c catalogue_name) → Holds g a t → Holds g c t
+  holds_old g t a c step says holds = record {
+    rows = says;
+    lists = subst (λ (x : Content). Says (Folds g) (map entry_of t.files) x) (sym (step.elsewhere (manifest_name t.store) (manifest_out t.store))) holds.lists;
+    filed = holds.filed;
+    files = in_still t a c holds.filed.numbered step holds.files;
+  }
+
+  holds_new : (g : Granularity) (s : Stores) (i : ℕ) (later : List Row) (a c : Files) → KeepsRows s.rows later → At name R a c → Says IsCatalogue later (c catalogue_name) → Holds g a (tier i s) → Holds g c (tier i (with_rows s later))
+  holds_new g s i later a c keeps step says holds = record {
+    rows = says;
+    lists = subst (λ (x : Content). Says (Folds g) (map entry_of (tier i s).files) x) (sym (step.elsewhere (manifest_name (i + 1)) (manifest_out (i + 1)))) holds.lists;
+    filed = filed_still g (tier i s) later keeps holds.filed;
+    files = in_grows g (tier i s) later c keeps holds.filed (in_still (tier i s) a c holds.filed.numbered step holds.files);
+  }
+
+  module _ (files last : Files) (opened after : Name → ℕ) (old new : Past) (passes : Passes (At name R) old new) (elsewhere : (n : Name) → n ≢ name → last n ≡ files n) (same : after ≡ opened) where
+    fewer : (n : Name) → after n ≤ opened n
+    fewer n = let here : after n ≡ opened n = ap (λ (f : Name → ℕ). f n) same in omega (arith, here)
+
+    tier_beside : (g : Granularity) (m : JournalState) (t : Held) → TierStored g m files opened old t → TierStored g m last after new t
+    tier_beside g m t stored =
+        let numbered = stored.valid.filed.numbered in
+        let other : m.name ≢ name = λ is. manifest_out t.store (sym stored.named ∙ is) in
+        tier_stays (At name R) m files last opened after old new passes (record { step = λ a c step. step.elsewhere m.name other; same = elsewhere m.name other; fewer = fewer m.name }) g t stored
+        (safe_stays t (At name R) files last opened after old new stored.safe passes (λ a c step. in_still t a c numbered step) (apart_long t name files last (files_out t numbered) elsewhere stored.safe.long) fewer)
+
+    tier_grown : (g : Granularity) (m : JournalState) (s : Stores) (i : ℕ) (later : List Row) → KeepsRows s.rows later → AreHeld g (tier i (with_rows s later)) → TierStored g m files opened old (tier i s) → TierStored g m last after new (tier i (with_rows s later))
+    tier_grown g m s i later keeps valid stored =
+        let now = tier_beside g m (tier i s) stored in
+        record { named = now.named; sound = now.sound; kept = now.kept; valid = valid; safe = safe_grows g (tier i s) later last after new keeps now.valid.filed now.safe }
+
+-- THE CALL
+
+module _ {S : Type 0} (files_of : S → Files) (opened_of : S → Name → ℕ) (past_of : S → Past) (faults_of : S → ℕ) (tells : Bool) (c made : CatalogueState) (ms : List ManifestState) (d after : S) where
+  abbrev before : Seen
+  before = seen_on files_of opened_of past_of faults_of c ms d
+
+  abbrev behind : Seen
+  behind = seen_on files_of opened_of past_of faults_of made ms after
+
+  -- the rows and the disk are as they were
+  rows_same : {A E : Type 0} (call : Call A E) (end : End A E) → made.journal ≡ c.journal → made.rows ≡ c.rows → after ≡ d → ((held : Stores) → Has tells behind held → held.rows ≡ c.rows → EndsFrom tells call behind held end) → (IsFailed end → ⊥) → Changes tells call before behind end
+  rows_same {A} {E} call end journal rows same ends not_failed = record {
+    ends = λ held has. ends held (still held has) (sym has.known.rows);
+    any_moment = λ told held has.
+        subst (λ (x : S). Passes (HoldsBy (granularities ms) call.by held) (past_of d) (past_of x)) (sym same) (passes_none (HoldsBy (granularities ms) call.by held) (past_of d) (λ image left. inl (has_left tells before held has told image left)));
+    costs = record { granularity = refl; faults = subst (λ (x : S). faults_of d ≤ faults_of x) (sym same) (omega arith); cause = λ failed. absurd (not_failed failed) };
+  }
+    where
+      still : (held : Stores) → Has tells before held → Has tells behind held
+      still held has = subst (λ (x : S). Has tells (seen_on files_of opened_of past_of faults_of made ms x) held) (sym same) (record {
+        known = record { three = has.known.three; rows = rows ∙ has.known.rows; each = has.known.each };
+        settled = record { catalogue = ap (λ (j : JournalState). j.sound) journal ∙ has.settled.catalogue; manifests = has.settled.manifests };
+        disk = λ told. record {
+          rows = subst (λ (j : JournalState). CatalogueStored j (files_of d) (opened_of d) (past_of d) held.rows) (sym journal) (has.disk told).rows;
+          each = (has.disk told).each;
+        };
+      })
+
+  module _ (next : List Row) (keeps : KeepsRows c.rows next) (name : made.journal.name ≡ c.journal.name) (passes : IsTrue tells → Passes (At c.journal.name (SaysEither IsCatalogue c.rows next)) (past_of d) (past_of after)) (elsewhere : IsTrue tells → (n : Name) → n ≢ c.journal.name → files_of after n ≡ files_of d n)
+      (opened : IsTrue tells → opened_of after ≡ opened_of d) (faults : faults_of d ≤ faults_of after) {A E : Type 0} (call : Call A E) (by : (held : Stores) → held.rows ≡ c.rows → call.by held (with_rows held next)) (keys : KeysDiffer c.rows → KeysDiffer next) where
+    abbrev R : Content → Content → Type 0
+    R = SaysEither IsCatalogue c.rows next
+
+    keeps_held : (held : Stores) → IsKnown c ms held → KeepsRows held.rows next
+    keeps_held held known = subst (λ (r : List Row). KeepsRows r next) known.rows keeps
+
+    grows : (held : Stores) → IsKnown c ms held → AtEach ms (λ i m. AreHeld m.granularity (tier i (with_rows held next)))
+    grows held known i m here =
+        let valid = (known.each i m here).valid in
+        held_grows m.granularity (tier i held) next (keeps_held held known) (keys (subst KeysDiffer (sym known.rows) valid.keys)) valid
+
+    any_moment : IsTrue tells → (held : Stores) → Has tells before held → Passes (HoldsBy (granularities ms) call.by held) (past_of d) (past_of after)
+    any_moment told held has =
+        passes_weaker (At c.journal.name R) (HoldsBy (granularities ms) call.by held) (past_of d) (past_of after) (passes told) (λ a image left step.
+        let stored = has.disk told in
+        let was = all_left before held a stored left in
+        let named = stored.rows.named in
+        elim step.here [
+          | inl says ↦
+              let rows = subst (λ (n : Name). Says IsCatalogue c.rows (image n)) named says in
+              inl (λ i g here. holds_old c.journal.name R named g (tier i held) a image step (subst (λ (rs : List Row). Says IsCatalogue rs (image catalogue_name)) has.known.rows rows) (was i g here))
+          | inr says ↦
+              let rows = subst (λ (n : Name). Says IsCatalogue next (image n)) named says in
+              inr (with_rows held next, by held (sym has.known.rows), λ i g here. holds_new c.journal.name R named g held i next a image (keeps_held held has.known) step rows (was i g here))
+        ])
+
+    rows_done : (a : A) → ((held : Stores) → held.rows ≡ c.rows → call.says a held (with_rows held next)) → made.rows ≡ next → made.journal.sound ≡ true → (IsTrue tells → catalogue.IsStored made (files_of after) (opened_of after) (past_of after)) → Changes tells call before behind (Done a)
+    rows_done a says rows sound stored = record {
+      ends = λ held has. (
+        with_rows held next,
+        by held (sym has.known.rows),
+        says held (sym has.known.rows),
+        record {
+          known = record { three = has.known.three; rows = rows; each = λ i m here. record { entries = (has.known.each i m here).entries; valid = grows held has.known i m here } };
+          settled = record { catalogue = sound; manifests = has.settled.manifests };
+          disk = λ told.
+              let had = has.disk told in
+              record {
+                rows = record { named = name ∙ had.rows.named; sound = sound; kept = subst (journal.IsKept IsCatalogue made.journal (files_of after) (opened_of after) (past_of after)) rows (stored told) };
+                each = λ i m here. tier_grown c.journal.name R had.rows.named (files_of d) (files_of after) (opened_of d) (opened_of after) (past_of d) (past_of after) (passes told) (elsewhere told) (opened told) m.granularity m.journal held i next (keeps_held held has.known) (grows held has.known i m here) (had.each i m here);
+              };
+        },
+      );
+      any_moment = any_moment;
+      costs = record { granularity = refl; faults = faults; cause = λ failed. absurd failed };
+    }
+
+    rows_failed : made.rows ≡ c.rows → made.next ≡ next → made.journal.sound ≡ false → (IsTrue tells → catalogue.IsInDoubt made (files_of after) (opened_of after) (past_of after)) → Rose (faults_of d) (faults_of after) → Changes tells call before behind Failed
+    rows_failed rows is unsound doubt rose = record {
+      ends = λ held has. inr (
+        with_rows held next,
+        by held (sym has.known.rows),
+        record {
+          known = record { three = has.known.three; rows = rows ∙ has.known.rows; each = has.known.each };
+          valid_after = grows held has.known;
+          change = inl (record {
+            unsound = unsound;
+            sound = has.settled.manifests;
+            next = is;
+            same = refl;
+            disk = λ told.
+                let had = has.disk told in
+                record {
+                  rows = record {
+                    named = name ∙ had.rows.named;
+                    unsound = unsound;
+                    unsure = subst (λ (rs : List Row). journal.IsUnsure IsCatalogue made.journal (files_of after) (opened_of after) (past_of after) rs next) (rows ∙ has.known.rows)
+                        (subst (journal.IsUnsure IsCatalogue made.journal (files_of after) (opened_of after) (past_of after) made.rows) is (doubt told));
+                  };
+                  each = λ i m here. tier_beside c.journal.name R had.rows.named (files_of d) (files_of after) (opened_of d) (opened_of after) (past_of d) (past_of after) (passes told) (elsewhere told) (opened told) m.granularity m.journal (tier i held) (had.each i m here);
+                  each_after = λ i m here. tier_grown c.journal.name R had.rows.named (files_of d) (files_of after) (opened_of d) (opened_of after) (past_of d) (past_of after) (passes told) (elsewhere told) (opened told) m.granularity m.journal held i next (keeps_held held has.known) (grows held has.known i m here) (had.each i m here);
+                };
+          });
+        },
+      );
+      any_moment = any_moment;
+      costs = record { granularity = refl; faults = faults; cause = λ failed. rose };
+    }
+
+  -- REGISTERING
+
+  pub register_changes : (name : List ℕ) (about : About) (r : Result ℕ RegisterErr) → made.journal.name ≡ c.journal.name
+      → (IsTrue tells → Passes (At c.journal.name (SaysEither IsCatalogue c.rows (c.rows ++ registered c.rows name about ∷ []))) (past_of d) (past_of after)) → (IsTrue tells → (n : Name) → n ≢ c.journal.name → files_of after n ≡ files_of d n)
+      → (IsTrue tells → opened_of after ≡ opened_of d) → faults_of d ≤ faults_of after
+      → IfOk r (λ id. id ≡ length c.rows) → OnOk r (made.rows ≡ c.rows ++ registered c.rows name about ∷ []) → OnOk r (made.journal.sound ≡ true) → (IsTrue tells → OnOk r (catalogue.IsStored made (files_of after) (opened_of after) (past_of after)))
+      → IfErr r (IsRefusal c.rows name) → ((e : RegisterErr) → Refuses c.rows name e → (r ≡ Err e) ⊎ (r ≡ Err (of_register.Disk Memory))) → IfErr r (λ e. IsOfRows e → (made ≡ c) × (after ≡ d)) → OnErr r (made.rows ≡ c.rows)
+      → (IsTrue tells → r ≡ Err (of_register.Disk Fault) → catalogue.IsInDoubt made (files_of after) (opened_of after) (past_of after)) → (r ≡ Err (of_register.Disk Fault) → made.next ≡ c.rows ++ registered c.rows name about ∷ [])
+      → (r ≡ Err (of_register.Disk Fault) → (made.journal.sound ≡ false) × Rose (faults_of d) (faults_of after)) → (r ≡ Err (of_register.Disk Memory) → (made.journal ≡ c.journal) × (after ≡ d))
+      → Changes tells (registering name about) before behind (end_of_register r)
+  register_changes name about (Ok id) named passes elsewhere opened faults is_id rows sound stored refusal exactly unchanged kept doubt next fault memory =
+      let free : (e : RegisterErr) → Refuses c.rows name e → ⊥ = λ e refuses. elim (exactly e refuses) [ inl is ↦ absurd (cc (is)) | inr is ↦ absurd (cc (is)) ] in
+      rows_done (c.rows ++ registered c.rows name about ∷ []) (keeps_more c.rows (registered c.rows name about ∷ [])) named passes elsewhere opened faults (registering name about) (registers c.rows name about free) (keys_pushed c.rows name about free) id (λ held same. is_id ∙ ap (λ (rs : List Row). length rs) (sym same)) rows sound stored
+  register_changes name about (Err (of_register.NameTaken i)) named passes elsewhere opened faults is_id rows sound stored refusal exactly unchanged kept doubt next fault memory =
+      rows_same (registering name about) (Refused (of_register.NameTaken i)) (ap (λ (s : CatalogueState). s.journal) (unchanged tt).0) kept (unchanged tt).1 (λ held has same. (has, subst (λ (rs : List Row). Refuses rs name (of_register.NameTaken i)) (sym same) refusal)) (λ failed. failed)
+  register_changes name about (Err (of_register.KeyTaken i)) named passes elsewhere opened faults is_id rows sound stored refusal exactly unchanged kept doubt next fault memory =
+      rows_same (registering name about) (Refused (of_register.KeyTaken i)) (ap (λ (s : CatalogueState). s.journal) (unchanged tt).0) kept (unchanged tt).1 (λ held has same. (has, subst (λ (rs : List Row). Refuses rs name (of_register.KeyTaken i)) (sym same) refusal)) (λ failed. failed)
+  register_changes name about (Err of_register.Full) named passes elsewhere opened faults is_id rows sound stored refusal exactly unchanged kept doubt next fault memory =
+      rows_same (registering name about) (Refused of_register.Full) (ap (λ (s : CatalogueState). s.journal) (unchanged tt).0) kept (unchanged tt).1 (λ held has same. (has, subst (λ (rs : List Row). Refuses rs name of_register.Full) (sym same) refusal)) (λ failed. failed)
+  register_changes name about (Err (of_register.Disk Fault)) named passes elsewhere opened faults is_id rows sound stored refusal exactly unchanged kept doubt next fault memory =
+      let free : (e : RegisterErr) → Refuses c.rows name e → ⊥ = λ e refuses. elim (exactly e refuses) [ inl is ↦ of_disk c.rows name e Fault is refuses | inr is ↦ absurd (cc (is)) ] in
+      rows_failed (c.rows ++ registered c.rows name about ∷ []) (keeps_more c.rows (registered c.rows name about ∷ [])) named passes elsewhere opened faults (registering name about) (registers c.rows name about free) (keys_pushed c.rows name about free) kept (next refl) (fault refl).0 (λ told. doubt told refl) (fault refl).1
+  register_changes name about (Err (of_register.Disk Memory)) named passes elsewhere opened faults is_id rows sound stored refusal exactly unchanged kept doubt next fault memory =
+      rows_same (registering name about) Spent (memory refl).0 kept (memory refl).1 (λ held has same. has) (λ failed. failed)
+
+  -- SWITCHING
+
+  module _ (row : ℕ) (within : row < length c.rows) (named : made.journal.name ≡ c.journal.name) (elsewhere : IsTrue tells → (n : Name) → n ≢ c.journal.name → files_of after n ≡ files_of d n) (opened : IsTrue tells → opened_of after ≡ opened_of d) (faults : faults_of d ≤ faults_of after) (r : Result (Unit {0}) StateErr)
+      (sound : OnOk r (made.journal.sound ≡ true)) (stored : IsTrue tells → OnOk r (catalogue.IsStored made (files_of after) (opened_of after) (past_of after))) (kept : OnErr r (made.rows ≡ c.rows)) (doubt : IsTrue tells → r ≡ Err (of_state.Disk Fault) → catalogue.IsInDoubt made (files_of after) (opened_of after) (past_of after))
+      (fault : r ≡ Err (of_state.Disk Fault) → (made.journal.sound ≡ false) × Rose (faults_of d) (faults_of after)) (memory : r ≡ Err (of_state.Disk Memory) → (made.journal ≡ c.journal) × (after ≡ d)) where
+    pub pause_changes : (IsTrue tells → Passes (At c.journal.name (SaysEither IsCatalogue c.rows (switched row Paused c.rows))) (past_of d) (past_of after)) → OnOk r (made.rows ≡ switched row Paused c.rows) → ((r ≡ Err of_state.NotRunning) ↔ (HasState c.rows row Running → ⊥)) → (r ≡ Err of_state.NotPaused → ⊥)
+        → (r ≡ Err of_state.NotRunning → (made ≡ c) × (after ≡ d)) → (r ≡ Err (of_state.Disk Fault) → made.next ≡ switched row Paused c.rows) → Changes tells (pausing row) before behind (end_of_switch r)
+    pause_changes passes rows exactly never unchanged next = go r refl sound stored kept rows
+      where
+        by : (r ≡ Err of_state.NotRunning → ⊥) → (held : Stores) → held.rows ≡ c.rows → Switches row Running Paused held (with_rows held (switched row Paused c.rows))
+        by other held same = switches row Running Paused c.rows held same (elim (has_state c.rows row Running within) [ inl has ↦ has | inr not ↦ absurd (other (exactly.1 not)) ])
+
+        go : (x : Result (Unit {0}) StateErr) → r ≡ x → OnOk x (made.journal.sound ≡ true) → (IsTrue tells → OnOk x (catalogue.IsStored made (files_of after) (opened_of after) (past_of after))) → OnErr x (made.rows ≡ c.rows) → OnOk x (made.rows ≡ switched row Paused c.rows) → Changes tells (pausing row) before behind (end_of_switch x)
+        go (Ok a) is sound stored kept rows =
+            rows_done (switched row Paused c.rows) (keeps_switched row Paused c.rows) named passes elsewhere opened faults (pausing row) (by (λ other. absurd (cc (is, other)))) (keys_switched row Paused c.rows) a (λ held same. tt) rows sound stored
+        go (Err of_state.NotRunning) is sound stored kept rows =
+            rows_same (pausing row) (Refused of_state.NotRunning) (ap (λ (s : CatalogueState). s.journal) (unchanged is).0) kept (unchanged is).1 (λ held has same. (has, λ state. exactly.0 is (subst (λ (rs : List Row). HasState rs row Running) same state))) (λ failed. failed)
+        go (Err of_state.NotPaused) is sound stored kept rows = absurd (never is)
+        go (Err (of_state.Disk Fault)) is sound stored kept rows =
+            rows_failed (switched row Paused c.rows) (keeps_switched row Paused c.rows) named passes elsewhere opened faults (pausing row) (by (λ other. absurd (cc (is, other)))) (keys_switched row Paused c.rows) kept (next is) (fault is).0 (λ told. doubt told is) (fault is).1
+        go (Err (of_state.Disk Memory)) is sound stored kept rows = rows_same (pausing row) Spent (memory is).0 kept (memory is).1 (λ held has same. has) (λ failed. failed)
+
+    pub resume_changes : (IsTrue tells → Passes (At c.journal.name (SaysEither IsCatalogue c.rows (switched row Running c.rows))) (past_of d) (past_of after)) → OnOk r (made.rows ≡ switched row Running c.rows) → ((r ≡ Err of_state.NotPaused) ↔ (HasState c.rows row Paused → ⊥)) → (r ≡ Err of_state.NotRunning → ⊥)
+        → (r ≡ Err of_state.NotPaused → (made ≡ c) × (after ≡ d)) → (r ≡ Err (of_state.Disk Fault) → made.next ≡ switched row Running c.rows) → Changes tells (resuming row) before behind (end_of_switch r)
+    resume_changes passes rows exactly never unchanged next = go r refl sound stored kept rows
+      where
+        by : (r ≡ Err of_state.NotPaused → ⊥) → (held : Stores) → held.rows ≡ c.rows → Switches row Paused Running held (with_rows held (switched row Running c.rows))
+        by other held same = switches row Paused Running c.rows held same (elim (has_state c.rows row Paused within) [ inl has ↦ has | inr not ↦ absurd (other (exactly.1 not)) ])
+
+        go : (x : Result (Unit {0}) StateErr) → r ≡ x → OnOk x (made.journal.sound ≡ true) → (IsTrue tells → OnOk x (catalogue.IsStored made (files_of after) (opened_of after) (past_of after))) → OnErr x (made.rows ≡ c.rows) → OnOk x (made.rows ≡ switched row Running c.rows) → Changes tells (resuming row) before behind (end_of_switch x)
+        go (Ok a) is sound stored kept rows =
+            rows_done (switched row Running c.rows) (keeps_switched row Running c.rows) named passes elsewhere opened faults (resuming row) (by (λ other. absurd (cc (is, other)))) (keys_switched row Running c.rows) a (λ held same. tt) rows sound stored
+        go (Err of_state.NotPaused) is sound stored kept rows =
+            rows_same (resuming row) (Refused of_state.NotPaused) (ap (λ (s : CatalogueState). s.journal) (unchanged is).0) kept (unchanged is).1 (λ held has same. (has, λ state. exactly.0 is (subst (λ (rs : List Row). HasState rs row Paused) same state))) (λ failed. failed)
+        go (Err of_state.NotRunning) is sound stored kept rows = absurd (never is)
+        go (Err (of_state.Disk Fault)) is sound stored kept rows =
+            rows_failed (switched row Running c.rows) (keeps_switched row Running c.rows) named passes elsewhere opened faults (resuming row) (by (λ other. absurd (cc (is, other)))) (keys_switched row Running c.rows) kept (next is) (fault is).0 (λ told. doubt told is) (fault is).1
+        go (Err (of_state.Disk Memory)) is sound stored kept rows = rows_same (resuming row) Spent (memory is).0 kept (memory is).1 (λ held has same. has) (λ failed. failed)

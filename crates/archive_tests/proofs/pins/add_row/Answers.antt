@@ -1,7 +1,7 @@
 use Rattle.disk_model.specs.contracts.memory.MemDiskDisk.TheImpl.{ghosts}
-use Rattle.tier_store.specs.Ends.{end_of_register}
-use Rattle.three_stores.specs.Change.{registering}
-use Rattle.three_stores.specs.Pinned.{seen_all}
+use Rattle.durable_write.specs.Ends.{end_of_register}
+use Rattle.tier_store.specs.Change.{registering}
+use Rattle.tier_store.specs.Pinned.{seen_all}
 use Rattle.archive_tests.proofs.Usable.{usable_after}
 use Rattle.archive_tests.proofs.pins.add_row.Goals as goal
 

@@ -1,13 +1,13 @@
 use Rattle.std.proofs.Common.{[], sym, subst}
 use Rattle.std.proofs.lemmas.List.Elements.{All-nil}
 use Rattle.disk_model.specs.contracts.memory.MemDiskDisk.TheImpl.{ghosts}
-use Rattle.tier_store.specs.Ends.{end_of_disk}
-use Rattle.three_stores.specs.Change.{flushing}
-use Rattle.three_stores.specs.Limbo.{LimboStands}
-use Rattle.three_stores.specs.Pinned.{seen_all, NoneOf}
-use Rattle.three_stores.specs.Revival.{AreWhole}
-use Rattle.three_stores.specs.Stores.{Stores}
-use Rattle.three_stores.proofs.WithoutLimbo.{none_whole, plain_acts}
+use Rattle.durable_write.specs.Ends.{end_of_disk}
+use Rattle.tier_store.specs.Change.{flushing}
+use Rattle.tier_store.specs.Limbo.{LimboStands}
+use Rattle.tier_store.specs.Pinned.{seen_all, NoneOf}
+use Rattle.tier_store.specs.Revival.{AreWhole}
+use Rattle.tier_store.specs.Stores.{Stores}
+use Rattle.tier_store.proofs.WithoutLimbo.{none_whole, plain_acts}
 use Rattle.archive_tests.proofs.Usable.{usable_after}
 use Rattle.archive_tests.proofs.pins.flush.Goals as goal
 

@@ -1,5 +1,5 @@
 use Rattle.disk_model.specs.contracts.memory.MemDiskDisk.TheImpl.{ghosts}
-use Rattle.three_stores.specs.Pinned.{seen_all}
+use Rattle.tier_store.specs.Pinned.{seen_all}
 use Rattle.archive_tests.proofs.Usable.{still_stand}
 use Rattle.archive_tests.proofs.pins.opened.Goals as goal
 

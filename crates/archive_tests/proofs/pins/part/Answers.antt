@@ -6,7 +6,7 @@ use Rattle.std.proofs.lemmas.Option.{slice_get_read}
 use Rattle.series_model.specs.declared.sample.Sample.{Sample}
 use Rattle.pv_catalog.specs.declared.row.Row.{Row}
 use Rattle.pb_lines.specs.File.{IsSample, lines_of}
-use Rattle.tier_store.specs.Flush.{IsSampleOf, IsOfRow}
+use Rattle.durable_write.specs.Flush.{IsSampleOf, IsOfRow}
 use Rattle.archive_tests.proofs.pins.part.Goals as goal
 
 abbrev IsShort : Row → Sample → Type 0

@@ -1,8 +1,8 @@
 use Rattle.std.proofs.Common.{subst}
 use Rattle.disk_model.specs.contracts.memory.MemDiskDisk.TheImpl.{ghosts}
 use Rattle.pv_catalog.specs.Rows.{HasName}
-use Rattle.three_stores.specs.Opening.{end_of_answer}
-use Rattle.three_stores.specs.Seen.{seen}
+use Rattle.tier_store.specs.Opening.{end_of_answer}
+use Rattle.tier_store.specs.Seen.{seen}
 use Rattle.archive_tests.proofs.Usable.{open_after}
 use Rattle.archive_tests.proofs.pins.pinned.Goals as goal
 

@@ -7,9 +7,9 @@ use Rattle.disk_model.specs.Record.{files_of, opened_of}
 use Rattle.etl_rules.specs.Config.{ConfigState}
 use Rattle.partition_names.specs.declared.granularity.Granularity.{Granularity}
 use Rattle.act_model.specs.Rule.{Rule, Header}
-use Rattle.three_stores.specs.Beginning.{AllNested}
-use Rattle.three_stores.specs.Seen.{granularities}
-use Rattle.three_reopen.specs.Reopen.{IsUnopened}
+use Rattle.tier_store.specs.Beginning.{AllNested}
+use Rattle.tier_store.specs.Seen.{granularities}
+use Rattle.store_reopen.specs.Reopen.{IsUnopened}
 use Rattle.archive_tests.proofs.script.opened.Goals as goal
 
 -- what a header says whose fields are these

@@ -2,7 +2,7 @@ use Rattle.std.proofs.Common.{◌≡◌, ◌++◌, ℕ, List, sym, subst}
 use Rattle.std.proofs.lemmas.Result.{IfOk-weaker}
 use Rattle.etl_rules.specs.Config.{ConfigState}
 use Rattle.drill_feed.specs.Report.{tiers_text}
-use Rattle.three_reopen.specs.Reopen.{stores_of}
+use Rattle.store_reopen.specs.Reopen.{stores_of}
 use Rattle.archiver_appliance.specs.Drilling.{IsDrillText, OpensWell, Tells, TellsOn, tiers_of}
 use Rattle.archiver_appliance.proofs.DrillReads.{stands_behind}
 use Rattle.archiver_appliance.proofs.DrillRuns.{is_drill_text}

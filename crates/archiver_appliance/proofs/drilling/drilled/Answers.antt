@@ -1,7 +1,7 @@
 use Rattle.std.proofs.Common.{sym, subst}
 use Rattle.disk_model.specs.Disk.{DiskRecord}
 use Rattle.disk_model.specs.Record.{files_of, opened_of, past_of}
-use Rattle.three_reopen.specs.Reopen.{IsUnopened, stores_of}
+use Rattle.store_reopen.specs.Reopen.{IsUnopened, stores_of}
 use Rattle.archiver_appliance.specs.Drilling.{OpensWell, shipped}
 use Rattle.archiver_appliance.proofs.DrillRuns.{empty_opens, empty_unopened}
 use Rattle.archiver_appliance.proofs.drilling.drilled.Goals as goal

@@ -1,5 +1,5 @@
 use Rattle.std.proofs.Common.{refl, sym, ap, subst, Err}
-use Rattle.three_reopen.specs.Reopen.{disk_in, stores_of}
+use Rattle.store_reopen.specs.Reopen.{disk_in, stores_of}
 use Rattle.command_words.specs.declared.command.Command.TheVariants.{OverStore}
 use Rattle.command_words.specs.declared.command.StoreCommand.{StoreCommand}
 use Rattle.command_words.specs.declared.command.StoreCommand.TheVariants as command

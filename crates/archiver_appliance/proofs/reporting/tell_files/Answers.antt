@@ -1,7 +1,7 @@
 use Rattle.std.proofs.Common.{inl, sym, subst}
-use Rattle.three_stores.specs.Seen.{seen}
-use Rattle.three_reopen.specs.Reopen.{IsUnopened}
-use Rattle.three_reopen.proofs.HandedBack.{open_unopened}
+use Rattle.tier_store.specs.Seen.{seen}
+use Rattle.store_reopen.specs.Reopen.{IsUnopened}
+use Rattle.store_reopen.proofs.HandedBack.{open_unopened}
 use Rattle.archiver_appliance.specs.Judging.{IsOfOpened}
 use Rattle.archiver_appliance.specs.Run.{NoDamage}
 use Rattle.archiver_appliance.proofs.Outcomes.{check_opened, check_stands}

@@ -1,8 +1,8 @@
 use Rattle.std.proofs.Common.{inl, sym, subst}
-use Rattle.three_stores.specs.Seen.{seen}
-use Rattle.three_reopen.specs.Reopen.{IsUnopened, lists_of}
-use Rattle.three_reopen.proofs.HandedBack.{open_unopened}
-use Rattle.three_reports.specs.Status.{status_text}
+use Rattle.tier_store.specs.Seen.{seen}
+use Rattle.store_reopen.specs.Reopen.{IsUnopened, lists_of}
+use Rattle.store_reopen.proofs.HandedBack.{open_unopened}
+use Rattle.store_reports.specs.Status.{status_text}
 use Rattle.archiver_appliance.specs.Reporting.{Tells, TellsListed}
 use Rattle.command_words.specs.declared.status.Status.{Status}
 use Rattle.archiver_appliance.proofs.Checking.{told_rows}

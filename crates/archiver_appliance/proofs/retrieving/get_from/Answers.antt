@@ -1,8 +1,8 @@
 use Rattle.std.proofs.Common.{◌≡◌, inr, ℕ, List, Bool, sym, ◌∙◌, ap, subst}
 use Rattle.disk_model.specs.Files.{Name}
 use Rattle.edge_io.specs.Stream.{Rose}
-use Rattle.three_reopen.specs.Reopen.{lists_of}
-use Rattle.three_stores.specs.Seen.{seen}
+use Rattle.store_reopen.specs.Reopen.{lists_of}
+use Rattle.tier_store.specs.Seen.{seen}
 use Rattle.archive_core.specs.Parts.{parts}
 use Rattle.retrieval_query.specs.Retrieving.{ReadsHeaders}
 use Rattle.retrieval_query.specs.declared.retrieved.Retrieved.TheVariants as got

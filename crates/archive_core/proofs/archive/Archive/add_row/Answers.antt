@@ -6,10 +6,10 @@ use Rattle.event_types.specs.declared.about.About.{About}
 use Rattle.pv_catalog.specs.declared.error.RegisterErr.{RegisterErr}
 use Rattle.pv_catalog.specs.declared.error.RegisterErr.TheVariants.{NameTaken, KeyTaken, Full, Disk}
 use Rattle.pv_catalog.specs.declared.row.Row.{Row}
-use Rattle.tier_store.specs.Ends.{end_of_register}
-use Rattle.three_stores.specs.Change.{Acts, registering}
-use Rattle.three_stores.specs.Seen.{Seen, seen}
-use Rattle.three_stores.proofs.LeavingFronts.{nothing_fronts}
+use Rattle.durable_write.specs.Ends.{end_of_register}
+use Rattle.tier_store.specs.Change.{Acts, registering}
+use Rattle.tier_store.specs.Seen.{Seen, seen}
+use Rattle.tier_store.proofs.LeavingFronts.{nothing_fronts}
 use Rattle.act_model.specs.Machine.{AddsRow}
 use Rattle.archive_core.specs.declared.memory.Doubt.TheVariants as kind
 use Rattle.archive_core.specs.declared.memory.RowMemory.{RowMemory}

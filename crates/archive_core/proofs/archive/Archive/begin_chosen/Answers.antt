@@ -6,9 +6,9 @@ use Rattle.std.proofs.lemmas.Result.{err_from_is_err_and}
 use Rattle.disk_model.specs.Files.{Rose}
 use Rattle.disk_model.specs.declared.disk.DiskErr.{DiskErr}
 use Rattle.disk_model.specs.declared.disk.DiskErr.TheVariants.{Memory}
-use Rattle.three_stores.specs.Seen.{seen}
-use Rattle.three_stores.specs.declared.moving.MoveBegun as own
-use Rattle.three_stores.specs.declared.moving.MoveBegun.TheVariants as begun
+use Rattle.tier_store.specs.Seen.{seen}
+use Rattle.tier_store.specs.declared.moving.MoveBegun as own
+use Rattle.tier_store.specs.declared.moving.MoveBegun.TheVariants as begun
 use Rattle.act_model.specs.Rule.{index_of}
 use Rattle.act_model.specs.Step.{store_of}
 use Rattle.act_model.specs.declared.answers.MoveBegun.{MoveBegun}

@@ -1,8 +1,8 @@
 use Rattle.std.proofs.Common.{Err, None, Result, ap, refl, sym, subst, ◌∙◌}
 use Rattle.std.proofs.lemmas.Result.{err_from_is_err_and}
 use Rattle.disk_model.specs.declared.disk.DiskErr.{DiskErr}
-use Rattle.tier_store.specs.Ends.{IsFailed, end_of_disk}
-use Rattle.three_stores.specs.Pinned.{seen_all}
+use Rattle.durable_write.specs.Ends.{IsFailed, end_of_disk}
+use Rattle.tier_store.specs.Pinned.{seen_all}
 use Rattle.act_model.specs.MoveBegin.{Begins, MoveBeginStep}
 use Rattle.act_model.specs.Step.{refuse_by, change_by, store_of}
 use Rattle.act_model.specs.declared.acts.Act.TheVariants.{MoveBegin as MoveBeginAct}

@@ -1,5 +1,5 @@
 use Rattle.std.proofs.Common.{ℕ, ◌-◌, ◌≤◌, ap, subst, sym}
-use Rattle.three_stores.specs.Seen.{seen}
+use Rattle.tier_store.specs.Seen.{seen}
 use Rattle.archive_core.specs.Parts.{parts}
 use Rattle.archive_core.proofs.CopyTaken.{begun_there, copied_ends, damaged_ends, failed_ends, limbo_stands, more_ends, some_store, spent_ends, within}
 use Rattle.archive_core.proofs.archive.Archive.copy_taken.Goals as goal

@@ -3,7 +3,7 @@ use Rattle.std.proofs.lemmas.Result.{err_from_is_err_and}
 use Rattle.disk_model.specs.declared.disk.DiskErr.{DiskErr}
 use Rattle.disk_model.specs.declared.disk.DiskErr.TheVariants.{Memory}
 use Rattle.pv_catalog.specs.Catalogue.{CatalogueState}
-use Rattle.tier_store.specs.Ends.{end_of_disk}
+use Rattle.durable_write.specs.Ends.{end_of_disk}
 use Rattle.act_model.specs.Details.{Describes}
 use Rattle.act_model.specs.Reply.{reply_of}
 use Rattle.archive_core.specs.Parts.{parts}

@@ -1,11 +1,11 @@
 use Rattle.std.proofs.Common.{List, refl, ap, ◌∙◌, subst}
 use Rattle.series_model.specs.declared.sample.Sample.{Sample}
-use Rattle.three_stores.specs.Details.{SaysDescribed}
-use Rattle.three_stores.specs.Opening.{end_of_answer}
-use Rattle.three_stores.specs.Pinned.{beside}
-use Rattle.three_stores.specs.Seen.{seen}
-use Rattle.three_stores.specs.Settling.{SettlesAndReads}
-use Rattle.three_stores.specs.declared.limbo.Retired.{Retired}
+use Rattle.tier_store.specs.Details.{SaysDescribed}
+use Rattle.tier_store.specs.Opening.{end_of_answer}
+use Rattle.tier_store.specs.Pinned.{beside}
+use Rattle.tier_store.specs.Seen.{seen}
+use Rattle.tier_store.specs.Settling.{SettlesAndReads}
+use Rattle.tier_store.specs.declared.limbo.Retired.{Retired}
 use Rattle.archive_core.specs.Parts.{parts}
 use Rattle.archive_core.proofs.Keeping.{Keeps}
 use Rattle.archive_core.proofs.DetailsAct.{details_end, details_answer}

@@ -4,9 +4,9 @@ use Rattle.append_buffer.specs.Tails.{batch_of}
 use Rattle.disk_model.specs.declared.disk.DiskErr.{DiskErr}
 use Rattle.disk_model.specs.declared.disk.DiskErr.TheVariants.{Fault, Memory}
 use Rattle.series_model.specs.declared.batch.RowSamples.{RowSamples}
-use Rattle.tier_store.specs.Flush.{CanFlush}
-use Rattle.three_stores.specs.Seen.{seen}
-use Rattle.three_stores.proofs.LeavingFronts.{nothing_fronts}
+use Rattle.durable_write.specs.Flush.{CanFlush}
+use Rattle.tier_store.specs.Seen.{seen}
+use Rattle.tier_store.proofs.LeavingFronts.{nothing_fronts}
 use Rattle.act_model.specs.Machine.{Appends}
 use Rattle.archive_core.specs.declared.memory.Doubt.TheVariants as kind
 use Rattle.archive_core.specs.Ends.{ChangesTo}

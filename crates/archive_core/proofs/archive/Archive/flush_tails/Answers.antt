@@ -2,7 +2,7 @@ use Rattle.std.proofs.Common.{◌≡◌, ℕ, true, Result, Err, IfOk, sym, ◌�
 use Rattle.std.proofs.lemmas.Result.{err_from_is_err_and}
 use Rattle.disk_model.specs.declared.disk.DiskErr.{DiskErr}
 use Rattle.append_buffer.specs.Tails.{batch_of}
-use Rattle.three_stores.proofs.LeavingFronts.{fronts_on}
+use Rattle.tier_store.proofs.LeavingFronts.{fronts_on}
 use Rattle.act_model.specs.Flush.{count_in}
 use Rattle.act_model.specs.Machine.{Machine}
 use Rattle.archive_core.specs.Leaving.{files_of}

@@ -1,11 +1,11 @@
 use Rattle.std.proofs.Common.{List, refl, ap, subst}
 use Rattle.std.specs.FinMap.{get}
 use Rattle.pinned_pieces.specs.Pieces.{asked}
-use Rattle.three_stores.specs.Moving.{KeepsBeside}
-use Rattle.three_stores.specs.Opening.{end_of_answer}
-use Rattle.three_stores.specs.Pinned.{beside, seen_all}
-use Rattle.three_stores.specs.declared.limbo.Retired.{Retired}
-use Rattle.three_stores.specs.Seen.{seen}
+use Rattle.tier_store.specs.Moving.{KeepsBeside}
+use Rattle.tier_store.specs.Opening.{end_of_answer}
+use Rattle.tier_store.specs.Pinned.{beside, seen_all}
+use Rattle.tier_store.specs.declared.limbo.Retired.{Retired}
+use Rattle.tier_store.specs.Seen.{seen}
 use Rattle.act_model.specs.Step.{refuse_by, change_by}
 use Rattle.act_model.specs.declared.acts.Act.TheVariants.{OpenPiece}
 use Rattle.archive_core.specs.Parts.{parts}

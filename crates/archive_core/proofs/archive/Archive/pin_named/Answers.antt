@@ -3,8 +3,8 @@ use Rattle.std.proofs.lemmas.Result.{err_from_is_err_and}
 use Rattle.disk_model.specs.declared.disk.DiskErr.{DiskErr}
 use Rattle.disk_model.specs.declared.disk.DiskErr.TheVariants.{Memory}
 use Rattle.pv_catalog.specs.Catalogue.{CatalogueState}
-use Rattle.tier_store.specs.Ends.{end_of_disk}
-use Rattle.three_stores.specs.Seen.{seen}
+use Rattle.durable_write.specs.Ends.{end_of_disk}
+use Rattle.tier_store.specs.Seen.{seen}
 use Rattle.act_model.specs.Pin.{Pins}
 use Rattle.act_model.specs.Reply.{reply_of}
 use Rattle.archive_core.specs.Parts.{parts}

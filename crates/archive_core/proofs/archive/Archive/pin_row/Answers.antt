@@ -1,11 +1,11 @@
 use Rattle.std.proofs.Common.{List, refl, ap, ◌∙◌, subst}
 use Rattle.series_model.specs.declared.sample.Sample.{Sample}
-use Rattle.three_stores.specs.Opening.{end_of_answer}
-use Rattle.three_stores.specs.Pinned.{beside, PinsStand}
-use Rattle.three_stores.specs.Pinning.{SaysPinned}
-use Rattle.three_stores.specs.Seen.{seen}
-use Rattle.three_stores.specs.Settling.{Settles}
-use Rattle.three_stores.specs.declared.limbo.Retired.{Retired}
+use Rattle.tier_store.specs.Opening.{end_of_answer}
+use Rattle.tier_store.specs.Pinned.{beside, PinsStand}
+use Rattle.tier_store.specs.Pinning.{SaysPinned}
+use Rattle.tier_store.specs.Seen.{seen}
+use Rattle.tier_store.specs.Settling.{Settles}
+use Rattle.tier_store.specs.declared.limbo.Retired.{Retired}
 use Rattle.archive_core.specs.Parts.{parts}
 use Rattle.archive_core.proofs.Keeping.{Keeps}
 use Rattle.archive_core.proofs.PinAct.{pin_ends, pin_answers}

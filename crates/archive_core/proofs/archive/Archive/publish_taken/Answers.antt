@@ -1,5 +1,5 @@
 use Rattle.std.proofs.Common.{ap}
-use Rattle.three_stores.specs.Seen.{seen}
+use Rattle.tier_store.specs.Seen.{seen}
 use Rattle.archive_core.specs.Parts.{parts}
 use Rattle.archive_core.proofs.Publishing.{begun_there, on_done, on_failed, on_spent}
 use Rattle.archive_core.proofs.archive.Archive.publish_taken.Goals as goal

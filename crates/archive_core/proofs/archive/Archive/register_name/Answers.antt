@@ -3,7 +3,7 @@ use Rattle.std.proofs.lemmas.Result.{err_from_is_err_and}
 use Rattle.disk_model.specs.declared.disk.DiskErr.{DiskErr}
 use Rattle.pv_catalog.specs.Catalogue.{CatalogueState, Refuses}
 use Rattle.pv_catalog.specs.declared.error.RegisterErr.{RegisterErr}
-use Rattle.three_stores.proofs.LeavingFronts.{fronts_on, nothing_fronts}
+use Rattle.tier_store.proofs.LeavingFronts.{fronts_on, nothing_fronts}
 use Rattle.act_model.specs.Machine.{AddsRow}
 use Rattle.archive_core.specs.Ends.{ChangesTo, register_reply}
 use Rattle.archive_core.specs.Leaving.{files_of}

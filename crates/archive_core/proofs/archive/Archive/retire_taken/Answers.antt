@@ -1,5 +1,5 @@
 use Rattle.std.proofs.Common.{Ok, ap, sym, ◌∙◌}
-use Rattle.three_stores.specs.Seen.{seen}
+use Rattle.tier_store.specs.Seen.{seen}
 use Rattle.archive_core.specs.Parts.{parts}
 use Rattle.archive_core.proofs.Retirement.{begun_there, few, limbo_stands, none_done, on_again, on_failed, on_retired, on_spent, some_store, within}
 use Rattle.archive_core.proofs.archive.Archive.retire_taken.Goals as goal

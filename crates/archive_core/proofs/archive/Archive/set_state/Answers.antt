@@ -2,7 +2,7 @@ use Rattle.std.proofs.Common.{Some, Result, Err, sym, ◌∙◌, ap, subst}
 use Rattle.std.proofs.lemmas.Result.{err_from_is_err_and}
 use Rattle.disk_model.specs.declared.disk.DiskErr.{DiskErr}
 use Rattle.pv_catalog.specs.Catalogue.{CatalogueState, HasState}
-use Rattle.three_stores.proofs.LeavingFronts.{fronts_on, nothing_fronts}
+use Rattle.tier_store.proofs.LeavingFronts.{fronts_on, nothing_fronts}
 use Rattle.act_model.specs.Machine.{SetsState}
 use Rattle.archive_core.specs.declared.switching.Unset.{Unset}
 use Rattle.archive_core.specs.Ends.{ChangesTo}

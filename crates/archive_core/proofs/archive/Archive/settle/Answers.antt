@@ -2,7 +2,7 @@ use Rattle.std.proofs.Common.{List, inl, inr, ap, subst, ◌∙◌}
 use Rattle.std.proofs.lemmas.Result.{err_from_is_err_and}
 use Rattle.pv_catalog.specs.Catalogue.{CatalogueState}
 use Rattle.pv_catalog.specs.declared.row.Row.{Row}
-use Rattle.three_stores.specs.Seen.{seen, IsSettled}
+use Rattle.tier_store.specs.Seen.{seen, IsSettled}
 use Rattle.archive_core.specs.Memory.{IsCleared}
 use Rattle.archive_core.specs.Parts.{parts}
 use Rattle.archive_core.proofs.Changing.{keeps_pins, stands_so, rests_so}

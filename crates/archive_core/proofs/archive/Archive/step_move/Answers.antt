@@ -1,8 +1,8 @@
 use Rattle.std.proofs.Common.{Err, ap, refl, sym, subst, ◌∙◌}
 use Rattle.disk_model.specs.declared.disk.DiskErr.{DiskErr}
 use Rattle.std.specs.Prelude.{IsSome}
-use Rattle.tier_store.specs.Ends.{IsFailed, end_of_disk}
-use Rattle.three_stores.specs.Seen.{seen}
+use Rattle.durable_write.specs.Ends.{IsFailed, end_of_disk}
+use Rattle.tier_store.specs.Seen.{seen}
 use Rattle.archive_core.specs.Parts.{parts}
 use Rattle.archive_core.specs.Stepping.{TakesMove, stepped_reply}
 use Rattle.archive_core.proofs.MoveStepping.{crash_cut, crash_not_running, crash_went, cut_by_fault, cut_by_memory, gone_then, not_running, tells_went, went}

@@ -1,12 +1,12 @@
 use Rattle.std.proofs.Common.{List, Err, Result, refl, sym, ◌∙◌, ap, subst}
 use Rattle.std.proofs.lemmas.Result.{err_from_is_err_and}
 use Rattle.disk_model.specs.declared.disk.DiskErr.{DiskErr}
-use Rattle.three_stores.specs.Moving.{LeavesLater}
-use Rattle.three_stores.specs.Pinned.{beside, Shows}
-use Rattle.three_stores.specs.Seen.{seen}
-use Rattle.three_stores.specs.declared.limbo.Retired.{Retired}
-use Rattle.three_stores.specs.declared.removing.Swept.{Swept}
-use Rattle.three_stores.proofs.Removals.{on_err}
+use Rattle.tier_store.specs.Moving.{LeavesLater}
+use Rattle.tier_store.specs.Pinned.{beside, Shows}
+use Rattle.tier_store.specs.Seen.{seen}
+use Rattle.tier_store.specs.declared.limbo.Retired.{Retired}
+use Rattle.tier_store.specs.declared.removing.Swept.{Swept}
+use Rattle.tier_store.proofs.Removals.{on_err}
 use Rattle.archive_core.specs.Ends.{Steps}
 use Rattle.archive_core.specs.Parts.{parts}
 use Rattle.archive_core.specs.Sweeping.{sweep_reply}

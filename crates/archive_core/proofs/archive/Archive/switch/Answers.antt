@@ -6,9 +6,9 @@ use Rattle.disk_model.specs.declared.disk.DiskErr.TheVariants.{Fault, Memory}
 use Rattle.event_types.specs.declared.about.State.{State}
 use Rattle.pv_catalog.specs.declared.error.StateErr.{StateErr}
 use Rattle.pv_catalog.specs.declared.error.StateErr.TheVariants.{NotRunning, NotPaused, Disk}
-use Rattle.tier_store.specs.Ends.{end_of_switch}
-use Rattle.three_stores.specs.Change.{Acts}
-use Rattle.three_stores.specs.Seen.{seen}
+use Rattle.durable_write.specs.Ends.{end_of_switch}
+use Rattle.tier_store.specs.Change.{Acts}
+use Rattle.tier_store.specs.Seen.{seen}
 use Rattle.act_model.specs.Machine.{SetsState}
 use Rattle.archive_core.specs.declared.memory.Doubt.TheVariants as kind
 use Rattle.archive_core.specs.declared.memory.RowMemory.{RowMemory}

@@ -11,8 +11,8 @@ use Rattle.store_manifest.specs.declared.entry.Entry.{Entry}
 use Rattle.store_manifest.specs.declared.entry.Change.{Change}
 use Rattle.store_manifest.specs.Entries.{AllCanFollow, all_changed}
 use Rattle.store_manifest.proofs.Written.{batch_length}
-use Rattle.tier_store.specs.Ahead.{CanRelist}
-use Rattle.tier_store.specs.Three.{Anything}
+use Rattle.durable_write.specs.Ahead.{CanRelist}
+use Rattle.durable_write.specs.Three.{Anything}
 use Rattle.etl_mover.specs.Move.{set_entry}
 use Rattle.etl_mover.specs.Lists.{Relists, Knows, published}
 use Rattle.etl_mover.proofs.Listing.{may_publish, sets_follow, nothing_listed, failed_listing, failed_knows}

@@ -1,0 +1,18 @@
+use Rattle.std.proofs.Common.{◌≤◌, ◌<◌, ℕ, All, take, map, length, get_or, Bor}
+use Rattle.series_model.specs.declared.batch.RowSamples.{RowSamples}
+use Rattle.partition_names.specs.Part.{IsPart}
+use Rattle.durable_write.specs.declared.piece.Piece.{Piece}
+use Rattle.std.specs.List.{sum_by}
+use Rattle.durable_write.specs.Plan.{Plans}
+use Rattle.durable_write.proofs.Counting.{samples_in}
+use Rattle.durable_write.proofs.plan.plan_flush.Given as goal
+
+abbrev pub invariant-loop-part : goal.invariant-loop-part
+invariant-loop-part l = record {
+  parts : All (λ (p : Piece). IsPart l.manifest.granularity p.entry.part) l.pieces.items;
+  few : length l.pieces.items ≤ 21_913_098;
+  rows : All (λ (p : Piece). p.entry.series < length l.rows) l.pieces.items;
+  before : (k : ℕ) (d : Bor RowSamples) → l.part-index ≤ k → k < length l.part-items → All (λ (p : Piece). p.entry.series ≤ (get_or l.part-items k d).now.row) l.pieces.items;
+  counted : l.count ≤ sum_by samples_in (take l.part-index (map (λ p. p.now) l.part-items));
+  plans : Plans l.manifest.granularity l.rows l.manifest.entries l.limbo (take l.part-index (map (λ p. p.now) l.part-items)) l.count l.pieces.items;
+}

@@ -1,0 +1,9 @@
+pub mod Ahead
+pub mod Ends
+pub mod Flush
+pub mod Held
+pub mod Plan
+pub mod Revival
+pub mod Stored
+pub mod Three
+pub mod Writing

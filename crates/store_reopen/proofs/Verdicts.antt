@@ -1,0 +1,294 @@
+-- An image has one verdict at most.
+use Rattle.std.proofs.Common.{◌≡◌, ◌≢◌, ◌⊎◌, inl, inr, ℕ, zero, suc, ◌<◌, ◌≤◌, ◌+◌, List, [], ◌∷◌, ◌++◌, length, map, take, Some, None, true, refl, sym, ◌∙◌, ap, subst, arith}
+use Rattle.std.specs.Prelude.{All, IsTrue, slice_get}
+use Rattle.std.proofs.lemmas.Bool.{cases_lt}
+use Rattle.std.proofs.lemmas.List.{length-take}
+use Rattle.std.proofs.lemmas.List.Elements.{All-head, All-tail, All-map, All-weaker, All-contains, All-nil}
+use Rattle.std.proofs.lemmas.Option.{slice_get_within, same_Some}
+use Rattle.disk_model.specs.Files.{Name, Content, Files, HasFile}
+use Rattle.gate_journal.specs.Batches.{HasBatches, IsBadJournal, open_gates}
+use Rattle.gate_journal.specs.Kept.{Says}
+use Rattle.partition_names.specs.declared.granularity.Granularity.{Granularity}
+use Rattle.store_files.specs.Fronts.{Begins}
+use Rattle.store_manifest.specs.declared.entry.Entry.{Entry}
+use Rattle.store_manifest.specs.Batches as manifest
+use Rattle.store_manifest.specs.Manifest.{manifest_name}
+use Rattle.store_manifest.proofs.Committing.{one_listing, same_granularity}
+use Rattle.store_manifest.proofs.Meaning.{one_granularity, folds_good, configured_folds}
+use Rattle.store_manifest.proofs.Meaning as manifest_meaning
+use Rattle.pv_catalog.specs.declared.row.Row.{Row}
+use Rattle.pv_catalog.specs.Catalogue.{catalogue_name}
+use Rattle.pv_catalog.specs.Rows as catalogue
+use Rattle.pv_catalog.proofs.Meaning as catalogue_meaning
+use Rattle.durable_write.specs.Held.{Filed, Held, IsFiled, IsListed, IsIn, entry_of, file_of, bytes_of}
+use Rattle.tier_store.specs.Stores.{Stores, list_at, tier, at_place}
+use Rattle.tier_store.specs.Stored.{HoldsAll}
+use Rattle.store_reopen.specs.OneJournal.{IsBadFile, IsBadCatalogue, IsBadManifest}
+use Rattle.store_reopen.proofs.OneJournal.{one_list_of_rows, same_batches}
+use Rattle.store_reopen.specs.Verdict.{HasRow, EndsEarly, Listings, AreSaidBelow, AreSaid, AreOfRows, IsThere, AreThere, IsFirstShort, IsWhole, Differs, CatalogueIsBad, ManifestIsBad, HasStranger, HasShortFile, IsDamaged, catalogue_bad, manifest_bad, stranger, file_short}
+use Rattle.store_reopen.proofs.Having.{said_of, listing, granularity_here}
+
+-- a manifest that says a granularity is of no other
+said_twice : (g h : Granularity) (bs : List (List ℕ)) (xs ys : List Entry) → manifest.Folds g bs xs → manifest.Configured h bs ys → g ≡ h
+said_twice g h [] xs ys folds configured = absurd configured
+said_twice g h (b ∷ bs) xs ys folds configured = one_granularity g h (b ∷ bs) xs ys folds configured
+
+one_said : (g h : Granularity) (content : Content) (xs ys : List Entry) → Says (manifest.Folds g) xs content → Says (manifest.Configured h) ys content → g ≡ h
+one_said g h content xs ys folds configured =
+    said_twice g h folds.batches xs ys folds.means (subst (λ (bs : List (List ℕ)). manifest.Configured h bs ys) (same_batches content configured.batches folds.batches configured.has folds.has) configured.means)
+
+said_folds : (g : Granularity) (content : Content) (xs : List Entry) → Says (manifest.Configured g) xs content → Says (manifest.Folds g) xs content
+said_folds g content xs says = record { batches = says.batches; has = says.has; means = configured_folds g says.batches xs says.means }
+
+-- two places
+order : (p q : ℕ) → (p < q) ⊎ ((p ≡ q) ⊎ (q < p))
+order p q = elim (cases_lt p q) [
+  | inl below ↦ inl below
+  | inr from ↦ elim (cases_lt q p) [
+    | inl above ↦ inr (inr above)
+    | inr same ↦ inr (inl (omega (arith, from, same)))
+  ]
+]
+
+-- THE FIRST SHORT FILE
+
+short_not_there : (p : ℕ) (files : Files) (rows : List Row) (e : Entry) (name : Name) (at : ℕ) → name ≡ file_of (p + 1, rows) e → EndsEarly e.len at (files name) → IsThere p files rows e → ⊥
+short_not_there p files rows e name at named short there =
+    let file : files name ≡ Some there.bytes = ap files named ∙ there.file in
+    let ends : EndsEarly e.len at (Some there.bytes) = subst (EndsEarly e.len at) file short in
+    let long = there.holds in
+    omega (arith, ends.0, ends.1, long)
+
+one_end : (len i j : ℕ) (content : Content) → EndsEarly len i content → EndsEarly len j content → i ≡ j
+one_end len i j None one two = one ∙ sym two
+one_end len i j (Some bytes) one two = one.0 ∙ sym two.0
+
+first_same : (P : Entry → Type 0) (xs ys us vs : List Entry) (e d : Entry) → xs ++ e ∷ us ≡ ys ++ d ∷ vs → All P xs → All P ys → (P e → ⊥) → (P d → ⊥) → e ≡ d
+first_same P [] [] us vs e d same all also out out₂ = cc
+first_same P [] (y ∷ ys) us vs e d same all also out out₂ = let is : y ≡ e = cc in absurd (out (subst P is (All-head P y ys also)))
+first_same P (x ∷ xs) [] us vs e d same all also out out₂ = let is : x ≡ d = cc in absurd (out₂ (subst P is (All-head P x xs all)))
+first_same P (x ∷ xs) (y ∷ ys) us vs e d same all also out out₂ = let rest : xs ++ e ∷ us ≡ ys ++ d ∷ vs = cc in first_same P xs ys us vs e d rest (All-tail P x xs all) (All-tail P y ys also) out out₂
+
+one_first_short : (p : ℕ) (files : Files) (rows : List Row) (entries : List Entry) (a b : Name) (i j : ℕ) → IsFirstShort p files rows entries a i → IsFirstShort p files rows entries b j → (a ≡ b) × (i ≡ j)
+one_first_short p files rows entries a b i j one two =
+    let entry : one.entry ≡ two.entry = first_same (IsThere p files rows) one.before two.before one.behind two.behind one.entry two.entry (sym one.split ∙ two.split) one.there two.there
+    (short_not_there p files rows one.entry a i one.named one.short) (short_not_there p files rows two.entry b j two.named two.short) in
+    let name : a ≡ b = one.named ∙ ap (file_of (p + 1, rows)) entry ∙ sym two.named in
+    let there : EndsEarly one.entry.len j (files a) = subst (λ (n : Name). EndsEarly one.entry.len j (files n)) (sym name) (subst (λ (e : Entry). EndsEarly e.len j (files b)) (sym entry) two.short) in
+    (name, one_end one.entry.len i j (files a) one.short there)
+
+short_not_all : (p : ℕ) (files : Files) (rows : List Row) (entries : List Entry) (name : Name) (at : ℕ) → IsFirstShort p files rows entries name at → All (IsThere p files rows) entries → ⊥
+short_not_all p files rows entries name at first there =
+    let P : List Entry → Type 0 = λ es. All (IsThere p files rows) es in
+    let here : IsThere p files rows first.entry = at_split first.before first.entry first.behind (subst P first.split there) in
+    short_not_there p files rows first.entry name at first.named first.short here
+  where
+    at_split : (xs : List Entry) (e : Entry) (ys : List Entry) → All (IsThere p files rows) (xs ++ e ∷ ys) → IsThere p files rows e
+    at_split [] e ys all = All-head (IsThere p files rows) e ys all
+    at_split (x ∷ xs) e ys all = at_split xs e ys (All-tail (IsThere p files rows) x (xs ++ e ∷ ys) all)
+
+-- WHAT TWO LISTS OF ONE IMAGE ARE
+
+module _ (gs : List Granularity) (files : Files) (rows r₂ : List Row) (lists l₂ : Listings) (one : AreSaid gs files rows lists) (two : AreSaid gs files r₂ l₂) where
+  same_rows : rows ≡ r₂
+  same_rows = one_list_of_rows (files catalogue_name) rows r₂ one.rows_said two.rows_said
+
+  same_list : (i : ℕ) → i < length gs → lists i ≡ l₂ i
+  same_list i low =
+      let g = granularity_here gs i low in
+      one_listing g.0 g.0 (files (manifest_name (i + 1))) (lists i) (l₂ i) (one.lists_said i g.0 g.1) (two.lists_said i g.0 g.1)
+
+  -- what holds of the rows and the list of the one holds of those of the other
+  as_other : (P : List Row → List Entry → Type 0) (i : ℕ) → i < length gs → P rows (lists i) → P r₂ (l₂ i)
+  as_other P i low p = subst (λ (es : List Entry). P r₂ es) (same_list i low) (subst (λ (r : List Row). P r (lists i)) same_rows p)
+
+-- a list whose entries are all of rows has no stranger
+no_stranger : (gs : List Granularity) (files : Files) (name : Name) (at : ℕ) (rows : List Row) (lists : Listings) → AreSaid gs files rows lists → (one : HasStranger gs files name at) → All (HasRow rows) (lists one.place) → ⊥
+no_stranger gs files name at rows lists said one all =
+    let known = as_other gs files rows one.rows lists one.lists said one.said (λ r es. All (HasRow r) es) one.place one.within all in
+    let below : HasRow one.rows one.stranger = All-contains (HasRow one.rows) (one.lists one.place) one.stranger known one.listed in
+    omega (arith, below, one.of_none)
+
+no_short : (gs : List Granularity) (files : Files) (name : Name) (at : ℕ) (rows : List Row) (lists : Listings) → AreSaid gs files rows lists → (one : HasShortFile gs files name at) → All (IsThere one.place files rows) (lists one.place) → ⊥
+no_short gs files name at rows lists said one all =
+    let known = as_other gs files rows one.rows lists one.lists said one.said (λ r es. All (IsThere one.place files r) es) one.place one.within all in
+    short_not_all one.place files one.rows (one.lists one.place) name at one.first known
+
+-- two strangers
+one_stranger : (gs : List Granularity) (files : Files) (a b : Name) (i j : ℕ) → HasStranger gs files a i → HasStranger gs files b j → (a ≡ b) × (i ≡ j)
+one_stranger gs files a b i j one two = elim (order one.place two.place) [
+  | inl below ↦ absurd (no_stranger gs files a i two.rows two.lists two.said one (two.earlier one.place below))
+  | inr (inl same) ↦ (one.named ∙ ap (λ (p : ℕ). manifest_name (p + 1)) same ∙ sym two.named, one.from ∙ sym two.from)
+  | inr (inr above) ↦ absurd (no_stranger gs files b j one.rows one.lists one.said two (one.earlier two.place above))
+]
+
+-- two short files
+one_short : (gs : List Granularity) (files : Files) (a b : Name) (i j : ℕ) → HasShortFile gs files a i → HasShortFile gs files b j → (a ≡ b) × (i ≡ j)
+one_short gs files a b i j one two = elim (order one.place two.place) [
+  | inl below ↦ absurd (no_short gs files a i two.rows two.lists two.said one (two.earlier one.place below))
+  | inr (inl same) ↦
+      let first : IsFirstShort one.place files one.rows (one.lists one.place) b j = as_other gs files two.rows one.rows two.lists one.lists two.said one.said (λ r es. IsFirstShort one.place files r es b j) one.place one.within
+      (subst (λ (p : ℕ). IsFirstShort p files two.rows (two.lists p) b j) (sym same) two.first) in
+      one_first_short one.place files one.rows (one.lists one.place) a b i j one.first first
+  | inr (inr above) ↦ absurd (no_short gs files b j one.rows one.lists one.said two (one.earlier two.place above))
+]
+
+-- A STORE OF ANOTHER GRANULARITY
+
+-- a manifest that is good in its granularity is of no other
+not_other : (gs : List Granularity) (files : Files) (kept asked : Granularity) (d : Differs gs files kept asked) (entries : List Entry) → Says (manifest.Folds asked) entries (files (manifest_name (d.place + 1))) → ⊥
+not_other gs files kept asked d entries says = d.other (sym (one_said asked kept (files (manifest_name (d.place + 1))) entries d.entries says d.entries_said))
+
+said_not_other : (gs : List Granularity) (files : Files) (kept asked : Granularity) (rows : List Row) (lists : Listings) → AreSaid gs files rows lists → Differs gs files kept asked → ⊥
+said_not_other gs files kept asked rows lists said d = not_other gs files kept asked d (lists d.place) (said.lists_said d.place asked d.here)
+
+pub whole_same : (gs : List Granularity) (files : Files) (kept asked : Granularity) → IsWhole gs files → Differs gs files kept asked → ⊥
+whole_same gs files kept asked whole d = said_not_other gs files kept asked whole.rows whole.lists whole.said d
+
+pub one_other : (gs : List Granularity) (files : Files) (kept asked other ask : Granularity) → Differs gs files kept asked → Differs gs files other ask → (kept ≡ other) × (asked ≡ ask)
+one_other gs files kept asked other ask one two = elim (order one.place two.place) [
+  | inl below ↦ absurd (not_other gs files kept asked one (two.lists one.place) (two.earlier one.place asked below one.here))
+  | inr (inl same) ↦
+      let said = subst (λ (p : ℕ). Says (manifest.Configured other) two.entries (files (manifest_name (p + 1)))) (sym same) two.entries_said in
+      (same_granularity kept other (files (manifest_name (one.place + 1))) one.entries two.entries one.entries_said said, same_Some asked ask (sym one.here ∙ ap (slice_get gs) same ∙ two.here))
+  | inr (inr above) ↦ absurd (not_other gs files other ask two (one.lists two.place) (one.earlier two.place ask above two.here))
+]
+
+-- A JOURNAL IS GOOD OR BAD
+
+module _ (one_place : (content : Content) (at other : ℕ) → IsBadJournal content at → IsBadJournal content other → at ≡ other) (not_bad : (content : Content) (bs : List (List ℕ)) (at : ℕ) → HasBatches content bs → IsBadJournal content at → ⊥) where
+  good_or_bad : {A : Type 0} (Means : List (List ℕ) → A → Type 0) (IsBad : List (List ℕ) → ℕ → Type 0) → ((bs : List (List ℕ)) (value : A) (n : ℕ) → Means bs value → IsBad bs n → ⊥) → (content : Content) (value : A) (at : ℕ) → Says Means value content → IsBadFile IsBad content at → ⊥
+  good_or_bad {A} Means IsBad apart content value at says (inl bad) = not_bad content says.batches at says.has bad
+  good_or_bad {A} Means IsBad apart content value at says (inr bad) = apart bad.batches value bad.number (subst (λ (bs : List (List ℕ)). Means bs value) (same_batches content says.batches bad.batches says.has bad.has) says.means) bad.bad
+
+  one_bad_place : (IsBad : List (List ℕ) → ℕ → Type 0) → ((bs : List (List ℕ)) (m n : ℕ) → IsBad bs m → IsBad bs n → m ≡ n) → (content : Content) (at other : ℕ) → IsBadFile IsBad content at → IsBadFile IsBad content other → at ≡ other
+  one_bad_place IsBad one content at other (inl a) (inl b) = one_place content at other a b
+  one_bad_place IsBad one content at other (inl a) (inr b) = absurd (not_bad content b.batches at b.has a)
+  one_bad_place IsBad one content at other (inr a) (inl b) = absurd (not_bad content a.batches other a.has b)
+  one_bad_place IsBad one content at other (inr a) (inr b) =
+      let same = same_batches content b.batches a.batches b.has a.has in
+      let number : a.number ≡ b.number = one a.batches a.number b.number a.bad (subst (λ (bs : List (List ℕ)). IsBad bs b.number) same b.bad) in
+      a.gate ∙ ap (λ (n : ℕ). length (open_gates (take n a.batches))) number ∙ ap (λ (bs : List (List ℕ)). length (open_gates (take b.number bs))) (sym same) ∙ sym b.gate
+
+  good_catalogue : (files : Files) (rows : List Row) (at : ℕ) → Says catalogue.IsCatalogue rows (files catalogue_name) → IsBadCatalogue (files catalogue_name) at → ⊥
+  good_catalogue files rows at says bad = good_or_bad catalogue.IsCatalogue catalogue.IsBadBatch catalogue_meaning.not_both (files catalogue_name) rows at says bad
+
+  good_manifest : (g : Granularity) (content : Content) (entries : List Entry) (at : ℕ) → Says (manifest.Folds g) entries content → IsBadManifest content at → ⊥
+  good_manifest g content entries at says bad = good_or_bad (manifest.Folds g) manifest.IsBadBatch (folds_good g) content entries at says bad
+
+  -- a manifest that is bad isn't said
+  said_not_bad : (gs : List Granularity) (files : Files) (name : Name) (at : ℕ) (rows : List Row) (lists : Listings) → AreSaid gs files rows lists → ManifestIsBad gs files name at → ⊥
+  said_not_bad gs files name at rows lists said one =
+      let g = granularity_here gs one.place one.within in
+      good_manifest g.0 (files (manifest_name (one.place + 1))) (lists one.place) at (said.lists_said one.place g.0 g.1) one.bad
+
+  -- nor is it before a later one that is looked at
+  below_not_bad : (gs : List Granularity) (files : Files) (name : Name) (at : ℕ) (n : ℕ) (lists : Listings) → AreSaidBelow n gs files lists → (one : ManifestIsBad gs files name at) → one.place < n → ⊥
+  below_not_bad gs files name at n lists said one low =
+      let g = granularity_here gs one.place one.within in
+      good_manifest g.0 (files (manifest_name (one.place + 1))) (lists one.place) at (said one.place g.0 low g.1) one.bad
+
+  one_manifest_bad : (gs : List Granularity) (files : Files) (a b : Name) (i j : ℕ) → ManifestIsBad gs files a i → ManifestIsBad gs files b j → (a ≡ b) × (i ≡ j)
+  one_manifest_bad gs files a b i j one two = elim (order one.place two.place) [
+    | inl below ↦ absurd (below_not_bad gs files a i two.place two.lists two.earlier one below)
+    | inr (inl same) ↦ (
+      one.named ∙ ap (λ (p : ℕ). manifest_name (p + 1)) same ∙ sym two.named,
+      one_bad_place manifest.IsBadBatch manifest_meaning.one_bad (files (manifest_name (one.place + 1))) i j one.bad (subst (λ (p : ℕ). IsBadManifest (files (manifest_name (p + 1))) j) (sym same) two.bad),
+    )
+    | inr (inr above) ↦ absurd (below_not_bad gs files b j one.place one.lists one.earlier two above)
+  ]
+
+  bad_not_other : (gs : List Granularity) (files : Files) (name : Name) (at : ℕ) (kept asked : Granularity) → ManifestIsBad gs files name at → Differs gs files kept asked → ⊥
+  bad_not_other gs files name at kept asked one d = elim (order one.place d.place) [
+    | inl below ↦ below_not_bad gs files name at d.place d.lists d.earlier one below
+    | inr (inl same) ↦
+        let said = subst (λ (p : ℕ). Says (manifest.Configured kept) d.entries (files (manifest_name (p + 1)))) (sym same) d.entries_said in
+        good_manifest kept (files (manifest_name (one.place + 1))) d.entries at (said_folds kept (files (manifest_name (one.place + 1))) d.entries said) one.bad
+    | inr (inr above) ↦ not_other gs files kept asked d (one.lists d.place) (one.earlier d.place asked above d.here)
+  ]
+
+  pub whole_undamaged : (gs : List Granularity) (files : Files) (name : Name) (at : ℕ) → IsWhole gs files → IsDamaged gs files name at → ⊥
+  whole_undamaged gs files name at whole (catalogue_bad one) = good_catalogue files whole.rows at whole.said.rows_said one.bad
+  whole_undamaged gs files name at whole (manifest_bad one) = said_not_bad gs files name at whole.rows whole.lists whole.said one
+  whole_undamaged gs files name at whole (stranger one) = no_stranger gs files name at whole.rows whole.lists whole.said one (whole.of_rows one.place one.within)
+  whole_undamaged gs files name at whole (file_short one) = no_short gs files name at whole.rows whole.lists whole.said one (whole.there one.place one.within)
+
+  pub damaged_same : (gs : List Granularity) (files : Files) (name : Name) (at : ℕ) (kept asked : Granularity) → IsDamaged gs files name at → Differs gs files kept asked → ⊥
+  damaged_same gs files name at kept asked (catalogue_bad one) other = good_catalogue files other.rows at other.rows_said one.bad
+  damaged_same gs files name at kept asked (manifest_bad one) other = bad_not_other gs files name at kept asked one other
+  damaged_same gs files name at kept asked (stranger one) other = said_not_other gs files kept asked one.rows one.lists one.said other
+  damaged_same gs files name at kept asked (file_short one) other = said_not_other gs files kept asked one.rows one.lists one.said other
+
+  -- the cases in the order in which they are looked for: of two the earlier rules the later out
+  earlier_catalogue : (gs : List Granularity) (files : Files) (a b : Name) (i j : ℕ) → CatalogueIsBad files a i → IsDamaged gs files b j → (a ≡ b) × (i ≡ j)
+  earlier_catalogue gs files a b i j one (catalogue_bad two) = (one.named ∙ sym two.named, one_bad_place catalogue.IsBadBatch catalogue_meaning.one_bad (files catalogue_name) i j one.bad two.bad)
+  earlier_catalogue gs files a b i j one (manifest_bad two) = absurd (good_catalogue files two.rows i two.rows_said one.bad)
+  earlier_catalogue gs files a b i j one (stranger two) = absurd (good_catalogue files two.rows i two.said.rows_said one.bad)
+  earlier_catalogue gs files a b i j one (file_short two) = absurd (good_catalogue files two.rows i two.said.rows_said one.bad)
+
+  earlier_manifest : (gs : List Granularity) (files : Files) (a b : Name) (i j : ℕ) → ManifestIsBad gs files a i → IsDamaged gs files b j → (a ≡ b) × (i ≡ j)
+  earlier_manifest gs files a b i j one (catalogue_bad two) = absurd (good_catalogue files one.rows j one.rows_said two.bad)
+  earlier_manifest gs files a b i j one (manifest_bad two) = one_manifest_bad gs files a b i j one two
+  earlier_manifest gs files a b i j one (stranger two) = absurd (said_not_bad gs files a i two.rows two.lists two.said one)
+  earlier_manifest gs files a b i j one (file_short two) = absurd (said_not_bad gs files a i two.rows two.lists two.said one)
+
+  earlier_stranger : (gs : List Granularity) (files : Files) (a b : Name) (i j : ℕ) → HasStranger gs files a i → IsDamaged gs files b j → (a ≡ b) × (i ≡ j)
+  earlier_stranger gs files a b i j one (catalogue_bad two) = absurd (good_catalogue files one.rows j one.said.rows_said two.bad)
+  earlier_stranger gs files a b i j one (manifest_bad two) = absurd (said_not_bad gs files b j one.rows one.lists one.said two)
+  earlier_stranger gs files a b i j one (stranger two) = one_stranger gs files a b i j one two
+  earlier_stranger gs files a b i j one (file_short two) = absurd (no_stranger gs files a i two.rows two.lists two.said one (two.of_rows one.place one.within))
+
+  last_file : (gs : List Granularity) (files : Files) (a b : Name) (i j : ℕ) → HasShortFile gs files a i → IsDamaged gs files b j → (a ≡ b) × (i ≡ j)
+  last_file gs files a b i j one (catalogue_bad two) = absurd (good_catalogue files one.rows j one.said.rows_said two.bad)
+  last_file gs files a b i j one (manifest_bad two) = absurd (said_not_bad gs files b j one.rows one.lists one.said two)
+  last_file gs files a b i j one (stranger two) = absurd (no_stranger gs files b j one.rows one.lists one.said two (one.of_rows two.place two.within))
+  last_file gs files a b i j one (file_short two) = one_short gs files a b i j one two
+
+  pub one_damage : (gs : List Granularity) (files : Files) (a b : Name) (i j : ℕ) → IsDamaged gs files a i → IsDamaged gs files b j → (a ≡ b) × (i ≡ j)
+  one_damage gs files a b i j (catalogue_bad one) two = earlier_catalogue gs files a b i j one two
+  one_damage gs files a b i j (manifest_bad one) two = earlier_manifest gs files a b i j one two
+  one_damage gs files a b i j (stranger one) two = earlier_stranger gs files a b i j one two
+  one_damage gs files a b i j (file_short one) two = last_file gs files a b i j one two
+
+-- WHAT STANDS IS WHOLE
+
+-- a file that begins with a front is as long
+begins_long : (front : List ℕ) (files : Files) (name : Name) (content : Content) → files name ≡ content → Begins front content → HasFile files name (λ b. length front ≤ length b)
+begins_long front files name None is begins = absurd begins
+begins_long front files name (Some bytes) is begins = record { bytes = bytes; file = is; holds = omega (arith, ap length begins, length-take (length front) bytes) }
+
+in_there : (p : ℕ) (g : Granularity) (rows : List Row) (image : Files) (f : Filed) → IsFiled g rows f → IsIn (p + 1, rows) image f → IsThere p image rows f.entry
+in_there p g rows image f filed begins =
+    let there = begins_long (bytes_of f) image (file_of (p + 1, rows) f.entry) (image (file_of (p + 1, rows) f.entry)) refl begins in
+    record { bytes = there.bytes; file = there.file; holds = let long = there.holds in omega (arith, long, filed.len) }
+
+pub held_whole : (gs : List Granularity) (files : Files) (held : Stores) → length gs ≡ 3 → HoldsAll gs files held → IsTrue held.stands → IsWhole gs files
+held_whole gs files held three holds stands = record {
+  rows = held.rows;
+  lists = listing held;
+  said = said_of gs files held three holds;
+  of_rows = λ i low.
+      let g = granularity_here gs i low in
+      All-map (HasRow held.rows) entry_of (list_at i held) (All-weaker (IsListed g.0 held.rows) (λ (f : Filed). HasRow held.rows f.entry) (λ f listed. slice_get_within held.rows f.entry.series listed.row listed.stands) (list_at i held) (holds i g.0 g.1).filed.listed);
+  there = λ i low.
+      let g = granularity_here gs i low in
+      All-map (IsThere i files held.rows) entry_of (list_at i held) (λ k d lt. in_there i g.0 held.rows files _ ((holds i g.0 g.1).filed.filed stands k d lt) ((holds i g.0 g.1).files stands k d lt));
+}
+
+-- NOTHING
+
+abbrev nothing : Stores
+nothing = record { rows = []; short = []; medium = []; long = []; stands = true }
+
+pub holds_nothing : (gs : List Granularity) (files : Files) → ((n : Name) → files n ≡ None) → HoldsAll gs files (record { rows = []; short = []; medium = []; long = []; stands = true })
+holds_nothing gs files none i g here = record {
+  rows = record { batches = []; has = subst (λ (c : Content). HasBatches c []) (sym (none catalogue_name)) refl; means = refl };
+  lists = record { batches = []; has = subst (λ (c : Content). HasBatches c []) (sym (none (manifest_name (i + 1)))) refl; means = ap (map entry_of) (empty i) };
+  filed = record { numbered = omega arith; listed = subst (λ (fs : List Filed). All (IsListed g []) fs) (sym (empty i)) (All-nil (IsListed g [])); filed = λ stands. subst (λ (fs : List Filed). All (IsFiled g []) fs) (sym (empty i)) (All-nil (IsFiled g [])) };
+  files = λ stands. subst (λ (fs : List Filed). All (IsIn (i + 1, []) files) fs) (sym (empty i)) (All-nil (IsIn (i + 1, []) files));
+}
+  where
+    empty : (k : ℕ) → list_at k nothing ≡ []
+    empty zero = refl
+    empty (suc zero) = refl
+    empty (suc (suc k)) = refl

@@ -1,0 +1,79 @@
+use Rattle.std.proofs.Common.{◌≡◌, ◌≤◌, ◌<◌, ◌+◌, ℕ, List, [], ◌∷◌, length, true, Some, refl, sym, ◌∙◌, ap, subst, arith, length-append}
+use Rattle.std.specs.Prelude.{slice_get}
+use Rattle.std.proofs.lemmas.Option.{slice_get_within}
+use Rattle.std.proofs.lemmas.Result.{err_from_is_err_and}
+use Rattle.disk_model.proofs.Passing.{passes_none}
+use Rattle.gate_journal.specs.Kept.{Says}
+use Rattle.store_manifest.specs.Batches.{Folds}
+use Rattle.store_manifest.specs.Entries.{AreEntries}
+use Rattle.store_manifest.specs.Manifest.{ManifestState, IsKept, manifest_name}
+use Rattle.tier_store.specs.Seen.{AtEach}
+use Rattle.store_reopen.specs.Reopen.{stores_of, lists_of}
+use Rattle.store_reopen.proofs.Keeping.{kept_then, kept_same, one_store}
+use Rattle.store_reopen.proofs.Manifests.{no_manifest, one_more, one_further, said_below}
+use Rattle.store_reopen.proofs.journals.load_manifests.Goals as goal
+
+pub loop-place-init : goal.loop-place-init
+loop-place-init g c =
+    let none = c.new-manifests.ensures.items in
+    let ms = c.new-manifests.result.items in
+    record {
+      few = omega arith;
+      count = ap length none;
+      kept = λ tells. no_manifest (λ i m. IsKept m (g.D.Disk.files c.args.disk.now) (g.D.Disk.opened c.args.disk.now) (g.D.Disk.past c.args.disk.now)) ms none;
+      said = λ tells. no_manifest (λ i m. Says (Folds m.granularity) m.entries (g.D.Disk.files c.args.disk.now (manifest_name (i + 1)))) ms none;
+      names = no_manifest (λ i m. m.journal.name ≡ manifest_name (i + 1)) ms none;
+      sound = no_manifest (λ i m. m.journal.sound ≡ true) ms none;
+      granularity = no_manifest (λ i m. slice_get (stores_of c.args.config.now) i ≡ Some m.granularity) ms none;
+      nested = λ i few low. absurd (omega (arith, low));
+      are = no_manifest (λ i m. AreEntries m.granularity m.entries) ms none;
+      rest = λ tells i from low. refl;
+      catalogue = λ tells s named stored. stored;
+      keeps = λ tells. kept_same (stores_of c.args.config.now) (g.D.Disk.files c.args.disk.now) (g.D.Disk.opened c.args.disk.now) (g.D.Disk.past c.args.disk.now) (passes_none (λ a b. b ≡ a) (g.D.Disk.past c.args.disk.now) (λ a left. refl));
+      faults = omega arith;
+    }
+
+pub loop-place-preserved : goal.loop-place-preserved
+loop-place-preserved g c =
+    let ms = c.loop-place.manifests.items in
+    let made = c.push.new.self.items in
+    let m = c.in_ok-manifest.manifest in
+    let place = c.loop-place.place in
+    let was = c.loop-place.invariant in
+    let says = c.in_ok-manifest.ensures in
+    let is = c.in_ok-push.ensures.items in
+    let disk = c.load_manifest.new.disk in
+    record {
+      few = omega (arith, c.loop-place-test.true);
+      count = ap length is ∙ length-append ms (m ∷ []) ∙ omega (arith, was.count);
+      kept = λ tells. one_more (λ i k. IsKept k (g.D.Disk.files disk) (g.D.Disk.opened disk) (g.D.Disk.past disk)) ms made m place is was.count
+          (λ i k here. let low = slice_get_within ms i k here in says.earlier tells i k (omega (arith, low, was.count)) (was.names i k here) (was.kept tells i k here)) (says.kept tells);
+      said = λ tells. one_more (λ i k. Says (Folds k.granularity) k.entries (g.D.Disk.files c.args.disk.now (manifest_name (i + 1)))) ms made m place is was.count (was.said tells)
+          (subst (Says (Folds m.granularity) m.entries) (was.rest tells place (omega arith) c.loop-place-test.true) (says.entries tells));
+      names = one_more (λ i k. k.journal.name ≡ manifest_name (i + 1)) ms made m place is was.count was.names says.manifest.0;
+      sound = one_more (λ i k. k.journal.sound ≡ true) ms made m place is was.count was.sound says.manifest.1;
+      granularity = one_more (λ i k. slice_get (stores_of c.args.config.now) i ≡ Some k.granularity) ms made m place is was.count was.granularity says.manifest.2;
+      nested = λ i few low. one_further i place (λ earlier. was.nested i few earlier) (λ last. says.nested refl i few last) low;
+      are = one_more (λ i k. AreEntries k.granularity k.entries) ms made m place is was.count was.are says.are;
+      rest = λ tells i from low. says.others tells (manifest_name (i + 1)) (λ same. let store = one_store (i + 1) (place + 1) same in absurd (omega (arith, store, from))) ∙ was.rest tells i (omega (arith, from)) low;
+      catalogue = λ tells s named stored. says.catalogue tells s named (was.catalogue tells s named stored);
+      keeps = λ tells. kept_then (stores_of c.args.config.now) _ _ _ _ _ _ _ _ _ (was.keeps tells) (says.keeps tells);
+      faults = omega (arith, was.faults, says.faults);
+    }
+
+pub returns-in_err-manifest-clause-told : goal.returns-in_err-manifest-clause-told
+returns-in_err-manifest-clause-told g c tells seen rows says same =
+    let p = err_from_is_err_and c.from_residual.result c.from_residual.ensures.1 in
+    let ms = c.loop-place.manifests.items in
+    let was = c.loop-place.invariant in
+    let earlier = said_below (stores_of c.args.config.now) (g.D.Disk.files c.args.disk.now) seen ms c.loop-place.place was.count was.few (was.said tells) was.granularity same in
+    rw (p.1, p.2) (c.in_err-manifest.ensures.told tells seen rows (lists_of ms) says earlier (was.rest tells c.loop-place.place (omega arith) c.loop-place-test.true ∙ same c.loop-place.place c.loop-place-test.true))
+
+pub returns-in_err-manifest-clause-keeps : goal.returns-in_err-manifest-clause-keeps
+returns-in_err-manifest-clause-keeps g c tells = kept_then (stores_of c.args.config.now) _ _ _ _ _ _ _ _ _ (c.loop-place.invariant.keeps tells) (c.load_manifest.ensures.keeps tells)
+
+pub returns-in_err-push-clause-keeps : goal.returns-in_err-push-clause-keeps
+returns-in_err-push-clause-keeps g c tells = kept_then (stores_of c.args.config.now) _ _ _ _ _ _ _ _ _ (c.loop-place.invariant.keeps tells) (c.load_manifest.ensures.keeps tells)
+
+pub returns-clause-nested : goal.returns-clause-nested
+returns-clause-nested g c ok i low = (c.loop-place.invariant.nested i low (omega (arith, low, c.loop-place-test.false)))

@@ -1,0 +1,98 @@
+use Rattle.std.proofs.Common.{◌≡◌, ◌+◌, List, length, Some, refl, sym, ◌∙◌, ap, subst}
+use Rattle.std.specs.Prelude.{All, slice_get}
+use Rattle.std.proofs.lemmas.Result.{err_from_is_err_and}
+use Rattle.disk_model.specs.Files.{Files}
+use Rattle.partition_names.specs.declared.granularity.Granularity.{Granularity}
+use Rattle.store_manifest.specs.Batches.{Configured}
+use Rattle.store_manifest.specs.Manifest.{ManifestState, manifest_name}
+use Rattle.pv_catalog.specs.declared.row.Row.{Row}
+use Rattle.pv_catalog.specs.Rows.{IsCatalogue}
+use Rattle.store_reopen.specs.Verdict.{HasRow, AreSaid, IsThere}
+use Rattle.store_reopen.proofs.OneJournal.{journals_differ, kept_reads}
+use Rattle.store_reopen.specs.Reopen.{stores_of, lists_of}
+use Rattle.store_reopen.proofs.Having.{all_there_in, same_granularities}
+use Rattle.store_reopen.proofs.Keeping.{kept_then, kept_reading}
+use Rattle.store_reopen.proofs.Manifests.{are_said}
+use Rattle.store_reopen.proofs.opening.load_stores.Goals as goal
+
+-- the same of the rows and the manifests that a call is passed
+said_as : (gs : List Granularity) (files : Files) (rows r₂ : List Row) (ms m₂ : List ManifestState) → r₂ ≡ rows → m₂ ≡ ms → AreSaid gs files rows (lists_of ms) → AreSaid gs files r₂ (lists_of m₂)
+said_as gs files rows r₂ ms m₂ same_rows same_lists said = subst (λ (l : List ManifestState). AreSaid gs files r₂ (lists_of l)) (sym same_lists) (subst (λ (r : List Row). AreSaid gs files r (lists_of ms)) (sym same_rows) said)
+
+pub load_catalogue-requires : goal.load_catalogue-requires
+load_catalogue-requires g c = record { unopened = λ tells. (c.requires.unopened tells).0 }
+
+pub load_manifests-requires : goal.load_manifests-requires
+load_manifests-requires g c = record { unopened = λ tells i low. (c.load_catalogue.ensures.keeps tells (stores_of c.args.config.now)).same_opened (manifest_name (i + 1)) ∙ (c.requires.unopened tells).1 i low }
+
+pub check_rows-requires : goal.check_rows-requires
+check_rows-requires g c = record { three = ap length c.deref.ensures.value ∙ c.in_ok-manifests.ensures.three }
+
+pub check_files-requires : goal.check_files-requires
+check_files-requires g c = record {
+  three = ap length c.deref-2.ensures.value ∙ c.in_ok-manifests.ensures.three;
+  of_rows = λ i m here. c.in_ok-check_rows.ensures.of_rows i m (ap (λ (l : List ManifestState). slice_get l i) (c.deref.ensures.value ∙ sym c.deref-2.ensures.value) ∙ here);
+}
+
+pub returns-in_err-catalogue-clause-told : goal.returns-in_err-catalogue-clause-told
+returns-in_err-catalogue-clause-told g c tells =
+    let p = err_from_is_err_and c.from_residual.result c.from_residual.ensures.1 in
+    rw (p.1, p.2) (c.in_err-catalogue.ensures.told tells (stores_of c.args.config.now))
+
+pub returns-in_err-catalogue-clause-keeps : goal.returns-in_err-catalogue-clause-keeps
+returns-in_err-catalogue-clause-keeps g c tells = c.load_catalogue.ensures.keeps tells (stores_of c.args.config.now)
+
+pub returns-in_err-manifests-clause-told : goal.returns-in_err-manifests-clause-told
+returns-in_err-manifests-clause-told g c tells =
+    let p = err_from_is_err_and c.from_residual-in_err-manifests.result c.from_residual-in_err-manifests.ensures.1 in
+    rw (p.1, p.2) (c.in_err-manifests.ensures.told tells (g.D.Disk.files c.args.disk.now) c.in_ok-catalogue.catalogue.rows (c.in_ok-catalogue.ensures.rows tells) (λ i low. c.load_catalogue.ensures.others tells (manifest_name (i + 1)) (λ is. journals_differ (i + 1) (sym is))))
+
+pub returns-in_err-manifests-clause-keeps : goal.returns-in_err-manifests-clause-keeps
+returns-in_err-manifests-clause-keeps g c tells = (kept_then (stores_of c.args.config.now) (g.D.Disk.files c.args.disk.now) (g.D.Disk.opened c.args.disk.now) (g.D.Disk.past c.args.disk.now) (g.D.Disk.files c.load_catalogue.new.disk) (g.D.Disk.opened c.load_catalogue.new.disk) (g.D.Disk.past c.load_catalogue.new.disk) (g.D.Disk.files c.load_manifests.new.disk) (g.D.Disk.opened c.load_manifests.new.disk) (g.D.Disk.past c.load_manifests.new.disk) (c.load_catalogue.ensures.keeps tells (stores_of c.args.config.now)) (c.load_manifests.ensures.keeps tells))
+
+pub returns-in_err-check_rows-clause-told : goal.returns-in_err-check_rows-clause-told
+returns-in_err-check_rows-clause-told g c tells =
+    let p = err_from_is_err_and c.from_residual-in_err-check_rows.result c.from_residual-in_err-check_rows.ensures.1 in
+    rw (p.1, p.2) (c.in_err-check_rows.ensures.told (stores_of c.args.config.now) (g.D.Disk.files c.args.disk.now) refl (said_as (stores_of c.args.config.now) (g.D.Disk.files c.args.disk.now) c.in_ok-catalogue.catalogue.rows c.rows-rows.result.now c.in_ok-manifests.manifests.items c.deref.result.now c.rows-rows.ensures.value c.deref.ensures.value (are_said (stores_of c.args.config.now) (g.D.Disk.files c.load_catalogue.new.disk) (g.D.Disk.files c.args.disk.now) c.in_ok-catalogue.catalogue.rows c.in_ok-manifests.manifests.items refl c.in_ok-manifests.ensures.three (c.in_ok-catalogue.ensures.rows tells) (c.in_ok-manifests.ensures.said tells) c.in_ok-manifests.ensures.granularity (λ i low. c.load_catalogue.ensures.others tells (manifest_name (i + 1)) (λ is. journals_differ (i + 1) (sym is))))))
+
+pub returns-in_err-check_rows-clause-keeps : goal.returns-in_err-check_rows-clause-keeps
+returns-in_err-check_rows-clause-keeps g c tells = (kept_then (stores_of c.args.config.now) (g.D.Disk.files c.args.disk.now) (g.D.Disk.opened c.args.disk.now) (g.D.Disk.past c.args.disk.now) (g.D.Disk.files c.load_catalogue.new.disk) (g.D.Disk.opened c.load_catalogue.new.disk) (g.D.Disk.past c.load_catalogue.new.disk) (g.D.Disk.files c.load_manifests.new.disk) (g.D.Disk.opened c.load_manifests.new.disk) (g.D.Disk.past c.load_manifests.new.disk) (c.load_catalogue.ensures.keeps tells (stores_of c.args.config.now)) (c.load_manifests.ensures.keeps tells))
+
+pub returns-in_err-check_files-clause-told : goal.returns-in_err-check_files-clause-told
+returns-in_err-check_files-clause-told g c tells =
+    let p = err_from_is_err_and c.from_residual-in_err-check_files.result c.from_residual-in_err-check_files.ensures.1 in
+    rw (p.1, p.2) (c.in_err-check_files.ensures.told tells (stores_of c.args.config.now) (g.D.Disk.files c.args.disk.now) refl (said_as (stores_of c.args.config.now) (g.D.Disk.files c.args.disk.now) c.in_ok-catalogue.catalogue.rows c.rows-rows.result.now c.in_ok-manifests.manifests.items c.deref-2.result.now c.rows-rows.ensures.value c.deref-2.ensures.value (are_said (stores_of c.args.config.now) (g.D.Disk.files c.load_catalogue.new.disk) (g.D.Disk.files c.args.disk.now) c.in_ok-catalogue.catalogue.rows c.in_ok-manifests.manifests.items refl c.in_ok-manifests.ensures.three (c.in_ok-catalogue.ensures.rows tells) (c.in_ok-manifests.ensures.said tells) c.in_ok-manifests.ensures.granularity (λ i low. c.load_catalogue.ensures.others tells (manifest_name (i + 1)) (λ is. journals_differ (i + 1) (sym is))))) (λ n other. (c.load_manifests.ensures.keeps tells).elsewhere n other ∙ (c.load_catalogue.ensures.keeps tells (stores_of c.args.config.now)).elsewhere n other))
+
+pub returns-in_err-check_files-clause-keeps : goal.returns-in_err-check_files-clause-keeps
+returns-in_err-check_files-clause-keeps g c tells = (kept_then (stores_of c.args.config.now) (g.D.Disk.files c.args.disk.now) (g.D.Disk.opened c.args.disk.now) (g.D.Disk.past c.args.disk.now) (g.D.Disk.files c.load_manifests.new.disk) (g.D.Disk.opened c.load_manifests.new.disk) (g.D.Disk.past c.load_manifests.new.disk) (g.D.Disk.files c.check_files.new.disk) (g.D.Disk.opened c.check_files.new.disk) (g.D.Disk.past c.check_files.new.disk) (kept_then (stores_of c.args.config.now) (g.D.Disk.files c.args.disk.now) (g.D.Disk.opened c.args.disk.now) (g.D.Disk.past c.args.disk.now) (g.D.Disk.files c.load_catalogue.new.disk) (g.D.Disk.opened c.load_catalogue.new.disk) (g.D.Disk.past c.load_catalogue.new.disk) (g.D.Disk.files c.load_manifests.new.disk) (g.D.Disk.opened c.load_manifests.new.disk) (g.D.Disk.past c.load_manifests.new.disk) (c.load_catalogue.ensures.keeps tells (stores_of c.args.config.now)) (c.load_manifests.ensures.keeps tells)) (kept_reading (stores_of c.args.config.now) (g.D.Disk.files c.load_manifests.new.disk) (g.D.Disk.files c.check_files.new.disk) (g.D.Disk.opened c.load_manifests.new.disk) (g.D.Disk.opened c.check_files.new.disk) (g.D.Disk.past c.load_manifests.new.disk) (g.D.Disk.past c.check_files.new.disk) (c.check_files.ensures.same tells) (c.check_files.ensures.any_moment tells) (c.check_files.ensures.opened tells)))
+
+pub returns-clause-stored : goal.returns-clause-stored
+returns-clause-stored g c tells =
+    let one = c.in_ok-manifests.ensures.catalogue tells c.in_ok-catalogue.catalogue c.in_ok-catalogue.ensures.journal.0 (c.in_ok-catalogue.ensures.stored tells) in
+    kept_reads IsCatalogue c.in_ok-catalogue.catalogue.journal (g.D.Disk.files c.load_manifests.new.disk) (g.D.Disk.opened c.load_manifests.new.disk) (g.D.Disk.past c.load_manifests.new.disk) (g.D.Disk.files c.check_files.new.disk) (g.D.Disk.opened c.check_files.new.disk) (g.D.Disk.past c.check_files.new.disk) c.in_ok-catalogue.catalogue.rows one (c.check_files.ensures.same tells) (c.check_files.ensures.any_moment tells) (c.check_files.ensures.opened tells)
+
+pub returns-clause-kept : goal.returns-clause-kept
+returns-clause-kept g c tells i m here = kept_reads (Configured m.granularity) m.journal (g.D.Disk.files c.load_manifests.new.disk) (g.D.Disk.opened c.load_manifests.new.disk) (g.D.Disk.past c.load_manifests.new.disk) (g.D.Disk.files c.check_files.new.disk) (g.D.Disk.opened c.check_files.new.disk) (g.D.Disk.past c.check_files.new.disk) m.entries (c.in_ok-manifests.ensures.kept tells i m here) (c.check_files.ensures.same tells) (c.check_files.ensures.any_moment tells) (c.check_files.ensures.opened tells)
+
+pub returns-clause-said : goal.returns-clause-said
+returns-clause-said g c tells = (are_said (stores_of c.args.config.now) (g.D.Disk.files c.load_catalogue.new.disk) (g.D.Disk.files c.args.disk.now) c.in_ok-catalogue.catalogue.rows c.in_ok-manifests.manifests.items refl c.in_ok-manifests.ensures.three (c.in_ok-catalogue.ensures.rows tells) (c.in_ok-manifests.ensures.said tells) c.in_ok-manifests.ensures.granularity (λ i low. c.load_catalogue.ensures.others tells (manifest_name (i + 1)) (λ is. journals_differ (i + 1) (sym is))))
+
+pub returns-clause-there : goal.returns-clause-there
+returns-clause-there g c tells i m here =
+    let passed = ap (λ (l : List ManifestState). slice_get l i) c.deref-2.ensures.value ∙ here in
+    let there = subst (λ (r : List Row). All (IsThere i (g.D.Disk.files c.load_manifests.new.disk) r) m.entries) c.rows-rows.ensures.value (c.in_ok-check_files.ensures.there tells i m passed) in
+    all_there_in i (g.D.Disk.files c.load_manifests.new.disk) (g.D.Disk.files c.args.disk.now) c.in_ok-catalogue.catalogue.rows m.entries (λ n other. (c.load_manifests.ensures.keeps tells).elsewhere n other ∙ (c.load_catalogue.ensures.keeps tells (stores_of c.args.config.now)).elsewhere n other) there
+
+pub returns-clause-ready : goal.returns-clause-ready
+returns-clause-ready g c = record {
+  sound = c.in_ok-catalogue.ensures.journal.1;
+  sound_lists = c.in_ok-manifests.ensures.sound;
+  granularity = same_granularities (stores_of c.args.config.now) c.in_ok-manifests.manifests.items c.in_ok-manifests.ensures.three c.in_ok-manifests.ensures.granularity;
+  nested = c.in_ok-manifests.ensures.nested refl;
+  rows = c.rows-rows.ensures.are;
+  entries = c.in_ok-manifests.ensures.are;
+  of_rows = λ i m here. subst (λ (r : List Row). All (HasRow r) m.entries) c.rows-rows.ensures.value (c.in_ok-check_rows.ensures.of_rows i m (ap (λ (l : List ManifestState). slice_get l i) c.deref.ensures.value ∙ here));
+}
+
+pub returns-clause-keeps : goal.returns-clause-keeps
+returns-clause-keeps g c tells = (kept_then (stores_of c.args.config.now) (g.D.Disk.files c.args.disk.now) (g.D.Disk.opened c.args.disk.now) (g.D.Disk.past c.args.disk.now) (g.D.Disk.files c.load_manifests.new.disk) (g.D.Disk.opened c.load_manifests.new.disk) (g.D.Disk.past c.load_manifests.new.disk) (g.D.Disk.files c.check_files.new.disk) (g.D.Disk.opened c.check_files.new.disk) (g.D.Disk.past c.check_files.new.disk) (kept_then (stores_of c.args.config.now) (g.D.Disk.files c.args.disk.now) (g.D.Disk.opened c.args.disk.now) (g.D.Disk.past c.args.disk.now) (g.D.Disk.files c.load_catalogue.new.disk) (g.D.Disk.opened c.load_catalogue.new.disk) (g.D.Disk.past c.load_catalogue.new.disk) (g.D.Disk.files c.load_manifests.new.disk) (g.D.Disk.opened c.load_manifests.new.disk) (g.D.Disk.past c.load_manifests.new.disk) (c.load_catalogue.ensures.keeps tells (stores_of c.args.config.now)) (c.load_manifests.ensures.keeps tells)) (kept_reading (stores_of c.args.config.now) (g.D.Disk.files c.load_manifests.new.disk) (g.D.Disk.files c.check_files.new.disk) (g.D.Disk.opened c.load_manifests.new.disk) (g.D.Disk.opened c.check_files.new.disk) (g.D.Disk.past c.load_manifests.new.disk) (g.D.Disk.past c.check_files.new.disk) (c.check_files.ensures.same tells) (c.check_files.ensures.any_moment tells) (c.check_files.ensures.opened tells)))

@@ -1,0 +1,115 @@
+-- Three stores that are opened again.
+use Rattle.std.specs.Prelude.{◌≡◌, ◌≢◌, ◌⊎◌, ◌≤◌, ◌<◌, ◌+◌, ℕ, true, List, [], ◌∷◌, length, Option, None, Some, Result, Ok, Err, All, slice_get}
+use Rattle.partition_names.specs.declared.granularity.Granularity.{Granularity}
+use Rattle.disk_model.specs.Files.{Name, Files}
+use Rattle.disk_model.specs.Past.{Past, MayLeave, Passes}
+use Rattle.disk_model.specs.declared.disk.Disk.{Ghosts}
+use Rattle.gate_journal.specs.Kept.{Says}
+use Rattle.store_manifest.specs.declared.entry.Entry.{Entry}
+use Rattle.store_manifest.specs.Batches.{Folds}
+use Rattle.store_manifest.specs.Entries.{AreEntries}
+use Rattle.store_manifest.specs.Manifest.{ManifestState, manifest_name}
+use Rattle.pv_catalog.specs.declared.row.Row.{Row}
+use Rattle.pv_catalog.specs.Catalogue.{CatalogueState, catalogue_name}
+use Rattle.pv_catalog.specs.Rows.{AreRows, IsCatalogue}
+use Rattle.durable_write.specs.Held.{AreIn, file_of}
+use Rattle.tier_store.specs.Beginning.{AllNested}
+use Rattle.tier_store.specs.Stores.{Stores, list_at, tier, with_list, with_rows}
+use Rattle.tier_store.specs.Seen.{AtEach, granularities, seen}
+use Rattle.tier_store.specs.Stored.{HoldsAll}
+use Rattle.tier_store.specs.Change.{Has, IsEither}
+use Rattle.tier_store.specs.declared.store.TierStore.{TierStore}
+use Rattle.etl_rules.specs.Config.{ConfigState}
+use Rattle.store_reopen.specs.declared.error.ReopenErr.{ReopenErr}
+use Rattle.store_reopen.specs.declared.error.ReopenErr.TheVariants.{DiskFault, Damaged, GranularityDiffers, Memory}
+use Rattle.store_reopen.specs.Loading.{granularity_at}
+use Rattle.store_reopen.specs.Verdict.{HasRow, Listings}
+
+-- the granularities of stores 1 to 3
+abbrev pub stores_of : ConfigState → List Granularity
+stores_of config = granularity_at config.granularity 0 ∷ granularity_at config.granularity 1 ∷ granularity_at config.granularity 2 ∷ []
+
+abbrev pub entries_in : Option ManifestState → List Entry
+entries_in None = []
+entries_in (Some m) = m.entries
+
+-- what the manifest at each place lists
+abbrev pub lists_of : List ManifestState → Listings
+lists_of manifests i = entries_in (slice_get manifests i)
+
+-- the disk that is handed back with a cause
+abbrev pub disk_in : {D R : Type 0} → ReopenErr D R → D
+disk_in {D} {R} (DiskFault disk) = disk
+disk_in {D} {R} (Damaged disk name at) = disk
+disk_in {D} {R} (GranularityDiffers disk kept asked) = disk
+disk_in {D} {R} (Memory disk) = disk
+
+-- the disk of either answer
+abbrev pub disk_of : {D R : Type 0} → Result (TierStore D R) (ReopenErr D R) → D
+disk_of {D} {R} (Ok store) = store.disk
+disk_of {D} {R} (Err e) = disk_in e
+
+-- none of the journals was opened, and no listed file beyond its listed length
+pub record IsUnopened (files : Files) (opened : Name → ℕ) : Type 0 where
+  pub catalogue : opened catalogue_name ≡ 0
+  pub manifests : (i : ℕ) → i < 3 → opened (manifest_name (i + 1)) ≡ 0
+  pub listed : (rows : List Row) → Says IsCatalogue rows (files catalogue_name) → (i : ℕ) → i < 3
+      → (g : Granularity) (entries : List Entry) → Says (Folds g) entries (files (manifest_name (i + 1))) → All (λ (e : Entry). opened (file_of (i + 1, rows) e) ≤ e.len) entries
+
+-- the image has the listed files of all three stores, where they stand
+abbrev pub AllIn : Stores → Files → Type 0
+AllIn s image = (i : ℕ) → i < 3 → AreIn (tier i s) image
+
+-- the rows change alone, or the list of one store does
+abbrev pub ChangesOne : Stores → Stores → Type 0
+ChangesOne before after = (after ≡ with_rows before after.rows) ⊎ ((i : ℕ) × (i < 3) × (after ≡ with_list i (list_at i after) before))
+
+-- the image holds what was before a change, or what is after it
+abbrev pub HoldsEither : List Granularity → Stores → Stores → Files → Type 0
+HoldsEither gs before after image = HoldsAll gs image before ⊎ HoldsAll gs image after
+
+-- Whatever a crash now may leave holds what was before a change of the rows or of one list, or what is after it, and has the listed
+-- files of both: so a disk is handed back whose stores were in doubt, and so it is while the machine runs on after a program was killed.
+pub record OpensEither (gs : List Granularity) (past : Past) (before after : Stores) : Type 0 where
+  pub one_change : ChangesOne before after
+  pub holds : (image : Files) → MayLeave past image → HoldsEither gs before after image
+  pub files : (image : Files) → MayLeave past image → AllIn before image × AllIn after image
+
+-- whatever a crash now may leave holds this
+abbrev pub Opens : List Granularity → Past → Stores → Type 0
+Opens gs past held = OpensEither gs past held held
+
+-- an image that holds what reads gave at first still does
+abbrev pub StillHolds : List Granularity → Files → Files → Files → Type 0
+StillHolds gs files old new = (held : Stores) → HoldsAll gs files held → HoldsAll gs old held → HoldsAll gs new held
+
+-- every store of partition files is as it was, whatever is in its files
+abbrev pub SameStores : Files → Files → Type 0
+SameStores old new = (n : Name) → n.0 ≢ 0 → new n ≡ old n
+
+-- What opening makes of a disk that tells its files, whatever it answers: each image goes on to hold what it held, at each moment, and
+-- the disk may be opened again. No store of partition files changes at any moment, also where it is damaged.
+pub record Reopens {D R : Type 0} (disk : Ghosts D R) (gs : List Granularity) (old new : D) : Type 0 where
+  pub any_moment : Passes (StillHolds gs (disk.files old)) (disk.past old) (disk.past new)
+  pub either : (before after : Stores) → OpensEither gs (disk.past old) before after → Passes (λ a b. HoldsEither gs before after b) (disk.past old) (disk.past new)
+  pub opens : (before after : Stores) → OpensEither gs (disk.past old) before after → OpensEither gs (disk.past new) before after
+  pub elsewhere : SameStores (disk.files old) (disk.files new)
+  pub stores : Passes SameStores (disk.past old) (disk.past new)
+  pub unopened : IsUnopened (disk.files new) (disk.opened new)
+
+-- the stores have what reads give of the disk, which is the one or the other
+pub record HasRead {D R : Type 0} (disk : Ghosts D R) (gs : List Granularity) (old : D) (store : TierStore D R) (before after : Stores) : Type 0 where
+  pub held : Stores
+  pub either : IsEither before after held
+  pub read : HoldsAll gs (disk.files old) held
+  pub has : Has disk.tells (seen disk store) held
+
+-- the stores may be changed, and what their journals say fits together
+pub record IsReady (gs : List Granularity) (catalogue : CatalogueState) (manifests : List ManifestState) : Type 0 where
+  pub sound : catalogue.journal.sound ≡ true
+  pub sound_lists : AtEach manifests (λ i m. m.journal.sound ≡ true)
+  pub granularity : granularities manifests ≡ gs
+  pub nested : AllNested gs
+  pub rows : AreRows catalogue.rows
+  pub entries : AtEach manifests (λ i m. AreEntries m.granularity m.entries)
+  pub of_rows : AtEach manifests (λ i m. All (HasRow catalogue.rows) m.entries)

@@ -1,0 +1,102 @@
+// The opening of a disk, from its journals to its listed files.
+ghost use Rattle.std.specs.FinMap as map;
+ghost use Rattle.std.specs.Prelude.{◌≡◌, ◌≢◌, ◌≤◌, ◌<◌, ◌+◌, [], ℕ, List, All, IfOk, IfErr, IsOk, IsTrue, Err, length};
+ghost use Rattle.disk_model.specs.Files.{Name, Rose};
+ghost use Rattle.disk_model.specs.Past.{Passes};
+ghost use Rattle.disk_model.specs.declared.disk.DiskErr.TheVariants.{Fault};
+ghost use Rattle.partition_names.specs.declared.granularity.Granularity.{Granularity as GranularityValue};
+ghost use Rattle.pv_catalog.specs.Catalogue.{catalogue_name, IsStored};
+ghost use Rattle.store_manifest.specs.Manifest.{IsKept, manifest_name};
+ghost use Rattle.tier_store.specs.Stores.{Stores};
+ghost use Rattle.tier_store.specs.Seen.{seen, AtEach};
+ghost use Rattle.tier_store.specs.Change.{Has};
+ghost use Rattle.store_reopen.specs.Verdict.{AreSaid, IsThere, IsWhole, IsDamaged, Differs};
+ghost use Rattle.store_reopen.specs.Reopen.{IsUnopened, OpensEither, HasRead, Reopens, IsReady, stores_of, lists_of, disk_of};
+ghost use Rattle.store_reopen.specs.Loading.{KeepsSaid};
+ghost use Rattle.store_reopen.specs.Refusal.{IsTold};
+ghost use Rattle.store_reopen.specs.declared.error.Refusal.TheVariants.{Disk as OfDisk};
+ghost use Rattle.store_reopen.specs.declared.error.ReopenErr.TheVariants.{DiskFault, Damaged, GranularityDiffers};
+
+use crate::ReopenErr;
+use crate::error::Refusal;
+use crate::files::{check_files, check_rows};
+use crate::journals::{load_catalogue, load_manifests};
+use disk_model::{Disk, DiskErr};
+use etl_rules::Config;
+use pv_catalog::Catalogue;
+use std::alloc::Global;
+use store_manifest::Manifest;
+use tier_store::TierStore;
+
+/// Opens a disk as three stores, in the configured granularities. What the disk's image holds is what the stores hold, with no pin and
+/// nothing in limbo, and they keep the settings. It needs that no journal of the disk was opened, and no listed file beyond its listed length.
+///
+/// The first that is wrong is told, in this order: the catalogue; the manifests of stores 1 to 3, each with its granularity; an entry of
+/// no row; the listed files, store by store and in the order of series and time. Of files it looks only at lengths. `DiskFault` comes only
+/// where the disk's count of faults rose in the call; `Memory` alone may come at any time.
+pub fn reopen<D: Disk>(
+    alloc: Global,
+    disk: D,
+    config: &Config,
+) -> Result<TierStore<D>, ReopenErr<D>>
+    requires unopened { IsTrue D.tells → IsUnopened (D.files disk) (D.opened disk) }
+
+    // What reads give is held from then on, if each image holds that or one thing more; and each disk that opens has rows and lists files.
+    ensures stands { IsTrue D.tells → (before after : Stores) → OpensEither (stores_of config.now) (D.past disk) before after
+        → IfOk result (λ s. HasRead D.Disk (stores_of config.now) disk s before after) }
+    ensures has { IfOk result (λ s. (held : Stores) × Has D.tells (seen D.Disk s) held) }
+    ensures said { IsTrue D.tells → IfOk result (λ s. let now = seen D.Disk s in AreSaid (stores_of config.now) (D.files disk) now.catalogue.rows (lists_of now.manifests)) }
+    ensures ready { IfOk result (λ s. let now = seen D.Disk s in IsReady (stores_of config.now) now.catalogue now.manifests) }
+    ensures fresh { IfOk result (λ s. (s.limbo.items ≡ []) × (s.pinned ≡ map.empty)) }
+    ensures settings { IfOk result (λ s. s.config ≡ config.now) }
+
+    ensures whole { IsTrue D.tells → IsOk result → IsWhole (stores_of config.now) (D.files disk) }
+    ensures damaged { IsTrue D.tells → (d : D) (name : Name) (at : ℕ) → result ≡ Err (Damaged d name at) → IsDamaged (stores_of config.now) (D.files disk) name at }
+    ensures differs { IsTrue D.tells → (d : D) (kept asked : GranularityValue) → result ≡ Err (GranularityDiffers d kept asked)
+        → Differs (stores_of config.now) (D.files disk) kept asked }
+
+    // A crash at any moment leaves what the image held, and the disk can be opened again.
+    ensures reopens { IsTrue D.tells → Reopens D.Disk (stores_of config.now) disk (disk_of result) }
+    ensures faults { D.faults disk ≤ D.faults (disk_of result) }
+    ensures cause { (d : D) → result ≡ Err (DiskFault d) → Rose (D.faults disk) (D.faults d) }
+{
+    let mut disk = disk;
+    match load_stores(alloc, &mut disk, config) {
+        Ok((catalogue, manifests)) => Ok(TierStore::new(
+            alloc, disk, *config, catalogue, manifests,
+        )),
+        Err(Refusal::Disk(DiskErr::Fault)) => Err(ReopenErr::DiskFault(disk)),
+        Err(Refusal::Disk(DiskErr::Memory)) => Err(ReopenErr::Memory(disk)),
+        Err(Refusal::Damaged { name, at }) => Err(ReopenErr::Damaged { disk, name, at }),
+        Err(Refusal::GranularityDiffers { kept, asked }) => {
+            Err(ReopenErr::GranularityDiffers { disk, kept, asked })
+        }
+    }
+}
+
+// Loads the journals, and looks whether all that they list is there.
+fn load_stores<D: Disk>(
+    alloc: Global,
+    disk: &mut D,
+    config: &Config,
+) -> Result<(Catalogue, Vec<Manifest>), Refusal>
+    requires unopened { IsTrue D.tells → (D.opened disk.old catalogue_name ≡ 0) × ((i : ℕ) → i < 3 → D.opened disk.old (manifest_name (i + 1)) ≡ 0) }
+    ensures stored { IsTrue D.tells → IfOk result (λ r. IsStored r.0 (D.files disk.new) (D.opened disk.new) (D.past disk.new)) }
+    ensures kept { IsTrue D.tells → IfOk result (λ r. AtEach r.1.items (λ i m. IsKept m (D.files disk.new) (D.opened disk.new) (D.past disk.new))) }
+    ensures said { IsTrue D.tells → IfOk result (λ r. AreSaid (stores_of config.now) (D.files disk.old) r.0.rows (lists_of r.1.items)) }
+    ensures there { IsTrue D.tells → IfOk result (λ r. AtEach r.1.items (λ i m. All (IsThere i (D.files disk.old) r.0.rows) m.entries)) }
+    ensures ready { IfOk result (λ r. IsReady (stores_of config.now) r.0 r.1.items) }
+    ensures name { IfOk result (λ r. r.0.journal.name ≡ catalogue_name) }
+    ensures names { IfOk result (λ r. AtEach r.1.items (λ i m. m.journal.name ≡ manifest_name (i + 1))) }
+    ensures told { IsTrue D.tells → IfErr result (IsTold (stores_of config.now) (D.files disk.old)) }
+    ensures keeps { IsTrue D.tells → KeepsSaid (stores_of config.now) (D.files disk.old) (D.opened disk.old) (D.past disk.old) (D.files disk.new) (D.opened disk.new) (D.past disk.new) }
+    ensures faults { D.faults disk.old ≤ D.faults disk.new }
+    ensures cause { result ≡ Err (OfDisk Fault) → Rose (D.faults disk.old) (D.faults disk.new) }
+{
+    let catalogue = load_catalogue(alloc, disk)?;
+    let manifests = load_manifests(alloc, disk, config)?;
+    let rows = catalogue.rows();
+    check_rows(alloc, rows, &manifests)?;
+    check_files(alloc, disk, rows, &manifests)?;
+    Ok((catalogue, manifests))
+}

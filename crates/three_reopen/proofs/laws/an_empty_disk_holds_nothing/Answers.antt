@@ -1,5 +1,0 @@
-use Rattle.three_reopen.proofs.Verdicts.{holds_nothing}
-use Rattle.three_reopen.proofs.laws.an_empty_disk_holds_nothing.Goals as goal
-
-pub returns : goal.returns
-returns c = holds_nothing

@@ -1,5 +1,0 @@
-use Rattle.three_reopen.proofs.Verdicts.{held_whole}
-use Rattle.three_reopen.proofs.laws.an_image_that_stands_is_whole.Goals as goal
-
-pub returns : goal.returns
-returns c = held_whole

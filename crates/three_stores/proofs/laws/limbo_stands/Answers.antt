@@ -1,5 +1,0 @@
-use Rattle.three_stores.proofs.Staying.{limbo_kept}
-use Rattle.three_stores.proofs.laws.limbo_stands.Goals as goal
-
-pub returns : goal.returns
-returns g c old new catalogue later ms ns limbo keeps same stands = limbo_kept _ _ limbo keeps same stands

@@ -1,8 +1,0 @@
-use Rattle.std.proofs.Common.{take}
-use Rattle.store_manifest.specs.Entries.{InOrder}
-use Rattle.three_stores.specs.Revival.{AreUnlistedIn}
-use Rattle.three_stores.specs.Seen.{AtEach}
-use Rattle.three_stores.proofs.limbo.unlisted_entries.Given as goal
-
-abbrev pub invariant-loop-file : goal.invariant-loop-file
-invariant-loop-file l = AtEach l.manifests (λ i m. InOrder m.entries) → AreUnlistedIn l.manifests l.store (take l.file-index l.limbo) l.entries.items

@@ -1,8 +1,0 @@
-use Rattle.std.proofs.Common.{◌≡◌, take}
-use Rattle.std.specs.Prelude.{filter, map}
-use Rattle.three_stores.specs.Pinning.{has_bytes, piece_of}
-use Rattle.three_stores.proofs.pinning.pieces_of.Given as goal
-
--- the files so far are pinned
-abbrev pub invariant-loop-file : goal.invariant-loop-file
-invariant-loop-file l = l.pieces.items ≡ map (piece_of l.rows) (filter has_bytes (take l.file-index l.files))

@@ -1,0 +1,296 @@
+-- A step of copying by the files in limbo: with the one in which lines go on, and without it.
+use Rattle.std.proofs.Common.{◌≡◌, ◌≢◌, inl, inr, true, false, Bool, ℕ, ◌<◌, ◌≤◌, ◌+◌, List, [], ◌∷◌, ◌++◌, length, get_or, Option, Some, None, refl, sym, ◌∙◌, ap, subst, arith}
+use Rattle.std.specs.Prelude.{Contains, IsTrue, nat_le, slice_get}
+use Rattle.std.specs.List.{AllByRecursion}
+use Rattle.std.proofs.lemmas.Bool.{cond-false, cond-true}
+use Rattle.std.proofs.lemmas.Bool.Decides.{nat_tests}
+use Rattle.std.proofs.lemmas.List.Elements.{All-contains, Contains-append_left, Contains-get_or}
+use Rattle.disk_model.specs.Files.{HasFile, Name}
+use Rattle.etl_mover.specs.Copying.{last_of}
+use Rattle.etl_mover.specs.Move.{MoveState}
+use Rattle.partition_names.specs.declared.granularity.Granularity.{Granularity}
+use Rattle.partition_names.specs.declared.part.Part.{Part}
+use Rattle.partition_names.specs.Part.{HoldsMoment}
+use Rattle.series_model.specs.Series.{end_of, since}
+use Rattle.series_model.specs.declared.sample.Sample.{Sample}
+use Rattle.series_model.proofs.RisingLists.{since-append, since_all}
+use Rattle.store_manifest.specs.Manifest.{ManifestState}
+use Rattle.store_manifest.specs.declared.entry.Entry.{Entry}
+use Rattle.durable_write.specs.Flush.{put_all}
+use Rattle.durable_write.specs.Held.{Filed, Held, AreFiled, IsFiled, IsIn, file_of}
+use Rattle.tier_store.specs.Stores.{Stores, list_at}
+use Rattle.tier_store.specs.Change.{Has}
+use Rattle.tier_store.specs.Copied.{end_after}
+use Rattle.pv_catalog.specs.Catalogue.{CatalogueState}
+use Rattle.durable_write.specs.Stored.{AreSafe}
+use Rattle.durable_write.proofs.Reading.{safe_read}
+use Rattle.tier_store.proofs.CopyLooks.{held_kept}
+use Rattle.tier_store.specs.Copying.{OnlyLooks, CopiesBeside, CopiesFurther, CopiesNext, FindsLine, HasLater, IsNextPart, SaysLines, SaysPart, left_of}
+use Rattle.tier_store.specs.Given.{ChangesGiven}
+use Rattle.tier_store.specs.Limbo.{LimboStands, staying}
+use Rattle.tier_store.specs.Pinned.{SeenAll}
+use Rattle.tier_store.specs.Revival.{AreWhole, store_with}
+use Rattle.tier_store.specs.Reviving.{AreBack, IsBehind, IsUncovered, SaysBehind, past, pending_with, reviving}
+use Rattle.tier_store.specs.Seen.{Seen, granularities}
+use Rattle.durable_write.specs.Ends.{End}
+use Rattle.tier_store.specs.declared.copying.CopyEnd.{CopyEnd}
+use Rattle.tier_store.specs.declared.copying.CopyEnd.TheVariants as ends
+use Rattle.tier_store.specs.declared.limbo.Retired.{Retired}
+use Rattle.std.proofs.lemmas.Option.{same_Some}
+use Rattle.tier_store.proofs.CopyCall.{last_pushed}
+use Rattle.tier_store.proofs.CopyLimbo.{f, file_is, last_with, runs_with}
+use Rattle.tier_store.proofs.CopyLists.{inside_until, part_left}
+use Rattle.tier_store.proofs.CopyNext.{B, n_low, next_none, next_some}
+use Rattle.tier_store.proofs.CopyParts.{further, q_filed, q_part}
+use Rattle.tier_store.proofs.CopyPast as past_files
+
+-- something is left where the samples end later
+since_all_before : (k : ℕ) (xs : List Sample) → since k xs ≡ [] → AllByRecursion (λ (s : Sample). s.t < k) xs
+since_all_before k [] none = tt
+since_all_before k (s ∷ xs) none = by_test (since_all_before k xs) (nat_le k s.t) refl
+  where
+    by_test : (since k xs ≡ [] → AllByRecursion (λ (s : Sample). s.t < k) xs) → (b : Bool) → nat_le k s.t ≡ b → AllByRecursion (λ (s : Sample). s.t < k) (s ∷ xs)
+    by_test rest true is = absurd (let no : s ∷ since k xs ≡ [] = sym (cond-true (nat_le k s.t) (s ∷ since k xs) (since k xs) is) ∙ none in cc (no))
+    by_test rest false is = (grind (arith, nat_tests, is), rest (sym (cond-false (nat_le k s.t) (s ∷ since k xs) (since k xs) is) ∙ none))
+
+pub since_some : (k : ℕ) (xs : List Sample) → k < end_of xs → since k xs ≢ []
+since_some k xs less none = let most = inside_until k 0 xs (omega arith) (since_all_before k xs none) in omega (arith, less, most)
+
+module _ (tells : Bool) (all : SeenAll) (from : ℕ) (move : MoveState) (files : List Filed) (held : Stores) (has : Has tells all.stores held) (is : CopiesFurther from tells all move files held) (stand : LimboStands all.stores all.limbo) (retired : List Filed) (whole : AreWhole (from + 1) tells all.stores all.limbo held.stands retired)
+    (q : Filed) (q_next : IsNextPart from move held q) (part : Entry) (at_hand : slice_get move.parts move.at ≡ Some part) where
+  same_start : q.entry.part.start ≡ part.part.start
+  same_start = ap (λ (p : Part). p.start) (q_part tells all from move files held has is q q_next part at_hand)
+
+  -- what was found for the part as it is listed
+  pub goes_behind : (revived : Option Entry) → SaysBehind all.limbo (from + 2) move.series (last_of move.pending move.listed) q.entry.part.start revived → (p : Entry) → slice_get move.parts move.at ≡ Some p → SaysBehind all.limbo (from + 2) move.series (last_of move.pending move.listed) p.part.start revived
+  goes_behind revived says p p_at = subst (λ (t : ℕ). SaysBehind all.limbo (from + 2) move.series (last_of move.pending move.listed) t revived) (ap (λ (x : Part). x.start) (q_part tells all from move files held has is q q_next p p_at)) says
+
+  module _ (r : Retired) (within : Contains all.limbo r) (behind : IsBehind (from + 2) move.series (last_of move.pending move.listed) q.entry.part.start r) where
+    abbrev pub x : Filed
+    x = f tells all from move files held has is.runs is.last stand retired whole q.entry.part.start r within behind
+
+    pub x_entry : x.entry ≡ r.entry
+    x_entry = (file_is tells all from move files held has is.runs is.last stand retired whole q.entry.part.start r within behind).2
+
+    x_holds : HoldsMoment x.entry.part part.part.start
+    x_holds = subst (λ (t : ℕ). HoldsMoment x.entry.part t) same_start (subst (λ (e : Entry). HoldsMoment e.part q.entry.part.start) (sym x_entry) behind.holds)
+
+    pub further_with : CopiesFurther from tells all (reviving move (Some x.entry)) (files ++ x ∷ []) held
+    further_with = record {
+      runs = runs_with tells all from move files held has is.runs is.last stand retired whole q.entry.part.start r within behind part at_hand x_holds;
+      stage = is.stage;
+      left = is.left;
+      heads = is.heads;
+      lengths = is.lengths;
+      last = last_with tells all from move files held has is.runs is.last stand retired whole q.entry.part.start r within behind part at_hand x_holds;
+      told = is.told;
+    }
+
+  -- something is left of a part that no file in limbo has whole
+  module _ (uncovered : IsUncovered all.limbo (from + 2) move.series (last_of move.pending move.listed) q.entry) (stands : IsTrue held.stands) where
+    q_is : IsFiled is.runs.fine held.rows q
+    q_is = q_filed tells all from move files held has is q q_next part at_hand stands
+
+    later_than : (k : ℕ) → k < q.entry.last + 1 → since k q.samples ≢ []
+    later_than k less = since_some k q.samples (let to = q_is.to in omega (arith, less, to))
+
+    pub later_some : (r : Retired) → Contains all.limbo r → IsBehind (from + 2) move.series (last_of move.pending move.listed) q.entry.part.start r → since (r.entry.last + 1) q.samples ≢ []
+    later_some r within behind = elim uncovered [
+      | inl none ↦ absurd (none r within behind)
+      | inr (e, (other, other_in, other_behind, is_e), less) ↦
+          let one = past_files.same_file tells all from move files held has is.runs is.last stand retired whole stands q.entry.part.start r within behind other other_in other_behind in
+          let last = ap (λ (y : Entry). y.last) (one ∙ is_e) in
+          later_than (r.entry.last + 1) (omega (arith, less, last))
+    ]
+
+-- a call that leaves the files with one more leaves those without it
+pub further_without : (tells : Bool) (old new : SeenAll) (from : ℕ) (move : MoveState) (files : List Filed) (x : Filed) (m : MoveState) (held : Stores) → granularities new.stores.manifests ≡ granularities old.stores.manifests → new.limbo ≡ old.limbo → CopiesFurther from tells old move files held → CopiesFurther from tells new m (files ++ x ∷ []) held → CopiesFurther from tells new move files held
+further_without tells old new from move files x m held same limbo is then = record {
+  runs = record {
+    from = is.runs.from;
+    next = is.runs.next;
+    fine = is.runs.fine;
+    from_fine = ap (λ (gs : List Granularity). slice_get gs is.runs.from) same ∙ is.runs.from_fine;
+    to_coarse = ap (λ (gs : List Granularity). slice_get gs (from + 1)) same ∙ is.runs.to_coarse;
+    running = is.runs.running;
+    numbers = is.runs.numbers;
+    row = is.runs.row;
+    stands = is.runs.stands;
+    name = is.runs.name;
+    parts = is.runs.parts;
+    last = is.runs.last;
+    pending = is.runs.pending;
+    ahead = record {
+      rise = is.runs.ahead.rise;
+      filed = λ g here. is.runs.ahead.filed g (ap (λ (gs : List Granularity). slice_get gs (from + 1)) (sym same) ∙ here);
+      safe = λ told.
+          let safe = then.runs.ahead.safe told in
+          record {
+            long = λ k d lt. All-contains (λ (y : Filed). HasFile new.stores.files (file_of ((from + 1) + 1, held.rows) y.entry) (λ b. y.entry.len ≤ length b)) (files ++ x ∷ []) (get_or files k d) safe.long (Contains-append_left files (x ∷ []) (get_or files k d) (Contains-get_or files k d lt));
+            unopened = λ k d lt. All-contains (λ (y : Filed). new.stores.opened (file_of ((from + 1) + 1, held.rows) y.entry) ≤ y.entry.len) (files ++ x ∷ []) (get_or files k d) safe.unopened (Contains-append_left files (x ∷ []) (get_or files k d) (Contains-get_or files k d lt));
+            left = λ image left stands k d lt. All-contains (IsIn ((from + 1) + 1, held.rows) image) (files ++ x ∷ []) (get_or files k d) (safe.left image left stands) (Contains-append_left files (x ∷ []) (get_or files k d) (Contains-get_or files k d lt));
+          };
+      longer = is.runs.ahead.longer;
+      longer_retired = λ r y r_in y_in named none. is.runs.ahead.longer_retired r y (subst (λ (l : List Retired). Contains l r) limbo r_in) y_in named none;
+    };
+  };
+  stage = is.stage;
+  left = is.left;
+  heads = is.heads;
+  lengths = is.lengths;
+  last = is.last;
+  told = is.told;
+}
+
+-- and leaves them without it where there is none
+pub beside_again : (tells : Bool) (old new : SeenAll) (from : ℕ) (move : MoveState) (files : List Filed) (held : Stores) → CopiesBeside from tells old move files held → CopiesFurther from tells new move files held → CopiesBeside from tells new move files held
+beside_again tells old new from move files held is then = record { runs = then.runs; stage = then.stage; left = then.left; heads = then.heads; lengths = then.lengths; last = then.last; passed = is.passed; told = then.told }
+
+pub without_last : (tells : Bool) (old new : SeenAll) (from : ℕ) (move : MoveState) (files : List Filed) (x : Filed) (m : MoveState) (held : Stores) → granularities new.stores.manifests ≡ granularities old.stores.manifests → new.limbo ≡ old.limbo → CopiesBeside from tells old move files held → CopiesFurther from tells new m (files ++ x ∷ []) held → CopiesBeside from tells new move files held
+without_last tells old new from move files x m held same limbo is then = beside_again tells old new from move files held is (further_without tells old new from move files x m held same limbo (further from tells old move files held is) then)
+
+-- WHAT THE ANSWER SAYS
+
+module _ (tells : Bool) (all new : SeenAll) (limbo : new.limbo ≡ all.limbo) (from : ℕ) (move : MoveState) (files : List Filed) (held : Stores) (has : Has tells all.stores held) (is : CopiesFurther from tells all move files held) (stand : LimboStands all.stores all.limbo) (retired : List Filed) (whole : AreWhole (from + 1) tells all.stores all.limbo held.stands retired)
+    (q : Filed) (q_next : IsNextPart from move held q) (part : Entry) (at_hand : slice_get move.parts move.at ≡ Some part) (most : ℕ) (nm : MoveState) (skipped : (stands : IsTrue held.stands) → past (B tells all from move files held has is stand retired whole stands q q_next part at_hand) move.series (left_of from move move.at files held) ≡ []) where
+  abbrev b : IsTrue held.stands → List Filed
+  b stands = B tells all from move files held has is stand retired whole stands q q_next part at_hand
+
+  -- limbo is as it was
+  limbo_on : (more : List Filed) (copied rest : List Sample) (n : CopiesNext most from all.limbo retired move files more held copied rest) → (next : CopiesNext most from new.limbo retired move files more held copied rest) × (next.back ≡ n.back)
+  limbo_on more copied rest n = (record { back = n.back; in_limbo = subst (λ (l : List Retired). AreBack (from + 1) l retired (put_all (list_at (from + 1) held) files) n.back) (sym limbo) n.in_limbo; left = n.left; ahead = n.ahead; few = n.few }, refl)
+
+  pub part_none : SaysBehind all.limbo (from + 2) move.series (last_of move.pending move.listed) q.entry.part.start None → (end : CopyEnd) → SaysLines most from tells new move nm files held end → SaysPart most from tells new move.at retired move nm files held end
+  part_none none ends.More (more, beside, said) = (
+    more,
+    beside,
+    λ stands.
+        let s = said stands in
+        let next = limbo_on more s.0 (past (b stands) move.series s.1) (next_none tells all from move files held has is stand retired whole stands q q_next part at_hand most nm (skipped stands) none more s.0 s.1 s.2) in
+        (s.0, past (b stands) move.series s.1, next.0, s.2.some, ap (past (b stands) move.series) (sym s.2.still), s.3, s.4, s.2.further),
+  )
+  part_none none ends.Copied (more, copied_all, said) = (
+    more,
+    copied_all,
+    λ stands.
+        let s = said stands in
+        (s.0, (limbo_on more s.0 [] (next_none tells all from move files held has is stand retired whole stands q q_next part at_hand most nm (skipped stands) none more s.0 [] s.1)).0),
+  )
+  part_none none (ends.Damaged name at) damaged = damaged
+
+  module _ (r : Retired) (within : Contains all.limbo r) (behind : IsBehind (from + 2) move.series (last_of move.pending move.listed) q.entry.part.start r) where
+    abbrev y : Filed
+    y = f tells all from move files held has is.runs is.last stand retired whole q.entry.part.start r within behind
+
+    pub part_some : (end : CopyEnd) → SaysLines most from tells new (reviving move (Some y.entry)) nm (files ++ y ∷ []) held end → SaysPart most from tells new move.at retired move nm files held end
+    part_some ends.More (more, beside, said) = (
+      more,
+      beside,
+      λ stands.
+          let s = said stands in
+          let next = limbo_on more s.0 (past (b stands) move.series s.1) (next_some tells all from move files held has is stand retired whole stands q q_next part at_hand most nm (skipped stands) r within behind more s.0 s.1 s.2) in
+          (s.0, past (b stands) move.series s.1, next.0, s.2.some, ap (past (b stands) move.series) (sym s.2.still), s.3, s.4, let low = n_low tells all from move files held has is stand retired whole stands q q_next part at_hand most nm (skipped stands) r within behind in let high = s.2.further in omega (arith, low, high)),
+    )
+    part_some ends.Copied (more, copied_all, said) = (
+      more,
+      copied_all,
+      λ stands.
+          let s = said stands in
+          (s.0, (limbo_on more s.0 [] (next_some tells all from move files held has is stand retired whole stands q q_next part at_hand most nm (skipped stands) r within behind more s.0 [] s.1)).0),
+    )
+    part_some (ends.Damaged name at) damaged = record { file = damaged.file; part = damaged.part; named = damaged.named; within = damaged.within; never = damaged.never }
+
+-- BY WHAT WAS FOUND
+
+module _ (tells : Bool) (all : SeenAll) (from : ℕ) (move : MoveState) (files : List Filed) (held : Stores) (has : Has tells all.stores held) (is : CopiesFurther from tells all move files held) (stand : LimboStands all.stores all.limbo) (retired : List Filed) (whole : AreWhole (from + 1) tells all.stores all.limbo held.stands retired)
+    (q : Filed) (q_next : IsNextPart from move held q) (part : Entry) (at_hand : slice_get move.parts move.at ≡ Some part) where
+  -- the files that are to be listed, with the one in limbo
+  abbrev pub turn_files : (revived : Option Entry) → SaysBehind all.limbo (from + 2) move.series (last_of move.pending move.listed) q.entry.part.start revived → List Filed
+  turn_files None says = files
+  turn_files (Some e) says = files ++ x tells all from move files held has is stand retired whole q q_next part at_hand says.0 says.1 says.2 ∷ []
+
+  pub turn_further : (revived : Option Entry) (says : SaysBehind all.limbo (from + 2) move.series (last_of move.pending move.listed) q.entry.part.start revived) → CopiesFurther from tells all (reviving move revived) (turn_files revived says) held
+  turn_further None says = is
+  turn_further (Some e) says = subst (λ (y : Entry). CopiesFurther from tells all (reviving move (Some y)) (turn_files (Some e) says) held) (x_entry tells all from move files held has is stand retired whole q q_next part at_hand says.0 says.1 says.2 ∙ says.3)
+      (further_with tells all from move files held has is stand retired whole q q_next part at_hand says.0 says.1 says.2)
+
+  -- something of the part is left
+  pub turn_later : (revived : Option Entry) → SaysBehind all.limbo (from + 2) move.series (last_of move.pending move.listed) q.entry.part.start revived → IsUncovered all.limbo (from + 2) move.series (last_of move.pending move.listed) q.entry → (IsTrue held.stands → since (end_after (last_of move.pending move.listed)) q.samples ≢ []) → IsTrue held.stands → HasLater from (reviving move revived) held
+  turn_later revived says uncovered first stands p p_next = go revived says
+    where
+      one : q ≡ p
+      one = let both : ◌≡◌ {A = Option Filed} (Some q) (Some p) = sym q_next.here ∙ p_next.here in same_Some q p both
+
+      go : (o : Option Entry) → SaysBehind all.limbo (from + 2) move.series (last_of move.pending move.listed) q.entry.part.start o → since (end_after (last_of (pending_with move.pending o) move.listed)) p.samples ≢ []
+      go None says = subst (λ (y : Filed). since (end_after (last_of move.pending move.listed)) y.samples ≢ []) one (first stands)
+      go (Some e) says =
+          let later = later_some tells all from move files held has is stand retired whole q q_next part at_hand uncovered stands says.0 says.1 says.2 in
+          let ends : says.0.entry.last + 1 ≡ end_after (last_of (move.pending ++ e ∷ []) move.listed) = ap (λ (y : Entry). y.last + 1) says.3 ∙ sym (ap end_after (last_pushed move.pending e move.listed)) in
+          subst (λ (k : ℕ). since k p.samples ≢ []) ends (subst (λ (y : Filed). since (says.0.entry.last + 1) y.samples ≢ []) one later)
+
+  -- what the call leaves
+  pub turn_beside : (new : SeenAll) (revived : Option Entry) (says : SaysBehind all.limbo (from + 2) move.series (last_of move.pending move.listed) q.entry.part.start revived) → granularities new.stores.manifests ≡ granularities all.stores.manifests → new.limbo ≡ all.limbo → CopiesBeside from tells all move files held → CopiesFurther from tells new (reviving move revived) (turn_files revived says) held → CopiesBeside from tells new move files held
+  turn_beside new None says same limbo beside then = beside_again tells all new from move files held beside then
+  turn_beside new (Some e) says same limbo beside then = without_last tells all new from move files (x tells all from move files held has is stand retired whole q q_next part at_hand says.0 says.1 says.2) (reviving move (Some e)) held same limbo beside then
+
+  pub turn_back : (new : SeenAll) (revived : Option Entry) (says : SaysBehind all.limbo (from + 2) move.series (last_of move.pending move.listed) q.entry.part.start revived) → granularities new.stores.manifests ≡ granularities all.stores.manifests → new.limbo ≡ all.limbo → CopiesFurther from tells new (reviving move revived) (turn_files revived says) held → CopiesFurther from tells new move files held
+  turn_back new None says same limbo then = then
+  turn_back new (Some e) says same limbo then = further_without tells all new from move files (x tells all from move files held has is stand retired whole q q_next part at_hand says.0 says.1 says.2) (reviving move (Some e)) held same limbo is then
+
+  -- and what it says
+  module _ (new : SeenAll) (limbo : new.limbo ≡ all.limbo) (most : ℕ) (nm : MoveState) (skipped : (stands : IsTrue held.stands) → past (B tells all from move files held has is stand retired whole stands q q_next part at_hand) move.series (left_of from move move.at files held) ≡ []) where
+    pub turn_part : (revived : Option Entry) (says : SaysBehind all.limbo (from + 2) move.series (last_of move.pending move.listed) q.entry.part.start revived) (end : CopyEnd) → SaysLines most from tells new (reviving move revived) nm (turn_files revived says) held end → SaysPart most from tells new move.at retired move nm files held end
+    turn_part None says end said = part_none tells all new limbo from move files held has is stand retired whole q q_next part at_hand most nm skipped says end said
+    turn_part (Some e) says end said =
+        part_some tells all new limbo from move files held has is stand retired whole q q_next part at_hand most nm skipped says.0 says.1 says.2 end
+        (subst (λ (y : Entry). SaysLines most from tells new (reviving move (Some y)) nm (turn_files (Some e) says) held end) (sym (x_entry tells all from move files held has is stand retired whole q q_next part at_hand says.0 says.1 says.2 ∙ says.3)) said)
+
+-- FOR A FIRST PART
+
+module _ (tells : Bool) (all : SeenAll) (from : ℕ) (move : MoveState) (files : List Filed) (held : Stores) (has : Has tells all.stores held) (is : CopiesFurther from tells all move files held) (q : Filed) (q_next : IsNextPart from move held q) (part : Entry) (at_hand : slice_get move.parts move.at ≡ Some part) where
+  -- a line that is left is a sample that is
+  pub line_later : (name : Name) (at len : ℕ) → FindsLine from move held name at len → IsTrue held.stands → since (end_after (last_of move.pending move.listed)) q.samples ≢ []
+  line_later name at len line stands none =
+      let both : ◌≡◌ {A = Option Filed} (Some line.file) (Some q) = sym line.next.here ∙ q_next.here in
+      let one : line.file ≡ q = same_Some line.file q both in
+      let filed = q_filed tells all from move files held has is line.file line.next part at_hand stands in
+      let split = line.splits stands in
+      let left = part_left is.runs.fine held.rows line.file (end_after (last_of move.pending move.listed)) at filed split (let low = line.low in let long = line.long in omega (arith, low, long)) in
+      let all_since : since (end_after (last_of move.pending move.listed)) split.back ≡ split.back = since_all (end_after (last_of move.pending move.listed)) (end_after (last_of move.pending move.listed)) split.back left.rises (omega arith) in
+      let none_of : since (end_after (last_of move.pending move.listed)) line.file.samples ≡ [] = ap (λ (y : Filed). since (end_after (last_of move.pending move.listed)) y.samples) one ∙ none in
+      left.some (sym all_since ∙ rest_none _ _ (sym (since-append (end_after (last_of move.pending move.listed)) split.front split.back) ∙ (ap (since (end_after (last_of move.pending move.listed))) (sym split.split) ∙ none_of)))
+    where
+      rest_none : (xs ys : List Sample) → xs ++ ys ≡ [] → ys ≡ []
+      rest_none [] ys is = is
+      rest_none (s ∷ xs) ys is = absurd (cc (is))
+
+module _ (tells : Bool) (all : SeenAll) (from : ℕ) (move : MoveState) (files : List Filed) (held : Stores) (has : Has tells all.stores held) (is : CopiesFurther from tells all move files held) (stand : LimboStands all.stores all.limbo) (retired : List Filed) (whole : AreWhole (from + 1) tells all.stores all.limbo held.stands retired)
+    (q : Filed) (q_next : IsNextPart from move held q) (part : Entry) (at_hand : slice_get move.parts move.at ≡ Some part) (stands : IsTrue held.stands) where
+  pub passed_none : left_of from move move.at files held ≡ [] → past (B tells all from move files held has is stand retired whole stands q q_next part at_hand) move.series (left_of from move move.at files held) ≡ []
+  passed_none none = ap (past (B tells all from move files held has is stand retired whole stands q q_next part at_hand) move.series) none
+
+-- A CALL OF STORES OF WHICH MORE IS KNOWN
+
+pub changes_by : {A : Type 0} (tells : Bool) (Is : Stores → Type 0) (Then : List Filed → Stores → Type 0) (old new : Seen) (end : End A ⊥) → ((held : Stores) → Has tells old held → Is held → (fs : List Filed) × Then fs held) → ((fs : List Filed) → ChangesGiven (Then fs) tells (staying {A = A}) old new end) → ChangesGiven Is tells (staying {A = A}) old new end
+changes_by {A} tells Is Then old new end to change = record {
+  ends = λ held has is. let t = to held has is in (change t.0).ends held has t.1;
+  any_moment = λ told held has is. let t = to held has is in (change t.0).any_moment told held has t.1;
+  costs = (change []).costs;
+}
+
+-- WHERE FILES WERE READ ALONE
+
+-- limbo of a store is as whole as it was
+pub whole_read : {A E : Type 0} (i : ℕ) (tells : Bool) (old new : SeenAll) (end : End A E) (stands : Bool) (files : List Filed) → OnlyLooks tells old new end → AreWhole i tells old.stores old.limbo stands files → AreWhole i tells new.stores new.limbo stands files
+whole_read {A} {E} i tells old new end stands files looks whole = subst (λ (l : List Retired). AreWhole i tells new.stores l stands files) (sym looks.limbo) (record {
+  each = λ k r lt number. elim (whole.each k r lt number) [
+    | inl h ↦ inl (held_kept old.stores new.stores looks.catalogue looks.manifests (get_or old.limbo k r).name 0 h)
+    | inr there ↦ inr there
+  ];
+  from = whole.from;
+  rise = whole.rise;
+  filed = λ m here. subst (λ (c : CatalogueState). let T : Held = record { store = i + 1; rows = c.rows; files = files; stands = stands } in AreFiled m.granularity T) (sym looks.catalogue) (whole.filed m (ap (λ (l : List ManifestState). slice_get l i) (sym looks.manifests) ∙ here));
+  safe = λ told. subst (λ (c : CatalogueState). let T : Held = record { store = i + 1; rows = c.rows; files = files; stands = stands } in AreSafe T new.stores.files new.stores.opened new.stores.past) (sym looks.catalogue)
+      (safe_read (store_with i old.stores stands files) old.stores.files new.stores.files old.stores.opened new.stores.opened old.stores.past new.stores.past (whole.safe told) (looks.reads.any_moment told) (looks.reads.files told)
+      (λ k x lt. let was = (whole.safe told).unopened k x lt in let same = ap (λ (o : Name → ℕ). o (file_of (i + 1, old.stores.catalogue.rows) (get_or files k x).entry)) (looks.opened told) in omega (arith, was, same)));
+})

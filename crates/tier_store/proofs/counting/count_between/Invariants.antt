@@ -1,0 +1,17 @@
+use Rattle.std.proofs.Common.{◌≤◌, ◌-◌, ◌+◌, List, IsTrue}
+use Rattle.series_model.specs.declared.sample.Sample.{Sample}
+use Rattle.tier_store.specs.Counting.{HasLines, ReadsDisk}
+use Rattle.tier_store.proofs.CountingPieces.{IsBetween}
+use Rattle.tier_store.proofs.counting.count_between.Given as goal
+
+abbrev pub invariant-loop-at : goal.invariant-loop-at
+invariant-loop-at g l = record {
+  some : 1 ≤ l.want;
+  few : l.count ≤ l.at;
+  between : IsTrue g.D.Disk.tells → (samples : List Sample) → HasLines (g.D.Disk.files l.fn.disk) l.name l.from l.end l.ty l.year.year samples → IsBetween (g.D.Disk.files l.fn.disk) l.name l.from l.at l.end l.ty l.year.year (l.last + 1) samples l.count;
+  reads : IsTrue g.D.Disk.tells → ReadsDisk (g.D.Disk.files l.fn.disk) (g.D.Disk.files l.disk) (g.D.Disk.opened l.fn.disk) (g.D.Disk.opened l.disk) (g.D.Disk.past l.fn.disk) (g.D.Disk.past l.disk);
+  faults : g.D.Disk.faults l.fn.disk ≤ g.D.Disk.faults l.disk;
+}
+
+abbrev pub decreases-loop-at : goal.decreases-loop-at
+decreases-loop-at g l = (l.end - l.at) + (l.end - l.want)

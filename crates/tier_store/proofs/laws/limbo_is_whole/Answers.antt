@@ -1,0 +1,7 @@
+use Rattle.tier_store.specs.Seen.{seen_on}
+use Rattle.tier_store.proofs.RevivalShown.{settled_whole}
+use Rattle.tier_store.proofs.laws.limbo_is_whole.Goals as goal
+
+pub returns : goal.returns
+returns g c disk after catalogue later ms ns limbo i stands files before next low was settled keeps same_g same opened passes =
+    settled_whole g.D.Disk.tells (seen_on g.D.Disk.files g.D.Disk.opened g.D.Disk.past g.D.Disk.faults catalogue ms disk) (seen_on g.D.Disk.files g.D.Disk.opened g.D.Disk.past g.D.Disk.faults later ns after) limbo before next was settled keeps same_g same opened passes i stands files low

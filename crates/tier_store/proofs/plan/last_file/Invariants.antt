@@ -1,6 +1,0 @@
-use Rattle.std.proofs.Common.{◌≡◌, take}
-use Rattle.tier_store.specs.Plan.{last_with}
-use Rattle.tier_store.proofs.plan.last_file.Given as goal
-
-abbrev pub invariant-loop-entry : goal.invariant-loop-entry
-invariant-loop-entry l = l.last ≡ last_with l.series l.initial.last (take l.entry-index l.limbo)

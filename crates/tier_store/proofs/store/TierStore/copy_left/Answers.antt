@@ -1,0 +1,146 @@
+use Rattle.std.proofs.Common.{◌≡◌, ℕ, ◌<◌, ◌+◌, length, ◌∙◌, ap, subst, arith}
+use Rattle.std.specs.Prelude.{IfOk, OnErr, Result, nat_eq}
+use Rattle.disk_model.specs.declared.disk.DiskErr.{DiskErr}
+use Rattle.etl_mover.specs.Move.{of_series}
+use Rattle.durable_write.specs.Ends.{end_of_disk}
+use Rattle.tier_store.specs.Copying.{CopiesAmong, CopiesBeside, SaysPart}
+use Rattle.tier_store.specs.Given.{ChangesGiven}
+use Rattle.tier_store.specs.Limbo.{staying}
+use Rattle.tier_store.specs.Pinned.{beside}
+use Rattle.tier_store.specs.Reviving.{AreCovered}
+use Rattle.tier_store.specs.Seen.{seen_on}
+use Rattle.tier_store.specs.declared.copying.CopyEnd.{CopyEnd}
+use Rattle.tier_store.specs.declared.copying.CopyEnd.TheVariants as ends
+use Rattle.tier_store.proofs.CopyParts.{further, source}
+use Rattle.tier_store.proofs.CopyUncovered.{covers_all, ends_so, given_done, kept_long, listed_all, moves_ended, moves_twice, none_changes, test_false, test_true}
+use Rattle.tier_store.proofs.store.TierStore.copy_left.Goals as goal
+
+pub first_uncovered-left-requires-clause-listed : goal.first_uncovered-left-requires-clause-listed
+first_uncovered-left-requires-clause-listed g c m here =
+    let runs = c.requires.runs in
+    listed_all g.D.Disk.tells _ c.args.place c.args.moving.now runs.0 runs.2 runs.3 (further c.args.place g.D.Disk.tells _ c.args.moving.now runs.0 runs.2 runs.4.0) m here
+
+pub first_uncovered-behind-requires-clause-listed : goal.first_uncovered-behind-requires-clause-listed
+first_uncovered-behind-requires-clause-listed g c m here =
+    let runs = c.requires.runs in
+    listed_all g.D.Disk.tells _ c.args.place c.args.moving.now runs.0 runs.2 runs.3 (further c.args.place g.D.Disk.tells _ c.args.moving.now runs.0 runs.2 runs.4.0) m here
+
+pub overflow_add-left : goal.overflow_add-left
+overflow_add-left g c =
+    let runs = c.requires.runs in
+    let own = source g.D.Disk.tells _ c.args.place c.args.moving.now runs.0 runs.2 runs.3 (further c.args.place g.D.Disk.tells _ c.args.moving.now runs.0 runs.2 runs.4.0) in
+    let high = (c.first_uncovered-left.ensures own.0 own.1).high in
+    let few = runs.4.0.runs.running.few in
+    let long = kept_long runs.4.0.runs.fine c.args.moving.now runs.4.0.runs.running in
+    omega (arith, high, few, long)
+
+pub first_uncovered-behind-requires-clause-low : goal.first_uncovered-behind-requires-clause-low
+first_uncovered-behind-requires-clause-low g c =
+    let runs = c.requires.runs in
+    let own = source g.D.Disk.tells _ c.args.place c.args.moving.now runs.0 runs.2 runs.3 (further c.args.place g.D.Disk.tells _ c.args.moving.now runs.0 runs.2 runs.4.0) in
+    let high = (c.first_uncovered-left.ensures own.0 own.1).high in
+    let kept = ap length c.kept-parts.ensures in
+    omega (arith, high, kept, c.if-left-parts.false)
+
+pub copy_uncovered-requires-clause-covered : goal.copy_uncovered-requires-clause-covered
+copy_uncovered-requires-clause-covered g c m here =
+    let self = c.args.self.now in
+    let move = c.args.moving.now in
+    subst (λ (j : ℕ). AreCovered self.limbo.items (c.args.place + 2) move (of_series move.series m.entries) j c.first_uncovered-left.result) c.copied_parts-first.ensures (c.first_uncovered-left.ensures m here)
+
+pub copy_uncovered-requires-clause-high : goal.copy_uncovered-requires-clause-high
+copy_uncovered-requires-clause-high g c =
+    let runs = c.requires.runs in
+    let own = source g.D.Disk.tells _ c.args.place c.args.moving.now runs.0 runs.2 runs.3 (further c.args.place g.D.Disk.tells _ c.args.moving.now runs.0 runs.2 runs.4.0) in
+    let high = (c.first_uncovered-left.ensures own.0 own.1).high in
+    let kept = ap length c.kept-parts.ensures in
+    let long = kept_long runs.4.0.runs.fine c.args.moving.now runs.4.0.runs.running in
+    omega (arith, high, kept, long, c.if-left-parts.false)
+
+pub end_of-requires : goal.end_of-requires
+end_of-requires g c = record {
+  running = λ more.
+      let disk = g.D.Disk in
+      let runs = c.requires.runs in
+      let after = c.copy_uncovered.new.self in
+      let new = beside (seen_on disk.files disk.opened disk.past disk.faults after.catalogue after.manifests.items after.disk) after.limbo.items in
+      let says = subst (λ (r : Result CopyEnd DiskErr). IfOk r (SaysPart 1_048_576 c.args.place disk.tells new c.first_uncovered-left.result runs.1 c.args.moving.now c.copy_uncovered.new.moving runs.0 runs.2)) c.in-Ok.is (c.copy_uncovered.ensures.copies runs.0 runs.1 runs.2 runs.3 runs.4 runs.5).1 in
+      let at_more = subst (SaysPart 1_048_576 c.args.place disk.tells new c.first_uncovered-left.result runs.1 c.args.moving.now c.copy_uncovered.new.moving runs.0 runs.2) more says in
+      (at_more.1.runs.fine, at_more.1.runs.running);
+}
+
+pub returns-then-left-parts-clause-copies : goal.returns-then-left-parts-clause-copies
+returns-then-left-parts-clause-copies g c files retired held has among line =
+    let disk = g.D.Disk in
+    let self = c.args.self.now in
+    let move = c.args.moving.now in
+    let all = beside (seen_on disk.files disk.opened disk.past disk.faults self.catalogue self.manifests.items self.disk) self.limbo.items in
+    let own = source disk.tells all c.args.place move files held has (further c.args.place disk.tells all move files held among.0) in
+    let k = c.first_uncovered-left.result in
+    let covered = subst (λ (j : ℕ). AreCovered self.limbo.items (c.args.place + 2) move (of_series move.series own.0.entries) j k) c.copied_parts-first.ensures (c.first_uncovered-left.ensures own.0 own.1) in
+    let kept : length c.kept-parts.result.now ≡ length move.parts = ap length c.kept-parts.ensures ∙ kept_long among.0.runs.fine move among.0.runs.running in
+    (has, covers_all disk.tells all c.args.place move files held has among.0 c.requires.stands retired among.1 own.0 own.1 k covered (omega (arith, kept, c.if-left-parts.true)) c.pass_rest.new.moving c.pass_rest.ensures.passes (c.pass_rest.ensures.running among.0.runs.fine among.0.runs.running) 1_048_576, tt)
+
+pub returns-then-left-parts-clause-changes : goal.returns-then-left-parts-clause-changes
+returns-then-left-parts-clause-changes g c files retired =
+    let disk = g.D.Disk in
+    let self = c.args.self.now in
+    let all = beside (seen_on disk.files disk.opened disk.past disk.faults self.catalogue self.manifests.items self.disk) self.limbo.items in
+    none_changes disk.tells (CopiesAmong c.args.place disk.tells all retired c.args.moving.now files) all ends.Copied
+
+pub returns-in-Ok-clause-copies : goal.returns-in-Ok-clause-copies
+returns-in-Ok-clause-copies g c files retired held has among line =
+    let disk = g.D.Disk in
+    let self = c.args.self.now in
+    let move = c.args.moving.now in
+    let mid = c.copy_uncovered.new.moving in
+    let after = c.copy_uncovered.new.self in
+    let all = beside (seen_on disk.files disk.opened disk.past disk.faults self.catalogue self.manifests.items self.disk) self.limbo.items in
+    let new = beside (seen_on disk.files disk.opened disk.past disk.faults after.catalogue after.manifests.items after.disk) after.limbo.items in
+    let own = source disk.tells all c.args.place move files held has (further c.args.place disk.tells all move files held among.0) in
+    let k = c.first_uncovered-left.result in
+    let b = c.first_uncovered-behind.result in
+    let covered = subst (λ (j : ℕ). AreCovered self.limbo.items (c.args.place + 2) move (of_series move.series own.0.entries) j k) c.copied_parts-first.ensures (c.first_uncovered-left.ensures own.0 own.1) in
+    let long = kept_long among.0.runs.fine move among.0.runs.running in
+    let kept : length c.kept-parts.result.now ≡ length move.parts = ap length c.kept-parts.ensures ∙ long in
+    let high = covered.high in
+    let low : k < length move.parts = omega (arith, high, kept, long, c.if-left-parts.false) in
+    let says_it = c.copy_uncovered.ensures.copies files retired held has among line in
+    let says = subst (λ (r : Result CopyEnd DiskErr). IfOk r (SaysPart 1_048_576 c.args.place disk.tells new k retired move mid files held)) c.in-Ok.is says_it.1 in (
+      says_it.0,
+      ends_so disk.tells all c.args.place move files held has among.0 c.requires.stands retired among.1 own.0 own.1 k covered low b (c.first_uncovered-behind.ensures own.0 own.1) (nat_eq b (length c.kept-parts.result.now)) (test_true b (length c.kept-parts.result.now) (length move.parts) kept) (test_false b (length c.kept-parts.result.now) (length move.parts) kept)
+          new 1_048_576 mid c.end_of.new.moving c.copy_uncovered.ensures.moves_on c.copy_uncovered.ensures.one c.end_of.result c.in-Ok.end says c.end_of.ensures.whole c.end_of.ensures.more c.end_of.ensures.other c.end_of.ensures.running,
+      tt,
+    )
+
+pub returns-in-Ok-clause-changes : goal.returns-in-Ok-clause-changes
+returns-in-Ok-clause-changes g c files retired =
+    let disk = g.D.Disk in
+    let self = c.args.self.now in
+    let after = c.copy_uncovered.new.self in
+    let all = beside (seen_on disk.files disk.opened disk.past disk.faults self.catalogue self.manifests.items self.disk) self.limbo.items in
+    let new = seen_on disk.files disk.opened disk.past disk.faults after.catalogue after.manifests.items after.disk in
+    given_done disk.tells (CopiesAmong c.args.place disk.tells all retired c.args.moving.now files) all.stores new c.in-Ok.end c.end_of.result
+    (subst (λ (r : Result CopyEnd DiskErr). ChangesGiven (CopiesAmong c.args.place disk.tells all retired c.args.moving.now files) disk.tells (staying {A = CopyEnd}) all.stores new (end_of_disk r)) c.in-Ok.is (c.copy_uncovered.ensures.changes files retired))
+
+pub returns-in-Ok-clause-moves_on : goal.returns-in-Ok-clause-moves_on
+returns-in-Ok-clause-moves_on g c =
+    moves_twice c.args.moving.now c.copy_uncovered.new.moving c.end_of.new.moving c.copy_uncovered.ensures.moves_on
+    (moves_ended c.first_uncovered-left.result (nat_eq c.first_uncovered-behind.result (length c.kept-parts.result.now)) c.copy_uncovered.new.moving c.end_of.new.moving c.end_of.result c.in-Ok.end c.end_of.ensures.whole c.end_of.ensures.more c.end_of.ensures.other)
+
+pub returns-in-Err-clause-copies : goal.returns-in-Err-clause-copies
+returns-in-Err-clause-copies g c files retired held has among line =
+    let disk = g.D.Disk in
+    let after = c.copy_uncovered.new.self in
+    let new = beside (seen_on disk.files disk.opened disk.past disk.faults after.catalogue after.manifests.items after.disk) after.limbo.items in
+    let says_it = c.copy_uncovered.ensures.copies files retired held has among line in
+    (says_it.0, tt, subst (λ (r : Result CopyEnd DiskErr). OnErr r (CopiesBeside c.args.place disk.tells new c.copy_uncovered.new.moving files held)) c.in-Err.is says_it.2)
+
+pub returns-in-Err-clause-changes : goal.returns-in-Err-clause-changes
+returns-in-Err-clause-changes g c files retired =
+    let disk = g.D.Disk in
+    let self = c.args.self.now in
+    let after = c.copy_uncovered.new.self in
+    let all = beside (seen_on disk.files disk.opened disk.past disk.faults self.catalogue self.manifests.items self.disk) self.limbo.items in
+    let new = seen_on disk.files disk.opened disk.past disk.faults after.catalogue after.manifests.items after.disk in
+    subst (λ (r : Result CopyEnd DiskErr). ChangesGiven (CopiesAmong c.args.place disk.tells all retired c.args.moving.now files) disk.tells (staying {A = CopyEnd}) all.stores new (end_of_disk r)) c.in-Err.is (c.copy_uncovered.ensures.changes files retired)

@@ -1,0 +1,51 @@
+use Rattle.std.proofs.Common.{◌≡◌, ◌<◌, ◌++◌, List, Some, length, refl, sym, ◌∙◌, ap, subst, arith}
+use Rattle.std.specs.Prelude.{slice_get}
+use Rattle.std.proofs.lemmas.List.{length-append, length-map}
+use Rattle.std.proofs.lemmas.Option.{slice_get-get_or}
+use Rattle.act_model.specs.Details.{first_time, last_time}
+use Rattle.pv_catalog.specs.Catalogue.{CatalogueState}
+use Rattle.pv_catalog.specs.declared.row.Row.{Row}
+use Rattle.series_model.specs.declared.sample.Sample.{Sample}
+use Rattle.store_manifest.specs.Manifest.{ManifestState}
+use Rattle.durable_write.specs.Held.{entry_of}
+use Rattle.durable_write.specs.Plan.{of_row}
+use Rattle.tier_store.specs.Pinning.{entries_of}
+use Rattle.tier_store.specs.Seen.{seen_on}
+use Rattle.tier_store.specs.Stores.{samples_in}
+use Rattle.tier_store.proofs.RowTallies.{ends_last, own_files}
+use Rattle.tier_store.proofs.store.TierStore.describe.Goals as goal
+
+pub returns-clause-described : goal.returns-clause-described
+returns-clause-described g c held has =
+    let self = c.args.self.now in
+    let disk = g.D.Disk in
+    let row = c.args.row in
+    let at = seen_on disk.files disk.opened disk.past disk.faults self.catalogue self.manifests.items self.disk in
+    let same = c.in_ok-durable.ensures.same in
+    let rows : c.rows.result.now ≡ self.catalogue.rows = c.rows.ensures.value ∙ ap (λ (s : CatalogueState). s.rows) same.0 in
+    let low : row < length c.rows.result.now = subst (λ (rs : List Row). row < length rs) (sym rows) c.requires.row in
+    let found = c.index-rows-row.result in
+    let here : slice_get c.rows.result.now row ≡ Some found = slice_get-get_or c.rows.result.now row found low ∙ ap (λ (r : Row). Some r) (sym c.index-rows-row.is) in
+    let lists = ap (λ m. m.items) same.1 in
+    let tail : c.items-tail.result.now ≡ c.args.tail.now = c.items-tail.ensures in
+    let t = c.in_ok-durable.durable in
+    record {
+      row = found;
+      here = ap (λ (rs : List Row). slice_get rs row) (sym (rows ∙ has.known.rows)) ∙ here;
+      known = (c.in_ok-clone.ensures.cases, c.in_ok-copied.ensures, refl);
+      short = ap length (c.own_entries.ensures ∙ (ap (λ (ms : List ManifestState). entries_of row (slice_get ms 0)) (c.deref.ensures.value ∙ lists) ∙ own_files disk.tells at held has 0 row (omega arith))) ∙ length-map (of_row row held.short) entry_of;
+      medium = ap length (c.own_entries-2.ensures ∙ (ap (λ (ms : List ManifestState). entries_of row (slice_get ms 1)) (c.deref-2.ensures.value ∙ lists) ∙ own_files disk.tells at held has 1 row (omega arith))) ∙ length-map (of_row row held.medium) entry_of;
+      long = ap length (c.own_entries-3.ensures ∙ (ap (λ (ms : List ManifestState). entries_of row (slice_get ms 2)) (c.deref-3.ensures.value ∙ lists) ∙ own_files disk.tells at held has 2 row (omega arith))) ∙ length-map (of_row row held.long) entry_of;
+      counted = λ told stands.
+          let all = samples_in row held in
+          let tally = c.in_ok-durable.ensures.tally told held has stands in
+          let count = tally.count in
+          let sum = c.in-Some.ensures.1 in
+          let long = ap length tail in
+          record {
+            durable_is = count;
+            accepted_is = omega (arith, count, sum, long, length-append all c.args.tail.now);
+            first = c.first_of.ensures all tally.first ∙ ap (λ (l : List Sample). first_time (all ++ l)) tail;
+            last = c.last_of.ensures all (ends_last t.last all tally.last) ∙ ap (λ (l : List Sample). last_time (all ++ l)) tail;
+          };
+    }

@@ -1,0 +1,117 @@
+-- How a row is pinned for a query: which of its files, in which order, and that they answer the query.
+use Rattle.std.specs.FinMap.{FinMap, get, insert}
+use Rattle.std.specs.Ordering.{nat_cmp}
+use Rattle.std.specs.Prelude.{◌≡◌, ◌<◌, ◌^◌, ◌+◌, ◌++◌, ℕ, List, [], length, map, filter, nat_eq, nat_lt, Bool, Option, None, Some, IsSome, IsTrue, slice_get}
+use Rattle.act_model.specs.Limbo.{FileState}
+use Rattle.act_model.specs.Pin.{over_pieces}
+use Rattle.act_model.specs.Rows.{Store, Short, Medium, Long}
+use Rattle.act_model.specs.Rule.{index_of}
+use Rattle.act_model.specs.declared.acts.Answer.{Answer}
+use Rattle.act_model.specs.declared.acts.Answer.TheVariants.{Pinned, NoSuchVariable}
+use Rattle.event_types.specs.declared.about.About.{About}
+use Rattle.piece_choice.specs.Choosing.{IsChosen, listed}
+use Rattle.piece_choice.specs.declared.choosing.Listed.{Listed}
+use Rattle.pinned_pieces.specs.Pieces.{PinOf}
+use Rattle.pinned_pieces.specs.declared.piece.PinnedFile.{PinnedFile}
+use Rattle.pv_catalog.specs.Rows.{HasName}
+use Rattle.pv_catalog.specs.declared.row.Row.{Row}
+use Rattle.series_model.specs.Retrieval.{answer}
+use Rattle.series_model.specs.Series.{over, IsRising}
+use Rattle.series_model.specs.declared.sample.Query.{Query}
+use Rattle.series_model.specs.declared.sample.Sample.{Sample}
+use Rattle.store_manifest.specs.Manifest.{ManifestState}
+use Rattle.store_manifest.specs.declared.entry.Entry.{Entry}
+use Rattle.durable_write.specs.Held.{Filed, file_of}
+use Rattle.durable_write.specs.Plan.{of_row}
+use Rattle.tier_store.specs.Stores.{Stores, samples_in}
+
+-- THE FILES OF A ROW
+
+-- a file, and the store that lists it
+pub record Placed : Type 0 where
+  pub store : Store
+  pub file : Filed
+
+-- the files of a row that a store lists
+abbrev pub placed_at : Store → Filed → Placed
+placed_at store f = record { store = store; file = f }
+
+abbrev pub placed : Store → ℕ → List Filed → List Placed
+placed store row files = map (placed_at store) (of_row row files)
+
+-- all files of a row in the order in which they are read: those of the deepest store first, and in each store by time
+abbrev pub files_in : ℕ → Stores → List Placed
+files_in row s = (placed Long row s.long ++ placed Medium row s.medium) ++ placed Short row s.short
+
+-- a file's store, by its number, and its entry
+abbrev pub listed_of : Placed → Listed
+listed_of p = record { store = index_of p.store + 1; entry = p.file.entry }
+
+-- the file as one of a row
+abbrev pub state_of : ℕ → Placed → FileState
+state_of row p = record { row = row; store = p.store; part = p.file.entry.part; head = p.file.head; samples = p.file.samples }
+
+-- what a manifest lists of a row
+abbrev pub entries_of : ℕ → Option ManifestState → List Entry
+entries_of row None = []
+entries_of row (Some m) = filter (λ (e : Entry). nat_eq e.series row) m.entries
+
+-- what the manifests list of a row, in the same order
+abbrev pub listed_in : ℕ → List ManifestState → List Listed
+listed_in row ms = (listed 3 (entries_of row (slice_get ms 2)) ++ listed 2 (entries_of row (slice_get ms 1))) ++ listed 1 (entries_of row (slice_get ms 0))
+
+-- PINS
+
+-- something is listed of the file; of each file of its form there is
+abbrev pub has_bytes : Listed → Bool
+has_bytes l = nat_lt 0 l.entry.len
+
+-- what is pinned of a file is all that is listed of it
+abbrev pub piece_of : List Row → Listed → PinnedFile
+piece_of rows l = record { name = file_of (l.store, rows) l.entry; head_len = l.entry.head_len; len = l.entry.len }
+
+-- An owner has one pin more: of a row, under the least number that was free. Of all files that are listed of the row, those are pinned that
+-- are chosen for the query, in their order; a file of which no byte is listed can't be one, and isn't pinned.
+pub record IsPinned (rows : List Row) (all : List Listed) (who i : ℕ) (query : Query) (tail : List Sample) (old new : FinMap nat_cmp PinOf) (pin : ℕ) (name : List ℕ) (about : About) (count : ℕ) (told : List Sample) : Type 0 where
+  pub row : Row
+  pub here : slice_get rows i ≡ Some row
+  pub name_is : name ≡ row.name
+  pub about_is : about ≡ row.about
+  pub tail_is : told ≡ tail
+  pub free : get old pin ≡ None
+  pub least : (lower : ℕ) → lower < pin → IsSome (get old lower)
+  pub opened : List Listed
+  pub chosen : IsChosen query.from all opened
+  pub pieces : List PinnedFile
+  pub are : pieces ≡ map (piece_of rows) (filter has_bytes opened)
+  pub number : count ≡ length pieces
+  pub made : new ≡ insert old pin (record { owner = who; pieces = pieces })
+
+-- The files that are opened are the last of the row's, so few that each has a number of 32 bits. Where what is held stands, all of them are pinned, and with a tail over them they
+-- answer the query as all that is held of the row does with that tail.
+pub record AreEnough (held : Stores) (i : ℕ) (query : Query) (tail : List Sample) (opened : List Listed) : Type 0 where
+  pub closed : List Placed
+  pub files : List Placed
+  pub split : files_in i held ≡ closed ++ files
+  pub are : map listed_of files ≡ opened
+  pub few : length opened < 2 ^ 32
+  pub all : IsTrue held.stands → filter has_bytes opened ≡ opened
+  pub answers : IsTrue held.stands → IsRising tail
+      → answer (over (over_pieces [] (map (state_of i) files)) tail) query ≡ answer (over (samples_in i held) tail) query
+
+-- no row has the name
+abbrev pub HasNoName : List Row → List ℕ → Type 0
+HasNoName rows name = (i : ℕ) → HasName rows i name → ⊥
+
+-- How one is answered who asks for a pin, by the rows and by what the memory lists of each: no row has the name, or it is pinned.
+pub data PinsOf {R : Type 0} (rows : List Row) (all : ℕ → List Listed) (who : ℕ) (name : List ℕ) (query : Query) (tail : List Sample) (old new : FinMap nat_cmp PinOf) : Answer R → Type 0 where
+  unknown : HasNoName rows name → new ≡ old → PinsOf rows all who name query tail old new NoSuchVariable
+  found : (i pin count : ℕ) (told : List ℕ) (about : About) (rest : List Sample) → HasName rows i name
+      → IsPinned rows (all i) who i query tail old new pin told about count rest → PinsOf rows all who name query tail old new (Pinned pin told about count rest)
+
+-- And by what is held: the files that are pinned are enough for the query.
+pub data SaysPinned {R : Type 0} (who : ℕ) (name : List ℕ) (query : Query) (tail : List Sample) (old new : FinMap nat_cmp PinOf) : Answer R → Stores → Type 0 where
+  none_has : {held : Stores} → HasNoName held.rows name → new ≡ old → SaysPinned who name query tail old new NoSuchVariable held
+  is_pinned : {held : Stores} (i pin count : ℕ) (told : List ℕ) (about : About) (rest : List Sample) → HasName held.rows i name
+      → (p : IsPinned held.rows (map listed_of (files_in i held)) who i query tail old new pin told about count rest) → AreEnough held i query tail p.opened
+      → SaysPinned who name query tail old new (Pinned pin told about count rest) held

@@ -1,0 +1,39 @@
+-- What contracts see of the stores: their memory and their disk.
+use Rattle.std.specs.Prelude.{◌≡◌, ℕ, List, Some, slice_get, true, map}
+use Rattle.disk_model.specs.Files.{Name, Files}
+use Rattle.disk_model.specs.Past.{Past}
+use Rattle.disk_model.specs.declared.disk.Disk.{Ghosts}
+use Rattle.partition_names.specs.declared.granularity.Granularity.{Granularity}
+use Rattle.pv_catalog.specs.Catalogue.{CatalogueState}
+use Rattle.store_manifest.specs.Manifest.{ManifestState}
+use Rattle.tier_store.specs.declared.store.TierStore.{TierStore}
+
+-- the rows and the lists of files in memory, what reads give, how far each name was opened, what crashes leave, and the count of faults
+pub record Seen : Type 1 where
+  pub catalogue : CatalogueState
+  pub manifests : List ManifestState
+  pub files : Files
+  pub opened : Name → ℕ
+  pub past : Past
+  pub faults : ℕ
+
+-- the memory beside a disk, by what a disk tells
+abbrev pub seen_on : {D : Type 0} → (D → Files) → (D → Name → ℕ) → (D → Past) → (D → ℕ) → CatalogueState → List ManifestState → D → Seen
+seen_on {D} files opened past faults catalogue manifests d = record { catalogue = catalogue; manifests = manifests; files = files d; opened = opened d; past = past d; faults = faults d }
+
+-- stores, by the members of their disk's type
+abbrev pub seen : {D R : Type 0} → Ghosts D R → TierStore D R → Seen
+seen {D} {R} disk store = seen_on disk.files disk.opened disk.past disk.faults store.catalogue store.manifests.items store.disk
+
+-- this is true of each place and its manifest
+abbrev pub AtEach : List ManifestState → (ℕ → ManifestState → Type 0) → Type 0
+AtEach manifests P = (i : ℕ) (m : ManifestState) → slice_get manifests i ≡ Some m → P i m
+
+-- no change stands in doubt
+pub record IsSettled (at : Seen) : Type 0 where
+  pub catalogue : at.catalogue.journal.sound ≡ true
+  pub manifests : AtEach at.manifests (λ i m. m.journal.sound ≡ true)
+
+-- how long the partitions of each store are
+abbrev pub granularities : List ManifestState → List Granularity
+granularities manifests = map (λ (m : ManifestState). m.granularity) manifests

@@ -1,0 +1,198 @@
+// The pinning of a row's files for a query.
+ghost use Rattle.std.specs.Prelude.{◌≡◌, ◌<◌, ◌++◌, ◌∷◌, [], ℕ, List, All, length, map, filter, IfOk, OnOk, OnErr, IfErr};
+ghost use Rattle.act_model.specs.declared.acts.Answer.TheVariants.{NoSuchVariable};
+ghost use Rattle.disk_model.specs.declared.disk.DiskErr.TheVariants.{Memory};
+ghost use Rattle.piece_choice.specs.Choosing.{IsChosen};
+ghost use Rattle.piece_choice.specs.declared.choosing.Listed.{Listed as ListedValue};
+ghost use Rattle.pv_catalog.specs.Rows.{HasName};
+ghost use Rattle.durable_write.specs.Ends.{IsCut};
+ghost use Rattle.tier_store.specs.Stores.{Stores};
+ghost use Rattle.tier_store.specs.Seen.{seen};
+ghost use Rattle.tier_store.specs.Change.{IsOpen};
+ghost use Rattle.tier_store.specs.Opening.{answer_of, end_of_answer};
+ghost use Rattle.tier_store.specs.Moving.{LeavesLater};
+ghost use Rattle.tier_store.specs.Pinned.{seen_all, PinsStand, KeepsShown};
+ghost use Rattle.tier_store.specs.Pinning.{HasNoName, PinsOf, SaysPinned, listed_in, has_bytes, piece_of};
+ghost use Rattle.tier_store.specs.Revival.{KeepsWhole};
+ghost use Rattle.tier_store.specs.Settling.{Settles};
+
+use crate::TierStore;
+use crate::opening_pieces::told;
+use act_model::Answer;
+use disk_model::{Disk, DiskErr};
+use durable_write::file_name;
+use event_types::About;
+use piece_choice::{Choice, Listed};
+use pinned_pieces::PinnedFile;
+use pv_catalog::Row;
+use series_model::{Query, Samples};
+use std::alloc::{AllocError, Global};
+use store_manifest::Manifest;
+
+// Of what is listed of a row, the files that an answer from a moment on needs.
+fn chosen(alloc: Global, manifests: &[Manifest], row: u32, from: u64) -> Result<Choice, AllocError>
+    requires three { length manifests.now ≡ 3 }
+    ensures { IfOk result (λ choice. IsChosen from (listed_in row manifests.now) choice.opened.items) }
+{
+    let mut choice = Choice::new(alloc, from);
+    choice.add(3, manifests[2].entries(row))?;
+    choice.add(2, manifests[1].entries(row))?;
+    choice.add(1, manifests[0].entries(row))?;
+    Ok(choice)
+}
+
+// The same of another value.
+pub(crate) fn copied(about: &About) -> Result<About, AllocError>
+    ensures { IfOk result (λ copy. copy ≡ about.now) }
+{
+    about.clone()
+}
+
+// What is pinned of a file.
+fn piece(alloc: Global, rows: &[Row], file: &Listed) -> Result<PinnedFile, AllocError>
+    requires row { file.now.entry.series < length rows.now }
+    ensures { IfOk result (λ piece. piece ≡ piece_of rows.now file.now) }
+{
+    Ok(PinnedFile {
+        name: file_name(alloc, file.store, rows, &file.entry)?,
+        head_len: u64::from(file.entry.head_len),
+        len: file.entry.len,
+    })
+}
+
+// Pins what is listed of a file, if there is anything.
+fn add_piece(
+    alloc: Global,
+    rows: &[Row],
+    file: &Listed,
+    pieces: &mut Vec<PinnedFile>,
+) -> Result<(), AllocError>
+    requires row { file.now.entry.series < length rows.now }
+    ensures none { file.now.entry.len ≡ 0 → OnOk result (pieces.new.items ≡ pieces.old.items) }
+    ensures some { 0 < file.now.entry.len → OnOk result (pieces.new.items ≡ pieces.old.items ++ piece_of rows.now file.now ∷ []) }
+{
+    if file.entry.len == 0 {
+        return Ok(());
+    }
+    pieces.push(piece(alloc, rows, file)?)?;
+    Ok(())
+}
+
+// What is pinned of these files.
+fn pieces_of(alloc: Global, rows: &[Row], files: &[Listed]) -> Result<Vec<PinnedFile>, AllocError>
+    requires rows { All (λ (l : ListedValue). l.entry.series < length rows.now) files.now }
+    ensures { IfOk result (λ pieces. pieces.items ≡ map (piece_of rows.now) (filter has_bytes files.now)) }
+{
+    let mut pieces = Vec::with_capacity(alloc, files.len())?;
+    for file in files {
+        add_piece(alloc, rows, file, &mut pieces)?;
+    }
+    Ok(pieces)
+}
+
+impl<D: Disk> TierStore<D> {
+    // Pins the files of a row.
+    fn pin_row(
+        &mut self,
+        who: u64,
+        row: u32,
+        query: Query,
+        tail: Samples,
+    ) -> Result<Answer<D::Reader>, AllocError>
+        requires row { row < length self.old.catalogue.rows }
+        requires three { length self.old.manifests.items ≡ 3 }
+
+        ensures pinned { (name : List ℕ) → HasName self.old.catalogue.rows row name
+            → IfOk result (PinsOf self.old.catalogue.rows (λ i. listed_in i self.old.manifests.items) who name query tail self.old.pinned self.new.pinned) }
+        ensures unchanged { OnErr result (self.new.pinned ≡ self.old.pinned) }
+        ensures same { (self.new.catalogue ≡ self.old.catalogue) × (self.new.manifests ≡ self.old.manifests) × (self.new.disk ≡ self.old.disk) }
+        ensures limbo { self.new.limbo ≡ self.old.limbo }
+    {
+        let rows = self.catalogue.rows();
+        let found = &rows[row as usize];
+        let name = found.name.clone()?;
+        let about = copied(&found.about)?;
+        let choice = chosen(self.alloc, &self.manifests, row, query.from)?;
+        let pieces = pieces_of(self.alloc, rows, choice.opened())?;
+        let count = pieces.len() as u64;
+        let pin = self.pinned.pin(who, pieces)?;
+        Ok(Answer::Pinned {
+            pin,
+            name,
+            about,
+            pieces: count,
+            tail,
+        })
+    }
+
+    // Pins the files of the row that has the name, if one has it.
+    fn pin_named(
+        &mut self,
+        who: u64,
+        name: &[u8],
+        query: Query,
+        tail: Samples,
+    ) -> Result<Answer<D::Reader>, DiskErr>
+        requires three { length self.old.manifests.items ≡ 3 }
+
+        ensures pinned { IfOk result (PinsOf self.old.catalogue.rows (λ i. listed_in i self.old.manifests.items) who name.now query tail self.old.pinned self.new.pinned) }
+        ensures memory { IfErr result (λ e. (e ≡ Memory) × (self.new.pinned ≡ self.old.pinned)) }
+        ensures same { (self.new.catalogue ≡ self.old.catalogue) × (self.new.manifests ≡ self.old.manifests) × (self.new.disk ≡ self.old.disk) }
+        ensures limbo { self.new.limbo ≡ self.old.limbo }
+    {
+        let Some(row) = self.catalogue.find(name) else {
+            return Ok(Answer::NoSuchVariable);
+        };
+        let answer = self.pin_row(who, row, query, tail)?;
+        Ok(answer)
+    }
+
+    // Settles what stands in doubt, and then pins.
+    fn pin_settled(
+        &mut self,
+        who: u64,
+        name: &[u8],
+        query: Query,
+        tail: Samples,
+    ) -> Result<Answer<D::Reader>, DiskErr>
+        requires begun { (before : Stores) × (after : Stores) × IsOpen D.tells (seen D.Disk self.old) before after }
+
+        ensures settles { Settles D.tells (SaysPinned who name.now query tail self.old.pinned self.new.pinned) (seen D.Disk self.old) (seen D.Disk self.new) (end_of_answer (answer_of result)) }
+        ensures unchanged { IsCut (end_of_answer (answer_of result)) → self.new.pinned ≡ self.old.pinned }
+        ensures shown { KeepsShown D.tells (seen_all D.Disk self.old) (seen_all D.Disk self.new) }
+        ensures leaves { LeavesLater D.tells (seen_all D.Disk self.old) (seen_all D.Disk self.new) }
+        ensures whole { KeepsWhole D.tells (seen_all D.Disk self.old) (seen_all D.Disk self.new) }
+        ensures limbo { self.new.limbo ≡ self.old.limbo }
+        ensures stand { PinsStand D.tells (seen_all D.Disk self.old) self.old.pinned → PinsStand D.tells (seen_all D.Disk self.new) self.new.pinned }
+    {
+        self.review()?;
+        self.pin_named(who, name, query, tail)
+    }
+
+    /// Pins the files of a variable that its samples of an interval need, as long as they are listed now, for an owner: under the least
+    /// number that no pin has. It tells how many these are; `tail` is told with them, and stands for the samples that no store lists yet.
+    /// The files, read in the order in which they are pinned, and the tail over them answer the query as all samples do. A file of which
+    /// no byte is listed, as only damaged stores have one, isn't pinned.
+    ///
+    /// `NoSuchVariable` comes exactly where no row has the name, before or after a change that stands in doubt is settled.
+    /// `DiskFault` comes only where the disk's count of faults rose in the call, which then settled nothing. After every answer but
+    /// `Pinned` the pins are as they were.
+    pub fn pin(&mut self, who: u64, name: &[u8], query: Query, tail: Samples) -> Answer<D::Reader>
+        requires begun { (before : Stores) × (after : Stores) × IsOpen D.tells (seen D.Disk self.old) before after }
+
+        ensures unknown { HasNoName self.old.catalogue.rows name.now → (result ≡ NoSuchVariable) × (self.new ≡ self.old) }
+        ensures settles { (i : ℕ) → HasName self.old.catalogue.rows i name.now
+            → Settles D.tells (SaysPinned who name.now query tail self.old.pinned self.new.pinned) (seen D.Disk self.old) (seen D.Disk self.new) (end_of_answer result) }
+        ensures unchanged { IsCut (end_of_answer result) → self.new.pinned ≡ self.old.pinned }
+        ensures shown { KeepsShown D.tells (seen_all D.Disk self.old) (seen_all D.Disk self.new) }
+        ensures leaves { LeavesLater D.tells (seen_all D.Disk self.old) (seen_all D.Disk self.new) }
+        ensures whole { KeepsWhole D.tells (seen_all D.Disk self.old) (seen_all D.Disk self.new) }
+        ensures limbo { self.new.limbo ≡ self.old.limbo }
+        ensures stand { PinsStand D.tells (seen_all D.Disk self.old) self.old.pinned → PinsStand D.tells (seen_all D.Disk self.new) self.new.pinned }
+    {
+        let Some(_) = self.catalogue.find(name) else {
+            return Answer::NoSuchVariable;
+        };
+        told(self.pin_settled(who, name, query, tail))
+    }
+}

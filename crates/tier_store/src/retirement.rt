@@ -1,0 +1,151 @@
+// The retirement: the oldest files of a row leave a store's list.
+//
+// They go to limbo first, so that what is pinned is there whatever comes of the commit. Those that no pin names are removed behind it.
+ghost use Rattle.std.specs.Prelude.{◌≡◌, ◌≤◌, ◌<◌, ◌+◌, ℕ, List, All, Ok, Some, None, OnErr, IsErrOf, Contains, length, map, slice_get};
+ghost use Rattle.disk_model.specs.Files.{Name, Rose};
+ghost use Rattle.pv_catalog.specs.Rows.{KeepsRows};
+ghost use Rattle.store_manifest.specs.Manifest.{ManifestState};
+ghost use Rattle.durable_write.specs.Ends.{end_of_disk};
+ghost use Rattle.durable_write.specs.Held.{Filed};
+ghost use Rattle.tier_store.specs.Stores.{Stores};
+ghost use Rattle.tier_store.specs.Seen.{seen, IsSettled};
+ghost use Rattle.tier_store.specs.Change.{Has, IsOpen, Changes, Acts};
+ghost use Rattle.tier_store.specs.Limbo.{LimboStands};
+ghost use Rattle.tier_store.specs.Pinned.{seen_all, KeepsShown};
+ghost use Rattle.tier_store.specs.Retiring.{FailsRetired, AreApart, oldest, oldest_entries, drop_entry, retired_of, dropping, retiring, HasGrown, HasNotGrown, Remain, ShowsKept, HandedOver, StayOrEnter};
+ghost use Rattle.tier_store.specs.Moving.{LeavesFiles, LeavesNames};
+ghost use Rattle.tier_store.specs.Revival.{KeepsWholeOf};
+ghost use Rattle.tier_store.specs.declared.retirement.RetireEnd.TheVariants.{Again, Retired as IsRetired};
+
+use crate::TierStore;
+use crate::retiring::oldest;
+use disk_model::{Disk, DiskErr};
+use durable_write::relist;
+use store_manifest::{Change, Entry};
+
+/// How a retirement ended.
+#[derive(Clone, Copy, Debug, PartialEq, Eq)]
+pub enum RetireEnd {
+    /// The store lists the files no more. Those that a pin names are in limbo. `removed` says whether the others are removed from the disk
+    /// for good: else the last failure, after which some may be there still.
+    Retired { removed: Result<(), DiskErr> },
+    /// A file is listed at `len` bytes, longer than the `copied` bytes up to which it was copied. Nothing has changed.
+    Again { len: u64, copied: u64 },
+}
+
+// The first entry that is listed longer than it was copied: its length, and that up to which it was copied.
+fn grown(now: &[Entry], published: &[u64]) -> Option<(u64, u64)>
+    requires { length now.now ≤ length published.now }
+    ensures grown { (len copied : ℕ) → result ≡ Some (len, copied) → HasGrown published.now now.now len copied }
+    ensures none { result ≡ None → (k : ℕ) → HasNotGrown published.now now.now k }
+{
+    for (i, entry) in now.iter().enumerate() {
+        if entry.len > published[i] {
+            return Some((entry.len, published[i]));
+        }
+    }
+    None
+}
+
+impl<D: Disk> TierStore<D> {
+    // Drops the oldest entries of a row at a place in one commit, where no change stands in doubt and their files are in limbo.
+    fn drop_oldest(
+        &mut self,
+        place: usize,
+        row: u32,
+        n: usize,
+        drops: &[Change],
+    ) -> Result<(), DiskErr>
+        requires within { place < length self.old.manifests.items }
+        requires few { length drops.now ≤ 65_536 }
+        requires has { (held : Stores) × Has D.tells (seen D.Disk self.old) held }
+        requires drops { (m : ManifestState) → slice_get self.old.manifests.items place ≡ Some m → drops.now ≡ map drop_entry (oldest_entries row n m.entries) }
+        requires handed { (held : Stores) (f : Filed) → Has D.tells (seen D.Disk self.old) held → Contains (oldest place row n held) f → Contains self.old.limbo.items (retired_of (place + 1, self.old.catalogue.rows) f.entry) }
+
+        ensures changes { Changes D.tells (dropping place row n) (seen D.Disk self.old) (seen D.Disk self.new) (end_of_disk result) }
+        ensures shown { KeepsShown D.tells (seen_all D.Disk self.old) (seen_all D.Disk self.new) }
+        ensures leaves { LeavesFiles D.tells (seen_all D.Disk self.old) (seen_all D.Disk self.new) }
+        ensures catalogue { self.new.catalogue ≡ self.old.catalogue }
+        ensures pins { self.new.pinned ≡ self.old.pinned }
+        ensures limbo { self.new.limbo ≡ self.old.limbo }
+    {
+        relist(&mut self.disk, &mut self.manifests[place], drops)?;
+        Ok(())
+    }
+
+    // Retires where no change stands in doubt.
+    fn retire_settled(
+        &mut self,
+        place: usize,
+        row: u32,
+        published: &[u64],
+    ) -> Result<RetireEnd, DiskErr>
+        requires within { place < 2 }
+        requires few { length published.now ≤ 65_536 }
+        requires has { (held : Stores) × Has D.tells (seen D.Disk self.old) held }
+        requires stands { LimboStands (seen D.Disk self.old) self.old.limbo.items }
+
+        ensures changes { Changes D.tells (retiring place row published.now (Remain D.tells (seen D.Disk self.new) self.old.pinned self.old.limbo.items self.new.limbo.items)) (seen D.Disk self.old) (seen D.Disk self.new) (end_of_disk result) }
+        ensures shown { ShowsKept D.tells self.old.pinned (seen_all D.Disk self.old) (seen_all D.Disk self.new) }
+        ensures leaves { (held : Stores) (names : List Name) → Has D.tells (seen D.Disk self.old) held → All (λ (n : Name). 2 ≤ n.0) names → AreApart place row (length published.now) held names → LeavesNames names D.tells (seen_all D.Disk self.old) (seen_all D.Disk self.new) }
+        ensures whole { (held : Stores) → Has D.tells (seen D.Disk self.old) held → KeepsWholeOf D.tells (seen_all D.Disk self.old) (seen_all D.Disk self.new) held }
+        ensures again { (len copied : ℕ) → result ≡ Ok (Again len copied) → self.new.limbo ≡ self.old.limbo }
+        ensures failed { OnErr result (StayOrEnter (seen D.Disk self.new) place row (length published.now) self.old.limbo.items self.new.limbo.items) }
+        ensures doubted { (held : Stores) → Has D.tells (seen D.Disk self.old) held → IsErrOf result DiskErr.Fault → FailsRetired place row published.now D.tells (seen D.Disk self.new) held }
+        ensures handed { IsErrOf result DiskErr.Fault → HandedOver (seen D.Disk self.new) place row (length published.now) self.old.limbo.items self.new.limbo.items }
+        ensures cause { (removed : _) → result ≡ Ok (IsRetired removed) → IsErrOf removed DiskErr.Fault → Rose (D.faults self.old.disk) (D.faults self.new.disk) }
+        ensures stands { LimboStands (seen D.Disk self.new) self.new.limbo.items }
+        ensures same { (self.new.catalogue ≡ self.old.catalogue) × (self.new.pinned ≡ self.old.pinned) }
+    {
+        let n = published.len();
+        let entries = oldest(self.manifests[place].entries(row), n);
+        if let Some((len, copied)) = grown(entries, published) {
+            return Ok(RetireEnd::Again { len, copied });
+        }
+        let leaving = self.hand_over(place, row, n)?;
+        self.drop_oldest(place, row, n, &leaving.drops)?;
+        let removed = self.remove_handed(&leaving.files);
+        Ok(RetireEnd::Retired { removed })
+    }
+
+    /// Takes the oldest files of a row, as many as lengths are given, from the list at a place, which is a store's number less one: of
+    /// store 1 or 2. `published` has the lengths in bytes up to which these files were copied to the next store, which lists that, oldest
+    /// first. A change that stands in doubt is settled first. `Again` comes exactly where a file is listed longer than it was copied; it
+    /// tells of the first of these, and nothing has changed then.
+    ///
+    /// Else the files go to limbo, one commit drops them from the list, and those that no pin names leave limbo and are removed. A crash at
+    /// any moment leaves what was held, or that without the files. What is pinned stays as it is, whatever is answered, and so do all
+    /// names of stores 2 and 3 but those of the files. A removal that fails is no failure of the retirement; it is told.
+    ///
+    /// After `Fault`, which comes only where the disk's count of faults rose in the call, it may not be known whether the commit was
+    /// made; the next call that changes the stores finds out. The files are in limbo till then, and count for nothing while they are listed.
+    /// After `Memory` what was held is still held.
+    pub fn retire(
+        &mut self,
+        place: usize,
+        row: u32,
+        published: &[u64],
+    ) -> Result<RetireEnd, DiskErr>
+        requires within { place < 2 }
+        requires few { length published.now ≤ 65_536 }
+        requires begun { (before : Stores) × (after : Stores) × IsOpen D.tells (seen D.Disk self.old) before after }
+        requires stands { LimboStands (seen D.Disk self.old) self.old.limbo.items }
+
+        ensures acts { Acts D.tells (retiring place row published.now (Remain D.tells (seen D.Disk self.new) self.old.pinned self.old.limbo.items self.new.limbo.items)) (seen D.Disk self.old) (seen D.Disk self.new) (end_of_disk result) }
+        ensures again { (len copied : ℕ) → result ≡ Ok (Again len copied) → self.new.limbo ≡ self.old.limbo }
+        ensures failed { OnErr result (StayOrEnter (seen D.Disk self.new) place row (length published.now) self.old.limbo.items self.new.limbo.items) }
+        ensures doubted { (held : Stores) → Has D.tells (seen D.Disk self.old) held → IsErrOf result DiskErr.Fault → FailsRetired place row published.now D.tells (seen D.Disk self.new) held }
+        ensures handed { IsSettled (seen D.Disk self.old) → IsErrOf result DiskErr.Fault → HandedOver (seen D.Disk self.new) place row (length published.now) self.old.limbo.items self.new.limbo.items }
+        ensures cause { (removed : _) → result ≡ Ok (IsRetired removed) → IsErrOf removed DiskErr.Fault → Rose (D.faults self.old.disk) (D.faults self.new.disk) }
+        ensures shown { ShowsKept D.tells self.old.pinned (seen_all D.Disk self.old) (seen_all D.Disk self.new) }
+        ensures leaves { (before after : Stores) (names : List Name) → IsOpen D.tells (seen D.Disk self.old) before after → All (λ (n : Name). 2 ≤ n.0) names
+            → AreApart place row (length published.now) before names → AreApart place row (length published.now) after names → LeavesNames names D.tells (seen_all D.Disk self.old) (seen_all D.Disk self.new) }
+        ensures whole { (before after : Stores) → IsOpen D.tells (seen D.Disk self.old) before after → KeepsWholeOf D.tells (seen_all D.Disk self.old) (seen_all D.Disk self.new) before }
+        ensures stands { LimboStands (seen D.Disk self.new) self.new.limbo.items }
+        ensures keeps { KeepsRows self.old.catalogue.rows self.new.catalogue.rows }
+        ensures pins { self.new.pinned ≡ self.old.pinned }
+    {
+        self.review()?;
+        self.retire_settled(place, row, published)
+    }
+}

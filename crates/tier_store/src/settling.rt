@@ -1,0 +1,93 @@
+// The settling of a change that stands in doubt: it only reads.
+ghost use Rattle.std.specs.Prelude.{◌≡◌, ◌<◌, ℕ, length, slice_get, Some, None, IfSome, OnOk, OnErr, IsTrue, true, false, Ok};
+ghost use Rattle.pv_catalog.specs.Rows.{KeepsRows};
+ghost use Rattle.store_manifest.specs.Manifest.{ManifestState};
+ghost use Rattle.durable_write.specs.Ends.{end_of_disk};
+ghost use Rattle.tier_store.specs.Stores.{Stores};
+ghost use Rattle.tier_store.specs.Seen.{seen, AtEach, IsSettled, granularities};
+ghost use Rattle.tier_store.specs.Change.{IsOpen, HasEither, OnlyReads};
+ghost use Rattle.tier_store.specs.Moving.{LeavesLater};
+ghost use Rattle.tier_store.specs.Pinned.{seen_all, KeepsShown, LeavesFronts};
+ghost use Rattle.tier_store.specs.Revival.{KeepsWhole};
+
+use crate::TierStore;
+use disk_model::{Disk, DiskErr};
+use store_manifest::Manifest;
+
+// The place of the manifest of which a change stands in doubt.
+fn doubted(manifests: &[Manifest]) -> Option<usize>
+    ensures found { IfSome result (λ i. (i < length manifests.now) × ((m : ManifestState) → slice_get manifests.now i ≡ Some m → m.journal.sound ≡ false)) }
+    ensures none { result ≡ None → AtEach manifests.now (λ i m. m.journal.sound ≡ true) }
+{
+    manifests.iter().position(|manifest| !manifest.is_sound())
+}
+
+impl<D: Disk> TierStore<D> {
+    // Takes in a change of the rows that stands in doubt.
+    fn settle_rows(&mut self) -> Result<(), DiskErr>
+        requires unsound { self.old.catalogue.journal.sound ≡ false }
+        requires begun { (before : Stores) × (after : Stores) × IsOpen D.tells (seen D.Disk self.old) before after }
+        ensures settled { (before after : Stores) → IsOpen D.tells (seen D.Disk self.old) before after → OnOk result (HasEither D.tells (seen D.Disk self.new) before after) }
+        ensures still { (before after : Stores) → IsOpen D.tells (seen D.Disk self.old) before after → OnErr result (IsOpen D.tells (seen D.Disk self.new) before after) }
+        ensures keeps { KeepsRows self.old.catalogue.rows self.new.catalogue.rows }
+        ensures manifests { self.new.manifests.items ≡ self.old.manifests.items }
+        ensures pins { self.new.pinned ≡ self.old.pinned }
+        ensures limbo { self.new.limbo ≡ self.old.limbo }
+        ensures reads { OnlyReads D.tells (seen D.Disk self.old) (seen D.Disk self.new) (end_of_disk result) }
+        ensures leaves { LeavesLater D.tells (seen_all D.Disk self.old) (seen_all D.Disk self.new) }
+        ensures opened { IsTrue D.tells → D.opened self.new.disk ≡ D.opened self.old.disk }
+    {
+        self.catalogue.review(&mut self.disk)?;
+        Ok(())
+    }
+
+    // Takes in a change of the manifest at this place that stands in doubt.
+    fn settle_list(&mut self, i: usize) -> Result<(), DiskErr>
+        requires within { i < length self.old.manifests.items }
+        requires unsound { (m : ManifestState) → slice_get self.old.manifests.items i ≡ Some m → m.journal.sound ≡ false }
+        requires begun { (before : Stores) × (after : Stores) × IsOpen D.tells (seen D.Disk self.old) before after }
+        ensures settled { (before after : Stores) → IsOpen D.tells (seen D.Disk self.old) before after → OnOk result (HasEither D.tells (seen D.Disk self.new) before after) }
+        ensures still { (before after : Stores) → IsOpen D.tells (seen D.Disk self.old) before after → OnErr result (IsOpen D.tells (seen D.Disk self.new) before after) }
+        ensures catalogue { self.new.catalogue ≡ self.old.catalogue }
+        ensures pins { self.new.pinned ≡ self.old.pinned }
+        ensures limbo { self.new.limbo ≡ self.old.limbo }
+        ensures granularity { granularities self.new.manifests.items ≡ granularities self.old.manifests.items }
+        ensures reads { OnlyReads D.tells (seen D.Disk self.old) (seen D.Disk self.new) (end_of_disk result) }
+        ensures leaves { LeavesLater D.tells (seen_all D.Disk self.old) (seen_all D.Disk self.new) }
+        ensures opened { IsTrue D.tells → D.opened self.new.disk ≡ D.opened self.old.disk }
+    {
+        self.manifests[i].review(&mut self.disk)?;
+        Ok(())
+    }
+
+    /// After a fault in a call that changes the stores: finds out whether its change was made, and takes it in if it was. Where
+    /// nothing is in doubt it makes no call of the disk. Every call that changes the stores does this first.
+    ///
+    /// After an error the doubt stands as before. `Fault` comes only where the disk's count of faults rose in the call.
+    pub fn review(&mut self) -> Result<(), DiskErr>
+        requires begun { (before : Stores) × (after : Stores) × IsOpen D.tells (seen D.Disk self.old) before after }
+
+        ensures settled { (before after : Stores) → IsOpen D.tells (seen D.Disk self.old) before after → OnOk result (HasEither D.tells (seen D.Disk self.new) before after) }
+        ensures still { (before after : Stores) → IsOpen D.tells (seen D.Disk self.old) before after → OnErr result (IsOpen D.tells (seen D.Disk self.new) before after) }
+        ensures keeps { KeepsRows self.old.catalogue.rows self.new.catalogue.rows }
+        ensures granularity { granularities self.new.manifests.items ≡ granularities self.old.manifests.items }
+        ensures rows { IsTrue self.old.catalogue.journal.sound → self.new.catalogue ≡ self.old.catalogue }
+        ensures shown { KeepsShown D.tells (seen_all D.Disk self.old) (seen_all D.Disk self.new) }
+        ensures fronts { LeavesFronts D.tells (seen_all D.Disk self.old) (seen_all D.Disk self.new) }
+        ensures pins { self.new.pinned ≡ self.old.pinned }
+        ensures limbo { self.new.limbo ≡ self.old.limbo }
+        ensures nothing { IsSettled (seen D.Disk self.old) → (result ≡ Ok tt) × (self.new ≡ self.old) }
+        ensures reads { OnlyReads D.tells (seen D.Disk self.old) (seen D.Disk self.new) (end_of_disk result) }
+        ensures leaves { LeavesLater D.tells (seen_all D.Disk self.old) (seen_all D.Disk self.new) }
+        ensures whole { KeepsWhole D.tells (seen_all D.Disk self.old) (seen_all D.Disk self.new) }
+        ensures opened { IsTrue D.tells → D.opened self.new.disk ≡ D.opened self.old.disk }
+    {
+        if !self.catalogue.is_sound() {
+            return self.settle_rows();
+        }
+        match doubted(&self.manifests) {
+            Some(i) => self.settle_list(i),
+            None => Ok(()),
+        }
+    }
+}
