@@ -1,8 +1,7 @@
 -- An act that settles a doubt first and then changes the stores: how it ends, for what it tells want of memory, and what a crash within it leaves.
 use Rattle.std.proofs.Common.{◌≡◌, inl, inr, ℕ, ◌≤◌, List, [], Bool, Option, Some, None, Result, Ok, Err, refl, sym, ◌∙◌, ap, subst, arith}
-use Rattle.std.specs.Prelude.{IsTrue}
 use Rattle.disk_model.specs.Files.{Files, Rose}
-use Rattle.disk_model.specs.Past.{MayLeave, Passes}
+use Rattle.disk_model.specs.Past.{Passes}
 use Rattle.disk_model.specs.declared.disk.DiskErr.{DiskErr}
 use Rattle.disk_model.specs.declared.disk.DiskErr.TheVariants.{Fault, Memory}
 use Rattle.disk_model.proofs.Passing.{passes_none, passes_then, passes_weaker}
@@ -19,7 +18,7 @@ use Rattle.archive_core.specs.Ends.{AskEnds, is_spent, is_failed, is_answered, S
 use Rattle.archive_core.specs.Parts.{Parts}
 use Rattle.archive_core.specs.Stands.{Stands, Rests}
 use Rattle.archive_core.specs.Wanting.{NoneRefuses, WithWants, before_settling, behind_settling}
-use Rattle.archive_core.proofs.Crashes.{crash_leaves}
+use Rattle.archive_core.proofs.Crashes.{HoldsDoubted, crash_leaves, settling_leaves}
 
 module _ (tells : Bool) (refuse : Machine → Option Reply) (run : Machine → Reply → Machine → Type 0) (change : Machine → Option Change) (refuses : (m : Machine) (f : ℕ) → refuse (record m { faults = f }) ≡ refuse m) (changes : (m : Machine) (f : ℕ) → change (record m { faults = f }) ≡ change m)
     (goes : (m : Machine) (f : ℕ) (answer : Reply) (new : Machine) → run (record m { faults = f }) answer new → run m answer new)
@@ -130,13 +129,13 @@ module _ (tells : Bool) (refuse : Machine → Option Reply) (change : Machine �
   pub crash_none : LeavesByAct tells refuse change p p
   crash_none = λ m told s. passes_none (λ a image. Within m image) p.at.past (λ image left. between m image (crash_leaves tells p m image told s left))
 
-  -- the settling reads alone
-  pub crash_settling : (q : Parts) → (IsTrue tells → Passes (λ a b. b ≡ a) p.at.past q.at.past) → LeavesByAct tells refuse change p q
-  crash_settling q reads = λ m told s. passes_weaker (λ a b. b ≡ a) (λ a image. Within m image) p.at.past q.at.past (reads told)
-      (λ a b left is. between m b (crash_leaves tells p m b told s (subst (λ (f : Files). MayLeave p.at.past f) (sym is) left)))
+  -- the doubt is settled
+  pub crash_settling : (q : Parts) → HoldsDoubted tells p q → LeavesByAct tells refuse change p q
+  crash_settling q settles = λ m told s.
+      passes_weaker (λ a image. LeavesBetween (granularities p.at.manifests) m image) (λ a image. Within m image) p.at.past q.at.past (settling_leaves tells p m told s q settles) (λ a image left is. between m image is)
 
   -- and then the change is made
-  pub crash_changing : {A : Type 0} (q new : Parts) (c : Change) (r : Result A DiskErr) → (IsTrue tells → Passes (λ a b. b ≡ a) p.at.past q.at.past) → granularities q.at.manifests ≡ granularities p.at.manifests → SettlesTo tells p q → ((m : Machine) → Stands tells q m → refuse m ≡ None) → ((m : Machine) → Stands tells q m → change m ≡ Some c)
+  pub crash_changing : {A : Type 0} (q new : Parts) (c : Change) (r : Result A DiskErr) → HoldsDoubted tells p q → granularities q.at.manifests ≡ granularities p.at.manifests → SettlesTo tells p q → ((m : Machine) → Stands tells q m → refuse m ≡ None) → ((m : Machine) → Stands tells q m → change m ≡ Some c)
       → ((m : Machine) → Rests tells q m → ChangesTo tells c q m new r) → LeavesByAct tells refuse change p new
   crash_changing {A} q new c r reads same_g settles passed own ends = λ m told s.
       let mid = settles m s in

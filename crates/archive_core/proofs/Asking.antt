@@ -1,13 +1,16 @@
 -- An act that only asks the stores of the row that has a name: how it ends, and what a crash within it leaves.
 use Rattle.std.proofs.Common.{◌≡◌, ◌⊎◌, inl, inr, ℕ, ◌≤◌, Bool, List, Option, Some, None, Result, Err, refl, sym, ◌∙◌, ap, subst}
 use Rattle.std.specs.Prelude.{IsTrue}
+use Rattle.disk_model.specs.Files.{Files}
 use Rattle.disk_model.specs.Past.{Passes}
 use Rattle.disk_model.specs.declared.disk.DiskErr.{DiskErr}
 use Rattle.disk_model.specs.declared.disk.DiskErr.TheVariants.{Fault, Memory}
 use Rattle.disk_model.proofs.Passing.{passes_then}
 use Rattle.durable_write.specs.Ends.{Done, end_of_disk, IsFailed}
-use Rattle.tier_store.specs.Change.{OnlyReads}
+use Rattle.tier_store.specs.Change.{HoldsEither, OnlySettles}
 use Rattle.tier_store.specs.Opening.{answer_of, end_of_answer}
+use Rattle.tier_store.specs.Seen.{granularities}
+use Rattle.tier_store.specs.Stored.{HoldsAll}
 use Rattle.act_model.specs.Details.{details_refused}
 use Rattle.act_model.specs.Machine.{Machine, Change, find_row}
 use Rattle.act_model.specs.Outcome.{Acts, all_go}
@@ -19,6 +22,7 @@ use Rattle.archive_core.specs.Parts.{Parts}
 use Rattle.archive_core.specs.Stands.{Stands, Rests}
 use Rattle.archive_core.specs.Switching.{IsFound}
 use Rattle.archive_core.specs.Wanting.{NoneRefuses, WithWants}
+use Rattle.archive_core.proofs.Crashes.{HoldsDoubted}
 use Rattle.archive_core.proofs.Acting.{refused_first, cut_ends, refused_then, asked_ends, spent_ends, crash_none, crash_settling}
 use Rattle.archive_core.proofs.Switched.{found_row}
 
@@ -99,11 +103,14 @@ module _ (tells : Bool) (name : List ℕ) (p : Parts) where
   pub crash_asked : LeavesByAct tells refuse change p p
   crash_asked = crash_none tells refuse change (λ m f. refl) (λ m f. refl) p
 
-  pub crash_read : (q : Parts) → (IsTrue tells → Passes (λ a b. b ≡ a) p.at.past q.at.past) → LeavesByAct tells refuse change p q
+  pub crash_read : (q : Parts) → HoldsDoubted tells p q → LeavesByAct tells refuse change p q
   crash_read q reads = crash_settling tells refuse change (λ m f. refl) (λ m f. refl) p q reads
 
-  pub crash_read_on : (q new : Parts) → (IsTrue tells → Passes (λ a b. b ≡ a) p.at.past q.at.past) → (IsTrue tells → Passes (λ a b. b ≡ a) q.at.past new.at.past) → LeavesByAct tells refuse change p new
-  crash_read_on q new reads on = crash_read new (λ told. passes_then (λ a b. b ≡ a) (λ a b. b ≡ a) p.at.past q.at.past new.at.past (reads told) (on told) (λ a b image was within left holds. holds ∙ within))
+  pub crash_read_on : (q new : Parts) → HoldsDoubted tells p q → (IsTrue tells → Passes (λ a b. b ≡ a) q.at.past new.at.past) → LeavesByAct tells refuse change p new
+  crash_read_on q new settles on = crash_read new (λ told before after begun.
+      let gs = granularities p.at.manifests in
+      passes_then (HoldsEither gs before after) (λ a b. b ≡ a) p.at.past q.at.past new.at.past (settles told before after begun) (on told)
+      (λ a b image was holds left is. subst (λ (f : Files). HoldsAll gs f before ⊎ HoldsAll gs f after) (sym is) holds))
 
   module _ (run : Machine → Reply → Machine → Type 0) (goes : (m : Machine) (f : ℕ) (given : Reply) (new : Machine) → run (record m { faults = f }) given new → run m given new)
       (tells_more : (m : Machine) (given : Reply) (new : Machine) → run m given new → given ≡ answer.Memory → ⊥) where
@@ -119,7 +126,7 @@ module _ (tells : Bool) (name : List ℕ) (p : Parts) where
         subst (λ (x : Result (Answer R) DiskErr). AskSteps (reply_of reader_tells bytes faults (answer_of x)) new) (sym is) (subst (λ (given : Reply). AskSteps given new) (sym (reply_failed R reader_tells bytes faults e)) ends)
 
     module _ (i : ℕ) (found : IsFound p.at.catalogue.rows name (Some i)) where
-      pub ask_cut : (q : Parts) (r : Result (Unit {0}) DiskErr) (e : DiskErr) → r ≡ Err e → StandsStill tells p q → OnlyReads tells p.at q.at (end_of_disk r) → AskSteps (disk_reply e) q
+      pub ask_cut : (q : Parts) (r : Result (Unit {0}) DiskErr) (e : DiskErr) → r ≡ Err e → StandsStill tells p q → OnlySettles tells p.at q.at (end_of_disk r) → AskSteps (disk_reply e) q
       ask_cut q r e is still reads = cut_ends tells refuse run change (λ m f. refl) (λ m f. refl) goes never_wants tells_more p q e (known p i found) still reads.faults
           (λ fault. reads.cause (subst (λ (x : Result (Unit {0}) DiskErr). IsFailed (end_of_disk x)) (sym (is ∙ ap (λ (d : DiskErr). Err d) fault)) tt))
 

@@ -139,7 +139,7 @@ module _ (R : Type 0) (tells reader_tells : Bool) (bytes : R → List ℕ) (faul
   details_end = elim (end_kind result) [
     | inl fault ↦ (
         let failed : IsFailed (end_of_answer result) = subst (λ (given : Answer R). IsFailed (end_of_answer given)) (sym fault) tt in
-        subst (λ (given : Answer R). Ends given) (sym fault) (is_failed read (settles.reads.cause failed))
+        subst (λ (given : Answer R). Ends given) (sym fault) (is_failed read (settles.settles.cause failed))
         )
     | inr others ↦ elim others [
       | inl spent ↦ subst (λ (given : Answer R). Ends given) (sym spent) (is_spent read)

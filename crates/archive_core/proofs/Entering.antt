@@ -1,14 +1,13 @@
 -- The act that adds a row: how it ends, and what a crash within it leaves.
 use Rattle.std.proofs.Common.{◌≡◌, ℕ, ◌≤◌, Bool, true, false, List, Option, Some, None, Result, Ok, Err, refl, sym, ◌∙◌, ap, subst, length}
-use Rattle.std.specs.Prelude.{IsTrue, nat_le}
-use Rattle.disk_model.specs.Past.{Passes}
+use Rattle.std.specs.Prelude.{nat_le}
 use Rattle.disk_model.specs.declared.disk.DiskErr.{DiskErr}
 use Rattle.event_types.specs.declared.about.About.{About}
 use Rattle.pv_catalog.specs.Catalogue.{Refuses}
 use Rattle.pv_catalog.specs.declared.error.RegisterErr.{RegisterErr}
 use Rattle.pv_catalog.specs.declared.error.RegisterErr.TheVariants.{Disk}
 use Rattle.durable_write.specs.Ends.{end_of_disk, IsFailed}
-use Rattle.tier_store.specs.Change.{OnlyReads}
+use Rattle.tier_store.specs.Change.{OnlySettles}
 use Rattle.tier_store.specs.Seen.{granularities}
 use Rattle.act_model.specs.declared.acts.Answer.TheVariants.{CatalogueFull, KeyTaken, Memory, NameTaken, Registered}
 use Rattle.act_model.specs.Machine.{Machine, Change, AddsRow, find_row, with_key}
@@ -18,6 +17,7 @@ use Rattle.archive_core.specs.Ends.{Steps, SettlesTo, StandsStill, ChangesTo, Le
 use Rattle.archive_core.specs.Parts.{Parts}
 use Rattle.archive_core.specs.Stands.{Stands, Rests}
 use Rattle.archive_core.specs.Wanting.{NoneRefuses, WithWants}
+use Rattle.archive_core.proofs.Crashes.{HoldsDoubted}
 use Rattle.archive_core.proofs.Acting.{refused_first, cut_ends, refused_then, done_ends, failed_ends, crash_none, crash_settling, crash_changing}
 use Rattle.archive_core.proofs.Registered.{refused_as, free_as}
 
@@ -79,7 +79,7 @@ module _ (tells : Bool) (name : List ℕ) (about : About) (p : Parts) where
   pub register_refused_first : (e : RegisterErr) → Refuses p.at.catalogue.rows name e → RegisterEnds (register_reply (Err e)) p
   register_refused_first e is = refused_first tells refuse run change (counted name) (λ m f. refl) (λ m f answer new ran. ran) (never_wants name) (registers_tells name about) p (register_reply (Err e)) (λ m s. refused_as tells p m s name e is)
 
-  pub register_cut : (q : Parts) (r : Result (Unit {0}) DiskErr) (e : DiskErr) → IsFree p → r ≡ Err e → StandsStill tells p q → OnlyReads tells p.at q.at (end_of_disk r) → RegisterEnds (register_reply (Err (Disk e))) q
+  pub register_cut : (q : Parts) (r : Result (Unit {0}) DiskErr) (e : DiskErr) → IsFree p → r ≡ Err e → StandsStill tells p q → OnlySettles tells p.at q.at (end_of_disk r) → RegisterEnds (register_reply (Err (Disk e))) q
   register_cut q r e free is still reads = cut_ends tells refuse run change (counted name) (λ m f. refl) (λ m f answer new ran. ran) (never_wants name) (registers_tells name about) p q e (passed p free) still reads.faults
       (λ fault. reads.cause (subst (λ (x : Result (Unit {0}) DiskErr). IsFailed (end_of_disk x)) (sym (is ∙ ap (λ (d : DiskErr). Err d) fault)) tt))
 
@@ -95,13 +95,13 @@ module _ (tells : Bool) (name : List ℕ) (about : About) (p : Parts) where
       pub register_failed : (e : DiskErr) → ((m : Machine) → Rests tells q m → ChangesTo {A = ℕ} tells (AddsRow name about) q m new (Err e)) → RegisterEnds (register_reply (Err (Disk e))) new
       register_failed e ends = failed_ends tells refuse run change (counted name) (λ m f. refl) (λ m f answer new ran. ran) (never_wants name) (registers_tells name about) p q (passed p free) settles more (passed q free_then) new (AddsRow name about) (owned q) e ends
 
-      pub crash_register : (r : Result ℕ DiskErr) → (IsTrue tells → Passes (λ a b. b ≡ a) p.at.past q.at.past) → granularities q.at.manifests ≡ granularities p.at.manifests → ((m : Machine) → Rests tells q m → ChangesTo tells (AddsRow name about) q m new r) → LeavesByAct tells refuse change p new
+      pub crash_register : (r : Result ℕ DiskErr) → HoldsDoubted tells p q → granularities q.at.manifests ≡ granularities p.at.manifests → ((m : Machine) → Rests tells q m → ChangesTo tells (AddsRow name about) q m new r) → LeavesByAct tells refuse change p new
       crash_register r reads same_g ends = crash_changing tells refuse change (counted name) (λ m f. refl) p q new (AddsRow name about) r reads same_g settles (passed q free_then) (owned q) ends
 
   pub crash_register_refused : LeavesByAct tells refuse change p p
   crash_register_refused = crash_none tells refuse change (counted name) (λ m f. refl) p
 
-  pub crash_register_cut : (q : Parts) → (IsTrue tells → Passes (λ a b. b ≡ a) p.at.past q.at.past) → LeavesByAct tells refuse change p q
+  pub crash_register_cut : (q : Parts) → HoldsDoubted tells p q → LeavesByAct tells refuse change p q
   crash_register_cut q reads = crash_settling tells refuse change (counted name) (λ m f. refl) p q reads
 
 -- what is told of a call whose result is known

@@ -1,12 +1,10 @@
 -- The act that flushes: how it ends, and what a crash within it leaves.
 use Rattle.std.proofs.Common.{◌≡◌, ℕ, ◌≤◌, Bool, true, List, [], Option, Some, None, Result, Ok, Err, refl, sym, ◌∙◌, ap, subst}
-use Rattle.std.specs.Prelude.{IsTrue}
 use Rattle.append_buffer.specs.Tails as tails
-use Rattle.disk_model.specs.Past.{Passes}
 use Rattle.disk_model.specs.declared.disk.DiskErr.{DiskErr}
 use Rattle.series_model.specs.declared.batch.RowSamples.{RowSamples}
 use Rattle.durable_write.specs.Ends.{end_of_disk, IsFailed}
-use Rattle.tier_store.specs.Change.{OnlyReads}
+use Rattle.tier_store.specs.Change.{OnlySettles}
 use Rattle.tier_store.specs.Seen.{granularities}
 use Rattle.act_model.specs.Changes.{made}
 use Rattle.act_model.specs.Flush.{FlushStep, Flushes, batch_of, count_in}
@@ -19,6 +17,7 @@ use Rattle.archive_core.specs.Parts.{Parts}
 use Rattle.archive_core.specs.Stands.{Stands, Rests}
 use Rattle.archive_core.specs.Wanting.{NoneRefuses, WithWants}
 use Rattle.archive_core.proofs.Acting.{cut_ends, done_ends, failed_ends, step_alone, crash_settling, crash_changing}
+use Rattle.archive_core.proofs.Crashes.{HoldsDoubted}
 use Rattle.archive_core.proofs.KeptRows.{batch_is, held_is}
 
 module _ (tells : Bool) (limit : ℕ) (some : 1 ≤ limit) (p : Parts) where
@@ -52,7 +51,7 @@ module _ (tells : Bool) (limit : ℕ) (some : 1 ≤ limit) (p : Parts) where
   owned : (q : Parts) → (m : Machine) → Stands tells q m → change m ≡ Some (Appends (tails.batch_of limit q.tails))
   owned q = λ m s. ap (λ (b : List RowSamples). Some (Appends b)) (sym (same_batch q m s))
 
-  pub flush_cut : (q : Parts) (r : Result (Unit {0}) DiskErr) (e : DiskErr) → r ≡ Err e → StandsStill tells p q → OnlyReads tells p.at q.at (end_of_disk r) → FlushEnds (disk_reply e) q
+  pub flush_cut : (q : Parts) (r : Result (Unit {0}) DiskErr) (e : DiskErr) → r ≡ Err e → StandsStill tells p q → OnlySettles tells p.at q.at (end_of_disk r) → FlushEnds (disk_reply e) q
   flush_cut q r e is still reads = alone q (disk_reply e) (cut_ends tells refuse run change (λ m f. refl) (λ m f. refl) (λ m f answer new ran. ran) (λ m none. cc (none)) flushes_tells p q e (passed p) still reads.faults
       (λ fault. reads.cause (subst (λ (x : Result (Unit {0}) DiskErr). IsFailed (end_of_disk x)) (sym (is ∙ ap (λ (d : DiskErr). Err d) fault)) tt)))
 
@@ -73,10 +72,10 @@ module _ (tells : Bool) (limit : ℕ) (some : 1 ≤ limit) (p : Parts) where
     pub flush_fails : (e : DiskErr) → ((m : Machine) → Rests tells q m → ChangesTo {A = ℕ} tells (Appends (tails.batch_of limit q.tails)) q m new (Err e)) → FlushEnds (disk_reply e) new
     flush_fails e ends = alone new (disk_reply e) (failed_ends tells refuse run change (λ m f. refl) (λ m f. refl) (λ m f answer after ran. ran) (λ m none. cc (none)) flushes_tells p q (passed p) settles more (passed q) new (Appends (tails.batch_of limit q.tails)) (owned q) e ends)
 
-    pub crash_flush : (r : Result ℕ DiskErr) → (IsTrue tells → Passes (λ a b. b ≡ a) p.at.past q.at.past) → granularities q.at.manifests ≡ granularities p.at.manifests → ((m : Machine) → Rests tells q m → ChangesTo tells (Appends (tails.batch_of limit q.tails)) q m new r) → LeavesByAct tells refuse change p new
+    pub crash_flush : (r : Result ℕ DiskErr) → HoldsDoubted tells p q → granularities q.at.manifests ≡ granularities p.at.manifests → ((m : Machine) → Rests tells q m → ChangesTo tells (Appends (tails.batch_of limit q.tails)) q m new r) → LeavesByAct tells refuse change p new
     crash_flush r reads same_g ends = crash_changing tells refuse change (λ m f. refl) (λ m f. refl) p q new (Appends (tails.batch_of limit q.tails)) r reads same_g settles (passed q) (owned q) ends
 
-  pub crash_flush_cut : (q : Parts) → (IsTrue tells → Passes (λ a b. b ≡ a) p.at.past q.at.past) → LeavesByAct tells refuse change p q
+  pub crash_flush_cut : (q : Parts) → HoldsDoubted tells p q → LeavesByAct tells refuse change p q
   crash_flush_cut q reads = crash_settling tells refuse change (λ m f. refl) (λ m f. refl) p q reads
 
   -- of a result that is known

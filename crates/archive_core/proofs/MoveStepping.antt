@@ -4,7 +4,7 @@ use Rattle.std.specs.FinMap.{FinMap, get, remove, get-remove}
 use Rattle.std.specs.Cmp.{nat_cmp_total}
 use Rattle.std.specs.Ordering.{nat_cmp}
 use Rattle.std.specs.Option.{is_some}
-use Rattle.std.specs.Prelude.{IsTrue, slice_get, ◌==◌}
+use Rattle.std.specs.Prelude.{slice_get, ◌==◌}
 use Rattle.std.proofs.lemmas.Bool.Decides.{nat_tests}
 use Rattle.std.specs.List.{AllByRecursion}
 use Rattle.disk_model.specs.Files.{Rose}
@@ -42,6 +42,7 @@ use Rattle.archive_core.specs.Parts.{Parts}
 use Rattle.archive_core.specs.Stands.{IsReady, Stands, Rests, InDoubt}
 use Rattle.archive_core.specs.Stepping.{HoldsStep, StepEnds, StepsOn, with_slots, is_doubted, has_failed, was_spent, went_on}
 use Rattle.archive_core.specs.Wanting.{NoneRefuses, WithWants, before_settling, behind_settling}
+use Rattle.archive_core.proofs.Crashes.{HoldsDoubted}
 use Rattle.archive_core.proofs.Acting.{crash_none, crash_settling}
 use Rattle.archive_core.proofs.StoresGoing.{go_fewer}
 use Rattle.archive_core.proofs.Lists.{same_or_not}
@@ -203,7 +204,7 @@ module _ (tells : Bool) (n : ℕ) (p : Parts) where
         let was : m.faults ≡ p.at.faults = s.faults in
         (record m { faults = q.at.faults }, (wants_memory refl (omega (arith, was, more)), λ told. before_settling (passed m s) refl), still m s)
 
-    pub crash_cut : (q : Parts) → (IsTrue tells → Passes (λ a b. b ≡ a) p.at.past q.at.past) → LeavesByAct tells refuse change p q
+    pub crash_cut : (q : Parts) → HoldsDoubted tells p q → LeavesByAct tells refuse change p q
     crash_cut q reads = crash_settling tells refuse change (λ m f. refl) (λ m f. refl) p q reads
 
     -- IT WAS SETTLED
@@ -267,7 +268,7 @@ module _ (tells : Bool) (n : ℕ) (p : Parts) where
               same_list = λ settled before there. (let same = quiet settled in is.same_list (subst IsSettled (sym same) settled) before (ap (λ (x : Seen). slice_get x.manifests (is.running.store - 1)) same ∙ there));
             }
 
-        pub crash_went : (IsTrue tells → Passes (λ a b. b ≡ a) p.at.past q.at.past) → granularities q.at.manifests ≡ granularities p.at.manifests → LeavesByAct tells refuse change p new
+        pub crash_went : HoldsDoubted tells p q → granularities q.at.manifests ≡ granularities p.at.manifests → LeavesByAct tells refuse change p new
         crash_went reads same_g = λ m told s.
             let mid = settles m s in
             let at_q : Machine = record mid.0 { faults = q.at.faults } in

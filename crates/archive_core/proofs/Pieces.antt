@@ -39,6 +39,10 @@ pub all_rest : (P : FileState → Type 0) (xs ys : List FileState) → AllByRecu
 all_rest P [] ys all = all
 all_rest P (x ∷ xs) ys all = all_rest P xs ys all.1
 
+all_first : (P : FileState → Type 0) (xs ys : List FileState) → AllByRecursion P (xs ++ ys) → AllByRecursion P xs
+all_first P [] ys all = tt
+all_first P (x ∷ xs) ys all = (all.0, all_first P xs ys all.1)
+
 all_both : (P : FileState → Type 0) (xs ys : List FileState) → AllByRecursion P xs → AllByRecursion P ys → AllByRecursion P (xs ++ ys)
 all_both P [] ys one two = two
 all_both P (x ∷ xs) ys one two = (one.0, all_both P xs ys one.1 two)
@@ -46,6 +50,10 @@ all_both P (x ∷ xs) ys one two = (one.0, all_both P xs ys one.1 two)
 pub order_rest : (xs ys : List FileState) → InOrder (xs ++ ys) → InOrder ys
 order_rest [] ys order = order
 order_rest (x ∷ xs) ys order = order_rest xs ys order.1
+
+order_first : (xs ys : List FileState) → InOrder (xs ++ ys) → InOrder xs
+order_first [] ys order = tt
+order_first (x ∷ xs) ys order = (all_first (ComesBefore x) xs ys order.0, order_first xs ys order.1)
 
 order_both : (xs ys : List FileState) → InOrder xs → InOrder ys → AllByRecursion (λ (x : FileState). AllByRecursion (ComesBefore x) ys) xs → InOrder (xs ++ ys)
 order_both [] ys one two across = two
@@ -174,7 +182,7 @@ module _ (tells : Bool) (at : Seen) (m : Machine) (held : Stores) (has : Has tel
   all_pieces = map-append (state_of i) (placed Long i held.long ++ placed Medium i held.medium) (placed Short i held.short) ∙ ap (λ (xs : List FileState). xs ++ map (state_of i) (placed Short i held.short)) (map-append (state_of i) (placed Long i held.long) (placed Medium i held.medium))
 
   -- a rest of them is of listed pieces, in order
-  pub rest_listed : (closed files : List Placed) → files_in i held ≡ closed ++ files → AllByRecursion (IsListedPiece m.rule i r) (map (state_of i) files)
+  rest_listed : (closed files : List Placed) → files_in i held ≡ closed ++ files → AllByRecursion (IsListedPiece m.rule i r) (map (state_of i) files)
   rest_listed closed files split =
       let P = IsListedPiece m.rule i r in
       let long = map (state_of i) (placed Long i held.long) in
@@ -184,7 +192,7 @@ module _ (tells : Bool) (at : Seen) (m : Machine) (held : Stores) (has : Has tel
       let parts : map (state_of i) closed ++ map (state_of i) files ≡ (long ++ medium) ++ short = sym (map-append (state_of i) closed files) ∙ (ap (map (state_of i)) (sym split) ∙ all_pieces) in
       all_rest P (map (state_of i) closed) (map (state_of i) files) (subst (λ (xs : List FileState). AllByRecursion P xs) (sym parts) all)
 
-  pub rest_ordered : (closed files : List Placed) → files_in i held ≡ closed ++ files → InOrder (map (state_of i) files)
+  rest_ordered : (closed files : List Placed) → files_in i held ≡ closed ++ files → InOrder (map (state_of i) files)
   rest_ordered closed files split =
       let long = map (state_of i) (placed Long i held.long) in
       let medium = map (state_of i) (placed Medium i held.medium) in
@@ -195,3 +203,13 @@ module _ (tells : Bool) (at : Seen) (m : Machine) (held : Stores) (has : Has tel
       let all = order_both (long ++ medium) short deep (store_order i Short (of_row i held.short) (own_files Short).apart) across in
       let parts : map (state_of i) closed ++ map (state_of i) files ≡ (long ++ medium) ++ short = sym (map-append (state_of i) closed files) ∙ (ap (map (state_of i)) (sym split) ∙ all_pieces) in
       order_rest (map (state_of i) closed) (map (state_of i) files) (subst (λ (xs : List FileState). InOrder xs) (sym parts) all)
+
+  -- so are some of them, one behind another
+  pub part_listed : (closed files behind : List Placed) → files_in i held ≡ closed ++ (files ++ behind) → AllByRecursion (IsListedPiece m.rule i r) (map (state_of i) files)
+  part_listed closed files behind split =
+      let P = IsListedPiece m.rule i r in
+      all_first P (map (state_of i) files) (map (state_of i) behind) (subst (λ (xs : List FileState). AllByRecursion P xs) (map-append (state_of i) files behind) (rest_listed closed (files ++ behind) split))
+
+  pub part_ordered : (closed files behind : List Placed) → files_in i held ≡ closed ++ (files ++ behind) → InOrder (map (state_of i) files)
+  part_ordered closed files behind split =
+      order_first (map (state_of i) files) (map (state_of i) behind) (subst (λ (xs : List FileState). InOrder xs) (map-append (state_of i) files behind) (rest_ordered closed (files ++ behind) split))

@@ -46,7 +46,7 @@ use Rattle.archive_core.proofs.Batches.{told_stands}
 use Rattle.archive_core.proofs.Changing.{rests_again}
 use Rattle.archive_core.proofs.KeptRows.{row_at}
 use Rattle.archive_core.proofs.Opens.{told_tells}
-use Rattle.archive_core.proofs.Pieces.{durable_is, rest_listed, rest_ordered}
+use Rattle.archive_core.proofs.Pieces.{durable_is, part_listed, part_ordered}
 use Rattle.archive_core.proofs.PinMade.{more_pins, get_inserted, pieces_are}
 use Rattle.archive_core.proofs.PinTies.{pins_stay, names_stay}
 use Rattle.archive_core.proofs.Registered.{find_some}
@@ -170,10 +170,10 @@ module _ (R : Type 0) (tells reader_tells : Bool) (bytes : R → List ℕ) (faul
             let stand_now = stand r.stands.pins.stand in
             let there : get pinned pin ≡ Some own = ap (λ (x : FinMap nat_cmp PinOf). get x pin) q.made ∙ get_own in
             with_pieces (map (state_of k) enough.files) (omega (arith, number, count_is, size)) (omega (arith, number, opened_size, listed_size, most))
-            (λ t. rest_listed tells new m held has_new r.stands.store.holds gran r.stands.rule.headers on stands k row.0 row.1 enough.closed enough.files enough.split)
-            (λ t. rest_ordered tells new m held has_new r.stands.store.holds gran r.stands.rule.headers on stands k row.0 row.1 enough.closed enough.files enough.split)
+            (λ t. part_listed tells new m held has_new r.stands.store.holds gran r.stands.rule.headers on stands k row.0 row.1 enough.closed enough.files enough.behind enough.split)
+            (λ t. part_ordered tells new m held has_new r.stands.store.holds gran r.stands.rule.headers on stands k row.0 row.1 enough.closed enough.files enough.behind enough.split)
             (λ t. ap (λ (xs : List Sample). answer_to (over (over_pieces [] (map (state_of k) enough.files)) xs) query) tail_same ∙ (enough.answers stands rising ∙ (ap (λ (xs : List Sample). answer_to (over xs (tail_at p.tails i).samples) query) (sym durable_same) ∙ ap (λ (xs : List Sample). answer_to (over (durable row.0) xs) query) (sym tail_same))))
-            (record { owner = refl; number = sym (number ∙ sym size); pieces = λ t. pieces_are tells (beside new p.limbo) m held has_new seen_now r.stands.store.holds (told_tells tells m.told held.stands r.stands.store.told on) stands k row.0 row.1 enough.closed enough.files pinned pin own enough.split of_files there stand_now })
+            (record { owner = refl; number = sym (number ∙ sym size); pieces = λ t. pieces_are tells (beside new p.limbo) m held has_new seen_now r.stands.store.holds (told_tells tells m.told held.stands r.stands.store.told on) stands k row.0 row.1 enough.closed enough.files enough.behind pinned pin own enough.split of_files there stand_now })
           where
             get_own : get (insert p.pinned pin own) pin ≡ Some own
             get_own = get_inserted p.pinned pin own

@@ -89,6 +89,10 @@ all_last : (P : Placed → Type 0) (xs ys : List Placed) → AllByRecursion P (x
 all_last P [] ys all = all
 all_last P (x ∷ xs) ys all = all_last P xs ys all.1
 
+all_before : (P : Placed → Type 0) (xs ys : List Placed) → AllByRecursion P (xs ++ ys) → AllByRecursion P xs
+all_before P [] ys all = tt
+all_before P (x ∷ xs) ys all = (all.0, all_before P xs ys all.1)
+
 all_joined : (P : Placed → Type 0) (xs ys : List Placed) → AllByRecursion P xs → AllByRecursion P ys → AllByRecursion P (xs ++ ys)
 all_joined P [] ys one two = two
 all_joined P (x ∷ xs) ys one two = (one.0, all_joined P xs ys one.1 two)
@@ -145,14 +149,14 @@ module _ (tells : Bool) (all : SeenAll) (m : Machine) (s : Stores) (has : Has te
         shows = subst (λ (b : List ℕ). Shows tells all (file_of (index_of p.store + 1, all.stores.catalogue.rows) e) b) (same ∙ sym (bytes_same i p)) shown.shown;
       }
 
-  pub pieces_are : (closed files : List Placed) (pinned : FinMap nat_cmp PinOf) (pin : ℕ) (own : PinOf) → files_in i s ≡ closed ++ files → own.pieces ≡ map (piece_of all.stores.catalogue.rows) (map listed_of files) → get pinned pin ≡ Some own → PinsStand tells all pinned
+  pub pieces_are : (closed files behind : List Placed) (pinned : FinMap nat_cmp PinOf) (pin : ℕ) (own : PinOf) → files_in i s ≡ closed ++ (files ++ behind) → own.pieces ≡ map (piece_of all.stores.catalogue.rows) (map listed_of files) → get pinned pin ≡ Some own → PinsStand tells all pinned
       → (j : ℕ) (piece : FileState) → slice_get (map (state_of i) files) j ≡ Some piece → HasFileOf tells all m.rows own j piece
-  pieces_are closed files pinned pin own split are there stand j piece got =
+  pieces_are closed files behind pinned pin own split are there stand j piece got =
       let low = slice_get_within (map (state_of i) files) j piece got in
       let count = length-map files (state_of i) in
       let p = element files j (omega (arith, low, count)) in
       let file = piece_of all.stores.catalogue.rows (listed_of p.0) in
       let at : slice_get own.pieces j ≡ Some file = ap (λ (fs : List PinnedFile). slice_get fs j) are ∙ get_map (piece_of all.stores.catalogue.rows) (map listed_of files) j (listed_of p.0) (get_map listed_of files j p.0 p.1) in
-      let is_own = all_get (IsOwn all.stores s i) files j p.0 (all_last (IsOwn all.stores s i) closed files (subst (λ (xs : List Placed). AllByRecursion (IsOwn all.stores s i) xs) split all_own)) p.1 in
+      let is_own = all_get (IsOwn all.stores s i) files j p.0 (all_before (IsOwn all.stores s i) files behind (all_last (IsOwn all.stores s i) closed (files ++ behind) (subst (λ (xs : List Placed). AllByRecursion (IsOwn all.stores s i) xs) split all_own))) p.1 in
       let same : state_of i p.0 ≡ piece = same_Some (state_of i p.0) piece (sym (get_map (state_of i) files j p.0 p.1) ∙ got) in
       record { file = file; there = at; is = subst (λ (x : FileState). IsPieceOf tells all m.rows x file) same (piece_is p.0 is_own (stand pin j own file there at)) }

@@ -3,7 +3,7 @@ use Rattle.std.proofs.Common.{◌≡◌, inl, inr, ℕ, List, ◌++◌, length, 
 use Rattle.std.specs.FinMap.{FinMap, get}
 use Rattle.std.specs.Ordering.{nat_cmp}
 use Rattle.std.specs.Prelude.{All, Contains, IsTrue, filter, nat_eq, slice_get}
-use Rattle.std.proofs.lemmas.List.Elements.{All-contains, All-contains_itself, All-filter, All-from_recursion, All-map, All-same, All-weaker, Contains-append_cases, Contains-append_right}
+use Rattle.std.proofs.lemmas.List.Elements.{All-contains, All-contains_itself, All-filter, All-from_recursion, All-map, All-same, All-weaker, Contains-append_cases, Contains-append_left, Contains-append_right}
 use Rattle.disk_model.specs.Files.{Name}
 use Rattle.disk_model.specs.declared.disk.DiskErr.{DiskErr}
 use Rattle.disk_model.specs.declared.disk.DiskErr.TheVariants.{Fault, Memory}
@@ -86,14 +86,14 @@ module _ (at : Seen) (held : Stores) (known : IsKnown at.catalogue at.manifests 
     | inr short ↦ piece_in Short p short
   ]
 
-  pieces_of_row : (closed files : List Placed) (opened : List Listed) → files_in i held ≡ closed ++ files → map listed_of files ≡ opened → All (IsPieceOfRow at name) (map (piece_of at.catalogue.rows) (filter has_bytes opened))
-  pieces_of_row closed files opened split are = All-map (IsPieceOfRow at name) (piece_of at.catalogue.rows) (filter has_bytes opened) (All-filter has_bytes (λ (l : Listed). IsPieceOfRow at name (piece_of at.catalogue.rows l)) opened each)
+  pieces_of_row : (closed files behind : List Placed) (opened : List Listed) → files_in i held ≡ closed ++ (files ++ behind) → map listed_of files ≡ opened → All (IsPieceOfRow at name) (map (piece_of at.catalogue.rows) (filter has_bytes opened))
+  pieces_of_row closed files behind opened split are = All-map (IsPieceOfRow at name) (piece_of at.catalogue.rows) (filter has_bytes opened) (All-filter has_bytes (λ (l : Listed). IsPieceOfRow at name (piece_of at.catalogue.rows l)) opened each)
     where
       each : All (λ (l : Listed). IsPieceOfRow at name (piece_of at.catalogue.rows l)) opened
       each = subst (λ (ls : List Listed). All (λ (l : Listed). IsPieceOfRow at name (piece_of at.catalogue.rows l)) ls) are
           (All-map (λ (l : Listed). IsPieceOfRow at name (piece_of at.catalogue.rows l)) listed_of files
           (All-weaker (Contains files) (λ (p : Placed). IsPieceOfRow at name (piece_of at.catalogue.rows (listed_of p)))
-          (λ p there. piece_of_row p (subst (λ (ps : List Placed). Contains ps p) (sym split) (Contains-append_right closed files p there))) files (All-contains_itself files)))
+          (λ p there. piece_of_row p (subst (λ (ps : List Placed). Contains ps p) (sym split) (Contains-append_right closed (files ++ behind) p (Contains-append_left files behind p there)))) files (All-contains_itself files)))
 
 -- the stores' answer, by what they say of what is held
 pins_by : (R : Type 0) (tells reader_tells : Bool) (bytes : R → List ℕ) (faults : R → ℕ) (p q : Parts) (who : ℕ) (name : List ℕ) (query : Query) (tail : List Sample) (held : Stores) (given : Answer R) → IsKnown q.at.catalogue q.at.manifests held → (q.at.catalogue ≡ p.at.catalogue) × (q.at.manifests ≡ p.at.manifests)
@@ -105,7 +105,7 @@ pins_by R tells reader_tells bytes faults p q who name query tail _ _ known same
       own = own;
       made = ap (λ (x : FinMap nat_cmp PinOf). get x pin) made.made ∙ get_inserted p.pinned pin own;
       pieces = All-same (IsPieceOfRow q.at name) made.pieces (map (piece_of q.at.catalogue.rows) (filter has_bytes made.opened)) (made.are ∙ ap (λ (rows : List Row). map (piece_of rows) (filter has_bytes made.opened)) (sym known.rows))
-          (pieces_of_row q.at held known i name has enough.closed enough.files made.opened enough.split enough.are);
+          (pieces_of_row q.at held known i name has enough.closed enough.files enough.behind made.opened enough.split enough.are);
       same_lists = λ settled. same;
     }
 

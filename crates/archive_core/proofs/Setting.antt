@@ -1,13 +1,12 @@
 -- The acts that set a row's state: how each ends, and what a crash within it leaves.
 use Rattle.std.proofs.Common.{◌≡◌, ℕ, ◌≤◌, List, Bool, Option, Some, None, Result, Ok, Err, refl, sym, ◌∙◌, ap, subst}
-use Rattle.std.specs.Prelude.{slice_get, IsTrue}
-use Rattle.disk_model.specs.Past.{Passes}
+use Rattle.std.specs.Prelude.{slice_get}
 use Rattle.disk_model.specs.declared.disk.DiskErr.{DiskErr}
 use Rattle.event_types.specs.declared.about.State.{State}
 use Rattle.event_types.specs.declared.about.State.TheVariants.{Running, Paused, Retired}
 use Rattle.pv_catalog.specs.Catalogue.{HasState}
 use Rattle.durable_write.specs.Ends.{end_of_disk, IsFailed}
-use Rattle.tier_store.specs.Change.{OnlyReads}
+use Rattle.tier_store.specs.Change.{OnlySettles}
 use Rattle.tier_store.specs.Seen.{granularities}
 use Rattle.act_model.specs.Machine.{Machine, Change, SetsState, find_row}
 use Rattle.act_model.specs.Pause.{StateStep, Sets, state_refused, sets_of}
@@ -23,6 +22,7 @@ use Rattle.archive_core.specs.Parts.{Parts}
 use Rattle.archive_core.specs.Stands.{Stands, Rests}
 use Rattle.archive_core.specs.Wanting.{NoneRefuses, WithWants}
 use Rattle.archive_core.specs.Switching.{IsFound, IsUnset, from_of, to_of, wrong_of, switch_reply}
+use Rattle.archive_core.proofs.Crashes.{HoldsDoubted}
 use Rattle.archive_core.proofs.Acting.{refused_first, cut_ends, refused_then, done_ends, failed_ends, crash_none, crash_settling, crash_changing}
 use Rattle.archive_core.proofs.Switched.{found_row, unset_as, set_as}
 
@@ -88,7 +88,7 @@ module _ (tells : Bool) (switch : Switch) (name : List ℕ) (p : Parts) where
   pub set_refused : (e : Unset) → IsUnset p.at.catalogue.rows name switch e → SetEnds (switch_reply switch (Err e)) p
   set_refused e is = refused_first tells refuse run change (counted (wrong_of switch) name) (λ m f. refl) (λ m f answer new ran. ran) (never_wants switch name) (sets_tells (to_of switch) name) p (switch_reply switch (Err e)) (λ m s. unset_as tells p m name switch e s is)
 
-  pub set_cut : (q : Parts) (i : ℕ) (r : Result (Unit {0}) DiskErr) (e : DiskErr) → CanSet p i → r ≡ Err e → StandsStill tells p q → OnlyReads tells p.at q.at (end_of_disk r) → SetEnds (switch_reply switch (Err (unset.Disk e))) q
+  pub set_cut : (q : Parts) (i : ℕ) (r : Result (Unit {0}) DiskErr) (e : DiskErr) → CanSet p i → r ≡ Err e → StandsStill tells p q → OnlySettles tells p.at q.at (end_of_disk r) → SetEnds (switch_reply switch (Err (unset.Disk e))) q
   set_cut q i r e can is still reads = cut_ends tells refuse run change (counted (wrong_of switch) name) (λ m f. refl) (λ m f answer new ran. ran) (never_wants switch name) (sets_tells (to_of switch) name) p q e (passed p i can) still reads.faults
       (λ fault. reads.cause (subst (λ (x : Result (Unit {0}) DiskErr). IsFailed (end_of_disk x)) (sym (is ∙ ap (λ (d : DiskErr). Err d) fault)) tt))
 
@@ -104,13 +104,13 @@ module _ (tells : Bool) (switch : Switch) (name : List ℕ) (p : Parts) where
       pub set_failed : (e : DiskErr) → ((m : Machine) → Rests tells q m → ChangesTo {A = Unit {0}} tells (SetsState j (to_of switch)) q m new (Err e)) → SetEnds (switch_reply switch (Err (unset.Disk e))) new
       set_failed e ends = failed_ends tells refuse run change (counted (wrong_of switch) name) (λ m f. refl) (λ m f answer new ran. ran) (never_wants switch name) (sets_tells (to_of switch) name) p q (passed p i can) settles more (passed q j can_then) new (SetsState j (to_of switch)) (owned q j can_then) e ends
 
-      pub crash_set : (r : Result (Unit {0}) DiskErr) → (IsTrue tells → Passes (λ a b. b ≡ a) p.at.past q.at.past) → granularities q.at.manifests ≡ granularities p.at.manifests → ((m : Machine) → Rests tells q m → ChangesTo tells (SetsState j (to_of switch)) q m new r) → LeavesByAct tells refuse change p new
+      pub crash_set : (r : Result (Unit {0}) DiskErr) → HoldsDoubted tells p q → granularities q.at.manifests ≡ granularities p.at.manifests → ((m : Machine) → Rests tells q m → ChangesTo tells (SetsState j (to_of switch)) q m new r) → LeavesByAct tells refuse change p new
       crash_set r reads same_g ends = crash_changing tells refuse change (counted (wrong_of switch) name) (λ m f. refl) p q new (SetsState j (to_of switch)) r reads same_g settles (passed q j can_then) (owned q j can_then) ends
 
   pub crash_refused : LeavesByAct tells refuse change p p
   crash_refused = crash_none tells refuse change (counted (wrong_of switch) name) (λ m f. refl) p
 
-  pub crash_cut : (q : Parts) → (IsTrue tells → Passes (λ a b. b ≡ a) p.at.past q.at.past) → LeavesByAct tells refuse change p q
+  pub crash_cut : (q : Parts) → HoldsDoubted tells p q → LeavesByAct tells refuse change p q
   crash_cut q reads = crash_settling tells refuse change (counted (wrong_of switch) name) (λ m f. refl) p q reads
 
 -- what is told of a call whose result is known

@@ -14,8 +14,8 @@ use Rattle.pv_catalog.specs.Catalogue.{CatalogueState}
 use Rattle.pv_catalog.specs.Rows.{KeepsRows}
 use Rattle.durable_write.specs.Ends.{end_of_disk, IsFailed}
 use Rattle.durable_write.proofs.Rises.{rose_after}
-use Rattle.tier_store.specs.Change.{Acts as StoreActs, EndsFrom, Has, HoldsChange, IsEither, OnlyReads}
-use Rattle.tier_store.specs.Limbo.{IsListedName, IsNeeded, IsSwept as IsSweptOf, LeavesKept, LimboStands, staying}
+use Rattle.tier_store.specs.Change.{Acts as StoreActs, EndsFrom, Has, HoldsChange, IsEither, OnlySettles}
+use Rattle.tier_store.specs.Limbo.{IsListedName, IsNeeded, IsSwept as IsSweptOf, LeavesKeptFiles, LimboStands, staying}
 use Rattle.tier_store.specs.Moving.{LeavesLater, LeavesNames}
 use Rattle.tier_store.specs.Pinned.{SeenAll, beside, KeepsShown}
 use Rattle.tier_store.specs.Revival.{KeepsWhole}
@@ -44,6 +44,7 @@ use Rattle.archive_core.specs.Pins.{ArePinsOf}
 use Rattle.archive_core.specs.Stands.{Stands, Rests}
 use Rattle.archive_core.specs.Sweeping.{sweep_reply}
 use Rattle.archive_core.specs.Written.{AreWritten}
+use Rattle.archive_core.proofs.Crashes.{HoldsDoubted}
 use Rattle.archive_core.proofs.Acting.{crash_settling}
 use Rattle.archive_core.proofs.Changing.{rests_again, stands_so}
 use Rattle.archive_core.proofs.Growth.{rows_go_on, same_grow, stays_listed}
@@ -64,7 +65,7 @@ pub record StoresSwept (tells : Bool) (copied : List Name) (q new : Parts) (resu
   pub acts : StoreActs tells staying q.at new.at (end_of_disk result)
   pub swept : IfOk result (λ (s : Swept). IsSweptOf new.at q.pinned copied q.limbo new.limbo s.files)
   pub failed : OnErr result ((new.limbo ≡ q.limbo) × KeepsShown tells (beside q.at q.limbo) (beside new.at q.limbo) × LeavesLater tells (beside q.at q.limbo) (beside new.at q.limbo))
-  pub leaves : LeavesKept tells q.pinned copied (beside q.at q.limbo) (beside new.at new.limbo)
+  pub leaves : LeavesKeptFiles tells q.pinned copied (beside q.at q.limbo) (beside new.at new.limbo)
   pub left : LeavesNames copied tells (beside q.at q.limbo) (beside new.at new.limbo)
   pub whole : KeepsWhole tells (beside q.at q.limbo) (beside new.at new.limbo)
   pub stands : LimboStands new.at new.limbo
@@ -273,7 +274,7 @@ module _ (tells : Bool) (p : Parts) where
   SweepEnds given q = Steps tells SweepStep p given q
 
   -- the doubt couldn't be settled
-  pub sweep_cut : (q : Parts) (r : Result (Unit {0}) DiskErr) (e : DiskErr) → r ≡ Err e → StandsStill tells p q → OnlyReads tells p.at q.at (end_of_disk r) → SweepEnds (disk_reply e) q
+  pub sweep_cut : (q : Parts) (r : Result (Unit {0}) DiskErr) (e : DiskErr) → r ≡ Err e → StandsStill tells p q → OnlySettles tells p.at q.at (end_of_disk r) → SweepEnds (disk_reply e) q
   sweep_cut q r Fault is still reads = λ m s.
       let rises : Rose m.faults q.at.faults = rw s.faults (reads.cause (subst (λ (x : Result (Unit {0}) DiskErr). IsFailed (end_of_disk x)) (sym is) tt)) in
       (record m { faults = q.at.faults }, faults_first refl refl rises, still m s)
@@ -313,7 +314,7 @@ module _ (tells : Bool) (p : Parts) where
         (record mid.0 { faults = new.at.faults }, wants_memory_settled refl mid.1 refl (omega (arith, was, more, later)), stands_still tells copied q new (Err Memory) swept same n mid.2 swept.failed)
 
     -- at each moment a crash leaves what was there, or what is settled
-    pub crash_sweep : (result : Result Swept DiskErr) → StoresSwept tells copied q new result → (IsTrue tells → Passes (λ a b. b ≡ a) p.at.past q.at.past) → granularities q.at.manifests ≡ granularities p.at.manifests → LeavesByAct tells (λ m. None) (λ m. None) p new
+    pub crash_sweep : (result : Result Swept DiskErr) → StoresSwept tells copied q new result → HoldsDoubted tells p q → granularities q.at.manifests ≡ granularities p.at.manifests → LeavesByAct tells (λ m. None) (λ m. None) p new
     crash_sweep result swept reads same_g = λ m told s.
         let mid = settles m s in
         let n : Machine = record mid.0 { faults = q.at.faults } in
@@ -321,5 +322,5 @@ module _ (tells : Bool) (p : Parts) where
         let first = crash_settling tells (λ m. None) (λ m. None) (λ m f. refl) (λ m f. refl) p q reads m told s in
         passes_then (λ a image. LeavesWithin (λ m. None) (λ m. None) (granularities p.at.manifests) m image) (λ a image. HoldsMachine (granularities p.at.manifests) image n) p.at.past q.at.past new.at.past first second (λ a b image was within left holds. (mid.0, settled_there mid.1, holds))
 
-  pub crash_sweep_cut : (q : Parts) → (IsTrue tells → Passes (λ a b. b ≡ a) p.at.past q.at.past) → LeavesByAct tells (λ m. None) (λ m. None) p q
+  pub crash_sweep_cut : (q : Parts) → HoldsDoubted tells p q → LeavesByAct tells (λ m. None) (λ m. None) p q
   crash_sweep_cut q reads = crash_settling tells (λ m. None) (λ m. None) (λ m f. refl) (λ m f. refl) p q reads

@@ -13,7 +13,7 @@ use Rattle.running_moves.specs.declared.table.Running.{Running}
 use Rattle.store_manifest.specs.Manifest.{ManifestState}
 use Rattle.store_manifest.specs.declared.entry.Entry.{Entry as FileEntry}
 use Rattle.durable_write.specs.Held.{file_of}
-use Rattle.tier_store.specs.Pinned.{SeenAll, beside, IsThereTo, LeavesFronts}
+use Rattle.tier_store.specs.Pinned.{SeenAll, beside, LeavesFronts}
 use Rattle.tier_store.specs.Pinning.{piece_of}
 use Rattle.tier_store.specs.Seen.{Seen, IsSettled}
 use Rattle.act_model.specs.History.{Entry}
@@ -34,14 +34,14 @@ use Rattle.archive_core.specs.Wanting.{Wants}
 abbrev pub files_of : Parts → SeenAll
 files_of p = beside p.at p.limbo
 
--- The disk was only read: reads give what they gave, and a crash leaves what it might have left before. What is listed or in limbo is so still.
+-- The disk was only read, but for what the settling of a doubt changes in the files of a journal: whatever is listed or in limbo stays. Where
+-- nothing stood in doubt, none does then; reads give what they gave, and a crash leaves what it might have left before.
 pub record ReadsAlone (tells : Bool) (p q : Parts) : Type 0 where
-  pub files : IsTrue tells → q.at.files ≡ p.at.files
-  pub any_moment : IsTrue tells → Passes (λ a b. b ≡ a) p.at.past q.at.past
-  pub there : (name : Name) (len : ℕ) → IsThereTo (files_of p) name len → IsThereTo (files_of q) name len
+  pub fronts : LeavesFronts tells (files_of p) (files_of q)
+  pub quiet : IsSettled p.at → IsSettled q.at × (IsTrue tells → (q.at.files ≡ p.at.files) × Passes (λ a b. b ≡ a) p.at.past q.at.past)
 
--- A change of rows and a flush leave whatever is listed or in limbo. A step of a move and a sweep may take files away. Every other act only reads the
--- disk, if it calls it at all.
+-- A change of rows and a flush leave whatever is listed or in limbo. A step of a move and a sweep may take files away. Every other act settles a doubt
+-- and only reads the disk, if it calls it at all.
 abbrev pub LeavesFiles : Bool → Act → Parts → Parts → Type 0
 LeavesFiles tells (Register name about) p q = LeavesFronts tells (files_of p) (files_of q)
 LeavesFiles tells (Pause name) p q = LeavesFronts tells (files_of p) (files_of q)

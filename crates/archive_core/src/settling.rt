@@ -2,7 +2,7 @@
 ghost use Rattle.std.specs.Prelude.{◌≡◌, ◌↔◌, IsTrue, OnOk, OnErr};
 ghost use Rattle.pv_catalog.specs.Catalogue.{HasState};
 ghost use Rattle.durable_write.specs.Ends.{end_of_disk};
-ghost use Rattle.tier_store.specs.Change.{OnlyReads};
+ghost use Rattle.tier_store.specs.Change.{OnlySettles};
 ghost use Rattle.tier_store.specs.Pinned.{LeavesFronts};
 ghost use Rattle.tier_store.specs.Seen.{seen, IsSettled, granularities};
 ghost use Rattle.act_model.specs.Machine.{Machine};
@@ -52,8 +52,8 @@ fn clear_set(rows: &[Row], kept: &mut Vec<RowMemory>, doubt: &Option<Doubt>)
 }
 
 impl<D: Disk> Archive<D> {
-    /// Finds out whether a change that stands in doubt was made, and takes it in where it was: it only reads, and not even that where nothing
-    /// stands in doubt.
+    /// Finds out whether a change that stands in doubt was made, and takes it in where it was. It changes no file but those of a journal, and
+    /// makes no call of the disk where nothing stands in doubt.
     ///
     /// After an error the doubt stands as before. `Fault` comes only where the disk's count of faults rose in the call.
     pub fn settle(&mut self) -> Result<(), DiskErr>
@@ -61,7 +61,7 @@ impl<D: Disk> Archive<D> {
         ensures settled { OnOk result (SettlesTo D.tells (parts D.Disk self.old) (parts D.Disk self.new)) }
         ensures still { OnErr result (StandsStill D.tells (parts D.Disk self.old) (parts D.Disk self.new)) }
         ensures granularity { granularities self.new.store.manifests.items ≡ granularities self.old.store.manifests.items }
-        ensures reads { OnlyReads D.tells (seen D.Disk self.old.store) (seen D.Disk self.new.store) (end_of_disk result) }
+        ensures settles { OnlySettles D.tells (seen D.Disk self.old.store) (seen D.Disk self.new.store) (end_of_disk result) }
         ensures fronts { LeavesFronts D.tells (files_of (parts D.Disk self.old)) (files_of (parts D.Disk self.new)) }
         ensures quiet { IsSettled (seen D.Disk self.old.store) → self.new.store ≡ self.old.store }
         ensures moves { self.new.moves ≡ self.old.moves }

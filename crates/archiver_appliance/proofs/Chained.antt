@@ -3,13 +3,13 @@ use Rattle.std.proofs.Common.{◌≡◌, inl, inr, ℕ, ◌+◌, List, [], ◌�
 use Rattle.std.specs.Prelude.{Contains, IsTrue, slice_get}
 use Rattle.std.specs.List.{AllByRecursion}
 use Rattle.std.proofs.lemmas.List.Elements.{Contains-get_or}
-use Rattle.disk_model.specs.Files.{Name, Files}
-use Rattle.disk_model.proofs.Passing.{passes_none, passes_then, passes_weaker}
+use Rattle.disk_model.specs.Files.{Name}
+use Rattle.disk_model.proofs.Passing.{passes_weaker}
 use Rattle.edge_io.specs.Moments.{Moments}
 use Rattle.payload_info.specs.declared.info.PayloadInfo.{PayloadInfo}
 use Rattle.pb_lines.specs.Stream.{Item, header, sample, chunk_end}
 use Rattle.series_model.specs.declared.sample.Query.{Query}
-use Rattle.store_files.specs.Fronts.{Begins, Keeps}
+use Rattle.store_files.specs.Fronts.{Keeps}
 use Rattle.store_manifest.specs.Manifest.{ManifestState}
 use Rattle.store_manifest.specs.declared.entry.Entry.{Entry as FileEntry}
 use Rattle.durable_write.specs.Held.{KeepsListed, Listing, file_of}
@@ -19,7 +19,6 @@ use Rattle.tier_store.specs.Pinned.{IsThereTo, LeavesFronts}
 use Rattle.tier_store.specs.Stores.{Stores}
 use Rattle.tier_store.proofs.LeavingFronts.{fronts_on, nothing_fronts}
 use Rattle.tier_store.proofs.OpenedBeside.{listed_to}
-use Rattle.tier_store.proofs.Showing.{fronts_same}
 use Rattle.act_model.specs.Alone.{Chain}
 use Rattle.act_model.specs.History.{Done, Entry, done_of, mine, own}
 use Rattle.act_model.specs.Machine.{Machine}
@@ -29,6 +28,7 @@ use Rattle.act_model.specs.declared.acts.Act.TheVariants.{Register, Offer, Flush
 use Rattle.act_model.specs.declared.acts.Answer.TheVariants.{IntakeFull}
 use Rattle.archive_core.specs.Leaving.{Leaves, LeavesFiles, ReadsAlone, files_of}
 use Rattle.archive_core.specs.Parts.{Parts}
+use Rattle.archive_core.proofs.ReadingAlone.{reads_none, reads_then}
 use Rattle.feed_session.specs.Asks.{AsksFor, AsksRow, AreMade, asked_again}
 use Rattle.feed_session.specs.Session.{AreTaken, AsksLast, Session, Taken, acts_of, chunk_after}
 use Rattle.feed_session.specs.Asks.{chunk_behind}
@@ -135,28 +135,9 @@ retrieval_looking name query (with_pin pin told_name about pieces tail told fail
 
 -- WHAT AN ACT LEAVES
 
-reads_none : (tells : Bool) (p : Parts) → ReadsAlone tells p p
-reads_none tells p = record { files = λ told. refl; any_moment = λ told. passes_none (λ a b. b ≡ a) p.at.past (λ a left. refl); there = λ name len is. is }
-
-reads_on : (tells : Bool) (p q r : Parts) → ReadsAlone tells p q → ReadsAlone tells q r → ReadsAlone tells p r
-reads_on tells p q r one two = record {
-  files = λ told. two.files told ∙ one.files told;
-  any_moment = λ told. passes_then (λ a b. b ≡ a) (λ a b. b ≡ a) p.at.past q.at.past r.at.past (one.any_moment told) (two.any_moment told) (λ a b c left was now is. is ∙ was);
-  there = λ name len is. two.there name len (one.there name len is);
-}
-
-reads_fronts : (tells : Bool) (p q : Parts) → ReadsAlone tells p q → LeavesFronts tells (files_of p) (files_of q)
-reads_fronts tells p q reads = record {
-  there = reads.there;
-  now = λ told. fronts_same (files_of p) (files_of q) (reads.files told);
-  any_moment = λ told store numbered.
-      passes_weaker (λ a b. b ≡ a) (λ a b. (name : Name) (len : ℕ) → name.0 ≡ store → IsThereTo (files_of p) name len → Keeps len (a name) (b name)) p.at.past q.at.past (reads.any_moment told)
-      (λ a b left is name len of was front some within begins. subst (λ (f : Files). Begins front (f name)) (sym is) begins);
-}
-
 feeding_leaves : (tells : Bool) (act : Act) (p q : Parts) → IsFeeding act → LeavesFiles tells act p q → LeavesFronts tells (files_of p) (files_of q)
 feeding_leaves tells (Register name about) p q is files = files
-feeding_leaves tells (Offer name ty t line now) p q is files = reads_fronts tells p q files
+feeding_leaves tells (Offer name ty t line now) p q is files = files.fronts
 feeding_leaves tells (Flush limit) p q is files = files
 feeding_leaves tells _ p q is files = absurd is
 
@@ -183,8 +164,8 @@ module _ {A : Type 0} (tells : Bool) (stands : A → Machine → Type 0) (see : 
 
   pub reads_along : (entries : List Entry) (a b : A) → AllByRecursion (λ (e : Entry). IsLooking e.act) entries → Chain stands (λ a e b. Leaves tells (see a) e (see b)) a entries b → ReadsAlone tells (see a) (see b)
   reads_along =
-      along stands (λ a e b. Leaves tells (see a) e (see b)) (λ a b. ReadsAlone tells (see a) (see b)) (λ a. reads_none tells (see a))
-      (λ a b c one two. reads_on tells (see a) (see b) (see c) one two) IsLooking (λ a b e is left. looking_leaves tells e.act (see a) (see b) is left.files)
+      along stands (λ a e b. Leaves tells (see a) e (see b)) (λ a b. ReadsAlone tells (see a) (see b)) (λ a. reads_none tells (see a) (see a) refl)
+      (λ a b c one two. reads_then tells (see a) (see b) (see c) one two) IsLooking (λ a b e is left. looking_leaves tells e.act (see a) (see b) is left.files)
 
 -- WHAT IS LISTED
 

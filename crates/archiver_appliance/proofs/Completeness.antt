@@ -1,5 +1,5 @@
 -- Where no count rose, what can be done is done, or memory was wanting.
-use Rattle.std.proofs.Common.{◌≡◌, ◌⊎◌, inl, inr, Bor, ℕ, List, Bool, true, false, Option, Some, None, Result, Ok, Err, refl, sym, ◌∙◌, ap, subst, arith}
+use Rattle.std.proofs.Common.{◌≡◌, ◌⊎◌, inl, inr, ℕ, List, Bool, true, false, Option, Some, None, Result, Ok, Err, refl, sym, ap, subst, arith}
 use Rattle.std.specs.Prelude.{IsTrue, IfSome, nat_lt}
 use Rattle.edge_io.specs.Stream.{Rose}
 use Rattle.disk_model.specs.Files.{Files, Rose as DiskRose}
@@ -21,7 +21,7 @@ use Rattle.command_words.specs.Command.{IsCommand, IsFaulty}
 use Rattle.archiver_appliance.specs.Ingesting.{IsIngested}
 use Rattle.archiver_appliance.specs.Outside.{Outside, IsCaused, IsQuiet}
 use Rattle.archiver_appliance.specs.Reporting.{Tells, ChecksAll}
-use Rattle.archiver_appliance.specs.Run.{NoDamage, IsUnasked, Makes, MakesOfRead, Serves, Does, Obeys, IsGoodSource, IsServable, CanBeDone, EndsWell, EndsWellBy, IsServe}
+use Rattle.archiver_appliance.specs.Run.{NoDamage, IsUnasked, Makes, Serves, Does, Obeys, IsGoodSource, IsServable, CanBeDone, EndsWell, EndsWellBy, IsServe}
 use Rattle.command_words.specs.Status.{number_of}
 use Rattle.stream_extract.specs.Text.{Extracts}
 use Rattle.archiver_appliance.proofs.Opening.{first_stands}
@@ -156,8 +156,8 @@ module _ (config : ConfigState) (before after first : Stores) (old new : Outside
   makes_well command.Check stands undamaged can checks door makes = let all = checks refl in check_done all.0 old.files all.1 all.2 all.3 old.sink new.sink status undamaged six seven all.4
   makes_well (command.Serve numbers) stands undamaged can checks door (inl unasked) = inr (unasked_well unasked)
   makes_well (command.Serve numbers) stands undamaged can checks door (inr from) =
-      let told = from.1.told in
-      served_by numbers (door tt) (nat_lt 0 told.door_faults) told.disk_fault told.memory told.spent from.1.status_is
+      let told = from.0 in
+      served_by numbers (door tt) (nat_lt 0 told.door_faults) told.disk_fault told.memory told.spent from.1
 
 able_first : (asked : StoreCommand) (source : Option (List ℕ)) (before after first : Stores) → IsEither before after first → IsServable asked source before × IsServable asked source after → IsServable asked source first
 able_first asked source before after first (inl is) can = subst (λ (h : Stores). IsServable asked source h) (sym is) can.0

@@ -83,11 +83,11 @@ module _ {A : Type 0} (tells : Bool) (stands : A → Machine → Type 0) (see : 
   Links = Chain stands (λ a e b. Leaves tells (see a) e (see b))
 
   -- each was opened of the same pin, and the files stayed
-  opened_all : (pin i : ℕ) (ts : List PieceTold) (rest : List Done) (entries : List Entry) (a b : A) (files : Files) (own : PinOf) → map done_of entries ≡ openings pin i ts ++ rest → Links a entries b → (see a).at.files ≡ files → get (see a).pinned pin ≡ Some own
+  opened_all : (pin i : ℕ) (ts : List PieceTold) (rest : List Done) (entries : List Entry) (a b : A) (files : Files) (own : PinOf) → map done_of entries ≡ openings pin i ts ++ rest → Links a entries b → IsSettled (see a).at → (see a).at.files ≡ files → get (see a).pinned pin ≡ Some own
       → AllByRecursion (IsOpened files own.pieces) (map named ts)
-  opened_all pin i [] rest entries a b files own is chain same there = tt
-  opened_all pin i (t ∷ ts) rest [] a b files own is chain same there = absurd (cc (is))
-  opened_all pin i (t ∷ ts) rest (e ∷ es) a b files own is chain same there =
+  opened_all pin i [] rest entries a b files own is chain settled same there = tt
+  opened_all pin i (t ∷ ts) rest [] a b files own is chain settled same there = absurd (cc (is))
+  opened_all pin i (t ∷ ts) rest (e ∷ es) a b files own is chain settled same there =
       let first : done_of e ≡ opening pin i t = cc (is) in
       let later : map done_of es ≡ openings pin (i + 1) ts ++ rest = cc (is) in
       let act : e.act ≡ OpenPiece pin i = ap (λ (d : Done). d.act) first in
@@ -96,7 +96,7 @@ module _ {A : Type 0} (tells : Bool) (stands : A → Machine → Type 0) (see : 
       let reads : ReadsAlone tells (see a) (see mid) = subst (λ (x : Act). LeavesFiles tells x (see a) (see mid)) act chain.2.files in
       let pins : ((see mid).pinned ≡ (see a).pinned) × OpensFile tells (see a) pin i t.reader t.name t.len = subst (λ (r : Reply). LeavesPins tells (see a) (OpenPiece pin i) r (see mid)) answer (subst (λ (x : Act). LeavesPins tells (see a) x e.answer (see mid)) act chain.2.pins) in (
         subst (λ (f : Files). IsOpened f own.pieces (named t)) same (opened_one tells (see a) pin i t own told there pins.1),
-        opened_all pin (i + 1) ts rest es mid b files own later chain.3 (reads.files told ∙ same) (ap (λ m. get m pin) pins.0 ∙ there),
+        opened_all pin (i + 1) ts rest es mid b files own later chain.3 (reads.quiet settled).0 (((reads.quiet settled).1 told).0 ∙ same) (ap (λ m. get m pin) pins.0 ∙ there),
       )
 
   module _ (name : List ℕ) (query : Query) (pin : ℕ) (told_name : List ℕ) (about : About) (pieces : ℕ) (tail : List Sample) (ts : List PieceTold) (rest : List Done) where
@@ -112,7 +112,7 @@ module _ {A : Type 0} (tells : Bool) (stands : A → Machine → Type 0) (see : 
         let mid = chain.0 in
         let reads : ReadsAlone tells (see a) (see mid) = subst (λ (x : Act). LeavesFiles tells x (see a) (see mid)) act chain.2.files in
         let pins : PinsFiles (see a) name pin (see mid) = subst (λ (r : Reply). LeavesPins tells (see a) (Pin name query) r (see mid)) answer (subst (λ (x : Act). LeavesPins tells (see a) x e.answer (see mid)) act chain.2.pins) in
-        let opened = opened_all pin 0 ts rest es mid b (see a).at.files pins.own later chain.3 (reads.files told) pins.made in
+        let opened = opened_all pin 0 ts rest es mid b (see a).at.files pins.own later chain.3 (reads.quiet settled).0 ((reads.quiet settled).1 told).0 pins.made in
         let o = All-contains (IsOpened (see a).at.files pins.own.pieces) (map named ts) n (All-from_recursion (IsOpened (see a).at.files pins.own.pieces) (map named ts) opened) among in
         by_piece (see a).at (see mid).at n o.piece (pins.same_lists settled) o.is_named o.bytes (all_at (IsPieceOfRow (see mid).at name) pins.own.pieces o.i o.piece pins.pieces o.here)
       where

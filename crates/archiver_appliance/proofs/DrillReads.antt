@@ -1,6 +1,6 @@
 -- What one who acts alone on a drill's archive is told of a variable: the tally of a whole retrieval, and the files of its details.
-use Rattle.std.proofs.Common.{◌≡◌, ◌⊎◌, inl, inr, ℕ, ◌+◌, suc, List, [], ◌∷◌, ◌++◌, length, map, Bool, true, false, Option, Some, None, Result, Ok, Err, refl, sym, ap, subst, ◌∙◌, append_assoc, append-nil, arith}
-use Rattle.std.specs.Prelude.{◌==◌, IsTrue}
+use Rattle.std.proofs.Common.{◌≡◌, ◌⊎◌, inl, inr, ℕ, ◌+◌, suc, List, [], ◌∷◌, ◌++◌, length, Bool, true, Option, Some, None, Result, Ok, Err, refl, sym, ap, subst, ◌∙◌, append_assoc, append-nil, arith}
+use Rattle.std.specs.Prelude.{IsTrue}
 use Rattle.std.proofs.lemmas.Bool.Decides.{nat_tests}
 use Rattle.std.proofs.lemmas.List.{length-map}
 use Rattle.disk_model.specs.declared.disk.Disk.{Ghosts}
@@ -77,7 +77,7 @@ module _ {A O D R : Type 0} (disk : Ghosts D R) (number : A → ℕ) (between : 
 -- DETAILS
 
 -- one act alone is the step to the end
-one_step : (entries : List Entry) (start end : Machine) (d : Done) → own 0 entries ≡ entries → mine 0 entries ≡ d ∷ [] → Runs start entries end → Step 0 d.act start d.answer end
+pub one_step : (entries : List Entry) (start end : Machine) (d : Done) → own 0 entries ≡ entries → mine 0 entries ≡ d ∷ [] → Runs start entries end → Step 0 d.act start d.answer end
 one_step [] start end d all is run = absurd (cc (is))
 one_step (e ∷ []) start end d all is run =
     let test = first_own 0 e [] all in
@@ -166,6 +166,10 @@ module _ {D R : Type 0} (disk : Ghosts D R) where
     pub asked_acts : {N : Type 0} (reply : N → Reply) (act : Act) (result : Result N NoAct) → Asked number Between (λ a. ⊥) reply old act result new → (done : List Done) × ActsAlone disk first done last
     asked_acts {N} reply act (Ok n) asked = (record { act = act; answer = reply n } ∷ [], acts_given_back (record { act = act; answer = reply n } ∷ []) asked.done)
     asked_acts {N} reply act (Err e) asked = ([], acts_given_back [] asked.spent.0)
+
+    -- one act was made, and this was answered
+    pub made_one : {N : Type 0} (reply : N → Reply) (act : Act) (n m : N) → n ≡ m → Made number Between old (record { act = act; answer = reply n } ∷ []) new → Made number Between old (record { act = act; answer = reply m } ∷ []) new
+    made_one {N} reply act n m is made = subst (λ (x : N). Made number Between old (record { act = act; answer = reply x } ∷ []) new) is made
 
     alone_given_back : (entries : List Entry) → Between old entries new → AloneOn disk first entries last
     alone_given_back entries leads = alone_on disk old.archive.now first new.archive.now last old.who entries zero leads.2 from (to leads.0)

@@ -10,7 +10,7 @@ use Rattle.store_manifest.specs.Manifest.{ManifestState}
 use Rattle.durable_write.specs.Writing.{LeavesListed}
 use Rattle.tier_store.specs.Change.{Has}
 use Rattle.tier_store.specs.Pinned.{LeavesFronts}
-use Rattle.tier_store.specs.Seen.{seen}
+use Rattle.tier_store.specs.Seen.{seen, IsSettled}
 use Rattle.tier_store.specs.Stores.{Stores}
 use Rattle.tier_store.specs.declared.store.TierStore.{TierStore}
 use Rattle.store_reopen.specs.Reopen.{lists_of}
@@ -46,15 +46,19 @@ module _ {D R : Type 0} (disk : Ghosts D R) (old new : Archive D R) (done : List
         (subst (λ (s : TierStore D R). (i : ℕ) (m : ManifestState) → slice_get s.manifests.items i ≡ Some m → LeavesListed ((i + 1, s.catalogue.rows), m.entries) (disk.files s.disk) (disk.files new.store.disk) (disk.past s.disk) (disk.past new.store.disk)) same
         (lists_left disk.tells (parts disk old) (parts disk new) held (has_old held has) fronts told))
 
-    -- a retrieval only reads
+    -- a retrieval settles a doubt, and only reads
     only_reads : AllDone IsLooking done → ReadsAlone disk.tells (parts disk old) (parts disk new)
     only_reads are = reads_along disk.tells (λ a m. Stands disk.tells (parts disk a) m) (parts disk) made.entries old new (acts_alone_are IsLooking made.entries done made.no_others made.just_these are) made.chain
 
-    pub files_given : AllDone IsLooking done → IsTrue disk.tells → disk.files given ≡ disk.files store.disk
-    files_given are told = ap disk.files (sym back) ∙ ((only_reads are).files told ∙ ap (λ (s : TierStore D R). disk.files s.disk) same)
+    -- where nothing stands in doubt
+    quiet_given : AllDone IsLooking done → IsSettled (seen disk store) → IsTrue disk.tells → (disk.files new.store.disk ≡ disk.files old.store.disk) × Passes (λ a b. b ≡ a) (disk.past old.store.disk) (disk.past new.store.disk)
+    quiet_given are settled told = ((only_reads are).quiet (subst (λ (s : TierStore D R). IsSettled (seen disk s)) (sym same) settled)).1 told
 
-    pub moments_given : AllDone IsLooking done → IsTrue disk.tells → Passes (λ a b. b ≡ a) (disk.past store.disk) (disk.past given)
-    moments_given are told = subst (λ (d : D). Passes (λ a b. b ≡ a) (disk.past store.disk) (disk.past d)) back (subst (λ (s : TierStore D R). Passes (λ a b. b ≡ a) (disk.past s.disk) (disk.past new.store.disk)) same ((only_reads are).any_moment told))
+    pub files_given : AllDone IsLooking done → IsSettled (seen disk store) → IsTrue disk.tells → disk.files given ≡ disk.files store.disk
+    files_given are settled told = ap disk.files (sym back) ∙ ((quiet_given are settled told).0 ∙ ap (λ (s : TierStore D R). disk.files s.disk) same)
+
+    pub moments_given : AllDone IsLooking done → IsSettled (seen disk store) → IsTrue disk.tells → Passes (λ a b. b ≡ a) (disk.past store.disk) (disk.past given)
+    moments_given are settled told = subst (λ (d : D). Passes (λ a b. b ≡ a) (disk.past store.disk) (disk.past d)) back (subst (λ (s : TierStore D R). Passes (λ a b. b ≡ a) (disk.past s.disk) (disk.past new.store.disk)) same (quiet_given are settled told).1)
 
   -- what a retrieval tells as damaged is a listed file of the row that has the name
   module _ (start end : Machine) (stands : Stands disk.tells (parts disk old) start) (settled : start.doubt ≡ None) (run : Runs start made.entries end) (held : Stores) (has : Has disk.tells (seen disk store) held) (name : List ℕ) (query : Query) (are : IsRetrieval name query done) where

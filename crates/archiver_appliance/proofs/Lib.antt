@@ -21,6 +21,7 @@ pub mod Refusals
 pub mod Retrievals
 pub mod Services
 pub mod ServingAll
+pub mod Spending
 pub mod StoppedMoves
 pub mod Tallies
 pub mod Words

@@ -7,7 +7,6 @@ use Rattle.disk_model.specs.declared.disk.Disk.{Ghosts}
 use Rattle.disk_model.proofs.Passing.{passes_then, passes_weaker}
 use Rattle.partition_names.specs.declared.granularity.Granularity.{Granularity}
 use Rattle.pv_catalog.specs.declared.row.Row.{Row}
-use Rattle.pv_catalog.specs.Catalogue.{catalogue_name}
 use Rattle.store_manifest.specs.declared.entry.Entry.{Entry}
 use Rattle.store_manifest.specs.Manifest.{manifest_name}
 use Rattle.store_manifest.proofs.Committing.{one_listing}
@@ -26,8 +25,8 @@ use Rattle.archiver_appliance.specs.Run.{OnlyReads}
 -- an image's journals say one list of rows, and of each store one of entries
 pub same_said : (gs : List Granularity) (files : Files) (rows r₂ : List Row) (lists l₂ : Listings) → AreSaid gs files rows lists → AreSaid gs files r₂ l₂ → (rows ≡ r₂) × ((i : ℕ) → i < length gs → lists i ≡ l₂ i)
 same_said gs files rows r₂ lists l₂ one two = (
-  one_list_of_rows (files catalogue_name) rows r₂ one.rows_said two.rows_said,
-  λ i low. let g = granularity_here gs i low in one_listing g.0 g.0 (files (manifest_name (i + 1))) (lists i) (l₂ i) (one.lists_said i g.0 g.1) (two.lists_said i g.0 g.1),
+  one_list_of_rows files rows r₂ one.rows_said two.rows_said,
+  λ i low. let g = granularity_here gs i low in one_listing g.0 g.0 (manifest_name (i + 1)) files (lists i) (l₂ i) (one.lists_said i g.0 g.1) (two.lists_said i g.0 g.1),
 )
 
 -- what reads give is what was before a change, or what is after it
@@ -72,7 +71,7 @@ opens_then gs old new before after opens passes =
 -- opening, and then calls that only read
 pub then_reads : (gs : List Granularity) (files between later : Files) (old mid new : Past) → OnlyReads gs files between old mid → later ≡ between → Passes (λ a b. b ≡ a) mid new → OnlyReads gs files later old new
 then_reads gs files between later old mid new opening same passes = record {
-  any_moment = passes_then (StillHolds gs files) (λ a b. b ≡ a) old mid new opening.any_moment passes (λ a b c was step now is. same_image (λ (f : Files). StillHolds gs files a f) b c is step);
+  any_moment = passes_then (StillHolds gs) (λ a b. b ≡ a) old mid new opening.any_moment passes (λ a b c was step now is. same_image (λ (f : Files). StillHolds gs a f) b c is step);
   either = λ before after opens. passes_then (λ a b. HoldsEither gs before after b) (λ a b. b ≡ a) old mid new (opening.either before after opens) passes (λ a b c was step now is. same_image (λ (f : Files). HoldsEither gs before after f) b c is step);
   opens = λ before after opens. opens_then gs mid new before after (opening.opens before after opens) passes;
   elsewhere = λ n other. ap (λ (f : Files). f n) same ∙ opening.elsewhere n other;

@@ -1,5 +1,5 @@
 -- What a service leaves of its posts, and what its status says of them.
-use Rattle.std.proofs.Common.{◌≡◌, ◌⊎◌, inl, inr, ℕ, ◌+◌, ◌<◌, List, [], ◌∷◌, ◌++◌, Bool, true, false, Option, Some, Result, Ok, Err, refl, sym, ◌∙◌, ap, subst, map, cond, arith}
+use Rattle.std.proofs.Common.{◌≡◌, ◌⊎◌, inl, inr, ℕ, ◌+◌, ◌<◌, ◌≤◌, List, length, [], ◌∷◌, ◌++◌, Bool, true, false, Option, Some, Result, Ok, Err, refl, sym, ◌∙◌, ap, subst, map, cond, arith}
 use Rattle.std.specs.Prelude.{All, nat_lt, count_by, slice_get}
 use Rattle.std.specs.List.{list_any}
 use Rattle.std.proofs.lemmas.Bool.{false≢true}
@@ -9,9 +9,12 @@ use Rattle.std.proofs.lemmas.List.Elements.{All-cons, All-head, All-nil, All-tai
 use Rattle.edge_io.specs.Doors.{Ledger}
 use Rattle.edge_io.specs.Moments.{Moments}
 use Rattle.edge_io.specs.Stream.{Rose}
+use Rattle.store_reopen.specs.declared.error.ReopenErr.{ReopenErr}
+use Rattle.store_reopen.specs.declared.error.ReopenErr.TheVariants as reopening
 use Rattle.turn_rooms.specs.declared.rooms.Pass.{Pass}
 use Rattle.turn_rooms.specs.declared.rooms.Rooms.{Rooms}
-use Rattle.turn_rooms.specs.Passes.{drained, known}
+use Rattle.turn_rooms.specs.Histories.{most_acts, most_numbers}
+use Rattle.turn_rooms.specs.Passes.{known, stands}
 use Rattle.act_model.specs.declared.acts.Act.{Act}
 use Rattle.act_model.specs.declared.actor.Spent.{Spent as NoAct}
 use Rattle.act_model.specs.History.{Entry}
@@ -25,15 +28,17 @@ use Rattle.link_service.specs.declared.posts.Post.{Post}
 use Rattle.link_service.specs.declared.served.Kind.{Kind}
 use Rattle.link_service.specs.declared.service.AllServed.{AllServed}
 use Rattle.link_service.specs.Doors.{IsServed, ServesDoorAt}
-use Rattle.link_service.specs.Service.{PostWork, ServesAll, ServesPost, at_door, at_flushes, at_moves, fails, finds_none, told_of, told_want}
-use Rattle.archiver_appliance.specs.Serving.{CameOfPosts, DoorLeft, EachOf, HasFailed, IsUnserved, NobodyServed, PostServed, PostsServed, ServesPosts, are_not, are_served, first_of, status_of}
+use Rattle.link_service.specs.Service.{NumbersSpent, PostWork, ServesAll, ServesPost, at_door, at_flushes, at_moves, fails, finds_none, told_of, told_want}
+use Rattle.archiver_appliance.specs.Serving.{CameOfPosts, DoorLeft, EachOf, HasFailed, IsUnserved, PostServed, PostsLeft, ServesPosts, are_not, on_archive, first_of, status_of}
 use Rattle.command_words.specs.declared.command.Command.{Command}
 use Rattle.command_words.specs.declared.command.Command.TheVariants.{Drill, Extract, OverStore}
 use Rattle.command_words.specs.declared.command.StoreCommand.TheVariants as asked
 use Rattle.command_words.specs.declared.service_words.ServeWords.{ServeWords}
 use Rattle.command_words.specs.Command.{IsCommand}
+use Rattle.archiver_appliance.specs.Judging.{refusal_of}
 use Rattle.archiver_appliance.specs.Run.{AreDoorsQuiet}
 use Rattle.archiver_appliance.proofs.Completeness.{IsServing}
+use Rattle.archiver_appliance.proofs.Spending.{all_spent}
 use Rattle.command_words.specs.declared.status.Status.{Status}
 use Rattle.command_words.specs.declared.status.Status.TheVariants.{Done, DoorFault}
 
@@ -50,7 +55,8 @@ module _ {A D L R : Type 0} (number : A → ℕ) (between : A → List Entry →
   door_left kind place a clock was door.Spent b clock' now s = record { links = s.asked.links; returned = s.asked.returned; are = λ no. absurd (false≢true (sym no)); faults_rise = s.asked.faults_rise }
 
 module _ {A S B C D L : Type 0} (Serves : Kind → ℕ → A → Option Moments → D → DoorServed → A → Option Moments → D → Type 0) (pass_of : A → Pass S Act B) (rooms_of : A → Rooms S Act B) (coming : C → Option Moments) (is_closed : D → Bool) (faults : D → ℕ) (ledger : D → Option (Ledger L)) (Is : Kind → L → Type 0)
-    (leaves : (kind : Kind) (place : ℕ) (a : A) (clock : Option Moments) (was : D) (served : DoorServed) (b : A) (clock' : Option Moments) (now : D) → Serves kind place a clock was served b clock' now → DoorLeft is_closed faults ledger Is kind was served now) (rooms : Rooms S Act B) where
+    (leaves : (kind : Kind) (place : ℕ) (a : A) (clock : Option Moments) (was : D) (served : DoorServed) (b : A) (clock' : Option Moments) (now : D) → Serves kind place a clock was served b clock' now → DoorLeft is_closed faults ledger Is kind was served now)
+    (full : (kind : Kind) (place : ℕ) (a : A) (clock : Option Moments) (was : D) (b : A) (clock' : Option Moments) (now : D) → Serves kind place a clock was door.Spent b clock' now → most_acts ≤ length (known (pass_of b))) (rooms : Rooms S Act B) where
   abbrev W : Type 0
   W = PostWork A C D
 
@@ -64,21 +70,49 @@ module _ {A S B C D L : Type 0} (Serves : Kind → ℕ → A → Option Moments 
   ends_at [] = refl
   ends_at (w ∷ ws) = ap (λ es. at_door w.served ∷ es) (ends_at ws)
 
-  pub posts_served : (steps : S → ℕ → ℕ → Act → B → S → Type 0) (reply : B → Reply) (told : AllServed) (old new : Pass S Act B) (olds news : List (Post D)) → ServesAll Serves pass_of rooms_of coming steps reply rooms told old new olds news → PostsServed is_closed faults ledger Is told olds news ⊎ NobodyServed told olds news
-  posts_served steps reply told old new olds news (inl all) = inl (record {
-    served = map (λ (w : W). w.served) all.works;
-    each = rw (all.posts, all.posts') (each_left all.works all.serve);
-    flushed = all.flushed;
-    moved = all.moved;
-    told_is = all.told_is ∙ ap (λ es. told_of (es ++ at_flushes all.flushed ∷ at_moves all.moved ∷ [])) (ends_at all.works);
-  })
-  posts_served steps reply told old new olds news (inr nobody) = inr (record { same = nobody.0; want = want nobody.1 })
+  -- what is left of the posts, and what the last pass knows then
+  pub record LeftKnowing (told : AllServed) (old new : Pass S Act B) (olds news : List (Post D)) : Type 0 where
+    pub began : Bool
+    pub posts : PostsLeft is_closed faults ledger Is began told olds news
+    pub none : began ≡ false → known new ≡ known old
+    pub spent : told.spent ≡ true → most_acts ≤ length (known new)
+
+  -- where the pass stands for so few numbers that those of all who serve are left
+  pub posts_left : (steps : S → ℕ → ℕ → Act → B → S → Type 0) (reply : B → Reply) (told : AllServed) (old new : Pass S Act B) (olds news : List (Post D)) → length (stands old) + (length olds + 2) ≤ most_numbers
+      → ServesAll Serves pass_of rooms_of coming steps reply rooms told old new olds news → LeftKnowing told old new olds news
+  posts_left steps reply told old new olds news few (inl all) = record {
+    began = true;
+    posts = record {
+      served = map (λ (w : W). w.served) all.works;
+      each = rw (all.posts, all.posts') (each_left all.works all.serve);
+      flushed = all.flushed;
+      moved = all.moved;
+      told_is = all.told_is ∙ ap (λ es. told_of (es ++ at_flushes all.flushed ∷ at_moves all.moved ∷ [])) (ends_at all.works);
+    };
+    none = λ is. absurd (false≢true (sym is));
+    spent = λ spent. all_spent Serves pass_of rooms_of coming full rooms new steps reply told old olds news all spent;
+  }
+  posts_left steps reply told old new olds news few (inr nobody) =
+      let lacks = want nobody.1 in
+      record {
+        began = false;
+        posts = record { same = nobody.0; want = lacks.0 };
+        none = λ is. ap (λ (p : Pass S Act B). known p) lacks.1;
+        spent = λ spent. absurd (false≢true (sym (ap (λ (t : AllServed). t.spent) lacks.0) ∙ spent));
+      }
     where
-      want : ((told ≡ told_want true false) × (drained old < drained new) × (known new ≡ known old)) ⊎ ((told ≡ told_want false true) × (new ≡ old)) → (told ≡ told_want true false) ⊎ (told ≡ told_want false true)
-      want (inl n) = inl n.0
-      want (inr m) = inr m.0
+      want : ((told ≡ told_want true false) × NumbersSpent old new (length olds + 2)) ⊎ ((told ≡ told_want false true) × (new ≡ old)) → (told ≡ told_want false true) × (new ≡ old)
+      want (inl n) = let many : most_numbers < length (stands old) + (length olds + 2) = n.1.2 in absurd (omega (arith, few, many))
+      want (inr none) = none
 
 -- WHAT THE STATUS SAYS OF THE POSTS
+
+-- a disk that isn't opened is told as one whose posts couldn't be served
+pub refusal_unserved : {D R : Type 0} (err : ReopenErr D R) → IsUnserved (refusal_of err)
+refusal_unserved (reopening.DiskFault d) = tt
+refusal_unserved (reopening.Damaged d name at) = tt
+refusal_unserved (reopening.GranularityDiffers d kept other) = tt
+refusal_unserved (reopening.Memory d) = tt
 
 done_first : (failed fault memory spent : Bool) → first_of failed fault memory spent ≡ Done → (failed ≡ false) × (spent ≡ false)
 done_first true fault memory spent is = absurd cc
@@ -139,57 +173,49 @@ module _ {D L : Type 0} (is_closed : D → Bool) (faults : D → ℕ) (ledger : 
     one_failed (door.Spent ∷ ss) (o ∷ os) (n ∷ ns) each some = behind o n os ns (one_failed ss os ns each.1 (subst (λ (k : ℕ). 0 < k) (none_spent ss) some))
     one_failed ss os ns each some = absurd each
 
-  module _ (told : AllServed) (olds news : List (Post D)) where
-    came_of : PostsServed is_closed faults ledger Is told olds news ⊎ NobodyServed told olds news → CameOfPosts is_closed faults ledger Is (status_of told) olds news
-    came_of (inl all) = are_served told refl all
-    came_of (inr nobody) = are_not (unserved nobody.want) nobody.same
-      where
-        unserved : (told ≡ told_want true false) ⊎ (told ≡ told_want false true) → IsUnserved (status_of told)
-        unserved (inl is) = subst (λ (t : AllServed). IsUnserved (status_of t)) (sym is) tt
-        unserved (inr is) = subst (λ (t : AllServed). IsUnserved (status_of t)) (sym is) tt
-
-    when_done : PostsServed is_closed faults ledger Is told olds news ⊎ NobodyServed told olds news → status_of told ≡ Done → All Closed news
-    when_done (inl all) is =
+  module _ (Unopened : Type 0) (Made : Bool → AllServed → Type 0) (told : AllServed) (olds news : List (Post D)) where
+    when_done : (began : Bool) → PostsLeft is_closed faults ledger Is began told olds news → status_of told ≡ Done → All Closed news
+    when_done true all is =
         let clean = done_first (nat_lt 0 told.door_faults) told.disk_fault told.memory told.spent is in
         let none : told.door_faults ≡ 0 = grind (arith, nat_tests, clean.0) in
         all_closed all.flushed all.moved all.served olds news all.each (sym (ap (λ (t : AllServed). t.door_faults) all.told_is) ∙ none) (sym (ap (λ (t : AllServed). t.spent) all.told_is) ∙ clean.1)
-    when_done (inr nobody) is = absurd (never nobody.want)
-      where
-        never : (told ≡ told_want true false) ⊎ (told ≡ told_want false true) → ⊥
-        never (inl want) = let done : status_of (told_want true false) ≡ Done = subst (λ (t : AllServed). status_of t ≡ Done) want is in cc
-        never (inr want) = let done : status_of (told_want false true) ≡ Done = subst (λ (t : AllServed). status_of t ≡ Done) want is in cc
+    when_done false nobody is = let done : status_of (told_want false true) ≡ Done = subst (λ (t : AllServed). status_of t ≡ Done) nobody.want is in absurd cc
 
-    when_failed : PostsServed is_closed faults ledger Is told olds news ⊎ NobodyServed told olds news → status_of told ≡ DoorFault → HasFailed faults olds news
-    when_failed (inl all) is =
+    when_failed : (began : Bool) → PostsLeft is_closed faults ledger Is began told olds news → status_of told ≡ DoorFault → HasFailed faults olds news
+    when_failed true all is =
         let failed = fault_first (nat_lt 0 told.door_faults) told.disk_fault told.memory told.spent is in
         let some : 0 < told.door_faults = grind (arith, nat_tests, failed) in
         one_failed all.flushed all.moved all.served olds news all.each (subst (λ (n : ℕ). 0 < n) (ap (λ (t : AllServed). t.door_faults) all.told_is) some)
-    when_failed (inr nobody) is = absurd (never nobody.want)
-      where
-        never : (told ≡ told_want true false) ⊎ (told ≡ told_want false true) → ⊥
-        never (inl want) = let fault : status_of (told_want true false) ≡ DoorFault = subst (λ (t : AllServed). status_of t ≡ DoorFault) want is in cc
-        never (inr want) = let fault : status_of (told_want false true) ≡ DoorFault = subst (λ (t : AllServed). status_of t ≡ DoorFault) want is in cc
+    when_failed false nobody is = let fault : status_of (told_want false true) ≡ DoorFault = subst (λ (t : AllServed). status_of t ≡ DoorFault) nobody.want is in absurd cc
 
-    pub serves_posts : PostsServed is_closed faults ledger Is told olds news ⊎ NobodyServed told olds news → ServesPosts is_closed faults ledger Is (status_of told) olds news
-    serves_posts served = record { came = came_of served; closed = when_done served; failed = when_failed served }
+    pub serves_posts : (began : Bool) → PostsLeft is_closed faults ledger Is began told olds news → Made began told → ServesPosts is_closed faults ledger Is Unopened Made (status_of told) olds news
+    serves_posts began left made = record { came = on_archive began told refl left made; closed = when_done began left; failed = when_failed began left }
 
   -- where nothing could be opened or made
-  pub serves_nobody : (status : Status) (posts : List (Post D)) → IsUnserved status → ServesPosts is_closed faults ledger Is status posts posts
-  serves_nobody status posts not = record {
-    came = are_not not refl;
+  pub serves_nobody : (Unopened : Type 0) (Made : Bool → AllServed → Type 0) (status : Status) (posts : List (Post D)) → IsUnserved status → Unopened → ServesPosts is_closed faults ledger Is Unopened Made status posts posts
+  serves_nobody Unopened Made status posts not unopened = record {
+    came = are_not not refl unopened;
     closed = λ is. absurd (subst IsUnserved is not);
     failed = λ is. absurd (subst IsUnserved is not);
   }
 
+  -- the same, where less is told of the archive
+  pub serves_weaker : (Unopened Unopened' : Type 0) (Made Made' : Bool → AllServed → Type 0) (status : Status) (olds news : List (Post D)) → (Unopened → Unopened') → ((began : Bool) (told : AllServed) → Made began told → Made' began told) → ServesPosts is_closed faults ledger Is Unopened Made status olds news → ServesPosts is_closed faults ledger Is Unopened' Made' status olds news
+  serves_weaker Unopened Unopened' Made Made' status olds news less weaker serves = record { came = came serves.came; closed = serves.closed; failed = serves.failed }
+    where
+      came : CameOfPosts is_closed faults ledger Is Unopened Made status olds news → CameOfPosts is_closed faults ledger Is Unopened' Made' status olds news
+      came (on_archive began told is left made) = on_archive began told is left (weaker began told made)
+      came (are_not not same unopened) = are_not not same (less unopened)
+
   -- no door failed, where none's count rose
-  pub no_door : (status : Status) (olds news : List (Post D)) → ServesPosts is_closed faults ledger Is status olds news → ((i : ℕ) (old new : Post D) → slice_get olds i ≡ Some old → slice_get news i ≡ Some new → Rose (faults old.door) (faults new.door) → ⊥) → status ≡ DoorFault → ⊥
-  no_door status olds news serves quiet is = let f = serves.failed is in quiet f.place f.old f.new f.was f.now f.rose
+  pub no_door : (Unopened : Type 0) (Made : Bool → AllServed → Type 0) (status : Status) (olds news : List (Post D)) → ServesPosts is_closed faults ledger Is Unopened Made status olds news → ((i : ℕ) (old new : Post D) → slice_get olds i ≡ Some old → slice_get news i ≡ Some new → Rose (faults old.door) (faults new.door) → ⊥) → status ≡ DoorFault → ⊥
+  no_door Unopened Made status olds news serves quiet is = let f = serves.failed is in quiet f.place f.old f.new f.was f.now f.rose
 
 -- so it is of words that ask to serve, whatever else they might have asked for
-module _ {D L : Type 0} (is_closed : D → Bool) (faults : D → ℕ) (ledger : D → Option (Ledger L)) (Is : Kind → L → Type 0) (words : List (List ℕ)) (status : Status) (olds news : List (Post D))
-    (serves : (numbers : ServeWords) → IsCommand words (OverStore (asked.Serve numbers)) → ServesPosts is_closed faults ledger Is status olds news) where
+module _ {D L : Type 0} (is_closed : D → Bool) (faults : D → ℕ) (ledger : D → Option (Ledger L)) (Is : Kind → L → Type 0) (Unopened : Type 0) (Made : Bool → AllServed → Type 0) (words : List (List ℕ)) (status : Status) (olds news : List (Post D))
+    (serves : (numbers : ServeWords) → IsCommand words (OverStore (asked.Serve numbers)) → ServesPosts is_closed faults ledger Is Unopened Made status olds news) where
   pub doors_hold : (command : Command) → IsCommand words command → AreDoorsQuiet faults command olds news → IsServing command → status ≡ DoorFault → ⊥
-  doors_hold (OverStore (asked.Serve numbers)) asks quiet serving is = no_door is_closed faults ledger Is status olds news (serves numbers asks) quiet is
+  doors_hold (OverStore (asked.Serve numbers)) asks quiet serving is = no_door is_closed faults ledger Is Unopened Made status olds news (serves numbers asks) quiet is
   doors_hold (Extract query) asks quiet serving is = serving
   doors_hold (Drill drill) asks quiet serving is = serving
   doors_hold (OverStore asked.Ingest) asks quiet serving is = serving

@@ -1,7 +1,8 @@
 -- From stores that were just opened to a service on them, and the disk that is given back.
-use Rattle.std.proofs.Common.{◌≡◌, ◌⊎◌, inl, inr, ℕ, ◌<◌, List, [], ◌∷◌, ◌++◌, Bool, true, false, Option, Some, None, length, refl, sym, ◌∙◌, ap, subst, map, arith}
+use Rattle.std.proofs.Common.{◌≡◌, ◌⊎◌, inl, inr, ℕ, ◌+◌, ◌^◌, ◌<◌, List, [], ◌∷◌, ◌++◌, Bool, true, false, Option, Some, None, length, refl, sym, ◌∙◌, ap, subst, map, arith}
 use Rattle.std.proofs.lemmas.Bool.Decides.{nat_tests}
-use Rattle.std.specs.Prelude.{Contains, IsTrue, ◌≤◌, ◌&&◌, ◌==◌, nat_lt}
+use Rattle.std.specs.Prelude.{Contains, IsTrue, ◌≤◌, ◌==◌, nat_lt}
+use Rattle.edge_io.specs.Moments.{Gives, Moments}
 use Rattle.disk_model.specs.Files.{Files, Rose as DiskRose}
 use Rattle.disk_model.specs.Past.{MayLeave, Past, Passes}
 use Rattle.disk_model.specs.declared.disk.Disk.{Ghosts}
@@ -18,9 +19,9 @@ use Rattle.turn_rooms.specs.declared.rooms.Pass.{Pass}
 use Rattle.turn_rooms.specs.declared.rooms.Rooms.{Rooms}
 use Rattle.turn_rooms.specs.declared.view.Standing.{Standing}
 use Rattle.turn_rooms.proofs.Lists.{has_first, no_element}
-use Rattle.turn_rooms.specs.Histories.{Legal, by, end_of, most_acts}
+use Rattle.turn_rooms.specs.Histories.{Legal, end_of, most_acts, most_numbers}
 use Rattle.std.proofs.lemmas.List.{length-map}
-use Rattle.turn_rooms.specs.Passes.{IsLast, IsPassOf, Opens, drained, known, opened}
+use Rattle.turn_rooms.specs.Passes.{IsLast, IsPassOf, Opens, known, opened, stands}
 use Rattle.act_model.specs.declared.acts.Act.{Act}
 use Rattle.act_model.specs.declared.acts.Act.TheVariants.{Flush}
 use Rattle.act_model.specs.declared.acts.Answer.{Answer}
@@ -46,25 +47,23 @@ use Rattle.serving_end.specs.End.{EndsWell}
 use Rattle.serving_end.proofs.Works.{own_map}
 use Rattle.turns_end.specs.Acting.{EndsInTurns, HasFlushFault}
 use Rattle.link_service.specs.declared.service.AllServed.{AllServed}
-use Rattle.archiver_appliance.specs.Acting.{IsFresh, IsOpenedOn, rule_of}
+use Rattle.archiver_appliance.specs.Acting.{IsFresh, rule_of}
+use Rattle.archiver_appliance.specs.Drilling.{IsBegunWith}
 use Rattle.archiver_appliance.specs.Outside.{HasNotFallen, IsCausedBy}
 use Rattle.archiver_appliance.specs.Judging.{IsOfOpened}
 use Rattle.archiver_appliance.specs.Run.{EndsAs, NoDamage}
-use Rattle.archiver_appliance.specs.Serving.{HasFailedFlush, LeavesArchive, LeavesRoom, ServesFrom, WasSpent, first_of, status_of}
+use Rattle.archiver_appliance.specs.Serving.{HasFailedFlush, LeavesArchive, LeavesRoom, ServesFrom, first_of, status_of}
 use Rattle.command_words.specs.declared.command.StoreCommand.TheVariants as command
-use Rattle.command_words.specs.declared.status.Status.{Status}
 use Rattle.command_words.specs.declared.service_words.ServeWords.{ServeWords}
 use Rattle.archiver_appliance.proofs.Acting.{both_hold, count_given, handed, opens_again, rose_given, tells_headers, unopened_given}
 use Rattle.archiver_appliance.proofs.Counting.{runs_counts, runs_rose}
 
--- WHAT IS OPENED
+-- a clock that isn't read gives nothing
+pub gives_nothing : (a : Option Moments) → Gives a a []
+gives_nothing None = tt
+gives_nothing (Some a) = (tt, λ k. ap a (omega arith))
 
--- the machine that an archive stands for as it is opened on what is held, with so many doors
-pub record IsBegunWith {D R : Type 0} (disk : Ghosts D R) (config : ConfigState) (held : Stores) (doors : ℕ) (archive : Archive D R) : Type 0 where
-  pub start : Machine
-  pub opened : IsOpenedOn disk.tells config held start
-  pub stands : Stands disk.tells (parts disk archive) start
-  pub with_doors : start.doors ≡ doors
+-- WHAT IS OPENED
 
 module _ {D R : Type 0} (disk : Ghosts D R) (store : TierStore D R) (fresh : IsFresh disk store) (doors : ℕ) (archive : Archive D R) (opens : OpensAs disk.tells (seen disk store) store.config doors (parts disk archive)) where
   pub begins_with : (held : Stores) → Has disk.tells (seen disk store) held → IsBegunWith disk store.config held doors archive
@@ -113,6 +112,10 @@ first_is_last steps rooms pass opens = record {
   given = λ q given. absurd (no_element q (subst (λ (n : Standing). Contains n.gave q) opens.standing given));
 }
 
+-- and stands for so few numbers that those for all posts, and two more, are left
+pub numbers_left : {S A B : Type 0} (steps : S → ℕ → ℕ → A → B → S → Type 0) (rooms : Rooms S A B) (pass : Pass S A B) → Opens steps rooms (opened rooms) pass → (posts : ℕ) → posts < 2 ^ 32 → length (stands pass) + (posts + 2) ≤ most_numbers
+numbers_left steps rooms pass opens posts few = let one : length (stands pass) ≡ 1 = ap (λ (n : Standing). length n.stands) opens.standing in omega arith
+
 module _ {D R : Type 0} (disk : Ghosts D R) (steps : Shared (Archive D R) R → ℕ → ℕ → Act → Answer R → Shared (Archive D R) R → Type 0) (reply : Answer R → Reply) (rooms : Rooms (Shared (Archive D R) R) Act (Answer R)) (old : Pass (Shared (Archive D R) R) Act (Answer R))
     (opens : Opens steps rooms (opened rooms) old) where
   abbrev Stood : Shared (Archive D R) R → Machine → Type 0
@@ -140,18 +143,15 @@ module _ {D R : Type 0} (disk : Ghosts D R) (steps : Shared (Archive D R) R → 
       answered = f.answer;
     }
 
-    was_spent : (most_acts ≤ length (known new)) ⊎ ((drained old < drained new) × (known new ≡ known old)) → WasSpent (known new)
-    was_spent (inl all) = inl all
-    was_spent (inr none) = inr (none.1 ∙ opens.knows)
-
-    pub leaves_room : (doors : ℕ) (told : AllServed) (left : Archive D R) → IsPassOf steps rooms new → left ≡ (end_of (opened rooms) (known new)).archive → (told.spent ≡ true → (most_acts ≤ length (known new)) ⊎ ((drained old < drained new) × (known new ≡ known old))) → (told.disk_fault ≡ true → HasFlushFault reply old new)
+    pub leaves_room : (doors : ℕ) (began : Bool) (told : AllServed) (left : Archive D R) → IsPassOf steps rooms new → left ≡ (end_of (opened rooms) (known new)).archive → (began ≡ false → known new ≡ known old) → (told.spent ≡ true → most_acts ≤ length (known new)) → (told.disk_fault ≡ true → HasFlushFault reply old new)
         → ((m : Machine) → StandsFor steps Stood rooms old m → m.doors ≡ doors → told.spent ≡ false → told.memory ≡ false → told.disk_fault ≡ false → (mover : ℕ) × EndsInTurns steps Stood reply rooms old new m mover)
-        → LeavesRoom disk steps reply (opened rooms) doors told left
-    leaves_room doors told left is_pass is spent failed ends = record {
+        → LeavesRoom disk steps reply (opened rooms) doors began told left
+    leaves_room doors began told left is_pass is none spent failed ends = record {
       acts = known new;
       legal = is_pass.belongs.legal;
       is_left = is;
-      spent = λ told_so. was_spent (spent told_so);
+      none = λ is. none is ∙ opens.knows;
+      spent = spent;
       failed = λ fault. failed_flush (failed fault);
       ends = λ m s as_many spent memory fault.
           let one = ends m (stands_first m s) as_many spent memory fault in
@@ -167,20 +167,17 @@ module _ {D R : Type 0} (disk : Ghosts D R) (steps : Shared (Archive D R) R → 
 
 -- AN ARCHIVE THAT IS SHARED
 
-pub leaves_archive : {D R : Type 0} (disk : Ghosts D R) (steps : Shared (Archive D R) R → ℕ → ℕ → Act → Answer R → Shared (Archive D R) R → Type 0) (reply : Answer R → Reply) (room : Shared (Archive D R) R) (old : Archive D R) (doors : ℕ) (told : AllServed) (left : Archive D R) → room.archive ≡ old
+pub leaves_archive : {D R : Type 0} (disk : Ghosts D R) (steps : Shared (Archive D R) R → ℕ → ℕ → Act → Answer R → Shared (Archive D R) R → Type 0) (reply : Answer R → Reply) (room : Shared (Archive D R) R) (old : Archive D R) (doors : ℕ) (began : Bool) (told : AllServed) (left : Archive D R) → room.archive ≡ old
     → ((acts : List (RoomEntry (Shared (Archive D R) R) Act (Answer R))) (m : Machine) → Stands disk.tells (parts disk room.archive) m → Legal steps room acts → RunsOn disk.tells (parts disk room.archive) m (all_kept reply acts) (parts disk (end_of room acts).archive))
-    → LeavesRoom disk steps reply room doors told left → LeavesArchive disk old doors told left
-leaves_archive {D} {R} disk steps reply room old doors told left is law leaves = subst (λ (a : Archive D R). LeavesArchive disk a doors told left) is (record {
+    → LeavesRoom disk steps reply room doors began told left → LeavesArchive disk old doors began told left
+leaves_archive {D} {R} disk steps reply room old doors began told left is law leaves = subst (λ (a : Archive D R). LeavesArchive disk a doors began told left) is (record {
   entries = all_kept reply leaves.acts;
   run = λ m stands. subst (λ (a : Archive D R). RunsOn disk.tells (parts disk room.archive) m (all_kept reply leaves.acts) (parts disk a)) (sym leaves.is_left) (law leaves.acts m stands leaves.legal);
-  spent = λ so. kept_spent (leaves.spent so);
+  none = λ is. ap (λ (h : List (RoomEntry (Shared (Archive D R) R) Act (Answer R))). all_kept reply h) (leaves.none is);
+  spent = λ so. subst (λ (n : ℕ). most_acts ≤ n) (sym (length-map leaves.acts (λ (e : RoomEntry (Shared (Archive D R) R) Act (Answer R)). kept reply e.who e.act e.answer))) (leaves.spent so);
   failed = leaves.failed;
   ends = leaves.ends;
 })
-  where
-    kept_spent : WasSpent leaves.acts → WasSpent (all_kept reply leaves.acts)
-    kept_spent (inl all) = inl (subst (λ (n : ℕ). most_acts ≤ n) (sym (length-map leaves.acts (λ (e : RoomEntry (Shared (Archive D R) R) Act (Answer R)). kept reply e.who e.act e.answer))) all)
-    kept_spent (inr none) = inr (ap (λ (h : List (RoomEntry (Shared (Archive D R) R) Act (Answer R))). all_kept reply h) none)
 
 -- THE STATUS
 
@@ -237,13 +234,11 @@ module _ {D R : Type 0} (disk : Ghosts D R) (old left : Archive D R) (entries : 
       let one : DiskRose m.faults run.after.faults = flush_rose answers entries m run.after stands.sound run.runs f in
       subst (λ (n : ℕ). DiskRose n (disk.faults left.store.disk)) stands.faults (subst (λ (n : ℕ). DiskRose m.faults n) run.stands.faults one)
 
-pub serves_from : {D R : Type 0} (disk : Ghosts D R) (config : ConfigState) (held : Stores) (doors : ℕ) (old left : Archive D R) (entries : List Entry) (told : AllServed) → (begun : IsBegunWith disk config held doors old) → RunsOn disk.tells (parts disk old) begun.start entries (parts disk left)
-    → (told.spent ≡ true → WasSpent entries) → (told.disk_fault ≡ true → HasFailedFlush entries)
+pub serves_from : {D R : Type 0} (disk : Ghosts D R) (config : ConfigState) (held : Stores) (doors : ℕ) (old left : Archive D R) (entries : List Entry) (began : Bool) (told : AllServed) → (begun : IsBegunWith disk config held doors old) → RunsOn disk.tells (parts disk old) begun.start entries (parts disk left)
+    → (began ≡ false → entries ≡ []) → (told.spent ≡ true → most_acts ≤ length entries) → (told.disk_fault ≡ true → HasFailedFlush entries)
     → ((m : Machine) → Stands disk.tells (parts disk old) m → m.doors ≡ doors → told.spent ≡ false → told.memory ≡ false → told.disk_fault ≡ false → (mover : ℕ) × (after : Machine) × Runs m entries after × Stands disk.tells (parts disk left) after × EndsWell m entries after mover)
-    → ServesFrom (λ image. ⊥) disk.tells config held doors (disk.past old.store.disk) (disk.past left.store.disk) (status_of told)
-serves_from {D} {R} disk config held doors old left entries told begun run spent failed ends = record {
-  told = told;
-  status_is = refl;
+    → ServesFrom (λ image. ⊥) disk.tells config held doors began told (disk.past old.store.disk) (disk.past left.store.disk)
+serves_from {D} {R} disk config held doors old left entries began told begun run none spent failed ends = record {
   start = begun.start;
   opened = begun.opened;
   with_doors = begun.with_doors;
@@ -253,6 +248,7 @@ serves_from {D} {R} disk config held doors old left entries told begun run spent
   leaves = λ t. opens_again disk left run.after run.stands config (rule_is run.after run.runs) t;
   any_moment = λ t stood. passes_weaker (λ a image. HoldsBetween (granularities (seen disk old.store).manifests) begun.start entries run.after image) (λ a image. ⊥ ⊎ HoldsBetween (stores_of config) begun.start entries run.after image) (disk.past old.store.disk) (disk.past left.store.disk)
       (run.any_moment t (begun.opened.told ∙ both_hold disk.tells held.stands t stood)) (λ a image l h. inr (subst (λ (gs : List Granularity). HoldsBetween gs begun.start entries run.after image) gs_is h));
+  none = none;
   spent = spent;
   failed = failed;
   ends = λ acts memory fault.
@@ -267,10 +263,8 @@ serves_from {D} {R} disk config held doors old left entries told begun run spent
     gs_is = sym begun.stands.rule.granularity ∙ ap (λ (r : Rule). r.granularity) begun.opened.rule
 
 -- an opening before them
-pub serves_behind : (Before : Files → Type 0) (tells : Bool) (config : ConfigState) (held : Stores) (doors : ℕ) (old mid new : Past) (status : Status) → Passes (λ a image. Before image) old mid → ServesFrom (λ image. ⊥) tells config held doors mid new status → ServesFrom Before tells config held doors old new status
-serves_behind Before tells config held doors old mid new status opening from = record {
-  told = from.told;
-  status_is = from.status_is;
+pub serves_behind : (Before : Files → Type 0) (tells : Bool) (config : ConfigState) (held : Stores) (doors : ℕ) (began : Bool) (told : AllServed) (old mid new : Past) → Passes (λ a image. Before image) old mid → ServesFrom (λ image. ⊥) tells config held doors began told mid new → ServesFrom Before tells config held doors began told old new
+serves_behind Before tells config held doors began told old mid new opening from = record {
   start = from.start;
   opened = from.opened;
   with_doors = from.with_doors;
@@ -282,6 +276,7 @@ serves_behind Before tells config held doors old mid new status opening from = r
       let All : Files → Files → Type 0 = λ a image. Before image ⊎ HoldsBetween (stores_of config) from.start from.entries from.end image in
       passes_then All (λ a image. ⊥ ⊎ HoldsBetween (stores_of config) from.start from.entries from.end image) old mid new (passes_weaker (λ a image. Before image) All old mid opening (λ a image left h. inl h)) (from.any_moment t stood)
       (λ a b c left h now is. by_either c is);
+  none = from.none;
   spent = from.spent;
   failed = from.failed;
   ends = from.ends;
@@ -294,13 +289,13 @@ serves_behind Before tells config held doors old mid new status opening from = r
 -- THE DISK THAT IS HANDED BACK
 
 module _ {D R : Type 0} (disk : Ghosts D R) (store : TierStore D R) (fresh : IsFresh disk store) (doors : ℕ) (old left : Archive D R) (same : old.store ≡ store) (opens : OpensAs disk.tells (seen disk store) store.config doors (parts disk old))
-    (after : TierStore D R) (given : D) (back : after ≡ left.store) (is : given ≡ after.disk) (told : AllServed) (leaves : LeavesArchive disk old doors told left) where
-  pub served_from : (held : Stores) → Has disk.tells (seen disk store) held → ServesFrom (λ image. ⊥) disk.tells store.config held doors (disk.past store.disk) (disk.past given) (status_of told)
+    (after : TierStore D R) (given : D) (back : after ≡ left.store) (is : given ≡ after.disk) (began : Bool) (told : AllServed) (leaves : LeavesArchive disk old doors began told left) where
+  pub served_from : (held : Stores) → Has disk.tells (seen disk store) held → ServesFrom (λ image. ⊥) disk.tells store.config held doors began told (disk.past store.disk) (disk.past given)
   served_from held has =
       let begun = begins_with disk store fresh doors old opens held has in
-      let from = serves_from disk store.config held doors old left leaves.entries told begun (leaves.run begun.start begun.stands) leaves.spent leaves.failed leaves.ends in
-      subst (λ (s : TierStore D R). ServesFrom (λ image. ⊥) disk.tells store.config held doors (disk.past s.disk) (disk.past given) (status_of told)) same
-      (subst (λ (d : D). ServesFrom (λ image. ⊥) disk.tells store.config held doors (disk.past old.store.disk) (disk.past d) (status_of told)) (handed disk left after given back is) from)
+      let from = serves_from disk store.config held doors old left leaves.entries began told begun (leaves.run begun.start begun.stands) leaves.none leaves.spent leaves.failed leaves.ends in
+      subst (λ (s : TierStore D R). ServesFrom (λ image. ⊥) disk.tells store.config held doors began told (disk.past s.disk) (disk.past given)) same
+      (subst (λ (d : D). ServesFrom (λ image. ⊥) disk.tells store.config held doors began told (disk.past old.store.disk) (disk.past d)) (handed disk left after given back is) from)
 
   first : (m : Machine) × Stands disk.tells (parts disk old) m
   first = stands_with disk store fresh doors old opens

@@ -1,11 +1,11 @@
 -- What `serve` makes of a disk, from its opening on.
-use Rattle.std.proofs.Common.{◌≡◌, ◌⊎◌, inl, inr, ℕ, Bool, true, List, Option, refl, sym, ◌∙◌, ap, subst}
+use Rattle.std.proofs.Common.{◌≡◌, ◌⊎◌, inl, inr, ℕ, Bool, true, List, Option, refl, sym, subst}
 use Rattle.std.specs.Prelude.{IsTrue}
+use Rattle.edge_io.specs.Doors.{Ledger}
 use Rattle.edge_io.specs.declared.stream.Source.{Ghosts as OfSource}
 use Rattle.edge_io.specs.declared.stream.Sink.{Ghosts as OfSink}
 use Rattle.edge_io.specs.declared.clock.Clock.{Ghosts as OfClock}
-use Rattle.disk_model.specs.Files.{Name, Files}
-use Rattle.disk_model.specs.Past.{Passes}
+use Rattle.disk_model.specs.Files.{Files}
 use Rattle.disk_model.specs.declared.disk.Disk.{Ghosts}
 use Rattle.etl_rules.specs.Config.{ConfigState}
 use Rattle.partition_names.specs.declared.granularity.Granularity.{Granularity}
@@ -15,6 +15,9 @@ use Rattle.tier_store.specs.Stores.{Stores}
 use Rattle.tier_store.specs.declared.store.TierStore.{TierStore}
 use Rattle.store_reopen.specs.Reopen.{HasRead, HoldsEither, OpensEither, Reopens, stores_of}
 use Rattle.store_reopen.specs.Verdict.{IsWhole}
+use Rattle.link_service.specs.declared.posts.Post.{Post}
+use Rattle.link_service.specs.declared.served.Kind.{Kind}
+use Rattle.link_service.specs.declared.service.AllServed.{AllServed}
 use Rattle.command_words.specs.declared.command.Command.TheVariants.{OverStore}
 use Rattle.command_words.specs.declared.command.StoreCommand.TheVariants as command
 use Rattle.command_words.specs.declared.service_words.ServeWords.{ServeWords}
@@ -23,10 +26,11 @@ use Rattle.command_words.specs.declared.status.Status.TheVariants.{Usage, NoSuch
 use Rattle.archiver_appliance.specs.Acting.{IsNotMade}
 use Rattle.archiver_appliance.specs.Judging.{IsOfOpened, Judges}
 use Rattle.archiver_appliance.specs.Outside.{outside}
-use Rattle.archiver_appliance.specs.Run.{Does, EndsAs, IsUnasked, Makes, NoDamage, OnlyReads}
-use Rattle.archiver_appliance.specs.Serving.{ServesFrom}
+use Rattle.archiver_appliance.specs.Run.{Does, EndsAs, IsOfService, IsUnasked, IsUnopenedFor, NoDamage, OnlyReads}
+use Rattle.archiver_appliance.specs.Serving.{CameOfPosts, ServesFrom, ServesPosts, are_not, on_archive, status_of}
 use Rattle.archiver_appliance.proofs.Judgements.{OneVerdict, exactly, whole_alone}
 use Rattle.archiver_appliance.proofs.Opening.{opening_reads}
+use Rattle.archiver_appliance.proofs.Posts.{serves_weaker}
 use Rattle.archiver_appliance.proofs.Services.{serves_behind}
 
 serve_judges : (gs : List Granularity) (files : Files) (whole : IsWhole gs files) (numbers : ServeWords) (source : Option (List ℕ)) (status : Status) → EndsAs (command.Serve numbers) source status → NoDamage status → IsOfOpened status → Judges gs (command.Serve numbers) files status
@@ -46,41 +50,54 @@ module _ {S K C D R : Type 0} (src : OfSource S) (snk : OfSink K) (clk : OfClock
   opening : IsTrue disk.tells → OnlyReads (stores_of config) (disk.files first) (disk.files store.disk) (disk.past first) (disk.past store.disk)
   opening told = opening_reads disk (stores_of config) first store.disk (reopens told)
 
-  pub serve_does : (numbers : ServeWords) (doors : ℕ) → store.config ≡ config
-      → (IsNotMade store.disk given status × (clk.coming c' ≡ clk.coming c)) ⊎ ((held : Stores) → Has disk.tells (seen disk store) held → ServesFrom (λ image. ⊥) disk.tells store.config held doors (disk.past store.disk) (disk.past given) status)
-      → IsOfOpened status → NoDamage status → ((input : Option (List ℕ)) → EndsAs (command.Serve numbers) input status) → Does config disk.tells (OverStore (command.Serve numbers)) (outside src snk clk disk s k c first) (outside src snk clk disk s k c' given) status
-  serve_does numbers doors settings serves opened undamaged ends = (
-    ends (src.left s),
-    λ told.
-        let judges = serve_judges (stores_of config) (disk.files first) (whole told) numbers (src.left s) status (ends (src.left s)) undamaged opened in (
-          record {
-            judges = judges;
-            makes = λ before after opens stand. let read = stands told before after opens in record { first = read.held; either = read.either; read = read.read; makes = by_made told before after opens read.held read.has serves; undamaged = undamaged };
-            tells = λ w. tt;
-            reads = λ none. absurd (none (whole told));
-            listed = λ w none i low. absurd none;
-          },
-          exactly verdict (stores_of config) (command.Serve numbers) (disk.files first) status judges,
-        ),
-  )
-    where
-      by_made : IsTrue disk.tells → (before after : Stores) → OpensEither (stores_of config) (disk.past first) before after → (held : Stores) → Has disk.tells (seen disk store) held
-          → (IsNotMade store.disk given status × (clk.coming c' ≡ clk.coming c)) ⊎ ((held : Stores) → Has disk.tells (seen disk store) held → ServesFrom (λ image. ⊥) disk.tells store.config held doors (disk.past store.disk) (disk.past given) status)
-          → Makes config (command.Serve numbers) before after held (outside src snk clk disk s k c first) (outside src snk clk disk s k c' given) status
-      by_made told before after opens held has (inl not) = inl (record {
-        cut = inr not.0.status_is;
-        source = refl;
-        sink = refl;
-        clock = not.1;
-        reads = subst (λ (d : D). OnlyReads (stores_of config) (disk.files first) (disk.files d) (disk.past first) (disk.past d)) (sym not.0.same) (opening told);
-      })
-      by_made told before after opens held has (inr from) =
-          let one = from held has in
-          let Before : Files → Type 0 = λ image. HoldsEither (stores_of config) before after image in
-          let made : ServesFrom Before disk.tells store.config held doors (disk.past first) (disk.past given) status =
-          serves_behind Before disk.tells store.config held doors (disk.past first) (disk.past store.disk) (disk.past given) status ((reopens told).either before after opens) one in
-          inr (
-            doors,
-            subst (λ (x : ConfigState). ServesFrom Before true x held doors (disk.past first) (disk.past given) status) settings
-                (subst (λ (t : Bool). ServesFrom Before t store.config held doors (disk.past first) (disk.past given) status) told made),
-          )
+  unmade : IsNotMade store.disk given status → IsTrue disk.tells → OnlyReads (stores_of config) (disk.files first) (disk.files given) (disk.past first) (disk.past given)
+  unmade not told = subst (λ (d : D). OnlyReads (stores_of config) (disk.files first) (disk.files d) (disk.past first) (disk.past d)) (sym not.same) (opening told)
+
+  module _ {P L : Type 0} (is_closed : P → Bool) (faults : P → ℕ) (ledger : P → Option (Ledger L)) (Is : Kind → L → Type 0) (olds news : List (Post P)) (doors : ℕ) where
+    -- no archive could be made, or this was made of whatever the stores have
+    abbrev Unmade : Type 0
+    Unmade = IsNotMade store.disk given status × (clk.coming c' ≡ clk.coming c)
+
+    abbrev Made : Bool → AllServed → Type 0
+    Made began told = (held : Stores) → Has disk.tells (seen disk store) held → ServesFrom (λ image. ⊥) disk.tells store.config held doors began told (disk.past store.disk) (disk.past given)
+
+    pub serve_makes : store.config ≡ config → ServesPosts is_closed faults ledger Is Unmade Made status olds news
+        → ServesPosts is_closed faults ledger Is (IsUnopenedFor config disk.tells (outside src snk clk disk s k c first) (outside src snk clk disk s k c' given)) (IsOfService config disk.tells doors (outside src snk clk disk s k c first) (outside src snk clk disk s k c' given)) status olds news
+    serve_makes settings serves =
+        serves_weaker is_closed faults ledger Is Unmade (IsUnopenedFor config disk.tells (outside src snk clk disk s k c first) (outside src snk clk disk s k c' given)) Made (IsOfService config disk.tells doors (outside src snk clk disk s k c first) (outside src snk clk disk s k c' given)) status olds news
+        (λ not. (not.1, unmade not.0)) of_service serves
+      where
+        of_service : (began : Bool) (told : AllServed) → Made began told → IsOfService config disk.tells doors (outside src snk clk disk s k c first) (outside src snk clk disk s k c' given) began told
+        of_service began told made tells before after opens stand =
+            let read = stands tells before after opens in
+            let Before : Files → Type 0 = λ image. HoldsEither (stores_of config) before after image in
+            let from : ServesFrom Before disk.tells store.config read.held doors began told (disk.past first) (disk.past given) =
+            serves_behind Before disk.tells store.config read.held doors began told (disk.past first) (disk.past store.disk) (disk.past given) ((reopens tells).either before after opens) (made read.held read.has) in
+            record {
+              first = read.held;
+              either = read.either;
+              read = read.read;
+              from = subst (λ (x : ConfigState). ServesFrom Before true x read.held doors began told (disk.past first) (disk.past given)) settings
+                  (subst (λ (t : Bool). ServesFrom Before t store.config read.held doors began told (disk.past first) (disk.past given)) tells from);
+            }
+
+    pub serve_does : (numbers : ServeWords) → ServesPosts is_closed faults ledger Is Unmade Made status olds news
+        → IsOfOpened status → NoDamage status → ((input : Option (List ℕ)) → EndsAs (command.Serve numbers) input status) → Does config disk.tells (OverStore (command.Serve numbers)) (outside src snk clk disk s k c first) (outside src snk clk disk s k c' given) status
+    serve_does numbers serves opened undamaged ends = (
+      ends (src.left s),
+      λ told.
+          let judges = serve_judges (stores_of config) (disk.files first) (whole told) numbers (src.left s) status (ends (src.left s)) undamaged opened in (
+            record {
+              judges = judges;
+              makes = λ before after opens stand. let read = stands told before after opens in record { first = read.held; either = read.either; read = read.read; makes = by_came told serves.came; undamaged = undamaged };
+              tells = λ w. tt;
+              reads = λ none. absurd (none (whole told));
+              listed = λ w none i low. absurd none;
+            },
+            exactly verdict (stores_of config) (command.Serve numbers) (disk.files first) status judges,
+          ),
+    )
+      where
+        by_came : IsTrue disk.tells → CameOfPosts is_closed faults ledger Is Unmade Made status olds news → IsUnasked (stores_of config) (outside src snk clk disk s k c first) (outside src snk clk disk s k c' given) status ⊎ ((told : AllServed) × (status ≡ status_of told))
+        by_came told (on_archive began end is left made) = inr (end, is)
+        by_came told (are_not not same un) = inl (record { cut = inr un.0.status_is; source = refl; sink = refl; clock = un.1; reads = unmade un.0 told })

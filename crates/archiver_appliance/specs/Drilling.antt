@@ -1,8 +1,10 @@
--- What `drill` writes: how much is accepted of each variable, and how many files each store lists, in states that an archive came to.
-use Rattle.std.specs.Prelude.{◌≡◌, ℕ, zero, suc, ◌+◌, ◌-◌, ◌^◌, List, [], ◌∷◌, ◌++◌, length, min, true, IsTrue, Option, Some, None, codes, slice_get, slice_index}
+-- What `drill` does and writes: it serves the feeds of the asked hours on an archive in memory, opens it again and moves what is due, and
+-- tells how much is accepted of each variable, and how many files each store lists, in states that the archive came to then.
+use Rattle.std.specs.Prelude.{◌≡◌, ℕ, ◌+◌, ◌-◌, ◌^◌, ◌≤◌, ◌⊎◌, List, [], ◌∷◌, ◌++◌, length, min, Bool, true, false, IsTrue, Option, Some, None, codes, slice_get, slice_index}
 use Rattle.std.specs.Io.KnownBytes.{Appends}
 use Rattle.arch_time.specs.YearTime.{moment}
 use Rattle.edge_io.specs.Stream.{AppendsFront}
+use Rattle.edge_io.specs.Doors.{Both, Listing, ledger_of}
 use Rattle.disk_model.specs.Past.{Past}
 use Rattle.disk_model.specs.declared.disk.Disk.{Ghosts}
 use Rattle.etl_rules.specs.Config.{ConfigState}
@@ -11,22 +13,39 @@ use Rattle.partition_names.specs.declared.granularity.Granularity.TheVariants.{H
 use Rattle.partition_names.specs.declared.part.Part.{Part}
 use Rattle.series_model.specs.Retrieval.{answer}
 use Rattle.series_model.specs.declared.sample.Query.{Query}
+use Rattle.drill_feed.specs.Feeds.{feed_door}
 use Rattle.drill_feed.specs.Report.{IsVariableLine, tiers_text}
 use Rattle.drill_feed.specs.Workload.{name_text, now_of}
 use Rattle.drill_feed.specs.declared.report.Tally.{Tally}
 use Rattle.drill_feed.specs.declared.tiers.Tiers.{Tiers}
+use Rattle.pb_wire.specs.declared.payload.PayloadType.TheVariants.{ScalarInt}
+use Rattle.event_types.specs.declared.about.Method.TheVariants.{Monitor}
+use Rattle.turn_rooms.specs.Histories.{most_acts}
+use Rattle.tier_store.specs.Change.{IsEither}
 use Rattle.tier_store.specs.Stores.{Stores}
 use Rattle.store_reopen.specs.Reopen.{OpensEither}
-use Rattle.act_model.specs.History.{Entry, Runs}
-use Rattle.act_model.specs.Machine.{Machine, find_row}
+use Rattle.act_model.specs.declared.acts.Act.TheVariants.{Register}
+use Rattle.act_model.specs.declared.acts.Answer.TheVariants.{Registered}
+use Rattle.act_model.specs.Changes.{made}
+use Rattle.act_model.specs.History.{Done, Entry, Runs}
+use Rattle.act_model.specs.Machine.{Change, Machine, find_row}
 use Rattle.act_model.specs.Parts.{AreParts}
 use Rattle.act_model.specs.Rows.{RowState, Store, accepted, tier}
 use Rattle.act_model.specs.Rule.{index_of}
+use Rattle.act_model.specs.Sound.{IsSound}
 use Rattle.archive_core.specs.Parts.{parts}
-use Rattle.archive_core.specs.Stands.{Stands}
+use Rattle.archive_core.specs.Stands.{HoldsDurable, Stands}
 use Rattle.archive_core.specs.declared.archive.Archive.{Archive}
 use Rattle.retrieval_query.specs.Retrieving.{ReadsHeaders}
-use Rattle.archiver_appliance.specs.Acting.{IsOpenedOn}
+use Rattle.serving_end.specs.End.{EndsWell}
+use Rattle.serving_loops.specs.declared.due.DueMoved.{DueMoved}
+use Rattle.serving_loops.specs.Due.{MovesAll}
+use Rattle.link_service.specs.declared.posts.Post.{Post}
+use Rattle.link_service.specs.declared.served.Kind.TheVariants.{Feed}
+use Rattle.link_service.specs.declared.service.AllServed.{AllServed}
+use Rattle.link_service.specs.Doors.{IsServed}
+use Rattle.archiver_appliance.specs.Acting.{Acts, IsOpenedOn, OpensAgain}
+use Rattle.archiver_appliance.specs.Serving.{PostsLeft}
 use Rattle.archiver_appliance.specs.Tallying.{AreTallied}
 use Rattle.command_words.specs.declared.status.Status.{Status}
 use Rattle.command_words.specs.declared.status.Status.TheVariants.{Done as IsDone, SinkFault, OutOfMemory, Spent}
@@ -106,11 +125,93 @@ pub record Led {D R : Type 0} (disk : Ghosts D R) (m : Machine) (new : Archive D
 abbrev pub TellsOn : {D R : Type 0} → Ghosts D R → Archive D R → Archive D R → (Machine → List Entry → Type 0) → Type 0
 TellsOn {D} {R} disk old new Told = IsTrue disk.tells → (m : Machine) → Stands disk.tells (parts disk old) m → m.told ≡ true → ReadsHeaders m.rule → Led disk m new Told
 
--- THE RUN
+-- THE FEEDS
 
 -- the shipped settings
 abbrev pub shipped : ConfigState
 shipped = record { granularity = Hour ∷ Day ∷ Year ∷ []; hold = 5 ∷ 2 ∷ []; gather = 3 ∷ 1 ∷ [] }
+
+-- the same, but that no mover finds so many partitions that a move is due
+abbrev pub unmoving : ConfigState
+unmoving = record { granularity = Hour ∷ Day ∷ Year ∷ []; hold = 4294967295 ∷ 4294967295 ∷ []; gather = 3 ∷ 1 ∷ [] }
+
+-- the two posts by which the feeds of so many hours come
+abbrev pub feed_posts : ℕ → List (Post (Listing Both))
+feed_posts hours = record { kind = Feed; door = feed_door hours 0 } ∷ record { kind = Feed; door = feed_door hours 1 } ∷ []
+
+-- they were left so by a service
+abbrev pub FeedsLeft : ℕ → Bool → AllServed → List (Post (Listing Both)) → Type 0
+FeedsLeft hours began told news =
+    PostsLeft (λ (d : Listing Both). d.closed) (λ (d : Listing Both). d.calls.faults) (λ (d : Listing Both). Some (ledger_of d)) (λ kind (l : Both). IsServed kind (λ (l : Both). Some l.output.written) (λ (l : Both). l.input.calls.faults) (λ (l : Both). l.output.calls.faults) l) began told (feed_posts hours) news
+
+-- the act that gave a variable its row
+abbrev pub registers : ℕ → ℕ → Done
+registers variable row = record { act = Register (name_text variable) (record { ty = ScalarInt; method = Monitor; count = None; headers = [] }); answer = Registered row }
+
+-- so many first variables got theirs, one after another
+pub data AreRegistered : ℕ → List Done → Type 0 where
+  none_registered : AreRegistered 0 []
+  one_registered : {variable : ℕ} {done : List Done} (row : ℕ) → AreRegistered variable done → AreRegistered (variable + 1) (done ++ registers variable row ∷ [])
+
+-- an archive stands for the machine that is opened by these settings on what is held, with so many doors
+pub record IsBegunWith {D R : Type 0} (disk : Ghosts D R) (config : ConfigState) (held : Stores) (doors : ℕ) (archive : Archive D R) : Type 0 where
+  pub start : Machine
+  pub opened : IsOpenedOn disk.tells config held start
+  pub stands : Stands disk.tells (parts disk archive) start
+  pub with_doors : start.doors ≡ doors
+
+-- It was opened so for the feeds, and so many variables were registered.
+pub record HasRegistered (tells : Bool) (held : Stores) (variables : ℕ) (m : Machine) : Type 0 where
+  pub start : Machine
+  pub sound : IsSound start
+  pub opened : IsOpenedOn tells unmoving held start
+  pub with_doors : start.doors ≡ 2
+  pub done : List Done
+  pub registered : AreRegistered variables done
+  pub acts : Acts start done m
+  pub doors : m.doors ≡ 2
+
+-- Then the feeds were served by acts of which this is told, and this is the state that they led to.
+pub record ServesFeeds (hours : ℕ) (held : Stores) (began : Bool) (told : AllServed) (fed : Machine) : Type 0 where
+  pub ready : Machine
+  pub begun : HasRegistered true held 4 ready
+  pub posts : List (Post (Listing Both))
+  pub left : FeedsLeft hours began told posts
+  pub entries : List Entry
+  pub runs : Runs ready entries fed
+  pub none : began ≡ false → entries ≡ []
+  pub spent : told.spent ≡ true → most_acts ≤ length entries
+  pub ends : told.spent ≡ false → told.memory ≡ false → told.disk_fault ≡ false → (mover : ℕ) × EndsWell ready entries fed mover
+
+-- nothing befell a service
+abbrev pub IsClean : AllServed → Type 0
+IsClean told = (told.spent ≡ false) × (told.memory ≡ false) × (told.disk_fault ≡ false) × (told.door_faults ≡ 0)
+
+-- the feeds were served to their ends, and whatever a crash then may leave of the disk holds what they left
+pub record AreFed (hours : ℕ) (held : Stores) (past : Past) : Type 0 where
+  pub told : AllServed
+  pub clean : IsClean told
+  pub fed : Machine
+  pub feeds : ServesFeeds hours held true told fed
+  pub leaves : OpensAgain shipped fed past
+  pub stands : fed.told ≡ true
+
+-- they were not, for want of acts
+pub record WereSpent (hours : ℕ) (held : Stores) : Type 0 where
+  pub told : AllServed
+  pub lacks : told.spent ≡ true
+  pub fed : Machine
+  pub feeds : ServesFeeds hours held true told fed
+
+-- stores hold what is durable of a state, or of that with the change that stands in doubt
+abbrev pub HoldsLeft : Stores → Machine → Type 0
+HoldsLeft held m = HoldsDurable held m ⊎ ((change : Change) × (m.doubt ≡ Some change) × HoldsDurable held (made [] change m))
+
+-- THE RUN
+
+-- stores that hold nothing
+abbrev pub nothing_held : Stores
+nothing_held = record { rows = []; short = []; medium = []; long = []; stands = true }
 
 -- whatever a crash now may leave of a disk opens, and stands
 pub record OpensWell (gs : List Granularity) (past : Past) : Type 0 where
@@ -119,23 +220,39 @@ pub record OpensWell (gs : List Granularity) (past : Past) : Type 0 where
   pub opens : OpensEither gs past before after
   pub stands : IsTrue before.stands
 
--- An archive was opened with the shipped settings on what was held and stood, acts were made on it, and it is told of states that they led to
--- how much is accepted of each variable, and how many files the stores list.
-pub record IsDrillText (hours : ℕ) (text : List ℕ) : Type 0 where
+-- this holds of what stands on a disk, before a change in doubt or after it
+abbrev pub OfHeld : List Granularity → Past → (Stores → Type 0) → Type 0
+OfHeld gs past Such = (before after : Stores) → OpensEither gs past before after → IsTrue before.stands → (held : Stores) × IsEither before after held × IsTrue held.stands × Such held
+
+-- The feeds of so many hours were served on what was held, and their archive's disk was opened again with the shipped settings and no doors.
+-- All that was due at the hours' end was moved; and of states that it came to behind these moves it is told how much is accepted of each
+-- variable in these hours, and how many files the stores list.
+pub record IsDrillText (hours : ℕ) (first : Stores) (text : List ℕ) : Type 0 where
+  pub told : AllServed
+  pub clean : IsClean told
+  pub fed : Machine
+  pub feeds : ServesFeeds hours first true told fed
   pub held : Stores
+  pub left : HoldsLeft held fed
   pub stands : IsTrue held.stands
   pub start : Machine
   pub opened : IsOpenedOn true shipped held start
+  pub without_doors : start.doors ≡ 0
+  pub moves : List Done
+  pub moved : DueMoved
+  pub all_moved : MovesAll (now_of hours) moved moves
+  pub settled : Machine
+  pub acts : Acts start moves settled
   pub entries : List Entry
   pub lines : List ℕ
   pub files : List ℕ
-  pub tells : Tells start entries hours 4 lines files
+  pub tells : Tells settled entries hours 4 lines files
   pub whole : text ≡ lines ++ tiers_text (tiers_of files)
 
--- The text was written, or a front of it where a write failed; and nothing where something was wanting.
+-- The text was written, or a front of it where a write failed; and nothing where something was wanting: acts for the feeds, or memory.
 abbrev pub Drills : ℕ → Option (List ℕ) → Option (List ℕ) → Status → Type 0
-Drills hours a b IsDone = (text : List ℕ) × IsDrillText hours text × Appends a b text
-Drills hours a b SinkFault = (text : List ℕ) × IsDrillText hours text × AppendsFront a b text
+Drills hours a b IsDone = (text : List ℕ) × IsDrillText hours nothing_held text × Appends a b text
+Drills hours a b SinkFault = (text : List ℕ) × IsDrillText hours nothing_held text × AppendsFront a b text
 Drills hours a b OutOfMemory = b ≡ a
-Drills hours a b Spent = b ≡ a
+Drills hours a b Spent = (b ≡ a) × WereSpent hours nothing_held
 Drills hours a b _ = ⊥

@@ -1,8 +1,9 @@
 -- What a run came to, by its words.
 use Rattle.std.specs.Prelude.{◌≡◌, ◌⊎◌, ◌<◌, ◌+◌, ℕ, List, Bool, true, IsTrue, Option, IfSome, None, Some, slice_get}
-use Rattle.disk_model.specs.Files.{Name, Files}
+use Rattle.disk_model.specs.Files.{Files}
 use Rattle.edge_io.specs.Stream.{Rose}
 use Rattle.link_service.specs.declared.posts.Post.{Post}
+use Rattle.link_service.specs.declared.service.AllServed.{AllServed}
 use Rattle.disk_model.specs.Past.{Past, Passes}
 use Rattle.etl_rules.specs.Config.{ConfigState}
 use Rattle.partition_names.specs.declared.granularity.Granularity.{Granularity}
@@ -31,7 +32,7 @@ use Rattle.archiver_appliance.specs.Moving.{MovesFrom}
 use Rattle.archiver_appliance.specs.Outside.{Outside, IsCaused}
 use Rattle.archiver_appliance.specs.Reporting.{Tells, TellsListed, ChecksAll}
 use Rattle.archiver_appliance.specs.Retrieving.{GetsSome, RetrievesFrom}
-use Rattle.archiver_appliance.specs.Serving.{ServesFrom}
+use Rattle.archiver_appliance.specs.Serving.{ServesFrom, status_of}
 use Rattle.command_words.specs.Status.{number_of}
 use Rattle.stream_extract.specs.Text.{Extracts}
 
@@ -88,7 +89,7 @@ NoDamage _ = Unit {0}
 
 -- It only reads: a crash leaves what the disk held, in doubt or not, and no file of a store is changed, at any moment and whatever is in it.
 pub record OnlyReads (gs : List Granularity) (files later : Files) (old new : Past) : Type 0 where
-  pub any_moment : Passes (StillHolds gs files) old new
+  pub any_moment : Passes (StillHolds gs) old new
   pub either : (before after : Stores) → OpensEither gs old before after → Passes (λ a b. HoldsEither gs before after b) old new
   pub opens : (before after : Stores) → OpensEither gs old before after → OpensEither gs new before after
   pub elsewhere : SameStores files later
@@ -103,7 +104,7 @@ pub record IsUnasked (gs : List Granularity) (old new : Outside) (status : Statu
   pub reads : OnlyReads gs old.files new.files old.past new.past
 
 -- What a command makes of what reads give. Those that act open an archive on it, and what a crash left before is what was before a change
--- that stood in doubt, or what is after it.
+-- that stood in doubt, or what is after it. What a service makes of it is said with what it leaves of its posts (IsOfService).
 abbrev pub Makes : ConfigState → StoreCommand → Stores → Stores → Stores → Outside → Outside → Status → Type 0
 Makes config command.Ingest before after first old new status =
     IsUnasked (stores_of config) old new status ⊎ IngestsInto (HoldsEither (stores_of config) before after) true config first old.source old.clock new.clock old.past new.past status
@@ -112,7 +113,7 @@ Makes config (command.Get name query) before after first old new status =
 Makes config command.Etl before after first old new status =
     IsUnasked (stores_of config) old new status ⊎ MovesFrom (HoldsEither (stores_of config) before after) true config first old.clock new.clock old.sink new.sink old.past new.past status
 Makes config (command.Serve numbers) before after first old new status =
-    IsUnasked (stores_of config) old new status ⊎ ((doors : ℕ) × ServesFrom (HoldsEither (stores_of config) before after) true config first doors old.past new.past status)
+    IsUnasked (stores_of config) old new status ⊎ ((told : AllServed) × (status ≡ status_of told))
 Makes config command.Status before after first old new status = Tells (status_text first) old.sink new.sink status
 Makes config command.Check before after first old new status = Unit {0}
 
@@ -124,6 +125,21 @@ pub record MakesOfRead (config : ConfigState) (asked : StoreCommand) (before aft
   pub read : HoldsAll (stores_of config) old.files first
   pub makes : Makes config asked before after first old new status
   pub undamaged : NoDamage status
+
+-- what a service with so many doors made of such a disk
+pub record MakesOfService (config : ConfigState) (doors : ℕ) (before after : Stores) (old new : Outside) (began : Bool) (told : AllServed) : Type 0 where
+  pub first : Stores
+  pub either : IsEither before after first
+  pub read : HoldsAll (stores_of config) old.files first
+  pub from : ServesFrom (HoldsEither (stores_of config) before after) true config first doors began told old.past new.past
+
+-- so it is where the disk tells its files, and what they hold stands
+abbrev pub IsOfService : ConfigState → Bool → ℕ → Outside → Outside → Bool → AllServed → Type 0
+IsOfService config tells doors old new began told = IsTrue tells → (before after : Stores) → OpensEither (stores_of config) old.past before after → IsTrue before.stands → MakesOfService config doors before after old new began told
+
+-- no archive was opened or made for a service
+abbrev pub IsUnopenedFor : ConfigState → Bool → Outside → Outside → Type 0
+IsUnopenedFor config tells old new = (new.clock ≡ old.clock) × (IsTrue tells → OnlyReads (stores_of config) old.files new.files old.past new.past)
 
 -- what is written by what the journals of a whole image say, whatever its listed files are
 abbrev pub TellsSaid : StoreCommand → Files → List Row → Listings → Outside → Outside → Status → Type 0

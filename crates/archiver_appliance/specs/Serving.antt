@@ -70,18 +70,17 @@ pub record HasFailed {D : Type 0} (faults : D → ℕ) (olds news : List (Post D
   pub now : slice_get news place ≡ Some new
   pub rose : Rose (faults old.door) (faults new.door)
 
--- No passes could be drawn for those who were to serve, for want of numbers or of memory, and the posts are as they were.
+-- Memory was wanting for those who were to serve, and the posts are as they were.
 pub record NobodyServed {D : Type 0} (told : AllServed) (olds news : List (Post D)) : Type 0 where
   pub same : news ≡ olds
-  pub want : (told ≡ told_want true false) ⊎ (told ≡ told_want false true)
+  pub want : told ≡ told_want false true
 
--- a run ends so where no post could be served
+-- a run ends so where no archive could be opened or made
 abbrev pub IsUnserved : Status → Type 0
 IsUnserved DiskFault = Unit {0}
 IsUnserved (Damaged name at) = Unit {0}
 IsUnserved OutOfMemory = Unit {0}
 IsUnserved (GranularityDiffers kept asked) = Unit {0}
-IsUnserved Spent = Unit {0}
 IsUnserved _ = ⊥
 
 module _ {D L : Type 0} (is_closed : D → Bool) (faults : D → ℕ) (ledger : D → Option (Ledger L)) (Is : Kind → L → Type 0) where
@@ -111,24 +110,24 @@ module _ {D L : Type 0} (is_closed : D → Bool) (faults : D → ℕ) (ledger : 
     pub moved : Result MoverEnd NoAct
     pub told_is : told ≡ told_of (map at_door served ++ at_flushes flushed ∷ at_moves moved ∷ [])
 
-  -- The posts were served, and the status is the first that befell the service; or the archive couldn't be opened or nobody could serve it, and
-  -- they are as they were.
-  pub data CameOfPosts (status : Status) (olds news : List (Post D)) : Type 0 where
-    are_served : (told : AllServed) → status ≡ status_of told → PostsServed told olds news → CameOfPosts status olds news
-    are_not : IsUnserved status → news ≡ olds → CameOfPosts status olds news
+  -- the posts were served, or those who were to serve them never began
+  abbrev pub PostsLeft : Bool → AllServed → List (Post D) → List (Post D) → Type 0
+  PostsLeft true told olds news = PostsServed told olds news
+  PostsLeft false told olds news = NobodyServed told olds news
 
-  -- The posts were served, or they are as they were. At the end that is good no door gives a link any more, and one is told to have failed only
-  -- where one did.
-  pub record ServesPosts (status : Status) (olds news : List (Post D)) : Type 0 where
-    pub came : CameOfPosts status olds news
+  -- They were left so on an archive, of which `Made` holds, and the status is the first that befell the service. Or no archive could be opened
+  -- or made of what the disk held, where `Unopened` holds, and they are as they were.
+  pub data CameOfPosts (Unopened : Type 0) (Made : Bool → AllServed → Type 0) (status : Status) (olds news : List (Post D)) : Type 0 where
+    on_archive : (began : Bool) (told : AllServed) → status ≡ status_of told → PostsLeft began told olds news → Made began told → CameOfPosts Unopened Made status olds news
+    are_not : IsUnserved status → news ≡ olds → Unopened → CameOfPosts Unopened Made status olds news
+
+  -- So it is. At the end that is good no door gives a link any more, and one is told to have failed only where one did.
+  pub record ServesPosts (Unopened : Type 0) (Made : Bool → AllServed → Type 0) (status : Status) (olds news : List (Post D)) : Type 0 where
+    pub came : CameOfPosts Unopened Made status olds news
     pub closed : status ≡ Done → All (λ (p : Post D). is_closed p.door ≡ true) news
     pub failed : status ≡ DoorFault → HasFailed faults olds news
 
 -- THE ARCHIVE
-
--- No act is left to make, or none was made, where no numbers were left for those who were to serve.
-abbrev pub WasSpent : {E : Type 0} → List E → Type 0
-WasSpent acts = (most_acts ≤ length acts) ⊎ (acts ≡ [])
 
 -- the disk failed in a flush, and whoever made it made no act after it
 pub record HasFailedFlush (entries : List Entry) : Type 0 where
@@ -145,22 +144,24 @@ pub record HasFailedFlush (entries : List Entry) : Type 0 where
 abbrev pub ArchiveStep : {D R : Type 0} → Ghosts D R → Bool → (R → List ℕ) → (R → ℕ) → Shared (Archive D R) R → ℕ → ℕ → Act → Answer R → Shared (Archive D R) R → Type 0
 ArchiveStep {D} {R} disk told bytes faults = SharedStep (λ a n. Stands disk.tells (parts disk a) n) (λ a e b. Leaves disk.tells (parts disk a) e (parts disk b)) told bytes faults
 
--- All acts that were made in a room in which an archive is shared, and the archive as they left it. Where nothing was wanting and the last
--- flush didn't fail, they came to their end from whatever the archive stood for with as many doors.
-pub record LeavesRoom {D R : Type 0} (disk : Ghosts D R) (steps : Shared (Archive D R) R → ℕ → ℕ → Act → Answer R → Shared (Archive D R) R → Type 0) (reply : Answer R → Reply) (room : Shared (Archive D R) R) (doors : ℕ) (told : AllServed) (left : Archive D R) : Type 0 where
+-- All acts that were made in a room in which an archive is shared, and the archive as they left it: none where nobody began. Where
+-- nothing was wanting and the last flush didn't fail, they came to their end from whatever the archive stood for with as many doors.
+pub record LeavesRoom {D R : Type 0} (disk : Ghosts D R) (steps : Shared (Archive D R) R → ℕ → ℕ → Act → Answer R → Shared (Archive D R) R → Type 0) (reply : Answer R → Reply) (room : Shared (Archive D R) R) (doors : ℕ) (began : Bool) (told : AllServed) (left : Archive D R) : Type 0 where
   pub acts : List (RoomEntry (Shared (Archive D R) R) Act (Answer R))
   pub legal : Legal steps room acts
   pub is_left : left ≡ (end_of room acts).archive
-  pub spent : told.spent ≡ true → WasSpent acts
+  pub none : began ≡ false → acts ≡ []
+  pub spent : told.spent ≡ true → most_acts ≤ length acts
   pub failed : told.disk_fault ≡ true → HasFailedFlush (all_kept reply acts)
   pub ends : (m : Machine) → Stands disk.tells (parts disk room.archive) m → m.doors ≡ doors → told.spent ≡ false → told.memory ≡ false → told.disk_fault ≡ false
       → (mover : ℕ) × (after : Machine) × Runs m (all_kept reply acts) after × Stands disk.tells (parts disk left) after × EndsWell m (all_kept reply acts) after mover
 
 -- So it is of an archive that was shared: all that was done on it is one run from each state that it stood for.
-pub record LeavesArchive {D R : Type 0} (disk : Ghosts D R) (old : Archive D R) (doors : ℕ) (told : AllServed) (left : Archive D R) : Type 0 where
+pub record LeavesArchive {D R : Type 0} (disk : Ghosts D R) (old : Archive D R) (doors : ℕ) (began : Bool) (told : AllServed) (left : Archive D R) : Type 0 where
   pub entries : List Entry
   pub run : (m : Machine) → Stands disk.tells (parts disk old) m → RunsOn disk.tells (parts disk old) m entries (parts disk left)
-  pub spent : told.spent ≡ true → WasSpent entries
+  pub none : began ≡ false → entries ≡ []
+  pub spent : told.spent ≡ true → most_acts ≤ length entries
   pub failed : told.disk_fault ≡ true → HasFailedFlush entries
   pub ends : (m : Machine) → Stands disk.tells (parts disk old) m → m.doors ≡ doors → told.spent ≡ false → told.memory ≡ false → told.disk_fault ≡ false
       → (mover : ℕ) × (after : Machine) × Runs m entries after × Stands disk.tells (parts disk left) after × EndsWell m entries after mover
@@ -174,12 +175,11 @@ pub record IsServedWell (tells : Bool) (config : ConfigState) (start : Machine) 
   pub well : EndsWell start entries end mover
   pub leaves : IsTrue tells → OpensAgain config end past
 
--- The archive was opened on what is held, with so many doors; all that anybody did on it were steps, in one order; and the disk was given
--- back. At each moment a crash left what `Before` says, as of an opening; or what one within one of the acts leaves, which stands: of each
--- variable it extends what was durable at first, and is extended by what is accepted in the end.
-pub record ServesFrom (Before : Files → Type 0) (tells : Bool) (config : ConfigState) (held : Stores) (doors : ℕ) (old new : Past) (status : Status) : Type 0 where
-  pub told : AllServed
-  pub status_is : status ≡ status_of told
+-- The archive was opened on what is held, with so many doors; all that anybody did on it were steps, in one order, and none where nobody
+-- began; and the disk was given back. It is told of these acts what befell. At each moment a crash left what `Before` says, as of an opening;
+-- or what one within one of the acts leaves, which stands: of each variable it extends what was durable at first, and is extended by what is
+-- accepted in the end.
+pub record ServesFrom (Before : Files → Type 0) (tells : Bool) (config : ConfigState) (held : Stores) (doors : ℕ) (began : Bool) (told : AllServed) (old new : Past) : Type 0 where
   pub start : Machine
   pub opened : IsOpenedOn tells config held start
   pub with_doors : start.doors ≡ doors
@@ -188,6 +188,7 @@ pub record ServesFrom (Before : Files → Type 0) (tells : Bool) (config : Confi
   pub runs : Runs start entries end
   pub leaves : IsTrue tells → OpensAgain config end new
   pub any_moment : IsTrue tells → IsTrue held.stands → Passes (λ a image. Before image ⊎ HoldsBetween (stores_of config) start entries end image) old new
-  pub spent : told.spent ≡ true → WasSpent entries
+  pub none : began ≡ false → entries ≡ []
+  pub spent : told.spent ≡ true → most_acts ≤ length entries
   pub failed : told.disk_fault ≡ true → HasFailedFlush entries
   pub ends : told.spent ≡ false → told.memory ≡ false → told.disk_fault ≡ false → IsServedWell tells config start entries new

@@ -70,6 +70,8 @@ pub struct Doors<'a> {
     pub ports: Option<Ports>,
     /// The first port that couldn't be bound, and why. Then each door fails when it is asked.
     pub unbound: Option<Unbound>,
+    /// What the service has to tell, where both ports could be bound.
+    pub telling: Option<Arc<Telling<'a>, Global>>,
 }
 
 /// A port that couldn't be bound.
@@ -97,6 +99,7 @@ impl<'a> Doors<'a> {
             posts: Vec::new(alloc),
             ports: None,
             unbound: None,
+            telling: None,
         }
     }
 
@@ -144,6 +147,7 @@ impl<'a> Doors<'a> {
         doors.add(&requests, rt, words, stop, telling.as_ref())?;
         doors.ports = unbound.is_none().then_some(ports);
         doors.unbound = unbound;
+        doors.telling = telling;
         Ok(doors)
     }
 

@@ -9,7 +9,6 @@ ghost use Rattle.drill_feed.specs.Workload.{name_text};
 ghost use Rattle.archiver_appliance.specs.Drilling.{CameTo, HasFiles, HasTally, IsLine, Tells, TellsOn, TellsVariable, added, query_of, tiers_of, told_u32};
 ghost use Rattle.archiver_appliance.specs.Tallying.{IsEarly};
 
-use crate::drilling::Lack;
 use crate::tallying::TallyOut;
 use act_model::{DetailsTold, ask_details};
 use archive_actors::Alone;
@@ -20,12 +19,13 @@ use retrieval_query::{Retrieved, retrieve};
 use series_model::{Blob, Query};
 use std::alloc::{AllocError, Global};
 
-/// The text of what the archive holds: a line for each variable, and one for the files of each store.
+/// The text of what the archive holds: a line for each variable, and one for the files of each store. It fails for want of memory, or of the
+/// disk, which is the drill's own; one who acts alone never lacks acts.
 pub fn report<D: Disk>(
     alloc: Global,
     archive: &mut Archive<D>,
     drill: Drill,
-) -> Result<Vec<u8>, Lack>
+) -> Result<Vec<u8>, AllocError>
     requires stands { (m : Machine) × Stands D.tells (parts D.Disk archive.old) m }
     ensures tells { IfOk result (λ text. TellsOn D.Disk archive.old archive.new (λ m entries. (lines files : List ℕ) × Tells m entries drill.hours 4 lines files × (text.items ≡ lines ++ tiers_text (tiers_of files)))) }
 {
@@ -52,7 +52,7 @@ fn put_variable<D: Disk>(
     variable: u32,
     text: &mut Vec<u8>,
     files: &mut [u32; 3],
-) -> Result<(), Lack>
+) -> Result<(), AllocError>
     requires known { variable < VARIABLES }
     requires stands { (m : Machine) × Stands D.tells (parts D.Disk archive.old) m }
     ensures stands { (m : Machine) × Stands D.tells (parts D.Disk archive.new) m }
@@ -76,7 +76,7 @@ fn tally_of<D: Disk>(
     archive: &mut Archive<D>,
     name: &str,
     query: Query,
-) -> Result<Option<Tally>, Lack>
+) -> Result<Option<Tally>, AllocError>
     requires stands { (m : Machine) × Stands D.tells (parts D.Disk archive.old) m }
     ensures stands { (m : Machine) × Stands D.tells (parts D.Disk archive.new) m }
     ensures early { IfOk result IsEarly }
@@ -86,8 +86,7 @@ fn tally_of<D: Disk>(
     let mut out = TallyOut::new();
     match retrieve(alloc, &mut actor, name.as_bytes(), query, &mut out) {
         Retrieved::Finished { .. } => Ok(out.tally()),
-        Retrieved::Spent => Err(Lack::Acts),
-        _ => Err(Lack::Memory),
+        _ => Err(AllocError),
     }
 }
 
@@ -112,7 +111,11 @@ fn empty_line(alloc: Global, name: &str) -> Result<Vec<u8>, AllocError>
 }
 
 // How many files each store lists of a variable.
-fn files_of<D: Disk>(alloc: Global, archive: &mut Archive<D>, name: &str) -> Result<[u64; 3], Lack>
+fn files_of<D: Disk>(
+    alloc: Global,
+    archive: &mut Archive<D>,
+    name: &str,
+) -> Result<[u64; 3], AllocError>
     requires stands { (m : Machine) × Stands D.tells (parts D.Disk archive.old) m }
     ensures stands { (m : Machine) × Stands D.tells (parts D.Disk archive.new) m }
     ensures files { IfOk result (λ files. TellsOn D.Disk archive.old archive.new (λ m entries. CameTo m entries (HasFiles name.now files))) }
@@ -121,8 +124,8 @@ fn files_of<D: Disk>(alloc: Global, archive: &mut Archive<D>, name: &str) -> Res
     let mut actor = Alone::new(archive, 0);
     match ask_details(&mut actor, name) {
         Ok(DetailsTold::Described(details)) => Ok(details.files),
-        Ok(_) => Err(Lack::Memory),
-        Err(_) => Err(Lack::Acts),
+        Ok(_) => Err(AllocError),
+        Err(_) => Err(AllocError),
     }
 }
 

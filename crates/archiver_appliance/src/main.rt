@@ -11,6 +11,7 @@
 //! image, a status and a complaint.
 #![tactic(auto)]
 
+mod contents;
 mod doors;
 mod drill_report;
 mod drilling;
@@ -28,6 +29,7 @@ mod telling;
 ghost use Rattle.std.specs.Prelude.{◌≤◌, ◌<◌, ◌^◌, length, vec_len, IfOk};
 
 use command_words::{Status, complain, serve_words};
+use contents::Contents;
 use doors::{Doors, ServiceDoor, Unbound};
 use edge_io::{StdSink, StdSource, SystemClock};
 use etl_rules::Config;
@@ -41,7 +43,7 @@ use std::process::ExitCode;
 use std::sync::{Arc, Wait};
 use std::thread::{Threads, join};
 use stopping::{Ports, Stop, watch};
-use telling::tell;
+use telling::{Telling, tell};
 
 fn main(rt: HostRuntime) -> ExitCode {
     let ended = match prepare(&rt, &rt) {
@@ -83,6 +85,8 @@ struct Prepared<'a> {
     disk: FolderDisk<&'a HostRuntime>,
     posts: Vec<Post<ServiceDoor<'a>>>,
     unbound: Option<Unbound>,
+    // Nothing where no service is begun.
+    telling: Option<Arc<Telling<'a>, Global>>,
 }
 
 // A service that a file ends, and where its doors listen.
@@ -118,14 +122,14 @@ fn prepare<'a>(
         posts,
         unbound,
         ports,
+        telling,
     } = opened_doors(rt, net, &words, folders, &stop)?;
-    let (disk, watched) = match ports {
+    let watched = match ports {
         Some(ports) => {
             let file = format!(in rt.alloc(); "{site}/stop")?;
-            let disk = disk.telling(FaultLines::new(rt.stderr(), rt.alloc()));
-            (disk, Some(Watched { stop, file, ports }))
+            Some(Watched { stop, file, ports })
         }
-        None => (disk, None),
+        None => None,
     };
     drop(words);
     let prepared = Prepared {
@@ -133,6 +137,7 @@ fn prepare<'a>(
         disk,
         posts,
         unbound,
+        telling,
     };
     Ok((prepared, watched))
 }
@@ -150,7 +155,12 @@ fn run_over<H: Threads + Wait + Sync>(
         disk,
         mut posts,
         unbound,
+        telling,
     } = prepared;
+    let disk = match telling {
+        Some(telling) => counted(rt, handles, disk, &telling),
+        None => disk,
+    };
     let words = texts(rt.alloc(), &arguments)?;
     let mut source = StdSource::new(rt.stdin());
     let mut sink = StdSink::new(rt.stdout());
@@ -177,6 +187,35 @@ fn run_over<H: Threads + Wait + Sync>(
     }
     tell_unbound(rt, unbound);
     Ok(ended.status)
+}
+
+// The disk, on which each fault is told from now on, where a service is to begin. What its archive has is told with the service's first
+// line: a report finds it. Where that fails the service does too, and tells why.
+fn counted<'a, H: Threads + Wait + Sync>(
+    rt: &HostRuntime,
+    handles: &H,
+    disk: FolderDisk<&'a HostRuntime>,
+    telling: &Telling<'a>,
+) -> FolderDisk<&'a HostRuntime> {
+    let mut contents = Contents::none();
+    let mut posts: [Post<ServiceDoor<'a>>; 0] = [];
+    let mut ended = run::run(
+        handles,
+        rt.alloc(),
+        &["status"],
+        &Config::shipped(),
+        &mut StdSource::new(rt.stdin()),
+        &mut contents,
+        &mut Contents::none(),
+        disk,
+        &mut SystemClock::new(rt),
+        &mut posts,
+    );
+    if ended.status == Status::Done.number() {
+        telling.count(&contents);
+    }
+    drop(ended.disk.take_trouble());
+    ended.disk.telling(FaultLines::new(rt.stderr(), rt.alloc()))
 }
 
 // The doors that the words ask for: none, unless they are those of `serve`.

@@ -1,9 +1,10 @@
 // The commands over the archive.
-ghost use Rattle.std.specs.Prelude.{◌≡◌, ◌<◌, ◌^◌, IsTrue, None, length};
+ghost use Rattle.std.specs.Prelude.{◌≡◌, ◌<◌, ◌^◌, [], IsTrue, None, length};
+ghost use Rattle.edge_io.specs.Moments.{Gives};
 ghost use Rattle.store_reopen.specs.Reopen.{IsUnopened, disk_in};
 ghost use Rattle.archiver_appliance.specs.Judging.{refusal_of};
 ghost use Rattle.archiver_appliance.specs.Outside.{outside, IsCaused, NoneFell};
-ghost use Rattle.archiver_appliance.specs.Run.{Does, IsRefused, IsReport};
+ghost use Rattle.archiver_appliance.specs.Run.{Does, IsOfService, IsRefused, IsReport, IsUnopenedFor};
 ghost use Rattle.command_words.specs.Status.{number_of};
 ghost use Rattle.command_words.specs.declared.command.Command.TheVariants.{OverStore};
 ghost use Rattle.command_words.specs.declared.command.StoreCommand.TheVariants as asked;
@@ -82,8 +83,10 @@ where
     ensures move_alone { command.entry ≡ asked.Etl → source.new ≡ source.old }
     ensures report_alone { IsReport command.entry → (source.new ≡ source.old) × (clock.new ≡ clock.old) }
     ensures posts_alone { ((numbers : Numbers) → command.entry ≡ asked.Serve numbers → ⊥) → posts.new ≡ posts.old }
-    ensures serve_alone { (numbers : Numbers) → command.entry ≡ asked.Serve numbers → (source.new ≡ source.old) × (sink.new ≡ sink.old) }
-    ensures serves { (numbers : Numbers) → command.entry ≡ asked.Serve numbers → ServesPosts W.is_closed W.door_faults W.ledger (λ kind l. IsServed kind W.L.Sink.written W.L.Source.read_faults W.L.Sink.write_faults l) result.status posts.old posts.new }
+    ensures serve_alone { (numbers : Numbers) → command.entry ≡ asked.Serve numbers → (source.new ≡ source.old) × (sink.new ≡ sink.old) × Gives (C.coming clock.old) (C.coming clock.new) [] }
+    ensures serves { (numbers : Numbers) → command.entry ≡ asked.Serve numbers
+        → ServesPosts W.is_closed W.door_faults W.ledger (λ kind l. IsServed kind W.L.Sink.written W.L.Source.read_faults W.L.Sink.write_faults l) (IsUnopenedFor config.now D.tells (outside S.Source K.Sink C.Clock D.Disk source.old sink.old clock.old disk) (outside S.Source K.Sink C.Clock D.Disk source.new sink.new clock.new result.disk))
+        (IsOfService config.now D.tells (length posts.old) (outside S.Source K.Sink C.Clock D.Disk source.old sink.old clock.old disk) (outside S.Source K.Sink C.Clock D.Disk source.new sink.new clock.new result.disk)) result.status posts.old posts.new }
     ensures refused { IsRefused config.now D.tells (D.files disk) (number_of result.status) → (source.new ≡ source.old) × (sink.new ≡ sink.old) × (clock.new ≡ clock.old) }
     ensures unopened { IsTrue D.tells → IsUnopened (D.files result.disk) (D.opened result.disk) }
 {

@@ -1,5 +1,6 @@
 // A run of the program, from its words to its status.
-ghost use Rattle.std.specs.Prelude.{◌≡◌, ◌↔◌, ◌≤◌, ◌<◌, ◌^◌, IsTrue, length, map};
+ghost use Rattle.std.specs.Prelude.{◌≡◌, ◌↔◌, ◌≤◌, ◌<◌, ◌^◌, [], IsTrue, length, map};
+ghost use Rattle.edge_io.specs.Moments.{Gives};
 ghost use Rattle.series_model.specs.declared.sample.Query.{Query};
 ghost use Rattle.drill_feed.specs.declared.drill.Drill.{Drill as DrillValue};
 ghost use Rattle.store_reopen.specs.Reopen.{IsUnopened};
@@ -14,7 +15,7 @@ ghost use Rattle.archiver_appliance.specs.Serving.{ServesPosts};
 ghost use Rattle.command_words.specs.Command.{IsCommand, IsFaulty};
 ghost use Rattle.archiver_appliance.specs.Outside.{outside, IsCaused, IsQuiet, NoneFell};
 ghost use Rattle.command_words.specs.Status.{number_of};
-ghost use Rattle.archiver_appliance.specs.Run.{Obeys, Ran, IsRefused, IsReport, CanBeDone, AreDoorsQuiet, EndsWellBy};
+ghost use Rattle.archiver_appliance.specs.Run.{Obeys, Ran, IsOfService, IsRefused, IsReport, IsUnopenedFor, CanBeDone, AreDoorsQuiet, EndsWellBy};
 
 use crate::drilling::run_drill;
 use crate::opened::{Came, serve};
@@ -52,7 +53,7 @@ pub struct Ended<D: Disk> {
 /// | 9 | memory was wanting |
 /// | 11 | `serve`: a door's count of faults rose |
 /// | 12 | the disk keeps another granularity than the configured one |
-/// | 13 | `serve`, `drill`: no act was left to make, or no number of a pass to draw |
+/// | 13 | `serve`, `drill`: no act was left to make, of the 2^63 - 1 that there are |
 ///
 /// `serve` serves the posts to the ends of their doors; every other command leaves them as they are. Of what befell a service it tells the
 /// first of 11, 7, 9 and 13.
@@ -99,9 +100,10 @@ where
 
     // The posts are served by `serve` alone.
     ensures posts_alone { (command : CommandValue) → IsCommand (map (λ w. w.now) words.now) command → ((numbers : Numbers) → command ≡ OverStore (asked.Serve numbers) → ⊥) → posts.new ≡ posts.old }
-    ensures serve_alone { (numbers : Numbers) → IsCommand (map (λ w. w.now) words.now) (OverStore (asked.Serve numbers)) → (source.new ≡ source.old) × (sink.new ≡ sink.old) }
+    ensures serve_alone { (numbers : Numbers) → IsCommand (map (λ w. w.now) words.now) (OverStore (asked.Serve numbers)) → (source.new ≡ source.old) × (sink.new ≡ sink.old) × Gives (C.coming clock.old) (C.coming clock.new) [] }
     ensures serves { (numbers : Numbers) → IsCommand (map (λ w. w.now) words.now) (OverStore (asked.Serve numbers))
-        → (status : StatusValue) × (result.status ≡ number_of status) × ServesPosts W.is_closed W.door_faults W.ledger (λ kind l. IsServed kind W.L.Sink.written W.L.Source.read_faults W.L.Sink.write_faults l) status posts.old posts.new }
+        → (status : StatusValue) × (result.status ≡ number_of status) × ServesPosts W.is_closed W.door_faults W.ledger (λ kind l. IsServed kind W.L.Sink.written W.L.Source.read_faults W.L.Sink.write_faults l) (IsUnopenedFor config.now D.tells (outside S.Source K.Sink C.Clock D.Disk source.old sink.old clock.old disk) (outside S.Source K.Sink C.Clock D.Disk source.new sink.new clock.new result.disk))
+        (IsOfService config.now D.tells (length posts.old) (outside S.Source K.Sink C.Clock D.Disk source.old sink.old clock.old disk) (outside S.Source K.Sink C.Clock D.Disk source.new sink.new clock.new result.disk)) status posts.old posts.new }
 
     // Where no count rose, each command is done that can be, or memory was wanting.
     ensures complete { (command : CommandValue) → IsCommand (map (λ w. w.now) words.now) command → CanBeDone config.now D.tells command (outside S.Source K.Sink C.Clock D.Disk source.old sink.old clock.old disk)
@@ -154,8 +156,10 @@ where
     ensures report_alone { (command : Asked) → IsCommand (map (λ w. w.now) words.now) (OverStore command) → IsReport command → (source.new ≡ source.old) × (clock.new ≡ clock.old) }
     ensures refused { (command : Asked) → IsCommand (map (λ w. w.now) words.now) (OverStore command) → IsRefused config.now D.tells (D.files disk) (number_of result.status) → (source.new ≡ source.old) × (sink.new ≡ sink.old) × (clock.new ≡ clock.old) }
     ensures posts_alone { (command : CommandValue) → IsCommand (map (λ w. w.now) words.now) command → ((numbers : Numbers) → command ≡ OverStore (asked.Serve numbers) → ⊥) → posts.new ≡ posts.old }
-    ensures serve_alone { (numbers : Numbers) → IsCommand (map (λ w. w.now) words.now) (OverStore (asked.Serve numbers)) → (source.new ≡ source.old) × (sink.new ≡ sink.old) }
-    ensures serves { (numbers : Numbers) → IsCommand (map (λ w. w.now) words.now) (OverStore (asked.Serve numbers)) → ServesPosts W.is_closed W.door_faults W.ledger (λ kind l. IsServed kind W.L.Sink.written W.L.Source.read_faults W.L.Sink.write_faults l) result.status posts.old posts.new }
+    ensures serve_alone { (numbers : Numbers) → IsCommand (map (λ w. w.now) words.now) (OverStore (asked.Serve numbers)) → (source.new ≡ source.old) × (sink.new ≡ sink.old) × Gives (C.coming clock.old) (C.coming clock.new) [] }
+    ensures serves { (numbers : Numbers) → IsCommand (map (λ w. w.now) words.now) (OverStore (asked.Serve numbers))
+        → ServesPosts W.is_closed W.door_faults W.ledger (λ kind l. IsServed kind W.L.Sink.written W.L.Source.read_faults W.L.Sink.write_faults l) (IsUnopenedFor config.now D.tells (outside S.Source K.Sink C.Clock D.Disk source.old sink.old clock.old disk) (outside S.Source K.Sink C.Clock D.Disk source.new sink.new clock.new result.disk))
+        (IsOfService config.now D.tells (length posts.old) (outside S.Source K.Sink C.Clock D.Disk source.old sink.old clock.old disk) (outside S.Source K.Sink C.Clock D.Disk source.new sink.new clock.new result.disk)) result.status posts.old posts.new }
     ensures unopened { IsTrue D.tells → IsUnopened (D.files result.disk) (D.opened result.disk) }
 {
     match command_of(words) {

@@ -1,5 +1,6 @@
 // `serve`: many feeds and clients at once on an archive, beside one who flushes and one who moves.
-ghost use Rattle.std.specs.Prelude.{◌≡◌, ◌<◌, ◌^◌, ◌⊎◌, ℕ, List, Option, IfOk, IfErr, length, IsTrue};
+ghost use Rattle.std.specs.Prelude.{◌≡◌, ◌<◌, ◌^◌, ◌⊎◌, [], ℕ, List, Bool, Option, IfOk, IfErr, length, IsTrue};
+ghost use Rattle.edge_io.specs.Moments.{Gives};
 ghost use Rattle.disk_model.specs.Files.{Rose as DiskRose};
 ghost use Rattle.tier_store.specs.Change.{Has};
 ghost use Rattle.tier_store.specs.Seen.{seen};
@@ -15,7 +16,7 @@ ghost use Rattle.archiver_appliance.specs.Acting.{IsFresh, IsNotMade};
 ghost use Rattle.archiver_appliance.specs.Judging.{IsOfOpened};
 ghost use Rattle.archiver_appliance.specs.Outside.{HasNotFallen, IsCausedBy};
 ghost use Rattle.archiver_appliance.specs.Run.{EndsAs, NoDamage};
-ghost use Rattle.archiver_appliance.specs.Serving.{ArchiveStep, LeavesArchive, LeavesRoom, NobodyServed, PostsServed, ServesFrom, ServesPosts, status_of};
+ghost use Rattle.archiver_appliance.specs.Serving.{ArchiveStep, LeavesArchive, LeavesRoom, PostsLeft, ServesFrom, ServesPosts, status_of};
 ghost use Rattle.command_words.specs.declared.command.StoreCommand.TheVariants as asked;
 ghost use Rattle.command_words.specs.declared.service_words.ServeWords.{ServeWords as Numbers};
 
@@ -47,9 +48,10 @@ where
     W::L: Send,
     requires few { length posts.old < 2 ^ 32 }
     requires fresh { IsFresh D.Disk store }
-    ensures serves { (IsNotMade store.disk result.disk result.status × (C.coming clock.new ≡ C.coming clock.old))
-        ⊎ ((held : Stores) → Has D.tells (seen D.Disk store) held → ServesFrom (λ image. ⊥) D.tells store.config held (length posts.old) (D.past store.disk) (D.past result.disk) result.status) }
-    ensures posts { ServesPosts W.is_closed W.door_faults W.ledger (λ kind l. IsServed kind W.L.Sink.written W.L.Source.read_faults W.L.Sink.write_faults l) result.status posts.old posts.new }
+    ensures serves { ServesPosts W.is_closed W.door_faults W.ledger (λ kind l. IsServed kind W.L.Sink.written W.L.Source.read_faults W.L.Sink.write_faults l) (IsNotMade store.disk result.disk result.status × (C.coming clock.new ≡ C.coming clock.old))
+        (λ began told. (held : Stores) → Has D.tells (seen D.Disk store) held → ServesFrom (λ image. ⊥) D.tells store.config held (length posts.old) began told (D.past store.disk) (D.past result.disk))
+        result.status posts.old posts.new }
+    ensures clock { Gives (C.coming clock.old) (C.coming clock.new) [] }
     ensures opened { IsOfOpened result.status }
     ensures undamaged { NoDamage result.status }
     ensures ends { (numbers : Numbers) (input : Option (List ℕ)) → EndsAs (asked.Serve numbers) input result.status }
@@ -91,8 +93,8 @@ where
     W::L: Send,
     requires stands { (m : Machine) × Stands D.tells (parts D.Disk archive) m }
     requires few { length posts.old < 2 ^ 32 }
-    ensures leaves { IfOk result (λ end. LeavesArchive D.Disk archive (length posts.old) end.0 end.1) }
-    ensures posts { IfOk result (λ end. PostsServed W.is_closed W.door_faults W.ledger (λ kind l. IsServed kind W.L.Sink.written W.L.Source.read_faults W.L.Sink.write_faults l) end.0 posts.old posts.new ⊎ NobodyServed end.0 posts.old posts.new) }
+    ensures leaves { IfOk result (λ end. (began : Bool) × LeavesArchive D.Disk archive (length posts.old) began end.0 end.1 × PostsLeft W.is_closed W.door_faults W.ledger (λ kind l. IsServed kind W.L.Sink.written W.L.Source.read_faults W.L.Sink.write_faults l) began end.0 posts.old posts.new) }
+    ensures clock { Gives (C.coming clock.old) (C.coming clock.new) [] }
     ensures back { IfErr result (λ given. (given ≡ archive) × (posts.new ≡ posts.old) × (clock.new ≡ clock.old)) }
 {
     turns_lose_no_more::<D>();
@@ -117,8 +119,9 @@ where
     requires opens { Opens (ArchiveStep D.Disk D.Reader.tells D.Reader.bytes D.Reader.faults) rooms (opened rooms) pass }
     requires stands { (m : Machine) × Stands D.tells (parts D.Disk (opened rooms).archive) m }
     requires few { length posts.old < 2 ^ 32 }
-    ensures leaves { LeavesRoom D.Disk (ArchiveStep D.Disk D.Reader.tells D.Reader.bytes D.Reader.faults) (reply_of D.Reader.tells D.Reader.bytes D.Reader.faults) (opened rooms) (length posts.old) result.0 result.1 }
-    ensures posts { PostsServed W.is_closed W.door_faults W.ledger (λ kind l. IsServed kind W.L.Sink.written W.L.Source.read_faults W.L.Sink.write_faults l) result.0 posts.old posts.new ⊎ NobodyServed result.0 posts.old posts.new }
+    ensures leaves { (began : Bool) × LeavesRoom D.Disk (ArchiveStep D.Disk D.Reader.tells D.Reader.bytes D.Reader.faults) (reply_of D.Reader.tells D.Reader.bytes D.Reader.faults) (opened rooms) (length posts.old) began result.0 result.1
+        × PostsLeft W.is_closed W.door_faults W.ledger (λ kind l. IsServed kind W.L.Sink.written W.L.Source.read_faults W.L.Sink.write_faults l) began result.0 posts.old posts.new }
+    ensures clock { Gives (C.coming clock.old) (C.coming clock.new) [] }
 {
     let told = serve_all(rt, alloc, &rooms, &mut pass, posts, clock, &NoGate);
     (told, rooms.close(pass).into_inner())

@@ -1,9 +1,10 @@
 // What a service tells on standard error while it runs.
+use crate::contents::Contents;
 use crate::stopping::Ports;
 use edge_io::{StdSink, write_whole};
 use std::alloc::{AllocError, Global};
 use std::sync::Arc;
-use std::sync::atomic::{AtomicBool, Ordering};
+use std::sync::atomic::{AtomicBool, AtomicU64, Ordering};
 use std::time::Instant;
 
 /// What a service has to tell: where it serves, once it does, and each door that failed.
@@ -13,6 +14,10 @@ pub struct Telling<'a> {
     /// Where it listens and what it serves.
     place: String,
     begun: Option<Instant>,
+    // How many variables and files the archive has, where they were counted.
+    counted: AtomicBool,
+    variables: AtomicU64,
+    files: AtomicU64,
     told: AtomicBool,
 }
 
@@ -37,9 +42,19 @@ impl<'a> Telling<'a> {
             rt,
             place,
             begun: Instant::now(rt).ok(),
+            counted: AtomicBool::new(false),
+            variables: AtomicU64::new(0),
+            files: AtomicU64::new(0),
             told: AtomicBool::new(false),
         };
         Ok(Arc::new(rt.alloc(), telling)?)
+    }
+
+    /// Takes what the archive has, before the service begins.
+    pub fn count(&self, contents: &Contents) {
+        self.variables.store(contents.variables, Ordering::SeqCst);
+        self.files.store(contents.files, Ordering::SeqCst);
+        self.counted.store(true, Ordering::SeqCst);
     }
 
     /// Tells once, whoever asks first, that it serves. The archive is open then.
@@ -47,18 +62,25 @@ impl<'a> Telling<'a> {
         if self.told.fetch_or(true, Ordering::SeqCst) {
             return;
         }
-        let place = self.place.as_str();
-        let line = match self.opening() {
-            Some(millis) => {
-                format!(in self.rt.alloc();
-                    "archappl: listening on {place}; opened in {millis} ms\n"
-                )
-            }
-            None => format!(in self.rt.alloc(); "archappl: listening on {place}\n"),
-        };
-        if let Ok(line) = line {
+        if let Ok(line) = self.opened_line() {
             tell(self.rt, &line);
         }
+    }
+
+    fn opened_line(&self) -> Result<String, AllocError> {
+        let alloc = self.rt.alloc();
+        let place = self.place.as_str();
+        let mut line = format!(in alloc; "archappl: listening on {place}")?;
+        if self.counted.load(Ordering::SeqCst) {
+            let variables = self.variables.load(Ordering::SeqCst);
+            let files = self.files.load(Ordering::SeqCst);
+            line.push_str(&format!(in alloc; "; variables {variables}, files {files}")?)?;
+        }
+        if let Some(millis) = self.opening() {
+            line.push_str(&format!(in alloc; "; opened in {millis} ms")?)?;
+        }
+        line.push('\n')?;
+        Ok(line)
     }
 
     // How many milliseconds the opening took.

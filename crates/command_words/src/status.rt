@@ -40,7 +40,7 @@ pub enum Status {
     },
     /// A door failed.
     DoorFault,
-    /// No act is left to make, or no number of a pass to draw.
+    /// No act is left to make.
     Spent,
 }
 

@@ -140,8 +140,35 @@ fn a_reader_changes_nothing(rt: HostRuntime) -> Result<(), Fail> {
     assert_eq!(rt; count, 4);
     assert_eq!(rt; &bytes, b"9123");
     assert_eq!(rt; refused, Err(DiskErr::Fault));
+    let removed = named(alloc, 0, b"manifest1")?;
+    disk.remove(&removed)?;
+    assert_eq!(rt; disk.size(&removed), Ok(None));
+    assert_eq!(rt; disk.remove(&removed), Err(DiskErr::Fault));
     let site = format!(in alloc; "{root}/below")?;
     assert!(rt; !fs::exists(&rt, site.as_str())?);
+    fs::remove_dir_all(&rt, root.as_str())?;
+    Ok(())
+}
+
+#[test]
+fn a_reader_removes_in_memory_alone(rt: HostRuntime) -> Result<(), Fail> {
+    let alloc = rt.alloc();
+    let root = empty_folder(&rt, "folder_disk_removes")?;
+    let name = named(alloc, 0, b"manifest1")?;
+    let mut writer = disk_below(&rt, root.as_str(), Access::Write)?;
+    writer.create(&name)?;
+    writer.write(&name, 0, b"0")?;
+    writer.sync(&name)?;
+    drop(writer);
+    let mut reader = disk_below(&rt, root.as_str(), Access::Read)?;
+    assert_eq!(rt; reader.size(&name), Ok(Some(1)));
+    reader.remove(&name)?;
+    reader.sync(&name)?;
+    assert_eq!(rt; reader.size(&name), Ok(None));
+    assert_eq!(rt; reader.read(&name, 0, &mut [0]), Err(DiskErr::Fault));
+    drop(reader);
+    let mut other = disk_below(&rt, root.as_str(), Access::Read)?;
+    assert_eq!(rt; other.size(&name), Ok(Some(1)));
     fs::remove_dir_all(&rt, root.as_str())?;
     Ok(())
 }

@@ -4,11 +4,14 @@ use Rattle.std.specs.Prelude.{All, filter}
 use Rattle.std.specs.List.{AllZip}
 use Rattle.std.proofs.lemmas.List.{map-append}
 use Rattle.std.proofs.lemmas.List.Elements.{All-head, All-tail}
-use Rattle.disk_model.specs.Files.{Name, Files, At}
+use Rattle.disk_model.specs.Files.{Name, Files}
 use Rattle.disk_model.specs.Past.{Past, Passes}
 use Rattle.disk_model.proofs.Passing.{passes_then}
+use Rattle.gate_journal.specs.Generations.{IsOwn, AtOwn}
 use Rattle.gate_journal.specs.Journal.{JournalState}
 use Rattle.gate_journal.specs.Kept.{Says, SaysEither, IsKept, IsUnsure}
+use Rattle.gate_journal.proofs.FileNames.{own_apart}
+use Rattle.gate_journal.proofs.Keeping.{says_stays}
 use Rattle.durable_write.proofs.Frame.{catalogue_stays}
 use Rattle.partition_names.specs.declared.granularity.Granularity.{Granularity}
 use Rattle.partition_names.specs.Part.{IsPart}
@@ -23,7 +26,7 @@ use Rattle.durable_write.specs.Held.{Filed, Held, AreIn, entry_of, filed_at, she
 use Rattle.durable_write.specs.Flush.{Grows, put_all}
 use Rattle.durable_write.specs.Stored.{HoldsEither, AreHeld, AreSafe, CatalogueStored, IsStored, IsInDoubt}
 use Rattle.durable_write.specs.Writing.{set_of}
-use Rattle.durable_write.proofs.Stays.{AreApart, all_apart, apart_stay, apart_long, safe_stays}
+use Rattle.durable_write.proofs.Stays.{own_stay, own_long, safe_stays}
 use Rattle.durable_write.proofs.Holding.{not_in, stored_left}
 
 -- WHAT THE CHANGES LIST
@@ -66,29 +69,32 @@ pub record Lists (g : Granularity) (catalogue manifest : JournalState) (files la
   pub same_stands : next.stands ≡ held.stands
   pub valid : AreHeld g next
   pub safe : AreSafe next files opened old
-  pub passes : Passes (At (manifest_name held.store) (SaysEither (Folds g) (map entry_of held.files) (map entry_of next.files))) old new
-  pub elsewhere : (n : Name) → n ≢ manifest_name held.store → later n ≡ files n
+  pub passes : Passes (AtOwn (manifest_name held.store) (SaysEither (Folds g) (map entry_of held.files) (map entry_of next.files) (manifest_name held.store))) old new
+  pub elsewhere : (n : Name) → (IsOwn (manifest_name held.store) n → ⊥) → later n ≡ files n
   pub fewer : (n : Name) → after n ≤ opened n
 
 abbrev Step : Granularity → Held → Held → Files → Files → Type 0
-Step g held next = At (manifest_name held.store) (SaysEither (Folds g) (map entry_of held.files) (map entry_of next.files))
+Step g held next = AtOwn (manifest_name held.store) (SaysEither (Folds g) (map entry_of held.files) (map entry_of next.files) (manifest_name held.store))
 
-pub other_journal : (store : ℕ) → catalogue_name ≢ manifest_name store
-other_journal store is = let first : get_or catalogue_name.1 0 0 ≡ get_or (manifest_name store).1 0 0 = ap (λ (n : Name). get_or n.1 0 0) is in absurd (omega (arith, first))
+-- the catalogue and a manifest have no file in common
+pub other_journal : (store : ℕ) (n : Name) → IsOwn catalogue_name n → IsOwn (manifest_name store) n → ⊥
+other_journal store n own too =
+    own_apart catalogue_name (manifest_name store) n (inr (0, omega arith, omega arith, λ is. let first : get_or catalogue_name.1 0 0 ≡ get_or (manifest_name store).1 0 0 = is in absurd (omega (arith, first)))) own too
 
--- no listed file is the manifest
-pub files_apart : (held : Held) (store : ℕ) → 1 ≤ held.store → AreApart (shelf_of held) (manifest_name store) held.files
-files_apart held store numbered = all_apart (shelf_of held) (manifest_name store) held.files (not_in held.store (manifest_name store) (manifest_name store) numbered refl refl)
+-- a journal named so is in no store
+pub journal_out : (store : ℕ) (name : Name) → 1 ≤ store → name.0 ≡ 0 → name.0 ≢ store
+journal_out store name numbered zero_store = not_in store name name numbered refl zero_store
 
 in_elsewhere : (g : Granularity) (held next kept : Held) (b c : Files) → 1 ≤ kept.store → Step g held next b c → AreIn kept b → AreIn kept c
-in_elsewhere g held next kept b c numbered step = apart_stay kept (manifest_name held.store) (SaysEither (Folds g) (map entry_of held.files) (map entry_of next.files)) b c (files_apart kept held.store numbered) step
+in_elsewhere g held next kept b c numbered step =
+    own_stay kept (manifest_name held.store) (SaysEither (Folds g) (map entry_of held.files) (map entry_of next.files) (manifest_name held.store)) b c (journal_out kept.store (manifest_name held.store) numbered refl) step
 
 -- within the commit and behind it
 pub lists_either : (g : Granularity) (catalogue manifest : JournalState) (files later : Files) (opened after : Name → ℕ) (first old new : Past) (held next : Held) → Lists g catalogue manifest files later opened after old new held next
     → Passes (HoldsEither g held next) first old → Passes (HoldsEither g held next) first new
 lists_either g catalogue manifest files later opened after first old new held next commit before = passes_then (HoldsEither g held next) (Step g held next) first old new before commit.passes (λ a b c was one now two.
     let holds = stored_left g catalogue manifest files opened old held commit.stored b now in
-    let rows : Says IsCatalogue held.rows (c catalogue_name) = subst (Says IsCatalogue held.rows) (sym (two.elsewhere catalogue_name (other_journal held.store))) holds.rows in
+    let rows : Says IsCatalogue held.rows catalogue_name c = says_stays IsCatalogue held.rows catalogue_name b c (λ n own. two.elsewhere n (other_journal held.store n own)) holds.rows in
     elim two.here [
       | inl lists ↦ inl (record {
         rows = rows;
@@ -97,28 +103,43 @@ lists_either g catalogue manifest files later opened after first old new held ne
         files = in_elsewhere g held next held b c commit.stored.tier.valid.filed.numbered two holds.files;
       })
       | inr lists ↦ inr (record {
-        rows = subst (λ (s : Shelf). Says IsCatalogue s.1 (c catalogue_name)) (sym commit.same_shelf) rows;
-        lists = subst (λ (s : Shelf). Says (Folds g) (map entry_of next.files) (c (manifest_name s.0))) (sym commit.same_shelf) lists;
+        rows = subst (λ (s : Shelf). Says IsCatalogue s.1 catalogue_name c) (sym commit.same_shelf) rows;
+        lists = subst (λ (s : Shelf). Says (Folds g) (map entry_of next.files) (manifest_name s.0) c) (sym commit.same_shelf) lists;
         filed = commit.valid.filed;
         files = in_elsewhere g held next next b c commit.valid.filed.numbered two (commit.safe.left b now);
       })
     ])
 
-still_there : (g : Granularity) (held next kept : Held) (numbered : 1 ≤ kept.store) (files later : Files) (opened after : Name → ℕ) (old new : Past) → Passes (Step g held next) old new → ((n : Name) → n ≢ manifest_name held.store → later n ≡ files n) → ((n : Name) → after n ≤ opened n)
+still_there : (g : Granularity) (held next kept : Held) (numbered : 1 ≤ kept.store) (files later : Files) (opened after : Name → ℕ) (old new : Past) → Passes (Step g held next) old new → ((n : Name) → (IsOwn (manifest_name held.store) n → ⊥) → later n ≡ files n) → ((n : Name) → after n ≤ opened n)
     → AreSafe kept files opened old → AreSafe kept later after new
 still_there g held next kept numbered files later opened after old new passes elsewhere fewer safe =
-    safe_stays kept (Step g held next) files later opened after old new safe passes (λ a c step. in_elsewhere g held next kept a c numbered step) (apart_long kept (manifest_name held.store) files later (files_apart kept held.store numbered) elsewhere safe.long) fewer
+    safe_stays kept (Step g held next) files later opened after old new safe passes (λ a c step. in_elsewhere g held next kept a c numbered step) (own_long kept (manifest_name held.store) files later (journal_out kept.store (manifest_name held.store) numbered refl) elsewhere safe.long) fewer
 
 catalogue_still : (g : Granularity) (catalogue manifest : JournalState) (files later : Files) (opened after : Name → ℕ) (old new : Past) (held next : Held) → Lists g catalogue manifest files later opened after old new held next → CatalogueStored catalogue later after new held.rows
 catalogue_still g catalogue manifest files later opened after old new held next commit =
-    let other : catalogue.name ≢ manifest_name held.store = λ is. other_journal held.store (sym commit.stored.rows.named ∙ is) in
-    catalogue_stays (Step g held next) catalogue files later opened after old new commit.passes (record { step = λ a c step. step.elsewhere catalogue.name other; same = commit.elsewhere catalogue.name other; fewer = commit.fewer catalogue.name }) held.rows commit.stored.rows
+    let other = λ (n : Name) (own : IsOwn catalogue.name n). other_journal held.store n (subst (λ (m : Name). IsOwn m n) commit.stored.rows.named own) in
+    catalogue_stays (Step g held next) catalogue files later opened after old new commit.passes (record { step = λ a c step n own. step.elsewhere n (other n own); same = λ n own. commit.elsewhere n (other n own); fewer = λ n own. commit.fewer n }) held.rows
+    commit.stored.rows
 
 pub lists_stored : (g : Granularity) (catalogue manifest listing : JournalState) (files later : Files) (opened after : Name → ℕ) (old new : Past) (held next : Held) → Lists g catalogue manifest files later opened after old new held next
     → listing.name ≡ manifest_name held.store → listing.sound ≡ true → IsKept (Configured g) listing later after new (map entry_of next.files) → IsStored g catalogue listing later after new next
 lists_stored g catalogue manifest listing files later opened after old new held next commit is sound kept = record {
   rows = subst (λ (s : Shelf). CatalogueStored catalogue later after new s.1) (sym commit.same_shelf) (catalogue_still g catalogue manifest files later opened after old new held next commit);
   tier = record { named = is ∙ ap (λ (s : Shelf). manifest_name s.0) (sym commit.same_shelf); sound = sound; kept = kept; valid = commit.valid; safe = still_there g held next next commit.valid.filed.numbered files later opened after old new commit.passes commit.elsewhere commit.fewer commit.safe };
+}
+
+-- nothing was listed, and the manifest lists what it listed
+pub lists_unmade : (g : Granularity) (catalogue manifest listing : JournalState) (files later : Files) (opened after : Name → ℕ) (old new : Past) (held next : Held) → Lists g catalogue manifest files later opened after old new held next
+    → listing.name ≡ manifest_name held.store → listing.sound ≡ true → IsKept (Configured g) listing later after new (map entry_of held.files) → IsStored g catalogue listing later after new held
+lists_unmade g catalogue manifest listing files later opened after old new held next commit is sound kept = record {
+  rows = catalogue_still g catalogue manifest files later opened after old new held next commit;
+  tier = record {
+    named = is;
+    sound = sound;
+    kept = kept;
+    valid = commit.stored.tier.valid;
+    safe = still_there g held next held commit.stored.tier.valid.filed.numbered files later opened after old new commit.passes commit.elsewhere commit.fewer commit.stored.tier.safe;
+  };
 }
 
 pub lists_in_doubt : (g : Granularity) (catalogue manifest listing : JournalState) (files later : Files) (opened after : Name → ℕ) (old new : Past) (held next : Held) → Lists g catalogue manifest files later opened after old new held next

@@ -2,6 +2,7 @@
 use Rattle.std.proofs.Common.{◌≡◌, ◌≤◌, ℕ, List, map}
 use Rattle.disk_model.specs.Files.{Name, Files}
 use Rattle.disk_model.specs.Past.{Past, Passes}
+use Rattle.gate_journal.specs.Generations.{IsOwn}
 use Rattle.gate_journal.specs.Journal.{JournalState}
 use Rattle.gate_journal.proofs.Keeping.{kept_stays, unsure_stays}
 use Rattle.partition_names.specs.declared.granularity.Granularity.{Granularity}
@@ -11,32 +12,32 @@ use Rattle.store_manifest.specs.Batches.{Configured}
 use Rattle.durable_write.specs.Held.{Held, entry_of}
 use Rattle.durable_write.specs.Stored.{AreSafe, CatalogueStored, TierStored, CatalogueUnsure, TierUnsure}
 
--- the name of the journal has what it had, and was opened no further
+-- the files of the journal have what they had, and were opened no further
 pub record Untouched (R : Files → Files → Type 0) (journal : JournalState) (files later : Files) (opened after : Name → ℕ) : Type 0 where
-  pub step : (a c : Files) → R a c → c journal.name ≡ a journal.name
-  pub same : later journal.name ≡ files journal.name
-  pub fewer : after journal.name ≤ opened journal.name
+  pub step : (a c : Files) → R a c → (n : Name) → IsOwn journal.name n → c n ≡ a n
+  pub same : (n : Name) → IsOwn journal.name n → later n ≡ files n
+  pub fewer : (n : Name) → IsOwn journal.name n → after n ≤ opened n
 
 module _ (R : Files → Files → Type 0) (journal : JournalState) (files later : Files) (opened after : Name → ℕ) (old new : Past) (passes : Passes R old new) (beside : Untouched R journal files later opened after) where
   pub catalogue_stays : (rows : List Row) → CatalogueStored journal files opened old rows → CatalogueStored journal later after new rows
   catalogue_stays rows stored = record {
     named = stored.named;
     sound = stored.sound;
-    kept = kept_stays IsCatalogue journal files later opened after old new rows R stored.kept passes beside.step beside.same beside.fewer;
+    kept = kept_stays IsCatalogue journal files opened old later after new R passes beside.step beside.same beside.fewer rows stored.kept;
   }
 
   pub catalogue_unsure_stays : (one other : List Row) → CatalogueUnsure journal files opened old one other → CatalogueUnsure journal later after new one other
   catalogue_unsure_stays one other d = record {
     named = d.named;
     unsound = d.unsound;
-    unsure = unsure_stays IsCatalogue journal files later opened after old new one other R d.unsure passes beside.step beside.same beside.fewer;
+    unsure = unsure_stays IsCatalogue journal files opened old later after new R passes beside.step beside.same beside.fewer one other d.unsure;
   }
 
   pub tier_stays : (g : Granularity) (held : Held) → TierStored g journal files opened old held → AreSafe held later after new → TierStored g journal later after new held
   tier_stays g held tier safe = record {
     named = tier.named;
     sound = tier.sound;
-    kept = kept_stays (Configured g) journal files later opened after old new (map entry_of held.files) R tier.kept passes beside.step beside.same beside.fewer;
+    kept = kept_stays (Configured g) journal files opened old later after new R passes beside.step beside.same beside.fewer (map entry_of held.files) tier.kept;
     valid = tier.valid;
     safe = safe;
   }
@@ -45,7 +46,7 @@ module _ (R : Files → Files → Type 0) (journal : JournalState) (files later 
   tier_unsure_stays g one other d safe safe_after = record {
     named = d.named;
     unsound = d.unsound;
-    unsure = unsure_stays (Configured g) journal files later opened after old new (map entry_of one.files) (map entry_of other.files) R d.unsure passes beside.step beside.same beside.fewer;
+    unsure = unsure_stays (Configured g) journal files opened old later after new R passes beside.step beside.same beside.fewer (map entry_of one.files) (map entry_of other.files) d.unsure;
     valid = d.valid;
     valid_after = d.valid_after;
     safe = safe;

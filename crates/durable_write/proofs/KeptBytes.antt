@@ -1,7 +1,9 @@
 -- Listed bytes stay, and listed files are listed still.
 use Rattle.std.proofs.Common.{◌≡◌, ◌≢◌, ℕ, get_or, refl, sym, ap, subst}
 use Rattle.std.proofs.lemmas.List.Elements.{All-contains}
-use Rattle.disk_model.specs.Files.{Name, Content, Files, At}
+use Rattle.gate_journal.specs.Generations.{IsOwn, AtOwn}
+use Rattle.gate_journal.proofs.Owning.{own_store}
+use Rattle.disk_model.specs.Files.{Name, Files}
 use Rattle.disk_model.specs.Past.{Past, Passes}
 use Rattle.disk_model.proofs.Passing.{passes_none, passes_then, passes_weaker}
 use Rattle.store_files.specs.Fronts.{Keeps}
@@ -9,7 +11,6 @@ use Rattle.store_files.proofs.Stays.{keeps_shorter}
 use Rattle.store_manifest.specs.declared.entry.Entry.{Entry}
 use Rattle.durable_write.specs.Held.{Listing, KeepsListed, ListsStill, file_of}
 use Rattle.durable_write.specs.Writing.{LeavesListed}
-use Rattle.durable_write.proofs.Names.{outside}
 
 -- FROM IMAGE TO IMAGE
 
@@ -25,9 +26,6 @@ keeps_same l a c is = keeps_where l a c (λ e. ap (λ (f : Files). f (file_of l.
 -- no listed file is in another store
 pub keeps_outside : (l : Listing) (store : ℕ) (a c : Files) → l.0.0 ≢ store → ((n : Name) → n.0 ≢ store → c n ≡ a n) → KeepsListed l a c
 keeps_outside l store a c other same = keeps_where l a c (λ e. same (file_of l.0 e) other)
-
-pub keeps_beside : (l : Listing) (name : Name) (R : Content → Content → Type 0) (a c : Files) → name.0 ≢ l.0.0 → At name R a c → KeepsListed l a c
-keeps_beside l name R a c other step = keeps_where l a c (λ e. step.elsewhere (file_of l.0 e) (λ is. outside l.0 e name other (sym is)))
 
 pub keeps_on : (l : Listing) (a b c : Files) → KeepsListed l a b → KeepsListed l b c → KeepsListed l a c
 keeps_on l a b c one two k d lt front some le begins = two k d lt front some le (one k d lt front some le begins)
@@ -45,12 +43,14 @@ keeps_earlier l later a c still keeps k d lt =
 pub leaves_none : (l : Listing) (files : Files) (past : Past) → LeavesListed l files files past past
 leaves_none l files past = record { now = keeps_same l files files refl; any_moment = passes_none (KeepsListed l) past (λ a left. keeps_same l a a refl) }
 
--- calls that change one name beside the store
-pub leaves_beside : (l : Listing) (name : Name) (R : Content → Content → Type 0) (files later : Files) (old new : Past) → name.0 ≢ l.0.0 → ((n : Name) → n ≢ name → later n ≡ files n) → Passes (At name R) old new → LeavesListed l files later old new
-leaves_beside l name R files later old new other elsewhere passes = record {
-  now = keeps_where l files later (λ e. elsewhere (file_of l.0 e) (λ is. outside l.0 e name other (sym is)));
-  any_moment = passes_weaker (At name R) (KeepsListed l) old new passes (λ a c left step. keeps_beside l name R a c other step);
-}
+-- calls that change one journal beside the store
+pub leaves_own : (l : Listing) (name : Name) (R : Files → Files → Type 0) (files later : Files) (old new : Past) → name.0 ≢ l.0.0 → ((n : Name) → (IsOwn name n → ⊥) → later n ≡ files n) → Passes (AtOwn name R) old new → LeavesListed l files later old new
+leaves_own l name R files later old new other elsewhere passes =
+    let out : (e : Entry) → IsOwn name (file_of l.0 e) → ⊥ = λ e own. other (sym (own_store name (file_of l.0 e) own)) in
+    record {
+      now = keeps_where l files later (λ e. elsewhere (file_of l.0 e) (out e));
+      any_moment = passes_weaker (AtOwn name R) (KeepsListed l) old new passes (λ a c left step. keeps_where l a c (λ e. step.elsewhere (file_of l.0 e) (out e)));
+    }
 
 pub leaves_on : (l : Listing) (files between later : Files) (old mid new : Past) → LeavesListed l files between old mid → LeavesListed l between later mid new → LeavesListed l files later old new
 leaves_on l files between later old mid new one two = record {

@@ -1,9 +1,12 @@
 -- One commit that lists other files.
-use Rattle.std.proofs.Common.{◌≡◌, ◌≢◌, true, false, ℕ, List, map, inl, refl, sym, ◌∙◌, ap, subst, arith}
-use Rattle.disk_model.specs.Files.{Name, Files, At}
+use Rattle.std.proofs.Common.{◌≡◌, ◌≤◌, true, false, ℕ, List, map, inl, inr, refl, sym, ◌∙◌, subst, arith}
+use Rattle.std.proofs.lemmas.Bool.{cases_lt}
+use Rattle.disk_model.specs.Files.{Name, Files}
 use Rattle.disk_model.specs.Past.{Past, Passes}
 use Rattle.disk_model.proofs.Passing.{passes_none, passes_then, passes_weaker}
+use Rattle.gate_journal.specs.Generations.{IsOwn, AtOwn}
 use Rattle.gate_journal.specs.Journal.{JournalState}
+use Rattle.gate_journal.proofs.Keeping.{kept_unopened, unsure_unopened}
 use Rattle.gate_journal.specs.Kept as journal
 use Rattle.partition_names.specs.declared.granularity.Granularity.{Granularity}
 use Rattle.store_manifest.specs.declared.entry.Entry.{Entry}
@@ -17,22 +20,22 @@ use Rattle.durable_write.specs.Writing.{Behind, IsStoredAs, IsDoubtedAs}
 use Rattle.durable_write.specs.Ahead.{CanRelist}
 use Rattle.durable_write.specs.Three.{Anything, Beside}
 use Rattle.durable_write.proofs.Holding.{stored_left}
-use Rattle.durable_write.proofs.Ending.{Lists, lists_either, lists_stored, lists_in_doubt}
+use Rattle.durable_write.proofs.Ending.{Lists, lists_either, lists_stored, lists_unmade, lists_in_doubt}
 
 pub relists : (catalogue : JournalState) (m : ManifestState) (rows : Shelf) (files later : Files) (opened after : Name → ℕ) (old new : Past) (held next : Held) (changes : List Change) → CanRelist catalogue m rows files opened old held next changes
-    → Passes (At m.journal.name (journal.SaysEither (Folds m.granularity) m.entries (all_changed m.entries changes))) old new → ((n : Name) → n ≢ m.journal.name → later n ≡ files n) → after ≡ opened → Lists m.granularity catalogue m.journal files later opened after old new held next
-relists catalogue m rows files later opened after old new held next changes can passes others same_opened = record {
+    → Passes (AtOwn m.journal.name (journal.SaysEither (Folds m.granularity) m.entries (all_changed m.entries changes) m.journal.name)) old new → ((n : Name) → (IsOwn m.journal.name n → ⊥) → later n ≡ files n) → ((n : Name) → after n ≤ opened n) → Lists m.granularity catalogue m.journal files later opened after old new held next
+relists catalogue m rows files later opened after old new held next changes can passes others fewer = record {
   stored = can.stored.stored;
   same_shelf = can.same_shelf;
   same_stands = can.same_stands;
   valid = can.valid;
   safe = can.safe;
   passes =
-      let named = subst (λ (n : Name). Passes (At n (journal.SaysEither (Folds m.granularity) m.entries (all_changed m.entries changes))) old new) can.stored.stored.tier.named passes in
-      let both = subst (λ (es : List Entry). Passes (At (manifest_name held.store) (journal.SaysEither (Folds m.granularity) m.entries es)) old new) can.lists named in
-      subst (λ (es : List Entry). Passes (At (manifest_name held.store) (journal.SaysEither (Folds m.granularity) es (map entry_of next.files))) old new) can.stored.entries both;
-  elsewhere = λ n other. others n (λ is. other (is ∙ can.stored.stored.tier.named));
-  fewer = λ n. let is : after n ≡ opened n = ap (λ (o : Name → ℕ). o n) same_opened in omega (arith, is);
+      let named = subst (λ (n : Name). Passes (AtOwn n (journal.SaysEither (Folds m.granularity) m.entries (all_changed m.entries changes) n)) old new) can.stored.stored.tier.named passes in
+      let both = subst (λ (es : List Entry). Passes (AtOwn (manifest_name held.store) (journal.SaysEither (Folds m.granularity) m.entries es (manifest_name held.store))) old new) can.lists named in
+      subst (λ (es : List Entry). Passes (AtOwn (manifest_name held.store) (journal.SaysEither (Folds m.granularity) es (map entry_of next.files) (manifest_name held.store))) old new) can.stored.entries both;
+  elsewhere = λ n other. others n (λ own. other (subst (λ (m : Name). IsOwn m n) can.stored.stored.tier.named own));
+  fewer = fewer;
 }
 
 pub relist_moment : (catalogue : JournalState) (m : ManifestState) (rows : Shelf) (files later : Files) (opened after : Name → ℕ) (old new : Past) (held next : Held) (changes : List Change) → CanRelist catalogue m rows files opened old held next changes
@@ -47,6 +50,15 @@ relist_made catalogue m made rows files later opened after old new held next cha
     let k = subst (λ (g : Granularity). journal.IsKept (Configured g) made.journal later after new made.entries) same_g kept in
     let stored = lists_stored m.granularity catalogue m.journal made.journal files later opened after old new held next commit (name ∙ can.stored.stored.tier.named) sound (subst (journal.IsKept (Configured m.granularity) made.journal later after new) now k) in
     record { stored = subst (λ (g : Granularity). IsStored g catalogue made.journal later after new next) (sym same_g) stored; of_rows = can.same_shelf ∙ can.stored.of_rows; entries = now }
+
+-- the commit took no effect
+pub relist_unmade : (catalogue : JournalState) (m made : ManifestState) (rows : Shelf) (files later : Files) (opened after : Name → ℕ) (old new : Past) (held next : Held) (changes : List Change) → CanRelist catalogue m rows files opened old held next changes
+    → Lists m.granularity catalogue m.journal files later opened after old new held next → made.granularity ≡ m.granularity → made.journal.name ≡ m.journal.name → made.journal.sound ≡ true → made.entries ≡ m.entries → IsKept made later after new → IsStoredAs catalogue made rows later after new held
+relist_unmade catalogue m made rows files later opened after old new held next changes can commit same_g name sound entries kept =
+    let now : made.entries ≡ map entry_of held.files = entries ∙ can.stored.entries in
+    let k = subst (λ (g : Granularity). journal.IsKept (Configured g) made.journal later after new made.entries) same_g kept in
+    let stored = lists_unmade m.granularity catalogue m.journal made.journal files later opened after old new held next commit (name ∙ can.stored.stored.tier.named) sound (subst (journal.IsKept (Configured m.granularity) made.journal later after new) now k) in
+    record { stored = subst (λ (g : Granularity). IsStored g catalogue made.journal later after new held) (sym same_g) stored; of_rows = can.stored.of_rows; entries = now }
 
 pub relist_doubted : (catalogue : JournalState) (m made : ManifestState) (rows : Shelf) (files later : Files) (opened after : Name → ℕ) (old new : Past) (held next : Held) (changes : List Change) → CanRelist catalogue m rows files opened old held next changes
     → Lists m.granularity catalogue m.journal files later opened after old new held next → made.granularity ≡ m.granularity → made.journal.name ≡ m.journal.name → made.journal.sound ≡ false → (made.entries ≡ m.entries) × (made.next ≡ all_changed m.entries changes) → IsUnsure made later after new
@@ -64,6 +76,24 @@ relist_doubted catalogue m made rows files later opened after old new held next 
       entries = (now, then);
     }
 
+-- no name is opened further: no reader of the journal's files was opened, and none is
+pub none_further : (name : Name) (opened after : Name → ℕ) → ((n : Name) → (IsOwn name n → ⊥) → after n ≡ opened n) → ((n : Name) → IsOwn name n → after n ≡ 0) → (n : Name) → after n ≤ opened n
+none_further name opened after others own n = elim (cases_lt (opened n) (after n)) [
+  | inl more ↦
+      let not_own : IsOwn name n → ⊥ = λ is. let none = own n is in omega (arith, none, more) in
+      let same = others n not_own in absurd (omega (arith, same, more))
+  | inr le ↦ le
+]
+
+-- whatever a commit of the manifest answers
+pub made_further : (made : ManifestState) (name : Name) (files : Files) (opened after : Name → ℕ) (past : Past) → made.journal.name ≡ name → ((n : Name) → (IsOwn name n → ⊥) → after n ≡ opened n) → IsKept made files after past → (n : Name) → after n ≤ opened n
+made_further made name files opened after past is others kept =
+    none_further name opened after others (λ n own. kept_unopened (Configured made.granularity) made.journal files after past made.entries kept n (subst (λ (m : Name). IsOwn m n) (sym is) own))
+
+pub unsure_further : (made : ManifestState) (name : Name) (files : Files) (opened after : Name → ℕ) (past : Past) → made.journal.name ≡ name → ((n : Name) → (IsOwn name n → ⊥) → after n ≡ opened n) → IsUnsure made files after past → (n : Name) → after n ≤ opened n
+unsure_further made name files opened after past is others unsure =
+    none_further name opened after others (λ n own. unsure_unopened (Configured made.granularity) made.journal files after past made.entries made.next unsure n (subst (λ (m : Name). IsOwn m n) (sym is) own))
+
 -- THE FLUSH
 
 pub then_either : (g : Granularity) (one other : Held) (old mid new : Past) → Passes (HoldsEither g one other) old mid → Passes (HoldsEither g one other) mid new → Passes (HoldsEither g one other) old new
@@ -79,5 +109,5 @@ pub beside_files : (store : ℕ) (name : Name) (held : Held) (old new : Past) �
 beside_files store name held old new is passes = passes_weaker (Behind held) (Beside store name) old new passes (λ a c was step n other apart. step.elsewhere n (λ same. other (same ∙ is)))
 
 -- and then its manifest is
-pub beside_commit : (store : ℕ) (name : Name) (old mid new : Past) → Passes (Beside store name) old mid → Passes (At name Anything) mid new → Passes (Beside store name) old new
-beside_commit store name old mid new first second = passes_then (Beside store name) (At name Anything) old mid new first second (λ a b c was one now two n other apart. two.elsewhere n apart ∙ one n other apart)
+pub beside_commit : (store : ℕ) (name : Name) (old mid new : Past) → Passes (Beside store name) old mid → Passes (AtOwn name Anything) mid new → Passes (Beside store name) old new
+beside_commit store name old mid new first second = passes_then (Beside store name) (AtOwn name Anything) old mid new first second (λ a b c was one now two n other apart. two.elsewhere n apart ∙ one n other apart)

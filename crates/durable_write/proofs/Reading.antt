@@ -5,6 +5,7 @@ use Rattle.std.proofs.lemmas.List.Elements.{All-contains}
 use Rattle.disk_model.specs.Files.{Name, Files}
 use Rattle.disk_model.specs.Past.{Past, Passes}
 use Rattle.gate_journal.specs.Journal.{JournalState}
+use Rattle.gate_journal.proofs.Owning.{own_store}
 use Rattle.partition_names.specs.declared.granularity.Granularity.{Granularity}
 use Rattle.pv_catalog.specs.Catalogue.{catalogue_name}
 use Rattle.store_manifest.specs.Manifest.{manifest_name}
@@ -38,9 +39,9 @@ unopened_same held files opened after past same safe = subst (AreUnopened held) 
 module _ (files later : Files) (opened after : Name → ℕ) (old new : Past) (reads : Reads files later opened after old new) where
   pub quietly : (journal : JournalState) (name : Name) → journal.name ≡ name → name.0 ≡ 0 → Untouched (λ a b. b ≡ a) journal files later opened after
   quietly journal name is zero_store = record {
-    step = λ a c is. ap (λ (f : Files). f journal.name) is;
-    same = ap (λ (f : Files). f journal.name) reads.same;
-    fewer = reads.journals journal.name (ap (λ (n : Name). n.0) is ∙ zero_store);
+    step = λ a c same n own. ap (λ (f : Files). f n) same;
+    same = λ n own. ap (λ (f : Files). f n) reads.same;
+    fewer = λ n own. reads.journals n (own_store journal.name n own ∙ ap (λ (m : Name). m.0) is ∙ zero_store);
   }
 
   pub catalogue_read : (c : JournalState) (rows : List Row) → CatalogueStored c files opened old rows → CatalogueStored c later after new rows

@@ -8,6 +8,7 @@ use Rattle.std.specs.List.{AllZip}
 use Rattle.disk_model.specs.Files.{Name, Files, HasFile}
 use Rattle.disk_model.specs.Past.{Past, Passes}
 use Rattle.disk_model.proofs.Passing.{passes_weaker}
+use Rattle.gate_journal.specs.Generations.{IsOwn, AtOwn}
 use Rattle.gate_journal.specs.Journal.{JournalState}
 use Rattle.partition_names.specs.declared.granularity.Granularity.{Granularity}
 use Rattle.pv_catalog.specs.declared.row.Row.{Row}
@@ -24,14 +25,13 @@ use Rattle.durable_write.specs.Writing.{Behind, LeavesListed, IsStoredAs, set_of
 use Rattle.durable_write.specs.Three.{Anything}
 use Rattle.durable_write.specs.Ahead.{Leads, HasCopied, CanRelist}
 use Rattle.durable_write.specs.Revival.{having, AreUnlisted, AreInLimbo, ListsNoShorter, FlushesOver}
-use Rattle.disk_model.specs.Files as disk
 use Rattle.durable_write.proofs.Ahead.{contains_entry, piece_of, put_has, put_all_keeps, put_all_has, put_itself, still_copied}
-use Rattle.durable_write.proofs.Ending.{entries_are, files_apart}
+use Rattle.durable_write.proofs.Ending.{entries_are}
 use Rattle.durable_write.proofs.Holding.{not_in}
-use Rattle.durable_write.proofs.KeptBytes.{leaves_beside}
+use Rattle.durable_write.proofs.KeptBytes.{leaves_own}
 use Rattle.durable_write.proofs.Listed.{all_put_all, before_apart, found, is_place-same, is_place-true, rise_put_all}
 use Rattle.durable_write.proofs.Names.{same_file, same_place}
-use Rattle.durable_write.proofs.Stays.{apart_long, safe_both}
+use Rattle.durable_write.proofs.Stays.{own_long, safe_both}
 use Rattle.durable_write.proofs.WrittenPiece.{all_listed, all_filed}
 
 -- FILES IN LIMBO AMONG THOSE THAT ARE LISTED
@@ -254,15 +254,15 @@ leaves_ahead ahead files later old new now passes =
     record { now = now.listed; any_moment = passes_weaker (Behind ahead) (KeepsListed (listing_of ahead)) old new passes (λ a c was step. step.listed) }
 
 -- where the manifest alone is changed
-pub ahead_committed : (catalogue : JournalState) (m : ManifestState) (shelf : Shelf) (files between later : Files) (opened : Name → ℕ) (old mid new : Past) (held ahead : Held) → HasCopied catalogue m shelf files opened old held ahead → ((n : Name) → n ≢ m.journal.name → later n ≡ between n) → Passes (disk.At m.journal.name Anything) mid new
+pub ahead_committed : (catalogue : JournalState) (m : ManifestState) (shelf : Shelf) (files between later : Files) (opened : Name → ℕ) (old mid new : Past) (held ahead : Held) → HasCopied catalogue m shelf files opened old held ahead → ((n : Name) → (IsOwn m.journal.name n → ⊥) → later n ≡ between n) → Passes (AtOwn m.journal.name Anything) mid new
     → LeavesListed (listing_of ahead) between later mid new
 ahead_committed catalogue m shelf files between later opened old mid new held ahead has elsewhere passes =
     let tier = has.stored.stored.tier in
     let other : m.journal.name.0 ≢ held.store = not_in held.store m.journal.name (manifest_name held.store) tier.valid.filed.numbered tier.named refl in
-    leaves_beside (listing_of ahead) m.journal.name Anything between later mid new (λ is. other (is ∙ ap (λ (s : Shelf). s.0) has.leads.same_shelf)) elsewhere passes
+    leaves_own (listing_of ahead) m.journal.name Anything between later mid new (λ is. other (is ∙ ap (λ (s : Shelf). s.0) has.leads.same_shelf)) elsewhere passes
 
-pub ahead_long : (catalogue : JournalState) (m : ManifestState) (shelf : Shelf) (files between later : Files) (opened : Name → ℕ) (past : Past) (held ahead : Held) → HasCopied catalogue m shelf files opened past held ahead → ((n : Name) → n ≢ m.journal.name → later n ≡ between n) → AreLong ahead between → AreLong ahead later
+pub ahead_long : (catalogue : JournalState) (m : ManifestState) (shelf : Shelf) (files between later : Files) (opened : Name → ℕ) (past : Past) (held ahead : Held) → HasCopied catalogue m shelf files opened past held ahead → ((n : Name) → (IsOwn m.journal.name n → ⊥) → later n ≡ between n) → AreLong ahead between → AreLong ahead later
 ahead_long catalogue m shelf files between later opened past held ahead has elsewhere long =
     let tier = has.stored.stored.tier in
     let numbered : 1 ≤ ahead.store = (let own = tier.valid.filed.numbered in let same = ap (λ (s : Shelf). s.0) has.leads.same_shelf in omega (arith, own, same)) in
-    apart_long ahead (manifest_name held.store) between later (files_apart ahead held.store numbered) (λ n other. elsewhere n (λ is. other (is ∙ tier.named))) long
+    own_long ahead m.journal.name between later (not_in ahead.store m.journal.name (manifest_name held.store) numbered tier.named refl) elsewhere long

@@ -3,6 +3,8 @@ use Rattle.std.proofs.Common.{◌≡◌, ◌≢◌, inl, inr, ℕ, ◌≤◌, Li
 use Rattle.std.specs.Prelude.{All}
 use Rattle.std.proofs.lemmas.List.{take_all, length-append}
 use Rattle.std.proofs.lemmas.List.Elements.{All-map}
+use Rattle.gate_journal.specs.Generations.{IsOwn, AtOwn}
+use Rattle.gate_journal.proofs.Owning.{own_store}
 use Rattle.disk_model.specs.Files.{Name, Content, Files, At, HasFile}
 use Rattle.disk_model.specs.Past.{Past, Passes, Only}
 use Rattle.disk_model.proofs.Passing.{passes_then, passes_weaker, passes_none}
@@ -69,6 +71,21 @@ apart_long held n files later apart same long k d lt =
 -- no listed file is of another store
 pub all_apart : (rows : Shelf) (n : Name) (files : List Filed) → n.0 ≢ rows.0 → AreApart rows n files
 all_apart rows n files other k d lt is = other (sym (ap (λ (m : Name). m.0) is))
+
+-- no listed file is a journal's of another store, so they stay while that is changed
+pub own_apart_file : (rows : Shelf) (name : Name) (e : Entry) → name.0 ≢ rows.0 → IsOwn name (file_of rows e) → ⊥
+own_apart_file rows name e other own = other (sym (own_store name (file_of rows e) own))
+
+pub own_stay : (held : Held) (name : Name) (R : Files → Files → Type 0) (b c : Files) → name.0 ≢ held.store → AtOwn name R b c → AreIn held b → AreIn held c
+own_stay held name R b c other step was stands k d lt =
+    let f : Filed = get_or held.files k d in
+    subst (Begins (bytes_of f)) (sym (step.elsewhere (file_of (shelf_of held) f.entry) (own_apart_file (shelf_of held) name f.entry other))) (was stands k d lt)
+
+pub own_long : (held : Held) (name : Name) (files later : Files) → name.0 ≢ held.store → ((n : Name) → (IsOwn name n → ⊥) → later n ≡ files n) → AreLong held files → AreLong held later
+own_long held name files later other same long k d lt =
+    let was = long k d lt in
+    let e : Entry = (get_or held.files k d).entry in
+    record { bytes = was.bytes; file = same (file_of (shelf_of held) e) (own_apart_file (shelf_of held) name e other) ∙ was.file; holds = was.holds }
 
 -- a file that has just these bytes has the front
 pub whole_in : (rows : Shelf) (image : Files) (f : Filed) → image (file_of rows f.entry) ≡ Some (bytes_of f) → IsIn rows image f

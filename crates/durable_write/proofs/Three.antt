@@ -1,9 +1,11 @@
 -- Lists of which one place changes, and the names of manifests.
-use Rattle.std.proofs.Common.{◌≡◌, ◌≢◌, ◌⊎◌, inl, inr, ℕ, zero, suc, ◌+◌, List, [], ◌∷◌, length, get_or, Some, refl, ap, arith}
+use Rattle.std.proofs.Common.{◌≡◌, ◌≢◌, ◌⊎◌, inl, inr, ℕ, zero, suc, ◌+◌, List, [], ◌∷◌, length, Some, refl, ap, arith}
 use Rattle.std.specs.Prelude.{slice_get, slice_set}
 use Rattle.std.proofs.lemmas.Bool.{cases_lt}
 use Rattle.disk_model.specs.Files.{Name}
+use Rattle.gate_journal.specs.Generations.{IsOwn}
 use Rattle.store_manifest.specs.Manifest.{manifest_name}
+use Rattle.gate_journal.proofs.FileNames.{own_apart}
 
 pub get_set_other : {A : Type 0} (xs : List A) (i k : ℕ) (x : A) → k ≢ i → slice_get (slice_set xs i x) k ≡ slice_get xs k
 get_set_other [] i k x apart = refl
@@ -31,5 +33,7 @@ same_cases k i = elim (cases_lt k i) [
   ]
 ]
 
-pub manifests_differ : (a b : ℕ) → a ≢ b → manifest_name a ≢ manifest_name b
-manifests_differ a b apart is = let digit : 48 + a ≡ 48 + b = ap (λ (n : Name). get_or n.1 8 0) is in apart (omega (arith, digit))
+-- manifests of different stores have no file in common
+pub manifests_differ : (a b : ℕ) → a ≢ b → (n : Name) → IsOwn (manifest_name a) n → IsOwn (manifest_name b) n → ⊥
+manifests_differ a b apart n own too =
+    own_apart (manifest_name a) (manifest_name b) n (inr (8, omega arith, omega arith, λ is. let digit : 48 + a ≡ 48 + b = is in apart (omega (arith, digit)))) own too

@@ -2,7 +2,7 @@
 use Rattle.std.proofs.Common.{◌≡◌, ℕ, List, [], ◌∷◌, length, map, take, drop, get_or, Some, None, refl, sym, ◌∙◌, ap, subst}
 use Rattle.std.specs.Prelude.{All, IsTrue}
 use Rattle.std.proofs.lemmas.List.Elements.{All-head, All-tail}
-use Rattle.disk_model.specs.Files.{Content, Files}
+use Rattle.disk_model.specs.Files.{Name, Content, Files}
 use Rattle.gate_journal.specs.Kept.{Says}
 use Rattle.gate_journal.proofs.Keeping.{one_value}
 use Rattle.store_files.specs.Fronts.{Begins}
@@ -48,15 +48,15 @@ same_files g h store rows image (x ∷ xs) (y ∷ ys) same xs_are ys_are xs_in y
 abbrev OfSome : List (List ℕ) → List Entry → Type 0
 OfSome bs entries = (g : Granularity) × Folds g bs entries
 
-of_some : (g : Granularity) (entries : List Entry) (content : Content) → Says (Folds g) entries content → Says OfSome entries content
-of_some g entries content says = record { batches = says.batches; has = says.has; means = (g, says.means) }
+of_some : (g : Granularity) (entries : List Entry) (name : Name) (image : Files) → Says (Folds g) entries name image → Says OfSome entries name image
+of_some g entries name image says = record { batches = says.batches; has = says.has; means = (g, says.means) }
 
 pub one_thing : (g h : Granularity) (image : Files) (a b : Held) → IsTrue a.stands → IsTrue b.stands → a.store ≡ b.store → Holds g image a → Holds h image b → a ≡ b
 one_thing g h image a b stands stands_too store left right =
-    let rows : a.rows ≡ b.rows = one_value IsCatalogue (one_meaning []) (image catalogue_name) a.rows b.rows left.rows right.rows in
+    let rows : a.rows ≡ b.rows = one_value IsCatalogue (one_meaning []) catalogue_name image a.rows b.rows left.rows right.rows in
     let entries : map entry_of a.files ≡ map entry_of b.files =
-    one_value OfSome (λ bs x y one two. one_fold one.0 two.0 bs x y one.1 two.1) (image (manifest_name a.store)) (map entry_of a.files) (map entry_of b.files)
-    (of_some g (map entry_of a.files) (image (manifest_name a.store)) left.lists) (of_some h (map entry_of b.files) (image (manifest_name a.store)) (subst (λ (k : ℕ). Says (Folds h) (map entry_of b.files) (image (manifest_name k))) (sym store) right.lists)) in
+    one_value OfSome (λ bs x y one two. one_fold one.0 two.0 bs x y one.1 two.1) (manifest_name a.store) image (map entry_of a.files) (map entry_of b.files)
+    (of_some g (map entry_of a.files) (manifest_name a.store) image left.lists) (of_some h (map entry_of b.files) (manifest_name a.store) image (subst (λ (k : ℕ). Says (Folds h) (map entry_of b.files) (manifest_name k) image) (sym store) right.lists)) in
     let filed : All (IsFiled h a.rows) b.files = subst (λ (r : List Row). All (IsFiled h r) b.files) (sym rows) (right.filed.filed stands_too) in
     let there : All (IsIn (shelf_of a) image) b.files = subst (λ (k : ℕ). All (IsIn (k, a.rows) image) b.files) (sym store) (subst (λ (r : List Row). All (IsIn (b.store, r) image) b.files) (sym rows) (right.files stands_too)) in
     let files : a.files ≡ b.files = same_files g h a.store a.rows image a.files b.files entries (left.filed.filed stands) filed (left.files stands) there in

@@ -1,24 +1,24 @@
 -- A flush from its start to its end: the pieces are written, and then listed.
 use Rattle.std.proofs.Common.{◌≡◌, ◌≢◌, ◌⊎◌, inl, inr, ℕ, ◌≤◌, ◌*◌, List, [], ◌∷◌, length, map, refl, sym, ◌∙◌, ap, subst, arith}
 use Rattle.std.proofs.lemmas.List.{length-append}
-use Rattle.disk_model.specs.Files.{Name, Files, At}
+use Rattle.disk_model.specs.Files.{Name, Files}
 use Rattle.disk_model.specs.Past.{Past, Passes}
 use Rattle.disk_model.specs.declared.disk.DiskErr.{DiskErr}
 use Rattle.disk_model.specs.declared.disk.DiskErr.TheVariants.{Fault, Memory}
 use Rattle.disk_model.proofs.Passing.{passes_weaker}
+use Rattle.gate_journal.specs.Generations.{IsOwn, AtOwn}
 use Rattle.gate_journal.specs.Journal.{JournalState}
 use Rattle.gate_journal.specs.Kept as journal
-use Rattle.partition_names.specs.declared.granularity.Granularity.{Granularity}
 use Rattle.store_manifest.specs.declared.entry.Entry.{Entry}
 use Rattle.durable_write.specs.declared.piece.Piece.{Piece}
 use Rattle.store_manifest.specs.Batches.{batch_of, members_of}
 use Rattle.store_manifest.specs.Manifest.{ManifestState, manifest_name}
 use Rattle.durable_write.specs.Held.{Held, Listing, listing_of, Shelf}
-use Rattle.durable_write.specs.Stored.{HoldsEither, AreLong, IsStored}
+use Rattle.durable_write.specs.Stored.{HoldsEither, AreLong}
 use Rattle.durable_write.specs.Three.{Anything}
 use Rattle.durable_write.specs.Writing.{Behind, LeavesListed, IsStoredAs, set_of}
 use Rattle.durable_write.proofs.Holding.{not_in, stored_left, holds_behind, still_stored}
-use Rattle.durable_write.proofs.KeptBytes.{leaves_beside}
+use Rattle.durable_write.proofs.KeptBytes.{leaves_own}
 
 pub err_cases : (e : DiskErr) → (e ≡ Fault) ⊎ (e ≡ Memory)
 err_cases Fault = inl refl
@@ -54,17 +54,8 @@ pub listed_as : (catalogue : JournalState) (m : ManifestState) (shelf : Shelf) (
 listed_as catalogue m shelf files opened past held store P holds = subst P (λ i. (store.of_rows i, sym store.entries i)) holds
 
 -- and where the manifest alone is changed
-pub leaves_committed : (catalogue : JournalState) (m : ManifestState) (shelf : Shelf) (files between later : Files) (opened : Name → ℕ) (old mid new : Past) (held : Held) → IsStoredAs catalogue m shelf files opened old held → ((n : Name) → n ≢ m.journal.name → later n ≡ between n)
-    → Passes (At m.journal.name Anything) mid new → LeavesListed (shelf, m.entries) between later mid new
+pub leaves_committed : (catalogue : JournalState) (m : ManifestState) (shelf : Shelf) (files between later : Files) (opened : Name → ℕ) (old mid new : Past) (held : Held) → IsStoredAs catalogue m shelf files opened old held → ((n : Name) → (IsOwn m.journal.name n → ⊥) → later n ≡ between n)
+    → Passes (AtOwn m.journal.name Anything) mid new → LeavesListed (shelf, m.entries) between later mid new
 leaves_committed catalogue m shelf files between later opened old mid new held store elsewhere passes =
     listed_as catalogue m shelf files opened old held store (λ l. LeavesListed l between later mid new)
-    (leaves_beside (listing_of held) m.journal.name Anything between later mid new (not_in held.store m.journal.name (manifest_name held.store) store.stored.tier.valid.filed.numbered store.stored.tier.named refl) elsewhere passes)
-
--- a manifest of the same journal, granularity and entries
-pub same_as : (catalogue : JournalState) (m made : ManifestState) (rows : Shelf) (files : Files) (opened : Name → ℕ) (past : Past) (held : Held) → made.journal ≡ m.journal → made.granularity ≡ m.granularity → made.entries ≡ m.entries → IsStoredAs catalogue m rows files opened past held
-    → IsStoredAs catalogue made rows files opened past held
-same_as catalogue m made rows files opened past held same_journal same_g same_entries store = record {
-  stored = subst (λ (j : JournalState). IsStored made.granularity catalogue j files opened past held) (sym same_journal) (subst (λ (g : Granularity). IsStored g catalogue m.journal files opened past held) (sym same_g) store.stored);
-  of_rows = store.of_rows;
-  entries = same_entries ∙ store.entries;
-}
+    (leaves_own (listing_of held) m.journal.name Anything between later mid new (not_in held.store m.journal.name (manifest_name held.store) store.stored.tier.valid.filed.numbered store.stored.tier.named refl) elsewhere passes)

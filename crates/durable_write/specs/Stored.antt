@@ -17,8 +17,8 @@ use Rattle.durable_write.specs.Held.{Filed, Held, AreFiled, AreIn, entry_of, fil
 -- The image's catalogue has these rows, and its manifest of this granularity lists just these files. Where it stands, each is one of
 -- its row, and the image has it at least as long as it is listed.
 pub record Holds (g : Granularity) (image : Files) (held : Held) : Type 0 where
-  pub rows : Says IsCatalogue held.rows (image catalogue_name)
-  pub lists : Says (Folds g) (map entry_of held.files) (image (manifest_name held.store))
+  pub rows : Says IsCatalogue held.rows catalogue_name image
+  pub lists : Says (Folds g) (map entry_of held.files) (manifest_name held.store) image
   pub filed : AreFiled g held
   pub files : AreIn held image
 

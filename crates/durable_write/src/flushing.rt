@@ -2,6 +2,7 @@
 ghost use Rattle.std.specs.Prelude.{◌≡◌, ◌≢◌, ◌≤◌, ◌<◌, ◌*◌, ℕ, List, All, length, map, IfOk, OnOk, OnErr, IsErrOf, IsTrue, true, false};
 ghost use Rattle.disk_model.specs.Files.{Name, Rose};
 ghost use Rattle.disk_model.specs.Past.{Passes};
+ghost use Rattle.gate_journal.specs.Generations.{IsOwn};
 ghost use Rattle.gate_journal.specs.Journal.{JournalState};
 ghost use Rattle.partition_names.specs.Part.{IsPart};
 ghost use Rattle.store_manifest.specs.Entries.{all_changed};
@@ -75,7 +76,7 @@ pub fn flush_pieces<D: Disk>(
         → HasCopied catalogue manifest.old (store, rows.now) (D.files disk.old) (D.opened disk.old) (D.past disk.old) held ahead → MakesFiles manifest.old.granularity ahead pieces.now fs
         → AreLong ahead (D.files disk.new) }
     ensures listed { IsTrue D.tells → LeavesListed ((store, rows.now), manifest.old.entries) (D.files disk.old) (D.files disk.new) (D.past disk.old) (D.past disk.new) }
-    ensures elsewhere { IsTrue D.tells → (n : Name) → n.0 ≢ store → n ≢ manifest.old.journal.name → D.files disk.new n ≡ D.files disk.old n }
+    ensures elsewhere { IsTrue D.tells → (n : Name) → n.0 ≢ store → (IsOwn manifest.old.journal.name n → ⊥) → D.files disk.new n ≡ D.files disk.old n }
     ensures frame { IsTrue D.tells → Passes (Beside store manifest.old.journal.name) (D.past disk.old) (D.past disk.new) }
     ensures no_more { IsTrue D.tells → (n : Name) → D.opened disk.new n ≤ D.opened disk.old n }
     ensures entries { OnOk result (manifest.new.entries ≡ all_changed manifest.old.entries (map set_of pieces.now)) }
@@ -83,7 +84,7 @@ pub fn flush_pieces<D: Disk>(
     ensures next { OnErr result (manifest.new.journal.sound ≡ false → manifest.new.next ≡ all_changed manifest.old.entries (map set_of pieces.now)) }
     ensures state { (manifest.new.granularity ≡ manifest.old.granularity) × (manifest.new.journal.name ≡ manifest.old.journal.name) }
     ensures sound { OnOk result (manifest.new.journal.sound ≡ true) }
-    ensures memory { IsErrOf result DiskErr.Memory → manifest.new.journal ≡ manifest.old.journal }
+    ensures memory { IsErrOf result DiskErr.Memory → manifest.new.journal.sound ≡ true }
     ensures faults { D.faults disk.old ≤ D.faults disk.new }
     ensures cause { IsErrOf result DiskErr.Fault → Rose (D.faults disk.old) (D.faults disk.new) }
 {

@@ -1,7 +1,8 @@
 // One commit of a manifest that lists other files: how a flush, a publication and a retirement end.
-ghost use Rattle.std.specs.Prelude.{◌≡◌, ◌≢◌, ◌≤◌, length, OnOk, OnErr, IsErrOf, IsTrue, true, false};
-ghost use Rattle.disk_model.specs.Files.{Name, Rose, At};
+ghost use Rattle.std.specs.Prelude.{◌≡◌, ◌≤◌, length, OnOk, OnErr, IsErrOf, IsTrue, true, false};
+ghost use Rattle.disk_model.specs.Files.{Name, Rose};
 ghost use Rattle.disk_model.specs.Past.{Passes};
+ghost use Rattle.gate_journal.specs.Generations.{IsOwn, AtOwn};
 ghost use Rattle.gate_journal.specs.Journal.{JournalState};
 ghost use Rattle.store_manifest.specs.Entries.{AllCanFollow, all_changed};
 ghost use Rattle.store_manifest.specs.Batches.{batch_of};
@@ -34,15 +35,16 @@ pub fn relist<D: Disk>(
         → OnErr result (manifest.new.journal.sound ≡ true → IsStoredAs catalogue manifest.new shelf (D.files disk.new) (D.opened disk.new) (D.past disk.new) held) }
     ensures in_doubt { IsTrue D.tells → (catalogue : JournalState) (shelf : Shelf) (held next : Held) → CanRelist catalogue manifest.old shelf (D.files disk.old) (D.opened disk.old) (D.past disk.old) held next changes.now
         → OnErr result (manifest.new.journal.sound ≡ false → IsDoubtedAs catalogue manifest.new shelf (D.files disk.new) (D.opened disk.new) (D.past disk.new) held next) }
-    ensures elsewhere { IsTrue D.tells → (n : Name) → n ≢ manifest.old.journal.name → D.files disk.new n ≡ D.files disk.old n }
-    ensures frame { IsTrue D.tells → Passes (At manifest.old.journal.name Anything) (D.past disk.old) (D.past disk.new) }
-    ensures opened { IsTrue D.tells → D.opened disk.new ≡ D.opened disk.old }
+    ensures elsewhere { IsTrue D.tells → (n : Name) → (IsOwn manifest.old.journal.name n → ⊥) → D.files disk.new n ≡ D.files disk.old n }
+    ensures frame { IsTrue D.tells → Passes (AtOwn manifest.old.journal.name Anything) (D.past disk.old) (D.past disk.new) }
+    ensures opened { IsTrue D.tells → (n : Name) → (IsOwn manifest.old.journal.name n → ⊥) → D.opened disk.new n ≡ D.opened disk.old n }
+    ensures no_more { IsTrue D.tells → (n : Name) → D.opened disk.new n ≤ D.opened disk.old n }
     ensures entries { OnOk result (manifest.new.entries ≡ all_changed manifest.old.entries changes.now) }
     ensures unchanged { OnErr result (manifest.new.entries ≡ manifest.old.entries) }
     ensures next { OnErr result (manifest.new.journal.sound ≡ false → manifest.new.next ≡ all_changed manifest.old.entries changes.now) }
     ensures sound { OnOk result (manifest.new.journal.sound ≡ true) }
     ensures doubt { IsErrOf result DiskErr.Fault → manifest.new.journal.sound ≡ false }
-    ensures memory { IsErrOf result DiskErr.Memory → manifest.new.journal ≡ manifest.old.journal }
+    ensures memory { IsErrOf result DiskErr.Memory → manifest.new.journal.sound ≡ true }
     ensures state { (manifest.new.granularity ≡ manifest.old.granularity) × (manifest.new.journal.name ≡ manifest.old.journal.name) }
     ensures faults { D.faults disk.old ≤ D.faults disk.new }
     ensures cause { IsErrOf result DiskErr.Fault → Rose (D.faults disk.old) (D.faults disk.new) }

@@ -1,5 +1,5 @@
 -- What one step takes of a part's file.
-use Rattle.std.proofs.Common.{◌≡◌, ◌≢◌, ◌⊎◌, inl, inr, ℕ, ℤ, suc, ◌+◌, ◌-◌, ◌≤◌, ◌<◌, List, [], ◌∷◌, ◌++◌, length, take, drop, refl, sym, ◌∙◌, ap, subst, arith, append_assoc}
+use Rattle.std.proofs.Common.{◌≡◌, ◌≢◌, ◌⊎◌, inl, inr, ℕ, ℤ, ◌+◌, ◌-◌, ◌≤◌, List, [], ◌∷◌, ◌++◌, length, take, refl, sym, ◌∙◌, ap, subst, arith, append_assoc}
 use Rattle.std.specs.Prelude.{Contains}
 use Rattle.std.proofs.lemmas.Bool.{cases_lt}
 use Rattle.std.proofs.lemmas.List.{length-append, length-take, take_all, take_at, take-take, take-append-le}
@@ -8,12 +8,12 @@ use Rattle.line_escape.specs.Unescaping.{HasNoNewline}
 use Rattle.payload_info.specs.declared.info.PayloadInfo.{PayloadInfo}
 use Rattle.pb_lines.specs.Header.{IsHeaderLine}
 use Rattle.series_model.specs.declared.sample.Sample.{Sample}
-use Rattle.pb_lines.specs.File.{IsSample, AreSamples, lines_of}
+use Rattle.pb_lines.specs.File.{AreSamples, lines_of}
 use Rattle.pb_lines.proofs.FileLines.{one_line, no_line}
 use Rattle.store_manifest.specs.declared.entry.Entry.{Entry}
 use Rattle.etl_mover.specs.Lines.{TakesLines, IsSampleStart}
 use Rattle.etl_mover.specs.Reading.{IsChunk}
-use Rattle.etl_mover.specs.Step.{AreFew, AreTaken, Takes}
+use Rattle.etl_mover.specs.Step.{AreFew, Takes}
 use Rattle.etl_mover.proofs.Chunks.{cut, no_ten}
 
 -- samples of which the first is given

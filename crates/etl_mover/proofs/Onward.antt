@@ -1,6 +1,6 @@
 -- What stands ahead of a destination, from one step of copying to the next.
-use Rattle.std.proofs.Common.{◌≡◌, ◌≢◌, inl, inr, ℕ, zero, suc, ◌+◌, ◌≤◌, List, [], ◌∷◌, ◌++◌, length, get_or, map, filter, Bool, true, false, Option, Some, None, refl, sym, ◌∙◌, ap, subst, arith, append-nil, cond}
-use Rattle.std.specs.Prelude.{All, Contains, IfSome, IsTrue, slice_get, nat_eq}
+use Rattle.std.proofs.Common.{◌≡◌, inl, inr, ℕ, zero, suc, ◌≤◌, List, [], ◌∷◌, ◌++◌, length, get_or, map, filter, Bool, true, false, Option, Some, None, refl, sym, ◌∙◌, ap, subst, arith, append-nil, cond}
+use Rattle.std.specs.Prelude.{All, Contains, slice_get, nat_eq}
 use Rattle.std.proofs.lemmas.Bool.Decides.{nat_tests}
 use Rattle.std.proofs.lemmas.List.Elements.{All-contains, Contains-get_or, filter-append}
 use Rattle.std.proofs.lemmas.List.{length-append, take_all}
@@ -26,7 +26,7 @@ use Rattle.durable_write.proofs.Lasts.{last_view, same_last}
 use Rattle.etl_mover.specs.declared.copying.Start.{Start}
 use Rattle.etl_mover.specs.Copying.{last_of, starts, fresh, SetsLast}
 use Rattle.etl_mover.specs.Move.{MoveState, IsMove, IsAhead, StillLists, part_file}
-use Rattle.etl_mover.specs.Step.{Advances, GoesTo, IsLongUnopened, IsToRow, HasTargets, target_file}
+use Rattle.etl_mover.specs.Step.{Advances, IsLongUnopened, IsToRow, HasTargets, target_file}
 use Rattle.etl_mover.specs.Writing.{LeavesFile, WritesFile}
 use Rattle.etl_mover.proofs.Advancing.{after_cases, last_all}
 

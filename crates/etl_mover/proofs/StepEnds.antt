@@ -1,6 +1,6 @@
 -- How a step of copying ends.
-use Rattle.std.proofs.Common.{◌≡◌, ◌≢◌, ◌⊎◌, inl, inr, ℕ, zero, suc, ◌+◌, ◌-◌, ◌≤◌, ◌<◌, List, [], ◌∷◌, ◌++◌, length, get_or, take, drop, Option, Some, None, Result, Ok, Err, refl, sym, ◌∙◌, ap, subst, arith}
-use Rattle.std.specs.Prelude.{◌↔◌, IfSome, OnOk, OnErr, slice_get}
+use Rattle.std.proofs.Common.{◌≡◌, ◌⊎◌, inl, inr, ℕ, zero, suc, ◌+◌, ◌-◌, ◌≤◌, ◌<◌, List, [], ◌∷◌, length, get_or, take, drop, Option, Some, None, Result, Ok, Err, refl, sym, ◌∙◌, ap, subst, arith}
+use Rattle.std.specs.Prelude.{IfSome, OnOk, OnErr, slice_get}
 use Rattle.std.proofs.lemmas.Bool.{cases_lt}
 use Rattle.std.proofs.lemmas.List.{length-take}
 use Rattle.std.proofs.lemmas.Option.{slice_get_within, slice_get-get_or}
@@ -13,12 +13,9 @@ use Rattle.etl_mover.specs.declared.copying.Start.{Start}
 use Rattle.etl_mover.specs.declared.moving.Copied.{Copied as CopiedEnd}
 use Rattle.etl_mover.specs.Copying.{SetsLast}
 use Rattle.etl_mover.specs.Move.{MoveState, IsMove}
-use Rattle.etl_mover.specs.Step.{GoesTo, CanRevive, CanCopy, Takes, Copies, CopiesPart, SetsPart, Advances, between, finished, with_pending, source_file, target_file}
-use Rattle.etl_mover.specs.Reading.{OnlyReads}
-use Rattle.etl_mover.specs.Writing.{LeavesFile}
+use Rattle.etl_mover.specs.Step.{GoesTo, CanRevive, Takes, Copies, CopiesPart, SetsPart, Advances, between, finished, with_pending, target_file}
 use Rattle.etl_mover.proofs.Advancing.{one_start, advances_keep}
 use Rattle.etl_mover.proofs.Loading.{takes_none}
-use Rattle.etl_mover.proofs.StepWrites.{reads_none, reads_leave}
 
 pub no_part : (move : MoveState) (revived : Option Entry) (part : Entry) (start : Start) → slice_get move.parts move.at ≡ None → GoesTo move revived part start → ⊥
 no_part move revived part start none goes = let no : ◌≡◌ {A = Option Entry} None (Some part) = sym none ∙ goes.at_hand in absurd (cc (no))

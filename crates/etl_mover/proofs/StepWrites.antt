@@ -1,7 +1,7 @@
 -- What a step of copying writes, and what it leaves.
-use Rattle.std.proofs.Common.{◌≡◌, ◌≢◌, ◌⊎◌, inl, inr, ℕ, ◌+◌, ◌-◌, ◌≤◌, ◌<◌, List, [], ◌∷◌, ◌++◌, length, take, drop, Option, Some, None, refl, sym, ◌∙◌, ap, subst, arith}
-use Rattle.disk_model.specs.Files.{Name, Content, Files, HasFile, At}
-use Rattle.disk_model.specs.Past.{Past, Passes}
+use Rattle.std.proofs.Common.{◌≡◌, inl, inr, ℕ, ◌≤◌, List, [], ◌∷◌, ◌++◌, length, take, Option, Some, None, refl, sym, ◌∙◌, ap, subst, arith}
+use Rattle.disk_model.specs.Files.{Name, Files, HasFile, At}
+use Rattle.disk_model.specs.Past.{Past}
 use Rattle.disk_model.proofs.Passing.{passes_none, passes_weaker}
 use Rattle.store_files.specs.Fronts.{Begins, Keeps}
 use Rattle.store_files.proofs.Stays.{keeps_more}
@@ -10,7 +10,7 @@ use Rattle.durable_write.specs.Flush.{start_of}
 use Rattle.etl_mover.specs.declared.copying.Start.{Start}
 use Rattle.etl_mover.specs.Copying.{SetsLast}
 use Rattle.etl_mover.specs.Reading.{OnlyReads}
-use Rattle.etl_mover.specs.Step.{IsLongUnopened, Takes, Writes, WritesNone, Copies, between, written_at}
+use Rattle.etl_mover.specs.Step.{IsLongUnopened, Takes, Copies, between, written_at}
 use Rattle.etl_mover.specs.Writing.{WritesFile, LeavesFile}
 use Rattle.etl_mover.proofs.Written.{same_opened}
 

@@ -1,7 +1,8 @@
 // The publication: one commit lists what was copied.
 ghost use Rattle.std.specs.Prelude.{◌≡◌, ◌≢◌, ◌≤◌, ℕ, map, true, IfOk, OnOk, OnErr, IsErrOf, IsTrue};
-ghost use Rattle.disk_model.specs.Files.{At, Name, Rose};
+ghost use Rattle.disk_model.specs.Files.{Name, Rose};
 ghost use Rattle.disk_model.specs.Past.{Passes};
+ghost use Rattle.gate_journal.specs.Generations.{IsOwn, AtOwn};
 ghost use Rattle.gate_journal.specs.Journal.{JournalState};
 ghost use Rattle.partition_names.specs.declared.granularity.Granularity.{Granularity};
 ghost use Rattle.store_manifest.specs.Entries.{all_changed};
@@ -32,7 +33,7 @@ impl Move {
     /// Lists what was copied in one commit of the destination's manifest. A crash at any moment leaves what the destination held, or
     /// that with all that was copied.
     ///
-    /// After `Memory` nothing has changed. After `Fault`, which comes only where the disk's count of faults rose in the call, it isn't known
+    /// After `Memory` the destination holds what it held, and its journal may have begun anew. After `Fault`, which comes only where the disk's count of faults rose in the call, it isn't known
     /// whether the commit was made.
     pub fn publish<D: Disk>(&mut self, disk: &mut D, dest: &mut Manifest) -> Result<(), DiskErr>
         requires running { (fine : Granularity) × IsMove fine self.old }
@@ -48,10 +49,11 @@ impl Move {
         ensures commits { Commits dest.old dest.new (all_changed dest.old.entries (map set_entry self.old.pending)) (published result dest.new.journal.sound) }
         ensures stage { OnOk result (self.new ≡ record self.old { stage = Published }) }
         ensures unchanged { OnErr result (self.new ≡ self.old) }
-        ensures memory { IsErrOf result DiskErr.Memory → dest.new.journal ≡ dest.old.journal }
-        ensures elsewhere { IsTrue D.tells → (n : Name) → n ≢ dest.old.journal.name → D.files disk.new n ≡ D.files disk.old n }
-        ensures frame { IsTrue D.tells → Passes (At dest.old.journal.name Anything) (D.past disk.old) (D.past disk.new) }
-        ensures opened { IsTrue D.tells → D.opened disk.new ≡ D.opened disk.old }
+        ensures memory { IsErrOf result DiskErr.Memory → dest.new.journal.sound ≡ true }
+        ensures elsewhere { IsTrue D.tells → (n : Name) → (IsOwn dest.old.journal.name n → ⊥) → D.files disk.new n ≡ D.files disk.old n }
+        ensures frame { IsTrue D.tells → Passes (AtOwn dest.old.journal.name Anything) (D.past disk.old) (D.past disk.new) }
+        ensures opened { IsTrue D.tells → (n : Name) → (IsOwn dest.old.journal.name n → ⊥) → D.opened disk.new n ≡ D.opened disk.old n }
+        ensures no_more { IsTrue D.tells → (n : Name) → D.opened disk.new n ≤ D.opened disk.old n }
         ensures faults { D.faults disk.old ≤ D.faults disk.new }
         ensures cause { IsErrOf result DiskErr.Fault → Rose (D.faults disk.old) (D.faults disk.new) }
     {

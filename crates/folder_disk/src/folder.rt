@@ -78,7 +78,7 @@ impl ReadAt for FolderFile {
 /// in the stores what the site lists.
 ///
 /// A disk that only reads makes no folder, and where the site's is absent there are no files. What loading writes into the journals
-/// of the site's folder, to begin them, it keeps in memory. Any other change is a fault.
+/// of the site's folder, to begin them, and what it removes of them, it keeps in memory. Any other change is a fault.
 #[derive(Drop)]
 pub struct FolderDisk<R: Files<File = File> + Drop> {
     folders: Folders<R>,

@@ -56,7 +56,7 @@ pub struct Folders<R: Files<File = File> + Drop> {
     is_marked: bool,
     // Of each store the file that was used last.
     held: Vec<Option<Held>>,
-    // The journals that a disk which only reads was to write.
+    // The files of journals that a disk which only reads was to write or to remove.
     drafts: Drafts,
     // The folders that were synced since a name was last made or removed in them.
     synced: BTreeSet<String>,
@@ -317,7 +317,8 @@ impl<R: Files<File = File> + Drop> Folders<R> {
         }
     }
 
-    // Where one only reads, loading may begin the journals of the site's folder, which is kept in memory. Nothing else is written.
+    // Where one only reads, loading may begin the journals of the site's folder and remove files of them that no longer count, which is
+    // kept in memory. Nothing else is written.
     fn may_draft(&self, name: &FileName) -> io::Result<()> {
         if name.store == 0 {
             Ok(())
@@ -351,16 +352,18 @@ impl<R: Files<File = File> + Drop> Folders<R> {
         ensures { IfOk result (λ n. n ≤ length buf.old) }
     {
         self.begin()?;
-        if let Some(bytes) = self.drafts.get(name) {
-            return Ok(copy_from(bytes, at, buf));
+        match self.drafts.get(name) {
+            Some(Some(bytes)) => return Ok(copy_from(bytes, at, buf)),
+            Some(None) => return Err(ErrorKind::NotFound.into()),
+            None => {}
         }
         read_from(self.file(name)?, at, buf)
     }
 
     pub fn size(&mut self, name: &FileName) -> io::Result<Option<u64>> {
         self.begin()?;
-        if let Some(bytes) = self.drafts.get(name) {
-            return Ok(Some(bytes.len() as u64));
+        if let Some(draft) = self.drafts.get(name) {
+            return Ok(draft.map(|bytes| bytes.len() as u64));
         }
         let path = self.path(name)?;
         self.size_of(path.as_str())
@@ -462,7 +465,12 @@ impl<R: Files<File = File> + Drop> Folders<R> {
     pub fn remove(&mut self, name: &FileName) -> io::Result<()> {
         self.begin_change(name.store)?;
         if self.access == Access::Read {
-            return Err(only_reads());
+            self.may_draft(name)?;
+            if self.size(name)?.is_none() {
+                return Err(ErrorKind::NotFound.into());
+            }
+            self.drafts.remove(name)?;
+            return Ok(());
         }
         let path = self.path(name)?;
         self.size_of(path.as_str())?;

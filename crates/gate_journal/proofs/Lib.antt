@@ -1,10 +1,29 @@
 mod Begin
 mod Bytes
+mod Checkpoints
+mod Committing
+mod Deciding
 pub mod Elsewhere
+pub mod FileNames
+mod Files
 pub mod FirstBad
+mod Growing
+pub mod Holding
 pub mod Keeping
 mod Loading
+mod LoadingBoth
+mod LoadingEach
 mod Meaning
+mod NamedErrs
+mod OneReading
+mod Owned
+pub mod Owning
 mod Pieces
+mod Removing
 mod Reviewing
 mod Steps
+mod Switching
+mod Synced
+mod Telling
+mod Turns
+mod Unmoved

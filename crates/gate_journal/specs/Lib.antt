@@ -1,6 +1,9 @@
 pub mod Batches
-pub mod FirstBad
 pub mod Journal
+pub mod FirstBad
+pub mod Generations
+pub mod Plain
 pub mod Kept
 pub mod Load
+pub mod Named
 pub mod Window

@@ -11,3 +11,6 @@ mod Links
 mod Seating
 mod Servicing
 mod Tending
+pub mod Counting
+mod Damage
+mod Completeness

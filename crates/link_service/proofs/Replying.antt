@@ -12,6 +12,7 @@ use Rattle.act_model.specs.Sound.{IsSound}
 use Rattle.http_front.specs.declared.reply.Head.{Head}
 use Rattle.http_front.specs.declared.request.HttpErr.{HttpErr}
 use Rattle.http_front.specs.declared.request.HttpErr.TheVariants as http
+use Rattle.http_front.specs.declared.request.Request.{Request}
 use Rattle.http_front.specs.declared.request.WebCall.{WebCall}
 use Rattle.http_front.specs.declared.request.WebCall.TheVariants as call
 use Rattle.http_front.specs.Reply.{head_text}
@@ -31,8 +32,8 @@ use Rattle.link_service.specs.declared.format.Format.{Format}
 use Rattle.link_service.specs.declared.format.Format.TheVariants as format
 use Rattle.link_service.specs.declared.replied.Replied.{Replied}
 use Rattle.link_service.specs.declared.replied.Replied.TheVariants.{Refused, PeerFault, Memory}
-use Rattle.link_service.specs.Data.{BreaksBody, FinishesBody, IsWhole, MakesActs, RepliesPinned, Tells, data_head, pin_refusal}
-use Rattle.link_service.specs.Requests.{BeginsReply, RepliesCall, managed_by, replied_by, unreplied}
+use Rattle.link_service.specs.Data.{AnswersData, BreaksBody, FinishesBody, IsWhole, MakesActs, RepliesPinned, Tells, data_head, pin_refusal}
+use Rattle.link_service.specs.Requests.{BeginsReply, Replies, RepliesCall, RepliesTo, managed_by, replied_by, unreplied}
 use Rattle.link_service.proofs.Answering.{of_writes}
 
 -- A REQUEST FOR DATA
@@ -154,6 +155,30 @@ is_managed (call.ArchivePv pv about) raw json = refl
 is_managed (call.PausePv pv) raw json = refl
 is_managed (call.ResumePv pv) raw json = refl
 is_managed call.FlushAll raw json = refl
+
+-- just the acts of a call
+module _ {A R : Type 0} (number : A → ℕ) (between : A → List Entry → A → Type 0) (is_spent : A → Type 0) (stands : A → Machine → Type 0) (tells : Bool) (faults : R → ℕ) (rose : Type 0) where
+  pub call_acts : (version : ℕ) (old new : A) (asked : WebCall) (a b : Option (List ℕ)) (result : Replied R) → RepliesCall number between is_spent (AnswersData number between is_spent stands tells faults rose old a new b) version old asked a result new b
+      → RepliesCall number between is_spent (MakesActs number between is_spent tells faults rose old a new b) version old asked a result new b
+  call_acts version old new (call.Raw pv query) a b result (end, is, d) = (end, is, d.acts)
+  call_acts version old new (call.Json pv query) a b result (end, is, d) = (end, is, d.acts)
+  call_acts version old new call.AllPvs a b result r = r
+  call_acts version old new (call.PvStatus pv) a b result r = r
+  call_acts version old new (call.PvDetails pv) a b result r = r
+  call_acts version old new (call.ArchivePv pv about) a b result r = r
+  call_acts version old new (call.PausePv pv) a b result r = r
+  call_acts version old new (call.ResumePv pv) a b result r = r
+  call_acts version old new call.FlushAll a b result r = r
+
+  to_acts : (old new : A) (request : Result Request HttpErr) (a b : Option (List ℕ)) (result : Replied R) → RepliesTo number between is_spent rose (AnswersData number between is_spent stands tells faults rose old a new b) old request a result new b
+      → RepliesTo number between is_spent rose (MakesActs number between is_spent tells faults rose old a new b) old request a result new b
+  to_acts old new (Ok request) a b result r = call_acts request.version old new request.call a b result r
+  to_acts old new (Err why) a b result r = r
+
+  -- just the acts of a request
+  pub replies_acts : (old new : A) (left a b : Option (List ℕ)) (result : Replied R) → Replies number between is_spent rose (AnswersData number between is_spent stands tells faults rose old a new b) left old a result new b
+      → Replies number between is_spent rose (MakesActs number between is_spent tells faults rose old a new b) left old a result new b
+  replies_acts old new left a b result r = record { request = r.request; later = r.later; read = r.read; replies = to_acts old new r.request a b result r.replies }
 
 -- a reply to a call has begun
 pub call_begins : {A R : Type 0} (number : A → ℕ) (between : A → List Entry → A → Type 0) (is_spent : A → Type 0) (tells : Bool) (faults : R → ℕ) (rose : Type 0) (version : ℕ) (old new : A) (asked : WebCall) (a b : Option (List ℕ)) (result : Replied R)

@@ -1,5 +1,5 @@
 -- The reply to a request for data: a head, and the text of an answer behind it, to HTTP/1.1 in chunks and to HTTP/1.0 as it is.
-use Rattle.std.specs.Prelude.{◌≡◌, ◌⊎◌, ℕ, ◌==◌, Bool, true, false, List, Option, Some, None, Ok, Err, if◌then◌else◌}
+use Rattle.std.specs.Prelude.{◌≡◌, ◌⊎◌, ℕ, ◌==◌, Bool, IsTrue, true, false, List, Option, Some, None, Ok, Err, if◌then◌else◌}
 use Rattle.std.specs.Io.KnownBytes.{Appends}
 use Rattle.edge_io.specs.Stream.{AppendsFront}
 use Rattle.edge_io.specs.declared.stream.Failed.{Failed}
@@ -26,7 +26,7 @@ use Rattle.retrieval_query.specs.declared.retrieved.Retrieved.{Retrieved}
 use Rattle.retrieval_query.specs.declared.retrieved.Retrieved.TheVariants.{Finished, SinkFault, Memory}
 use Rattle.retrieval_query.specs.Pinning.{FailsToPin, GivesUp, ended_by}
 use Rattle.retrieval_query.specs.Raw.{IsRaw}
-use Rattle.retrieval_query.specs.Retrieving.{IsPinned, WritesAnswer}
+use Rattle.retrieval_query.specs.Retrieving.{IsPinned, ReadsHeaders, WritesAnswer}
 use Rattle.link_service.specs.declared.format.Format.{Format}
 use Rattle.link_service.specs.declared.format.Format.TheVariants.{Raw, Json}
 
@@ -133,3 +133,8 @@ MakesActs number between is_spent tells faults rose old a new b format version n
 abbrev pub IsWhole : {A R : Type 0} → (A → ℕ) → (A → List Entry → A → Type 0) → (A → Type 0) → Type 0 → Machine → A → Option (List ℕ) → A → Option (List ℕ) → Format → ℕ → List ℕ → Query → Retrieved R → Type 0
 IsWhole number between is_spent rose m old a new b format version name query result =
     RepliesData number between is_spent rose format version old name query a (λ mid. WritesAnswer number between (FinishesBody format version) (BreaksBody format version) old m name query mid result new b) result new b
+
+-- Both hold of one and the same end: just those acts were made, and from each state whose files are told on the answer is whole.
+pub record AnswersData {A R : Type 0} (number : A → ℕ) (between : A → List Entry → A → Type 0) (is_spent : A → Type 0) (stands : A → Machine → Type 0) (tells : Bool) (faults : R → ℕ) (rose : Type 0) (old : A) (a : Option (List ℕ)) (new : A) (b : Option (List ℕ)) (format : Format) (version : ℕ) (name : List ℕ) (query : Query) (result : Retrieved R) : Type 0 where
+  pub acts : MakesActs number between is_spent tells faults rose old a new b format version name query result
+  pub whole : IsTrue tells → (m : Machine) → stands old m → m.told ≡ true → ReadsHeaders m.rule → IsWhole number between is_spent rose m old a new b format version name query result

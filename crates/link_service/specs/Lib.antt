@@ -2,6 +2,7 @@
 pub mod Data
 pub mod Requests
 pub mod Serving
+pub mod Completeness
 pub mod Doors
 pub mod Service
 pub mod Seats

@@ -4,8 +4,8 @@ use Rattle.std.specs.List.{list_any, range_with_len}
 use Rattle.edge_io.specs.Moments.{Gives, Moments}
 use Rattle.turn_rooms.specs.declared.rooms.Pass.{Pass}
 use Rattle.turn_rooms.specs.declared.rooms.Rooms.{Rooms}
-use Rattle.turn_rooms.specs.Histories.{most_acts}
-use Rattle.turn_rooms.specs.Passes.{Goes, drained, known}
+use Rattle.turn_rooms.specs.Histories.{most_acts, most_numbers}
+use Rattle.turn_rooms.specs.Passes.{Goes, drained, known, stands}
 use Rattle.act_model.specs.declared.acts.Act.{Act}
 use Rattle.act_model.specs.declared.actor.Spent.{Spent}
 use Rattle.act_model.specs.History.{Done}
@@ -148,10 +148,15 @@ module _ {A S B D : Type 0} (Serves : Kind → ℕ → A → Option Moments → 
     pub rooms_are : rooms_of seat ≡ rooms
     pub serves : Serves kind place seat clock door served seat' clock' door'
 
--- No passes could be drawn, and nothing was done: numbers were spent, or memory ran out, where the pass stayed as it was.
+-- No numbers were left for passes of so many: those that the pass stands for, beside which no other is left, and theirs would be more than
+-- there are. It knows what it knew.
+abbrev pub NumbersSpent : {S B : Type 0} → Pass S Act B → Pass S Act B → ℕ → Type 0
+NumbersSpent old new workers = (drained old < drained new) × (known new ≡ known old) × (most_numbers < length (stands old) + workers)
+
+-- No passes could be drawn for the posts and two more, and nothing was done: numbers were spent, or memory ran out, where the pass stayed
+-- as it was.
 abbrev pub NobodyWorked : {S B D : Type 0} → AllServed → Pass S Act B → Pass S Act B → List (Post D) → List (Post D) → Type 0
-NobodyWorked told old new olds news =
-    (news ≡ olds) × (((told ≡ told_want true false) × (drained old < drained new) × (known new ≡ known old)) ⊎ ((told ≡ told_want false true) × (new ≡ old)))
+NobodyWorked told old new olds news = (news ≡ olds) × (((told ≡ told_want true false) × NumbersSpent old new (length olds + 2)) ⊎ ((told ≡ told_want false true) × (new ≡ old)))
 
 module _ {A S B C D : Type 0} (Serves : Kind → ℕ → A → Option Moments → D → DoorServed → A → Option Moments → D → Type 0) (pass_of : A → Pass S Act B) (rooms_of : A → Rooms S Act B) (coming : C → Option Moments) where
   -- A post's door was served so, and the post is of its kind still.

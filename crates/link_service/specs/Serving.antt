@@ -1,5 +1,5 @@
 -- How a connection was served: what its session came to, which acts were made, and what its peer was written.
-use Rattle.std.specs.Prelude.{◌≡◌, ◌⊎◌, ℕ, List, [], ◌++◌, Option, IsSome, IsTrue, Bool, true, codes}
+use Rattle.std.specs.Prelude.{◌≡◌, ◌⊎◌, ℕ, List, [], ◌++◌, Option, IsSome, Bool, codes}
 use Rattle.std.specs.Io.KnownBytes.{Appends}
 use Rattle.edge_io.specs.Moments.{Moments}
 use Rattle.edge_io.specs.Stream.{Rose}
@@ -8,14 +8,13 @@ use Rattle.act_model.specs.declared.acts.Act.{Act}
 use Rattle.act_model.specs.History.{Done, Entry, Made}
 use Rattle.act_model.specs.Machine.{Machine}
 use Rattle.act_model.specs.Roles.{AllAre}
-use Rattle.retrieval_query.specs.Retrieving.{ReadsHeaders}
 use Rattle.feed_session.specs.declared.end.Fed.{Fed}
 use Rattle.feed_session.specs.declared.end.Fed.TheVariants as fed
 use Rattle.feed_session.specs.Replies.{Feeds}
 use Rattle.admin_commands.specs.Refusals.{refusal_of}
 use Rattle.link_service.specs.declared.replied.Replied.{Replied}
 use Rattle.link_service.specs.declared.replied.Replied.TheVariants as replied
-use Rattle.link_service.specs.Data.{IsWhole, MakesActs}
+use Rattle.link_service.specs.Data.{AnswersData}
 use Rattle.link_service.specs.Requests.{Replies}
 use Rattle.link_service.specs.declared.served.FeedTold.TheVariants as told
 use Rattle.link_service.specs.declared.served.Kind.{Kind}
@@ -62,10 +61,9 @@ IsToldWhy other = Unit {0}
 -- One request was read of the link and replied to: just its acts were made, in order, and what was written is the reply over their answers.
 -- From a state whose files are told on, behind the head of a request for data stands the answer over all that was accepted of the variable
 -- as it was pinned.
-pub record ServesRequest {A L R : Type 0} (number : A → ℕ) (between : A → List Entry → A → Type 0) (is_spent : A → Type 0) (stands : A → Machine → Type 0) (tells : Bool) (faults : R → ℕ) (left written : L → Option (List ℕ)) (write_faults : L → ℕ) (old : A) (was : L) (result : Served R) (new : A) (l : L) : Type 0 where
-  pub replies : EndsRequest (λ end. Replies number between is_spent (Rose (write_faults was) (write_faults l)) (MakesActs number between is_spent tells faults (Rose (write_faults was) (write_faults l)) old (written was) new (written l)) (left was) old (written was) end new (written l)) result
-  pub whole : IsTrue tells → (m : Machine) → stands old m → m.told ≡ true → ReadsHeaders m.rule
-      → EndsRequest (λ end. Replies number between is_spent (Rose (write_faults was) (write_faults l)) (IsWhole number between is_spent (Rose (write_faults was) (write_faults l)) m old (written was) new (written l)) (left was) old (written was) end new (written l)) result
+abbrev pub ServesRequest : {A L R : Type 0} → (A → ℕ) → (A → List Entry → A → Type 0) → (A → Type 0) → (A → Machine → Type 0) → Bool → (R → ℕ) → (L → Option (List ℕ)) → (L → Option (List ℕ)) → (L → ℕ) → A → L → Served R → A → L → Type 0
+ServesRequest number between is_spent stands tells faults left written write_faults old was result new l =
+    EndsRequest (λ end. Replies number between is_spent (Rose (write_faults was) (write_faults l)) (AnswersData number between is_spent stands tells faults (Rose (write_faults was) (write_faults l)) old (written was) new (written l)) (left was) old (written was) end new (written l)) result
 
 -- A link was served, by its kind: a feed to its end, or one request, for which the clock isn't read.
 abbrev pub ServesLink : {A L R : Type 0} → (A → ℕ) → (A → List Entry → A → Type 0) → (A → Type 0) → (A → Machine → Type 0) → Bool → (R → ℕ) → (L → Option (List ℕ)) → (L → Option (List ℕ)) → (L → ℕ) → Kind → A → Option Moments → L → Served R → A → Option Moments → L → Type 0

@@ -16,8 +16,8 @@
 //!
 //! Model: `specs/Data.antt` says what the reply to a request for data is, and `specs/Requests.antt` what is promised of a request as a
 //! whole; `specs/Serving.antt` what the service of a link came to, by what its session says, and what its peer was written;
-//! `specs/Doors.antt` what a worker leaves of its door, and `specs/Seats.antt` the same where it acts by turns of a pass;
-//! `specs/Service.antt` what all who worked leave, and what is told of them.
+//! `specs/Completeness.antt` what a link is given where nothing fails; `specs/Doors.antt` what a worker leaves of its door, and
+//! `specs/Seats.antt` the same where it acts by turns of a pass; `specs/Service.antt` what all who worked leave, and what is told of them.
 //!
 //! Caveats: a link of HTTP serves one request. A feed registers no variables. A reply's text isn't kept, so memory doesn't grow with the
 //! answer.

@@ -1,10 +1,9 @@
 // One request of a link, from its first byte to the end of its reply.
-ghost use Rattle.std.specs.Prelude.{◌≡◌, ◌⊎◌, ◌≤◌, true, IsTrue};
+ghost use Rattle.std.specs.Prelude.{◌≡◌, ◌⊎◌, ◌≤◌};
 ghost use Rattle.edge_io.specs.Stream.{Rose};
 ghost use Rattle.act_model.specs.Machine.{Machine};
-ghost use Rattle.retrieval_query.specs.Retrieving.{ReadsHeaders};
 ghost use Rattle.admin_commands.specs.Refusals.{refusal_of};
-ghost use Rattle.link_service.specs.Data.{IsWhole, MakesActs, Tells};
+ghost use Rattle.link_service.specs.Data.{AnswersData, Tells};
 ghost use Rattle.link_service.specs.Requests.{BeginsReply, Replies, RepliesCall, unreplied};
 
 use crate::data::reply_with_data;
@@ -28,9 +27,7 @@ pub fn reply_to_request<A: Actor, L: Link>(
     link: &mut L,
 ) -> Replied<A::Reader>
     requires stands { (m : Machine) × A.stands actor.old m }
-    ensures replies { Replies A.number A.between A.is_spent (Rose (L.Sink.write_faults link.old) (L.Sink.write_faults link.new)) (MakesActs A.number A.between A.is_spent A.Reader.tells A.Reader.faults (Rose (L.Sink.write_faults link.old) (L.Sink.write_faults link.new)) actor.old (L.Sink.written link.old) actor.new (L.Sink.written link.new)) (L.Source.left link.old) actor.old (L.Sink.written link.old) result actor.new (L.Sink.written link.new) }
-    ensures whole { IsTrue A.Reader.tells → (m : Machine) → A.stands actor.old m → m.told ≡ true → ReadsHeaders m.rule
-        → Replies A.number A.between A.is_spent (Rose (L.Sink.write_faults link.old) (L.Sink.write_faults link.new)) (IsWhole A.number A.between A.is_spent (Rose (L.Sink.write_faults link.old) (L.Sink.write_faults link.new)) m actor.old (L.Sink.written link.old) actor.new (L.Sink.written link.new)) (L.Source.left link.old) actor.old (L.Sink.written link.old) result actor.new (L.Sink.written link.new) }
+    ensures replies { Replies A.number A.between A.is_spent (Rose (L.Sink.write_faults link.old) (L.Sink.write_faults link.new)) (AnswersData A.number A.between A.is_spent A.stands A.Reader.tells A.Reader.faults (Rose (L.Sink.write_faults link.old) (L.Sink.write_faults link.new)) actor.old (L.Sink.written link.old) actor.new (L.Sink.written link.new)) (L.Source.left link.old) actor.old (L.Sink.written link.old) result actor.new (L.Sink.written link.new) }
     ensures begun { BeginsReply result (L.Sink.written link.old) (L.Sink.written link.new) }
     ensures peer_fault { result ≡ Replied.PeerFault → Rose (L.Source.read_faults link.old) (L.Source.read_faults link.new) ⊎ Rose (L.Sink.write_faults link.old) (L.Sink.write_faults link.new) }
     ensures write_faults { L.Sink.write_faults link.old ≤ L.Sink.write_faults link.new }
@@ -52,9 +49,7 @@ fn serve<A: Actor, K: Sink>(
 ) -> Replied<A::Reader>
     requires stands { (m : Machine) × A.stands actor.old m }
     requires version { request.now.version ≤ 1 }
-    ensures replies { RepliesCall A.number A.between A.is_spent (MakesActs A.number A.between A.is_spent A.Reader.tells A.Reader.faults (Rose (K.write_faults link.old) (K.write_faults link.new)) actor.old (K.written link.old) actor.new (K.written link.new)) request.now.version actor.old request.now.call (K.written link.old) result actor.new (K.written link.new) }
-    ensures whole { IsTrue A.Reader.tells → (m : Machine) → A.stands actor.old m → m.told ≡ true → ReadsHeaders m.rule
-        → RepliesCall A.number A.between A.is_spent (IsWhole A.number A.between A.is_spent (Rose (K.write_faults link.old) (K.write_faults link.new)) m actor.old (K.written link.old) actor.new (K.written link.new)) request.now.version actor.old request.now.call (K.written link.old) result actor.new (K.written link.new) }
+    ensures replies { RepliesCall A.number A.between A.is_spent (AnswersData A.number A.between A.is_spent A.stands A.Reader.tells A.Reader.faults (Rose (K.write_faults link.old) (K.write_faults link.new)) actor.old (K.written link.old) actor.new (K.written link.new)) request.now.version actor.old request.now.call (K.written link.old) result actor.new (K.written link.new) }
     ensures peer_fault { result ≡ Replied.PeerFault → Rose (K.write_faults link.old) (K.write_faults link.new) }
     ensures write_faults { K.write_faults link.old ≤ K.write_faults link.new }
     ensures stands { (n : Machine) × A.stands actor.new n }

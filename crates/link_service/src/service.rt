@@ -2,7 +2,7 @@
 ghost use Rattle.std.specs.Prelude.{◌≡◌, ◌<◌, ◌^◌, ◌-◌, ◌+◌, ◌≤◌, ◌⊎◌, ℕ, [], All, length, true, false, map};
 ghost use Rattle.edge_io.specs.Moments.{Gives};
 ghost use Rattle.turn_rooms.specs.Histories.{most_acts};
-ghost use Rattle.turn_rooms.specs.Passes.{IsLast, IsPassOf, drained, known};
+ghost use Rattle.turn_rooms.specs.Passes.{IsLast, IsPassOf, known};
 ghost use Rattle.turn_workers.specs.Left.{IsBack};
 ghost use Rattle.act_model.specs.Machine.{Machine};
 ghost use Rattle.act_model.specs.Reply.{reply_of};
@@ -10,7 +10,7 @@ ghost use Rattle.archive_actors.specs.Seats.{StandsFor};
 ghost use Rattle.archive_actors.specs.Steps.{SharedStands, SharedStep};
 ghost use Rattle.link_service.specs.Doors.{IsTold};
 ghost use Rattle.link_service.specs.Seats.{ServesDoorSeated, seat_pass, seat_rooms};
-ghost use Rattle.link_service.specs.Service.{CanWork, DoorEnds, ServesAll, ShiftEnds, TaskEnds, WorkDone, told_of, with_end};
+ghost use Rattle.link_service.specs.Service.{CanWork, DoorEnds, NumbersSpent, ServesAll, ShiftEnds, TaskEnds, WorkDone, told_of, with_end};
 ghost use Rattle.turns_end.specs.Acting.{EndsInTurns, HasFlushFault};
 
 use crate::gate::Gate;
@@ -138,7 +138,8 @@ where
 /// told of each link with its post's place.
 ///
 /// What is told is how each of them ended, and of each door it holds whatever became of the others. Where no passes could be drawn for them,
-/// nothing was done. No other pass may be left, and none is at the end.
+/// nothing was done: for want of memory, or where their numbers and those that the pass stands for would be more than there are. No other
+/// pass may be left, and none is at the end.
 pub fn serve_all<
     R: Threads + Wait + Sync,
     X: Applies + Send,
@@ -164,7 +165,7 @@ where
     ensures back { IsBack pass.old pass.new }
     ensures served { ServesAll (ServesDoorSeated rt.now (SharedStep X.stands X.leaves X.Reader.tells X.Reader.bytes X.Reader.faults) (SharedStands X.stands) (reply_of X.Reader.tells X.Reader.bytes X.Reader.faults) X.Reader.tells X.Reader.faults W.L.Source.left W.L.Sink.written W.L.Source.read_faults W.L.Sink.write_faults W.is_closed W.door_faults W.ledger (IsTold G.entered G.left gate.now)) seat_pass seat_rooms C.coming (SharedStep X.stands X.leaves X.Reader.tells X.Reader.bytes X.Reader.faults) (reply_of X.Reader.tells X.Reader.bytes X.Reader.faults) rooms.now result pass.old pass.new posts.old posts.new }
     ensures clock { Gives (C.coming clock.old) (C.coming clock.new) [] }
-    ensures spent { result.spent ≡ true → (most_acts ≤ length (known pass.new)) ⊎ ((drained pass.old < drained pass.new) × (known pass.new ≡ known pass.old)) }
+    ensures spent { result.spent ≡ true → (most_acts ≤ length (known pass.new)) ⊎ NumbersSpent pass.old pass.new (length posts.old + 2) }
     ensures disk_fault { result.disk_fault ≡ true → HasFlushFault (reply_of X.Reader.tells X.Reader.bytes X.Reader.faults) pass.old pass.new }
     ensures ends { (m : Machine) → StandsFor (SharedStep X.stands X.leaves X.Reader.tells X.Reader.bytes X.Reader.faults) (SharedStands X.stands) rooms.now pass.old m → m.doors ≡ length posts.old
         → result.spent ≡ false → result.memory ≡ false → result.disk_fault ≡ false

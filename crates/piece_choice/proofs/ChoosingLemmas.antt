@@ -1,12 +1,12 @@
 -- How the choice goes on with one file more.
-use Rattle.std.proofs.Common.{◌≡◌, inl, inr, ◌<◌, ℕ, zero, suc, ◌+◌, List, [], ◌∷◌, ◌++◌, length, get_or, take, Ok, Err, refl, ap, sym, ◌∙◌, subst, append-nil, arith}
+use Rattle.std.proofs.Common.{◌≡◌, inl, inr, ◌<◌, ℕ, zero, suc, ◌+◌, List, [], ◌∷◌, ◌++◌, length, get_or, take, drop, Ok, Err, refl, ap, sym, ◌∙◌, subst, append-nil, take-append-drop, arith}
 use Rattle.std.proofs.lemmas.List.{append_assoc, map-append, take_more}
 use Rattle.std.proofs.lemmas.List.Elements.{All-append, All-head, All-tail}
 use Rattle.std.specs.Prelude.{All, ◌↔◌, Option, OnOk, Result}
 use Rattle.piece_choice.specs.declared.choosing.Listed.{Listed}
 use Rattle.store_manifest.specs.declared.entry.Entry.{Entry}
 use Rattle.piece_choice.specs.declared.choosing.Choice.{Choice}
-use Rattle.piece_choice.specs.Choosing.{ends_before, Cuts, StartsBehind, NoneCuts, NoOtherCuts, IsChosen, IsBelow, IsChoice, listed}
+use Rattle.piece_choice.specs.Choosing.{ends_before, Cuts, StartsBehind, NoneCuts, NoOtherCuts, IsRest, IsChosen, IsBelow, IsChoice, StartsPast, EndsWithin, listed}
 
 none_more : (from : ℕ) (before fs : List Listed) (f : Listed) → NoneCuts from before fs → (Cuts from (before ++ fs) f → ⊥) → NoneCuts from before (fs ++ f ∷ [])
 none_more from before [] f none never = (subst (λ (l : List Listed). Cuts from l f → ⊥) (append-nil before) never, tt)
@@ -21,16 +21,16 @@ behind_more from before [] f behind = absurd behind
 behind_more from before (x ∷ xs) f behind = behind
 
 -- the file cuts: all before it stay closed
-pub chosen_anew : (from : ℕ) (all : List Listed) (f : Listed) → Cuts from all f → IsChosen from (all ++ f ∷ []) (f ∷ [])
-chosen_anew from all f cuts = record { closed = all; split = refl; first = inr cuts; last = tt }
+pub rest_anew : (from : ℕ) (all : List Listed) (f : Listed) → Cuts from all f → IsRest from (all ++ f ∷ []) (f ∷ [])
+rest_anew from all f cuts = record { closed = all; split = refl; first = inr cuts; last = tt }
 
 -- it doesn't
-pub chosen_more : (from : ℕ) (all opened : List Listed) (f : Listed) → IsChosen from all opened → (Cuts from all f → ⊥) → IsChosen from (all ++ f ∷ []) (opened ++ f ∷ [])
-chosen_more from all opened f chosen never = record {
-  closed = chosen.closed;
-  split = ap (λ (l : List Listed). l ++ f ∷ []) chosen.split ∙ append_assoc chosen.closed opened (f ∷ []);
-  first = elim chosen.first [ inl is ↦ inl is | inr behind ↦ inr (behind_more from chosen.closed opened f behind) ];
-  last = no_other_more from chosen.closed opened f chosen.last (subst (λ (l : List Listed). Cuts from l f → ⊥) chosen.split never);
+pub rest_more : (from : ℕ) (all rest : List Listed) (f : Listed) → IsRest from all rest → (Cuts from all f → ⊥) → IsRest from (all ++ f ∷ []) (rest ++ f ∷ [])
+rest_more from all rest f is never = record {
+  closed = is.closed;
+  split = ap (λ (l : List Listed). l ++ f ∷ []) is.split ∙ append_assoc is.closed rest (f ∷ []);
+  first = elim is.first [ inl none ↦ inl none | inr behind ↦ inr (behind_more from is.closed rest f behind) ];
+  last = no_other_more from is.closed rest f is.last (subst (λ (l : List Listed). Cuts from l f → ⊥) is.split never);
 }
 
 -- ONE FILE MORE
@@ -54,15 +54,15 @@ greatest_more told f before after was more n = (
   λ all. let both = all_less (ends_before n) told f all in (more n).1 ((was n).1 both.0, both.1),
 )
 
-pub choice_anew : (told : List Listed) (c new : Choice) (f : Listed) → IsChoice told c → Cuts c.from told f → new.from ≡ c.from → new.opened.items ≡ [] ++ f ∷ [] → ((n : ℕ) → IsBelow new.greatest n ↔ (IsBelow c.greatest n × (f.entry.last < n))) → IsChoice (told ++ f ∷ []) new
+pub choice_anew : (told : List Listed) (c new : Choice) (f : Listed) → IsChoice told c → Cuts c.from told f → new.from ≡ c.from → new.rest.items ≡ [] ++ f ∷ [] → ((n : ℕ) → IsBelow new.greatest n ↔ (IsBelow c.greatest n × (f.entry.last < n))) → IsChoice (told ++ f ∷ []) new
 choice_anew told c new f choice cuts from opened more = record {
-  chosen = subst (λ (n : ℕ). IsChosen n (told ++ f ∷ []) new.opened.items) (sym from) (subst (λ (l : List Listed). IsChosen c.from (told ++ f ∷ []) l) (sym opened) (chosen_anew c.from told f cuts));
+  rest = subst (λ (n : ℕ). IsRest n (told ++ f ∷ []) new.rest.items) (sym from) (subst (λ (l : List Listed). IsRest c.from (told ++ f ∷ []) l) (sym opened) (rest_anew c.from told f cuts));
   greatest = greatest_more told f c.greatest new.greatest choice.greatest more;
 }
 
-pub choice_more : (told : List Listed) (c new : Choice) (f : Listed) → IsChoice told c → (Cuts c.from told f → ⊥) → new.from ≡ c.from → new.opened.items ≡ c.opened.items ++ f ∷ [] → ((n : ℕ) → IsBelow new.greatest n ↔ (IsBelow c.greatest n × (f.entry.last < n))) → IsChoice (told ++ f ∷ []) new
+pub choice_more : (told : List Listed) (c new : Choice) (f : Listed) → IsChoice told c → (Cuts c.from told f → ⊥) → new.from ≡ c.from → new.rest.items ≡ c.rest.items ++ f ∷ [] → ((n : ℕ) → IsBelow new.greatest n ↔ (IsBelow c.greatest n × (f.entry.last < n))) → IsChoice (told ++ f ∷ []) new
 choice_more told c new f choice never from opened more = record {
-  chosen = subst (λ (n : ℕ). IsChosen n (told ++ f ∷ []) new.opened.items) (sym from) (subst (λ (l : List Listed). IsChosen c.from (told ++ f ∷ []) l) (sym opened) (chosen_more c.from told c.opened.items f choice.chosen never));
+  rest = subst (λ (n : ℕ). IsRest n (told ++ f ∷ []) new.rest.items) (sym from) (subst (λ (l : List Listed). IsRest c.from (told ++ f ∷ []) l) (sym opened) (rest_more c.from told c.rest.items f choice.rest never));
   greatest = greatest_more told f c.greatest new.greatest choice.greatest more;
 }
 
@@ -80,3 +80,14 @@ pub listed_more : (store : ℕ) (entries : List Entry) (i : ℕ) (e : Entry) →
 listed_more store entries i e low is =
     ap (listed store) (take_more entries i e low ∙ ap (λ (x : Entry). take i entries ++ x ∷ []) (sym is))
     ∙ map-append (λ (x : Entry). let f : Listed = record { store = store; entry = x } in f) (take i entries) (e ∷ [])
+
+-- THE END
+
+-- so many of the rest are opened
+pub chosen_to : (told : List Listed) (c : Choice) (n : ℕ) → IsChoice told c → All (StartsPast c.from c.to) (drop n c.rest.items) → EndsWithin c.from c.to (take n c.rest.items) → IsChosen c.from c.to told (take n c.rest.items)
+chosen_to told c n choice past within = record {
+  behind = drop n c.rest.items;
+  rest = subst (IsRest c.from told) (sym (take-append-drop n c.rest.items)) choice.rest;
+  past = past;
+  within = within;
+}

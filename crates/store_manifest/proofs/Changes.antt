@@ -1,11 +1,11 @@
 -- What a change makes of entries in order.
-use Rattle.std.proofs.Common.{◌≡◌, ◌+◌, Bool, true, false, cond, List, [], ◌∷◌, ◌++◌, refl, sym, ◌∙◌, ap, subst, arith}
+use Rattle.std.proofs.Common.{◌≡◌, ◌+◌, ◌&&◌, Bool, true, false, cond, List, [], ◌∷◌, ◌++◌, refl, sym, ◌∙◌, ap, subst, arith}
 use Rattle.std.proofs.lemmas.Bool.Decides.{nat_tests}
-use Rattle.std.specs.List.{filter, AllByRecursion}
+use Rattle.std.specs.List.{filter, list_all, AllByRecursion}
 use Rattle.store_manifest.specs.declared.entry.Entry.{Entry}
 use Rattle.store_manifest.specs.declared.entry.Change.{Change}
 use Rattle.store_manifest.specs.declared.entry.Change.TheVariants.{Set, Drop}
-use Rattle.store_manifest.specs.Entries.{Place, place, place_of, comes_before, spliced, changed, InOrder}
+use Rattle.store_manifest.specs.Entries.{Place, place, place_of, comes_before, spliced, put, changed, InOrder}
 
 -- FILTERS
 
@@ -90,3 +90,28 @@ each_changed P xs c all mid =
     let behind : Entry → Bool = λ y. comes_before (place_of c) (place y) in
     let Q : List Entry → Type 0 = λ l. AllByRecursion P l in
     subst Q (sym (changed_is xs c)) (joined P (filter before xs) (mid_of c ++ filter behind xs) (filtered before P xs all) (joined P (mid_of c) (filter behind xs) mid (filtered behind P xs all)))
+
+-- THE END OF A LIST
+
+one_way : (q : Place) (x : Entry) → comes_before (place x) q ≡ true → comes_before q (place x) ≡ false
+one_way q x before = grind (arith, nat_tests)
+
+each_true : (p : Entry → Bool) (xs : List Entry) → list_all p xs ≡ true → AllByRecursion (λ x. p x ≡ true) xs
+each_true p [] all = tt
+each_true p (x ∷ xs) all = go (λ rest. each_true p xs rest) (p x) refl all
+  where
+    go : (list_all p xs ≡ true → AllByRecursion (λ x. p x ≡ true) xs) → (b : Bool) → p x ≡ b → (b && list_all p xs) ≡ true → (p x ≡ true) × AllByRecursion (λ x. p x ≡ true) xs
+    go more true is rest = (is, more rest)
+    go more false is rest = let no : false ≡ true = rest in absurd (cc no)
+
+-- one whose place is behind all entries comes last
+pub put_end : (e : Entry) (xs : List Entry) → list_all (λ y. comes_before (place y) (place e)) xs ≡ true → xs ++ e ∷ [] ≡ put place e xs
+put_end e xs below =
+    let before : Entry → Bool = λ y. comes_before (place y) (place e) in
+    let behind : Entry → Bool = λ y. comes_before (place e) (place y) in
+    let all = each_true before xs below in
+    sym
+    (
+    ap (λ (l : List Entry). l ++ (e ∷ filter behind xs)) (filter_all before xs all)
+    ∙ ap (λ (l : List Entry). xs ++ (e ∷ l)) (filter_none behind xs (each (λ y. before y ≡ true) (λ y. behind y ≡ false) (one_way (place e)) xs all))
+    )

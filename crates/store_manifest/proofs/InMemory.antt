@@ -1,5 +1,5 @@
 -- One list more, more room in one, and a change in one.
-use Rattle.std.proofs.Common.{◌≡◌, inl, inr, ℕ, ◌+◌, ◌≤◌, ◌==◌, Bool, true, false, cond, List, [], ◌∷◌, ◌++◌, length, Option, Some, None, IsSome, IfSome, Vec, refl, sym, ◌∙◌, ap, subst, arith}
+use Rattle.std.proofs.Common.{◌≡◌, inl, inr, ℕ, ◌+◌, ◌≤◌, ◌==◌, Bool, true, false, cond, List, [], ◌∷◌, ◌++◌, length, Option, Some, None, IsSome, IfSome, refl, sym, ◌∙◌, ap, subst, arith}
 use Rattle.std.proofs.lemmas.Bool.{cases_eq}
 use Rattle.std.proofs.lemmas.Bool.Decides.{nat_tests}
 use Rattle.std.specs.BTreeMap.{is_at, insert_entry}
@@ -8,8 +8,7 @@ use Rattle.std.specs.List.Sorted.{IsStrictlySortedBy}
 use Rattle.std.specs.Map.{keys_of, set_value}
 use Rattle.std.specs.Option.{is_some}
 use Rattle.std.specs.Ordering.{nat_cmp}
-use Rattle.std.specs.Vec.{vec_len, vec_capacity}
-use Rattle.std.specs.declared.alloc.Global.{Global}
+use Rattle.store_manifest.specs.EntryList.{ListState}
 use Rattle.store_manifest.specs.declared.entry.Entry.{Entry}
 use Rattle.store_manifest.specs.declared.entry.Change.{Change}
 use Rattle.store_manifest.specs.declared.entry.Change.TheVariants.{Set, Drop}
@@ -25,24 +24,43 @@ pub at_other : (s q : ℕ) → (q ≡ s → ⊥) → is_at (nat_cmp s) q ≡ fal
 at_other s q apart = grind (arith, nat_tests)
 
 -- the lists are the same but for that of one series
-abbrev pub Differ : List Slot → List Slot → ℕ → Option (Vec Entry Global) → Type 0
+abbrev pub Differ : List Slot → List Slot → ℕ → Option ListState → Type 0
 Differ old new s w = (q : ℕ) → list_of q new ≡ cond (is_at (nat_cmp s) q) w (list_of q old)
 
-pub differ_other : (old new : List Slot) (s q : ℕ) (w : Option (Vec Entry Global)) → Differ old new s w → (q ≡ s → ⊥) → list_of q new ≡ list_of q old
+pub differ_same : (old new : List Slot) (s q : ℕ) (w : Option ListState) → Differ old new s w → s ≡ q → list_of q new ≡ w
+differ_same old new s q w differ is = differ q ∙ ap (λ (b : Bool). cond b w (list_of q old)) (at_same s q is)
+
+pub differ_other : (old new : List Slot) (s q : ℕ) (w : Option ListState) → Differ old new s w → (q ≡ s → ⊥) → list_of q new ≡ list_of q old
 differ_other old new s q w differ apart = differ q ∙ ap (λ (b : Bool). cond b w (list_of q old)) (at_other s q apart)
 
-pub none_from_test : (o : Option (Vec Entry Global)) → is_some o ≡ false → o ≡ None
+pub is_there : (o : Option ListState) (w : ListState) → o ≡ Some w → IsSome o
+is_there o w is = let P : Option ListState → Type 0 = λ x. IsSome x in subst P (sym is) refl
+
+pub none_from_test : (o : Option ListState) → is_some o ≡ false → o ≡ None
 none_from_test None test = refl
 none_from_test (Some w) test = let no : true ≡ false = test in absurd (cc no)
+
+pub some_at : (o : Option ListState) → IsSome o → (w : ListState) × (o ≡ Some w)
+some_at None some = let no : false ≡ true = some in absurd (cc no)
+some_at (Some w) some = (w, refl)
+
+pub in_some : (P : ListState → Type 0) (o : Option ListState) (w : ListState) → o ≡ Some w → IfSome o P → P w
+in_some P o w is if = let Q : Option ListState → Type 0 = λ x. IfSome x P in subst Q is if
+
+pub from_some : (P : ListState → Type 0) (o : Option ListState) (w : ListState) → o ≡ Some w → P w → IfSome o P
+from_some P o w is p = let Q : Option ListState → Type 0 = λ x. IfSome x P in subst Q (sym is) p
+
+pub never_there : (o : Option ListState) → None ≡ o → IsSome o → ⊥
+never_there o none some = let P : Option ListState → Type 0 = λ x. IsSome x in let no : false ≡ true = subst P (sym none) some in cc no
 
 -- SHOWING
 
 pub shows_own : (s : ℕ) (slots : List Slot) → AreLists slots → filter (λ x. x.series == s) (flat_map own slots) ≡ shown own s (list_of s slots)
 shows_own s slots are = series_slots s own slots are.ordered are.own_entries
 
-pub own_series : (s : ℕ) (slots : List Slot) (v : Vec Entry Global) → AreLists slots → list_of s slots ≡ Some v → OfSeries s v.items
+pub own_series : (s : ℕ) (slots : List Slot) (v : ListState) → AreLists slots → list_of s slots ≡ Some v → OfSeries s v.items
 own_series s slots v are is =
-    let P : Option (Vec Entry Global) → Type 0 = λ o. OfSeries s (shown own s o) in subst P is (shown_series s own slots are.own_entries)
+    let P : Option ListState → Type 0 = λ o. OfSeries s (shown own s o) in subst P is (shown_series s own slots are.own_entries)
 
 -- the entries of a series are of the series, in order
 pub shown_own : (s : ℕ) (slots : List Slot) → AreLists slots → OfSeries s (filter (λ x. x.series == s) (flat_map own slots))
@@ -50,7 +68,7 @@ shown_own s slots are = let P : List Entry → Type 0 = λ l. OfSeries s l in su
 
 -- A LIST MORE
 
-pub opened : (s : ℕ) (v : Vec Entry Global) (old new : List Slot) → AreLists old → v.items ≡ [] → IsStrictlySortedBy nat_cmp (keys_of new) → new ≡ insert_entry nat_cmp old s v → AreLists new
+pub opened : (s : ℕ) (v : ListState) (old new : List Slot) → AreLists old → v.items ≡ [] → IsStrictlySortedBy nat_cmp (keys_of new) → new ≡ insert_entry nat_cmp old s v → AreLists new
 opened s v old new are empty ordered is =
     let P : List Slot → Type 0 = λ l. AllByRecursion (λ slot. OfSeries slot.0 (own slot)) l in
     record {
@@ -58,12 +76,12 @@ opened s v old new are empty ordered is =
       own_entries = subst P (sym is) (slot_more (λ slot. OfSeries slot.0 (own slot)) s v old (λ k at. let Q : List Entry → Type 0 = λ l. OfSeries k l in subst Q (sym empty) (tt, tt)) are.own_entries);
     }
 
-pub opened_entries : (s : ℕ) (v : Vec Entry Global) (old new : List Slot) → v.items ≡ [] → new ≡ insert_entry nat_cmp old s v → list_of s old ≡ None → flat_map own new ≡ flat_map own old
+pub opened_entries : (s : ℕ) (v : ListState) (old new : List Slot) → v.items ≡ [] → new ≡ insert_entry nat_cmp old s v → list_of s old ≡ None → flat_map own new ≡ flat_map own old
 opened_entries s v old new empty is none = ap (λ (l : List Slot). flat_map own l) is ∙ empty_slot s v own old empty none
 
 -- MORE ROOM
 
-module _ (s : ℕ) (v w : Vec Entry Global) (old new : List Slot) (are : AreLists old) (there : list_of s old ≡ Some v) (is : new ≡ set_value (is_at (nat_cmp s)) old w) (ordered : IsStrictlySortedBy nat_cmp (keys_of new)) where
+module _ (s : ℕ) (v w : ListState) (old new : List Slot) (are : AreLists old) (there : list_of s old ≡ Some v) (is : new ≡ set_value (is_at (nat_cmp s)) old w) (ordered : IsStrictlySortedBy nat_cmp (keys_of new)) where
   pub value_lists : OfSeries s w.items → AreLists new
   value_lists of =
       let P : List Slot → Type 0 = λ l. AllByRecursion (λ slot. OfSeries slot.0 (own slot)) l in
@@ -84,7 +102,7 @@ mid_series (Drop series start) = tt
 changed_series : (xs : List Entry) (c : Change) → OfSeries (place_of c).0 xs → OfSeries (place_of c).0 (changed xs c)
 changed_series xs c all = (each_changed (λ e. e.series ≡ (place_of c).0) xs c all.0 (mid_series c), order_changed xs c all.1)
 
-module _ (c : Change) (v w : Vec Entry Global) (old new : List Slot) (are : AreLists old) (there : list_of (place_of c).0 old ≡ Some v) (made : w.items ≡ changed v.items c) (is : new ≡ set_value (is_at (nat_cmp (place_of c).0)) old w) where
+module _ (c : Change) (v w : ListState) (old new : List Slot) (are : AreLists old) (there : list_of (place_of c).0 old ≡ Some v) (made : w.items ≡ changed v.items c) (is : new ≡ set_value (is_at (nat_cmp (place_of c).0)) old w) where
   pub changed_lists : IsStrictlySortedBy nat_cmp (keys_of new) → AreLists new
   changed_lists ordered =
       let P : List Entry → Type 0 = λ l. OfSeries (place_of c).0 l in
@@ -96,6 +114,17 @@ module _ (c : Change) (v w : Vec Entry Global) (old new : List Slot) (are : AreL
       ∙ spliced_value (place_of c) (mid_of c) v w (made ∙ changed_is v.items c) old are.ordered are.own_entries there
       ∙ sym (changed_is (flat_map own old) c)
 
+  pub changed_keeps : Differ old new (place_of c).0 (Some w) → w.used ≤ v.used + sets c → w.capacity ≡ v.capacity → KeepsLists c old new
+  changed_keeps differ len capacity =
+      let here = differ_same old new (place_of c).0 (place_of c).0 (Some w) differ refl in
+      record {
+        others = λ s apart. differ_other old new (place_of c).0 s (Some w) differ (λ at. apart (sym at));
+        there = is_there (list_of (place_of c).0 new) w here;
+        room = λ n room.
+            let was = in_some (λ (list : ListState). list.used + (sets c + n) ≤ list.capacity) (list_of (place_of c).0 old) v there room in
+            from_some (λ (list : ListState). list.used + n ≤ list.capacity) (list_of (place_of c).0 new) w here (omega (arith, was, len, capacity));
+      }
+
 -- ROOM
 
 sets_here : (s : ℕ) (c : Change) (cs : List Change) → (place_of c).0 ≡ s → sets_in s (c ∷ cs) ≡ sets c + sets_in s cs
@@ -106,10 +135,19 @@ sets_there s c cs apart = let test : ((place_of c).0 == s) ≡ false = grind (ar
     let none : 0 + sets_in s cs ≡ sets_in s cs = omega arith in
     ap (λ (b : Bool). cond b (sets c) 0 + sets_in s cs) test ∙ none
 
+-- of the first change, and of those behind it once it is made
+pub first_room : (c : Change) (cs : List Change) (slots : List Slot) → HasRoom slots (c ∷ cs) → 1 ≤ sets c → IfSome (list_of (place_of c).0 slots) (λ list. list.used + sets c ≤ list.capacity)
+first_room c cs slots has some =
+    let s = (place_of c).0 in
+    let here = sets_here s c cs refl in
+    let found = some_at (list_of s slots) has.there.0 in
+    from_some (λ (list : ListState). list.used + sets c ≤ list.capacity) (list_of s slots) found.0 found.1
+    (omega (arith, here, in_some (λ (list : ListState). list.used + sets_in s (c ∷ cs) ≤ list.capacity) (list_of s slots) found.0 found.1 (has.room s (omega (arith, here, some)))))
+
 still_there : (c : Change) (old new : List Slot) → KeepsLists c old new → (cs : List Change) → AllByRecursion (λ d. IsSome (list_of (place_of d).0 old)) cs → AllByRecursion (λ d. IsSome (list_of (place_of d).0 new)) cs
 still_there c old new keeps [] there = tt
 still_there c old new keeps (d ∷ cs) there =
-    let P : Option (Vec Entry Global) → Type 0 = λ x. IsSome x in
+    let P : Option ListState → Type 0 = λ x. IsSome x in
     let Q : ℕ → Type 0 = λ k. IsSome (list_of k new) in
     (elim (cases_eq (place_of c).0 (place_of d).0) [ inl is ↦ subst Q is keeps.there | inr apart ↦ subst P (sym (keeps.others (place_of d).0 apart)) there.0 ], still_there c old new keeps cs there.1)
 
@@ -119,14 +157,14 @@ rest_room c cs old new has keeps = record {
   room = λ s some. elim (cases_eq (place_of c).0 s) [
     | inl is ↦
         let here = sets_here s c cs is in
-        let P : ℕ → Type 0 = λ n. IfSome (list_of s old) (λ list. vec_len list + n ≤ vec_capacity list) in
-        let Q : ℕ → Type 0 = λ k. IfSome (list_of k old) (λ list. vec_len list + (sets c + sets_in s cs) ≤ vec_capacity list) in
-        let R : ℕ → Type 0 = λ k. IfSome (list_of k new) (λ list. vec_len list + sets_in s cs ≤ vec_capacity list) in
+        let P : ℕ → Type 0 = λ n. IfSome (list_of s old) (λ list. list.used + n ≤ list.capacity) in
+        let Q : ℕ → Type 0 = λ k. IfSome (list_of k old) (λ list. list.used + (sets c + sets_in s cs) ≤ list.capacity) in
+        let R : ℕ → Type 0 = λ k. IfSome (list_of k new) (λ list. list.used + sets_in s cs ≤ list.capacity) in
         subst R is (keeps.room (sets_in s cs) (subst Q (sym is) (subst P here (has.room s (omega (arith, here, some))))))
     | inr apart ↦
         let same = sets_there s c cs apart in
-        let P : ℕ → Type 0 = λ n. IfSome (list_of s old) (λ list. vec_len list + n ≤ vec_capacity list) in
-        let Q : Option (Vec Entry Global) → Type 0 = λ o. IfSome o (λ list. vec_len list + sets_in s cs ≤ vec_capacity list) in
+        let P : ℕ → Type 0 = λ n. IfSome (list_of s old) (λ list. list.used + n ≤ list.capacity) in
+        let Q : Option ListState → Type 0 = λ o. IfSome o (λ list. list.used + sets_in s cs ≤ list.capacity) in
         subst Q (sym (keeps.others s apart)) (subst P same (has.room s (omega (arith, same, some))))
   ];
 }
@@ -158,22 +196,25 @@ module _ (c : Change) (old new : List Slot) (others : (s : ℕ) → (s ≡ (plac
   there_more : (cs : List Change) → AllByRecursion (λ d. IsSome (list_of (place_of d).0 old)) cs → AllByRecursion (λ d. IsSome (list_of (place_of d).0 new)) (cs ++ c ∷ [])
   there_more [] all = (there, tt)
   there_more (d ∷ cs) all =
-      let P : Option (Vec Entry Global) → Type 0 = λ x. IsSome x in
+      let P : Option ListState → Type 0 = λ x. IsSome x in
       let Q : ℕ → Type 0 = λ k. IsSome (list_of k new) in
       (elim (cases_eq (place_of d).0 (place_of c).0) [ inl is ↦ subst Q (sym is) there | inr apart ↦ subst P (sym (others (place_of d).0 apart)) all.0 ], there_more cs all.1)
 
-  pub more_room : (cs : List Change) (n : ℕ) → HasRoom old cs → IfSome (list_of (place_of c).0 new) (λ list. vec_len list + n ≤ vec_capacity list) → n ≡ sets_in (place_of c).0 cs + sets c → HasRoom new (cs ++ c ∷ [])
+  pub more_room : (cs : List Change) (n : ℕ) → HasRoom old cs → IfSome (list_of (place_of c).0 new) (λ list. list.used + n ≤ list.capacity) → n ≡ sets_in (place_of c).0 cs + sets c → HasRoom new (cs ++ c ∷ [])
   more_room cs n has room is = record {
     there = there_more cs has.there;
     room = λ s some. elim (cases_eq s (place_of c).0) [
       | inl at ↦
-          let P : ℕ → Type 0 = λ m. IfSome (list_of (place_of c).0 new) (λ list. vec_len list + m ≤ vec_capacity list) in
-          let Q : ℕ → Type 0 = λ k. IfSome (list_of k new) (λ list. vec_len list + sets_in k (cs ++ c ∷ []) ≤ vec_capacity list) in
+          let P : ℕ → Type 0 = λ m. IfSome (list_of (place_of c).0 new) (λ list. list.used + m ≤ list.capacity) in
+          let Q : ℕ → Type 0 = λ k. IfSome (list_of k new) (λ list. list.used + sets_in k (cs ++ c ∷ []) ≤ list.capacity) in
           subst Q (sym at) (subst P (is ∙ sym (sets_more c cs)) room)
       | inr apart ↦
           let same = sets_same s c cs (λ at. apart (sym at)) in
-          let P : ℕ → Type 0 = λ m. IfSome (list_of s old) (λ list. vec_len list + m ≤ vec_capacity list) in
-          let Q : Option (Vec Entry Global) → Type 0 = λ o. IfSome o (λ list. vec_len list + sets_in s (cs ++ c ∷ []) ≤ vec_capacity list) in
+          let P : ℕ → Type 0 = λ m. IfSome (list_of s old) (λ list. list.used + m ≤ list.capacity) in
+          let Q : Option ListState → Type 0 = λ o. IfSome o (λ list. list.used + sets_in s (cs ++ c ∷ []) ≤ list.capacity) in
           subst Q (sym (others s apart)) (subst P (sym same) (has.room s (omega (arith, same, some))))
     ];
   }
+
+pub no_room : (slots : List Slot) → HasRoom slots []
+no_room slots = record { there = tt; room = λ s some. absurd (omega (arith, some)) }

@@ -4,6 +4,8 @@ pub mod Changes
 pub mod Committing
 pub mod Meaning
 pub mod Order
+pub mod Fronts
 pub mod InMemory
 pub mod Slots
+pub mod WholeBatch
 pub mod Written

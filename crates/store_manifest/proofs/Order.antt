@@ -52,7 +52,9 @@ fine_batches g xs (b ∷ bs) last fine are =
 
 fine_folds : (g : Granularity) (bs : List (List ℕ)) (xs : List Entry) → Folds g bs xs → Fine g xs
 fine_folds g [] xs folds = let P : List Entry → Type 0 = λ l. Fine g l in subst P (sym folds) ((tt, tt), tt)
-fine_folds g (b ∷ bs) xs folds = fine_batches g [] bs xs ((tt, tt), tt) folds.1
+fine_folds g (b ∷ bs) xs folds =
+    let P : List Entry → Type 0 = λ l. Fine g l in
+    let made = folds.1.2.0 in fine_batches g folds.0 bs xs (subst P (sym made.next_is) (fine_turn g [] made.changes ((tt, tt), tt) made.follow)) folds.2
 
 pub folds_entries : (g : Granularity) (bs : List (List ℕ)) (xs : List Entry) → Folds g bs xs → AreEntries g xs
 folds_entries g bs xs folds = entries_from g xs (fine_folds g bs xs folds).0

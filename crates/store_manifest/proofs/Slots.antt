@@ -1,5 +1,5 @@
 -- All entries, series by series: what a change of one series' list makes of them.
-use Rattle.std.proofs.Common.{◌≡◌, inl, inr, ℕ, ◌<◌, ◌==◌, ◌&&◌, ◌||◌, Bool, true, false, cond, List, [], ◌∷◌, ◌++◌, Option, Some, None, Vec, Ordering, refl, sym, ◌∙◌, ap, subst, arith, append_assoc, append-nil}
+use Rattle.std.proofs.Common.{◌≡◌, inl, inr, ℕ, ◌<◌, ◌==◌, ◌&&◌, ◌||◌, Bool, true, false, cond, List, [], ◌∷◌, ◌++◌, Option, Some, None, Ordering, refl, sym, ◌∙◌, ap, subst, arith, append_assoc, append-nil}
 use Rattle.std.proofs.lemmas.Bool.{cases_order}
 use Rattle.std.proofs.lemmas.Bool.Decides.{nat_tests}
 use Rattle.std.proofs.lemmas.Cmp.{nat_cmp_total}
@@ -12,8 +12,8 @@ use Rattle.std.specs.List.{filter, flat_map, AllByRecursion}
 use Rattle.std.specs.List.Sorted.{IsStrictlySortedBy}
 use Rattle.std.specs.Map.{keys_of, set_value}
 use Rattle.std.specs.Ordering.{nat_cmp, is_eq, match_ordering}
-use Rattle.std.specs.declared.alloc.Global.{Global}
 use Rattle.std.specs.declared.cmp.Ordering.TheVariants.{Less, Equal, Greater}
+use Rattle.store_manifest.specs.EntryList.{ListState}
 use Rattle.store_manifest.specs.declared.entry.Entry.{Entry}
 use Rattle.store_manifest.specs.Entries.{Place, place, comes_before, is_place, is_listed, spliced}
 use Rattle.store_manifest.specs.Listing.{Slot, list_of, own, OfSeries}
@@ -35,6 +35,9 @@ less_means s k h = grind (arith, nat_tests)
 
 equal_means : (s k : ℕ) → nat_cmp s k ≡ Equal → s ≡ k
 equal_means s k h = grind (arith, nat_tests)
+
+greater_means : (s k : ℕ) → nat_cmp s k ≡ Greater → k < s
+greater_means s k h = grind (arith, nat_tests)
 
 abbrev Ordered : List Slot → Type 0
 Ordered slots = IsStrictlySortedBy nat_cmp (keys_of slots)
@@ -106,7 +109,7 @@ lows : (q : Place) (xs : List Entry) (k : ℕ) → OfSeries k xs → k < q.0 →
 lows q xs k owns less = each (λ x. x.series ≡ k) (λ x. x.series < q.0) (λ x is. omega (arith, is, less)) xs owns.0
 
 -- a splice into the list of one series is a splice into all
-pub spliced_value : (q : Place) (mid : List Entry) (v w : Vec Entry Global) → w.items ≡ spliced place q mid v.items
+pub spliced_value : (q : Place) (mid : List Entry) (v w : ListState) → w.items ≡ spliced place q mid v.items
     → (es : List Slot) → Ordered es → Owns own es → list_of q.0 es ≡ Some v → flat_map own (set_value (is_at (nat_cmp q.0)) es w) ≡ spliced place q mid (flat_map own es)
 spliced_value q mid v w changed [] ordered owns there = let no : None ≡ Some v = there in cc no
 spliced_value q mid v w changed (e ∷ es) ordered owns there = elim (cases_order e.0 q.0) [
@@ -114,7 +117,7 @@ spliced_value q mid v w changed (e ∷ es) ordered owns there = elim (cases_orde
       let found : Some e.1 ≡ Some v = sym (found_here q.0 e es (sym is)) ∙ there in
       let list : v ≡ e.1 = cc found in
       ap (λ (o : Ordering). flat_map own (cond (is_eq o) ((e.0, w) ∷ es) (e ∷ set_value (is_at (nat_cmp q.0)) es w))) (equal_is q.0 e.0 (sym is))
-      ∙ ap (λ (l : List Entry). l ++ flat_map own es) (changed ∙ ap (λ (x : Vec Entry Global). spliced place q mid x.items) list)
+      ∙ ap (λ (l : List Entry). l ++ flat_map own es) (changed ∙ ap (λ (x : ListState). spliced place q mid x.items) list)
       ∙ sym (spliced_high q mid (own e) (flat_map own es) (above q.0 own es owns.1 (above_head e es q.0 ordered is)))
   | inr other ↦ elim other [
     | inl less ↦
@@ -126,7 +129,7 @@ spliced_value q mid v w changed (e ∷ es) ordered owns there = elim (cases_orde
 ]
 
 -- a list in place of another
-pub owns_value : (s : ℕ) (w : Vec Entry Global) → OfSeries s w.items → (es : List Slot) → Owns own es → Owns own (set_value (is_at (nat_cmp s)) es w)
+pub owns_value : (s : ℕ) (w : ListState) → OfSeries s w.items → (es : List Slot) → Owns own es → Owns own (set_value (is_at (nat_cmp s)) es w)
 owns_value s w of [] owns = tt
 owns_value s w of (e ∷ es) owns = go (owns_value s w of es owns.1) (nat_cmp s e.0) refl
   where
@@ -136,18 +139,18 @@ owns_value s w of (e ∷ es) owns = go (owns_value s w of es owns.1) (nat_cmp s 
     go rest Greater is = (owns.0, rest)
 
 -- a list in place of one with the same entries
-pub same_value : (s : ℕ) (v w : Vec Entry Global) → w.items ≡ v.items → (es : List Slot) → list_of s es ≡ Some v → flat_map own (set_value (is_at (nat_cmp s)) es w) ≡ flat_map own es
+pub same_value : (s : ℕ) (v w : ListState) → w.items ≡ v.items → (es : List Slot) → list_of s es ≡ Some v → flat_map own (set_value (is_at (nat_cmp s)) es w) ≡ flat_map own es
 same_value s v w same [] there = refl
 same_value s v w same (e ∷ es) there = go (same_value s v w same es) (nat_cmp s e.0) there
   where
     go : (list_of s es ≡ Some v → flat_map own (set_value (is_at (nat_cmp s)) es w) ≡ flat_map own es) → (o : Ordering) → cond (is_eq o) (Some e.1) (list_of s es) ≡ Some v
         → flat_map own (cond (is_eq o) ((e.0, w) ∷ es) (e ∷ set_value (is_at (nat_cmp s)) es w)) ≡ flat_map own (e ∷ es)
     go rest Less there = ap (λ (l : List Entry). own e ++ l) (rest there)
-    go rest Equal there = let is : e.1 ≡ v = cc there in ap (λ (l : List Entry). l ++ flat_map own es) (same ∙ ap (λ (x : Vec Entry Global). x.items) (sym is))
+    go rest Equal there = let is : e.1 ≡ v = cc there in ap (λ (l : List Entry). l ++ flat_map own es) (same ∙ ap (λ (x : ListState). x.items) (sym is))
     go rest Greater there = ap (λ (l : List Entry). own e ++ l) (rest there)
 
 -- the entries in the list that was found, or none
-abbrev pub shown : (Slot → List Entry) → ℕ → Option (Vec Entry Global) → List Entry
+abbrev pub shown : (Slot → List Entry) → ℕ → Option ListState → List Entry
 shown p s None = []
 shown p s (Some v) = p (s, v)
 
@@ -183,18 +186,18 @@ series_slots s p (e ∷ es) ordered owns =
           ∙ ap (λ (l : List Entry). p e ++ l) (none_above s (flat_map p es) (above s p es owns.1 (above_head e es s ordered is)))
           ∙ append-nil (p e)
           ∙ ap (λ (k : ℕ). p (k, e.1)) is
-          ∙ ap (λ (o : Option (Vec Entry Global)). shown p s o) (sym (found_here s e es (sym is)))
+          ∙ ap (λ (o : Option ListState). shown p s o) (sym (found_here s e es (sym is)))
       | inr other ↦ elim other [
         | inl less ↦
             apart
             ∙ ap (λ (l : List Entry). l ++ filter test (flat_map p es)) (filter_none test (p e) (each (λ x. x.series ≡ e.0) (λ x. test x ≡ false) (λ x h. of_other s x e.0 h (λ is. omega (arith, is, less))) (p e) owns.0.0))
             ∙ series_slots s p es (sorted_tail nat_cmp e.0 (keys_of es) ordered) owns.1
-            ∙ ap (λ (o : Option (Vec Entry Global)). shown p s o) (sym (found_later s e es less))
+            ∙ ap (λ (o : Option ListState). shown p s o) (sym (found_later s e es less))
         | inr more ↦
             apart
             ∙ ap (λ (l : List Entry). l ++ filter test (flat_map p es)) (none_above s (p e) (each (λ x. x.series ≡ e.0) (λ x. s < x.series) (λ x h. omega (arith, h, more)) (p e) owns.0.0))
             ∙ none_above s (flat_map p es) (above s p es owns.1 (high_tail s e es ordered more))
-            ∙ ap (λ (o : Option (Vec Entry Global)). shown p s o) (sym (not_found s e es ordered more))
+            ∙ ap (λ (o : Option ListState). shown p s o) (sym (not_found s e es ordered more))
       ]
     ]
   where
@@ -215,7 +218,7 @@ listed_at s t (x ∷ xs) = go (listed_at s t xs) (x.series == s) refl
     go rest false is = rest ∙ ap (λ (b : Bool). (b && (x.part.start == t)) || is_listed xs (s, t)) (sym is)
 
 -- a new list that shows nothing changes nothing
-pub empty_slot : (s : ℕ) (v : Vec Entry Global) (p : Slot → List Entry) (es : List Slot) → p (s, v) ≡ [] → list_of s es ≡ None → flat_map p (insert_entry nat_cmp es s v) ≡ flat_map p es
+pub empty_slot : (s : ℕ) (v : ListState) (p : Slot → List Entry) (es : List Slot) → p (s, v) ≡ [] → list_of s es ≡ None → flat_map p (insert_entry nat_cmp es s v) ≡ flat_map p es
 empty_slot s v p [] empty none = ap (λ (l : List Entry). l ++ []) empty
 empty_slot s v p (e ∷ es) empty none = go (empty_slot s v p es empty) (nat_cmp s e.0) none
   where
@@ -225,7 +228,7 @@ empty_slot s v p (e ∷ es) empty none = go (empty_slot s v p es empty) (nat_cmp
     go rest Greater none = ap (λ (l : List Entry). p e ++ l) (rest none)
 
 -- what holds of each slot holds with one more
-pub slot_more : (P : Slot → Type 0) (s : ℕ) (v : Vec Entry Global) (es : List Slot) → ((k : ℕ) → s ≡ k → P (k, v)) → AllByRecursion P es → AllByRecursion P (insert_entry nat_cmp es s v)
+pub slot_more : (P : Slot → Type 0) (s : ℕ) (v : ListState) (es : List Slot) → ((k : ℕ) → s ≡ k → P (k, v)) → AllByRecursion P es → AllByRecursion P (insert_entry nat_cmp es s v)
 slot_more P s v [] new all = (new s refl, tt)
 slot_more P s v (e ∷ es) new all = go (slot_more P s v es new all.1) (nat_cmp s e.0) refl
   where

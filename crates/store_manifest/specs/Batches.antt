@@ -1,6 +1,7 @@
 -- What the batches of a manifest stand for.
-use Rattle.std.specs.Prelude.{◌≡◌, ◌≢◌, ℕ, List, [], ◌∷◌, ◌++◌, length}
+use Rattle.std.specs.Prelude.{◌≡◌, ◌≢◌, ℕ, List, [], ◌∷◌, ◌++◌, map}
 use Rattle.std.specs.Int.{to_le_bytes, w32, w64}
+use Rattle.std.specs.List.{AllByRecursion}
 use Rattle.gate_journal.specs.FirstBad.{IsFirstBad}
 use Rattle.partition_names.specs.declared.granularity.Granularity.{Granularity}
 use Rattle.partition_names.specs.Granularity.{number_of}
@@ -10,7 +11,7 @@ use Rattle.store_manifest.specs.declared.entry.Change.TheVariants.{Set, Drop}
 use Rattle.store_manifest.specs.Entries.{all_changed, CanFollow, InTurn}
 use Rattle.store_manifest.specs.Numbers.{HasSizes}
 
--- the batch that says the granularity: a byte 1 and the granularity's number
+-- what says the granularity: a byte 1 and the granularity's number
 abbrev pub config : Granularity → List ℕ
 config g = 1 ∷ number_of g ∷ []
 
@@ -54,10 +55,27 @@ abbrev pub AreBatches : Granularity → List Entry → List (List ℕ) → List 
 AreBatches g entries [] last = last ≡ entries
 AreBatches g entries (b ∷ bs) last = (next : List Entry) × IsBatch g entries b next × AreBatches g next bs last
 
--- a batch that says the granularity, and then batches of changes that make these entries
+-- the change sets an entry
+abbrev pub IsSet : Change → Type 0
+IsSet (Set e) = Unit {0}
+IsSet (Drop series start) = ⊥
+
+-- these bytes only set entries, one after another, and make these entries of those
+abbrev pub OnlySets : Granularity → List Entry → List ℕ → List Entry → Type 0
+OnlySets g entries bytes next = (made : Makes g entries bytes next) × AllByRecursion IsSet made.changes
+
+-- a first batch: it says the granularity, and what it sets behind that, if anything, makes these entries
+abbrev pub Begins : Granularity → List ℕ → List Entry → Type 0
+Begins g batch entries = (rest : List ℕ) × (batch ≡ config g ++ rest) × OnlySets g [] rest entries
+
+-- the first batch of a checkpoint: it sets each entry, in the order of series and start
+abbrev pub whole : Granularity → List Entry → List ℕ
+whole g entries = config g ++ batch_of (map (λ e. Set e) entries)
+
+-- a first batch, and then batches of changes, that make these entries
 abbrev pub Configured : Granularity → List (List ℕ) → List Entry → Type 0
 Configured g [] entries = ⊥
-Configured g (b ∷ bs) entries = (b ≡ config g) × AreBatches g [] bs entries
+Configured g (b ∷ bs) entries = (first : List Entry) × Begins g b first × AreBatches g first bs entries
 
 -- the batches of a manifest of this granularity that lists these entries. No batch counts as configured, and lists nothing
 abbrev pub Folds : Granularity → List (List ℕ) → List Entry → Type 0

@@ -1,5 +1,6 @@
 pub mod Batches
 pub mod Entries
+pub mod EntryList
 pub mod Folded
 pub mod Listing
 pub mod Load

@@ -1,23 +1,23 @@
 -- A manifest's entries in memory: a list for each series, and changes that are to come.
-use Rattle.std.specs.Prelude.{◌≡◌, ◌≤◌, ◌+◌, ℕ, List, [], ◌∷◌, Option, None, Some, IsSome, IfSome, Vec, filter, length, take, drop, vec_len, vec_capacity, ◌==◌, if◌then◌else◌}
+use Rattle.std.specs.Prelude.{◌≡◌, ◌≤◌, ◌+◌, ℕ, List, [], ◌∷◌, Option, IsSome, IfSome, filter, take, drop, ◌==◌, if◌then◌else◌}
 use Rattle.std.specs.List.{flat_map, AllByRecursion}
 use Rattle.std.specs.List.Sorted.{IsStrictlySortedBy}
 use Rattle.std.specs.Map.{lookup, keys_of}
 use Rattle.std.specs.BTreeMap.{is_at}
 use Rattle.std.specs.Ordering.{nat_cmp}
-use Rattle.std.specs.declared.alloc.Global.{Global}
 use Rattle.store_manifest.specs.declared.entry.Entry.{Entry}
 use Rattle.store_manifest.specs.declared.entry.Change.{Change}
 use Rattle.store_manifest.specs.declared.entry.Change.TheVariants.{Set, Drop}
 use Rattle.store_manifest.specs.declared.listing.Listing.{Listing}
+use Rattle.store_manifest.specs.EntryList.{ListState}
 use Rattle.store_manifest.specs.Entries.{Place, place, place_of, comes_before, all_changed, InOrder}
 
 -- a series and its list
 abbrev pub Slot : Type 0
-Slot = ℕ × Vec Entry Global
+Slot = ℕ × ListState
 
 -- the list of a series
-abbrev pub list_of : ℕ → List Slot → Option (Vec Entry Global)
+abbrev pub list_of : ℕ → List Slot → Option ListState
 list_of series slots = lookup (is_at (nat_cmp series)) slots
 
 -- the entries in a slot's list
@@ -55,13 +55,13 @@ sets_in series (c ∷ cs) = (if (place_of c).0 == series then sets c else 0) + s
 -- each change has the list of its series, and each list has room for what changes set in it
 pub record HasRoom (slots : List Slot) (changes : List Change) : Type 0 where
   pub there : AllByRecursion (λ c. IsSome (list_of (place_of c).0 slots)) changes
-  pub room : (series : ℕ) → 1 ≤ sets_in series changes → IfSome (list_of series slots) (λ list. vec_len list + sets_in series changes ≤ vec_capacity list)
+  pub room : (series : ℕ) → 1 ≤ sets_in series changes → IfSome (list_of series slots) (λ list. list.used + sets_in series changes ≤ list.capacity)
 
 -- a change leaves all other lists, and in its own the room that was there but for what it sets
 pub record KeepsLists (c : Change) (old new : List Slot) : Type 0 where
   pub others : (s : ℕ) → ((place_of c).0 ≡ s → ⊥) → list_of s new ≡ list_of s old
   pub there : IsSome (list_of (place_of c).0 new)
-  pub room : (n : ℕ) → IfSome (list_of (place_of c).0 old) (λ list. vec_len list + (sets c + n) ≤ vec_capacity list) → IfSome (list_of (place_of c).0 new) (λ list. vec_len list + n ≤ vec_capacity list)
+  pub room : (n : ℕ) → IfSome (list_of (place_of c).0 old) (λ list. list.used + (sets c + n) ≤ list.capacity) → IfSome (list_of (place_of c).0 new) (λ list. list.used + n ≤ list.capacity)
 
 -- all entries once the changes are made
 abbrev pub next_of : Listing → List Entry

@@ -7,4 +7,4 @@ use Rattle.store_manifest.specs.declared.error.ManifestErr.TheVariants.{Disk, Ba
 -- what its journal tells it tells too
 abbrev pub of_journal : JournalErr → ManifestErr
 of_journal (journal.Disk e) = Disk e
-of_journal (journal.BadJournal at) = BadJournal at
+of_journal (journal.BadJournal name at) = BadJournal name at

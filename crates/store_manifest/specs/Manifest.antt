@@ -1,7 +1,8 @@
--- What contracts see of a manifest, and how its file and what a crash may leave of it agree with that.
-use Rattle.std.specs.Prelude.{ℕ, ◌+◌, List, [], ◌∷◌, ◌++◌, codes}
-use Rattle.disk_model.specs.Files.{Name, Content, Files}
+-- What contracts see of a manifest, and how its files and what a crash may leave of them agree with that.
+use Rattle.std.specs.Prelude.{◌⊎◌, ◌≤◌, ◌*◌, ℕ, ◌+◌, List, [], ◌∷◌, ◌++◌, codes, max}
+use Rattle.disk_model.specs.Files.{Name, Files}
 use Rattle.disk_model.specs.Past.{Past}
+use Rattle.gate_journal.specs.Generations.{HasBatchesOf, KeepsBatches}
 use Rattle.gate_journal.specs.Journal.{JournalState}
 use Rattle.gate_journal.specs.Kept as journal
 use Rattle.partition_names.specs.declared.granularity.Granularity.{Granularity}
@@ -12,9 +13,13 @@ use Rattle.store_manifest.specs.Batches.{Configured, Folds}
 abbrev pub manifest_name : ℕ → Name
 manifest_name store = (0, codes "manifest" ++ (48 + store) ∷ [])
 
--- a manifest's file of this granularity that lists these entries
-abbrev pub Lists : Granularity → List Entry → Content → Type 0
-Lists g entries content = journal.Says (Folds g) entries content
+-- an image whose manifest of this granularity and name lists these entries
+abbrev pub Lists : Granularity → List Entry → Name → Files → Type 0
+Lists g entries name image = journal.Says (Folds g) entries name image
+
+-- it holds the batches that it held, or it held none and lists nothing still
+abbrev pub StaysOrBegins : Granularity → Name → Files → Files → Type 0
+StaysOrBegins g name old new = KeepsBatches name old new ⊎ (HasBatchesOf name old [] × Lists g [] name new)
 
 -- its journal, its granularity, its entries, and those that the last commit was to make
 pub record ManifestState : Type 0 where
@@ -23,10 +28,18 @@ pub record ManifestState : Type 0 where
   pub entries : List Entry
   pub next : List Entry
 
--- Between calls: the manifest's file lists its entries, and all of it is on the disk.
+-- Between calls: the manifest's batches list its entries, and all of its files is on the disk.
 abbrev pub IsKept : ManifestState → Files → (Name → ℕ) → Past → Type 0
 IsKept m files opened past = journal.IsKept (Configured m.granularity) m.journal files opened past m.entries
 
--- After a commit that failed: the file lists the entries from before it or those that it was to make.
+-- After a commit that failed: the batches list the entries from before it or those that it was to make.
 abbrev pub IsUnsure : ManifestState → Files → (Name → ℕ) → Past → Type 0
 IsUnsure m files opened past = journal.IsUnsure (Configured m.granularity) m.journal files opened past m.entries m.next
+
+-- at how many bytes a journal is long for entries that a batch of this size lists
+abbrev pub limit_of : ℕ → ℕ
+limit_of size = max 1048576 (4 * size)
+
+-- so many bytes up to and with the closed gate are many for these entries, and a batch that lists them isn't too large
+abbrev pub IsLong : ℕ → ℕ → Type 0
+IsLong len size = (limit_of size ≤ len) × (size ≤ 1073741824)

@@ -5,13 +5,14 @@ ghost use Rattle.std.specs.List.{flat_map};
 ghost use Rattle.store_manifest.specs.Listing.{own};
 
 use crate::Entry;
+use crate::entry_list::EntryList;
 use std::collections::btree_map::Iter;
 use std::marker::Model;
 
 /// The entries of all series, in the order of series and time. Contracts see the list of those that are left.
 #[derive(Drop)]
 pub struct AllEntries<'a> {
-    lists: Iter<'a, u32, Vec<Entry>>,
+    lists: Iter<'a, u32, EntryList>,
     list: &'a [Entry],
 }
 
@@ -28,7 +29,7 @@ impl<'a> Model for AllEntries<'a> {
 
 impl<'a> AllEntries<'a> {
     // Those in these lists.
-    pub(crate) fn of(lists: Iter<'a, u32, Vec<Entry>>) -> AllEntries<'a>
+    pub(crate) fn of(lists: Iter<'a, u32, EntryList>) -> AllEntries<'a>
         ensures { result ≡ flat_map own lists.entry }
     {
         AllEntries { lists, list: &[] }
@@ -53,13 +54,14 @@ impl<'a> Iterator for AllEntries<'a> {
 }
 
 // The next list that isn't empty, or an empty one at the end.
-fn next_list<'a>(lists: &mut Iter<'a, u32, Vec<Entry>>) -> &'a [Entry]
+fn next_list<'a>(lists: &mut Iter<'a, u32, EntryList>) -> &'a [Entry]
     ensures left { flat_map own lists.old ≡ result.now ++ flat_map own lists.new }
     ensures end { result.now ≡ [] → flat_map own lists.new ≡ [] }
 {
     while let Some((_, list)) = lists.next() {
-        if !list.is_empty() {
-            return list.as_slice();
+        let entries = list.as_slice();
+        if !entries.is_empty() {
+            return entries;
         }
     }
     &[]

@@ -2,10 +2,11 @@
 ghost use Rattle.std.specs.Prelude.{◌≡◌, ◌≢◌, ◌↔◌, ◌<◌, ◌++◌, ◌∷◌, [], List, ℕ, IfOk, IfSome, IfNone, IsTrue, Some, false, length};
 ghost use Rattle.partition_names.specs.declared.granularity.Granularity.{Granularity as GranularityValue};
 ghost use Rattle.store_manifest.specs.declared.entry.Entry.{Entry};
-ghost use Rattle.store_manifest.specs.Batches.{config, Makes, IsBatch};
+ghost use Rattle.store_manifest.specs.Batches.{config, Makes, IsBatch, OnlySets};
 ghost use Rattle.store_manifest.specs.Folded.{IsFolded};
 ghost use Rattle.store_manifest.specs.Listing.{entries_of, AreLists};
 
+use crate::Change;
 use crate::lists::SeriesLists;
 use crate::reading::read_change;
 use gate_journal::BatchFold;
@@ -54,10 +55,7 @@ fn followed(alloc: Global, folded: Folded, number: u64, batch: &[u8]) -> Result<
     ensures { (batches : List (List ℕ)) → IsFolded batches folded → number ≡ length batches → IfOk result (IsFolded (batches ++ batch.now ∷ [])) }
 {
     match folded {
-        Folded::Nothing => match config_of(batch) {
-            Some(g) => Ok(Folded::Good(g, SeriesLists::new(alloc))),
-            None => Ok(Folded::Bad(number)),
-        },
+        Folded::Nothing => begun(alloc, number, batch),
         Folded::Good(g, mut lists) => {
             if make_batch(&mut lists, g, batch)? {
                 return Ok(Folded::Good(g, lists));
@@ -68,14 +66,72 @@ fn followed(alloc: Global, folded: Folded, number: u64, batch: &[u8]) -> Result<
     }
 }
 
-// The granularity that a batch says, if it says one and nothing else.
-fn config_of(batch: &[u8]) -> Option<Granularity>
-    ensures { (g : GranularityValue) → (result ≡ Some g) ↔ (batch.now ≡ config g) }
+// What a first batch comes to.
+fn begun(alloc: Global, number: u64, batch: &[u8]) -> Result<Folded, AllocError>
+    ensures { (batches : List (List ℕ)) → batches ≡ [] → number ≡ length batches → IfOk result (IsFolded (batches ++ batch.now ∷ [])) }
+{
+    let Some((g, rest)) = config_of(batch) else {
+        return Ok(Folded::Bad(number));
+    };
+    let mut lists = SeriesLists::new(alloc);
+    if make_sets(&mut lists, g, rest)? {
+        return Ok(Folded::Good(g, lists));
+    }
+    Ok(Folded::Bad(number))
+}
+
+// The granularity that stands at the front of a batch, and the bytes behind it.
+fn config_of(batch: &[u8]) -> Option<(Granularity, &[u8])>
+    ensures some { IfSome result (λ r. batch.now ≡ config r.0 ++ r.1.now) }
+    ensures none { IfNone result ((g : GranularityValue) (rest : List ℕ) → batch.now ≡ config g ++ rest → ⊥) }
 {
     match batch {
-        [1, number] => Granularity::of_number(*number),
+        [1, number, rest @ ..] => {
+            let g = Granularity::of_number(*number)?;
+            Some((g, rest))
+        }
         _ => None,
     }
+}
+
+// Sets the entry at the front of a first batch's bytes, and gives the bytes behind it. None if no entry that is set stands there.
+fn make_set<'a>(
+    lists: &mut SeriesLists,
+    g: Granularity,
+    bytes: &'a [u8],
+) -> Result<Option<&'a [u8]>, AllocError>
+    requires good { AreLists lists.old.listed.entries }
+    requires some { bytes.now ≢ [] }
+    ensures good { AreLists lists.new.listed.entries }
+    ensures made { IfOk result (λ r. IfSome r (λ rest. (last : List Entry) → OnlySets g (entries_of lists.new.listed.entries) rest.now last ↔ OnlySets g (entries_of lists.old.listed.entries) bytes.now last)) }
+    ensures shorter { IfOk result (λ r. IfSome r (λ rest. length rest.now < length bytes.now)) }
+    ensures none { IfOk result (λ r. IfNone r ((last : List Entry) → OnlySets g (entries_of lists.old.listed.entries) bytes.now last → ⊥)) }
+{
+    let Some((change, rest)) = read_change(g, bytes) else {
+        return Ok(None);
+    };
+    let Change::Set(_) = change else {
+        return Ok(None);
+    };
+    lists.change(&change)?;
+    Ok(Some(rest))
+}
+
+// Sets the entries of a first batch. False if its bytes aren't entries that are set.
+fn make_sets(lists: &mut SeriesLists, g: Granularity, bytes: &[u8]) -> Result<bool, AllocError>
+    requires good { AreLists lists.old.listed.entries }
+    ensures good { AreLists lists.new.listed.entries }
+    ensures made { IfOk result (λ made. IsTrue made → OnlySets g (entries_of lists.old.listed.entries) bytes.now (entries_of lists.new.listed.entries)) }
+    ensures bad { IfOk result (λ made. made ≡ false → (last : List Entry) → OnlySets g (entries_of lists.old.listed.entries) bytes.now last → ⊥) }
+{
+    let mut rest = bytes;
+    while !rest.is_empty() {
+        let Some(behind) = make_set(lists, g, rest)? else {
+            return Ok(false);
+        };
+        rest = behind;
+    }
+    Ok(true)
 }
 
 // Makes the change at the front of a batch's bytes, and gives the bytes behind it. None if no change stands there that may follow.

@@ -1,8 +1,9 @@
 // The entries of a manifest in memory: a list for each series.
-ghost use Rattle.std.specs.Prelude.{◌≡◌, ◌==◌, ◌≤◌, ◌+◌, [], ℕ, Option, Some, OnOk, IsSome, IfSome, IsTrue, filter, vec_len, vec_capacity};
+ghost use Rattle.std.specs.Prelude.{◌≡◌, ◌==◌, ◌≤◌, ◌+◌, [], ℕ, Option, Some, OnOk, IsSome, IfSome, IsTrue, filter};
 ghost use Rattle.store_manifest.specs.Entries.{place_of, changed, all_changed};
 ghost use Rattle.store_manifest.specs.Reading.{IsAllowed};
 
+use crate::entry_list::EntryList;
 use crate::series::{change_list, find};
 use crate::{AllEntries, Change, Entry};
 use std::alloc::{AllocError, Global};
@@ -11,7 +12,7 @@ use std::collections::BTreeMap;
 #[derive(Drop)]
 pub(crate) struct SeriesLists {
     alloc: Global,
-    listed: BTreeMap<u32, Vec<Entry>>,
+    listed: BTreeMap<u32, EntryList>,
 }
 
 impl SeriesLists {
@@ -69,7 +70,7 @@ impl SeriesLists {
         if self.listed.contains_key(&series) {
             return Ok(());
         }
-        self.listed.insert(series, Vec::new(self.alloc))?;
+        self.listed.insert(series, EntryList::new(self.alloc))?;
         Ok(())
     }
 
@@ -79,7 +80,7 @@ impl SeriesLists {
         ensures good { AreLists self.new.listed.entries }
         ensures entries { entries_of self.new.listed.entries ≡ entries_of self.old.listed.entries }
         ensures there { OnOk result (IsSome (list_of series self.new.listed.entries)) }
-        ensures room { OnOk result (IfSome (list_of series self.new.listed.entries) (λ list. vec_len list + room ≤ vec_capacity list)) }
+        ensures room { OnOk result (IfSome (list_of series self.new.listed.entries) (λ list. list.used + room ≤ list.capacity)) }
         ensures others { (s : ℕ) → (s ≡ series → ⊥) → list_of s self.new.listed.entries ≡ list_of s self.old.listed.entries }
     {
         self.open(series)?;
@@ -134,7 +135,7 @@ impl SeriesLists {
     fn make(&mut self, change: &Change)
         requires good { AreLists self.old.listed.entries }
         requires there { IsSome (list_of (place_of change.now).0 self.old.listed.entries) }
-        requires room { 1 ≤ sets change.now → IfSome (list_of (place_of change.now).0 self.old.listed.entries) (λ list. vec_len list + sets change.now ≤ vec_capacity list) }
+        requires room { 1 ≤ sets change.now → IfSome (list_of (place_of change.now).0 self.old.listed.entries) (λ list. list.used + sets change.now ≤ list.capacity) }
         ensures good { AreLists self.new.listed.entries }
         ensures entries { entries_of self.new.listed.entries ≡ changed (entries_of self.old.listed.entries) change.now }
         ensures lists { KeepsLists change.now self.old.listed.entries self.new.listed.entries }

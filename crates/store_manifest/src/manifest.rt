@@ -1,23 +1,24 @@
 // The manifest on the disk: each commit makes its changes whole or not at all, also across a crash.
-ghost use Rattle.std.specs.Prelude.{◌≡◌, ◌≢◌, ◌⊎◌, ◌==◌, ◌≤◌, [], List, ℕ, filter, length, IfOk, IfErr, OnOk, OnErr, IsErrOf, IsTrue, true, false, Ok, Err};
+ghost use Rattle.std.specs.Prelude.{◌≡◌, ◌≢◌, ◌⊎◌, ◌==◌, ◌≤◌, ◌<◌, ◌+◌, [], ◌∷◌, List, ℕ, filter, length, IfOk, IfErr, OnOk, OnErr, IsErrOf, IsTrue, true, false, Ok, Err};
 ghost use Rattle.std.specs.Int.{IsInRange};
-ghost use Rattle.disk_model.specs.Files.{Name, Rose, At};
+ghost use Rattle.disk_model.specs.Files.{Name, Rose};
 ghost use Rattle.disk_model.specs.Past.{Passes};
 ghost use Rattle.disk_model.specs.declared.disk.DiskErr.TheVariants.{Fault};
-ghost use Rattle.gate_journal.specs.Batches.{HasBatches, IsBadJournal};
-ghost use Rattle.gate_journal.specs.Journal.{BeforeOrAfter, IsSettled};
-ghost use Rattle.gate_journal.specs.Kept.{Says, SaysEither, StillSays};
+ghost use Rattle.gate_journal.specs.Generations.{IsOwn, AtOwn, HasBatchesOf, HasOneOf, IsBadOf};
+ghost use Rattle.gate_journal.specs.Journal.{IsSettledWith};
+ghost use Rattle.gate_journal.specs.Kept.{Says, SaysEither};
 ghost use Rattle.partition_names.specs.declared.granularity.Granularity.{Granularity as GranularityValue};
 ghost use Rattle.store_manifest.specs.declared.entry.Entry.{Entry as EntryValue};
 ghost use Rattle.store_manifest.specs.declared.error.ManifestErr.TheVariants.{Disk as OfDisk, BadJournal, BadBatch, GranularityDiffers};
-ghost use Rattle.store_manifest.specs.Batches.{config, batch_of, Configured, Folds, IsBadBatch};
+ghost use Rattle.store_manifest.specs.Batches.{config, batch_of, whole, Configured, Folds, IsBadBatch};
 ghost use Rattle.store_manifest.specs.Entries.{all_changed, AllCanFollow, AreEntries};
 ghost use Rattle.store_manifest.specs.Listing.{entries_of, AreLists};
-ghost use Rattle.store_manifest.specs.Manifest.{manifest_name, IsKept, IsUnsure, Lists};
+ghost use Rattle.store_manifest.specs.Manifest.{manifest_name, IsKept, IsUnsure, IsLong, Lists, StaysOrBegins, limit_of};
 
 use crate::folding::{Folded, Folding};
 use crate::listing::Listing;
 use crate::lists::SeriesLists;
+use crate::whole::{encode_whole, is_long};
 use crate::writing::encode;
 use crate::{AllEntries, Change, Entry, ManifestErr};
 use disk_model::{Disk, DiskErr, FileName};
@@ -48,7 +49,7 @@ impl Model for Manifest {
 }
 
 impl Manifest {
-    /// The manifest of a store, from 1 to 3. Where its file has no batch, one that says the granularity is committed.
+    /// The manifest of a store, from 1 to 3. Where its journal has no batch, one that says the granularity is committed.
     pub fn load<D: Disk>(
         alloc: Global,
         disk: &mut D,
@@ -56,26 +57,24 @@ impl Manifest {
         g: Granularity,
     ) -> Result<Manifest, ManifestErr>
         requires store { IsInRange 1 3 store }
-        requires unopened { IsTrue D.tells → D.opened disk.old (manifest_name store) ≡ 0 }
+        requires unopened { IsTrue D.tells → (n : Name) → IsOwn (manifest_name store) n → D.opened disk.old n ≡ 0 }
 
         ensures kept { IsTrue D.tells → IfOk result (λ m. IsKept m (D.files disk.new) (D.opened disk.new) (D.past disk.new)) }
-        ensures entries { IsTrue D.tells → IfOk result (λ m. Lists g m.entries (D.files disk.old (manifest_name store))) }
+        ensures entries { IsTrue D.tells → IfOk result (λ m. Lists g m.entries (manifest_name store) (D.files disk.old)) }
         ensures are { IfOk result (λ m. AreEntries g m.entries) }
         ensures manifest { IfOk result (λ m. (m.journal.name ≡ manifest_name store) × (m.granularity ≡ g) × (m.journal.sound ≡ true)) }
 
-        ensures bad_journal { IsTrue D.tells → (at : ℕ) → result ≡ Err (BadJournal at) → IsBadJournal (D.files disk.old (manifest_name store)) at }
+        ensures bad_journal { IsTrue D.tells → (file : Name) (at : ℕ) → result ≡ Err (BadJournal file at) → IsBadOf (manifest_name store) (D.files disk.old) file at }
         ensures bad_batch { IsTrue D.tells → (number : ℕ) → result ≡ Err (BadBatch number)
-            → (bs : List (List ℕ)) × HasBatches (D.files disk.old (manifest_name store)) bs × IsBadBatch bs number }
+            → (bs : List (List ℕ)) × HasBatchesOf (manifest_name store) (D.files disk.old) bs × IsBadBatch bs number }
         ensures differs { IsTrue D.tells → (kept asked : GranularityValue) → result ≡ Err (GranularityDiffers kept asked)
-            → (asked ≡ g) × (kept ≢ g) × (entries : List EntryValue) × Says (Configured kept) entries (D.files disk.old (manifest_name store)) }
+            → (asked ≡ g) × (kept ≢ g) × (entries : List EntryValue) × Says (Configured kept) entries (manifest_name store) (D.files disk.old) }
 
-        // A crash at any moment leaves the entries that the file lists as reads give it, or the file as it might have been left before, and of every other name what it might have left before.
-        ensures any_moment { IsTrue D.tells → Passes (At (manifest_name store) (StillSays (Folds g) (D.files disk.old (manifest_name store)))) (D.past disk.old) (D.past disk.new) }
-        // What reads give of the file is as before, or it had no batch and lists nothing still.
-        ensures reads { IsTrue D.tells → (D.files disk.new (manifest_name store) ≡ D.files disk.old (manifest_name store)) ⊎ (HasBatches (D.files disk.old (manifest_name store)) [] × Lists g [] (D.files disk.new (manifest_name store))) }
-        ensures elsewhere { IsTrue D.tells → (n : Name) → n ≢ manifest_name store → D.files disk.new n ≡ D.files disk.old n }
-        ensures opened { IsTrue D.tells → (n : Name) → n ≢ manifest_name store → D.opened disk.new n ≡ D.opened disk.old n }
-        ensures unopened { IsTrue D.tells → D.opened disk.new (manifest_name store) ≡ 0 }
+        // What reads give of the manifest's files, and what a crash at any moment leaves of them, holds the batches that it held before, or it held none and lists nothing still; every other name has what it had.
+        ensures reads { IsTrue D.tells → AtOwn (manifest_name store) (StaysOrBegins g (manifest_name store)) (D.files disk.old) (D.files disk.new) }
+        ensures any_moment { IsTrue D.tells → Passes (AtOwn (manifest_name store) (StaysOrBegins g (manifest_name store))) (D.past disk.old) (D.past disk.new) }
+        ensures opened { IsTrue D.tells → (n : Name) → (IsOwn (manifest_name store) n → ⊥) → D.opened disk.new n ≡ D.opened disk.old n }
+        ensures unopened { IsTrue D.tells → (n : Name) → IsOwn (manifest_name store) n → D.opened disk.new n ≡ 0 }
         ensures faults { D.faults disk.old ≤ D.faults disk.new }
         ensures cause { result ≡ Err (OfDisk Fault) → Rose (D.faults disk.old) (D.faults disk.new) }
     {
@@ -99,7 +98,7 @@ impl Manifest {
         self.journal.is_sound()
     }
 
-    /// The number of the store whose files it lists, which its own file's name ends with.
+    /// The number of the store whose files it lists, which its own name ends with.
     pub fn store(&self) -> u8
         ensures { (store : ℕ) → store ≤ 9 → self.now.journal.name ≡ manifest_name store → result ≡ store }
     {
@@ -131,9 +130,11 @@ impl Manifest {
     }
 
     /// Makes all the changes, one after another, or none of them. Each is made in place, and costs the entries behind it in its series.
-    /// With no change it leaves the disk alone.
+    /// With no change it leaves the disk alone. Where the journal is long for the entries, it is begun anew first with a batch that lists
+    /// them: where it has at least as many bytes as four such batches, and at least 1,048,576, and that batch at most 1,073,741,824.
     ///
-    /// After `Fault` the manifest isn't sound: it is reviewed, or loaded again. `Memory` comes before anything is written.
+    /// After `Fault` the manifest isn't sound: it is reviewed, or loaded again. After `Memory` it lists what it listed, and its journal
+    /// may have begun anew.
     pub fn commit<D: Disk>(&mut self, disk: &mut D, changes: &[Change]) -> Result<(), DiskErr>
         requires sound { IsTrue self.old.journal.sound }
         requires follow { AllCanFollow self.old.granularity self.old.entries changes.now }
@@ -145,30 +146,37 @@ impl Manifest {
         ensures state { (self.new.granularity ≡ self.old.granularity) × (self.new.journal.name ≡ self.old.journal.name) }
         ensures nothing { changes.now ≡ [] → (result ≡ Ok tt) × (disk.new ≡ disk.old) }
 
-        // A crash at any moment leaves the entries from before it or those with all the changes, and of every other name what it might have left before.
-        ensures any_moment { IsTrue D.tells → Passes (At self.old.journal.name (SaysEither (Folds self.old.granularity) self.old.entries (all_changed self.old.entries changes.now))) (D.past disk.old) (D.past disk.new) }
-        ensures elsewhere { IsTrue D.tells → (n : Name) → n ≢ self.old.journal.name → D.files disk.new n ≡ D.files disk.old n }
-        ensures opened { IsTrue D.tells → D.opened disk.new ≡ D.opened disk.old }
+        // Where the closed gate stands afterwards, which tells exactly where the journal was begun anew: it doesn't grow for good.
+        ensures begun { let size = length (whole self.old.granularity self.old.entries) in changes.now ≢ [] → IsLong (self.old.journal.current.place + 1) size
+            → OnOk result (self.new.journal.current.place ≡ (size + 5) + (5 + length (batch_of changes.now))) }
+        ensures grown { let size = length (whole self.old.granularity self.old.entries) in changes.now ≢ [] → (IsLong (self.old.journal.current.place + 1) size → ⊥)
+            → OnOk result (self.new.journal.current.place ≡ self.old.journal.current.place + (5 + length (batch_of changes.now))) }
+        ensures short { let size = length (whole self.old.granularity self.old.entries) in changes.now ≢ [] → size ≤ GREATEST_BATCH
+            → OnOk result (self.new.journal.current.place + 1 < limit_of size + length (batch_of changes.now) + 5) }
+
+        // A crash at any moment leaves the entries from before it or those with all the changes, and of every name that isn't the manifest's what it might have left before.
+        ensures any_moment { IsTrue D.tells → Passes (AtOwn self.old.journal.name (SaysEither (Folds self.old.granularity) self.old.entries (all_changed self.old.entries changes.now) self.old.journal.name)) (D.past disk.old) (D.past disk.new) }
+        ensures elsewhere { IsTrue D.tells → (n : Name) → (IsOwn self.old.journal.name n → ⊥) → D.files disk.new n ≡ D.files disk.old n }
+        ensures opened { IsTrue D.tells → (n : Name) → (IsOwn self.old.journal.name n → ⊥) → D.opened disk.new n ≡ D.opened disk.old n }
 
         ensures sound { OnOk result (self.new.journal.sound ≡ true) }
         ensures doubt { IsTrue D.tells → IsErrOf result DiskErr.Fault → IsUnsure self.new (D.files disk.new) (D.opened disk.new) (D.past disk.new) }
         ensures doubtful { IsErrOf result DiskErr.Fault → (self.new.entries ≡ self.old.entries) × (self.new.next ≡ all_changed self.old.entries changes.now) }
         ensures fault { IsErrOf result DiskErr.Fault → (self.new.journal.sound ≡ false) × Rose (D.faults disk.old) (D.faults disk.new) }
-        ensures memory { IsErrOf result DiskErr.Memory → (self.new.journal ≡ self.old.journal) × (self.new.entries ≡ self.old.entries) × (disk.new ≡ disk.old) }
+        ensures memory { IsErrOf result DiskErr.Memory → (self.new.journal.sound ≡ true) × (self.new.entries ≡ self.old.entries) }
+        ensures unchanged { IsTrue D.tells → IsErrOf result DiskErr.Memory → IsKept self.new (D.files disk.new) (D.opened disk.new) (D.past disk.new) }
         ensures faults { D.faults disk.old ≤ D.faults disk.new }
     {
         if changes.is_empty() {
             return Ok(());
         }
-        encode(&mut self.batch, changes)?;
         self.listing.prepare(changes)?;
-        self.journal.commit(disk, &self.batch)?;
-        self.listing.take();
-        Ok(())
+        self.shorten(disk)?;
+        self.add(disk, changes)
     }
 
-    /// After a commit that failed: takes its changes in where the file has them. The manifest is sound afterwards. After an error it
-    /// is as before, and can be reviewed again. It takes no memory of its own, since the commit took it: `Memory` is the disk's.
+    /// After a commit that failed: takes its changes in where the journal has them. The manifest is sound afterwards. After an error it
+    /// lists what it listed, and can be reviewed again. It takes no memory of its own, since the commit took it: `Memory` is the disk's.
     pub fn review<D: Disk>(&mut self, disk: &mut D) -> Result<(), DiskErr>
         requires unsound { self.old.journal.sound ≡ false }
         requires doubt { IsTrue D.tells → IsUnsure self.old (D.files disk.old) (D.opened disk.old) (D.past disk.old) }
@@ -177,18 +185,71 @@ impl Manifest {
         ensures entries { OnOk result ((self.new.entries ≡ self.old.entries) ⊎ (self.new.entries ≡ self.old.next)) }
         ensures sound { OnOk result (self.new.journal.sound ≡ true) }
         ensures state { (self.new.granularity ≡ self.old.granularity) × (self.new.journal.name ≡ self.old.journal.name) }
-        ensures still { OnErr result (self.new ≡ self.old) }
+        ensures still { OnErr result ((self.new.journal.sound ≡ false) × (self.new.entries ≡ self.old.entries) × (self.new.next ≡ self.old.next)) }
 
+        // A crash at any moment leaves the entries from before the commit or those that it was to make, and of every name that isn't the manifest's what it might have left before.
         ensures doubtful { IsTrue D.tells → OnErr result (IsUnsure self.new (D.files disk.new) (D.opened disk.new) (D.past disk.new)) }
-        ensures any_moment { IsTrue D.tells → Passes (λ a b. b ≡ a) (D.past disk.old) (D.past disk.new) }
-        ensures same { IsTrue D.tells → D.files disk.new ≡ D.files disk.old }
-        ensures opened { IsTrue D.tells → D.opened disk.new ≡ D.opened disk.old }
+        ensures any_moment { IsTrue D.tells → Passes (AtOwn self.old.journal.name (SaysEither (Configured self.old.granularity) self.old.entries self.old.next self.old.journal.name)) (D.past disk.old) (D.past disk.new) }
+        ensures elsewhere { IsTrue D.tells → (n : Name) → (IsOwn self.old.journal.name n → ⊥) → D.files disk.new n ≡ D.files disk.old n }
+        ensures opened { IsTrue D.tells → (n : Name) → (IsOwn self.old.journal.name n → ⊥) → D.opened disk.new n ≡ D.opened disk.old n }
         ensures faults { D.faults disk.old ≤ D.faults disk.new }
         ensures cause { IsErrOf result DiskErr.Fault → Rose (D.faults disk.old) (D.faults disk.new) }
     {
-        if self.journal.review(disk)? {
+        let of_commit = self.journal.is_commit_open();
+        if self.journal.review(disk)? && of_commit {
             self.listing.take();
         }
+        Ok(())
+    }
+
+    // Begins the journal anew with a batch that lists all entries, where it is long for them.
+    fn shorten<D: Disk>(&mut self, disk: &mut D) -> Result<(), DiskErr>
+        requires sound { IsTrue self.old.journal.sound }
+        requires kept { IsTrue D.tells → IsKept self.old (D.files disk.old) (D.opened disk.old) (D.past disk.old) }
+        ensures kept { IsTrue D.tells → (IsErrOf result DiskErr.Fault → ⊥) → IsKept self.new (D.files disk.new) (D.opened disk.new) (D.past disk.new) }
+        ensures state { (self.new.granularity ≡ self.old.granularity) × (self.new.journal.name ≡ self.old.journal.name) × (self.new.entries ≡ self.old.entries) × (self.new.next ≡ self.old.next) }
+        ensures begun { let size = length (whole self.old.granularity self.old.entries) in IsLong (self.old.journal.current.place + 1) size → OnOk result (self.new.journal.current.place ≡ size + 5) }
+        ensures grown { let size = length (whole self.old.granularity self.old.entries) in (IsLong (self.old.journal.current.place + 1) size → ⊥) → OnOk result (self.new.journal.current.place ≡ self.old.journal.current.place) }
+        ensures any_moment { IsTrue D.tells → Passes (AtOwn self.old.journal.name (λ a b. Says (Configured self.old.granularity) self.old.entries self.old.journal.name b)) (D.past disk.old) (D.past disk.new) }
+        ensures elsewhere { IsTrue D.tells → (n : Name) → (IsOwn self.old.journal.name n → ⊥) → D.files disk.new n ≡ D.files disk.old n }
+        ensures opened { IsTrue D.tells → (n : Name) → (IsOwn self.old.journal.name n → ⊥) → D.opened disk.new n ≡ D.opened disk.old n }
+        ensures sound { (IsErrOf result DiskErr.Fault → ⊥) → self.new.journal.sound ≡ true }
+        ensures doubt { IsTrue D.tells → IsErrOf result DiskErr.Fault → IsUnsure self.new (D.files disk.new) (D.opened disk.new) (D.past disk.new) }
+        ensures fault { IsErrOf result DiskErr.Fault → (self.new.journal.sound ≡ false) × Rose (D.faults disk.old) (D.faults disk.new) }
+        ensures faults { D.faults disk.old ≤ D.faults disk.new }
+    {
+        if !is_long(self.journal.len(), self.listing.all()) {
+            return Ok(());
+        }
+        encode_whole(&mut self.batch, self.granularity, self.listing.all())?;
+        self.journal.checkpoint(disk, &self.batch)
+    }
+
+    // Adds the batch of these changes, for which the listing is prepared.
+    fn add<D: Disk>(&mut self, disk: &mut D, changes: &[Change]) -> Result<(), DiskErr>
+        requires sound { IsTrue self.old.journal.sound }
+        requires some { changes.now ≢ [] }
+        requires prepared { self.old.next ≡ all_changed self.old.entries changes.now }
+        requires follow { AllCanFollow self.old.granularity self.old.entries changes.now }
+        requires few { length (batch_of changes.now) ≤ GREATEST_BATCH }
+        requires kept { IsTrue D.tells → IsKept self.old (D.files disk.old) (D.opened disk.old) (D.past disk.old) }
+        ensures made { IsTrue D.tells → OnOk result (IsKept self.new (D.files disk.new) (D.opened disk.new) (D.past disk.new)) }
+        ensures entries { OnOk result (self.new.entries ≡ self.old.next) }
+        ensures state { (self.new.granularity ≡ self.old.granularity) × (self.new.journal.name ≡ self.old.journal.name) }
+        ensures placed { OnOk result (self.new.journal.current.place ≡ self.old.journal.current.place + (5 + length (batch_of changes.now))) }
+        ensures any_moment { IsTrue D.tells → Passes (AtOwn self.old.journal.name (SaysEither (Configured self.old.granularity) self.old.entries self.old.next self.old.journal.name)) (D.past disk.old) (D.past disk.new) }
+        ensures elsewhere { IsTrue D.tells → (n : Name) → (IsOwn self.old.journal.name n → ⊥) → D.files disk.new n ≡ D.files disk.old n }
+        ensures opened { IsTrue D.tells → D.opened disk.new ≡ D.opened disk.old }
+        ensures sound { OnOk result (self.new.journal.sound ≡ true) }
+        ensures doubt { IsTrue D.tells → IsErrOf result DiskErr.Fault → IsUnsure self.new (D.files disk.new) (D.opened disk.new) (D.past disk.new) }
+        ensures doubtful { OnErr result ((self.new.entries ≡ self.old.entries) × (self.new.next ≡ self.old.next)) }
+        ensures fault { IsErrOf result DiskErr.Fault → (self.new.journal.sound ≡ false) × Rose (D.faults disk.old) (D.faults disk.new) }
+        ensures memory { IsErrOf result DiskErr.Memory → (self.new.journal ≡ self.old.journal) × (disk.new ≡ disk.old) }
+        ensures faults { D.faults disk.old ≤ D.faults disk.new }
+    {
+        encode(&mut self.batch, changes)?;
+        self.journal.commit(disk, &self.batch)?;
+        self.listing.take();
         Ok(())
     }
 }
@@ -217,12 +278,12 @@ fn configure<D: Disk>(
     g: Granularity,
 ) -> Result<Manifest, DiskErr>
     requires sound { IsTrue journal.sound }
-    requires settled { IsTrue D.tells → IsSettled journal (D.files disk.old) (D.opened disk.old) (D.past disk.old) [] }
+    requires settled { IsTrue D.tells → IsSettledWith journal (D.files disk.old) (D.opened disk.old) (D.past disk.old) [] }
     ensures kept { IsTrue D.tells → IfOk result (λ m. IsKept m (D.files disk.new) (D.opened disk.new) (D.past disk.new)) }
     ensures are { IfOk result (λ m. AreEntries g m.entries) }
     ensures manifest { IfOk result (λ m. (m.journal.name ≡ journal.name) × (m.granularity ≡ g) × (m.journal.sound ≡ true) × (m.entries ≡ [])) }
-    ensures any_moment { IsTrue D.tells → Passes (At journal.name (BeforeOrAfter [] (config g))) (D.past disk.old) (D.past disk.new) }
-    ensures elsewhere { IsTrue D.tells → (n : Name) → n ≢ journal.name → D.files disk.new n ≡ D.files disk.old n }
+    ensures any_moment { IsTrue D.tells → Passes (AtOwn journal.name (HasOneOf journal.name [] (config g ∷ []))) (D.past disk.old) (D.past disk.new) }
+    ensures elsewhere { IsTrue D.tells → (n : Name) → (IsOwn journal.name n → ⊥) → D.files disk.new n ≡ D.files disk.old n }
     ensures opened { IsTrue D.tells → D.opened disk.new ≡ D.opened disk.old }
     ensures faults { D.faults disk.old ≤ D.faults disk.new }
     ensures cause { IsErrOf result DiskErr.Fault → Rose (D.faults disk.old) (D.faults disk.new) }

@@ -1,9 +1,10 @@
 // The entries of one series, in order, and a change among them. Its place is found by bisection, and what stands behind it moves.
-ghost use Rattle.std.specs.Prelude.{◌≡◌, ◌≤◌, ◌<◌, ◌+◌, ℕ, true, false, nat_lt, length, vec_len, vec_capacity, IfOk, IfErr, is_ok};
+ghost use Rattle.std.specs.Prelude.{◌≡◌, ◌≤◌, ◌<◌, ◌+◌, ℕ, true, false, nat_lt, length, IfOk, IfErr, is_ok};
 ghost use Rattle.std.specs.List.Sorted.{IsPartitionPoint};
 ghost use Rattle.store_manifest.specs.Entries.{place, place_of, is_listed, put, changed};
 ghost use Rattle.store_manifest.specs.Listing.{OfSeries, IsAround, sets};
 
+use crate::entry_list::EntryList;
 use crate::{Change, Entry};
 
 // The index of the entry whose partition begins at this moment, or else of the first that begins later.
@@ -30,12 +31,12 @@ fn front(entries: &[Entry], start: u64) -> usize
 }
 
 // Makes a change in the list of its series. It takes no memory, where an entry that is set has room.
-pub(crate) fn change_list(list: &mut Vec<Entry>, change: &Change)
+pub(crate) fn change_list(list: &mut EntryList, change: &Change)
     requires own { OfSeries (place_of change.now).0 list.old.items }
-    requires room { 1 ≤ sets change.now → vec_len list.old + sets change.now ≤ vec_capacity list.old }
+    requires room { 1 ≤ sets change.now → list.old.used + sets change.now ≤ list.old.capacity }
     ensures items { list.new.items ≡ changed list.old.items change.now }
-    ensures len { vec_len list.new ≤ vec_len list.old + sets change.now }
-    ensures capacity { vec_capacity list.new ≡ vec_capacity list.old }
+    ensures used { list.new.used ≤ list.old.used + sets change.now }
+    ensures capacity { list.new.capacity ≡ list.old.capacity }
 {
     match change {
         Change::Set(entry) => set(list, entry),
@@ -47,17 +48,15 @@ pub(crate) fn change_list(list: &mut Vec<Entry>, change: &Change)
     }
 }
 
-fn set(list: &mut Vec<Entry>, entry: &Entry)
+fn set(list: &mut EntryList, entry: &Entry)
     requires own { OfSeries entry.now.series list.old.items }
-    requires room { vec_len list.old + 1 ≤ vec_capacity list.old }
+    requires room { list.old.used + 1 ≤ list.old.capacity }
     ensures items { list.new.items ≡ put place entry.now list.old.items }
-    ensures len { vec_len list.new ≤ vec_len list.old + 1 }
-    ensures capacity { vec_capacity list.new ≡ vec_capacity list.old }
+    ensures used { list.new.used ≤ list.old.used + 1 }
+    ensures capacity { list.new.capacity ≡ list.old.capacity }
 {
     match find(list.as_slice(), entry.series, entry.part.start) {
-        Ok(at) => list[at] = *entry,
-        Err(at) => {
-            let _ = list.insert(at, *entry);
-        }
+        Ok(at) => list.replace(at, entry),
+        Err(at) => list.insert(at, entry),
     }
 }

@@ -29,15 +29,21 @@ fn put(out: &mut Vec<u8>, change: &Change) -> Result<(), AllocError>
     ensures sizes { OnOk result (HasSizes change.now) }
 {
     match change {
-        Change::Set(entry) => {
-            out.push(SET)?;
-            put_members(out, entry)
-        }
+        Change::Set(entry) => put_set(out, entry),
         Change::Drop { series, start } => {
             out.push(DROP)?;
             put_place(out, *series, *start)
         }
     }
+}
+
+// An entry that is set.
+pub(crate) fn put_set(out: &mut Vec<u8>, entry: &Entry) -> Result<(), AllocError>
+    ensures bytes { OnOk result (out.new.items ≡ out.old.items ++ encoded (Change.Set entry.now)) }
+    ensures sizes { OnOk result (IsSized entry.now) }
+{
+    out.push(SET)?;
+    put_members(out, entry)
 }
 
 fn put_place(out: &mut Vec<u8>, series: u32, start: u64) -> Result<(), AllocError>

@@ -1,24 +1,28 @@
 -- The disk that three stores hand back may be opened again.
-use Rattle.std.proofs.Common.{◌≡◌, ◌≢◌, inl, inr, Bool, ℕ, ◌<◌, ◌≤◌, ◌+◌, suc, List, [], ◌∷◌, length, map, Some, refl, sym, ◌∙◌, ap, subst, arith}
+use Rattle.std.proofs.Common.{◌≡◌, inl, inr, Bool, ℕ, ◌<◌, ◌≤◌, ◌+◌, suc, List, [], ◌∷◌, length, map, Some, refl, sym, ◌∙◌, ap, subst, arith}
 use Rattle.std.specs.Prelude.{All, IsTrue, slice_get}
 use Rattle.std.proofs.lemmas.List.Elements.{All-map}
 use Rattle.disk_model.specs.Files.{Name, Files}
 use Rattle.disk_model.specs.Past.{MayLeave}
+use Rattle.gate_journal.proofs.Keeping.{kept_unopened, unsure_unopened}
 use Rattle.partition_names.specs.declared.granularity.Granularity.{Granularity}
 use Rattle.store_manifest.specs.declared.entry.Entry.{Entry}
+use Rattle.store_manifest.specs.Batches.{Configured}
 use Rattle.store_manifest.specs.Manifest.{ManifestState, manifest_name}
 use Rattle.store_manifest.proofs.Committing.{one_listing}
 use Rattle.pv_catalog.specs.declared.row.Row.{Row}
 use Rattle.pv_catalog.specs.Catalogue.{catalogue_name}
-use Rattle.durable_write.specs.Held.{Filed, Held, AreIn, entry_of, file_of}
-use Rattle.durable_write.specs.Stored.{AreUnopened}
+use Rattle.pv_catalog.specs.Rows.{IsCatalogue}
+use Rattle.durable_write.specs.Held.{Held, AreIn, entry_of, file_of}
+use Rattle.durable_write.specs.Stored.{AreUnopened, CatalogueStored, TierStored}
 use Rattle.durable_write.proofs.Three.{same_cases}
 use Rattle.tier_store.specs.Stores.{Stores, list_at, tier}
 use Rattle.tier_store.specs.Seen.{Seen, granularities}
 use Rattle.tier_store.specs.Stored.{HoldsAll, IsStoredAt, PlaceUnsure, RowsUnsure}
 use Rattle.tier_store.specs.Change.{Has, Doubts, IsOpen, PlaceInDoubt}
 use Rattle.tier_store.proofs.Left.{has_left, open_left}
-use Rattle.tier_store.proofs.Places.{manifest_at, one_manifest, tier_other, within_three, granularity_at}
+use Rattle.tier_store.proofs.Places.{manifest_at, tier_other, within_three}
+use Rattle.store_reopen.specs.OneJournal.{NoneOpened}
 use Rattle.store_reopen.proofs.OneJournal.{one_list_of_rows}
 use Rattle.store_reopen.specs.Reopen.{AllIn, IsUnopened, Opens, OpensEither}
 use Rattle.store_reopen.proofs.Having.{said_of, listing, granularity_here}
@@ -90,22 +94,28 @@ doubt_opens tells s before after told doubt = record {
 -- WHAT IS OPENED
 
 -- the journals and the listed files of what reads give
-unopened_of : (gs : List Granularity) (files : Files) (opened : Name → ℕ) (held : Stores) → length gs ≡ 3 → HoldsAll gs files held → ((i : ℕ) → i < 3 → AreUnopened (tier i held) opened) → opened catalogue_name ≡ 0 → ((i : ℕ) → i < 3 → opened (manifest_name (i + 1)) ≡ 0) → IsUnopened files opened
+unopened_of : (gs : List Granularity) (files : Files) (opened : Name → ℕ) (held : Stores) → length gs ≡ 3 → HoldsAll gs files held → ((i : ℕ) → i < 3 → AreUnopened (tier i held) opened) → NoneOpened catalogue_name opened → ((i : ℕ) → i < 3 → NoneOpened (manifest_name (i + 1)) opened) → IsUnopened files opened
 unopened_of gs files opened held three holds within catalogue manifests = record {
   catalogue = catalogue;
   manifests = manifests;
   listed = λ rows rows_said i low h entries said.
       let own = said_of gs files held three holds in
       let g = granularity_here gs i (omega (arith, low, three)) in
-      let of_rows : rows ≡ held.rows = one_list_of_rows (files catalogue_name) rows held.rows rows_said own.rows_said in
-      let listed : entries ≡ listing held i = one_listing h g.0 (files (manifest_name (i + 1))) entries (listing held i) said (own.lists_said i g.0 g.1) in
+      let of_rows : rows ≡ held.rows = one_list_of_rows files rows held.rows rows_said own.rows_said in
+      let listed : entries ≡ listing held i = one_listing h g.0 (manifest_name (i + 1)) files entries (listing held i) said (own.lists_said i g.0 g.1) in
       let P : List Row → List Entry → Type 0 = λ rs es. All (λ (e : Entry). opened (file_of (i + 1, rs) e) ≤ e.len) es in
       let known : P held.rows (listing held i) = All-map (λ (e : Entry). opened (file_of (i + 1, held.rows) e) ≤ e.len) entry_of (list_at i held) (within i low) in
       subst (λ (rs : List Row). P rs entries) (sym of_rows) (subst (P held.rows) (sym listed) known);
 }
 
-at_name : (opened : Name → ℕ) (own name : Name) → own ≡ name → opened own ≡ 0 → opened name ≡ 0
-at_name opened own name is none = subst (λ (n : Name). opened n ≡ 0) is none
+at_name : (opened : Name → ℕ) (own name : Name) → own ≡ name → NoneOpened own opened → NoneOpened name opened
+at_name opened own name is none = subst (λ (n : Name). NoneOpened n opened) is none
+
+rows_none : (s : Seen) (rows : List Row) → CatalogueStored s.catalogue.journal s.files s.opened s.past rows → NoneOpened s.catalogue.journal.name s.opened
+rows_none s rows stored = kept_unopened IsCatalogue s.catalogue.journal s.files s.opened s.past rows stored.kept
+
+lists_none : (s : Seen) (m : ManifestState) (t : Held) → TierStored m.granularity m.journal s.files s.opened s.past t → NoneOpened m.journal.name s.opened
+lists_none s m t stored = kept_unopened (Configured m.granularity) m.journal s.files s.opened s.past (map entry_of t.files) stored.kept
 
 three_of : (s : Seen) → length s.manifests ≡ 3 → length (granularities s.manifests) ≡ 3
 three_of s three = count s.manifests ∙ three
@@ -115,33 +125,33 @@ has_unopened tells s held told here has =
     let on = has.disk told in
     unopened_of (granularities s.manifests) s.files s.opened held (three_of s has.known.three) (has_left tells s held has told s.files here)
     (λ i low. let m = here_of s i has.known.three low in (on.each i m.0 m.1).safe.unopened)
-    (at_name s.opened s.catalogue.journal.name catalogue_name on.rows.named on.rows.kept.settled.unopened)
-    (λ i low. let m = here_of s i has.known.three low in at_name s.opened m.0.journal.name (manifest_name (i + 1)) (on.each i m.0 m.1).named (on.each i m.0 m.1).kept.settled.unopened)
+    (at_name s.opened s.catalogue.journal.name catalogue_name on.rows.named (rows_none s held.rows on.rows))
+    (λ i low. let m = here_of s i has.known.three low in at_name s.opened m.0.journal.name (manifest_name (i + 1)) (on.each i m.0 m.1).named (lists_none s m.0 (tier i held) (on.each i m.0 m.1)))
 
 -- what is known of the files of a doubt
 record IsClosed (s : Seen) (before after : Stores) : Type 0 where
-  catalogue : s.opened catalogue_name ≡ 0
-  manifests : (i : ℕ) → i < 3 → s.opened (manifest_name (i + 1)) ≡ 0
+  catalogue : NoneOpened catalogue_name s.opened
+  manifests : (i : ℕ) → i < 3 → NoneOpened (manifest_name (i + 1)) s.opened
   files : (i : ℕ) → i < 3 → AreUnopened (tier i before) s.opened
   files_after : (i : ℕ) → i < 3 → AreUnopened (tier i after) s.opened
 
 rows_closed : (s : Seen) (before after : Stores) → length s.manifests ≡ 3 → RowsUnsure s before after → IsClosed s before after
 rows_closed s before after three unsure = record {
-  catalogue = at_name s.opened s.catalogue.journal.name catalogue_name unsure.rows.named unsure.rows.unsure.in_doubt.unopened;
-  manifests = λ i low. let m = here_of s i three low in at_name s.opened m.0.journal.name (manifest_name (i + 1)) (unsure.each i m.0 m.1).named (unsure.each i m.0 m.1).kept.settled.unopened;
+  catalogue = at_name s.opened s.catalogue.journal.name catalogue_name unsure.rows.named (unsure_unopened IsCatalogue s.catalogue.journal s.files s.opened s.past before.rows after.rows unsure.rows.unsure);
+  manifests = λ i low. let m = here_of s i three low in at_name s.opened m.0.journal.name (manifest_name (i + 1)) (unsure.each i m.0 m.1).named (lists_none s m.0 (tier i before) (unsure.each i m.0 m.1));
   files = λ i low. let m = here_of s i three low in (unsure.each i m.0 m.1).safe.unopened;
   files_after = λ i low. let m = here_of s i three low in (unsure.each_after i m.0 m.1).safe.unopened;
 }
 
 place_closed : (tells : Bool) (s : Seen) (before after : Stores) (i : ℕ) (d : PlaceInDoubt i tells s before after) → length s.manifests ≡ 3 → PlaceUnsure i d.manifest s before after → IsClosed s before after
 place_closed tells s before after i d three unsure = record {
-  catalogue = at_name s.opened s.catalogue.journal.name catalogue_name unsure.rows.named unsure.rows.kept.settled.unopened;
+  catalogue = at_name s.opened s.catalogue.journal.name catalogue_name unsure.rows.named (rows_none s before.rows unsure.rows);
   manifests = λ k low. elim (same_cases k i) [
-    | inl same ↦ subst (λ (j : ℕ). s.opened (manifest_name (j + 1)) ≡ 0) (sym same) (at_name s.opened d.manifest.journal.name (manifest_name (i + 1)) unsure.list.named unsure.list.unsure.in_doubt.unopened)
+    | inl same ↦ subst (λ (j : ℕ). NoneOpened (manifest_name (j + 1)) s.opened) (sym same) (at_name s.opened d.manifest.journal.name (manifest_name (i + 1)) unsure.list.named (unsure_unopened (Configured d.manifest.granularity) d.manifest.journal s.files s.opened s.past (map entry_of (list_at i before)) (map entry_of (list_at i after)) unsure.list.unsure))
     | inr apart ↦
         let m = here_of s k three low in
         let stored = unsure.others k m.0 m.1 apart in
-        at_name s.opened m.0.journal.name (manifest_name (k + 1)) stored.named stored.kept.settled.unopened
+        at_name s.opened m.0.journal.name (manifest_name (k + 1)) stored.named (lists_none s m.0 (tier k before) stored)
   ];
   files = λ k low. (place_unopened tells s before after i d three unsure k low).0;
   files_after = λ k low. (place_unopened tells s before after i d three unsure k low).1;

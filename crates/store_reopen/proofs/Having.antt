@@ -1,19 +1,18 @@
 -- The stores that are opened have what reads give of the image.
-use Rattle.std.proofs.Common.{◌≡◌, ◌≢◌, ◌⊎◌, inl, inr, ℕ, zero, suc, ◌<◌, ◌≤◌, ◌+◌, List, [], ◌∷◌, length, get_or, map, Bool, true, false, Option, Some, refl, sym, ◌∙◌, ap, subst, arith}
-use Rattle.std.specs.Prelude.{All, IsTrue, slice_get, unwrap_or}
+use Rattle.std.proofs.Common.{◌≡◌, ◌≢◌, inl, inr, ℕ, zero, suc, ◌<◌, ◌≤◌, ◌+◌, List, [], ◌∷◌, length, get_or, map, Bool, true, false, Some, refl, sym, ◌∙◌, ap, subst, arith}
+use Rattle.std.specs.Prelude.{All, IsTrue, slice_get}
 use Rattle.std.specs.List.{AllByRecursion}
 use Rattle.std.proofs.lemmas.List.Elements.{All-from_recursion, All-map, All-head, All-tail, All-nil, All-cons}
 use Rattle.std.proofs.lemmas.Option.{slice_get_cases, slice_get_within, same_Some}
 use Rattle.std.proofs.lemmas.Bool.{false≢true}
 use Rattle.pv_name.specs.Key.{key_of}
-use Rattle.disk_model.specs.Files.{Name, Files, HasFile}
+use Rattle.disk_model.specs.Files.{Name, Files}
 use Rattle.disk_model.specs.Past.{Past, MayLeave, Passes}
 use Rattle.disk_model.specs.declared.disk.Disk.{Ghosts}
 use Rattle.disk_model.proofs.Passing.{passes_weaker}
 use Rattle.gate_journal.specs.Kept.{Says, StillSays}
 use Rattle.gate_journal.specs.Kept as journal
 use Rattle.partition_names.specs.declared.granularity.Granularity.{Granularity}
-use Rattle.partition_names.specs.declared.granularity.Granularity.TheVariants.{Hour}
 use Rattle.partition_names.specs.Part.{IsPart}
 use Rattle.etl_rules.specs.Config.{ConfigState}
 use Rattle.store_files.specs.Fronts.{Begins}
@@ -25,19 +24,19 @@ use Rattle.store_manifest.proofs.Committing.{one_listing}
 use Rattle.pv_catalog.specs.declared.row.Row.{Row}
 use Rattle.pv_catalog.specs.Catalogue.{catalogue_name, IsStored}
 use Rattle.pv_catalog.specs.Rows.{IsCatalogue, AreRows}
-use Rattle.durable_write.specs.Held.{Filed, Held, Shelf, IsListed, AreFiled, AreIn, entry_of, file_of, shelf_of, bytes_of, filed_at}
+use Rattle.durable_write.specs.Held.{Shelf, Filed, Held, IsListed, AreFiled, AreIn, entry_of, file_of, shelf_of, bytes_of, filed_at}
 use Rattle.durable_write.specs.Flush.{PlacesRise}
-use Rattle.durable_write.specs.Stored.{Holds, KeysDiffer, AreHeld, TierStored}
+use Rattle.durable_write.specs.Stored.{KeysDiffer, AreHeld, TierStored}
 use Rattle.tier_store.specs.Stores.{Stores, list_at, tier}
 use Rattle.tier_store.specs.Seen.{Seen, AtEach, granularities}
 use Rattle.tier_store.specs.Stored.{HoldsAll}
 use Rattle.tier_store.specs.Change.{IsKnown, Has, IsEither}
-use Rattle.tier_store.proofs.Places.{within_three, granularity_at as granularity_of, list_other}
-use Rattle.store_reopen.specs.Verdict.{HasRow, AreSaid, IsThere, Listings}
-use Rattle.store_reopen.specs.Reopen.{IsReady, IsUnopened, OpensEither, HoldsEither, ChangesOne, AllIn, StillHolds, SameStores, Reopens, stores_of, lists_of, entries_in}
-use Rattle.store_reopen.specs.Loading.{Journal, Catalogue, Manifest, Value, Means, name_of, granularity_at, StillSay, KeepsSaid}
-use Rattle.store_reopen.proofs.Keeping.{is_at, journal_cases}
+use Rattle.tier_store.proofs.Places.{within_three, granularity_at as granularity_of}
 use Rattle.store_reopen.proofs.OneJournal.{one_list_of_rows}
+use Rattle.store_reopen.specs.Verdict.{AreSaid, IsThere, Listings, HasRow}
+use Rattle.store_reopen.specs.Reopen.{IsReady, IsUnopened, OpensEither, HoldsEither, AllIn, StillHolds, Reopens, stores_of, lists_of, entries_in, SameStores}
+use Rattle.store_reopen.specs.Loading.{Catalogue, Manifest, granularity_at, StillSay, KeepsSaid}
+use Rattle.store_reopen.proofs.Keeping.{is_at}
 
 -- no partition's file is a journal
 pub listed_elsewhere : (shelf : Shelf) (e : Entry) → 1 ≤ shelf.0 → (file_of shelf e).0 ≢ 0
@@ -231,15 +230,15 @@ is_in before after held image (inr is) both = subst (λ (h : Stores). AllIn h im
 
 -- the stores have what reads gave
 pub has_read : (tells : Bool) (gs : List Granularity) (s : Seen) (files : Files) (old : Past) (before after held : Stores) → length gs ≡ 3 → IsReady gs s.catalogue s.manifests → OpensEither gs old before after → IsEither before after held → HoldsAll gs files held
-    → (IsTrue tells → IsLoaded s × Passes (StillSay gs files) old s.past) → AreSaid gs files s.catalogue.rows (lists_of s.manifests) → Has tells s held
+    → (IsTrue tells → IsLoaded s × Passes (StillSay gs) old s.past) → AreSaid gs files s.catalogue.rows (lists_of s.manifests) → Has tells s held
 has_read tells gs s files old before after held three ready opens either holds disk said =
     let own = said_of gs files held three holds in
     has_again tells gs s held three ready
     (record {
-      of_rows = one_list_of_rows (files catalogue_name) held.rows s.catalogue.rows own.rows_said said.rows_said;
+      of_rows = one_list_of_rows files held.rows s.catalogue.rows own.rows_said said.rows_said;
       listed = λ i m here.
           let g = own_granularity gs s.manifests i m ready.granularity here in
-          sym (listed_at s.manifests i m here) ∙ one_listing m.granularity m.granularity (files (manifest_name (i + 1))) (lists_of s.manifests i) (listing held i) (said.lists_said i m.granularity g) (own.lists_said i m.granularity g);
+          sym (listed_at s.manifests i m here) ∙ one_listing m.granularity m.granularity (manifest_name (i + 1)) files (lists_of s.manifests i) (listing held i) (said.lists_said i m.granularity g) (own.lists_said i m.granularity g);
     })
     (λ i m here. (holds i m.granularity (own_granularity gs s.manifests i m ready.granularity here)).filed)
     (λ told.
@@ -253,132 +252,32 @@ has_read tells gs s files old before after held three ready opens either holds d
 -- AT EACH MOMENT
 
 -- a manifest still says what it said, in its own granularity
-list_step : (gs : List Granularity) (files a c : Files) (i : ℕ) (g : Granularity) → slice_get gs i ≡ Some g → StillSay gs files a c → StillSays (Folds g) (files (manifest_name (i + 1))) (a (manifest_name (i + 1))) (c (manifest_name (i + 1)))
-list_step gs files a c i g here step = subst (λ (h : Granularity). StillSays (Folds h) (files (manifest_name (i + 1))) (a (manifest_name (i + 1))) (c (manifest_name (i + 1)))) (is_at gs i g here) (step.journals (Manifest i))
+list_step : (gs : List Granularity) (a c : Files) (i : ℕ) (g : Granularity) → slice_get gs i ≡ Some g → StillSay gs a c → StillSays (Folds g) (manifest_name (i + 1)) a c
+list_step gs a c i g here step = subst (λ (h : Granularity). StillSays (Folds h) (manifest_name (i + 1)) a c) (is_at gs i g here) (step.journals (Manifest i))
 
-pub still_holds : (gs : List Granularity) (files : Files) (old new : Past) → Passes (StillSay gs files) old new → Passes (StillHolds gs files) old new
-still_holds gs files old new passes = passes_weaker (StillSay gs files) (StillHolds gs files) old new passes (λ a c was step held at_first holds i g here.
-    let first = at_first i g here in
-    let old_holds = holds i g here in
+-- an image goes on to hold what it held
+still_one : (gs : List Granularity) (a c : Files) → StillSay gs a c → StillHolds gs a c
+still_one gs a c step held holds i g here =
+    let was = holds i g here in
     record {
-      rows = elim (step.journals Catalogue held.rows first.rows) [ inl same ↦ subst (Says IsCatalogue held.rows) (sym same) old_holds.rows | inr says ↦ says ];
-      lists = elim (list_step gs files a c i g here step (listing held i) first.lists) [ inl same ↦ subst (Says (Folds g) (listing held i)) (sym same) old_holds.lists | inr says ↦ says ];
-      filed = old_holds.filed;
-      files = still_in (tier i held) a c (omega arith) step.elsewhere old_holds.files;
-    })
+      rows = (step.journals Catalogue held.rows).0 was.rows;
+      lists = (list_step gs a c i g here step (listing held i)).0 was.lists;
+      filed = was.filed;
+      files = still_in (tier i held) a c (omega arith) step.elsewhere was.files;
+    }
 
--- WHAT THE JOURNALS SAY
+pub still_holds : (gs : List Granularity) (old new : Past) → Passes (StillSay gs) old new → Passes (StillHolds gs) old new
+still_holds gs old new passes = passes_weaker (StillSay gs) (StillHolds gs) old new passes (λ a c was step. still_one gs a c step)
 
--- of three stores
-abbrev pub IsOne : Journal → Type 0
-IsOne Catalogue = Unit {0}
-IsOne (Manifest i) = i < 3
-
--- what a journal says of what is held
-abbrev pub value_of : (j : Journal) → Stores → Value j
-value_of Catalogue held = held.rows
-value_of (Manifest i) held = listing held i
-
-abbrev SaysOf : List Granularity → Files → Stores → Journal → Type 0
-SaysOf gs image held j = Says (Means gs j) (value_of j held) (image (name_of j))
-
-abbrev AllSay : List Granularity → Files → Stores → Type 0
-AllSay gs image held = (j : Journal) → IsOne j → SaysOf gs image held j
-
-all_say : (gs : List Granularity) (image : Files) (held : Stores) → length gs ≡ 3 → HoldsAll gs image held → AllSay gs image held
-all_say gs image held three holds Catalogue one = (said_of gs image held three holds).rows_said
-all_say gs image held three holds (Manifest i) one =
-    let g = granularity_here gs i (omega (arith, one, three)) in
-    subst (λ (h : Granularity). Says (Folds h) (listing held i) (image (manifest_name (i + 1)))) (sym (is_at gs i g.0 g.1)) (holds i g.0 g.1).lists
-
-holds_of : (gs : List Granularity) (a image : Files) (held : Stores) → length gs ≡ 3 → AllSay gs image held → HoldsAll gs a held → AllIn held image → HoldsAll gs image held
-holds_of gs a image held three say holds files i g here = record {
-  rows = say Catalogue tt;
-  lists = subst (λ (h : Granularity). Says (Folds h) (listing held i) (image (manifest_name (i + 1)))) (is_at gs i g here) (say (Manifest i) (low_of gs i g three here));
-  filed = (holds i g here).filed;
-  files = files i (low_of gs i g three here);
-}
-
--- two say the same but in this journal
-record Beside (j : Journal) (x y : Stores) : Type 0 where
-  one : IsOne j
-  same : (k : Journal) → IsOne k → k ≢ j → value_of k y ≡ value_of k x
-
--- an image of which all journals say the one goes on so, or says what reads give, where the two differ in one journal alone
-said_either : (gs : List Granularity) (files a c : Files) (x y : Stores) (j : Journal) → Beside j x y → AllSay gs a x → AllSay gs files y → StillSay gs files a c → AllSay gs c x ⊎ AllSay gs c y
-said_either gs files a c x y j beside was read step = elim (step.journals j (value_of j y) (read j beside.one)) [
-  | inl same ↦ inl (λ k one. elim (journal_cases k j) [
-    | inl is ↦ subst (SaysOf gs c x) (sym is) (subst (Says (Means gs j) (value_of j x)) (sym same) (was j beside.one))
-    | inr apart ↦ other_x k one (λ is. apart (ap name_of is))
-  ])
-  | inr says ↦ inr (λ k one. elim (journal_cases k j) [
-    | inl is ↦ subst (SaysOf gs c y) (sym is) says
-    | inr apart ↦ other_y k one (λ is. apart (ap name_of is))
-  ])
-]
-  where
-    other_y : (k : Journal) → IsOne k → k ≢ j → SaysOf gs c y k
-    other_y k one apart = elim (step.journals k (value_of k y) (read k one)) [
-      | inl same ↦ subst (Says (Means gs k) (value_of k y)) (sym same) (subst (λ (v : Value k). Says (Means gs k) v (a (name_of k))) (sym (beside.same k one apart)) (was k one))
-      | inr says ↦ says
-    ]
-
-    other_x : (k : Journal) → IsOne k → k ≢ j → SaysOf gs c x k
-    other_x k one apart = subst (λ (v : Value k). Says (Means gs k) v (c (name_of k))) (beside.same k one apart) (other_y k one apart)
-
--- the two of a change
-beside_of : (before after : Stores) → ChangesOne before after → (j : Journal) × Beside j before after
-beside_of before after (inl rows) = (Catalogue, record { one = tt; same = λ k one apart. alike k apart })
-  where
-    alike : (k : Journal) → k ≢ Catalogue → value_of k after ≡ value_of k before
-    alike Catalogue apart = absurd (apart refl)
-    alike (Manifest i) apart = ap (λ (h : Stores). listing h i) rows
-beside_of before after (inr list) = (Manifest list.0, record { one = list.1; same = λ k one apart. alike k one apart })
-  where
-    alike : (k : Journal) → IsOne k → k ≢ Manifest list.0 → value_of k after ≡ value_of k before
-    alike Catalogue one apart = ap (λ (h : Stores). h.rows) list.2
-    alike (Manifest i) one apart = ap (λ (h : Stores). listing h i) list.2 ∙ ap (map entry_of) (list_other list.0 i (list_at list.0 after) before list.1 one (λ is. apart (ap (λ (n : ℕ). Manifest n) is)))
-
--- two of these two
-beside_each : (before after x y : Stores) (j : Journal) → Beside j before after → IsEither before after x → IsEither before after y → Beside j x y
-beside_each before after x y j beside x_is y_is = record { one = beside.one; same = λ k one apart. go k (beside.same k one apart) x_is y_is }
-  where
-    go : (k : Journal) → value_of k after ≡ value_of k before → IsEither before after x → IsEither before after y → value_of k y ≡ value_of k x
-    go k same (inl a) (inl b) = ap (value_of k) (b ∙ sym a)
-    go k same (inr a) (inr b) = ap (value_of k) (b ∙ sym a)
-    go k same (inl a) (inr b) = ap (value_of k) b ∙ same ∙ sym (ap (value_of k) a)
-    go k same (inr a) (inl b) = ap (value_of k) b ∙ sym same ∙ sym (ap (value_of k) a)
-
--- what an image holds that holds the one or the other
-either_holds : (gs : List Granularity) (image : Files) (before after held : Stores) → IsEither before after held → HoldsAll gs image held → HoldsEither gs before after image
-either_holds gs image before after held (inl is) holds = inl (subst (HoldsAll gs image) is holds)
-either_holds gs image before after held (inr is) holds = inr (subst (HoldsAll gs image) is holds)
-
-pub still_either : (gs : List Granularity) (files : Files) (old new : Past) (before after : Stores) → length gs ≡ 3 → MayLeave old files → OpensEither gs old before after → Passes (StillSay gs files) old new → Passes (λ a b. HoldsEither gs before after b) old new
-still_either gs files old new before after three here opens passes = passes_weaker (StillSay gs files) (λ a b. HoldsEither gs before after b) old new passes (λ a c was step. by a c was step (opens.holds a was))
-  where
-    read : (held : Stores) × IsEither before after held × HoldsAll gs files held
-    read = reads_one gs files old before after here opens
-
-    change : (j : Journal) × Beside j before after
-    change = beside_of before after opens.one_change
-
-    go : (a c : Files) → MayLeave old a → StillSay gs files a c → (x : Stores) → IsEither before after x → HoldsAll gs a x → HoldsEither gs before after c
-    go a c was step x x_is holds =
-        let y = read.0 in
-        let both = opens.files a was in
-        elim (said_either gs files a c x y change.0 (beside_each before after x y change.0 change.1 x_is read.1) (all_say gs a x three holds) (all_say gs files y three read.2) step) [
-          | inl say ↦ either_holds gs c before after x x_is (holds_of gs a c x three say holds (all_still_in x a c step.elsewhere (is_in before after x a x_is both)))
-          | inr say ↦ either_holds gs c before after y read.1 (holds_of gs files c y three say read.2 (all_still_in y a c step.elsewhere (is_in before after y a read.1 both)))
-        ]
-
-    by : (a c : Files) → MayLeave old a → StillSay gs files a c → HoldsEither gs before after a → HoldsEither gs before after c
-    by a c was step (inl holds) = go a c was step before (inl refl) holds
-    by a c was step (inr holds) = go a c was step after (inr refl) holds
+pub still_either : (gs : List Granularity) (old new : Past) (before after : Stores) → OpensEither gs old before after → Passes (StillSay gs) old new → Passes (λ a b. HoldsEither gs before after b) old new
+still_either gs old new before after opens passes = passes_weaker (StillSay gs) (λ a b. HoldsEither gs before after b) old new passes (λ a c was step. elim (opens.holds a was) [
+  | inl holds ↦ inl (still_one gs a c step before holds)
+  | inr holds ↦ inr (still_one gs a c step after holds)
+])
 
 -- and so it may be opened again
-pub opens_again : (gs : List Granularity) (files : Files) (old new : Past) (before after : Stores) → length gs ≡ 3 → MayLeave old files → Passes (StillSay gs files) old new → OpensEither gs old before after → OpensEither gs new before after
-opens_again gs files old new before after three here passes opens = record {
+pub opens_again : (gs : List Granularity) (old new : Past) (before after : Stores) → Passes (StillSay gs) old new → OpensEither gs old before after → OpensEither gs new before after
+opens_again gs old new before after passes opens = record {
   one_change = opens.one_change;
   holds = λ image left.
       let come = either.each new.now image either.later (omega arith) left in
@@ -390,7 +289,7 @@ opens_again gs files old new before after three here passes opens = record {
 }
   where
     either : Passes (λ a b. HoldsEither gs before after b) old new
-    either = still_either gs files old new before after three here opens passes
+    either = still_either gs old new before after opens passes
 
 -- THE DISK AFTERWARDS
 
@@ -401,8 +300,10 @@ there_in i files seen rows e same there = record { bytes = there.bytes; file = s
 pub all_there_in : (i : ℕ) (files seen : Files) (rows : List Row) (entries : List Entry) → ((n : Name) → n.0 ≢ 0 → files n ≡ seen n) → All (IsThere i files rows) entries → All (IsThere i seen rows) entries
 all_there_in i files seen rows entries same there = λ k d lt. there_in i files seen rows (get_or entries k d) same (there k d lt)
 
-unopened_later : (i : ℕ) (rows : List Row) (entries : List Entry) (opened after : Name → ℕ) → ((n : Name) → after n ≡ opened n) → All (λ (e : Entry). opened (file_of (i + 1, rows) e) ≤ e.len) entries → All (λ (e : Entry). after (file_of (i + 1, rows) e) ≤ e.len) entries
-unopened_later i rows entries opened after same was = λ k d lt. omega (arith, was k d lt, same (file_of (i + 1, rows) (get_or entries k d)))
+unopened_later : (i : ℕ) (rows : List Row) (entries : List Entry) (opened after : Name → ℕ) → ((n : Name) → n.0 ≢ 0 → after n ≡ opened n) → All (λ (e : Entry). opened (file_of (i + 1, rows) e) ≤ e.len) entries → All (λ (e : Entry). after (file_of (i + 1, rows) e) ≤ e.len) entries
+unopened_later i rows entries opened after same was = λ k d lt.
+    let e = get_or entries k d in
+    omega (arith, was k d lt, same (file_of (i + 1, rows) e) (listed_elsewhere (i + 1, rows) e (omega arith)))
 
 -- a list of the one granularity at this place
 abbrev only : Granularity → List Granularity
@@ -416,11 +317,11 @@ only_at g (suc (suc (suc i))) low = absurd (omega (arith, low))
 
 pub still_unopened : (gs : List Granularity) (files later : Files) (opened after : Name → ℕ) (old new : Past) → KeepsSaid gs files opened old later after new → IsUnopened files opened → IsUnopened later after
 still_unopened gs files later opened after old new keeps unopened = record {
-  catalogue = keeps.same_opened catalogue_name ∙ unopened.catalogue;
-  manifests = λ i low. keeps.same_opened (manifest_name (i + 1)) ∙ unopened.manifests i low;
+  catalogue = keeps.none_opened Catalogue unopened.catalogue;
+  manifests = λ i low. keeps.none_opened (Manifest i) (unopened.manifests i low);
   listed = λ rows rows_said i low g entries said.
-      let own = subst (λ (h : Granularity). Says (Folds h) entries (later (manifest_name (i + 1)))) (sym (only_at g i low)) said in
-      let was = subst (λ (h : Granularity). Says (Folds h) entries (files (manifest_name (i + 1)))) (only_at g i low) (keeps.no_more (only g) (Manifest i) entries own) in
+      let own = subst (λ (h : Granularity). Says (Folds h) entries (manifest_name (i + 1)) later) (sym (only_at g i low)) said in
+      let was = subst (λ (h : Granularity). Says (Folds h) entries (manifest_name (i + 1)) files) (only_at g i low) (keeps.no_more (only g) (Manifest i) entries own) in
       unopened_later i rows entries opened after keeps.same_opened (unopened.listed rows (keeps.no_more gs Catalogue rows rows_said) i low g entries was);
 }
 
@@ -435,18 +336,18 @@ loaded_again gs s files opened old three keeps unopened ready stored kept named 
   there = λ i m here. all_there_in i files s.files s.catalogue.rows m.entries (λ n other. sym (keeps.elsewhere n other)) (there i m here);
   unopened = λ i m here.
       let g = own_granularity gs s.manifests i m ready.granularity here in
-      let lists : Says (Folds m.granularity) m.entries (files (manifest_name (i + 1))) = subst (λ (es : List Entry). Says (Folds m.granularity) es (files (manifest_name (i + 1)))) (listed_at s.manifests i m here) (said.lists_said i m.granularity g) in
+      let lists : Says (Folds m.granularity) m.entries (manifest_name (i + 1)) files = subst (λ (es : List Entry). Says (Folds m.granularity) es (manifest_name (i + 1)) files) (listed_at s.manifests i m here) (said.lists_said i m.granularity g) in
       unopened_later i s.catalogue.rows m.entries opened s.opened keeps.same_opened (unopened.listed s.catalogue.rows said.rows_said i (low_of gs i m.granularity three g) m.granularity m.entries lists);
 }
 
-pub reopened : {D R : Type 0} (disk : Ghosts D R) (gs : List Granularity) (old new : D) → length gs ≡ 3 → MayLeave (disk.past old) (disk.files old) → IsUnopened (disk.files old) (disk.opened old)
+pub reopened : {D R : Type 0} (disk : Ghosts D R) (gs : List Granularity) (old new : D) → IsUnopened (disk.files old) (disk.opened old)
     → KeepsSaid gs (disk.files old) (disk.opened old) (disk.past old) (disk.files new) (disk.opened new) (disk.past new) → Reopens disk gs old new
-reopened {D} {R} disk gs old new three read unopened keeps = record {
-  any_moment = still_holds gs (disk.files old) (disk.past old) (disk.past new) keeps.passes;
-  either = λ before after opens. still_either gs (disk.files old) (disk.past old) (disk.past new) before after three read opens keeps.passes;
-  opens = λ before after opens. opens_again gs (disk.files old) (disk.past old) (disk.past new) before after three read keeps.passes opens;
+reopened {D} {R} disk gs old new unopened keeps = record {
+  any_moment = still_holds gs (disk.past old) (disk.past new) keeps.passes;
+  either = λ before after opens. still_either gs (disk.past old) (disk.past new) before after opens keeps.passes;
+  opens = λ before after opens. opens_again gs (disk.past old) (disk.past new) before after keeps.passes opens;
   elsewhere = keeps.elsewhere;
-  stores = passes_weaker (StillSay gs (disk.files old)) SameStores (disk.past old) (disk.past new) keeps.passes (λ a c left step. step.elsewhere);
+  stores = passes_weaker (StillSay gs) SameStores (disk.past old) (disk.past new) keeps.passes (λ a c left step. step.elsewhere);
   unopened = still_unopened gs (disk.files old) (disk.files new) (disk.opened old) (disk.opened new) (disk.past old) (disk.past new) keeps unopened;
 }
 

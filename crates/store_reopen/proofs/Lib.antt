@@ -2,6 +2,7 @@ pub mod HandedBack
 pub mod Having
 pub mod Keeping
 pub mod Looking
-pub mod OneJournal
 pub mod Manifests
+pub mod OneJournal
+pub mod OneReading
 pub mod Verdicts

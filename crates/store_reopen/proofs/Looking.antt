@@ -5,7 +5,6 @@ use Rattle.std.proofs.lemmas.Bool.{cases_lt}
 use Rattle.std.proofs.lemmas.List.{take_all}
 use Rattle.std.proofs.lemmas.List.Elements.{All-more}
 use Rattle.disk_model.specs.Files.{Name, Files, HasFile}
-use Rattle.disk_model.specs.declared.disk.DiskErr.{DiskErr}
 use Rattle.partition_names.specs.declared.granularity.Granularity.{Granularity}
 use Rattle.store_manifest.specs.declared.entry.Entry.{Entry}
 use Rattle.store_manifest.specs.Manifest.{ManifestState, manifest_name}
@@ -17,7 +16,7 @@ use Rattle.store_reopen.specs.declared.error.Refusal.{Refusal}
 use Rattle.store_reopen.specs.declared.error.Refusal.TheVariants.{Disk, Damaged, GranularityDiffers}
 use Rattle.store_reopen.specs.Refusal.{IsTold, IsToldShort}
 use Rattle.store_reopen.specs.Reopen.{lists_of}
-use Rattle.store_reopen.specs.Verdict.{HasRow, EndsEarly, AreSaid, AreOfRows, AreThere, IsThere, IsFirstShort, HasShortFile, HasStranger, file_short, stranger}
+use Rattle.store_reopen.specs.Verdict.{AreSaid, IsThere, IsFirstShort, HasStranger, file_short, stranger, HasRow, EndsEarly}
 use Rattle.store_reopen.proofs.Having.{all_there_in, listed_at, listed_elsewhere}
 
 pub no_some : (o : Option ℕ) → ((x : ℕ) → o ≡ Some x → ⊥) → o ≡ None

@@ -4,7 +4,9 @@ use Rattle.std.specs.Prelude.{slice_get}
 use Rattle.std.specs.List.{AllAdjacentBelow}
 use Rattle.std.proofs.lemmas.Bool.{cases_lt}
 use Rattle.std.proofs.lemmas.Option.{same_Some, slice_get_within}
-use Rattle.disk_model.specs.Files.{Content, Files}
+use Rattle.disk_model.specs.Files.{Name, Files}
+use Rattle.gate_journal.specs.Generations.{IsOwn}
+use Rattle.gate_journal.proofs.Keeping.{says_stays}
 use Rattle.gate_journal.specs.Kept.{Says}
 use Rattle.etl_rules.specs.Config.{ConfigState, IsGood}
 use Rattle.partition_names.specs.Granularity.{Holds}
@@ -67,21 +69,21 @@ nested_next config i place g good here few next = nested_at config.granularity i
 
 -- what the manifests at the first places say
 abbrev SaidAt : Files → List ManifestState → Type 0
-SaidAt files ms = AtEach ms (λ i m. Says (Folds m.granularity) m.entries (files (manifest_name (i + 1))))
+SaidAt files ms = AtEach ms (λ i m. Says (Folds m.granularity) m.entries (manifest_name (i + 1)) files)
 
 abbrev OfTheirs : List Granularity → List ManifestState → Type 0
 OfTheirs gs ms = AtEach ms (λ i m. slice_get gs i ≡ Some m.granularity)
 
-said_one : (gs : List Granularity) (files : Files) (ms : List ManifestState) → SaidAt files ms → OfTheirs gs ms → (i : ℕ) (g : Granularity) → i < length ms → slice_get gs i ≡ Some g → Says (Folds g) (lists_of ms i) (files (manifest_name (i + 1)))
+said_one : (gs : List Granularity) (files : Files) (ms : List ManifestState) → SaidAt files ms → OfTheirs gs ms → (i : ℕ) (g : Granularity) → i < length ms → slice_get gs i ≡ Some g → Says (Folds g) (lists_of ms i) (manifest_name (i + 1)) files
 said_one gs files ms said own i g low here =
     let m = manifest_at ms i low in
     let is : m.0.granularity ≡ g = same_Some m.0.granularity g (sym (own i m.0 m.1) ∙ here) in
-    subst (λ (es : List Entry). Says (Folds g) es (files (manifest_name (i + 1)))) (sym (listed_at ms i m.0 m.1)) (subst (λ (h : Granularity). Says (Folds h) m.0.entries (files (manifest_name (i + 1)))) is (said i m.0 m.1))
+    subst (λ (es : List Entry). Says (Folds g) es (manifest_name (i + 1)) files) (sym (listed_at ms i m.0 m.1)) (subst (λ (h : Granularity). Says (Folds h) m.0.entries (manifest_name (i + 1)) files) is (said i m.0 m.1))
 
-pub said_below : (gs : List Granularity) (files seen : Files) (ms : List ManifestState) (n : ℕ) → length ms ≡ n → n ≤ 3 → SaidAt files ms → OfTheirs gs ms → ((i : ℕ) → i < 3 → files (manifest_name (i + 1)) ≡ seen (manifest_name (i + 1))) → AreSaidBelow n gs seen (lists_of ms)
-said_below gs files seen ms n count few said own same i g low here = subst (Says (Folds g) (lists_of ms i)) (same i (omega (arith, low, few))) (said_one gs files ms said own i g (omega (arith, low, count)) here)
+pub said_below : (gs : List Granularity) (files seen : Files) (ms : List ManifestState) (n : ℕ) → length ms ≡ n → n ≤ 3 → SaidAt files ms → OfTheirs gs ms → ((i : ℕ) (n : Name) → i < 3 → IsOwn (manifest_name (i + 1)) n → files n ≡ seen n) → AreSaidBelow n gs seen (lists_of ms)
+said_below gs files seen ms n count few said own same i g low here = says_stays (Folds g) (lists_of ms i) (manifest_name (i + 1)) files seen (λ n mine. sym (same i n (omega (arith, low, few)) mine)) (said_one gs files ms said own i g (omega (arith, low, count)) here)
 
-pub are_said : (gs : List Granularity) (files seen : Files) (rows : List Row) (ms : List ManifestState) → length gs ≡ 3 → length ms ≡ 3 → Says IsCatalogue rows (seen catalogue_name) → SaidAt files ms → OfTheirs gs ms → ((i : ℕ) → i < 3 → files (manifest_name (i + 1)) ≡ seen (manifest_name (i + 1))) → AreSaid gs seen rows (lists_of ms)
+pub are_said : (gs : List Granularity) (files seen : Files) (rows : List Row) (ms : List ManifestState) → length gs ≡ 3 → length ms ≡ 3 → Says IsCatalogue rows catalogue_name seen → SaidAt files ms → OfTheirs gs ms → ((i : ℕ) (n : Name) → i < 3 → IsOwn (manifest_name (i + 1)) n → files n ≡ seen n) → AreSaid gs seen rows (lists_of ms)
 are_said gs files seen rows ms three count rows_said said own same = record {
   rows_said = rows_said;
   lists_said = λ i g here. said_below gs files seen ms 3 count (omega arith) said own same i g (low_of gs i g three here) here;

@@ -1,35 +1,39 @@
--- What one journal says goes on through loads and reads, and where it is bad.
-use Rattle.std.proofs.Common.{◌≡◌, ◌≢◌, ◌+◌, ◌⊎◌, inl, inr, ℕ, zero, suc, List, [], ◌∷◌, ◌++◌, length, take, get_or, Some, None, refl, sym, ◌∙◌, ap, subst, arith, length-append, add-one}
-use Rattle.std.specs.Int.{to_le_bytes, w32}
-use Rattle.std.specs.Prelude.{slice_get}
+-- One journal: what it says goes on through loads and reads, and where it is bad.
+use Rattle.std.proofs.Common.{◌≡◌, ◌≢◌, ◌+◌, ◌⊎◌, inl, inr, ℕ, List, [], get_or, refl, sym, ◌∙◌, ap, subst, arith, zero, suc, ◌∷◌, ◌++◌, length, take, None, Some, length-append, add-one}
 use Rattle.std.proofs.lemmas.Bool.{cases_eq}
-use Rattle.std.proofs.lemmas.Option.{none-some, same_Some}
-use Rattle.disk_model.specs.Files.{Name, Content, Files, At}
+use Rattle.disk_model.specs.Files.{Name, Files, Content}
 use Rattle.disk_model.specs.Past.{Past, Passes}
 use Rattle.disk_model.proofs.Passing.{passes_weaker}
-use Rattle.gate_journal.specs.Batches.{HasBatches, IsBadJournal, IsShort, open_gates, framed_bytes}
-use Rattle.gate_journal.specs.Journal.{JournalState}
+use Rattle.gate_journal.specs.Generations.{IsOwn, AtOwn, KeepsBatches, at_name, generation_name, generation_batches, HasBatchesOf, IsBadOf}
+use Rattle.gate_journal.specs.Journal.{JournalState, IsSettledWith}
 use Rattle.gate_journal.specs.Kept.{Says, StillSays, IsKept}
-use Rattle.gate_journal.specs.Load.{Loads}
-use Rattle.gate_journal.proofs.Keeping.{one_value, load_says, kept_stays}
+use Rattle.gate_journal.proofs.Keeping.{one_value, says_stays, keeps_says, load_says, kept_stays}
+use Rattle.gate_journal.proofs.Owning.{own_store, says_of}
 use Rattle.partition_names.specs.declared.granularity.Granularity.{Granularity}
 use Rattle.store_manifest.specs.declared.entry.Entry.{Entry}
 use Rattle.store_manifest.specs.Batches.{Folds}
-use Rattle.store_manifest.specs.Batches as manifest
-use Rattle.store_manifest.specs.Manifest.{manifest_name}
+use Rattle.store_manifest.specs.Manifest.{manifest_name, StaysOrBegins}
 use Rattle.store_manifest.proofs.Committing.{one_listing}
 use Rattle.pv_catalog.specs.declared.row.Row.{Row}
 use Rattle.pv_catalog.specs.Catalogue.{catalogue_name}
 use Rattle.pv_catalog.specs.Rows.{IsCatalogue}
-use Rattle.pv_catalog.specs.Rows as catalogue
 use Rattle.pv_catalog.proofs.Meaning.{one_meaning}
-use Rattle.durable_write.proofs.Names.{name_cases}
-use Rattle.store_reopen.specs.OneJournal.{Journal, Catalogue, Manifest, Value, Means, name_of, StillSay, KeepsSaid, IsBadFile}
+use Rattle.durable_write.proofs.Ending.{other_journal}
+use Rattle.durable_write.proofs.Three.{manifests_differ}
+use Rattle.store_reopen.specs.OneJournal.{Journal, Catalogue, Manifest, Value, Means, NoneOpened, name_of, StillSay, KeepsSaid, IsGate, IsBadFile}
+use Rattle.std.specs.Prelude.{slice_get}
+use Rattle.std.proofs.lemmas.Option.{none-some, same_Some}
+use Rattle.std.specs.Int.{to_le_bytes, w32}
+use Rattle.gate_journal.specs.Batches.{HasBatches, IsBadJournal, IsShort, open_gates, framed_bytes}
+use Rattle.gate_journal.proofs.Holding.{settled_seen}
+use Rattle.store_reopen.proofs.OneReading.{one_list, none_told, one_generation_told}
+use Rattle.store_manifest.specs.Batches as manifest
+use Rattle.pv_catalog.specs.Rows as catalogue
 
-pub one_list_of_rows : (content : Content) (a b : List Row) → Says IsCatalogue a content → Says IsCatalogue b content → a ≡ b
-one_list_of_rows content a b one two = one_value IsCatalogue (one_meaning []) content a b one two
+pub one_list_of_rows : (image : Files) (a b : List Row) → Says IsCatalogue a catalogue_name image → Says IsCatalogue b catalogue_name image → a ≡ b
+one_list_of_rows image a b one two = one_value IsCatalogue (one_meaning []) catalogue_name image a b one two
 
--- JOURNALS ARE DIFFERENT FILES
+-- JOURNALS HAVE NO FILE IN COMMON
 
 pub journals_differ : (store : ℕ) → catalogue_name ≢ manifest_name store
 journals_differ store is = let first : get_or catalogue_name.1 0 0 ≡ get_or (manifest_name store).1 0 0 = ap (λ (n : Name). get_or n.1 0 0) is in absurd (omega (arith, first))
@@ -37,29 +41,28 @@ journals_differ store is = let first : get_or catalogue_name.1 0 0 ≡ get_or (m
 one_store : (s t : ℕ) → manifest_name s ≡ manifest_name t → s ≡ t
 one_store s t is = let digit : 48 + s ≡ 48 + t = ap (λ (n : Name). get_or n.1 8 0) is in omega (arith, digit)
 
-journal_cases : (i j : Journal) → (i ≡ j) ⊎ (name_of i ≢ name_of j)
+journal_cases : (i j : Journal) → (i ≡ j) ⊎ (i ≢ j)
 journal_cases Catalogue Catalogue = inl refl
-journal_cases Catalogue (Manifest t) = inr (journals_differ t)
-journal_cases (Manifest s) Catalogue = inr (λ is. journals_differ s (sym is))
+journal_cases Catalogue (Manifest t) = inr (λ is. journals_differ t (ap name_of is))
+journal_cases (Manifest s) Catalogue = inr (λ is. journals_differ s (sym (ap name_of is)))
 journal_cases (Manifest s) (Manifest t) = elim (cases_eq s t) [
   | inl same ↦ inl (ap (λ (n : ℕ). Manifest n) same)
-  | inr apart ↦ inr (λ is. apart (one_store s t is))
+  | inr apart ↦ inr (λ is. apart (one_store s t (ap name_of is)))
 ]
+
+journals_apart : (i j : Journal) → i ≢ j → (n : Name) → IsOwn (name_of i) n → IsOwn (name_of j) n → ⊥
+journals_apart Catalogue Catalogue apart n own too = apart refl
+journals_apart Catalogue (Manifest t) apart n own too = other_journal t n own too
+journals_apart (Manifest s) Catalogue apart n own too = other_journal s n too own
+journals_apart (Manifest s) (Manifest t) apart n own too = manifests_differ s t (λ is. apart (ap (λ (k : ℕ). Manifest k) is)) n own too
 
 of_zero : (j : Journal) → (name_of j).0 ≡ 0
 of_zero Catalogue = refl
 of_zero (Manifest store) = refl
 
 -- a name of another store is no journal's
-no_journal : (n : Name) (j : Journal) → n.0 ≢ 0 → n ≢ name_of j
-no_journal n j other is = other (ap (λ (m : Name). m.0) is ∙ of_zero j)
-
--- nothing was opened but of names other than this one
-opened_alike : (name : Name) (opened after : Name → ℕ) → ((n : Name) → n ≢ name → after n ≡ opened n) → opened name ≡ 0 → after name ≡ 0 → (n : Name) → after n ≡ opened n
-opened_alike name opened after others was is n = elim (name_cases n name) [
-  | inl same ↦ ap after same ∙ is ∙ sym was ∙ ap opened (sym same)
-  | inr apart ↦ others n apart
-]
+no_journal : (n : Name) (j : Journal) → n.0 ≢ 0 → IsOwn (name_of j) n → ⊥
+no_journal n j other own = other (own_store (name_of j) n own ∙ of_zero j)
 
 -- ONE CALL AFTER ANOTHER
 
@@ -67,114 +70,112 @@ opened_alike name opened after others was is n = elim (name_cases n name) [
 pub kept_reads : {A : Type 0} (Means : List (List ℕ) → A → Type 0) (journal : JournalState) (files : Files) (opened : Name → ℕ) (old : Past) (later : Files) (after : Name → ℕ) (new : Past) (value : A) → IsKept Means journal files opened old value → later ≡ files → Passes (λ a b. b ≡ a) old new → after ≡ opened
     → IsKept Means journal later after new value
 kept_reads {A} Means journal files opened old later after new value kept same passes opened_same =
-    let fewer : after journal.name ≡ opened journal.name = ap (λ (o : Name → ℕ). o journal.name) opened_same in
-    kept_stays Means journal files later opened after old new value (λ a b. b ≡ a) kept passes (λ a c is. ap (λ (f : Files). f journal.name) is) (ap (λ (f : Files). f journal.name) same) (omega (arith, fewer))
+    kept_stays Means journal files opened old later after new (λ a b. b ≡ a) passes (λ a c is n own. ap (λ (f : Files). f n) is) (λ n own. ap (λ (f : Files). f n) same)
+    (λ n own. let fewer : after n ≡ opened n = ap (λ (o : Name → ℕ). o n) opened_same in omega (arith, fewer)) value kept
 
 -- the catalogue stays while a manifest is loaded
-pub catalogue_stays : (store : ℕ) (R : Content → Content → Type 0) (journal : JournalState) (files : Files) (opened : Name → ℕ) (old : Past) (later : Files) (after : Name → ℕ) (new : Past) (rows : List Row) → journal.name ≡ catalogue_name → IsKept IsCatalogue journal files opened old rows
-    → ((n : Name) → n ≢ manifest_name store → later n ≡ files n) → Passes (At (manifest_name store) R) old new → ((n : Name) → n ≢ manifest_name store → after n ≡ opened n) → IsKept IsCatalogue journal later after new rows
+pub catalogue_stays : (store : ℕ) (R : Files → Files → Type 0) (journal : JournalState) (files : Files) (opened : Name → ℕ) (old : Past) (later : Files) (after : Name → ℕ) (new : Past) (rows : List Row) → journal.name ≡ catalogue_name → IsKept IsCatalogue journal files opened old rows
+    → ((n : Name) → (IsOwn (manifest_name store) n → ⊥) → later n ≡ files n) → Passes (AtOwn (manifest_name store) R) old new → ((n : Name) → (IsOwn (manifest_name store) n → ⊥) → after n ≡ opened n) → IsKept IsCatalogue journal later after new rows
 catalogue_stays store R journal files opened old later after new rows named kept others passes others_opened =
-    let apart : journal.name ≢ manifest_name store = λ is. journals_differ store (sym named ∙ is) in
-    let fewer : after journal.name ≡ opened journal.name = others_opened journal.name apart in
-    kept_stays IsCatalogue journal files later opened after old new rows (At (manifest_name store) R) kept passes (λ a c step. step.elsewhere journal.name apart) (others journal.name apart) (omega (arith, fewer))
+    kept_stays IsCatalogue journal files opened old later after new (AtOwn (manifest_name store) R) passes (λ a c step n own. step.elsewhere n (apart n own)) (λ n own. others n (apart n own))
+    (λ n own. let fewer = others_opened n (apart n own) in omega (arith, fewer)) rows kept
+  where
+    apart : (n : Name) → IsOwn journal.name n → IsOwn (manifest_name store) n → ⊥
+    apart n own too = other_journal store n (subst (λ (m : Name). IsOwn m n) named own) too
 
 -- ONE JOURNAL IS LOADED
 
--- the one says what it said, and every other name is as it was
+-- the one says what it said, and every name that isn't one of its files is as it was
 record LoadsOne (g : Granularity) (j : Journal) (files : Files) (opened : Name → ℕ) (old : Past) (later : Files) (after : Name → ℕ) (new : Past) : Type 0 where
-  passes : Passes (At (name_of j) (StillSays (Means g j) (files (name_of j)))) old new
-  others : (n : Name) → n ≢ name_of j → later n ≡ files n
-  said : (value : Value j) → Says (Means g j) value (files (name_of j)) → Says (Means g j) value (later (name_of j))
-  no_more : (h : Granularity) (value : Value j) → Says (Means h j) value (later (name_of j)) → Says (Means h j) value (files (name_of j))
-  others_opened : (n : Name) → n ≢ name_of j → after n ≡ opened n
-  was : opened (name_of j) ≡ 0
-  is : after (name_of j) ≡ 0
+  passes : Passes (AtOwn (name_of j) (StillSays (Means g j) (name_of j))) old new
+  others : (n : Name) → (IsOwn (name_of j) n → ⊥) → later n ≡ files n
+  said : (value : Value j) → Says (Means g j) value (name_of j) files → Says (Means g j) value (name_of j) later
+  no_more : (h : Granularity) (value : Value j) → Says (Means h j) value (name_of j) later → Says (Means h j) value (name_of j) files
+  others_opened : (n : Name) → (IsOwn (name_of j) n → ⊥) → after n ≡ opened n
+  is : NoneOpened (name_of j) after
 
 -- what another journal says
 abbrev Goes : Granularity → Files → Files → Journal → Type 0
-Goes g files later j = (value : Value j) → Says (Means g j) value (files (name_of j)) → Says (Means g j) value (later (name_of j))
+Goes g files later j = (value : Value j) → Says (Means g j) value (name_of j) files → Says (Means g j) value (name_of j) later
 
 kept_load : (g : Granularity) (j : Journal) (files later : Files) (opened after : Name → ℕ) (old new : Past) → LoadsOne g j files opened old later after new → KeepsSaid g files opened old later after new
 kept_load g j files later opened after old new load = record {
-  passes = passes_weaker (At (name_of j) (StillSays (Means g j) (files (name_of j)))) (StillSay g files) old new load.passes (λ a c left step. record {
+  passes = passes_weaker (AtOwn (name_of j) (StillSays (Means g j) (name_of j))) (StillSay g) old new load.passes (λ a c left step. record {
     journals = λ i. still i a c step (journal_cases i j);
     elsewhere = λ n other. step.elsewhere n (no_journal n j other);
   });
   elsewhere = λ n other. load.others n (no_journal n j other);
   said = λ i. goes i (journal_cases i j);
   no_more = λ h i. back h i (journal_cases i j);
-  same_opened = opened_alike (name_of j) opened after load.others_opened load.was load.is;
+  same_opened = λ n other. load.others_opened n (no_journal n j other);
+  none_opened = λ i. unopened i (journal_cases i j);
 }
   where
-    still : (i : Journal) (a c : Files) → At (name_of j) (StillSays (Means g j) (files (name_of j))) a c → (i ≡ j) ⊎ (name_of i ≢ name_of j) → StillSays (Means g i) (files (name_of i)) (a (name_of i)) (c (name_of i))
-    still i a c step (inl is) = subst (λ (k : Journal). StillSays (Means g k) (files (name_of k)) (a (name_of k)) (c (name_of k))) (sym is) step.here
-    still i a c step (inr apart) = λ value says. inl (step.elsewhere (name_of i) apart)
+    still : (i : Journal) (a c : Files) → AtOwn (name_of j) (StillSays (Means g j) (name_of j)) a c → (i ≡ j) ⊎ (i ≢ j) → StillSays (Means g i) (name_of i) a c
+    still i a c step (inl is) = subst (λ (k : Journal). StillSays (Means g k) (name_of k) a c) (sym is) step.here
+    still i a c step (inr apart) = λ value. (
+      says_stays (Means g i) value (name_of i) a c (λ n own. step.elsewhere n (journals_apart i j apart n own)),
+      says_stays (Means g i) value (name_of i) c a (λ n own. sym (step.elsewhere n (journals_apart i j apart n own))),
+    )
 
-    goes : (i : Journal) → (i ≡ j) ⊎ (name_of i ≢ name_of j) → Goes g files later i
+    goes : (i : Journal) → (i ≡ j) ⊎ (i ≢ j) → Goes g files later i
     goes i (inl is) = subst (Goes g files later) (sym is) load.said
-    goes i (inr apart) = λ value says. subst (Says (Means g i) value) (sym (load.others (name_of i) apart)) says
+    goes i (inr apart) = λ value says. says_stays (Means g i) value (name_of i) files later (λ n own. load.others n (journals_apart i j apart n own)) says
 
-    back : (h : Granularity) (i : Journal) → (i ≡ j) ⊎ (name_of i ≢ name_of j) → Goes h later files i
+    back : (h : Granularity) (i : Journal) → (i ≡ j) ⊎ (i ≢ j) → Goes h later files i
     back h i (inl is) = subst (Goes h later files) (sym is) (load.no_more h)
-    back h i (inr apart) = λ value says. subst (Says (Means h i) value) (load.others (name_of i) apart) says
+    back h i (inr apart) = λ value says. says_stays (Means h i) value (name_of i) later files (λ n own. sym (load.others n (journals_apart i j apart n own))) says
+
+    unopened : (i : Journal) → (i ≡ j) ⊎ (i ≢ j) → NoneOpened (name_of i) opened → NoneOpened (name_of i) after
+    unopened i (inl is) none = subst (λ (k : Journal). NoneOpened (name_of k) after) (sym is) load.is
+    unopened i (inr apart) none = λ n own. load.others_opened n (journals_apart i j apart n own) ∙ none n own
 
 -- THE CATALOGUE
 
--- the file is as it was, or it has no batch as before
-abbrev pub SameRows : Content → Content → Type 0
-SameRows old new = (new ≡ old) ⊎ (HasBatches old [] × HasBatches new [])
-
-same_rows : (old new : Content) (rows : List Row) → SameRows old new → Says IsCatalogue rows old → Says IsCatalogue rows new
-same_rows old new rows (inl same) says = subst (Says IsCatalogue rows) (sym same) says
-same_rows old new rows (inr none) says =
-    let no_rows : Says IsCatalogue [] old = record { batches = []; has = none.0; means = refl } in
-    let empty : rows ≡ [] = one_list_of_rows old rows [] says no_rows in
-    subst (λ (r : List Row). Says IsCatalogue r new) (sym empty) (record { batches = []; has = none.1; means = refl })
-
-turned : (old new : Content) → SameRows old new → SameRows new old
-turned old new (inl same) = inl (sym same)
-turned old new (inr none) = inr (none.1, none.0)
-
-pub kept_catalogue : (g : Granularity) (files later : Files) (opened after : Name → ℕ) (old new : Past) → Passes (At catalogue_name (StillSays IsCatalogue (files catalogue_name))) old new → ((n : Name) → n ≢ catalogue_name → later n ≡ files n)
-    → SameRows (files catalogue_name) (later catalogue_name) → ((n : Name) → n ≢ catalogue_name → after n ≡ opened n) → opened catalogue_name ≡ 0 → after catalogue_name ≡ 0 → KeepsSaid g files opened old later after new
-kept_catalogue g files later opened after old new passes others same others_opened was is = kept_load g Catalogue files later opened after old new (record {
-  passes = passes;
-  others = others;
-  said = λ rows says. same_rows (files catalogue_name) (later catalogue_name) rows same says;
-  no_more = λ h rows says. same_rows (later catalogue_name) (files catalogue_name) rows (turned (files catalogue_name) (later catalogue_name) same) says;
+pub kept_catalogue : (g : Granularity) (files later : Files) (opened after : Name → ℕ) (old new : Past) → Passes (AtOwn catalogue_name (KeepsBatches catalogue_name)) old new → AtOwn catalogue_name (KeepsBatches catalogue_name) files later
+    → ((n : Name) → (IsOwn catalogue_name n → ⊥) → after n ≡ opened n) → NoneOpened catalogue_name after → KeepsSaid g files opened old later after new
+kept_catalogue g files later opened after old new passes kept others_opened is = kept_load g Catalogue files later opened after old new (record {
+  passes = load_says IsCatalogue catalogue_name old new passes;
+  others = kept.elsewhere;
+  said = λ rows says. (keeps_says IsCatalogue catalogue_name files later kept.here rows).0 says;
+  no_more = λ h rows says. (keeps_says IsCatalogue catalogue_name files later kept.here rows).1 says;
   others_opened = others_opened;
-  was = was;
   is = is;
 })
 
 -- A MANIFEST
 
--- the file is as it was, or it had no batch and lists nothing still
-abbrev pub SameEntries : Granularity → Content → Content → Type 0
-SameEntries g old new = (new ≡ old) ⊎ (HasBatches old [] × Says (Folds g) [] new)
+-- it says what it said, also where it had no batch and lists nothing still
+pub begins_says : (g : Granularity) (name : Name) (old new : Files) → StaysOrBegins g name old new → StillSays (Folds g) name old new
+begins_says g name old new (inl keeps) = keeps_says (Folds g) name old new keeps
+begins_says g name old new (inr begun) = λ entries. (onward entries, backward entries)
+  where
+    nothing : Says (Folds g) [] name old
+    nothing = record { batches = []; has = begun.0; means = refl }
 
-same_entries : (g : Granularity) (old new : Content) (entries : List Entry) → SameEntries g old new → Says (Folds g) entries old → Says (Folds g) entries new
-same_entries g old new entries (inl same) says = subst (Says (Folds g) entries) (sym same) says
-same_entries g old new entries (inr none) says =
-    let nothing : Says (Folds g) [] old = record { batches = []; has = none.0; means = refl } in
-    let empty : entries ≡ [] = one_listing g g old entries [] says nothing in
-    subst (λ (es : List Entry). Says (Folds g) es new) (sym empty) none.1
+    onward : (entries : List Entry) → Says (Folds g) entries name old → Says (Folds g) entries name new
+    onward entries says = subst (λ (es : List Entry). Says (Folds g) es name new) (sym (one_listing g g name old entries [] says nothing)) begun.1
 
-same_before : (g h : Granularity) (old new : Content) (entries : List Entry) → SameEntries g old new → Says (Folds h) entries new → Says (Folds h) entries old
-same_before g h old new entries (inl same) says = subst (Says (Folds h) entries) same says
-same_before g h old new entries (inr none) says =
-    let empty : entries ≡ [] = one_listing h g new entries [] says none.1 in
-    record { batches = []; has = none.0; means = empty }
+    backward : (entries : List Entry) → Says (Folds g) entries name new → Says (Folds g) entries name old
+    backward entries says = subst (λ (es : List Entry). Says (Folds g) es name old) (sym (one_listing g g name new entries [] says begun.1)) nothing
 
-pub kept_manifest : (store : ℕ) (g : Granularity) (files later : Files) (opened after : Name → ℕ) (old new : Past) → Passes (At (manifest_name store) (StillSays (Folds g) (files (manifest_name store)))) old new → ((n : Name) → n ≢ manifest_name store → later n ≡ files n)
-    → SameEntries g (files (manifest_name store)) (later (manifest_name store)) → ((n : Name) → n ≢ manifest_name store → after n ≡ opened n) → opened (manifest_name store) ≡ 0 → after (manifest_name store) ≡ 0 → KeepsSaid g files opened old later after new
-kept_manifest store g files later opened after old new passes others same others_opened was is = kept_load g (Manifest store) files later opened after old new (record {
-  passes = passes;
-  others = others;
-  said = λ entries says. same_entries g (files (manifest_name store)) (later (manifest_name store)) entries same says;
-  no_more = λ h entries says. same_before g h (files (manifest_name store)) (later (manifest_name store)) entries same says;
+says_before : (g h : Granularity) (name : Name) (old new : Files) (entries : List Entry) → StaysOrBegins g name old new → Says (Folds h) entries name new → Says (Folds h) entries name old
+says_before g h name old new entries (inl keeps) says = (keeps_says (Folds h) name old new keeps entries).1 says
+says_before g h name old new entries (inr begun) says =
+    let empty : entries ≡ [] = one_listing h g name new entries [] says begun.1 in
+    record { batches = []; has = begun.0; means = empty }
+
+pub kept_manifest : (store : ℕ) (g : Granularity) (files later : Files) (opened after : Name → ℕ) (old new : Past) → Passes (AtOwn (manifest_name store) (StaysOrBegins g (manifest_name store))) old new → AtOwn (manifest_name store) (StaysOrBegins g (manifest_name store)) files later
+    → ((n : Name) → (IsOwn (manifest_name store) n → ⊥) → after n ≡ opened n) → NoneOpened (manifest_name store) after → KeepsSaid g files opened old later after new
+kept_manifest store g files later opened after old new passes kept others_opened is = kept_load g (Manifest store) files later opened after old new (record {
+  passes = passes_weaker (AtOwn (manifest_name store) (StaysOrBegins g (manifest_name store))) (AtOwn (manifest_name store) (StillSays (Folds g) (manifest_name store))) old new passes (λ a c was step. record {
+    here = begins_says g (manifest_name store) a c step.here;
+    elsewhere = step.elsewhere;
+  });
+  others = kept.elsewhere;
+  said = λ entries says. (begins_says g (manifest_name store) files later kept.here entries).0 says;
+  no_more = λ h entries says. says_before g h (manifest_name store) files later entries kept.here says;
   others_opened = others_opened;
-  was = was;
   is = is;
 })
 
@@ -182,42 +183,15 @@ kept_manifest store g files later opened after old new passes others same others
 
 -- what its load keeps
 pub record LoadsAgain (name : Name) (files : Files) (opened : Name → ℕ) (old : Past) (later : Files) (after : Name → ℕ) (new : Past) : Type 0 where
-  pub kept : At name (Loads (files name)) files later
-  pub passes : Passes (At name (Loads (files name))) old new
-  pub others : (n : Name) → n ≢ name → after n ≡ opened n
-  pub was : opened name ≡ 0
-  pub is : after name ≡ 0
+  pub kept : AtOwn name (KeepsBatches name) files later
+  pub passes : Passes (AtOwn name (KeepsBatches name)) old new
+  pub others : (n : Name) → (IsOwn name n → ⊥) → after n ≡ opened n
+  pub is : NoneOpened name after
 
-no_batch : (content : Content) → IsShort content → HasBatches content []
-no_batch None short = refl
-no_batch (Some bytes) short = inl (short, refl)
+pub stays_at : (g : Granularity) (name : Name) (a c : Files) → AtOwn name (KeepsBatches name) a c → AtOwn name (StaysOrBegins g name) a c
+stays_at g name a c step = record { here = inl step.here; elsewhere = step.elsewhere }
 
-loads_rows : (old new : Content) → Loads old old new → SameRows old new
-loads_rows old new (inl same) = inl same
-loads_rows old new (inr (inl same)) = inl same
-loads_rows old new (inr (inr both)) = inr (no_batch old both.0, no_batch new both.1)
-
-loads_entries : (g : Granularity) (old new : Content) → Loads old old new → SameEntries g old new
-loads_entries g old new (inl same) = inl same
-loads_entries g old new (inr (inl same)) = inl same
-loads_entries g old new (inr (inr both)) = inr (no_batch old both.0, record { batches = []; has = no_batch new both.1; means = refl })
-
-pub catalogue_again : (g : Granularity) (name : Name) (files later : Files) (opened after : Name → ℕ) (old new : Past) → name ≡ catalogue_name → LoadsAgain name files opened old later after new → KeepsSaid g files opened old later after new
-catalogue_again g name files later opened after old new named loads =
-    let at = subst (λ (n : Name). LoadsAgain n files opened old later after new) named loads in
-    kept_catalogue g files later opened after old new (load_says IsCatalogue (files catalogue_name) catalogue_name old new at.passes) at.kept.elsewhere (loads_rows (files catalogue_name) (later catalogue_name) at.kept.here) at.others at.was at.is
-
-pub manifest_again : (store : ℕ) (g : Granularity) (name : Name) (files later : Files) (opened after : Name → ℕ) (old new : Past) → name ≡ manifest_name store → LoadsAgain name files opened old later after new → KeepsSaid g files opened old later after new
-manifest_again store g name files later opened after old new named loads =
-    let at = subst (λ (n : Name). LoadsAgain n files opened old later after new) named loads in
-    kept_manifest store g files later opened after old new (load_says (Folds g) (files (manifest_name store)) (manifest_name store) old new at.passes) at.kept.elsewhere (loads_entries g (files (manifest_name store)) (later (manifest_name store)) at.kept.here) at.others at.was at.is
-
--- WHERE A BATCH'S GATE STANDS
-
-pub same_batches : (content : Content) (bs cs : List (List ℕ)) → HasBatches content bs → HasBatches content cs → bs ≡ cs
-same_batches content bs cs one two =
-    let Means : List (List ℕ) → List (List ℕ) → Type 0 = λ batches value. value ≡ batches in
-    one_value Means (λ batches x y p q. p ∙ sym q) content bs cs (record { batches = bs; has = one; means = refl }) (record { batches = cs; has = two; means = refl })
+-- WHERE A BATCH STANDS
 
 length_gate : (b rest : List ℕ) → length (1 ∷ framed_bytes b ++ rest) ≡ length rest + (length b + 5)
 unfolding framed_bytes
@@ -234,20 +208,73 @@ gates_more_at (x ∷ bs) (suc i) b here =
 pub gates_more : (bs : List (List ℕ)) (i : ℕ) (b : List ℕ) → slice_get bs i ≡ Some b → length (open_gates (take (i + 1) bs)) ≡ length (open_gates (take i bs)) + (length b + 5)
 gates_more bs i b here = rw add-one (gates_more_at bs i b here)
 
--- where the gate of a batch was found, or the form breaks off
-abbrev pub IsGate : Content → ℕ → ℕ → Type 0
-IsGate content number at = (bs : List (List ℕ)) → HasBatches content bs → IsBadJournal content at ⊎ (at ≡ length (open_gates (take number bs)))
+-- the file of a settled journal's current generation, where its load has kept the batches
+pub settled_file_of : (journal : JournalState) (name : Name) (old new : Files) (opened : Name → ℕ) (past : Past) (bs cs : List (List ℕ)) → journal.name ≡ name → IsSettledWith journal new opened past cs → KeepsBatches name old new
+    → (has : HasBatchesOf name old bs) → journal.current.name ≡ generation_name name has.generation
+settled_file_of journal name old new opened past bs cs named settled keeps has =
+    let at_is : journal.at.name ≡ at_name name = settled.named.at ∙ ap at_name named in
+    let told : HasBatches (new (at_name name)) (generation_batches settled.generation) = subst (λ (n : Name). HasBatches (new n) (generation_batches settled.generation)) at_is (settled_seen journal.at new opened past (generation_batches settled.generation) settled.at) in
+    let same = one_generation_told (new (at_name name)) settled.generation has.generation told (keeps.told has.generation has.told) in
+    settled.named.current ∙ ap (λ (n : Name). generation_name n settled.generation) named ∙ ap (λ (k : ℕ). generation_name name k) same
 
--- the file that is read once more has the batch, since what has no batch has no bad one
-pub bad_again : (IsBad : List (List ℕ) → ℕ → Type 0) → ((n : ℕ) → IsBad [] n → ⊥) → (old new : Content) (X : Type 0) (bs : List (List ℕ)) (n at : ℕ) → HasBatches old bs → IsBad bs n → (new ≡ old) ⊎ (HasBatches old [] × X) → IsGate new n at → IsBadFile IsBad old at
-bad_again IsBad none old new X bs n at has bad (inl same) gate = elim (gate bs (subst (λ (c : Content). HasBatches c bs) (sym same) has)) [
-  | inl broken ↦ inl (subst (λ (c : Content). IsBadJournal c at) same broken)
-  | inr is ↦ inr (record { batches = bs; number = n; has = has; bad = bad; gate = is })
-]
-bad_again IsBad none old new X bs n at has bad (inr empty) gate = absurd (none n (subst (λ (l : List (List ℕ)). IsBad l n) (same_batches old bs [] has empty.0) bad))
+-- the journal that is loaded once more has the batch, since what has no batch has no bad one
+pub bad_again : (IsBad : List (List ℕ) → ℕ → Type 0) → ((n : ℕ) → IsBad [] n → ⊥) → (name : Name) (old new : Files) (X : Type 0) (bs : List (List ℕ)) (n : ℕ) (file : Name) (at : ℕ) → HasBatchesOf name old bs → IsBad bs n
+    → KeepsBatches name old new ⊎ (HasBatchesOf name old [] × X) → IsGate name new n file at → IsBadFile IsBad name old file at
+bad_again IsBad none name old new X bs n file at has bad (inl keeps) gate =
+    let now = (keeps.batches bs).0 has in
+    let is = gate bs now in
+    let same = one_generation_told (new (at_name name)) now.generation has.generation now.told (keeps.told has.generation has.told) in
+    inr (record { batches = bs; number = n; has = has; bad = bad; current = is.0 ∙ ap (λ (k : ℕ). generation_name name k) same; gate = is.1 })
+bad_again IsBad none name old new X bs n file at has bad (inr empty) gate = absurd (none n (subst (λ (l : List (List ℕ)). IsBad l n) (one_list name old bs [] has empty.0) bad))
+
+-- A JOURNAL'S FILES ARE THE SAME IN TWO IMAGES
+
+bad_here : (name : Name) (old new : Files) (file : Name) (at : ℕ) → ((n : Name) → IsOwn name n → new n ≡ old n) → IsBadOf name old file at → IsBadOf name new file at
+bad_here name old new file at same (inl (is, inl bad)) = inl (is, inl (subst (λ (c : Content). IsBadJournal c at) (sym (same file (inl is))) bad))
+bad_here name old new file at same (inl (is, inr bad)) = inl (
+  is,
+  inr (record {
+    batches = bad.batches;
+    generation = bad.generation;
+    has = subst (λ (c : Content). HasBatches c bad.batches) (sym (same (at_name name) (inl refl))) bad.has;
+    out_of_turn = bad.out_of_turn;
+    is_at = bad.is_at;
+  }),
+)
+bad_here name old new file at same (inr bad) =
+    let here : new file ≡ old file = same file (inr (bad.generation, bad.small, bad.is)) in
+    inr (record {
+      generation = bad.generation;
+      small = bad.small;
+      told = subst (λ (c : Content). HasBatches c (generation_batches bad.generation)) (sym (same (at_name name) (inl refl))) bad.told;
+      is = bad.is;
+      bad = elim bad.bad [
+        | inl broken ↦ inl (subst (λ (c : Content). IsBadJournal c at) (sym here) broken)
+        | inr short ↦ inr (short.0, subst (λ (c : Content). IsShort c) (sym here) short.1, short.2)
+      ];
+    })
+
+pub bad_in : (IsBad : List (List ℕ) → ℕ → Type 0) (name : Name) (old new : Files) (file : Name) (at : ℕ) → ((n : Name) → IsOwn name n → new n ≡ old n) → IsBadFile IsBad name old file at → IsBadFile IsBad name new file at
+bad_in IsBad name old new file at same (inl bad) = inl (bad_here name old new file at same bad)
+bad_in IsBad name old new file at same (inr bad) =
+    let has = says_of name old new bad.batches same bad.has in
+    let told : HasBatches (new (at_name name)) (generation_batches bad.has.generation) = subst (λ (c : Content). HasBatches c (generation_batches bad.has.generation)) (sym (same (at_name name) (inl refl))) bad.has.told in
+    let generation = one_generation_told (new (at_name name)) bad.has.generation has.generation told has.told in
+    inr (record { batches = bad.batches; number = bad.number; has = has; bad = bad.bad; current = bad.current ∙ ap (λ (k : ℕ). generation_name name k) generation; gate = bad.gate })
 
 pub no_bad_rows : (n : ℕ) → catalogue.IsBadBatch [] n → ⊥
 no_bad_rows n bad = let long = ap length bad.split in omega (arith, long, length-append bad.front (bad.batch ∷ bad.rest))
 
 pub no_bad_entries : (n : ℕ) → manifest.IsBadBatch [] n → ⊥
 no_bad_entries n bad = let long = ap length bad.split in omega (arith, long, length-append bad.front (bad.batch ∷ bad.rest))
+
+-- WHERE THERE IS NO FILE
+
+pub no_batch : (name : Name) (files : Files) → ((n : Name) → files n ≡ None) → HasBatchesOf name files []
+no_batch name files none = record {
+  generation = 0;
+  small = omega arith;
+  told = subst (λ (c : Content). HasBatches c (generation_batches 0)) (sym (none (at_name name))) none_told;
+  batches = subst (λ (c : Content). HasBatches c []) (sym (none (generation_name name 0))) refl;
+  there = λ later. absurd (omega (arith, later));
+}

@@ -1,12 +1,14 @@
 -- An image has one verdict at most.
-use Rattle.std.proofs.Common.{◌≡◌, ◌≢◌, ◌⊎◌, inl, inr, ℕ, zero, suc, ◌<◌, ◌≤◌, ◌+◌, List, [], ◌∷◌, ◌++◌, length, map, take, Some, None, true, refl, sym, ◌∙◌, ap, subst, arith}
+use Rattle.std.proofs.Common.{◌≡◌, ◌⊎◌, inl, inr, ℕ, zero, suc, ◌<◌, ◌≤◌, ◌+◌, List, [], ◌∷◌, ◌++◌, length, map, take, Some, None, true, refl, sym, ◌∙◌, ap, subst, arith}
 use Rattle.std.specs.Prelude.{All, IsTrue, slice_get}
 use Rattle.std.proofs.lemmas.Bool.{cases_lt}
 use Rattle.std.proofs.lemmas.List.{length-take}
 use Rattle.std.proofs.lemmas.List.Elements.{All-head, All-tail, All-map, All-weaker, All-contains, All-nil}
 use Rattle.std.proofs.lemmas.Option.{slice_get_within, same_Some}
 use Rattle.disk_model.specs.Files.{Name, Content, Files, HasFile}
-use Rattle.gate_journal.specs.Batches.{HasBatches, IsBadJournal, open_gates}
+use Rattle.gate_journal.specs.Batches.{open_gates}
+use Rattle.gate_journal.specs.Generations.{at_name, generation_name, HasBatchesOf, IsBadOf}
+use Rattle.store_reopen.proofs.OneJournal.{no_batch, one_list_of_rows}
 use Rattle.gate_journal.specs.Kept.{Says}
 use Rattle.partition_names.specs.declared.granularity.Granularity.{Granularity}
 use Rattle.store_files.specs.Fronts.{Begins}
@@ -20,12 +22,12 @@ use Rattle.pv_catalog.specs.declared.row.Row.{Row}
 use Rattle.pv_catalog.specs.Catalogue.{catalogue_name}
 use Rattle.pv_catalog.specs.Rows as catalogue
 use Rattle.pv_catalog.proofs.Meaning as catalogue_meaning
-use Rattle.durable_write.specs.Held.{Filed, Held, IsFiled, IsListed, IsIn, entry_of, file_of, bytes_of}
-use Rattle.tier_store.specs.Stores.{Stores, list_at, tier, at_place}
+use Rattle.durable_write.specs.Held.{Filed, IsFiled, IsListed, IsIn, entry_of, file_of, bytes_of}
+use Rattle.tier_store.specs.Stores.{Stores, list_at}
 use Rattle.tier_store.specs.Stored.{HoldsAll}
 use Rattle.store_reopen.specs.OneJournal.{IsBadFile, IsBadCatalogue, IsBadManifest}
-use Rattle.store_reopen.proofs.OneJournal.{one_list_of_rows, same_batches}
-use Rattle.store_reopen.specs.Verdict.{HasRow, EndsEarly, Listings, AreSaidBelow, AreSaid, AreOfRows, IsThere, AreThere, IsFirstShort, IsWhole, Differs, CatalogueIsBad, ManifestIsBad, HasStranger, HasShortFile, IsDamaged, catalogue_bad, manifest_bad, stranger, file_short}
+use Rattle.store_reopen.proofs.OneReading.{one_list, one_generation_told}
+use Rattle.store_reopen.specs.Verdict.{Listings, AreSaidBelow, AreSaid, IsThere, IsFirstShort, IsWhole, Differs, ManifestIsBad, HasStranger, HasShortFile, IsDamaged, catalogue_bad, manifest_bad, stranger, file_short, HasRow, EndsEarly}
 use Rattle.store_reopen.proofs.Having.{said_of, listing, granularity_here}
 
 -- a manifest that says a granularity is of no other
@@ -33,12 +35,12 @@ said_twice : (g h : Granularity) (bs : List (List ℕ)) (xs ys : List Entry) →
 said_twice g h [] xs ys folds configured = absurd configured
 said_twice g h (b ∷ bs) xs ys folds configured = one_granularity g h (b ∷ bs) xs ys folds configured
 
-one_said : (g h : Granularity) (content : Content) (xs ys : List Entry) → Says (manifest.Folds g) xs content → Says (manifest.Configured h) ys content → g ≡ h
-one_said g h content xs ys folds configured =
-    said_twice g h folds.batches xs ys folds.means (subst (λ (bs : List (List ℕ)). manifest.Configured h bs ys) (same_batches content configured.batches folds.batches configured.has folds.has) configured.means)
+one_said : (g h : Granularity) (name : Name) (image : Files) (xs ys : List Entry) → Says (manifest.Folds g) xs name image → Says (manifest.Configured h) ys name image → g ≡ h
+one_said g h name image xs ys folds configured =
+    said_twice g h folds.batches xs ys folds.means (subst (λ (bs : List (List ℕ)). manifest.Configured h bs ys) (one_list name image configured.batches folds.batches configured.has folds.has) configured.means)
 
-said_folds : (g : Granularity) (content : Content) (xs : List Entry) → Says (manifest.Configured g) xs content → Says (manifest.Folds g) xs content
-said_folds g content xs says = record { batches = says.batches; has = says.has; means = configured_folds g says.batches xs says.means }
+said_folds : (g : Granularity) (name : Name) (image : Files) (xs : List Entry) → Says (manifest.Configured g) xs name image → Says (manifest.Folds g) xs name image
+said_folds g name image xs says = record { batches = says.batches; has = says.has; means = configured_folds g says.batches xs says.means }
 
 -- two places
 order : (p q : ℕ) → (p < q) ⊎ ((p ≡ q) ⊎ (q < p))
@@ -91,12 +93,12 @@ short_not_all p files rows entries name at first there =
 
 module _ (gs : List Granularity) (files : Files) (rows r₂ : List Row) (lists l₂ : Listings) (one : AreSaid gs files rows lists) (two : AreSaid gs files r₂ l₂) where
   same_rows : rows ≡ r₂
-  same_rows = one_list_of_rows (files catalogue_name) rows r₂ one.rows_said two.rows_said
+  same_rows = one_list_of_rows files rows r₂ one.rows_said two.rows_said
 
   same_list : (i : ℕ) → i < length gs → lists i ≡ l₂ i
   same_list i low =
       let g = granularity_here gs i low in
-      one_listing g.0 g.0 (files (manifest_name (i + 1))) (lists i) (l₂ i) (one.lists_said i g.0 g.1) (two.lists_said i g.0 g.1)
+      one_listing g.0 g.0 (manifest_name (i + 1)) files (lists i) (l₂ i) (one.lists_said i g.0 g.1) (two.lists_said i g.0 g.1)
 
   -- what holds of the rows and the list of the one holds of those of the other
   as_other : (P : List Row → List Entry → Type 0) (i : ℕ) → i < length gs → P rows (lists i) → P r₂ (l₂ i)
@@ -136,8 +138,8 @@ one_short gs files a b i j one two = elim (order one.place two.place) [
 -- A STORE OF ANOTHER GRANULARITY
 
 -- a manifest that is good in its granularity is of no other
-not_other : (gs : List Granularity) (files : Files) (kept asked : Granularity) (d : Differs gs files kept asked) (entries : List Entry) → Says (manifest.Folds asked) entries (files (manifest_name (d.place + 1))) → ⊥
-not_other gs files kept asked d entries says = d.other (sym (one_said asked kept (files (manifest_name (d.place + 1))) entries d.entries says d.entries_said))
+not_other : (gs : List Granularity) (files : Files) (kept asked : Granularity) (d : Differs gs files kept asked) (entries : List Entry) → Says (manifest.Folds asked) entries (manifest_name (d.place + 1)) files → ⊥
+not_other gs files kept asked d entries says = d.other (sym (one_said asked kept (manifest_name (d.place + 1)) files entries d.entries says d.entries_said))
 
 said_not_other : (gs : List Granularity) (files : Files) (kept asked : Granularity) (rows : List Row) (lists : Listings) → AreSaid gs files rows lists → Differs gs files kept asked → ⊥
 said_not_other gs files kept asked rows lists said d = not_other gs files kept asked d (lists d.place) (said.lists_said d.place asked d.here)
@@ -149,52 +151,52 @@ pub one_other : (gs : List Granularity) (files : Files) (kept asked other ask : 
 one_other gs files kept asked other ask one two = elim (order one.place two.place) [
   | inl below ↦ absurd (not_other gs files kept asked one (two.lists one.place) (two.earlier one.place asked below one.here))
   | inr (inl same) ↦
-      let said = subst (λ (p : ℕ). Says (manifest.Configured other) two.entries (files (manifest_name (p + 1)))) (sym same) two.entries_said in
-      (same_granularity kept other (files (manifest_name (one.place + 1))) one.entries two.entries one.entries_said said, same_Some asked ask (sym one.here ∙ ap (slice_get gs) same ∙ two.here))
+      let said = subst (λ (p : ℕ). Says (manifest.Configured other) two.entries (manifest_name (p + 1)) files) (sym same) two.entries_said in
+      (same_granularity kept other (manifest_name (one.place + 1)) files one.entries two.entries one.entries_said said, same_Some asked ask (sym one.here ∙ ap (slice_get gs) same ∙ two.here))
   | inr (inr above) ↦ absurd (not_other gs files other ask two (one.lists two.place) (one.earlier two.place ask above two.here))
 ]
 
 -- A JOURNAL IS GOOD OR BAD
 
-module _ (one_place : (content : Content) (at other : ℕ) → IsBadJournal content at → IsBadJournal content other → at ≡ other) (not_bad : (content : Content) (bs : List (List ℕ)) (at : ℕ) → HasBatches content bs → IsBadJournal content at → ⊥) where
-  good_or_bad : {A : Type 0} (Means : List (List ℕ) → A → Type 0) (IsBad : List (List ℕ) → ℕ → Type 0) → ((bs : List (List ℕ)) (value : A) (n : ℕ) → Means bs value → IsBad bs n → ⊥) → (content : Content) (value : A) (at : ℕ) → Says Means value content → IsBadFile IsBad content at → ⊥
-  good_or_bad {A} Means IsBad apart content value at says (inl bad) = not_bad content says.batches at says.has bad
-  good_or_bad {A} Means IsBad apart content value at says (inr bad) = apart bad.batches value bad.number (subst (λ (bs : List (List ℕ)). Means bs value) (same_batches content says.batches bad.batches says.has bad.has) says.means) bad.bad
+module _ (one_place : (name : Name) (image : Files) (file other : Name) (at to : ℕ) → IsBadOf name image file at → IsBadOf name image other to → (file ≡ other) × (at ≡ to))
+    (not_bad : (name : Name) (image : Files) (bs : List (List ℕ)) (file : Name) (at : ℕ) → HasBatchesOf name image bs → IsBadOf name image file at → ⊥) where
+  good_or_bad : {A : Type 0} (Means : List (List ℕ) → A → Type 0) (IsBad : List (List ℕ) → ℕ → Type 0) → ((bs : List (List ℕ)) (value : A) (n : ℕ) → Means bs value → IsBad bs n → ⊥) → (name : Name) (image : Files) (value : A) (file : Name) (at : ℕ) → Says Means value name image → IsBadFile IsBad name image file at → ⊥
+  good_or_bad {A} Means IsBad apart name image value file at says (inl bad) = not_bad name image says.batches file at says.has bad
+  good_or_bad {A} Means IsBad apart name image value file at says (inr bad) = apart bad.batches value bad.number (subst (λ (bs : List (List ℕ)). Means bs value) (one_list name image says.batches bad.batches says.has bad.has) says.means) bad.bad
 
-  one_bad_place : (IsBad : List (List ℕ) → ℕ → Type 0) → ((bs : List (List ℕ)) (m n : ℕ) → IsBad bs m → IsBad bs n → m ≡ n) → (content : Content) (at other : ℕ) → IsBadFile IsBad content at → IsBadFile IsBad content other → at ≡ other
-  one_bad_place IsBad one content at other (inl a) (inl b) = one_place content at other a b
-  one_bad_place IsBad one content at other (inl a) (inr b) = absurd (not_bad content b.batches at b.has a)
-  one_bad_place IsBad one content at other (inr a) (inl b) = absurd (not_bad content a.batches other a.has b)
-  one_bad_place IsBad one content at other (inr a) (inr b) =
-      let same = same_batches content b.batches a.batches b.has a.has in
+  one_place_bad : (IsBad : List (List ℕ) → ℕ → Type 0) → ((bs : List (List ℕ)) (m n : ℕ) → IsBad bs m → IsBad bs n → m ≡ n) → (name : Name) (image : Files) (file other : Name) (at to : ℕ) → IsBadFile IsBad name image file at → IsBadFile IsBad name image other to → (file ≡ other) × (at ≡ to)
+  one_place_bad IsBad one name image file other at to (inl a) (inl b) = one_place name image file other at to a b
+  one_place_bad IsBad one name image file other at to (inl a) (inr b) = absurd (not_bad name image b.batches file at b.has a)
+  one_place_bad IsBad one name image file other at to (inr a) (inl b) = absurd (not_bad name image a.batches other to a.has b)
+  one_place_bad IsBad one name image file other at to (inr a) (inr b) =
+      let same = one_list name image b.batches a.batches b.has a.has in
       let number : a.number ≡ b.number = one a.batches a.number b.number a.bad (subst (λ (bs : List (List ℕ)). IsBad bs b.number) same b.bad) in
-      a.gate ∙ ap (λ (n : ℕ). length (open_gates (take n a.batches))) number ∙ ap (λ (bs : List (List ℕ)). length (open_gates (take b.number bs))) (sym same) ∙ sym b.gate
+      let generation = one_generation_told (image (at_name name)) a.has.generation b.has.generation a.has.told b.has.told in (
+        a.current ∙ ap (λ (k : ℕ). generation_name name k) generation ∙ sym b.current,
+        a.gate ∙ ap (λ (n : ℕ). length (open_gates (take n a.batches))) number ∙ ap (λ (bs : List (List ℕ)). length (open_gates (take b.number bs))) (sym same) ∙ sym b.gate,
+      )
 
-  good_catalogue : (files : Files) (rows : List Row) (at : ℕ) → Says catalogue.IsCatalogue rows (files catalogue_name) → IsBadCatalogue (files catalogue_name) at → ⊥
-  good_catalogue files rows at says bad = good_or_bad catalogue.IsCatalogue catalogue.IsBadBatch catalogue_meaning.not_both (files catalogue_name) rows at says bad
+  good_catalogue : (files : Files) (rows : List Row) (file : Name) (at : ℕ) → Says catalogue.IsCatalogue rows catalogue_name files → IsBadCatalogue files file at → ⊥
+  good_catalogue files rows file at says bad = good_or_bad catalogue.IsCatalogue catalogue.IsBadBatch catalogue_meaning.not_both catalogue_name files rows file at says bad
 
-  good_manifest : (g : Granularity) (content : Content) (entries : List Entry) (at : ℕ) → Says (manifest.Folds g) entries content → IsBadManifest content at → ⊥
-  good_manifest g content entries at says bad = good_or_bad (manifest.Folds g) manifest.IsBadBatch (folds_good g) content entries at says bad
+  good_manifest : (g : Granularity) (name : Name) (files : Files) (entries : List Entry) (file : Name) (at : ℕ) → Says (manifest.Folds g) entries name files → IsBadManifest name files file at → ⊥
+  good_manifest g name files entries file at says bad = good_or_bad (manifest.Folds g) manifest.IsBadBatch (folds_good g) name files entries file at says bad
 
-  -- a manifest that is bad isn't said
   said_not_bad : (gs : List Granularity) (files : Files) (name : Name) (at : ℕ) (rows : List Row) (lists : Listings) → AreSaid gs files rows lists → ManifestIsBad gs files name at → ⊥
   said_not_bad gs files name at rows lists said one =
       let g = granularity_here gs one.place one.within in
-      good_manifest g.0 (files (manifest_name (one.place + 1))) (lists one.place) at (said.lists_said one.place g.0 g.1) one.bad
+      good_manifest g.0 (manifest_name (one.place + 1)) files (lists one.place) name at (said.lists_said one.place g.0 g.1) one.bad
 
   -- nor is it before a later one that is looked at
   below_not_bad : (gs : List Granularity) (files : Files) (name : Name) (at : ℕ) (n : ℕ) (lists : Listings) → AreSaidBelow n gs files lists → (one : ManifestIsBad gs files name at) → one.place < n → ⊥
   below_not_bad gs files name at n lists said one low =
       let g = granularity_here gs one.place one.within in
-      good_manifest g.0 (files (manifest_name (one.place + 1))) (lists one.place) at (said one.place g.0 low g.1) one.bad
+      good_manifest g.0 (manifest_name (one.place + 1)) files (lists one.place) name at (said one.place g.0 low g.1) one.bad
 
   one_manifest_bad : (gs : List Granularity) (files : Files) (a b : Name) (i j : ℕ) → ManifestIsBad gs files a i → ManifestIsBad gs files b j → (a ≡ b) × (i ≡ j)
   one_manifest_bad gs files a b i j one two = elim (order one.place two.place) [
     | inl below ↦ absurd (below_not_bad gs files a i two.place two.lists two.earlier one below)
-    | inr (inl same) ↦ (
-      one.named ∙ ap (λ (p : ℕ). manifest_name (p + 1)) same ∙ sym two.named,
-      one_bad_place manifest.IsBadBatch manifest_meaning.one_bad (files (manifest_name (one.place + 1))) i j one.bad (subst (λ (p : ℕ). IsBadManifest (files (manifest_name (p + 1))) j) (sym same) two.bad),
-    )
+    | inr (inl same) ↦ one_place_bad manifest.IsBadBatch manifest_meaning.one_bad (manifest_name (one.place + 1)) files a b i j one.bad (subst (λ (p : ℕ). IsBadManifest (manifest_name (p + 1)) files b j) (sym same) two.bad)
     | inr (inr above) ↦ absurd (below_not_bad gs files b j one.place one.lists one.earlier two above)
   ]
 
@@ -202,44 +204,44 @@ module _ (one_place : (content : Content) (at other : ℕ) → IsBadJournal cont
   bad_not_other gs files name at kept asked one d = elim (order one.place d.place) [
     | inl below ↦ below_not_bad gs files name at d.place d.lists d.earlier one below
     | inr (inl same) ↦
-        let said = subst (λ (p : ℕ). Says (manifest.Configured kept) d.entries (files (manifest_name (p + 1)))) (sym same) d.entries_said in
-        good_manifest kept (files (manifest_name (one.place + 1))) d.entries at (said_folds kept (files (manifest_name (one.place + 1))) d.entries said) one.bad
+        let said = subst (λ (p : ℕ). Says (manifest.Configured kept) d.entries (manifest_name (p + 1)) files) (sym same) d.entries_said in
+        good_manifest kept (manifest_name (one.place + 1)) files d.entries name at (said_folds kept (manifest_name (one.place + 1)) files d.entries said) one.bad
     | inr (inr above) ↦ not_other gs files kept asked d (one.lists d.place) (one.earlier d.place asked above d.here)
   ]
 
   pub whole_undamaged : (gs : List Granularity) (files : Files) (name : Name) (at : ℕ) → IsWhole gs files → IsDamaged gs files name at → ⊥
-  whole_undamaged gs files name at whole (catalogue_bad one) = good_catalogue files whole.rows at whole.said.rows_said one.bad
+  whole_undamaged gs files name at whole (catalogue_bad one) = good_catalogue files whole.rows name at whole.said.rows_said one
   whole_undamaged gs files name at whole (manifest_bad one) = said_not_bad gs files name at whole.rows whole.lists whole.said one
   whole_undamaged gs files name at whole (stranger one) = no_stranger gs files name at whole.rows whole.lists whole.said one (whole.of_rows one.place one.within)
   whole_undamaged gs files name at whole (file_short one) = no_short gs files name at whole.rows whole.lists whole.said one (whole.there one.place one.within)
 
   pub damaged_same : (gs : List Granularity) (files : Files) (name : Name) (at : ℕ) (kept asked : Granularity) → IsDamaged gs files name at → Differs gs files kept asked → ⊥
-  damaged_same gs files name at kept asked (catalogue_bad one) other = good_catalogue files other.rows at other.rows_said one.bad
+  damaged_same gs files name at kept asked (catalogue_bad one) other = good_catalogue files other.rows name at other.rows_said one
   damaged_same gs files name at kept asked (manifest_bad one) other = bad_not_other gs files name at kept asked one other
   damaged_same gs files name at kept asked (stranger one) other = said_not_other gs files kept asked one.rows one.lists one.said other
   damaged_same gs files name at kept asked (file_short one) other = said_not_other gs files kept asked one.rows one.lists one.said other
 
   -- the cases in the order in which they are looked for: of two the earlier rules the later out
-  earlier_catalogue : (gs : List Granularity) (files : Files) (a b : Name) (i j : ℕ) → CatalogueIsBad files a i → IsDamaged gs files b j → (a ≡ b) × (i ≡ j)
-  earlier_catalogue gs files a b i j one (catalogue_bad two) = (one.named ∙ sym two.named, one_bad_place catalogue.IsBadBatch catalogue_meaning.one_bad (files catalogue_name) i j one.bad two.bad)
-  earlier_catalogue gs files a b i j one (manifest_bad two) = absurd (good_catalogue files two.rows i two.rows_said one.bad)
-  earlier_catalogue gs files a b i j one (stranger two) = absurd (good_catalogue files two.rows i two.said.rows_said one.bad)
-  earlier_catalogue gs files a b i j one (file_short two) = absurd (good_catalogue files two.rows i two.said.rows_said one.bad)
+  earlier_catalogue : (gs : List Granularity) (files : Files) (a b : Name) (i j : ℕ) → IsBadCatalogue files a i → IsDamaged gs files b j → (a ≡ b) × (i ≡ j)
+  earlier_catalogue gs files a b i j one (catalogue_bad two) = one_place_bad catalogue.IsBadBatch catalogue_meaning.one_bad catalogue_name files a b i j one two
+  earlier_catalogue gs files a b i j one (manifest_bad two) = absurd (good_catalogue files two.rows a i two.rows_said one)
+  earlier_catalogue gs files a b i j one (stranger two) = absurd (good_catalogue files two.rows a i two.said.rows_said one)
+  earlier_catalogue gs files a b i j one (file_short two) = absurd (good_catalogue files two.rows a i two.said.rows_said one)
 
   earlier_manifest : (gs : List Granularity) (files : Files) (a b : Name) (i j : ℕ) → ManifestIsBad gs files a i → IsDamaged gs files b j → (a ≡ b) × (i ≡ j)
-  earlier_manifest gs files a b i j one (catalogue_bad two) = absurd (good_catalogue files one.rows j one.rows_said two.bad)
+  earlier_manifest gs files a b i j one (catalogue_bad two) = absurd (good_catalogue files one.rows b j one.rows_said two)
   earlier_manifest gs files a b i j one (manifest_bad two) = one_manifest_bad gs files a b i j one two
   earlier_manifest gs files a b i j one (stranger two) = absurd (said_not_bad gs files a i two.rows two.lists two.said one)
   earlier_manifest gs files a b i j one (file_short two) = absurd (said_not_bad gs files a i two.rows two.lists two.said one)
 
   earlier_stranger : (gs : List Granularity) (files : Files) (a b : Name) (i j : ℕ) → HasStranger gs files a i → IsDamaged gs files b j → (a ≡ b) × (i ≡ j)
-  earlier_stranger gs files a b i j one (catalogue_bad two) = absurd (good_catalogue files one.rows j one.said.rows_said two.bad)
+  earlier_stranger gs files a b i j one (catalogue_bad two) = absurd (good_catalogue files one.rows b j one.said.rows_said two)
   earlier_stranger gs files a b i j one (manifest_bad two) = absurd (said_not_bad gs files b j one.rows one.lists one.said two)
   earlier_stranger gs files a b i j one (stranger two) = one_stranger gs files a b i j one two
   earlier_stranger gs files a b i j one (file_short two) = absurd (no_stranger gs files a i two.rows two.lists two.said one (two.of_rows one.place one.within))
 
   last_file : (gs : List Granularity) (files : Files) (a b : Name) (i j : ℕ) → HasShortFile gs files a i → IsDamaged gs files b j → (a ≡ b) × (i ≡ j)
-  last_file gs files a b i j one (catalogue_bad two) = absurd (good_catalogue files one.rows j one.said.rows_said two.bad)
+  last_file gs files a b i j one (catalogue_bad two) = absurd (good_catalogue files one.rows b j one.said.rows_said two)
   last_file gs files a b i j one (manifest_bad two) = absurd (said_not_bad gs files b j one.rows one.lists one.said two)
   last_file gs files a b i j one (stranger two) = absurd (no_stranger gs files b j one.rows one.lists one.said two (one.of_rows two.place two.within))
   last_file gs files a b i j one (file_short two) = one_short gs files a b i j one two
@@ -282,8 +284,8 @@ nothing = record { rows = []; short = []; medium = []; long = []; stands = true 
 
 pub holds_nothing : (gs : List Granularity) (files : Files) → ((n : Name) → files n ≡ None) → HoldsAll gs files (record { rows = []; short = []; medium = []; long = []; stands = true })
 holds_nothing gs files none i g here = record {
-  rows = record { batches = []; has = subst (λ (c : Content). HasBatches c []) (sym (none catalogue_name)) refl; means = refl };
-  lists = record { batches = []; has = subst (λ (c : Content). HasBatches c []) (sym (none (manifest_name (i + 1)))) refl; means = ap (map entry_of) (empty i) };
+  rows = record { batches = []; has = no_batch catalogue_name files none; means = refl };
+  lists = record { batches = []; has = no_batch (manifest_name (i + 1)) files none; means = ap (map entry_of) (empty i) };
   filed = record { numbered = omega arith; listed = subst (λ (fs : List Filed). All (IsListed g []) fs) (sym (empty i)) (All-nil (IsListed g [])); filed = λ stands. subst (λ (fs : List Filed). All (IsFiled g []) fs) (sym (empty i)) (All-nil (IsFiled g [])) };
   files = λ stands. subst (λ (fs : List Filed). All (IsIn (i + 1, []) files) fs) (sym (empty i)) (All-nil (IsIn (i + 1, []) files));
 }

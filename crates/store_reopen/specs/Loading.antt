@@ -11,6 +11,7 @@ use Rattle.store_manifest.specs.Manifest.{manifest_name}
 use Rattle.pv_catalog.specs.declared.row.Row.{Row}
 use Rattle.pv_catalog.specs.Catalogue.{catalogue_name}
 use Rattle.pv_catalog.specs.Rows.{IsCatalogue}
+use Rattle.store_reopen.specs.OneJournal.{NoneOpened}
 
 -- the journals: the catalogue, and the manifest of the store at each place, which is its number less one
 pub data Journal : Type 0 where
@@ -35,15 +36,16 @@ abbrev pub Means : List Granularity → (j : Journal) → List (List ℕ) → Va
 Means gs Catalogue = IsCatalogue
 Means gs (Manifest i) = Folds (granularity_at gs i)
 
--- each journal of an image still says what reads gave at first, or is as it was, and every other store is as it was
-pub record StillSay (gs : List Granularity) (files old new : Files) : Type 0 where
-  pub journals : (j : Journal) → StillSays (Means gs j) (files (name_of j)) (old (name_of j)) (new (name_of j))
+-- each journal of an image still says what it said, and nothing else, and every other store is as it was
+pub record StillSay (gs : List Granularity) (old new : Files) : Type 0 where
+  pub journals : (j : Journal) → StillSays (Means gs j) (name_of j) old new
   pub elsewhere : (n : Name) → n.0 ≢ 0 → new n ≡ old n
 
 -- Whatever a crash leaves, the journals say what they said; reads give so too, and nothing more. The other stores are as they were.
 pub record KeepsSaid (gs : List Granularity) (files : Files) (opened : Name → ℕ) (old : Past) (later : Files) (after : Name → ℕ) (new : Past) : Type 0 where
-  pub passes : Passes (StillSay gs files) old new
+  pub passes : Passes (StillSay gs) old new
   pub elsewhere : (n : Name) → n.0 ≢ 0 → later n ≡ files n
-  pub said : (j : Journal) (value : Value j) → Says (Means gs j) value (files (name_of j)) → Says (Means gs j) value (later (name_of j))
-  pub no_more : (hs : List Granularity) (j : Journal) (value : Value j) → Says (Means hs j) value (later (name_of j)) → Says (Means hs j) value (files (name_of j))
-  pub same_opened : (n : Name) → after n ≡ opened n
+  pub said : (j : Journal) (value : Value j) → Says (Means gs j) value (name_of j) files → Says (Means gs j) value (name_of j) later
+  pub no_more : (hs : List Granularity) (j : Journal) (value : Value j) → Says (Means hs j) value (name_of j) later → Says (Means hs j) value (name_of j) files
+  pub same_opened : (n : Name) → n.0 ≢ 0 → after n ≡ opened n
+  pub none_opened : (j : Journal) → NoneOpened (name_of j) opened → NoneOpened (name_of j) after

@@ -1,9 +1,10 @@
 -- One journal: what its load keeps of a disk, and where it is bad.
 use Rattle.std.specs.Prelude.{◌≡◌, ◌≢◌, ◌⊎◌, ℕ, List, length, take}
 use Rattle.partition_names.specs.declared.granularity.Granularity.{Granularity}
-use Rattle.disk_model.specs.Files.{Name, Content, Files}
+use Rattle.disk_model.specs.Files.{Name, Files}
 use Rattle.disk_model.specs.Past.{Past, Passes}
-use Rattle.gate_journal.specs.Batches.{HasBatches, IsBadJournal, open_gates}
+use Rattle.gate_journal.specs.Batches.{open_gates}
+use Rattle.gate_journal.specs.Generations.{generation_name, IsOwn, HasBatchesOf, IsBadOf}
 use Rattle.gate_journal.specs.Kept.{Says, StillSays}
 use Rattle.store_manifest.specs.declared.entry.Entry.{Entry}
 use Rattle.store_manifest.specs.Batches.{Folds}
@@ -35,37 +36,47 @@ abbrev pub Means : Granularity → (j : Journal) → List (List ℕ) → Value j
 Means g Catalogue = IsCatalogue
 Means g (Manifest store) = Folds g
 
--- each journal of an image still says what reads gave at first, or is as it was, and every other store is as it was
-pub record StillSay (g : Granularity) (files old new : Files) : Type 0 where
-  pub journals : (j : Journal) → StillSays (Means g j) (files (name_of j)) (old (name_of j)) (new (name_of j))
+-- no reader of any file of the journal of this name was opened
+abbrev pub NoneOpened : Name → (Name → ℕ) → Type 0
+NoneOpened name opened = (n : Name) → IsOwn name n → opened n ≡ 0
+
+-- each journal of an image still says what it said, and nothing else, and every other store is as it was
+pub record StillSay (g : Granularity) (old new : Files) : Type 0 where
+  pub journals : (j : Journal) → StillSays (Means g j) (name_of j) old new
   pub elsewhere : (n : Name) → n.0 ≢ 0 → new n ≡ old n
 
 -- Whatever a crash leaves, the journals say what they said; reads give so too, and nothing more. The other stores are as they were.
 pub record KeepsSaid (g : Granularity) (files : Files) (opened : Name → ℕ) (old : Past) (later : Files) (after : Name → ℕ) (new : Past) : Type 0 where
-  pub passes : Passes (StillSay g files) old new
+  pub passes : Passes (StillSay g) old new
   pub elsewhere : (n : Name) → n.0 ≢ 0 → later n ≡ files n
-  pub said : (j : Journal) (value : Value j) → Says (Means g j) value (files (name_of j)) → Says (Means g j) value (later (name_of j))
-  pub no_more : (h : Granularity) (j : Journal) (value : Value j) → Says (Means h j) value (later (name_of j)) → Says (Means h j) value (files (name_of j))
-  pub same_opened : (n : Name) → after n ≡ opened n
+  pub said : (j : Journal) (value : Value j) → Says (Means g j) value (name_of j) files → Says (Means g j) value (name_of j) later
+  pub no_more : (h : Granularity) (j : Journal) (value : Value j) → Says (Means h j) value (name_of j) later → Says (Means h j) value (name_of j) files
+  pub same_opened : (n : Name) → n.0 ≢ 0 → after n ≡ opened n
+  pub none_opened : (j : Journal) → NoneOpened (name_of j) opened → NoneOpened (name_of j) after
 
 -- WHERE IT IS BAD
 
--- a batch means nothing behind those before it, and its open gate stands at this place
-pub record HasBadBatch (IsBad : List (List ℕ) → ℕ → Type 0) (content : Content) (at : ℕ) : Type 0 where
+-- a batch means nothing behind those before it, and its open gate stands at this place of the current generation's file
+pub record HasBadBatch (IsBad : List (List ℕ) → ℕ → Type 0) (name : Name) (files : Files) (file : Name) (at : ℕ) : Type 0 where
   pub batches : List (List ℕ)
   pub number : ℕ
-  pub has : HasBatches content batches
+  pub has : HasBatchesOf name files batches
   pub bad : IsBad batches number
+  pub current : file ≡ generation_name name has.generation
   pub gate : at ≡ length (open_gates (take number batches))
 
--- at this place stands an open gate behind which something is cut off, or that of the first batch that means nothing
-abbrev pub IsBadFile : (List (List ℕ) → ℕ → Type 0) → Content → ℕ → Type 0
-IsBadFile IsBad content at = IsBadJournal content at ⊎ HasBadBatch IsBad content at
+-- where the gate of a batch of the journal of this name is found
+abbrev pub IsGate : Name → Files → ℕ → Name → ℕ → Type 0
+IsGate name files number file at = (bs : List (List ℕ)) → (has : HasBatchesOf name files bs) → (file ≡ generation_name name has.generation) × (at ≡ length (open_gates (take number bs)))
 
--- the catalogue is bad at this place
-abbrev pub IsBadCatalogue : Content → ℕ → Type 0
-IsBadCatalogue content at = IsBadFile catalogue.IsBadBatch content at
+-- this place of this file tells why the journal of this name holds no batches, or is that of the first batch that means nothing
+abbrev pub IsBadFile : (List (List ℕ) → ℕ → Type 0) → Name → Files → Name → ℕ → Type 0
+IsBadFile IsBad name files file at = IsBadOf name files file at ⊎ HasBadBatch IsBad name files file at
 
--- the manifest is bad at this place
-abbrev pub IsBadManifest : Content → ℕ → Type 0
-IsBadManifest content at = IsBadFile manifest.IsBadBatch content at
+-- the catalogue is bad at this place of this file
+abbrev pub IsBadCatalogue : Files → Name → ℕ → Type 0
+IsBadCatalogue files file at = IsBadFile catalogue.IsBadBatch catalogue_name files file at
+
+-- the manifest of this name is bad at this place of this file
+abbrev pub IsBadManifest : Name → Files → Name → ℕ → Type 0
+IsBadManifest name files file at = IsBadFile manifest.IsBadBatch name files file at

@@ -1,5 +1,5 @@
 -- Three stores that are opened again.
-use Rattle.std.specs.Prelude.{◌≡◌, ◌≢◌, ◌⊎◌, ◌≤◌, ◌<◌, ◌+◌, ℕ, true, List, [], ◌∷◌, length, Option, None, Some, Result, Ok, Err, All, slice_get}
+use Rattle.std.specs.Prelude.{◌≡◌, ◌≢◌, ◌⊎◌, ◌≤◌, ◌<◌, ◌+◌, ℕ, true, List, [], ◌∷◌, Option, None, Some, Result, Ok, Err, All, slice_get}
 use Rattle.partition_names.specs.declared.granularity.Granularity.{Granularity}
 use Rattle.disk_model.specs.Files.{Name, Files}
 use Rattle.disk_model.specs.Past.{Past, MayLeave, Passes}
@@ -20,10 +20,11 @@ use Rattle.tier_store.specs.Stored.{HoldsAll}
 use Rattle.tier_store.specs.Change.{Has, IsEither}
 use Rattle.tier_store.specs.declared.store.TierStore.{TierStore}
 use Rattle.etl_rules.specs.Config.{ConfigState}
+use Rattle.store_reopen.specs.OneJournal.{NoneOpened}
 use Rattle.store_reopen.specs.declared.error.ReopenErr.{ReopenErr}
 use Rattle.store_reopen.specs.declared.error.ReopenErr.TheVariants.{DiskFault, Damaged, GranularityDiffers, Memory}
 use Rattle.store_reopen.specs.Loading.{granularity_at}
-use Rattle.store_reopen.specs.Verdict.{HasRow, Listings}
+use Rattle.store_reopen.specs.Verdict.{Listings, HasRow}
 
 -- the granularities of stores 1 to 3
 abbrev pub stores_of : ConfigState → List Granularity
@@ -49,12 +50,12 @@ abbrev pub disk_of : {D R : Type 0} → Result (TierStore D R) (ReopenErr D R) �
 disk_of {D} {R} (Ok store) = store.disk
 disk_of {D} {R} (Err e) = disk_in e
 
--- none of the journals was opened, and no listed file beyond its listed length
+-- no file of any of the journals was opened, and no listed file beyond its listed length
 pub record IsUnopened (files : Files) (opened : Name → ℕ) : Type 0 where
-  pub catalogue : opened catalogue_name ≡ 0
-  pub manifests : (i : ℕ) → i < 3 → opened (manifest_name (i + 1)) ≡ 0
-  pub listed : (rows : List Row) → Says IsCatalogue rows (files catalogue_name) → (i : ℕ) → i < 3
-      → (g : Granularity) (entries : List Entry) → Says (Folds g) entries (files (manifest_name (i + 1))) → All (λ (e : Entry). opened (file_of (i + 1, rows) e) ≤ e.len) entries
+  pub catalogue : NoneOpened catalogue_name opened
+  pub manifests : (i : ℕ) → i < 3 → NoneOpened (manifest_name (i + 1)) opened
+  pub listed : (rows : List Row) → Says IsCatalogue rows catalogue_name files → (i : ℕ) → i < 3
+      → (g : Granularity) (entries : List Entry) → Says (Folds g) entries (manifest_name (i + 1)) files → All (λ (e : Entry). opened (file_of (i + 1, rows) e) ≤ e.len) entries
 
 -- the image has the listed files of all three stores, where they stand
 abbrev pub AllIn : Stores → Files → Type 0
@@ -79,9 +80,9 @@ pub record OpensEither (gs : List Granularity) (past : Past) (before after : Sto
 abbrev pub Opens : List Granularity → Past → Stores → Type 0
 Opens gs past held = OpensEither gs past held held
 
--- an image that holds what reads gave at first still does
-abbrev pub StillHolds : List Granularity → Files → Files → Files → Type 0
-StillHolds gs files old new = (held : Stores) → HoldsAll gs files held → HoldsAll gs old held → HoldsAll gs new held
+-- an image still holds what it held
+abbrev pub StillHolds : List Granularity → Files → Files → Type 0
+StillHolds gs old new = (held : Stores) → HoldsAll gs old held → HoldsAll gs new held
 
 -- every store of partition files is as it was, whatever is in its files
 abbrev pub SameStores : Files → Files → Type 0
@@ -90,7 +91,7 @@ SameStores old new = (n : Name) → n.0 ≢ 0 → new n ≡ old n
 -- What opening makes of a disk that tells its files, whatever it answers: each image goes on to hold what it held, at each moment, and
 -- the disk may be opened again. No store of partition files changes at any moment, also where it is damaged.
 pub record Reopens {D R : Type 0} (disk : Ghosts D R) (gs : List Granularity) (old new : D) : Type 0 where
-  pub any_moment : Passes (StillHolds gs (disk.files old)) (disk.past old) (disk.past new)
+  pub any_moment : Passes (StillHolds gs) (disk.past old) (disk.past new)
   pub either : (before after : Stores) → OpensEither gs (disk.past old) before after → Passes (λ a b. HoldsEither gs before after b) (disk.past old) (disk.past new)
   pub opens : (before after : Stores) → OpensEither gs (disk.past old) before after → OpensEither gs (disk.past new) before after
   pub elsewhere : SameStores (disk.files old) (disk.files new)

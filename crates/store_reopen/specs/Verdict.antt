@@ -22,12 +22,12 @@ Listings = ℕ → List Entry
 
 -- the manifests of the places below this one are of their granularities and list these entries
 abbrev pub AreSaidBelow : ℕ → List Granularity → Files → Listings → Type 0
-AreSaidBelow n gs files lists = (i : ℕ) (g : Granularity) → i < n → slice_get gs i ≡ Some g → Says (manifest.Folds g) (lists i) (files (manifest_name (i + 1)))
+AreSaidBelow n gs files lists = (i : ℕ) (g : Granularity) → i < n → slice_get gs i ≡ Some g → Says (manifest.Folds g) (lists i) (manifest_name (i + 1)) files
 
 -- the catalogue has these rows, and each manifest, of its granularity, lists these entries
 pub record AreSaid (gs : List Granularity) (files : Files) (rows : List Row) (lists : Listings) : Type 0 where
-  pub rows_said : Says catalogue.IsCatalogue rows (files catalogue_name)
-  pub lists_said : (i : ℕ) (g : Granularity) → slice_get gs i ≡ Some g → Says (manifest.Folds g) (lists i) (files (manifest_name (i + 1)))
+  pub rows_said : Says catalogue.IsCatalogue rows catalogue_name files
+  pub lists_said : (i : ℕ) (g : Granularity) → slice_get gs i ≡ Some g → Says (manifest.Folds g) (lists i) (manifest_name (i + 1)) files
 
 -- THE LISTED FILES
 
@@ -75,30 +75,24 @@ pub record IsWhole (gs : List Granularity) (files : Files) : Type 0 where
 -- The catalogue and the manifests before this one are good, and it is good and of another granularity than the one asked for.
 pub record Differs (gs : List Granularity) (files : Files) (kept asked : Granularity) : Type 0 where
   pub rows : List Row
-  pub rows_said : Says catalogue.IsCatalogue rows (files catalogue_name)
+  pub rows_said : Says catalogue.IsCatalogue rows catalogue_name files
   pub place : ℕ
   pub here : slice_get gs place ≡ Some asked
   pub lists : Listings
   pub earlier : AreSaidBelow place gs files lists
   pub entries : List Entry
-  pub entries_said : Says (manifest.Configured kept) entries (files (manifest_name (place + 1)))
+  pub entries_said : Says (manifest.Configured kept) entries (manifest_name (place + 1)) files
   pub other : kept ≢ asked
-
--- the catalogue is bad
-pub record CatalogueIsBad (files : Files) (name : Name) (at : ℕ) : Type 0 where
-  pub named : name ≡ catalogue_name
-  pub bad : IsBadCatalogue (files catalogue_name) at
 
 -- the catalogue and the manifests before this one are good, and it is bad
 pub record ManifestIsBad (gs : List Granularity) (files : Files) (name : Name) (at : ℕ) : Type 0 where
   pub rows : List Row
-  pub rows_said : Says catalogue.IsCatalogue rows (files catalogue_name)
+  pub rows_said : Says catalogue.IsCatalogue rows catalogue_name files
   pub place : ℕ
   pub within : place < length gs
   pub lists : Listings
   pub earlier : AreSaidBelow place gs files lists
-  pub named : name ≡ manifest_name (place + 1)
-  pub bad : IsBadManifest (files (manifest_name (place + 1))) at
+  pub bad : IsBadManifest (manifest_name (place + 1)) files name at
 
 -- the journals are good, and this manifest is the first with an entry of no row; that is told at 0
 pub record HasStranger (gs : List Granularity) (files : Files) (name : Name) (at : ℕ) : Type 0 where
@@ -127,7 +121,7 @@ pub record HasShortFile (gs : List Granularity) (files : Files) (name : Name) (a
 
 -- this is the first that is wrong: the name of a file, and a place in it
 pub data IsDamaged (gs : List Granularity) (files : Files) (name : Name) (at : ℕ) : Type 0 where
-  catalogue_bad : CatalogueIsBad files name at → IsDamaged gs files name at
+  catalogue_bad : IsBadCatalogue files name at → IsDamaged gs files name at
   manifest_bad : ManifestIsBad gs files name at → IsDamaged gs files name at
   stranger : HasStranger gs files name at → IsDamaged gs files name at
   file_short : HasShortFile gs files name at → IsDamaged gs files name at

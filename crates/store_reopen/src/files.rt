@@ -7,7 +7,7 @@ ghost use Rattle.partition_names.specs.declared.granularity.Granularity.{Granula
 ghost use Rattle.store_manifest.specs.declared.entry.Entry.{Entry as EntryValue};
 ghost use Rattle.durable_write.specs.Held.{file_of};
 ghost use Rattle.tier_store.specs.Seen.{AtEach};
-ghost use Rattle.store_reopen.specs.Verdict.{HasRow, EndsEarly, AreSaid, IsThere};
+ghost use Rattle.store_reopen.specs.Verdict.{AreSaid, IsThere, HasRow, EndsEarly};
 ghost use Rattle.store_reopen.specs.Refusal.{IsTold, IsToldShort};
 ghost use Rattle.store_reopen.specs.Reopen.{lists_of};
 ghost use Rattle.store_reopen.specs.declared.error.Refusal.TheVariants.{Disk as OfDisk};

@@ -1,11 +1,11 @@
 // The loads of the journals, and where a bad batch stands.
-ghost use Rattle.std.specs.Prelude.{◌≡◌, ◌≢◌, ◌⊎◌, ◌≤◌, ◌<◌, ◌+◌, ℕ, List, length, take, slice_get, true, Some, IfOk, IfErr, IsOk, OnOk, IsErrOf, IsTrue, Err};
-ghost use Rattle.disk_model.specs.Files.{Name, Files, Rose, At};
+ghost use Rattle.std.specs.Prelude.{◌≡◌, ◌≤◌, ◌<◌, ◌+◌, ℕ, List, length, take, slice_get, true, Some, IfOk, IfErr, IsOk, OnOk, IsErrOf, IsTrue, Err};
+ghost use Rattle.disk_model.specs.Files.{Name, Files, Rose};
 ghost use Rattle.disk_model.specs.Past.{Passes};
 ghost use Rattle.disk_model.specs.declared.disk.DiskErr.TheVariants.{Fault};
-ghost use Rattle.gate_journal.specs.Batches.{HasBatches, IsBadJournal, open_gates};
+ghost use Rattle.gate_journal.specs.Batches.{open_gates};
+ghost use Rattle.gate_journal.specs.Generations.{IsOwn, AtOwn, KeepsBatches};
 ghost use Rattle.gate_journal.specs.Kept.{Says};
-ghost use Rattle.gate_journal.specs.Load.{Loads};
 ghost use Rattle.partition_names.specs.declared.granularity.Granularity.{Granularity as GranularityValue};
 ghost use Rattle.pv_catalog.specs.declared.row.Row.{Row};
 ghost use Rattle.pv_catalog.specs.Catalogue.{CatalogueState, catalogue_name, IsStored};
@@ -15,6 +15,7 @@ ghost use Rattle.store_manifest.specs.Entries.{AreEntries};
 ghost use Rattle.store_manifest.specs.Manifest.{ManifestState, IsKept, Lists, manifest_name};
 ghost use Rattle.tier_store.specs.Beginning.{AreNested, AllNested};
 ghost use Rattle.tier_store.specs.Seen.{AtEach};
+ghost use Rattle.store_reopen.specs.OneJournal.{NoneOpened, IsGate};
 ghost use Rattle.store_reopen.specs.Loading.{KeepsSaid};
 ghost use Rattle.store_reopen.specs.Refusal.{IsTold};
 ghost use Rattle.store_reopen.specs.Reopen.{stores_of};
@@ -24,7 +25,7 @@ ghost use Rattle.store_reopen.specs.declared.error.Refusal.TheVariants.{Disk as 
 use crate::error::Refusal;
 use disk_model::{Disk, DiskErr, FileName};
 use etl_rules::Config;
-use gate_journal::{Batches, Journal, JournalErr};
+use gate_journal::{Batches, Journal, JournalErr, one_bad_place};
 use pv_catalog::{Catalogue, CatalogueErr};
 use std::alloc::{AllocError, Global};
 use store_manifest::{Manifest, ManifestErr};
@@ -34,12 +35,12 @@ pub(crate) const STORES: u8 = 3;
 
 // Loads the catalogue, or tells where it is bad.
 pub(crate) fn load_catalogue<D: Disk>(alloc: Global, disk: &mut D) -> Result<Catalogue, Refusal>
-    requires unopened { IsTrue D.tells → D.opened disk.old catalogue_name ≡ 0 }
+    requires unopened { IsTrue D.tells → NoneOpened catalogue_name (D.opened disk.old) }
     ensures stored { IsTrue D.tells → IfOk result (λ c. IsStored c (D.files disk.new) (D.opened disk.new) (D.past disk.new)) }
-    ensures rows { IsTrue D.tells → IfOk result (λ c. Says IsCatalogue c.rows (D.files disk.old catalogue_name)) }
+    ensures rows { IsTrue D.tells → IfOk result (λ c. Says IsCatalogue c.rows catalogue_name (D.files disk.old)) }
     ensures journal { IfOk result (λ c. (c.journal.name ≡ catalogue_name) × (c.journal.sound ≡ true)) }
     ensures told { IsTrue D.tells → (gs : List GranularityValue) → IfErr result (IsTold gs (D.files disk.old)) }
-    ensures others { IsTrue D.tells → (n : Name) → n ≢ catalogue_name → D.files disk.new n ≡ D.files disk.old n }
+    ensures others { IsTrue D.tells → (n : Name) → (IsOwn catalogue_name n → ⊥) → D.files disk.new n ≡ D.files disk.old n }
     ensures keeps { IsTrue D.tells → (gs : List GranularityValue) → KeepsSaid gs (D.files disk.old) (D.opened disk.old) (D.past disk.old) (D.files disk.new) (D.opened disk.new) (D.past disk.new) }
     ensures faults { D.faults disk.old ≤ D.faults disk.new }
     ensures cause { result ≡ Err (OfDisk Fault) → Rose (D.faults disk.old) (D.faults disk.new) }
@@ -48,10 +49,12 @@ pub(crate) fn load_catalogue<D: Disk>(alloc: Global, disk: &mut D) -> Result<Cat
     match Catalogue::load(alloc, disk) {
         Ok(catalogue) => Ok(catalogue),
         Err(CatalogueErr::Disk(e)) => Err(Refusal::Disk(e)),
-        Err(CatalogueErr::BadJournal { at }) => Err(Refusal::Damaged { name, at }),
+        Err(CatalogueErr::BadJournal { name: file, at }) => {
+            Err(Refusal::Damaged { name: file, at })
+        }
         Err(CatalogueErr::BadBatch { number }) => {
-            let at = gate_of(alloc, disk, &name, number)?;
-            Err(Refusal::Damaged { name, at })
+            let (file, at) = gate_of(alloc, disk, &name, number)?;
+            Err(Refusal::Damaged { name: file, at })
         }
     }
 }
@@ -62,17 +65,17 @@ pub(crate) fn load_manifests<D: Disk>(
     disk: &mut D,
     config: &Config,
 ) -> Result<Vec<Manifest>, Refusal>
-    requires unopened { IsTrue D.tells → (i : ℕ) → i < 3 → D.opened disk.old (manifest_name (i + 1)) ≡ 0 }
+    requires unopened { IsTrue D.tells → (i : ℕ) → i < 3 → NoneOpened (manifest_name (i + 1)) (D.opened disk.old) }
     ensures kept { IsTrue D.tells → IfOk result (λ ms. AtEach ms.items (λ i m. IsKept m (D.files disk.new) (D.opened disk.new) (D.past disk.new))) }
-    ensures said { IsTrue D.tells → IfOk result (λ ms. AtEach ms.items (λ i m. Says (Folds m.granularity) m.entries (D.files disk.old (manifest_name (i + 1))))) }
+    ensures said { IsTrue D.tells → IfOk result (λ ms. AtEach ms.items (λ i m. Says (Folds m.granularity) m.entries (manifest_name (i + 1)) (D.files disk.old))) }
     ensures three { IfOk result (λ ms. length ms.items ≡ 3) }
     ensures names { IfOk result (λ ms. AtEach ms.items (λ i m. m.journal.name ≡ manifest_name (i + 1))) }
     ensures sound { IfOk result (λ ms. AtEach ms.items (λ i m. m.journal.sound ≡ true)) }
     ensures granularity { IfOk result (λ ms. AtEach ms.items (λ i m. slice_get (stores_of config.now) i ≡ Some m.granularity)) }
     ensures nested { IsOk result → AllNested (stores_of config.now) }
     ensures are { IfOk result (λ ms. AtEach ms.items (λ i m. AreEntries m.granularity m.entries)) }
-    ensures told { IsTrue D.tells → (seen : Files) (rows : List Row) → Says IsCatalogue rows (seen catalogue_name)
-        → ((i : ℕ) → i < 3 → D.files disk.old (manifest_name (i + 1)) ≡ seen (manifest_name (i + 1))) → IfErr result (IsTold (stores_of config.now) seen) }
+    ensures told { IsTrue D.tells → (seen : Files) (rows : List Row) → Says IsCatalogue rows catalogue_name seen
+        → ((i : ℕ) (n : Name) → i < 3 → IsOwn (manifest_name (i + 1)) n → D.files disk.old n ≡ seen n) → IfErr result (IsTold (stores_of config.now) seen) }
     ensures catalogue { IsTrue D.tells → (c : CatalogueState) → c.journal.name ≡ catalogue_name → IsStored c (D.files disk.old) (D.opened disk.old) (D.past disk.old)
         → OnOk result (IsStored c (D.files disk.new) (D.opened disk.new) (D.past disk.new)) }
     ensures keeps { IsTrue D.tells → KeepsSaid (stores_of config.now) (D.files disk.old) (D.opened disk.old) (D.past disk.old) (D.files disk.new) (D.opened disk.new) (D.past disk.new) }
@@ -96,15 +99,15 @@ fn load_manifest<D: Disk>(
     place: u8,
 ) -> Result<Manifest, Refusal>
     requires place { place < 3 }
-    requires unopened { IsTrue D.tells → D.opened disk.old (manifest_name (place + 1)) ≡ 0 }
+    requires unopened { IsTrue D.tells → NoneOpened (manifest_name (place + 1)) (D.opened disk.old) }
     ensures kept { IsTrue D.tells → IfOk result (λ m. IsKept m (D.files disk.new) (D.opened disk.new) (D.past disk.new)) }
-    ensures entries { IsTrue D.tells → IfOk result (λ m. Lists m.granularity m.entries (D.files disk.old (manifest_name (place + 1)))) }
+    ensures entries { IsTrue D.tells → IfOk result (λ m. Lists m.granularity m.entries (manifest_name (place + 1)) (D.files disk.old)) }
     ensures are { IfOk result (λ m. AreEntries m.granularity m.entries) }
     ensures nested { IsOk result → (i : ℕ) → i < 2 → i + 1 ≡ place → AreNested i (stores_of config.now) }
     ensures manifest { IfOk result (λ m. (m.journal.name ≡ manifest_name (place + 1)) × (m.journal.sound ≡ true) × (slice_get (stores_of config.now) place ≡ Some m.granularity)) }
-    ensures told { IsTrue D.tells → (seen : Files) (rows : List Row) (lists : Listings) → Says IsCatalogue rows (seen catalogue_name) → AreSaidBelow place (stores_of config.now) seen lists
-        → D.files disk.old (manifest_name (place + 1)) ≡ seen (manifest_name (place + 1)) → IfErr result (IsTold (stores_of config.now) seen) }
-    ensures others { IsTrue D.tells → (n : Name) → n ≢ manifest_name (place + 1) → OnOk result (D.files disk.new n ≡ D.files disk.old n) }
+    ensures told { IsTrue D.tells → (seen : Files) (rows : List Row) (lists : Listings) → Says IsCatalogue rows catalogue_name seen → AreSaidBelow place (stores_of config.now) seen lists
+        → ((n : Name) → IsOwn (manifest_name (place + 1)) n → D.files disk.old n ≡ seen n) → IfErr result (IsTold (stores_of config.now) seen) }
+    ensures others { IsTrue D.tells → (n : Name) → (IsOwn (manifest_name (place + 1)) n → ⊥) → OnOk result (D.files disk.new n ≡ D.files disk.old n) }
     ensures catalogue { IsTrue D.tells → (c : CatalogueState) → c.journal.name ≡ catalogue_name → IsStored c (D.files disk.old) (D.opened disk.old) (D.past disk.old)
         → OnOk result (IsStored c (D.files disk.new) (D.opened disk.new) (D.past disk.new)) }
     ensures earlier { IsTrue D.tells → (i : ℕ) (m : ManifestState) → i < place → m.journal.name ≡ manifest_name (i + 1) → IsKept m (D.files disk.old) (D.opened disk.old) (D.past disk.old)
@@ -118,10 +121,12 @@ fn load_manifest<D: Disk>(
     match Manifest::load(alloc, disk, store, config.granularity(store)) {
         Ok(manifest) => Ok(manifest),
         Err(ManifestErr::Disk(e)) => Err(Refusal::Disk(e)),
-        Err(ManifestErr::BadJournal { at }) => Err(Refusal::Damaged { name, at }),
+        Err(ManifestErr::BadJournal { name: file, at }) => {
+            Err(Refusal::Damaged { name: file, at })
+        }
         Err(ManifestErr::BadBatch { number }) => {
-            let at = gate_of(alloc, disk, &name, number)?;
-            Err(Refusal::Damaged { name, at })
+            let (file, at) = gate_of(alloc, disk, &name, number)?;
+            Err(Refusal::Damaged { name: file, at })
         }
         Err(ManifestErr::GranularityDiffers { kept, asked }) => {
             Err(Refusal::GranularityDiffers { kept, asked })
@@ -129,29 +134,34 @@ fn load_manifest<D: Disk>(
     }
 }
 
-// The place of a batch's open gate in a journal's file. It loads the journal once more; should its form break off now, it is that place.
+// The file of a journal's current generation, and the place of a batch's open gate in it. It loads the journal once more.
 fn gate_of<D: Disk>(
     alloc: Global,
     disk: &mut D,
     name: &FileName,
     number: u64,
-) -> Result<u64, DiskErr>
-    requires unopened { IsTrue D.tells → D.opened disk.old name.now ≡ 0 }
-    ensures gate { IsTrue D.tells → (bs : List (List ℕ)) → HasBatches (D.files disk.old name.now) bs → IfOk result (λ at. IsBadJournal (D.files disk.old name.now) at ⊎ (at ≡ length (open_gates (take number bs)))) }
-    ensures kept { IsTrue D.tells → At name.now (Loads (D.files disk.old name.now)) (D.files disk.old) (D.files disk.new) }
-    ensures any_moment { IsTrue D.tells → Passes (At name.now (Loads (D.files disk.old name.now))) (D.past disk.old) (D.past disk.new) }
-    ensures opened { IsTrue D.tells → (n : Name) → n ≢ name.now → D.opened disk.new n ≡ D.opened disk.old n }
-    ensures unopened { IsTrue D.tells → D.opened disk.new name.now ≡ 0 }
+) -> Result<(FileName, u64), DiskErr>
+    requires unopened { IsTrue D.tells → NoneOpened name.now (D.opened disk.old) }
+    ensures gate { IsTrue D.tells → IfOk result (λ r. IsGate name.now (D.files disk.old) number r.0 r.1) }
+    ensures kept { IsTrue D.tells → AtOwn name.now (KeepsBatches name.now) (D.files disk.old) (D.files disk.new) }
+    ensures any_moment { IsTrue D.tells → Passes (AtOwn name.now (KeepsBatches name.now)) (D.past disk.old) (D.past disk.new) }
+    ensures opened { IsTrue D.tells → (n : Name) → (IsOwn name.now n → ⊥) → D.opened disk.new n ≡ D.opened disk.old n }
+    ensures unopened { IsTrue D.tells → NoneOpened name.now (D.opened disk.new) }
     ensures faults { D.faults disk.old ≤ D.faults disk.new }
     ensures cause { IsErrOf result DiskErr.Fault → Rose (D.faults disk.old) (D.faults disk.new) }
 {
     match Journal::load(alloc, disk, name) {
-        Ok((_, batches)) => {
-            let place = place_of(&batches, number as usize)?;
-            Ok(place)
+        Ok((journal, batches)) => {
+            let at = place_of(&batches, number as usize)?;
+            let file = journal.file().copy(alloc)?;
+            Ok((file, at))
         }
         Err(JournalErr::Disk(e)) => Err(e),
-        Err(JournalErr::BadJournal { at }) => Ok(at),
+        Err(JournalErr::BadJournal { name: file, at }) => {
+            // No image that holds batches is bad.
+            one_bad_place();
+            Ok((file, at))
+        }
     }
 }
 

@@ -11,7 +11,7 @@ ghost use Rattle.store_reopen.specs.Reopen.{Opens, OpensEither, IsUnopened};
 ghost use Rattle.store_reopen.specs.Verdict.{IsWhole, IsDamaged, Differs};
 
 use disk_model::Disk;
-use gate_journal::one_refusal;
+use gate_journal::one_bad_place;
 
 /// An image has one verdict at most: it is whole, or damaged in one place of one file, or a store is of one other granularity.
 pub fn one_verdict()
@@ -21,7 +21,7 @@ pub fn one_verdict()
     ensures place { (gs : List Granularity) (files : Files) (one other : Name) (i j : ℕ) → IsDamaged gs files one i → IsDamaged gs files other j → (one ≡ other) × (i ≡ j) }
     ensures granularity { (gs : List Granularity) (files : Files) (kept asked other ask : Granularity) → Differs gs files kept asked → Differs gs files other ask → (kept ≡ other) × (asked ≡ ask) }
 {
-    one_refusal();
+    one_bad_place();
 }
 
 /// An image that holds files which stand is whole.

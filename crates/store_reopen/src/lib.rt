@@ -6,14 +6,17 @@
 //!
 //! | What is wrong | The file told | The place told |
 //! |---|---|---|
-//! | something is cut off behind an open gate of a journal | the journal | that gate |
-//! | a batch of a journal means nothing behind those before it | the journal | its open gate |
+//! | something is cut off behind an open gate of a file of a journal | that file | that gate |
+//! | a batch of the file that tells a journal's generation isn't the next one | that file | its open gate |
+//! | a journal's generation from 1 on has no file, or one shorter than two bytes | that file | 0 |
+//! | a batch of a journal means nothing behind those before it | its generation's file | its open gate |
 //! | the journals before a manifest are good, and it is of another granularity | none: both granularities are told | |
 //! | an entry's series is no row | the first manifest with one | 0 |
 //! | a listed file is absent | that file | 0 |
 //! | a listed file is shorter than it is listed | that file | its length |
 //!
-//! What the image holds is what the stores hold. Opening writes nothing but the first bytes of journals that are missing.
+//! What the image holds is what the stores hold. Opening writes nothing but the first bytes of journals that are missing, and
+//! removes nothing but the file of a journal's generation before the current one.
 //!
 //! Caveat: it looks only at lengths, so a disk whose listed bytes others damaged is opened too.
 #![tactic(auto)]

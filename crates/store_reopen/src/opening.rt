@@ -10,6 +10,7 @@ ghost use Rattle.store_manifest.specs.Manifest.{IsKept, manifest_name};
 ghost use Rattle.tier_store.specs.Stores.{Stores};
 ghost use Rattle.tier_store.specs.Seen.{seen, AtEach};
 ghost use Rattle.tier_store.specs.Change.{Has};
+ghost use Rattle.store_reopen.specs.OneJournal.{NoneOpened};
 ghost use Rattle.store_reopen.specs.Verdict.{AreSaid, IsThere, IsWhole, IsDamaged, Differs};
 ghost use Rattle.store_reopen.specs.Reopen.{IsUnopened, OpensEither, HasRead, Reopens, IsReady, stores_of, lists_of, disk_of};
 ghost use Rattle.store_reopen.specs.Loading.{KeepsSaid};
@@ -80,7 +81,7 @@ fn load_stores<D: Disk>(
     disk: &mut D,
     config: &Config,
 ) -> Result<(Catalogue, Vec<Manifest>), Refusal>
-    requires unopened { IsTrue D.tells → (D.opened disk.old catalogue_name ≡ 0) × ((i : ℕ) → i < 3 → D.opened disk.old (manifest_name (i + 1)) ≡ 0) }
+    requires unopened { IsTrue D.tells → NoneOpened catalogue_name (D.opened disk.old) × ((i : ℕ) → i < 3 → NoneOpened (manifest_name (i + 1)) (D.opened disk.old)) }
     ensures stored { IsTrue D.tells → IfOk result (λ r. IsStored r.0 (D.files disk.new) (D.opened disk.new) (D.past disk.new)) }
     ensures kept { IsTrue D.tells → IfOk result (λ r. AtEach r.1.items (λ i m. IsKept m (D.files disk.new) (D.opened disk.new) (D.past disk.new))) }
     ensures said { IsTrue D.tells → IfOk result (λ r. AreSaid (stores_of config.now) (D.files disk.old) r.0.rows (lists_of r.1.items)) }

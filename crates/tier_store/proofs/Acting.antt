@@ -1,5 +1,5 @@
 -- A call that changes the stores, behind the settling of a doubt.
-use Rattle.std.proofs.Common.{◌≡◌, ◌⊎◌, inl, inr, Bool, ◌≤◌, List, refl, sym, ◌∙◌, ap, subst, arith}
+use Rattle.std.proofs.Common.{◌≡◌, ◌⊎◌, inl, inr, ℕ, Bool, ◌≤◌, List, refl, sym, ◌∙◌, ap, subst, arith}
 use Rattle.std.specs.Prelude.{IsTrue, Result, Ok, Err}
 use Rattle.disk_model.specs.Files.{Files, Rose}
 use Rattle.disk_model.specs.Past.{Past, Passes}
@@ -13,14 +13,12 @@ use Rattle.tier_store.specs.Stores.{Stores}
 use Rattle.tier_store.specs.Seen.{Seen, IsSettled, granularities}
 use Rattle.tier_store.specs.Stored.{HoldsAll}
 use Rattle.tier_store.specs.Given.{ChangesGiven, ActsGiven}
-use Rattle.tier_store.specs.Change.{Has, HasEither, Doubts, IsOpen, IsEither, Comes, HoldsBy, HoldsChange, Call, EndsFrom, OnlyReads, Changes, Acts}
+use Rattle.tier_store.specs.Change.{Has, HasEither, Doubts, IsOpen, IsEither, Comes, HoldsBy, HoldsChange, HoldsEither, SameFiles, Call, EndsFrom, OnlyReads, OnlySettles, Changes, Acts}
 use Rattle.tier_store.proofs.Left.{has_left, open_left}
 
--- the settling reads alone
-settling_holds : (tells : Bool) (By : Stores → Stores → Type 0) (s : Seen) (new : Past) (before after : Stores) → IsOpen tells s before after → IsTrue tells → Passes (λ a b. b ≡ a) s.past new → Passes (HoldsChange (granularities s.manifests) By before after) s.past new
-settling_holds tells By s new before after was told passes =
-    passes_weaker (λ a b. b ≡ a) (HoldsChange (granularities s.manifests) By before after) s.past new passes
-    (λ a b left is. inl (subst (λ (f : Files). HoldsAll (granularities s.manifests) f before ⊎ HoldsAll (granularities s.manifests) f after) (sym is) (open_left tells s before after was told a left)))
+-- while a doubt is settled the stores hold the one or the other
+settling_holds : (By : Stores → Stores → Type 0) (gs : List Granularity) (old new : Past) (before after : Stores) → Passes (HoldsEither gs before after) old new → Passes (HoldsChange gs By before after) old new
+settling_holds By gs old new before after passes = passes_weaker (HoldsEither gs before after) (HoldsChange gs By before after) old new passes (λ a b left holds. inl holds)
 
 -- and then the change is made of what was settled
 then_holds : (gs : List Granularity) (By : Stores → Stores → Type 0) (old mid new : Past) (before after held : Stores) → IsEither before after held → Passes (HoldsChange gs By before after) old mid → Passes (HoldsBy gs By held) mid new → Passes (HoldsChange gs By before after) old new
@@ -56,14 +54,15 @@ pub has_one_given : (Is : Stores → Type 0) → ((s t : Stores) → t.stands �
 has_one_given Is alike tells old mid before after settled given (inl has) = elim (settled before before (inl has)) [ inl now ↦ (before, given, now) | inr now ↦ (before, given, now) ]
 has_one_given Is alike tells old mid before after settled given (inr doubt) = elim (settled before after (inr doubt)) [ inl now ↦ (before, given, now) | inr now ↦ (after, alike before after (same_stands tells old before after doubt) given, now) ]
 
+-- a call of the disk failed only where it counted a fault
+pub failed_so : {B : Type 0} (before now : ℕ) (r : Result B DiskErr) → (r ≡ Err Fault → Rose before now) → IsFailed (end_of_disk r) → Rose before now
+failed_so {B} before now (Ok a) cause none = absurd none
+failed_so {B} before now (Err Fault) cause is = cause refl
+failed_so {B} before now (Err Memory) cause none = absurd none
+
 -- a call on the disk that only read it
 pub only_reads : {B : Type 0} (tells : Bool) (old new : Seen) (r : Result B DiskErr) → (IsTrue tells → new.files ≡ old.files) → (IsTrue tells → Passes (λ a b. b ≡ a) old.past new.past) → old.faults ≤ new.faults → (r ≡ Err Fault → Rose old.faults new.faults) → OnlyReads tells old new (end_of_disk r)
-only_reads {B} tells old new r files passes more cause = record { files = files; any_moment = passes; faults = more; cause = failed r cause }
-  where
-    failed : (x : Result B DiskErr) → (x ≡ Err Fault → Rose old.faults new.faults) → IsFailed (end_of_disk x) → Rose old.faults new.faults
-    failed (Ok a) cause none = absurd none
-    failed (Err Fault) cause is = cause refl
-    failed (Err Memory) cause none = absurd none
+only_reads {B} tells old new r files passes more cause = record { files = files; any_moment = passes; faults = more; cause = failed_so old.faults new.faults r cause }
 
 -- nothing was read
 pub nothing_read : {A E : Type 0} (tells : Bool) (s : Seen) (end : End A E) → (IsFailed end → ⊥) → OnlyReads tells s s end
@@ -76,35 +75,35 @@ nothing_read {A} {E} tells s end not_failed = record {
 
 -- the settling failed, so something stood in doubt
 pub cut_given : {A B E : Type 0} (Is : Stores → Type 0) (tells : Bool) (call : Call A E) (old new : Seen) (r : Result B DiskErr) (e : DiskErr) (end : End A E) → r ≡ Err e → end ≡ end_of_error e → (IsSettled old → (a : B) × (r ≡ Ok a)) → ((before after : Stores) → IsOpen tells old before after → IsOpen tells new before after)
-    → granularities new.manifests ≡ granularities old.manifests → OnlyReads tells old new (end_of_disk r) → ActsGiven Is tells call old new end
-cut_given {A} {B} {E} Is tells call old new r e end failed is fine still same_g reads = subst (λ (x : End A E). ActsGiven Is tells call old new x) (sym is) (go e (subst (λ (x : Result B DiskErr). OnlyReads tells old new (end_of_disk x)) failed reads))
+    → granularities new.manifests ≡ granularities old.manifests → OnlySettles tells old new (end_of_disk r) → ActsGiven Is tells call old new end
+cut_given {A} {B} {E} Is tells call old new r e end failed is fine still same_g reads = subst (λ (x : End A E). ActsGiven Is tells call old new x) (sym is) (go e (subst (λ (x : Result B DiskErr). OnlySettles tells old new (end_of_disk x)) failed reads))
   where
     doubted : IsSettled old → ⊥
     doubted settled = let ok = fine settled in let both : ◌≡◌ {A = Result B DiskErr} (Ok ok.0) (Err e) = sym ok.1 ∙ failed in cc (both)
 
-    go : (e : DiskErr) → OnlyReads tells old new (end_of_disk {A = B} (Err e)) → ActsGiven Is tells call old new (end_of_error {A = A} {E = E} e)
+    go : (e : DiskErr) → OnlySettles tells old new (end_of_disk {A = B} (Err e)) → ActsGiven Is tells call old new (end_of_error {A = A} {E = E} e)
     go Fault reads = record {
       ends = λ before after was given given_too. inl (tt, still before after was);
       settled = λ held has given. absurd (doubted has.settled);
-      any_moment = λ told before after was given given_too. settling_holds tells call.by old new.past before after was told (reads.any_moment told);
+      any_moment = λ told before after was given given_too. settling_holds call.by (granularities old.manifests) old.past new.past before after (reads.any_moment told before after was);
       costs = record { granularity = same_g; faults = reads.faults; cause = reads.cause };
     }
     go Memory reads = record {
       ends = λ before after was given given_too. inl (tt, still before after was);
       settled = λ held has given. absurd (doubted has.settled);
-      any_moment = λ told before after was given given_too. settling_holds tells call.by old new.past before after was told (reads.any_moment told);
+      any_moment = λ told before after was given given_too. settling_holds call.by (granularities old.manifests) old.past new.past before after (reads.any_moment told before after was);
       costs = record { granularity = same_g; faults = reads.faults; cause = λ failed. absurd failed };
     }
 
 -- the doubt was settled, and then the call did its own; what was true of the stores is so still behind the settling
 pub then_given : {A B E F : Type 0} (Is Then : Stores → Type 0) (tells : Bool) (call : Call A E) (old mid new : Seen) (settling : End B F) (end : End A E) → ((held : Stores) → Is held → Then held) → ((before after : Stores) → IsOpen tells old before after → HasEither tells mid before after)
-    → ((held : Stores) → Has tells old held → Has tells mid held) → granularities mid.manifests ≡ granularities old.manifests → OnlyReads tells old mid settling → ChangesGiven Then tells call mid new end → ActsGiven Is tells call old new end
+    → ((held : Stores) → Has tells old held → Has tells mid held) → granularities mid.manifests ≡ granularities old.manifests → OnlySettles tells old mid settling → ChangesGiven Then tells call mid new end → ActsGiven Is tells call old new end
 then_given {A} {B} {E} {F} Is Then tells call old mid new settling end stays settled nothing same_g reads change = record {
   ends = λ before after was given given_too. let held = settled_one tells mid before after (settled before after was) in inr (held.0, held.1, change.ends held.0 held.2 (stays held.0 (is_one Is before after held.0 held.1 given given_too)));
   settled = λ held has given. change.ends held (nothing held has) (stays held given);
   any_moment = λ told before after was given given_too.
       let held = settled_one tells mid before after (settled before after was) in
-      then_holds (granularities old.manifests) call.by old.past mid.past new.past before after held.0 held.1 (settling_holds tells call.by old mid.past before after was told (reads.any_moment told))
+      then_holds (granularities old.manifests) call.by old.past mid.past new.past before after held.0 held.1 (settling_holds call.by (granularities old.manifests) old.past mid.past before after (reads.any_moment told before after was))
       (subst (λ (gs : List Granularity). Passes (HoldsBy gs call.by held.0) mid.past new.past) same_g (change.any_moment told held.0 held.2 (stays held.0 (is_one Is before after held.0 held.1 given given_too))));
   costs = record {
     granularity = change.costs.granularity ∙ same_g;
@@ -122,14 +121,27 @@ every_act : {A E : Type 0} (tells : Bool) (call : Call A E) (old new : Seen) (en
 every_act {A} {E} tells call old new end acts = record { ends = λ before after was. acts.ends before after was tt tt; settled = λ held has. acts.settled held has tt; any_moment = λ told before after was. acts.any_moment told before after was tt tt; costs = acts.costs }
 
 pub cut_acts : {A B E : Type 0} (tells : Bool) (call : Call A E) (old new : Seen) (r : Result B DiskErr) (e : DiskErr) (end : End A E) → r ≡ Err e → end ≡ end_of_error e → (IsSettled old → (a : B) × (r ≡ Ok a)) → ((before after : Stores) → IsOpen tells old before after → IsOpen tells new before after)
-    → granularities new.manifests ≡ granularities old.manifests → OnlyReads tells old new (end_of_disk r) → Acts tells call old new end
+    → granularities new.manifests ≡ granularities old.manifests → OnlySettles tells old new (end_of_disk r) → Acts tells call old new end
 cut_acts {A} {B} {E} tells call old new r e end failed is fine still same_g reads = every_act tells call old new end (cut_given (λ (s : Stores). Unit {0}) tells call old new r e end failed is fine still same_g reads)
 
 pub then_acts : {A B E F : Type 0} (tells : Bool) (call : Call A E) (old mid new : Seen) (settling : End B F) (end : End A E) → ((before after : Stores) → IsOpen tells old before after → HasEither tells mid before after)
-    → ((held : Stores) → Has tells old held → Has tells mid held) → granularities mid.manifests ≡ granularities old.manifests → OnlyReads tells old mid settling → Changes tells call mid new end → Acts tells call old new end
+    → ((held : Stores) → Has tells old held → Has tells mid held) → granularities mid.manifests ≡ granularities old.manifests → OnlySettles tells old mid settling → Changes tells call mid new end → Acts tells call old new end
 then_acts {A} {B} {E} {F} tells call old mid new settling end settled nothing same_g reads change = every_act tells call old new end
     (then_given (λ (s : Stores). Unit {0}) (λ (s : Stores). Unit {0}) tells call old mid new settling end (λ held given. given) settled nothing same_g reads
     (changes_given (λ (s : Stores). Unit {0}) tells call mid new end change))
+
+-- a call that only read settles nothing, and whatever was in doubt stays
+pub reads_settle : {A E : Type 0} (tells : Bool) (old new : Seen) (end : End A E) → OnlyReads tells old new end → OnlySettles tells old new end
+reads_settle {A} {E} tells old new end reads = record {
+  files = λ told n other. ap (λ (f : Files). f n) (reads.files told);
+  frame = λ told. passes_weaker (λ a b. b ≡ a) SameFiles old.past new.past (reads.any_moment told) (λ a b left is n other. ap (λ (f : Files). f n) is);
+  any_moment = λ told before after was.
+      passes_weaker (λ a b. b ≡ a) (HoldsEither (granularities old.manifests) before after) old.past new.past (reads.any_moment told)
+      (λ a b left is. subst (λ (f : Files). HoldsAll (granularities old.manifests) f before ⊎ HoldsAll (granularities old.manifests) f after) (sym is) (open_left tells old before after was told a left));
+  quiet = λ settled told. (reads.files told, reads.any_moment told);
+  faults = reads.faults;
+  cause = reads.cause;
+}
 
 -- nothing was done
 pub nothing_changes : {A E : Type 0} (tells : Bool) (call : Call A E) (s : Seen) (end : End A E) → ((held : Stores) → Has tells s held → EndsFrom tells call s held end) → (IsFailed end → ⊥) → Changes tells call s s end

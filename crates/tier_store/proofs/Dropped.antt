@@ -7,6 +7,7 @@ use Rattle.std.proofs.lemmas.Option.{same_Some}
 use Rattle.std.proofs.lemmas.List.{take-map}
 use Rattle.std.proofs.lemmas.List.Elements.{All-contains, All-map, Contains-append_left, Contains-append_right, Contains-get_or}
 use Rattle.disk_model.specs.Files.{Name}
+use Rattle.gate_journal.specs.Generations.{IsOwn}
 use Rattle.pv_catalog.specs.declared.row.Row.{Row}
 use Rattle.store_manifest.specs.Entries.{Place, place, comes_before, without}
 use Rattle.store_manifest.specs.Manifest.{ManifestState}
@@ -207,7 +208,7 @@ module _ (tells : Bool) (i row n : ℕ) (old new : SeenAll) (held : Stores) (has
             })
           ]
 
-  pub dropped_shown : (m : ManifestState) → slice_get old.stores.manifests i ≡ Some m → (IsTrue tells → (name : Name) → name ≢ m.journal.name → new.stores.files name ≡ old.stores.files name) → KeepsShown tells old new
+  pub dropped_shown : (m : ManifestState) → slice_get old.stores.manifests i ≡ Some m → (IsTrue tells → (name : Name) → (IsOwn m.journal.name name → ⊥) → new.stores.files name ≡ old.stores.files name) → KeepsShown tells old new
   dropped_shown m here elsewhere name bytes was = record {
     held = elim was.held [
       | inl h ↦ listed_kept name (length bytes) h

@@ -1,6 +1,7 @@
 -- What a flush into store 1 starts from, and what stands beside it.
 use Rattle.std.proofs.Common.{◌≡◌, ◌≢◌, inl, inr, false, Bool, ℕ, ◌≤◌, ◌+◌, List, Some, refl, sym, ap, subst, arith}
 use Rattle.std.specs.Prelude.{IsTrue, slice_get}
+use Rattle.gate_journal.specs.Generations.{IsOwn}
 use Rattle.durable_write.specs.Three.{Beside}
 use Rattle.disk_model.specs.Files.{Name, Files}
 use Rattle.disk_model.specs.Past.{Past, Passes}
@@ -43,5 +44,5 @@ planned ms n m there here rows limbo batch pieces count plan =
     subst (λ (x : ManifestState). (held : Held) → HoldsBoth x.granularity rows x.entries limbo held → flush.Flushes x.granularity held batch pieces count) (one_manifest ms 0 0 m n refl here there) plan
 
 -- what the writing of the pieces says of all that stands beside store 1
-pub on_store : (tells : Bool) (at : Seen) (held : Stores) (i : ℕ) (m : ManifestState) → slice_get at.manifests i ≡ Some m → Has tells at held → (tells_it : IsTrue tells) → (later : Files) (after : Name → ℕ) (new : Past) → Passes (Beside (i + 1) m.journal.name) at.past new → ((n : Name) → n.0 ≢ i + 1 → n ≢ m.journal.name → later n ≡ at.files n) → ((n : Name) → after n ≤ at.opened n) → OnStore (i + 1) m.journal.name at.files later at.opened after at.past new
+pub on_store : (tells : Bool) (at : Seen) (held : Stores) (i : ℕ) (m : ManifestState) → slice_get at.manifests i ≡ Some m → Has tells at held → (tells_it : IsTrue tells) → (later : Files) (after : Name → ℕ) (new : Past) → Passes (Beside (i + 1) m.journal.name) at.past new → ((n : Name) → n.0 ≢ i + 1 → (IsOwn m.journal.name n → ⊥) → later n ≡ at.files n) → ((n : Name) → after n ≤ at.opened n) → OnStore (i + 1) m.journal.name at.files later at.opened after at.past new
 on_store tells at held i m here has told later after new passes same fewer = record { numbered = omega arith; named = ((has.disk told).each i m here).named; passes = passes; same = same; fewer = fewer }

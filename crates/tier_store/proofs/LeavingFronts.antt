@@ -2,10 +2,11 @@
 use Rattle.std.proofs.Common.{◌≡◌, ◌≢◌, inl, inr, Bool, ℕ, ◌+◌, List, map, length, Some, Ok, Err, refl, sym, ◌∙◌, ap, subst, arith}
 use Rattle.std.specs.Prelude.{Contains, IsTrue, OnErr, OnOk, Result, slice_get}
 use Rattle.std.proofs.lemmas.List.Elements.{All-contains}
-use Rattle.disk_model.specs.Files.{Name, Content, Files, At}
+use Rattle.disk_model.specs.Files.{Name, Content, Files}
 use Rattle.disk_model.specs.Past.{Passes}
 use Rattle.disk_model.specs.declared.disk.DiskErr.{DiskErr}
 use Rattle.disk_model.proofs.Passing.{passes_none, passes_then, passes_weaker}
+use Rattle.gate_journal.specs.Generations.{IsOwn, AtOwn}
 use Rattle.pv_catalog.specs.Rows.{KeepsRows}
 use Rattle.pv_catalog.specs.declared.row.Row.{Row}
 use Rattle.series_model.specs.declared.batch.RowSamples.{RowSamples}
@@ -23,13 +24,13 @@ use Rattle.durable_write.proofs.There.{contains_map}
 use Rattle.durable_write.proofs.Three.{same_cases}
 use Rattle.tier_store.specs.Stores.{Stores, tier, with_rows}
 use Rattle.tier_store.specs.Seen.{Seen}
-use Rattle.tier_store.specs.Change.{IsKnownAt, Has, IsOpen, HasEither, Call, EndsFrom, Changes}
+use Rattle.tier_store.specs.Change.{IsKnownAt, Has, IsOpen, HasEither, SameFiles, Call, EndsFrom, Changes}
 use Rattle.tier_store.specs.Limbo.{LimboStands}
 use Rattle.tier_store.specs.Pinned.{SeenAll, beside, IsThereTo, KeepsShown, LeavesFronts}
 use Rattle.tier_store.specs.Revival.{AreInLimbo, flushing_over}
 use Rattle.tier_store.proofs.Places.{one_manifest}
 use Rattle.tier_store.proofs.RevivalShown.{IsHere, is_here, over_on, over_spares}
-use Rattle.tier_store.proofs.Showing.{Spares, ends_held, ends_spares, fronts_beside, fronts_same, grown_spares, known_spares, name_listed, not_journal, settled_held, settled_spares, still_held, still_spares, there_still}
+use Rattle.tier_store.proofs.Showing.{Spares, ends_held, ends_spares, fronts_beside, grown_spares, known_spares, name_listed, not_own, numbered, settled_held, settled_spares, still_held, still_spares, there_still}
 use Rattle.tier_store.proofs.Sparing.{after_disk, same_memory}
 
 -- the files of a store that are listed or in limbo begin as they did
@@ -58,13 +59,22 @@ fronts_on tells old mid new first second = record {
 
 -- READS
 
+-- only files of store 0 were changed
+only_settled : (tells : Bool) (old new : SeenAll) → ((name : Name) (len : ℕ) → IsThereTo old name len → IsThereTo new name len) → (IsTrue tells → SameFiles old.stores.files new.stores.files) → (IsTrue tells → Passes SameFiles old.stores.past new.stores.past) → LeavesFronts tells old new
+only_settled tells old new there same passes = record {
+  there = there;
+  now = λ told name len was. keeps_same len (old.stores.files name) (new.stores.files name) (same told name (not_first name len was));
+  any_moment = λ told store numbered. passes_weaker SameFiles (KeepsOf old store) old.stores.past new.stores.past (passes told) (λ a c left step name len of was. keeps_same len (a name) (c name) (step name (not_first name len was)));
+}
+  where
+    not_first : (name : Name) (len : ℕ) → IsThereTo old name len → name.0 ≢ 0
+    not_first name len was is = let number = numbered old name len was in omega (arith, is, number)
+
 -- the disk was only read
 only_read : (tells : Bool) (old new : SeenAll) → ((name : Name) (len : ℕ) → IsThereTo old name len → IsThereTo new name len) → (IsTrue tells → new.stores.files ≡ old.stores.files) → (IsTrue tells → Passes (λ a b. b ≡ a) old.stores.past new.stores.past) → LeavesFronts tells old new
-only_read tells old new there same passes = record {
-  there = there;
-  now = λ told. fronts_same old new (same told);
-  any_moment = λ told store numbered. passes_weaker (λ a b. b ≡ a) (KeepsOf old store) old.stores.past new.stores.past (passes told) (λ a c left is name len of was. keeps_same len (a name) (c name) (ap (λ (f : Files). f name) is));
-}
+only_read tells old new there same passes =
+    only_settled tells old new there (λ told n other. ap (λ (f : Files). f n) (same told))
+    (λ told. passes_weaker (λ a b. b ≡ a) SameFiles old.stores.past new.stores.past (passes told) (λ a c left is n other. ap (λ (f : Files). f n) is))
 
 -- and the memory is the same
 pub fronts_read : (tells : Bool) (old new : SeenAll) → new.stores.catalogue ≡ old.stores.catalogue → new.stores.manifests ≡ old.stores.manifests → new.limbo ≡ old.limbo → (IsTrue tells → new.stores.files ≡ old.stores.files) → (IsTrue tells → Passes (λ a b. b ≡ a) old.stores.past new.stores.past) → LeavesFronts tells old new
@@ -82,8 +92,8 @@ nothing_fronts tells all = fronts_read tells all all refl refl refl (λ told. re
 
 -- the settling of a doubt
 pub review_fronts : {B : Type 0} (tells : Bool) (old new : SeenAll) (r : Result B DiskErr) → new.limbo ≡ old.limbo → (before : Stores) × (after : Stores) × IsOpen tells old.stores before after → ((x y : Stores) → IsOpen tells old.stores x y → OnOk r (HasEither tells new.stores x y)) → ((x y : Stores) → IsOpen tells old.stores x y → OnErr r (IsOpen tells new.stores x y))
-    → (IsTrue tells → new.stores.files ≡ old.stores.files) → (IsTrue tells → Passes (λ a b. b ≡ a) old.stores.past new.stores.past) → LeavesFronts tells old new
-review_fronts {B} tells old new r limbo begun settled still = only_read tells old new (go r settled still)
+    → (IsTrue tells → SameFiles old.stores.files new.stores.files) → (IsTrue tells → Passes SameFiles old.stores.past new.stores.past) → LeavesFronts tells old new
+review_fronts {B} tells old new r limbo begun settled still = only_settled tells old new (go r settled still)
   where
     go : (r : Result B DiskErr) → ((x y : Stores) → IsOpen tells old.stores x y → OnOk r (HasEither tells new.stores x y)) → ((x y : Stores) → IsOpen tells old.stores x y → OnErr r (IsOpen tells new.stores x y)) → (name : Name) (len : ℕ) → IsThereTo old name len → IsThereTo new name len
     go (Ok a) settled still = there_still old new limbo (λ name len h. settled_held tells old.stores new.stores begun.0 begun.1 name len begun.2 settled h) (λ name len r. settled_spares tells old.stores new.stores begun.0 begun.1 name len begun.2 settled r.no_shorter)
@@ -91,16 +101,16 @@ review_fronts {B} tells old new r limbo begun settled still = only_read tells ol
 
 -- A CHANGE OF THE ROWS
 
--- the rows go on, and only the catalogue's file is written
-pub rows_fronts : {A E : Type 0} (tells : Bool) (call : Call A E) (old new : SeenAll) (end : End A E) (R : Content → Content → Type 0) → new.limbo ≡ old.limbo → (held : Stores) × Has tells old.stores held → ((held made : Stores) → call.by held made → (made ≡ with_rows held made.rows) × KeepsRows held.rows made.rows) → Changes tells call old.stores new.stores end
-    → (IsTrue tells → (n : Name) → n ≢ old.stores.catalogue.journal.name → new.stores.files n ≡ old.stores.files n) → (IsTrue tells → Passes (At old.stores.catalogue.journal.name R) old.stores.past new.stores.past) → LeavesFronts tells old new
+-- the rows go on, and only the catalogue's files are written
+pub rows_fronts : {A E : Type 0} (tells : Bool) (call : Call A E) (old new : SeenAll) (end : End A E) (R : Files → Files → Type 0) → new.limbo ≡ old.limbo → (held : Stores) × Has tells old.stores held → ((held made : Stores) → call.by held made → (made ≡ with_rows held made.rows) × KeepsRows held.rows made.rows) → Changes tells call old.stores new.stores end
+    → (IsTrue tells → (n : Name) → (IsOwn old.stores.catalogue.journal.name n → ⊥) → new.stores.files n ≡ old.stores.files n) → (IsTrue tells → Passes (AtOwn old.stores.catalogue.journal.name R) old.stores.past new.stores.past) → LeavesFronts tells old new
 rows_fronts {A} {E} tells call old new end R limbo has goes change elsewhere passes = record {
   there = there_still old new limbo (λ name len h. ends_held tells call old.stores new.stores has.0 end name len has.1 (λ made by. inr (goes has.0 made by)) ends h)
       (λ name len r. ends_spares tells call old.stores new.stores has.0 end name len has.1
       (λ made by spares. let on = goes has.0 made by in subst (λ (s : Stores). Spares s name len) (sym on.0) (grown_spares old.stores has.0 made.rows name len has.1.known on.1 spares)) ends r.no_shorter);
   now = λ told. fronts_beside old new journal (zero_store told) (elsewhere told);
-  any_moment = λ told store numbered. passes_weaker (At journal R) (KeepsOf old store) old.stores.past new.stores.past (passes told)
-      (λ a c left step name len of was. keeps_same len (a name) (c name) (step.elsewhere name (not_journal old journal (zero_store told) name len was)));
+  any_moment = λ told store numbered. passes_weaker (AtOwn journal R) (KeepsOf old store) old.stores.past new.stores.past (passes told)
+      (λ a c left step name len of was. keeps_same len (a name) (c name) (step.elsewhere name (not_own old journal (zero_store told) name len was)));
 }
   where
     journal : Name
@@ -138,7 +148,7 @@ over_fronts tells files batch old new end limbo stands held has rise ends m here
 
     -- another store's file
     of_other : IsTrue tells → (a c : Files) → Beside 1 m.journal.name a c → (name : Name) (len : ℕ) → name.0 ≢ 1 → IsThereTo old name len → Keeps len (a name) (c name)
-    of_other told a c step name len apart was = keeps_same len (a name) (c name) (step name apart (not_journal old m.journal.name (ap (λ (n : Name). n.0) ((has.disk told).each 0 m here).named) name len was))
+    of_other told a c step name len apart was = keeps_same len (a name) (c name) (step name apart (not_own old m.journal.name (ap (λ (n : Name). n.0) ((has.disk told).each 0 m here).named) name len was))
 
     -- what store 1 lists or has in limbo is here
     first_here : (name : Name) (len : ℕ) → name.0 ≡ 1 → IsThereTo old name len → IsHere held back name len

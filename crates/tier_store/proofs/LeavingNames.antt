@@ -4,9 +4,11 @@ use Rattle.std.specs.FinMap.{FinMap}
 use Rattle.std.specs.Ordering.{nat_cmp}
 use Rattle.std.specs.Prelude.{All, Contains, IsTrue}
 use Rattle.std.proofs.lemmas.List.Elements.{All-contains, All-map}
-use Rattle.disk_model.specs.Files.{Name, Content, Files, At}
+use Rattle.disk_model.specs.Files.{Name, Files}
 use Rattle.disk_model.specs.Past.{Past, Passes}
 use Rattle.disk_model.proofs.Passing.{passes_none, passes_then, passes_weaker}
+use Rattle.gate_journal.specs.Generations.{IsOwn, AtOwn}
+use Rattle.gate_journal.proofs.Owning.{own_store}
 use Rattle.pinned_pieces.specs.Pieces.{PinOf}
 use Rattle.pv_catalog.specs.Catalogue.{CatalogueState}
 use Rattle.store_manifest.specs.Manifest.{ManifestState}
@@ -98,32 +100,36 @@ limbo_leaves names tells at limbo left from = record {
   limbo = from;
 }
 
--- no name of a store's file is that of a journal
-apart_from : (names : List Name) (journal n : Name) → All (λ (x : Name). 1 ≤ x.0) names → Contains names n → journal.0 ≡ 0 → n ≢ journal
-apart_from names journal n own within zero_store is =
+-- no name of a store's file is a journal's
+apart_from : (names : List Name) (journal n : Name) → All (λ (x : Name). 1 ≤ x.0) names → Contains names n → journal.0 ≡ 0 → IsOwn journal n → ⊥
+apart_from names journal n own within zero_store its =
     let one = All-contains (λ (x : Name). 1 ≤ x.0) names n own within in
-    let same : n.0 ≡ journal.0 = ap (λ (x : Name). x.0) is in
+    let same = own_store journal n its in
     omega (arith, one, same, zero_store)
 
 pub later_own : (names : List Name) → All (λ (x : Name). 2 ≤ x.0) names → All (λ (x : Name). 1 ≤ x.0) names
 later_own names later k d lt = let two = later k d lt in omega (arith, two)
 
+-- where nothing was opened, nothing was opened further
+pub none_further : (opened after : Name → ℕ) → after ≡ opened → (n : Name) → after n ≤ opened n
+none_further opened after is n = let same : after n ≡ opened n = ap (λ (o : Name → ℕ). o n) is in omega (arith, same)
+
 -- a commit of a journal alone
-pub commit_leaves_files : (tells : Bool) (old new : SeenAll) (journal : Name) (R : Content → Content → Type 0) → new.limbo ≡ old.limbo → (IsTrue tells → journal.0 ≡ 0) → (IsTrue tells → (n : Name) → n ≢ journal → new.stores.files n ≡ old.stores.files n) → (IsTrue tells → new.stores.opened ≡ old.stores.opened)
-    → (IsTrue tells → Passes (At journal R) old.stores.past new.stores.past) → LeavesFiles tells old new
-commit_leaves_files tells old new journal R limbo zero_store elsewhere opened passes names own = record {
+pub commit_leaves_files : (tells : Bool) (old new : SeenAll) (journal : Name) (R : Files → Files → Type 0) → new.limbo ≡ old.limbo → (IsTrue tells → journal.0 ≡ 0) → (IsTrue tells → (n : Name) → (IsOwn journal n → ⊥) → new.stores.files n ≡ old.stores.files n) → (IsTrue tells → (n : Name) → new.stores.opened n ≤ old.stores.opened n)
+    → (IsTrue tells → Passes (AtOwn journal R) old.stores.past new.stores.past) → LeavesFiles tells old new
+commit_leaves_files tells old new journal R limbo zero_store elsewhere fewer passes names own = record {
   files = λ told n within. elsewhere told n (apart_from names journal n own within (zero_store told));
-  fewer = λ told n within. let same : new.stores.opened n ≡ old.stores.opened n = ap (λ (o : Name → ℕ). o n) (opened told) in omega (arith, same);
-  any_moment = λ told. passes_weaker (At journal R) (Same names) old.stores.past new.stores.past (passes told) (λ a c was step n within. step.elsewhere n (apart_from names journal n own within (zero_store told)));
+  fewer = λ told n within. fewer told n;
+  any_moment = λ told. passes_weaker (AtOwn journal R) (Same names) old.stores.past new.stores.past (passes told) (λ a c was step n within. step.elsewhere n (apart_from names journal n own within (zero_store told)));
   limbo = λ r within there. subst (λ (l : List Retired). Contains l r) limbo there;
 }
 
-pub commit_leaves : (tells : Bool) (old new : SeenAll) (journal : Name) (R : Content → Content → Type 0) → new.limbo ≡ old.limbo → (IsTrue tells → journal.0 ≡ 0) → (IsTrue tells → (n : Name) → n ≢ journal → new.stores.files n ≡ old.stores.files n) → (IsTrue tells → new.stores.opened ≡ old.stores.opened)
-    → (IsTrue tells → Passes (At journal R) old.stores.past new.stores.past) → LeavesLater tells old new
-commit_leaves tells old new journal R limbo zero_store elsewhere opened passes names later = commit_leaves_files tells old new journal R limbo zero_store elsewhere opened passes names (later_own names later)
+pub commit_leaves : (tells : Bool) (old new : SeenAll) (journal : Name) (R : Files → Files → Type 0) → new.limbo ≡ old.limbo → (IsTrue tells → journal.0 ≡ 0) → (IsTrue tells → (n : Name) → (IsOwn journal n → ⊥) → new.stores.files n ≡ old.stores.files n) → (IsTrue tells → (n : Name) → new.stores.opened n ≤ old.stores.opened n)
+    → (IsTrue tells → Passes (AtOwn journal R) old.stores.past new.stores.past) → LeavesLater tells old new
+commit_leaves tells old new journal R limbo zero_store elsewhere fewer passes names later = commit_leaves_files tells old new journal R limbo zero_store elsewhere fewer passes names (later_own names later)
 
 -- a call on the files of store 1 and its journal
-pub first_leaves : (tells : Bool) (old new : SeenAll) (journal : Name) → new.limbo ≡ old.limbo → (IsTrue tells → journal.0 ≡ 0) → (IsTrue tells → (n : Name) → n.0 ≢ 1 → n ≢ journal → new.stores.files n ≡ old.stores.files n) → (IsTrue tells → (n : Name) → new.stores.opened n ≤ old.stores.opened n)
+pub first_leaves : (tells : Bool) (old new : SeenAll) (journal : Name) → new.limbo ≡ old.limbo → (IsTrue tells → journal.0 ≡ 0) → (IsTrue tells → (n : Name) → n.0 ≢ 1 → (IsOwn journal n → ⊥) → new.stores.files n ≡ old.stores.files n) → (IsTrue tells → (n : Name) → new.stores.opened n ≤ old.stores.opened n)
     → (IsTrue tells → Passes (Beside 1 journal) old.stores.past new.stores.past) → LeavesLater tells old new
 first_leaves tells old new journal limbo zero_store elsewhere fewer passes names later = record {
   files = λ told n within. elsewhere told n (not_first n within) (apart_from names journal n (later_own names later) within (zero_store told));

@@ -26,10 +26,10 @@ use Rattle.tier_store.proofs.Places.{within_three, manifest_of, granularity_at, 
 pub all_hold : (ms : List ManifestState) (image : Files) (s : Stores) → AtEach ms (λ i m. Holds m.granularity image (tier i s)) → HoldsAll (granularities ms) image s
 all_hold ms image s each i g here = let m = manifest_of ms i g here in subst (λ (x : Granularity). Holds x image (tier i s)) m.2 (each i m.0 m.1)
 
-pub rows_say : (c : JournalState) (files : Files) (opened : Name → ℕ) (past : Past) (rows : List Row) (image : Files) → CatalogueStored c files opened past rows → MayLeave past image → Says IsCatalogue rows (image catalogue_name)
-rows_say c files opened past rows image stored left = subst (λ (n : Name). Says IsCatalogue rows (image n)) stored.named (kept_left IsCatalogue c files opened past rows stored.kept image left)
+pub rows_say : (c : JournalState) (files : Files) (opened : Name → ℕ) (past : Past) (rows : List Row) (image : Files) → CatalogueStored c files opened past rows → MayLeave past image → Says IsCatalogue rows catalogue_name image
+rows_say c files opened past rows image stored left = subst (λ (n : Name). Says IsCatalogue rows n image) stored.named (kept_left IsCatalogue c files opened past rows stored.kept image left)
 
-pub tier_holds : (g : Granularity) (m : JournalState) (files : Files) (opened : Name → ℕ) (past : Past) (t : Held) (image : Files) → TierStored g m files opened past t → MayLeave past image → Says IsCatalogue t.rows (image catalogue_name) → Holds g image t
+pub tier_holds : (g : Granularity) (m : JournalState) (files : Files) (opened : Name → ℕ) (past : Past) (t : Held) (image : Files) → TierStored g m files opened past t → MayLeave past image → Says IsCatalogue t.rows catalogue_name image → Holds g image t
 tier_holds g m files opened past t image stored left says = record {
   rows = says;
   lists = says_listed g m image t.store t.files stored.named (kept_left (Configured g) m files opened past (map entry_of t.files) stored.kept image left);
@@ -49,10 +49,10 @@ has_left tells at held has told image left = all_left at held image (has.disk to
 rows_left : (at : Seen) (before after : Stores) (image : Files) → RowsUnsure at before after → MayLeave at.past image → HoldsAll (granularities at.manifests) image before ⊎ HoldsAll (granularities at.manifests) image after
 rows_left at before after image unsure left = elim (unsure_left IsCatalogue at.catalogue.journal at.files at.opened at.past before.rows after.rows unsure.rows.unsure image left) [
   | inl says ↦
-      let named = subst (λ (n : Name). Says IsCatalogue before.rows (image n)) unsure.rows.named says in
+      let named = subst (λ (n : Name). Says IsCatalogue before.rows n image) unsure.rows.named says in
       inl (all_hold at.manifests image before (λ i m here. tier_holds m.granularity m.journal at.files at.opened at.past (tier i before) image (unsure.each i m here) left named))
   | inr says ↦
-      let named = subst (λ (n : Name). Says IsCatalogue after.rows (image n)) unsure.rows.named says in
+      let named = subst (λ (n : Name). Says IsCatalogue after.rows n image) unsure.rows.named says in
       inr (all_hold at.manifests image after (λ i m here. tier_holds m.granularity m.journal at.files at.opened at.past (tier i after) image (unsure.each_after i m here) left named))
 ]
 
@@ -71,7 +71,7 @@ place_left tells at before after i d image three unsure left =
       ]))
       | inr lists ↦ inr (all_hold at.manifests image after (λ k n there. elim (same_cases k i) [
         | inl same ↦ place k n same there after (record {
-          rows = subst (λ (rs : List Row). Says IsCatalogue rs (image catalogue_name)) (sym (ap (λ (s : Stores). s.rows) d.same)) says;
+          rows = subst (λ (rs : List Row). Says IsCatalogue rs catalogue_name image) (sym (ap (λ (s : Stores). s.rows) d.same)) says;
           lists = says_listed m.granularity m.journal image (i + 1) (list_at i after) unsure.list.named lists;
           filed = unsure.list.valid_after.filed;
           files = unsure.list.safe_after.left image left;
@@ -83,7 +83,7 @@ place_left tells at before after i d image three unsure left =
     m : ManifestState
     m = d.manifest
 
-    says : Says IsCatalogue before.rows (image catalogue_name)
+    says : Says IsCatalogue before.rows catalogue_name image
     says = rows_say at.catalogue.journal at.files at.opened at.past before.rows image unsure.rows left
 
     place : (k : ℕ) (n : ManifestState) → k ≡ i → slice_get at.manifests k ≡ Some n → (s : Stores) → Holds m.granularity image (tier i s) → Holds n.granularity image (tier k s)

@@ -25,10 +25,10 @@ pub mod CopyRoom
 pub mod CopyStep
 pub mod CopySteps
 pub mod CopyTurn
+pub mod CopyUncovered
 pub mod CopyWhole
 pub mod CountingLines
 pub mod CountingPieces
-pub mod CopyUncovered
 pub mod Doubting
 pub mod Dropped
 pub mod Drops
@@ -38,10 +38,11 @@ pub mod FlushCall
 pub mod Handing
 pub mod Holding
 pub mod LeavingFronts
-pub mod LeavingNames
 pub mod Leaving
-pub mod ListedTallies
+pub mod LeavingNames
 pub mod Left
+pub mod ListDoubts
+pub mod ListedTallies
 pub mod MovedFiles
 pub mod OnePlace
 pub mod OpenedBeside

@@ -7,6 +7,7 @@ use Rattle.std.proofs.lemmas.Option.{same_Some, slice_get_within}
 use Rattle.disk_model.specs.Files.{Name, Content}
 use Rattle.disk_model.specs.Past.{MayLeave}
 use Rattle.etl_mover.specs.Move.{MoveState, IsAhead}
+use Rattle.gate_journal.specs.Generations.{IsOwn}
 use Rattle.pv_catalog.specs.declared.row.Row.{Row}
 use Rattle.store_files.specs.Fronts.{Begins}
 use Rattle.store_manifest.specs.Manifest.{ManifestState}
@@ -160,7 +161,7 @@ module _ (i : ℕ) (tells : Bool) (all : SeenAll) (held : Stores) (files : List 
   ]
 
   -- all that was shown is shown then
-  pub listed_shown : (new : SeenAll) (end : End (Unit {0}) ⊥) → new.limbo ≡ all.limbo → EndsFrom tells (publishing i files) new.stores held end → (IsTrue tells → (n : Name) → (n ≡ m.journal.name → ⊥) → new.stores.files n ≡ all.stores.files n) → KeepsShown tells all new
+  pub listed_shown : (new : SeenAll) (end : End (Unit {0}) ⊥) → new.limbo ≡ all.limbo → EndsFrom tells (publishing i files) new.stores held end → (IsTrue tells → (n : Name) → (IsOwn m.journal.name n → ⊥) → new.stores.files n ≡ all.stores.files n) → KeepsShown tells all new
   listed_shown new end limbo ends elsewhere =
       shown tells all new limbo (λ name len h. ends_held tells (publishing i files) all.stores new.stores held end name len has goes_on ends h)
       (λ name len r. ends_spares tells (publishing i files) all.stores new.stores held end name len has (λ made by. spares_then made by name len r) ends r.no_shorter)

@@ -5,7 +5,6 @@ use Rattle.disk_model.specs.Files.{Name, Files, Rose}
 use Rattle.disk_model.specs.Past.{Past, MayLeave, Passes}
 use Rattle.disk_model.specs.declared.disk.DiskErr.{DiskErr}
 use Rattle.disk_model.specs.declared.disk.DiskErr.TheVariants.{Fault, Memory}
-use Rattle.gate_journal.specs.Journal.{JournalState}
 use Rattle.partition_names.specs.declared.granularity.Granularity.{Granularity}
 use Rattle.pv_catalog.specs.Catalogue.{CatalogueState}
 use Rattle.store_manifest.specs.Manifest.{ManifestState, manifest_name}
@@ -193,17 +192,17 @@ module _ {S : Type 0} (files_of : S → Files) (opened_of : S → Name → ℕ) 
         left held has given true sound = inl (still_has held has unchanged sound (λ told. unmade told held has given sound))
         left held has given false unsound = inr (then held has given, by held has given, doubts held has given unsound)
 
-        pub given_cut : (e : DiskErr) (end : End A E) → end ≡ end_of_error e → (e ≡ Memory → made.journal ≡ m.journal) → (e ≡ Fault → Rose (faults_of d) (faults_of after)) → ChangesGiven Is tells call before behind end
+        pub given_cut : (e : DiskErr) (end : End A E) → end ≡ end_of_error e → (e ≡ Memory → made.journal.sound ≡ true) → (e ≡ Fault → Rose (faults_of d) (faults_of after)) → ChangesGiven Is tells call before behind end
         given_cut e end is memory cause = subst (λ (x : End A E). ChangesGiven Is tells call before behind x) (sym is) (go e memory cause)
           where
-            go : (e : DiskErr) → (e ≡ Memory → made.journal ≡ m.journal) → (e ≡ Fault → Rose (faults_of d) (faults_of after)) → ChangesGiven Is tells call before behind (end_of_error {A = A} {E = E} e)
+            go : (e : DiskErr) → (e ≡ Memory → made.journal.sound ≡ true) → (e ≡ Fault → Rose (faults_of d) (faults_of after)) → ChangesGiven Is tells call before behind (end_of_error {A = A} {E = E} e)
             go Fault memory cause = record {
               ends = λ held has given. left held has given made.journal.sound refl;
               any_moment = any_moment;
               costs = record { granularity = granularity; faults = faults; cause = λ failed. cause refl };
             }
             go Memory memory cause =
-                let sound : (held : Stores) → Has tells before held → made.journal.sound ≡ true = λ held has. ap (λ (j : JournalState). j.sound) (memory refl) ∙ has.settled.manifests i m here in
+                let sound : (held : Stores) → Has tells before held → made.journal.sound ≡ true = λ held has. memory refl in
                 record {
                   ends = λ held has given. still_has held has unchanged (sound held has) (λ told. unmade told held has given (sound held has));
                   any_moment = any_moment;
@@ -225,7 +224,7 @@ module _ {S : Type 0} (files_of : S → Files) (opened_of : S → Name → ℕ) 
       pub place_cut : made.entries ≡ m.entries → ((held : Stores) (has : Has tells before held) → made.journal.sound ≡ false → made.next ≡ map entry_of (next held has))
           → (IsTrue tells → (held : Stores) (has : Has tells before held) → made.journal.sound ≡ true → TierStored made.granularity made.journal (files_of after) (opened_of after) (past_of after) (tier i held))
           → (IsTrue tells → (held : Stores) (has : Has tells before held) → made.journal.sound ≡ false → TierUnsure made.granularity made.journal (files_of after) (opened_of after) (past_of after) (tier i held) (holding i held (next held has)))
-          → (e : DiskErr) (end : End A E) → end ≡ end_of_error e → (e ≡ Memory → made.journal ≡ m.journal) → (e ≡ Fault → Rose (faults_of d) (faults_of after)) → Changes tells call before behind end
+          → (e : DiskErr) (end : End A E) → end ≡ end_of_error e → (e ≡ Memory → made.journal.sound ≡ true) → (e ≡ Fault → Rose (faults_of d) (faults_of after)) → Changes tells call before behind end
       place_cut unchanged will unmade in_doubt e end is memory cause = every tells call before behind end
           (given_cut Any call (λ held has given. next held has) (λ held has given. by held has) (λ held has given. valid held has) (λ told held has given. moment told held has)
           unchanged (λ held has given. will held has) (λ told held has given. unmade told held has) (λ told held has given. in_doubt told held has) e end is memory cause)

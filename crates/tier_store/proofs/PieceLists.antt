@@ -1,13 +1,16 @@
 -- Pieces over one another, and which of them may stay closed.
-use Rattle.std.proofs.Common.{◌≡◌, ◌⊎◌, inl, inr, ℕ, ◌+◌, ◌<◌, ◌≤◌, max, List, [], ◌∷◌, ◌++◌, ap, sym, ◌∙◌, subst, arith, append_assoc}
+use Rattle.std.proofs.Common.{◌≡◌, ◌⊎◌, inl, inr, ℕ, ◌+◌, ◌<◌, ◌≤◌, max, Bool, true, false, cond, List, [], ◌∷◌, ◌++◌, ap, sym, ◌∙◌, subst, arith, append_assoc}
 use Rattle.std.specs.List.{AllByRecursion, flat_map}
+use Rattle.std.specs.Prelude.{nat_le}
 use Rattle.std.proofs.lemmas.Bool.Decides.{nat_tests}
+use Rattle.std.proofs.lemmas.Grind.{flat_map-append}
+use Rattle.pb_lines.proofs.FileLines.{all-append, all_front}
 use Rattle.series_model.specs.declared.sample.Sample.{Sample}
 use Rattle.series_model.specs.declared.sample.Query.{Query}
-use Rattle.series_model.specs.Series.{end_from, end_of, IsRising, before, over, taken, taken_from}
-use Rattle.series_model.specs.Retrieval.{answer}
-use Rattle.series_model.proofs.RisingLists.{end_from-append, RisesFrom-taken_from, taken_from-rising, taken_from-append, taken_over}
-use Rattle.series_model.proofs.AnswerLemmas.{answer_of_rest}
+use Rattle.series_model.specs.Series.{end_from, end_of, IsRising, RisesFrom, before, over, taken, taken_from}
+use Rattle.series_model.specs.Retrieval.{answer, reach}
+use Rattle.series_model.proofs.RisingLists.{end_from-append, RisesFrom-lower, RisesFrom-taken_from, taken_from-rising, taken_from-append, taken_over}
+use Rattle.series_model.proofs.AnswerLemmas.{answer_of_front, answer_of_rest}
 use Rattle.series_model.proofs.OverLemmas.{end_from-since}
 use Rattle.act_model.specs.Limbo.{FileState}
 use Rattle.act_model.specs.Pin.{over_pieces}
@@ -82,3 +85,53 @@ enough closed files tail q rise last (inr leads) =
     ap (λ (ys : List Sample). answer ys q) (over_taken files [] tail rise last ∙ ap taken begin)
     ∙ sym (cut (flat closed) xs q x (ends_by closed 0 x.t leads.later (omega arith)) leads.early)
     ∙ ap (λ (ys : List Sample). answer (taken ys) q) (sym whole)
+
+-- WHAT LIES BEHIND
+
+-- the samples are no earlier than this
+abbrev pub NoneBefore : ℕ → List Sample → Type 0
+NoneBefore n xs = AllByRecursion (λ (s : Sample). n ≤ s.t) xs
+
+pub rising_none_before : (n : ℕ) (xs : List Sample) → RisesFrom n xs → NoneBefore n xs
+rising_none_before n [] rises = tt
+rising_none_before n (x ∷ xs) rises = (rises.0, rising_none_before n xs (let low = rises.0 in RisesFrom-lower n (x.t + 1) xs rises.1 (omega (arith, low))))
+
+rises_from : (n k : ℕ) (xs : List Sample) → RisesFrom k xs → NoneBefore n xs → RisesFrom n xs
+rises_from n k [] rises late = tt
+rises_from n k (x ∷ xs) rises late = (late.0, rises.1)
+
+taken_none_before : (n k : ℕ) (xs : List Sample) → NoneBefore n xs → NoneBefore n (taken_from k xs)
+taken_none_before n k [] late = tt
+taken_none_before n k (x ∷ xs) late = by_first (nat_le k x.t) (taken_none_before n (x.t + 1) xs late.1) (taken_none_before n k xs late.1)
+  where
+    by_first : (b : Bool) → NoneBefore n (taken_from (x.t + 1) xs) → NoneBefore n (taken_from k xs) → NoneBefore n (cond b (x ∷ taken_from (x.t + 1) xs) (taken_from k xs))
+    by_first true rest others = (late.0, rest)
+    by_first false rest others = others
+
+-- an answer doesn't look at them
+without : (front rest : List Sample) (q : Query) → NoneBefore (reach q) rest → answer (taken (front ++ rest)) q ≡ answer (taken front) q
+without front rest q late =
+    let n = end_of (taken front) in
+    ap (λ (xs : List Sample). answer xs q) (taken_from-append 0 front rest)
+    ∙ answer_of_front (taken front) (taken_from n rest) q (reach q) (rises_from (reach q) n (taken_from n rest) (RisesFrom-taken_from n rest) (taken_none_before (reach q) n rest late)) (omega arith) (omega arith)
+
+-- all samples of the piece are so late
+abbrev pub LiesBehind : Query → FileState → Type 0
+LiesBehind q f = NoneBefore (reach q) f.samples
+
+flat_behind : (q : Query) (fs : List FileState) → AllByRecursion (LiesBehind q) fs → NoneBefore (reach q) (flat fs)
+flat_behind q [] all = tt
+flat_behind q (f ∷ fs) all = all-append (λ (s : Sample). reach q ≤ s.t) f.samples (flat fs) all.0 (flat_behind q fs all.1)
+
+-- pieces without those that lie behind, as the tail does, answer as with them
+pub without_behind : (files behind : List FileState) (tail : List Sample) (q : Query) → AllByRecursion Rises (files ++ behind) → IsRising tail → AllByRecursion (LiesBehind q) behind → NoneBefore (reach q) tail
+    → answer (over (over_pieces [] files) tail) q ≡ answer (over (over_pieces [] (files ++ behind)) tail) q
+without_behind files behind tail q rise last late late_tail =
+    let whole : flat (files ++ behind) ++ tail ≡ flat files ++ (flat behind ++ tail) = ap (λ (xs : List Sample). xs ++ tail) (flat_map-append (λ (f : FileState). f.samples) files behind) ∙ append_assoc (flat files) (flat behind) tail in
+    let few : over (over_pieces [] files) tail ≡ taken (flat files ++ tail) = over_taken files [] tail (all_front Rises files behind rise) last in
+    let all : over (over_pieces [] (files ++ behind)) tail ≡ taken (flat files ++ (flat behind ++ tail)) = over_taken (files ++ behind) [] tail rise last ∙ ap taken whole in
+    let more : NoneBefore (reach q) (flat behind ++ tail) = all-append (λ (s : Sample). reach q ≤ s.t) (flat behind) tail (flat_behind q behind late) late_tail in
+    ap (λ (xs : List Sample). answer xs q) few
+    ∙ without (flat files) tail q late_tail
+    ∙ sym (without (flat files) (flat behind ++ tail) q more)
+    ∙ ap (λ (xs : List Sample). answer xs q) (sym all)

@@ -1,12 +1,12 @@
 -- Which files of a row are pinned: what the memory lists is what is held, and what is chosen of it is enough for a query.
 use Rattle.std.proofs.Common.{◌≡◌, ◌⊎◌, inl, inr, ℕ, ◌+◌, ◌<◌, ◌≤◌, List, [], ◌∷◌, ◌++◌, length, map, get_or, Bool, true, false, cond, Option, Some, None, take, refl, ap, sym, ◌∙◌, subst, arith, append-nil, length-append}
-use Rattle.std.specs.Prelude.{All, Contains, IsTrue, filter, nat_eq, slice_get}
+use Rattle.std.specs.Prelude.{All, Contains, IsTrue, filter, nat_eq, nat_lt, ◌&&◌, slice_get}
 use Rattle.std.specs.List.{AllByRecursion, flat_map}
 use Rattle.std.proofs.lemmas.Bool.Decides.{nat_tests, Decides-eqb}
 use Rattle.std.proofs.lemmas.Grind.{flat_map-append}
 use Rattle.std.proofs.lemmas.Bool.{cases_lt}
 use Rattle.std.proofs.lemmas.List.{length-map, map-append, take_more}
-use Rattle.std.proofs.lemmas.List.Elements.{All-append, All-contains, All-filter, All-head, All-map, All-tail, Contains-append_right, Contains-get_or, filter-append, filter_passes}
+use Rattle.std.proofs.lemmas.List.Elements.{All-append, All-contains, All-filter, All-head, All-map, All-tail, Contains-append_left, Contains-append_right, Contains-get_or, filter-append, filter_passes}
 use Rattle.act_model.specs.Limbo.{FileState}
 use Rattle.act_model.specs.Pin.{over_pieces}
 use Rattle.act_model.specs.Rows.{Store, Short, Medium, Long}
@@ -14,13 +14,13 @@ use Rattle.act_model.specs.Rule.{index_of}
 use Rattle.partition_names.specs.declared.granularity.Granularity.{Granularity}
 use Rattle.pb_lines.specs.File.{lines_of}
 use Rattle.pb_lines.proofs.FileLines.{all-append, all_front, all_rest}
-use Rattle.piece_choice.specs.Choosing.{IsChosen, StartsBehind, ends_before, listed}
+use Rattle.piece_choice.specs.Choosing.{IsChosen, StartsBehind, StartsPast, ends_before, listed}
 use Rattle.piece_choice.specs.declared.choosing.Listed.{Listed}
 use Rattle.pinned_pieces.specs.declared.piece.PinnedFile.{PinnedFile}
 use Rattle.pv_catalog.specs.Catalogue.{CatalogueState}
 use Rattle.pv_catalog.specs.declared.row.Row.{Row}
 use Rattle.series_model.proofs.RisingLists.{taken_of_rising, taken_over}
-use Rattle.series_model.specs.Retrieval.{answer}
+use Rattle.series_model.specs.Retrieval.{answer, reach}
 use Rattle.series_model.specs.Series.{IsRising, end_of, over, taken}
 use Rattle.series_model.specs.declared.sample.Query.{Query}
 use Rattle.series_model.specs.declared.sample.Sample.{Sample}
@@ -30,10 +30,10 @@ use Rattle.durable_write.proofs.Ending.{filter-map}
 use Rattle.durable_write.specs.Held.{Filed, IsFiled, bytes_of, entry_of, samples_of}
 use Rattle.durable_write.specs.Plan.{of_row}
 use Rattle.tier_store.specs.Change.{IsKnown, IsKnownAt}
-use Rattle.tier_store.specs.Pinning.{AreEnough, Placed, entries_of, files_in, has_bytes, listed_in, listed_of, piece_of, placed, placed_at, state_of}
+use Rattle.tier_store.specs.Pinning.{AreEnough, Placed, entries_of, files_in, files_to, has_bytes, listed_in, listed_of, piece_of, placed, placed_at, state_of}
 use Rattle.tier_store.specs.Stores.{Stores, samples_in, tier}
 use Rattle.tier_store.proofs.FewFiles.{few_files}
-use Rattle.tier_store.proofs.PieceLists.{EndsBy, Leads, Rises, enough, flat}
+use Rattle.tier_store.proofs.PieceLists.{EndsBy, Leads, LiesBehind, NoneBefore, Rises, enough, flat, rising_none_before, without_behind}
 use Rattle.tier_store.proofs.Places.{manifest_at}
 use Rattle.tier_store.proofs.Rising.{row_rises}
 
@@ -71,10 +71,12 @@ all_listed c ms held row known =
 -- WHAT IS CHOSEN OF IT
 
 -- what is true of all files is so of those that are opened
-pub opened_all : (P : Listed → Type 0) (from : ℕ) (all opened : List Listed) → IsChosen from all opened → All P all → All P opened
-opened_all P from all opened chosen is k d lt =
+pub opened_all : (P : Listed → Type 0) (from : ℕ) (to : Option ℕ) (all opened : List Listed) → IsChosen from to all opened → All P all → All P opened
+opened_all P from to all opened chosen is k d lt =
     let x = get_or opened k d in
-    All-contains P all x is (subst (λ (l : List Listed). Contains l x) (sym chosen.split) (Contains-append_right chosen.closed opened x (Contains-get_or opened k d lt)))
+    let rest = chosen.rest in
+    let within = Contains-append_left opened chosen.behind x (Contains-get_or opened k d lt) in
+    All-contains P all x is (subst (λ (l : List Listed). Contains l x) (sym rest.split) (Contains-append_right rest.closed (opened ++ chosen.behind) x within))
 
 -- and what is true of each store's
 pub listed_all : (P : Listed → Type 0) (row : ℕ) (ms : List ManifestState) → ((place : ℕ) → All P (listed (place + 1) (entries_of row (slice_get ms place)))) → All P (listed_in row ms)
@@ -95,10 +97,10 @@ own_series row place (Some m) =
     (λ k d lt. (Decides-eqb (get_or (filter test m.entries) k d).series row).0 (filter_passes test m.entries k d lt))
 
 -- each file is of a row
-pub opened_rows : (row from rows : ℕ) (ms : List ManifestState) (opened : List Listed) → IsChosen from (listed_in row ms) opened → row < rows → All (λ (l : Listed). l.entry.series < rows) opened
-opened_rows row from rows ms opened chosen low k d lt =
+pub opened_rows : (row from rows : ℕ) (to : Option ℕ) (ms : List ManifestState) (opened : List Listed) → IsChosen from to (listed_in row ms) opened → row < rows → All (λ (l : Listed). l.entry.series < rows) opened
+opened_rows row from rows to ms opened chosen low k d lt =
     let P : Listed → Type 0 = λ l. l.entry.series ≡ row in
-    let own : P (get_or opened k d) = opened_all P from (listed_in row ms) opened chosen (listed_all P row ms (λ place. own_series row (place + 1) (slice_get ms place))) k d lt in
+    let own : P (get_or opened k d) = opened_all P from to (listed_in row ms) opened chosen (listed_all P row ms (λ place. own_series row (place + 1) (slice_get ms place))) k d lt in
     omega (arith, own, low)
 
 -- WHAT IS PINNED OF IT
@@ -256,37 +258,85 @@ have_bytes rows (p ∷ ps) good =
     some_bytes : (f : Filed) → f.entry.len ≡ length (bytes_of f) → has_bytes (listed_of (placed_at Short f)) ≡ true
     some_bytes f len = let more = length-append f.head (10 ∷ lines_of f.samples) in let least : 1 ≤ f.entry.len = omega (arith, len, more) in grind (arith, nat_tests)
 
+-- WHAT STAYS CLOSED BEHIND
+
+files_behind : (rows : List Row) (row : ℕ) (q : Query) (ps : List Placed) → AllByRecursion (Good rows) ps → All (StartsPast q.from (Some q.to)) (map listed_of ps) → AllByRecursion (LiesBehind q) (map (state_of row) ps)
+files_behind rows row q [] good past = tt
+files_behind rows row q (p ∷ ps) good past =
+    let filed = good.0.1 in
+    let first = All-head (StartsPast q.from (Some q.to)) (listed_of p) (map listed_of ps) past in
+    let one = first.0 in
+    let two = first.1 in
+    let from = filed.from in
+    let low : reach q ≤ filed.first.t = omega (arith, one, two, from) in
+    let rising : IsRising (filed.first ∷ filed.others) = subst IsRising filed.some filed.file.rising in (
+      subst (NoneBefore (reach q)) (sym filed.some) (rising_none_before (reach q) (filed.first ∷ filed.others) (low, rising.1)),
+      files_behind rows row q ps good.1 (All-tail (StartsPast q.from (Some q.to)) (listed_of p) (map listed_of ps) past),
+    )
+
+-- such files may stay closed
+module _ (rows : List Row) (row : ℕ) (q : Query) (files : List Placed) where
+  abbrev AnswersSo : List Sample → List Placed → Type 0
+  AnswersSo tail behind = answer (over (over_pieces [] (map (state_of row) files)) tail) q ≡ answer (over (over_pieces [] (map (state_of row) (files ++ behind))) tail) q
+
+  so_late : (tail : List Sample) (behind : List Placed) → AllByRecursion (Good rows) (files ++ behind) → IsRising tail → NoneBefore (reach q) tail → All (StartsPast q.from (Some q.to)) (map listed_of behind) → AnswersSo tail behind
+  so_late tail behind good rising late past =
+      let rise : AllByRecursion Rises (map (state_of row) files ++ map (state_of row) behind) = subst (AllByRecursion Rises) (map-append (state_of row) files behind) (all_rise rows row (files ++ behind) good) in
+      without_behind (map (state_of row) files) (map (state_of row) behind) tail q rise rising (files_behind rows row q behind (all_rest (Good rows) files behind good) past) late
+      ∙ ap (λ (fs : List FileState). answer (over (over_pieces [] fs) tail) q) (sym (map-append (state_of row) files behind))
+
+  pub closed_behind : (tail : List Sample) (behind : List Placed) → AllByRecursion (Good rows) (files ++ behind) → IsRising tail → All (StartsPast q.from (files_to q tail)) (map listed_of behind) → AnswersSo tail behind
+  closed_behind tail [] good rising past = ap (λ (ps : List Placed). answer (over (over_pieces [] (map (state_of row) ps)) tail) q) (sym (append-nil files))
+  closed_behind [] (p ∷ ps) good rising past = so_late [] (p ∷ ps) good rising tt past
+  closed_behind (s ∷ rest) (p ∷ ps) good rising past = by_test (nat_lt q.from s.t && nat_lt q.to s.t) refl past
+    where
+      by_test : (b : Bool) → (nat_lt q.from s.t && nat_lt q.to s.t) ≡ b → All (StartsPast q.from (cond b (Some q.to) None)) (map listed_of (p ∷ ps)) → AnswersSo (s ∷ rest) (p ∷ ps)
+      by_test true is past =
+          let one : q.from < s.t = grind (arith, nat_tests) in
+          let two : q.to < s.t = grind (arith, nat_tests) in
+          let low : reach q ≤ s.t = omega (arith, one, two) in
+          so_late (s ∷ rest) (p ∷ ps) good rising (rising_none_before (reach q) (s ∷ rest) (low, rising.1)) past
+      by_test false is past = absurd (All-head (StartsPast q.from None) (listed_of p) (map listed_of ps) past)
+
 -- the files of what was chosen
-pub are_enough : (c : CatalogueState) (ms : List ManifestState) (held : Stores) (row : ℕ) (query : Query) (tail : List Sample) (opened : List Listed) → IsKnown c ms held → IsChosen query.from (map listed_of (files_in row held)) opened → AreEnough held row query tail opened
+pub are_enough : (c : CatalogueState) (ms : List ManifestState) (held : Stores) (row : ℕ) (query : Query) (tail : List Sample) (opened : List Listed) → IsKnown c ms held → IsChosen query.from (files_to query tail) (map listed_of (files_in row held)) opened → AreEnough held row query tail opened
 are_enough c ms held row query tail opened known chosen =
-    let h = halves listed_of (files_in row held) chosen.closed opened chosen.split in
+    let rest = chosen.rest in
+    let h = halves listed_of (files_in row held) rest.closed (opened ++ chosen.behind) rest.split in
+    let k = halves listed_of h.vs opened chosen.behind h.second in
+    let whole : files_in row held ≡ h.us ++ (k.us ++ k.vs) = h.split ∙ ap (λ (ps : List Placed). h.us ++ ps) k.split in
     record {
       closed = h.us;
-      files = h.vs;
-      split = h.split;
-      are = h.second;
+      files = k.us;
+      behind = k.vs;
+      split = whole;
+      are = k.first;
       few =
           let all = few_files c ms held row known in
-          let both = ap length h.split in
-          let parts = length-append h.us h.vs in
-          let own = length-map h.vs listed_of in
-          let same = ap length h.second in
-          omega (arith, all, both, parts, own, same);
-      all = λ stands. subst (λ (l : List Listed). filter has_bytes l ≡ l) h.second (have_bytes held.rows h.vs (all_rest (Good held.rows) h.us h.vs (good h.us h.vs h.split stands)));
-      answers = λ stands rising. go h.us h.vs h.split h.first h.second (good h.us h.vs h.split stands) stands rising;
+          let both = ap length whole in
+          let parts = length-append h.us (k.us ++ k.vs) in
+          let others = length-append k.us k.vs in
+          let own = length-map k.us listed_of in
+          let same = ap length k.first in
+          omega (arith, all, both, parts, others, own, same);
+      all = λ stands. subst (λ (l : List Listed). filter has_bytes l ≡ l) k.first (have_bytes held.rows k.us (all_front (Good held.rows) k.us k.vs (all_rest (Good held.rows) h.us (k.us ++ k.vs) (good h.us (k.us ++ k.vs) whole stands))));
+      answers = λ stands rising.
+          let all = good h.us (k.us ++ k.vs) whole stands in
+          closed_behind held.rows row query k.us tail k.vs (all_rest (Good held.rows) h.us (k.us ++ k.vs) all) rising (subst (All (StartsPast query.from (files_to query tail))) (sym k.second) chosen.past)
+          ∙ go h.us (k.us ++ k.vs) whole h.first (ap (map listed_of) (sym k.split) ∙ h.second) all stands rising;
     }
   where
     good : (us vs : List Placed) → files_in row held ≡ us ++ vs → IsTrue held.stands → AllByRecursion (Good held.rows) (us ++ vs)
     good us vs split stands = subst (AllByRecursion (Good held.rows)) split (all_good c ms held row known stands)
 
-    go : (us vs : List Placed) → files_in row held ≡ us ++ vs → map listed_of us ≡ chosen.closed → map listed_of vs ≡ opened → AllByRecursion (Good held.rows) (us ++ vs) → IsTrue held.stands → IsRising tail
+    go : (us vs : List Placed) → files_in row held ≡ us ++ vs → map listed_of us ≡ chosen.rest.closed → map listed_of vs ≡ opened ++ chosen.behind → AllByRecursion (Good held.rows) (us ++ vs) → IsTrue held.stands → IsRising tail
         → answer (over (over_pieces [] (map (state_of row) vs)) tail) query ≡ answer (over (samples_in row held) tail) query
     go us vs split first second good stands rising =
         let one = all_front (Good held.rows) us vs good in
         let two = all_rest (Good held.rows) us vs good in
-        let starts : (map (state_of row) us ≡ []) ⊎ Leads query (map (state_of row) us) (map (state_of row) vs) = elim chosen.first [
+        let starts : (map (state_of row) us ≡ []) ⊎ Leads query (map (state_of row) us) (map (state_of row) vs) = elim chosen.rest.first [
           | inl none ↦ inl (none_closed us row (first ∙ none))
-          | inr behind ↦ inr (leads held.rows row query us vs one two (subst (λ (l : List Listed). StartsBehind query.from l (map listed_of vs)) (sym first) (subst (StartsBehind query.from chosen.closed) (sym second) behind)))
+          | inr behind ↦ inr (leads held.rows row query us vs one two (subst (λ (l : List Listed). StartsBehind query.from l (map listed_of vs)) (sym first) (subst (StartsBehind query.from chosen.rest.closed) (sym second) behind)))
         ] in
         let files : flat (map (state_of row) us) ++ flat (map (state_of row) vs) ≡ flat (map (state_of row) (files_in row held)) = sym (flat_both row us vs) ∙ ap (λ (ps : List Placed). flat (map (state_of row) ps)) (sym split) in
         enough (map (state_of row) us) (map (state_of row) vs) tail query (all_rise held.rows row vs two) rising starts

@@ -31,7 +31,7 @@ use Rattle.tier_store.specs.Change.{Has, IsListedIn}
 use Rattle.tier_store.specs.Opening.{answer_of, end_of_answer}
 use Rattle.tier_store.specs.Pinned.{IsShown, PinsStand, beside}
 use Rattle.tier_store.specs.declared.limbo.Retired.{Retired}
-use Rattle.tier_store.specs.Pinning.{HasNoName, IsPinned, PinsOf, SaysPinned, entries_of, files_in, found, has_bytes, is_pinned, listed_in, listed_of, none_has, piece_of, unknown}
+use Rattle.tier_store.specs.Pinning.{HasNoName, IsPinned, PinsOf, SaysPinned, entries_of, files_in, files_to, found, has_bytes, is_pinned, listed_in, listed_of, none_has, piece_of, unknown}
 use Rattle.tier_store.specs.Seen.{Seen}
 use Rattle.tier_store.specs.Settling.{SaysOf}
 use Rattle.tier_store.specs.Stores.{Stores}
@@ -95,10 +95,10 @@ each_listed ms row place = go (slice_get ms place) refl
         All-map (λ (l : Listed). IsListedIn ms l.store l.entry) (λ (e : Entry). let l : Listed = record { store = place + 1; entry = e } in l) (filter test m.entries)
         (λ k d lt. record { place = place; manifest = m; is = refl; here = here; listed = All-filter test (Contains m.entries) m.entries (λ j e low. Contains-get_or m.entries j e low) k d lt })
 
-pieces_shown : (tells : Bool) (at : Seen) (limbo : List Retired) (held : Stores) (row from : ℕ) (opened : List Listed) → Has tells at held → IsChosen from (listed_in row at.manifests) opened → All (IsShown tells (beside at limbo)) (map (piece_of at.catalogue.rows) (filter has_bytes opened))
-pieces_shown tells at limbo held row from opened has chosen =
+pieces_shown : (tells : Bool) (at : Seen) (limbo : List Retired) (held : Stores) (row from : ℕ) (to : Option ℕ) (opened : List Listed) → Has tells at held → IsChosen from to (listed_in row at.manifests) opened → All (IsShown tells (beside at limbo)) (map (piece_of at.catalogue.rows) (filter has_bytes opened))
+pieces_shown tells at limbo held row from to opened has chosen =
     let P : Listed → Type 0 = λ l. IsListedIn at.manifests l.store l.entry in
-    let all : All P opened = opened_all P from (listed_in row at.manifests) opened chosen (listed_all P row at.manifests (λ place. each_listed at.manifests row place)) in
+    let all : All P opened = opened_all P from to (listed_in row at.manifests) opened chosen (listed_all P row at.manifests (λ place. each_listed at.manifests row place)) in
     All-map (IsShown tells (beside at limbo)) (piece_of at.catalogue.rows) (filter has_bytes opened)
     (λ k d lt. shown_listed tells at limbo held (get_or (filter has_bytes opened) k d) has (All-filter has_bytes P opened all k d lt) (filter_passes has_bytes opened k d lt))
 
@@ -120,16 +120,25 @@ stand_more tells at limbo held who i query tail old new pin name about count tol
     go true is =
         let same : made ≡ q = same_Some made q is in
         let own : slice_get (map (piece_of at.catalogue.rows) (filter has_bytes p.opened)) j ≡ Some piece = ap (λ (l : List PinnedFile). slice_get l j) (sym p.are) ∙ ap (λ (x : PinOf). slice_get x.pieces j) same ∙ there in
-        all_at (IsShown tells (beside at limbo)) (map (piece_of at.catalogue.rows) (filter has_bytes p.opened)) j piece (pieces_shown tells at limbo held i query.from p.opened has p.chosen) own
+        all_at (IsShown tells (beside at limbo)) (map (piece_of at.catalogue.rows) (filter has_bytes p.opened)) j piece (pieces_shown tells at limbo held i query.from (files_to query tail) p.opened has p.chosen) own
 
 -- THE CALL
 
+-- what the manifest at a place lists of a row
+pub entries_at : (ms : List ManifestState) (place row : ℕ) (m : ManifestState) (entries : List Entry) → place < length ms → m ≡ get_or ms place m → entries ≡ filter (λ (e : Entry). nat_eq e.series row) m.entries → entries ≡ entries_of row (slice_get ms place)
+entries_at ms place row m entries low is own = own ∙ ap (entries_of row) (sym (slice_get-get_or ms place m low ∙ ap (λ (x : ManifestState). Some x) (sym is)))
+
+-- what was chosen for the query and its tail
+pub chosen_for : (query : Query) (tail told : List Sample) (from : ℕ) (to : Option ℕ) (all opened : List Listed) → from ≡ query.from → to ≡ files_to query told → told ≡ tail → IsChosen from to all opened → IsChosen query.from (files_to query tail) all opened
+chosen_for query tail told from to all opened same_from same_to same_tail chosen =
+    subst (λ (n : ℕ). IsChosen n (files_to query tail) all opened) same_from (subst (λ (o : Option ℕ). IsChosen from o all opened) (same_to ∙ ap (files_to query) same_tail) chosen)
+
 -- a row's files are pinned
-pub pinned_row : {R : Type 0} (rows seen : List Row) (ms shown : List ManifestState) (who i : ℕ) (asked : List ℕ) (query : Query) (tail : List Sample) (old new : FinMap nat_cmp PinOf) (row : Row) (pin count : ℕ) (name : List ℕ) (about : About) (choice opened : List Listed) (pieces : List PinnedFile)
-    → seen ≡ rows → shown ≡ ms → opened ≡ choice → i < length rows → row ≡ get_or seen i row → name ≡ row.name → about ≡ row.about → IsChosen query.from (listed_in i shown) choice → pieces ≡ map (piece_of seen) (filter has_bytes opened) → count ≡ length pieces
+pub pinned_row : {R : Type 0} (rows seen : List Row) (ms shown : List ManifestState) (who i : ℕ) (asked : List ℕ) (query : Query) (tail : List Sample) (old new : FinMap nat_cmp PinOf) (row : Row) (pin count : ℕ) (name : List ℕ) (about : About) (opened : List Listed) (pieces : List PinnedFile)
+    → seen ≡ rows → shown ≡ ms → i < length rows → row ≡ get_or seen i row → name ≡ row.name → about ≡ row.about → IsChosen query.from (files_to query tail) (listed_in i shown) opened → pieces ≡ map (piece_of seen) (filter has_bytes opened) → count ≡ length pieces
     → get old pin ≡ None → ((lower : ℕ) → lower < pin → IsSome (get old lower)) → (let made : PinOf = record { owner = who; pieces = pieces } in new ≡ insert old pin made) → HasName rows i asked
     → PinsOf {R = R} rows (λ k. listed_in k ms) who asked query tail old new (Pinned pin name about count tail)
-pinned_row {R} rows seen ms shown who i asked query tail old new row pin count name about choice opened pieces same same_ms same_opened low is name_is about_is chosen are number free least made named =
+pinned_row {R} rows seen ms shown who i asked query tail old new row pin count name about opened pieces same same_ms low is name_is about_is chosen are number free least made named =
     let here : slice_get seen i ≡ Some row = slice_get-get_or seen i row (omega (arith, low, ap length same)) ∙ ap (λ (r : Row). Some r) (sym is) in
     found i pin count name about tail named (record {
       row = row;
@@ -139,10 +148,10 @@ pinned_row {R} rows seen ms shown who i asked query tail old new row pin count n
       tail_is = refl;
       free = free;
       least = least;
-      opened = choice;
-      chosen = subst (λ (l : List ManifestState). IsChosen query.from (listed_in i l) choice) same_ms chosen;
+      opened = opened;
+      chosen = subst (λ (l : List ManifestState). IsChosen query.from (files_to query tail) (listed_in i l) opened) same_ms chosen;
       pieces = pieces;
-      are = are ∙ (λ k. map (piece_of (same k)) (filter has_bytes (same_opened k)));
+      are = are ∙ ap (λ (rs : List Row). map (piece_of rs) (filter has_bytes opened)) same;
       number = number;
       made = made;
     })

@@ -84,7 +84,7 @@ module _ {S : Type 0} (files_of : S → Files) (opened_of : S → Name → ℕ) 
 
   pub publish_ends : (r : Result (Unit {0}) DiskErr) → Commits m made (all_changed m.entries (map set_entry move.pending)) (published r made.journal.sound) → (IsTrue tells → Relisted r)
       → (IsTrue tells → OnStore (i + 1) m.journal.name (files_of d) (files_of after) (opened_of d) (opened_of after) (past_of d) (past_of after)) → faults_of d ≤ faults_of after
-      → (r ≡ Err Memory → made.journal ≡ m.journal) → (r ≡ Err Fault → Rose (faults_of d) (faults_of after)) → ChangesGiven Is tells (publishing i fs) before behind (end_of_disk r)
+      → (r ≡ Err Memory → made.journal.sound ≡ true) → (r ≡ Err Fault → Rose (faults_of d) (faults_of after)) → ChangesGiven Is tells (publishing i fs) before behind (end_of_disk r)
   publish_ends (Ok a) commits relisted on_store faults memory cause =
       given_done files_of opened_of past_of faults_of tells c ms i m made here d after commits.granularity on_store faults Is (publishing i fs) next (λ held has is. refl) (λ held has is. valid_with i tells (beside before limbo) held fs is.ahead m here has)
       (λ told held has is. (relisted told c.journal shelf (tier i held) (then held) (copied held has is told) (is_ahead i tells (beside before limbo) move fs held is)).any_moment) a (λ held has is. tt) commits.knows.1 (λ held has is. commits.knows.0 ∙ lists held has is)

@@ -1,25 +1,26 @@
 -- A call that settles a doubt, and then reads files.
-use Rattle.std.proofs.Common.{◌≡◌, inl, inr, Bool, ℕ, List, refl, sym, ◌∙◌, ap, subst, arith}
+use Rattle.std.proofs.Common.{◌≡◌, ◌⊎◌, inl, inr, Bool, ℕ, List, refl, sym, ◌∙◌, ap, subst, arith}
 use Rattle.std.specs.Prelude.{IfOk, IsTrue, Result, Ok, Err}
 use Rattle.act_model.specs.declared.acts.Answer.{Answer}
 use Rattle.disk_model.specs.Files.{Name, Files, Rose}
 use Rattle.disk_model.specs.Past.{Past}
 use Rattle.disk_model.specs.declared.disk.DiskErr.{DiskErr}
 use Rattle.disk_model.specs.declared.disk.DiskErr.TheVariants.{Fault, Memory}
+use Rattle.disk_model.proofs.Passing.{passes_then}
 use Rattle.pv_catalog.specs.Catalogue.{CatalogueState}
 use Rattle.pv_catalog.specs.Rows.{KeepsRows}
 use Rattle.series_model.specs.declared.sample.Sample.{Sample}
 use Rattle.store_manifest.specs.Manifest.{ManifestState}
 use Rattle.durable_write.proofs.Rises.{rose_after}
 use Rattle.durable_write.proofs.Reading.{Reads, catalogue_read, tier_read, unopened_same}
-use Rattle.durable_write.proofs.Stays.{same_then}
 use Rattle.durable_write.specs.Ends.{End, Done, Refused, Failed, Spent, IsFailed}
-use Rattle.tier_store.specs.Change.{Has, HasEither, IsOpen, OnlyReads}
+use Rattle.tier_store.specs.Change.{Has, HasEither, HoldsEither, SameFiles, IsOpen, OnlyReads}
 use Rattle.tier_store.specs.Counting.{ReadsDisk}
 use Rattle.tier_store.specs.Details.{SaysDescribed, is_described, none_has}
 use Rattle.tier_store.specs.Opening.{answer_of, end_of_answer}
 use Rattle.tier_store.specs.Seen.{Seen, IsSettled, granularities, seen_on}
 use Rattle.tier_store.specs.Settling.{ReadsOf, SaysOf, Settles, SettlesAndReads}
+use Rattle.tier_store.specs.Stored.{HoldsAll}
 use Rattle.tier_store.specs.Stores.{Stores, tier}
 use Rattle.tier_store.proofs.Settled.{Reviewed}
 
@@ -61,7 +62,7 @@ settles_reads {A} {E} tells says old new end s = record {
   nothing = λ settled. let same = s.nothing settled in (same.0, same.1);
   keeps = s.keeps;
   granularity = s.granularity;
-  reads = s.reads;
+  settles = s.settles;
 }
   where
     weaker : (x : End A E) (held : Stores) → SaysOf says x held → ReadsOf says x held
@@ -83,11 +84,17 @@ then_reads_files {A} {B} {E} tells says old mid new r end settled still nothing 
   nothing = λ quiet. let same = nothing quiet in (same_rows ∙ same.0, same_lists ∙ same.1);
   keeps = subst (λ (c : CatalogueState). KeepsRows old.catalogue.rows c.rows) (sym same_rows) review.keeps;
   granularity = ap granularities same_lists ∙ review.granularity;
-  reads = record {
-    files = λ told. read.files told ∙ review.reads.files told;
-    any_moment = λ told. same_then old.past mid.past new.past (review.reads.any_moment told) (read.any_moment told);
-    faults = let one = review.reads.faults in let two = read.faults in omega (arith, one, two);
-    cause = λ failed. rose_after old.faults mid.faults new.faults review.reads.faults (read.cause failed);
+  settles = record {
+    files = λ told n other. ap (λ (f : Files). f n) (read.files told) ∙ review.settles.files told n other;
+    frame = λ told. passes_then SameFiles (λ a b. b ≡ a) old.past mid.past new.past (review.settles.frame told) (read.any_moment told) (λ a b d was before now is n other. ap (λ (f : Files). f n) is ∙ before n other);
+    any_moment = λ told before after was.
+        passes_then (HoldsEither (granularities old.manifests) before after) (λ a b. b ≡ a) old.past mid.past new.past (review.settles.any_moment told before after was) (read.any_moment told)
+        (λ a b d left holds now is. subst (λ (f : Files). HoldsAll (granularities old.manifests) f before ⊎ HoldsAll (granularities old.manifests) f after) (sym is) holds);
+    quiet = λ settled told.
+        let first = review.settles.quiet settled told in
+        (read.files told ∙ first.0, passes_then (λ a b. b ≡ a) (λ a b. b ≡ a) old.past mid.past new.past first.1 (read.any_moment told) (λ a b d left was now is. is ∙ was));
+    faults = let one = review.settles.faults in let two = read.faults in omega (arith, one, two);
+    cause = λ failed. rose_after old.faults mid.faults new.faults review.settles.faults (read.cause failed);
   };
 }
 

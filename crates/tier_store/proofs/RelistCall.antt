@@ -1,11 +1,12 @@
 -- Other files at one place where nothing stands in doubt, by what the commit of its manifest says.
-use Rattle.std.proofs.Common.{◌≡◌, ◌≢◌, true, false, Bool, ℕ, ◌≤◌, ◌+◌, List, map, Some, refl, ◌∙◌, ap, subst, arith}
+use Rattle.std.proofs.Common.{◌≡◌, true, false, Bool, ℕ, ◌≤◌, ◌+◌, List, map, Some, refl, ◌∙◌, ap, subst}
 use Rattle.std.specs.Prelude.{IsTrue, slice_get, slice_set}
-use Rattle.disk_model.specs.Files.{Name, Files, Rose, At}
+use Rattle.disk_model.specs.Files.{Name, Files, Rose}
 use Rattle.disk_model.specs.Past.{Past, Passes}
 use Rattle.disk_model.specs.declared.disk.DiskErr.{DiskErr}
 use Rattle.disk_model.specs.declared.disk.DiskErr.TheVariants.{Fault, Memory}
 use Rattle.disk_model.proofs.Passing.{passes_weaker}
+use Rattle.gate_journal.specs.Generations.{IsOwn, AtOwn}
 use Rattle.gate_journal.specs.Journal.{JournalState}
 use Rattle.pv_catalog.specs.Catalogue.{CatalogueState}
 use Rattle.store_manifest.specs.Entries.{all_changed}
@@ -62,11 +63,11 @@ module _ {S : Type 0} (files_of : S → Files) (opened_of : S → Name → ℕ) 
     lists = lists held has;
   }
 
-  pub beside_all : (held : Stores) → Has tells before held → IsTrue tells → Passes (At m.journal.name Anything) (past_of d) (past_of after) → ((n : Name) → n ≢ m.journal.name → files_of after n ≡ files_of d n) → opened_of after ≡ opened_of d
+  pub beside_all : (held : Stores) → Has tells before held → IsTrue tells → Passes (AtOwn m.journal.name Anything) (past_of d) (past_of after) → ((n : Name) → (IsOwn m.journal.name n → ⊥) → files_of after n ≡ files_of d n) → ((n : Name) → opened_of after n ≤ opened_of d n)
       → OnStore (i + 1) m.journal.name (files_of d) (files_of after) (opened_of d) (opened_of after) (past_of d) (past_of after)
-  beside_all held has told passes elsewhere same =
-      on_store tells before held i m here has told (files_of after) (opened_of after) (past_of after) (passes_weaker (At m.journal.name Anything) (Beside (i + 1) m.journal.name) (past_of d) (past_of after) passes (λ a x was step n other apart. step.elsewhere n apart))
-      (λ n other apart. elsewhere n apart) (λ n. let is : opened_of after n ≡ opened_of d n = ap (λ (o : Name → ℕ). o n) same in omega (arith, is))
+  beside_all held has told passes elsewhere fewer =
+      on_store tells before held i m here has told (files_of after) (opened_of after) (past_of after) (passes_weaker (AtOwn m.journal.name Anything) (Beside (i + 1) m.journal.name) (past_of d) (past_of after) passes (λ a x was step n other apart. step.elsewhere n apart))
+      (λ n other apart. elsewhere n apart) fewer
 
   module _ (same_g : made.granularity ≡ m.granularity) (moment : IsTrue tells → (catalogue : JournalState) (s : Shelf) (held next : Held) → Can catalogue s held next → Passes (HoldsEither m.granularity held next) (past_of d) (past_of after))
       (beside : IsTrue tells → OnStore (i + 1) m.journal.name (files_of d) (files_of after) (opened_of d) (opened_of after) (past_of d) (past_of after)) (faults : faults_of d ≤ faults_of after) where
@@ -85,7 +86,7 @@ module _ {S : Type 0} (files_of : S → Files) (opened_of : S → Name → ℕ) 
       pub call_cut : made.entries ≡ m.entries → (made.journal.sound ≡ false → made.next ≡ all_changed m.entries changes)
           → (IsTrue tells → (catalogue : JournalState) (s : Shelf) (held next : Held) → Can catalogue s held next → made.journal.sound ≡ true → IsStoredAs catalogue made s (files_of after) (opened_of after) (past_of after) held)
           → (IsTrue tells → (catalogue : JournalState) (s : Shelf) (held next : Held) → Can catalogue s held next → made.journal.sound ≡ false → IsDoubtedAs catalogue made s (files_of after) (opened_of after) (past_of after) held next)
-          → (e : DiskErr) (end : End (Unit {0}) ⊥) → end ≡ end_of_error e → (e ≡ Memory → made.journal ≡ m.journal) → (e ≡ Fault → Rose (faults_of d) (faults_of after)) → Changes tells call before behind end
+          → (e : DiskErr) (end : End (Unit {0}) ⊥) → end ≡ end_of_error e → (e ≡ Memory → made.journal.sound ≡ true) → (e ≡ Fault → Rose (faults_of d) (faults_of after)) → Changes tells call before behind end
       call_cut unchanged next unmade in_doubt e end is memory cause =
           place_cut files_of opened_of past_of faults_of tells c ms i m made here d after same_g beside faults call files by valid at_moment unchanged (λ held has unsound. next unsound ∙ lists held has)
           (λ told held has sound. (unmade told c.journal shelf (tier i held) (holding i held (files held has)) (can_relist held has told) sound).stored.tier)

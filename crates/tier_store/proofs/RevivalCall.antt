@@ -243,7 +243,7 @@ module _ {S : Type 0} (files_of : S → Files) (opened_of : S → Name → ℕ) 
     pub over_cut : made.entries ≡ m.entries → (made.journal.sound ≡ false → made.next ≡ all_changed m.entries (map set_of pieces))
         → (IsTrue tells → (catalogue : JournalState) (held ahead : Held) (fs : List Filed) → IsAheadOf catalogue held ahead → MakesFiles m.granularity ahead pieces fs → made.journal.sound ≡ true → IsStoredAs catalogue made (1, rows) (files_of after) (opened_of after) (past_of after) held)
         → (IsTrue tells → (catalogue : JournalState) (held ahead : Held) (fs : List Filed) → IsAheadOf catalogue held ahead → MakesFiles m.granularity ahead pieces fs → made.journal.sound ≡ false → IsDoubtedAs catalogue made (1, rows) (files_of after) (opened_of after) (past_of after) held (with_files held fs))
-        → (e : DiskErr) (end : End ℕ ⊥) → end ≡ end_of_error e → (e ≡ Memory → made.journal ≡ m.journal) → (e ≡ Fault → Rose (faults_of d) (faults_of after)) → ChangesGiven Whole tells (flushing_over limbo files batch) before (seen_on files_of opened_of past_of faults_of c (slice_set ms 0 made) after) end
+        → (e : DiskErr) (end : End ℕ ⊥) → end ≡ end_of_error e → (e ≡ Memory → made.journal.sound ≡ true) → (e ≡ Fault → Rose (faults_of d) (faults_of after)) → ChangesGiven Whole tells (flushing_over limbo files batch) before (seen_on files_of opened_of past_of faults_of c (slice_set ms 0 made) after) end
     over_cut unchanged next unmade in_doubt e end is memory cause =
         given_cut files_of opened_of past_of faults_of tells c ms 0 m made here d after same_g on_store faults Whole (flushing_over limbo files batch) files_then (λ held has whole. (to held whole has).by) (λ held has whole. (to held whole has).valid) at_moment unchanged
         (λ held has whole unsound. next unsound ∙ (to held whole has).lists)

@@ -2,8 +2,9 @@
 use Rattle.std.proofs.Common.{◌≡◌, inl, inr, Bool, ℕ, ◌<◌, ◌≤◌, ◌+◌, List, map, length, get_or, Some, Ok, Err, sym, ◌∙◌, ap, subst, arith}
 use Rattle.std.specs.Prelude.{All, Contains, IsTrue, OnErr, OnOk, Result, slice_get}
 use Rattle.std.proofs.lemmas.List.Elements.{All-contains}
-use Rattle.disk_model.specs.Files.{Name}
+use Rattle.disk_model.specs.Files.{Name, Files}
 use Rattle.disk_model.specs.Past.{Passes}
+use Rattle.disk_model.proofs.Passing.{passes_weaker}
 use Rattle.disk_model.specs.declared.disk.DiskErr.{DiskErr}
 use Rattle.partition_names.specs.declared.granularity.Granularity.{Granularity}
 use Rattle.pv_catalog.specs.Rows.{KeepsRows}
@@ -13,9 +14,8 @@ use Rattle.store_manifest.specs.declared.entry.Entry.{Entry}
 use Rattle.store_manifest.specs.Entries.{place}
 use Rattle.store_manifest.specs.Manifest.{ManifestState}
 use Rattle.durable_write.specs.Flush.{PlacesRise, put_all}
-use Rattle.durable_write.specs.Held.{Filed, Held, AreFiled, AreIn, IsListed, ListsStill, entry_of, file_of, filed_at, listing_of, shelf_of}
+use Rattle.durable_write.specs.Held.{Filed, Held, AreFiled, IsListed, ListsStill, entry_of, file_of, filed_at, listing_of, shelf_of}
 use Rattle.durable_write.specs.Revival.{ListsNoShorter}
-use Rattle.durable_write.specs.Stored.{AreLong}
 use Rattle.durable_write.proofs.Ahead.{contains_entry}
 use Rattle.durable_write.proofs.Growing.{filed_still, safe_grows}
 use Rattle.durable_write.proofs.Listed.{listed_at}
@@ -26,11 +26,13 @@ use Rattle.durable_write.proofs.There.{contains_map}
 use Rattle.durable_write.proofs.Three.{same_cases}
 use Rattle.tier_store.specs.Stores.{Stores, list_at, tier}
 use Rattle.tier_store.specs.Seen.{Seen, granularities}
-use Rattle.tier_store.specs.Change.{IsKnown, Has, IsOpen, HasEither}
+use Rattle.tier_store.specs.Change.{IsKnown, Has, IsOpen, HasEither, SameFiles}
 use Rattle.tier_store.specs.Limbo.{IsOfPlace, LimboStands}
 use Rattle.tier_store.specs.Pinned.{SeenAll, IsHeldTo, NoneShorter}
 use Rattle.tier_store.specs.Revival.{AreWhole, AreInLimbo, FlushesOver, KeepsWhole, store_with}
 use Rattle.tier_store.specs.declared.limbo.Retired.{Retired}
+use Rattle.tier_store.proofs.Beside.{in_out, long_out}
+use Rattle.tier_store.proofs.LeavingNames.{none_further}
 use Rattle.tier_store.proofs.Places.{granularity_at, manifest_at, manifest_of, tier_other}
 use Rattle.tier_store.proofs.Showing.{GoesOn, Spares, settled_held, still_held, still_itself}
 use Rattle.tier_store.proofs.Staying.{as_filed, retired_listed}
@@ -128,10 +130,10 @@ pub known_open : (tells : Bool) (at : Seen) (before after : Stores) → IsOpen t
 known_open tells at before after (inl has) = has.known
 known_open tells at before after (inr doubt) = doubt.known
 
--- files in limbo stay whole while calls only read
-pub read_whole : (tells : Bool) (old new : Seen) (limbo : List Retired) → length old.manifests ≡ 3 → ((name : Name) → IsHeldTo old name 0 → IsHeldTo new name 0) → KeepsRows old.catalogue.rows new.catalogue.rows → granularities new.manifests ≡ granularities old.manifests
-    → (IsTrue tells → new.files ≡ old.files) → (IsTrue tells → new.opened ≡ old.opened) → (IsTrue tells → Passes (λ a b. b ≡ a) old.past new.past) → (i : ℕ) (stands : Bool) (files : List Filed) → i < 3 → AreWhole i tells old limbo stands files → AreWhole i tells new limbo stands files
-read_whole tells old new limbo three held keeps same_g same opened passes i stands files low whole = record {
+-- files in limbo stay whole while calls change files of store 0 alone
+pub whole_out : (tells : Bool) (old new : Seen) (limbo : List Retired) → length old.manifests ≡ 3 → ((name : Name) → IsHeldTo old name 0 → IsHeldTo new name 0) → KeepsRows old.catalogue.rows new.catalogue.rows → granularities new.manifests ≡ granularities old.manifests
+    → (IsTrue tells → SameFiles old.files new.files) → (IsTrue tells → (n : Name) → new.opened n ≤ old.opened n) → (IsTrue tells → Passes SameFiles old.past new.past) → (i : ℕ) (stands : Bool) (files : List Filed) → i < 3 → AreWhole i tells old limbo stands files → AreWhole i tells new limbo stands files
+whole_out tells old new limbo three held keeps same_g same fewer passes i stands files low whole = record {
   each = λ k d lt number. elim (whole.each k d lt number) [
     | inl h ↦ inl (held (get_or limbo k d).name h)
     | inr there ↦ inr there
@@ -144,28 +146,35 @@ read_whole tells old new limbo three held keeps same_g same opened passes i stan
   safe = λ told.
       let own = manifest_at old.manifests i (omega (arith, three, low)) in
       safe_grows own.0.granularity (store_with i old stands files) new.catalogue.rows new.files new.opened new.past keeps (whole.filed own.0 own.1)
-      (safe_stays (store_with i old stands files) (λ a b. b ≡ a) old.files new.files old.opened new.opened old.past new.past (whole.safe told) (passes told) (λ a c is there. subst (AreIn (store_with i old stands files)) (sym is) there)
-      (subst (AreLong (store_with i old stands files)) (sym (same told)) (whole.safe told).long) (λ n. let is : new.opened n ≡ old.opened n = ap (λ (o : Name → ℕ). o n) (opened told) in omega (arith, is)));
+      (safe_stays (store_with i old stands files) SameFiles old.files new.files old.opened new.opened old.past new.past (whole.safe told) (passes told) (λ a c step. in_out a c (store_with i old stands files) (omega arith) step)
+      (long_out old.files new.files (store_with i old stands files) (omega arith) (same told) (whole.safe told).long) (fewer told));
 }
+
+-- and so while calls only read
+pub read_whole : (tells : Bool) (old new : Seen) (limbo : List Retired) → length old.manifests ≡ 3 → ((name : Name) → IsHeldTo old name 0 → IsHeldTo new name 0) → KeepsRows old.catalogue.rows new.catalogue.rows → granularities new.manifests ≡ granularities old.manifests
+    → (IsTrue tells → new.files ≡ old.files) → (IsTrue tells → new.opened ≡ old.opened) → (IsTrue tells → Passes (λ a b. b ≡ a) old.past new.past) → (i : ℕ) (stands : Bool) (files : List Filed) → i < 3 → AreWhole i tells old limbo stands files → AreWhole i tells new limbo stands files
+read_whole tells old new limbo three held keeps same_g same opened passes =
+    whole_out tells old new limbo three held keeps same_g (λ told n other. ap (λ (f : Files). f n) (same told)) (λ told. none_further old.opened new.opened (opened told))
+    (λ told. passes_weaker (λ a b. b ≡ a) SameFiles old.past new.past (passes told) (λ a c was is n other. ap (λ (f : Files). f n) is))
 
 -- so they do while a doubt is settled
 pub settled_whole : (tells : Bool) (old new : Seen) (limbo : List Retired) (before after : Stores) → IsOpen tells old before after → ((x y : Stores) → IsOpen tells old x y → HasEither tells new x y) → KeepsRows old.catalogue.rows new.catalogue.rows → granularities new.manifests ≡ granularities old.manifests
-    → (IsTrue tells → new.files ≡ old.files) → (IsTrue tells → new.opened ≡ old.opened) → (IsTrue tells → Passes (λ a b. b ≡ a) old.past new.past) → (i : ℕ) (stands : Bool) (files : List Filed) → i < 3 → AreWhole i tells old limbo stands files → AreWhole i tells new limbo stands files
-settled_whole tells old new limbo before after was settled keeps same_g same opened passes =
-    read_whole tells old new limbo (known_open tells old before after was).three (λ name h. settled_held tells old new before after name 0 was settled h) keeps same_g same opened passes
+    → (IsTrue tells → SameFiles old.files new.files) → (IsTrue tells → (n : Name) → new.opened n ≤ old.opened n) → (IsTrue tells → Passes SameFiles old.past new.past) → (i : ℕ) (stands : Bool) (files : List Filed) → i < 3 → AreWhole i tells old limbo stands files → AreWhole i tells new limbo stands files
+settled_whole tells old new limbo before after was settled keeps same_g same fewer passes =
+    whole_out tells old new limbo (known_open tells old before after was).three (λ name h. settled_held tells old new before after name 0 was settled h) keeps same_g same fewer passes
 
 -- or where that failed
 pub still_whole : (tells : Bool) (old new : Seen) (limbo : List Retired) (before after : Stores) → IsOpen tells old before after → ((x y : Stores) → IsOpen tells old x y → IsOpen tells new x y) → KeepsRows old.catalogue.rows new.catalogue.rows → granularities new.manifests ≡ granularities old.manifests
-    → (IsTrue tells → new.files ≡ old.files) → (IsTrue tells → new.opened ≡ old.opened) → (IsTrue tells → Passes (λ a b. b ≡ a) old.past new.past) → (i : ℕ) (stands : Bool) (files : List Filed) → i < 3 → AreWhole i tells old limbo stands files → AreWhole i tells new limbo stands files
-still_whole tells old new limbo before after was still keeps same_g same opened passes =
-    read_whole tells old new limbo (known_open tells old before after was).three (λ name h. still_held tells old new before after name 0 was still h) keeps same_g same opened passes
+    → (IsTrue tells → SameFiles old.files new.files) → (IsTrue tells → (n : Name) → new.opened n ≤ old.opened n) → (IsTrue tells → Passes SameFiles old.past new.past) → (i : ℕ) (stands : Bool) (files : List Filed) → i < 3 → AreWhole i tells old limbo stands files → AreWhole i tells new limbo stands files
+still_whole tells old new limbo before after was still keeps same_g same fewer passes =
+    whole_out tells old new limbo (known_open tells old before after was).three (λ name h. still_held tells old new before after name 0 was still h) keeps same_g same fewer passes
 
 -- so they do whatever comes of the settling
 pub review_whole : {B : Type 0} (tells : Bool) (old new : SeenAll) (r : Result B DiskErr) → new.limbo ≡ old.limbo → (before : Stores) × (after : Stores) × IsOpen tells old.stores before after → ((x y : Stores) → IsOpen tells old.stores x y → OnOk r (HasEither tells new.stores x y))
-    → ((x y : Stores) → IsOpen tells old.stores x y → OnErr r (IsOpen tells new.stores x y)) → KeepsRows old.stores.catalogue.rows new.stores.catalogue.rows → granularities new.stores.manifests ≡ granularities old.stores.manifests → (IsTrue tells → new.stores.files ≡ old.stores.files) → (IsTrue tells → new.stores.opened ≡ old.stores.opened)
-    → (IsTrue tells → Passes (λ a b. b ≡ a) old.stores.past new.stores.past) → KeepsWhole tells old new
-review_whole {B} tells old new r limbo begun settled still keeps same_g same opened passes i stands files low whole = (files, subst (λ (l : List Retired). AreWhole i tells new.stores l stands files) (sym limbo) (go r settled still))
+    → ((x y : Stores) → IsOpen tells old.stores x y → OnErr r (IsOpen tells new.stores x y)) → KeepsRows old.stores.catalogue.rows new.stores.catalogue.rows → granularities new.stores.manifests ≡ granularities old.stores.manifests → (IsTrue tells → SameFiles old.stores.files new.stores.files) → (IsTrue tells → (n : Name) → new.stores.opened n ≤ old.stores.opened n)
+    → (IsTrue tells → Passes SameFiles old.stores.past new.stores.past) → KeepsWhole tells old new
+review_whole {B} tells old new r limbo begun settled still keeps same_g same fewer passes i stands files low whole = (files, subst (λ (l : List Retired). AreWhole i tells new.stores l stands files) (sym limbo) (go r settled still))
   where
     go : (r : Result B DiskErr) → ((x y : Stores) → IsOpen tells old.stores x y → OnOk r (HasEither tells new.stores x y)) → ((x y : Stores) → IsOpen tells old.stores x y → OnErr r (IsOpen tells new.stores x y)) → AreWhole i tells new.stores old.limbo stands files
-    go (Ok a) settled still = settled_whole tells old.stores new.stores old.limbo begun.0 begun.1 begun.2 settled keeps same_g same opened passes i stands files low whole
-    go (Err e) settled still = still_whole tells old.stores new.stores old.limbo begun.0 begun.1 begun.2 still keeps same_g same opened passes i stands files low whole
+    go (Ok a) settled still = settled_whole tells old.stores new.stores old.limbo begun.0 begun.1 begun.2 settled keeps same_g same fewer passes i stands files low whole
+    go (Err e) settled still = still_whole tells old.stores new.stores old.limbo begun.0 begun.1 begun.2 still keeps same_g same fewer passes i stands files low whole

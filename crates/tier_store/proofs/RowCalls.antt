@@ -1,16 +1,18 @@
 -- A change of the rows where nothing stands in doubt, by what the catalogue's call says.
 use Rattle.std.proofs.Common.{◌≡◌, ◌≢◌, ◌⊎◌, inl, inr, true, false, Bool, ℕ, ◌≤◌, ◌<◌, ◌+◌, ◌++◌, ◌∷◌, [], List, length, map, Ok, Err, refl, sym, ◌∙◌, ap, subst, arith}
 use Rattle.std.specs.Prelude.{IsTrue, Result, OnOk, OnErr, IfOk, IfErr, ◌↔◌}
-use Rattle.disk_model.specs.Files.{Name, Content, Files, Rose, At}
+use Rattle.disk_model.specs.Files.{Name, Files, Rose}
 use Rattle.disk_model.specs.Past.{Past, Passes}
 use Rattle.disk_model.specs.declared.disk.DiskErr.TheVariants.{Fault, Memory}
 use Rattle.disk_model.proofs.Passing.{passes_none, passes_weaker}
 use Rattle.event_types.specs.declared.about.About.{About}
 use Rattle.event_types.specs.declared.about.State.{State}
 use Rattle.event_types.specs.declared.about.State.TheVariants.{Running, Paused}
+use Rattle.gate_journal.specs.Generations.{IsOwn, AtOwn}
 use Rattle.gate_journal.specs.Journal.{JournalState}
 use Rattle.gate_journal.specs.Kept as journal
 use Rattle.gate_journal.specs.Kept.{Says, SaysEither}
+use Rattle.gate_journal.proofs.Keeping.{says_stays}
 use Rattle.partition_names.specs.declared.granularity.Granularity.{Granularity}
 use Rattle.pv_catalog.specs.Catalogue as catalogue
 use Rattle.pv_catalog.specs.Catalogue.{CatalogueState, HasState, Refuses, IsRefusal, IsOfRows, registered, catalogue_name}
@@ -23,7 +25,7 @@ use Rattle.pv_catalog.specs.declared.row.Row.{Row}
 use Rattle.pv_catalog.proofs.Standing.{keeps_more, keeps_switched}
 use Rattle.store_manifest.specs.Batches.{Folds}
 use Rattle.store_manifest.specs.Manifest.{ManifestState, manifest_name}
-use Rattle.durable_write.specs.Held.{Held, AreIn, entry_of, shelf_of}
+use Rattle.durable_write.specs.Held.{Held, AreIn, entry_of}
 use Rattle.durable_write.specs.Ends.{End, Done, Refused, Failed, Spent, IsFailed, end_of_register, end_of_switch}
 use Rattle.durable_write.specs.Stored.{Holds, KeysDiffer, AreHeld, CatalogueStored, TierStored}
 use Rattle.durable_write.proofs.Ending.{other_journal}
@@ -31,7 +33,7 @@ use Rattle.durable_write.proofs.Frame.{tier_stays}
 use Rattle.durable_write.proofs.Growing.{filed_still, held_grows, in_grows, safe_grows}
 use Rattle.durable_write.proofs.Holding.{not_in}
 use Rattle.durable_write.proofs.RowCalls.{keys_pushed, keys_switched, of_disk, has_state}
-use Rattle.durable_write.proofs.Stays.{AreApart, all_apart, apart_stay, apart_long, safe_stays}
+use Rattle.durable_write.proofs.Stays.{own_stay, own_long, safe_stays}
 use Rattle.tier_store.specs.Stores.{Stores, tier, with_rows}
 use Rattle.tier_store.specs.Seen.{Seen, seen_on, AtEach, granularities}
 use Rattle.tier_store.specs.Change.{IsKnown, Has, HoldsBy, Call, EndsFrom, Changes, registering, pausing, resuming, Registers, Switches}
@@ -45,44 +47,44 @@ switches row from to c held same has = (subst (λ (rs : List Row). HasState rs r
 
 -- BESIDE A COMMIT OF THE CATALOGUE
 
-module _ (name : Name) (R : Content → Content → Type 0) (named : name ≡ catalogue_name) where
-  -- no listed file is the catalogue
-  files_out : (t : Held) → 1 ≤ t.store → AreApart (shelf_of t) name t.files
-  files_out t numbered = all_apart (shelf_of t) name t.files (not_in t.store name catalogue_name numbered named refl)
+module _ (name : Name) (R : Files → Files → Type 0) (named : name ≡ catalogue_name) where
+  -- no listed file is the catalogue's, and no manifest has one of its files
+  name_out : (t : Held) → 1 ≤ t.store → name.0 ≢ t.store
+  name_out t numbered = not_in t.store name catalogue_name numbered named refl
 
-  manifest_out : (store : ℕ) → manifest_name store ≢ name
-  manifest_out store is = other_journal store (sym (is ∙ named))
+  manifest_out : (store : ℕ) (n : Name) → IsOwn (manifest_name store) n → IsOwn name n → ⊥
+  manifest_out store n own its = other_journal store n (subst (λ (m : Name). IsOwn m n) named its) own
 
-  in_still : (t : Held) (a c : Files) → 1 ≤ t.store → At name R a c → AreIn t a → AreIn t c
-  in_still t a c numbered step was = apart_stay t name R a c (files_out t numbered) step was
+  in_still : (t : Held) (a c : Files) → 1 ≤ t.store → AtOwn name R a c → AreIn t a → AreIn t c
+  in_still t a c numbered step was = own_stay t name R a c (name_out t numbered) step was
 
   -- an image holds a store under the rows that it has now
-  holds_old : (g : Granularity) (t : Held) (a c : Files) → At name R a c → Says IsCatalogue t.rows (c catalogue_name) → Holds g a t → Holds g c t
+  holds_old : (g : Granularity) (t : Held) (a c : Files) → AtOwn name R a c → Says IsCatalogue t.rows catalogue_name c → Holds g a t → Holds g c t
   holds_old g t a c step says holds = record {
     rows = says;
-    lists = subst (λ (x : Content). Says (Folds g) (map entry_of t.files) x) (sym (step.elsewhere (manifest_name t.store) (manifest_out t.store))) holds.lists;
+    lists = says_stays (Folds g) (map entry_of t.files) (manifest_name t.store) a c (λ n own. step.elsewhere n (manifest_out t.store n own)) holds.lists;
     filed = holds.filed;
     files = in_still t a c holds.filed.numbered step holds.files;
   }
 
-  holds_new : (g : Granularity) (s : Stores) (i : ℕ) (later : List Row) (a c : Files) → KeepsRows s.rows later → At name R a c → Says IsCatalogue later (c catalogue_name) → Holds g a (tier i s) → Holds g c (tier i (with_rows s later))
+  holds_new : (g : Granularity) (s : Stores) (i : ℕ) (later : List Row) (a c : Files) → KeepsRows s.rows later → AtOwn name R a c → Says IsCatalogue later catalogue_name c → Holds g a (tier i s) → Holds g c (tier i (with_rows s later))
   holds_new g s i later a c keeps step says holds = record {
     rows = says;
-    lists = subst (λ (x : Content). Says (Folds g) (map entry_of (tier i s).files) x) (sym (step.elsewhere (manifest_name (i + 1)) (manifest_out (i + 1)))) holds.lists;
+    lists = says_stays (Folds g) (map entry_of (tier i s).files) (manifest_name (i + 1)) a c (λ n own. step.elsewhere n (manifest_out (i + 1) n own)) holds.lists;
     filed = filed_still g (tier i s) later keeps holds.filed;
     files = in_grows g (tier i s) later c keeps holds.filed (in_still (tier i s) a c holds.filed.numbered step holds.files);
   }
 
-  module _ (files last : Files) (opened after : Name → ℕ) (old new : Past) (passes : Passes (At name R) old new) (elsewhere : (n : Name) → n ≢ name → last n ≡ files n) (same : after ≡ opened) where
+  module _ (files last : Files) (opened after : Name → ℕ) (old new : Past) (passes : Passes (AtOwn name R) old new) (elsewhere : (n : Name) → (IsOwn name n → ⊥) → last n ≡ files n) (same : after ≡ opened) where
     fewer : (n : Name) → after n ≤ opened n
     fewer n = let here : after n ≡ opened n = ap (λ (f : Name → ℕ). f n) same in omega (arith, here)
 
     tier_beside : (g : Granularity) (m : JournalState) (t : Held) → TierStored g m files opened old t → TierStored g m last after new t
     tier_beside g m t stored =
         let numbered = stored.valid.filed.numbered in
-        let other : m.name ≢ name = λ is. manifest_out t.store (sym stored.named ∙ is) in
-        tier_stays (At name R) m files last opened after old new passes (record { step = λ a c step. step.elsewhere m.name other; same = elsewhere m.name other; fewer = fewer m.name }) g t stored
-        (safe_stays t (At name R) files last opened after old new stored.safe passes (λ a c step. in_still t a c numbered step) (apart_long t name files last (files_out t numbered) elsewhere stored.safe.long) fewer)
+        let other : (n : Name) → IsOwn m.name n → IsOwn name n → ⊥ = λ n own its. manifest_out t.store n (subst (λ (k : Name). IsOwn k n) stored.named own) its in
+        tier_stays (AtOwn name R) m files last opened after old new passes (record { step = λ a c step n own. step.elsewhere n (other n own); same = λ n own. elsewhere n (other n own); fewer = λ n own. fewer n }) g t stored
+        (safe_stays t (AtOwn name R) files last opened after old new stored.safe passes (λ a c step. in_still t a c numbered step) (own_long t name files last (name_out t numbered) elsewhere stored.safe.long) fewer)
 
     tier_grown : (g : Granularity) (m : JournalState) (s : Stores) (i : ℕ) (later : List Row) → KeepsRows s.rows later → AreHeld g (tier i (with_rows s later)) → TierStored g m files opened old (tier i s) → TierStored g m last after new (tier i (with_rows s later))
     tier_grown g m s i later keeps valid stored =
@@ -117,10 +119,10 @@ module _ {S : Type 0} (files_of : S → Files) (opened_of : S → Name → ℕ) 
         };
       })
 
-  module _ (next : List Row) (keeps : KeepsRows c.rows next) (name : made.journal.name ≡ c.journal.name) (passes : IsTrue tells → Passes (At c.journal.name (SaysEither IsCatalogue c.rows next)) (past_of d) (past_of after)) (elsewhere : IsTrue tells → (n : Name) → n ≢ c.journal.name → files_of after n ≡ files_of d n)
+  module _ (next : List Row) (keeps : KeepsRows c.rows next) (name : made.journal.name ≡ c.journal.name) (passes : IsTrue tells → Passes (AtOwn c.journal.name (SaysEither IsCatalogue c.rows next c.journal.name)) (past_of d) (past_of after)) (elsewhere : IsTrue tells → (n : Name) → (IsOwn c.journal.name n → ⊥) → files_of after n ≡ files_of d n)
       (opened : IsTrue tells → opened_of after ≡ opened_of d) (faults : faults_of d ≤ faults_of after) {A E : Type 0} (call : Call A E) (by : (held : Stores) → held.rows ≡ c.rows → call.by held (with_rows held next)) (keys : KeysDiffer c.rows → KeysDiffer next) where
-    abbrev R : Content → Content → Type 0
-    R = SaysEither IsCatalogue c.rows next
+    abbrev R : Files → Files → Type 0
+    R = SaysEither IsCatalogue c.rows next c.journal.name
 
     keeps_held : (held : Stores) → IsKnown c ms held → KeepsRows held.rows next
     keeps_held held known = subst (λ (r : List Row). KeepsRows r next) known.rows keeps
@@ -132,16 +134,16 @@ module _ {S : Type 0} (files_of : S → Files) (opened_of : S → Name → ℕ) 
 
     any_moment : IsTrue tells → (held : Stores) → Has tells before held → Passes (HoldsBy (granularities ms) call.by held) (past_of d) (past_of after)
     any_moment told held has =
-        passes_weaker (At c.journal.name R) (HoldsBy (granularities ms) call.by held) (past_of d) (past_of after) (passes told) (λ a image left step.
+        passes_weaker (AtOwn c.journal.name R) (HoldsBy (granularities ms) call.by held) (past_of d) (past_of after) (passes told) (λ a image left step.
         let stored = has.disk told in
         let was = all_left before held a stored left in
         let named = stored.rows.named in
         elim step.here [
           | inl says ↦
-              let rows = subst (λ (n : Name). Says IsCatalogue c.rows (image n)) named says in
-              inl (λ i g here. holds_old c.journal.name R named g (tier i held) a image step (subst (λ (rs : List Row). Says IsCatalogue rs (image catalogue_name)) has.known.rows rows) (was i g here))
+              let rows = subst (λ (n : Name). Says IsCatalogue c.rows n image) named says in
+              inl (λ i g here. holds_old c.journal.name R named g (tier i held) a image step (subst (λ (rs : List Row). Says IsCatalogue rs catalogue_name image) has.known.rows rows) (was i g here))
           | inr says ↦
-              let rows = subst (λ (n : Name). Says IsCatalogue next (image n)) named says in
+              let rows = subst (λ (n : Name). Says IsCatalogue next n image) named says in
               inr (with_rows held next, by held (sym has.known.rows), λ i g here. holds_new c.journal.name R named g held i next a image (keeps_held held has.known) step rows (was i g here))
         ])
 
@@ -201,7 +203,7 @@ module _ {S : Type 0} (files_of : S → Files) (opened_of : S → Name → ℕ) 
   -- REGISTERING
 
   pub register_changes : (name : List ℕ) (about : About) (r : Result ℕ RegisterErr) → made.journal.name ≡ c.journal.name
-      → (IsTrue tells → Passes (At c.journal.name (SaysEither IsCatalogue c.rows (c.rows ++ registered c.rows name about ∷ []))) (past_of d) (past_of after)) → (IsTrue tells → (n : Name) → n ≢ c.journal.name → files_of after n ≡ files_of d n)
+      → (IsTrue tells → Passes (AtOwn c.journal.name (SaysEither IsCatalogue c.rows (c.rows ++ registered c.rows name about ∷ []) c.journal.name)) (past_of d) (past_of after)) → (IsTrue tells → (n : Name) → (IsOwn c.journal.name n → ⊥) → files_of after n ≡ files_of d n)
       → (IsTrue tells → opened_of after ≡ opened_of d) → faults_of d ≤ faults_of after
       → IfOk r (λ id. id ≡ length c.rows) → OnOk r (made.rows ≡ c.rows ++ registered c.rows name about ∷ []) → OnOk r (made.journal.sound ≡ true) → (IsTrue tells → OnOk r (catalogue.IsStored made (files_of after) (opened_of after) (past_of after)))
       → IfErr r (IsRefusal c.rows name) → ((e : RegisterErr) → Refuses c.rows name e → (r ≡ Err e) ⊎ (r ≡ Err (of_register.Disk Memory))) → IfErr r (λ e. IsOfRows e → (made ≡ c) × (after ≡ d)) → OnErr r (made.rows ≡ c.rows)
@@ -225,10 +227,10 @@ module _ {S : Type 0} (files_of : S → Files) (opened_of : S → Name → ℕ) 
 
   -- SWITCHING
 
-  module _ (row : ℕ) (within : row < length c.rows) (named : made.journal.name ≡ c.journal.name) (elsewhere : IsTrue tells → (n : Name) → n ≢ c.journal.name → files_of after n ≡ files_of d n) (opened : IsTrue tells → opened_of after ≡ opened_of d) (faults : faults_of d ≤ faults_of after) (r : Result (Unit {0}) StateErr)
+  module _ (row : ℕ) (within : row < length c.rows) (named : made.journal.name ≡ c.journal.name) (elsewhere : IsTrue tells → (n : Name) → (IsOwn c.journal.name n → ⊥) → files_of after n ≡ files_of d n) (opened : IsTrue tells → opened_of after ≡ opened_of d) (faults : faults_of d ≤ faults_of after) (r : Result (Unit {0}) StateErr)
       (sound : OnOk r (made.journal.sound ≡ true)) (stored : IsTrue tells → OnOk r (catalogue.IsStored made (files_of after) (opened_of after) (past_of after))) (kept : OnErr r (made.rows ≡ c.rows)) (doubt : IsTrue tells → r ≡ Err (of_state.Disk Fault) → catalogue.IsInDoubt made (files_of after) (opened_of after) (past_of after))
       (fault : r ≡ Err (of_state.Disk Fault) → (made.journal.sound ≡ false) × Rose (faults_of d) (faults_of after)) (memory : r ≡ Err (of_state.Disk Memory) → (made.journal ≡ c.journal) × (after ≡ d)) where
-    pub pause_changes : (IsTrue tells → Passes (At c.journal.name (SaysEither IsCatalogue c.rows (switched row Paused c.rows))) (past_of d) (past_of after)) → OnOk r (made.rows ≡ switched row Paused c.rows) → ((r ≡ Err of_state.NotRunning) ↔ (HasState c.rows row Running → ⊥)) → (r ≡ Err of_state.NotPaused → ⊥)
+    pub pause_changes : (IsTrue tells → Passes (AtOwn c.journal.name (SaysEither IsCatalogue c.rows (switched row Paused c.rows) c.journal.name)) (past_of d) (past_of after)) → OnOk r (made.rows ≡ switched row Paused c.rows) → ((r ≡ Err of_state.NotRunning) ↔ (HasState c.rows row Running → ⊥)) → (r ≡ Err of_state.NotPaused → ⊥)
         → (r ≡ Err of_state.NotRunning → (made ≡ c) × (after ≡ d)) → (r ≡ Err (of_state.Disk Fault) → made.next ≡ switched row Paused c.rows) → Changes tells (pausing row) before behind (end_of_switch r)
     pause_changes passes rows exactly never unchanged next = go r refl sound stored kept rows
       where
@@ -245,7 +247,7 @@ module _ {S : Type 0} (files_of : S → Files) (opened_of : S → Name → ℕ) 
             rows_failed (switched row Paused c.rows) (keeps_switched row Paused c.rows) named passes elsewhere opened faults (pausing row) (by (λ other. absurd (cc (is, other)))) (keys_switched row Paused c.rows) kept (next is) (fault is).0 (λ told. doubt told is) (fault is).1
         go (Err (of_state.Disk Memory)) is sound stored kept rows = rows_same (pausing row) Spent (memory is).0 kept (memory is).1 (λ held has same. has) (λ failed. failed)
 
-    pub resume_changes : (IsTrue tells → Passes (At c.journal.name (SaysEither IsCatalogue c.rows (switched row Running c.rows))) (past_of d) (past_of after)) → OnOk r (made.rows ≡ switched row Running c.rows) → ((r ≡ Err of_state.NotPaused) ↔ (HasState c.rows row Paused → ⊥)) → (r ≡ Err of_state.NotRunning → ⊥)
+    pub resume_changes : (IsTrue tells → Passes (AtOwn c.journal.name (SaysEither IsCatalogue c.rows (switched row Running c.rows) c.journal.name)) (past_of d) (past_of after)) → OnOk r (made.rows ≡ switched row Running c.rows) → ((r ≡ Err of_state.NotPaused) ↔ (HasState c.rows row Paused → ⊥)) → (r ≡ Err of_state.NotRunning → ⊥)
         → (r ≡ Err of_state.NotPaused → (made ≡ c) × (after ≡ d)) → (r ≡ Err (of_state.Disk Fault) → made.next ≡ switched row Running c.rows) → Changes tells (resuming row) before behind (end_of_switch r)
     resume_changes passes rows exactly never unchanged next = go r refl sound stored kept rows
       where

@@ -11,7 +11,7 @@ use Rattle.store_manifest.specs.Manifest.{ManifestState}
 use Rattle.durable_write.specs.Ends.{End, end_of_error, end_of_disk, IsFailed}
 use Rattle.tier_store.specs.Stores.{Stores}
 use Rattle.tier_store.specs.Seen.{Seen, IsSettled, granularities, seen_on}
-use Rattle.tier_store.specs.Change.{Has, HasEither, IsOpen, OnlyReads}
+use Rattle.tier_store.specs.Change.{Has, HasEither, IsOpen, OnlySettles}
 use Rattle.tier_store.specs.Pinned.{beside}
 use Rattle.tier_store.specs.declared.limbo.Retired.{Retired}
 use Rattle.tier_store.specs.Settling.{SaysOf, Settles}
@@ -20,7 +20,7 @@ use Rattle.tier_store.specs.Settling.{SaysOf, Settles}
 pub record Reviewed {B : Type 0} (tells : Bool) (old mid : Seen) (r : Result B DiskErr) : Type 0 where
   pub keeps : KeepsRows old.catalogue.rows mid.catalogue.rows
   pub granularity : granularities mid.manifests ≡ granularities old.manifests
-  pub reads : OnlyReads {A = B} {E = ⊥} tells old mid (end_of_disk r)
+  pub settles : OnlySettles {A = B} {E = ⊥} tells old mid (end_of_disk r)
 
 -- it failed, so something stood in doubt
 pub cut_settles : {A B E : Type 0} (tells : Bool) (says : A → Stores → Type 0) (old new : Seen) (r : Result B DiskErr) (e : DiskErr) (end : End A E) → r ≡ Err e → end ≡ end_of_error e → (IsSettled old → (a : B) × (r ≡ Ok a))
@@ -37,7 +37,7 @@ cut_settles {A} {B} {E} tells says old new r e end failed is fine still review =
       nothing = λ settled. absurd (doubted settled);
       keeps = review.keeps;
       granularity = review.granularity;
-      reads = record { files = review.reads.files; any_moment = review.reads.any_moment; faults = review.reads.faults; cause = review.reads.cause };
+      settles = record { files = review.settles.files; frame = review.settles.frame; any_moment = review.settles.any_moment; quiet = review.settles.quiet; faults = review.settles.faults; cause = review.settles.cause };
     }
     go Memory review = record {
       ends = λ before after was. inl (tt, still before after was);
@@ -45,7 +45,7 @@ cut_settles {A} {B} {E} tells says old new r e end failed is fine still review =
       nothing = λ settled. absurd (doubted settled);
       keeps = review.keeps;
       granularity = review.granularity;
-      reads = record { files = review.reads.files; any_moment = review.reads.any_moment; faults = review.reads.faults; cause = λ failed. absurd failed };
+      settles = record { files = review.settles.files; frame = review.settles.frame; any_moment = review.settles.any_moment; quiet = review.settles.quiet; faults = review.settles.faults; cause = λ failed. absurd failed };
     }
 
 -- the doubt was settled, and then the call told something
@@ -61,7 +61,7 @@ then_settles {A} {B} {E} tells says old mid r end settled still nothing review t
   nothing = nothing;
   keeps = review.keeps;
   granularity = review.granularity;
-  reads = record { files = review.reads.files; any_moment = review.reads.any_moment; faults = review.reads.faults; cause = λ failed. absurd (not_failed failed) };
+  settles = record { files = review.settles.files; frame = review.settles.frame; any_moment = review.settles.any_moment; quiet = review.settles.quiet; faults = review.settles.faults; cause = λ failed. absurd (not_failed failed) };
 }
 
 -- the memory and the disk are the same

@@ -1,11 +1,13 @@
 -- What is listed to a length stays listed to it, and keeps its bytes, through the calls that change the stores.
-use Rattle.std.proofs.Common.{◌≡◌, ◌≢◌, ◌⊎◌, inl, inr, false, Bool, ℕ, zero, suc, ◌<◌, ◌≤◌, ◌+◌, ◌++◌, List, [], ◌∷◌, length, map, get_or, Some, refl, sym, ◌∙◌, ap, subst, arith}
+use Rattle.std.proofs.Common.{◌≡◌, ◌⊎◌, inl, inr, false, Bool, ℕ, zero, suc, ◌<◌, ◌≤◌, ◌+◌, ◌++◌, List, [], ◌∷◌, length, map, get_or, Some, refl, sym, ◌∙◌, ap, subst, arith}
 use Rattle.std.specs.Prelude.{Contains, IsTrue, slice_get}
 use Rattle.std.proofs.lemmas.List.Elements.{All-contains, Contains-get_or}
 use Rattle.disk_model.specs.Files.{Name, Files}
 use Rattle.disk_model.specs.Past.{Past}
 use Rattle.event_types.specs.declared.about.About.{About}
 use Rattle.event_types.specs.declared.about.State.{State}
+use Rattle.gate_journal.specs.Generations.{IsOwn}
+use Rattle.gate_journal.proofs.Owning.{own_store}
 use Rattle.pv_catalog.specs.Catalogue.{CatalogueState, registered}
 use Rattle.pv_catalog.specs.Rows.{KeepsRows, switched}
 use Rattle.pv_catalog.specs.declared.row.Row.{Row}
@@ -339,15 +341,15 @@ numbered all name len (inl h) = let number = name_listed all.stores name len h i
 numbered all name len (inr r) = r.numbered
 
 -- it is no journal's
-pub not_journal : (all : SeenAll) (journal : Name) → journal.0 ≡ 0 → (name : Name) (len : ℕ) → IsThereTo all name len → name ≢ journal
-not_journal all journal zero_store name len there is =
+pub not_own : (all : SeenAll) (journal : Name) → journal.0 ≡ 0 → (name : Name) (len : ℕ) → IsThereTo all name len → IsOwn journal name → ⊥
+not_own all journal zero_store name len there own =
     let number = numbered all name len there in
-    let at_zero : name.0 ≡ journal.0 = ap (λ (n : Name). n.0) is in
+    let at_zero = own_store journal name own in
     omega (arith, at_zero, zero_store, number)
 
--- calls that leave all names but one of store 0 as they were
-pub fronts_beside : (old new : SeenAll) (journal : Name) → journal.0 ≡ 0 → ((n : Name) → n ≢ journal → new.stores.files n ≡ old.stores.files n) → KeepsFronts old new
-fronts_beside old new journal zero_store same name len held front some within begins = subst (Begins front) (sym (same name (not_journal old journal zero_store name len held))) begins
+-- calls that leave all names as they were but those of a journal in store 0
+pub fronts_beside : (old new : SeenAll) (journal : Name) → journal.0 ≡ 0 → ((n : Name) → (IsOwn journal n → ⊥) → new.stores.files n ≡ old.stores.files n) → KeepsFronts old new
+fronts_beside old new journal zero_store same name len held front some within begins = subst (Begins front) (sym (same name (not_own old journal zero_store name len held))) begins
 
 -- the memory is the same
 pub held_same : {S : Type 0} (files_of : S → Files) (opened_of : S → Name → ℕ) (past_of : S → Past) (faults_of : S → ℕ) (c : CatalogueState) (ms : List ManifestState) (d after : S) (name : Name) (len : ℕ) → IsHeldTo (seen_on files_of opened_of past_of faults_of c ms d) name len → IsHeldTo (seen_on files_of opened_of past_of faults_of c ms after) name len

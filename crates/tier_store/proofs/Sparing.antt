@@ -5,11 +5,13 @@ use Rattle.std.specs.FinMap.{FinMap}
 use Rattle.std.specs.Ordering.{nat_cmp}
 use Rattle.std.proofs.lemmas.List.Elements.{All-contains, Contains-get_or, Contains-append_left}
 use Rattle.std.proofs.lemmas.Option.{same_Some}
-use Rattle.disk_model.specs.Files.{Name, Content, Files, Rose}
+use Rattle.disk_model.specs.Files.{Name, Files, Rose}
 use Rattle.disk_model.specs.Past.{Past, Passes, Only}
 use Rattle.disk_model.proofs.Passing.{passes_then, passes_weaker}
+use Rattle.gate_journal.specs.Generations.{IsOwn}
 use Rattle.gate_journal.specs.Journal.{JournalState}
-use Rattle.gate_journal.specs.Kept.{Says}
+use Rattle.gate_journal.proofs.Keeping.{says_stays}
+use Rattle.gate_journal.proofs.Owning.{own_store}
 use Rattle.partition_names.specs.declared.granularity.Granularity.{Granularity}
 use Rattle.pinned_pieces.specs.Pieces.{PinOf}
 use Rattle.pinned_pieces.specs.Pieces.{file_of as piece_file}
@@ -30,9 +32,9 @@ use Rattle.tier_store.specs.Stores.{Stores, list_at, tier}
 use Rattle.tier_store.specs.Seen.{Seen, granularities, seen, seen_on}
 use Rattle.tier_store.specs.declared.store.TierStore.{TierStore}
 use Rattle.disk_model.specs.declared.disk.Disk.{Ghosts}
-use Rattle.tier_store.specs.Change.{IsKnown, Has, HoldsBy, EndsFrom, Changes}
+use Rattle.tier_store.specs.Change.{IsKnown, Has, HoldsBy, SameFiles, EndsFrom, Changes}
 use Rattle.tier_store.specs.Pinned.{SeenAll, beside, IsHeldTo, IsNoShorter, IsThereTo, KeepsShown, PinsStand}
-use Rattle.tier_store.specs.Limbo.{IsOfPlace, LimboStands, IsListedName, IsPinnedFile, IsNeeded, IsKeptName, IsSwept, StayUnlisted, StayNeeded, AreGone, AreFree, Spares, SparesKept, LeavesKept, staying}
+use Rattle.tier_store.specs.Limbo.{IsOfPlace, LimboStands, IsListedName, IsPinnedFile, IsNeeded, IsKeptName, IsSwept, StayUnlisted, StayNeeded, AreGone, AreFree, Spares, SparesKept, SparesFiles, LeavesKept, LeavesKeptFiles, staying}
 use Rattle.tier_store.specs.declared.limbo.Retired.{Retired}
 use Rattle.tier_store.proofs.Left.{has_left}
 use Rattle.tier_store.proofs.Showing.{shown, fronts_same}
@@ -57,8 +59,8 @@ module _ (Spared : Name → Type 0) (journals : (n : Name) → n.0 ≡ 0 → Spa
 
   holds_spared : (g : Granularity) (t : Held) (a c : Files) → AreSpared t → Step a c → Holds g a t → Holds g c t
   holds_spared g t a c spared step holds = record {
-    rows = subst (λ (x : Content). Says IsCatalogue t.rows x) (sym (step catalogue_name (journals catalogue_name refl))) holds.rows;
-    lists = subst (λ (x : Content). Says (Folds g) (map entry_of t.files) x) (sym (step (manifest_name t.store) (journals (manifest_name t.store) refl))) holds.lists;
+    rows = says_stays IsCatalogue t.rows catalogue_name a c (λ n own. step n (journals n (own_store catalogue_name n own))) holds.rows;
+    lists = says_stays (Folds g) (map entry_of t.files) (manifest_name t.store) a c (λ n own. step n (journals n (own_store (manifest_name t.store) n own))) holds.lists;
     filed = holds.filed;
     files = in_spared t a c spared step holds.files;
   }
@@ -66,7 +68,8 @@ module _ (Spared : Name → Type 0) (journals : (n : Name) → n.0 ≡ 0 → Spa
   module _ (files later : Files) (opened after : Name → ℕ) (old new : Past) (passes : Passes Step old new) (same : Step files later) (fewer : (n : Name) → after n ≤ opened n) where
     untouched : (journal : JournalState) (own : Name) → journal.name ≡ own → own.0 ≡ 0 → Untouched Step journal files later opened after
     untouched journal own is zero_store =
-        let spared = journals journal.name (ap (λ (n : Name). n.0) is ∙ zero_store) in record { step = λ a c step. step journal.name spared; same = same journal.name spared; fewer = fewer journal.name }
+        let spared : (n : Name) → IsOwn journal.name n → Spared n = λ n own. journals n (own_store journal.name n own ∙ ap (λ (m : Name). m.0) is ∙ zero_store) in
+        record { step = λ a c step n own. step n (spared n own); same = λ n own. same n (spared n own); fewer = λ n own. fewer n }
 
     rows_spared : (c : JournalState) (rows : List Row) → CatalogueStored c files opened old rows → CatalogueStored c later after new rows
     rows_spared c rows stored = catalogue_stays Step c files later opened after old new passes (untouched c catalogue_name stored.named refl) rows stored
@@ -275,7 +278,7 @@ slice_contains (y ∷ xs) zero x is = (zero, omega arith, ap piece_file (same_So
 slice_contains (y ∷ xs) (suc i) x is =
     let rest = slice_contains xs i x is in (suc rest.0, omega (arith, rest.1), rest.2)
 
-pub pins_kept : (tells : Bool) (pins : FinMap nat_cmp PinOf) (copied : List Name) (old new : SeenAll) → LeavesKept tells pins copied old new → PinsStand tells old pins → PinsStand tells new pins
+pub pins_kept : (tells : Bool) (pins : FinMap nat_cmp PinOf) (copied : List Name) (old new : SeenAll) → LeavesKeptFiles tells pins copied old new → PinsStand tells old pins → PinsStand tells new pins
 pins_kept tells pins copied old new leaves stand n i pin piece here there =
     let was = stand n i pin piece here there in
     let pinned : IsPinnedFile pins piece.name = record { number = n; pin = pin; stands = here; names = slice_contains pin.pieces i piece there } in
@@ -283,22 +286,23 @@ pins_kept tells pins copied old new leaves stand n i pin piece here there =
 
 -- THE SETTLING BEFORE IT
 
--- a call that only read and kept what is shown
-pub reads_leave : (tells : Bool) (pins : FinMap nat_cmp PinOf) (copied : List Name) (old mid : SeenAll) → KeepsShown tells old mid → (IsTrue tells → mid.stores.files ≡ old.stores.files) → (IsTrue tells → Passes (λ a b. b ≡ a) old.stores.past mid.stores.past) → LeavesKept tells pins copied old mid
-reads_leave tells pins copied old mid shown same passes = record {
+-- a settling that kept what is shown
+pub settles_leave : (tells : Bool) (pins : FinMap nat_cmp PinOf) (copied : List Name) (old mid : SeenAll) → KeepsShown tells old mid → (IsTrue tells → SameFiles old.stores.files mid.stores.files) → (IsTrue tells → Passes SameFiles old.stores.past mid.stores.past) → LeavesKeptFiles tells pins copied old mid
+settles_leave tells pins copied old mid shown same passes = record {
   shown = λ name bytes kept was. shown name bytes was;
-  files = λ told n kept. ap (λ (f : Files). f n) (same told);
-  any_moment = λ told. passes_weaker (λ a b. b ≡ a) (SparesKept mid.stores pins copied old.limbo) old.stores.past mid.stores.past (passes told) (λ a c left step n kept. ap (λ (f : Files). f n) step);
+  files = λ told n other kept. same told n other;
+  any_moment = λ told. passes_weaker SameFiles (SparesFiles mid.stores pins copied old.limbo) old.stores.past mid.stores.past (passes told) (λ a c left step n other kept. step n other);
 }
 
-pub reads_then : (tells : Bool) (pins : FinMap nat_cmp PinOf) (copied : List Name) (old mid new : SeenAll) → mid.limbo ≡ old.limbo → KeepsShown tells old mid → (IsTrue tells → mid.stores.files ≡ old.stores.files) → (IsTrue tells → Passes (λ a b. b ≡ a) old.stores.past mid.stores.past) → LeavesKept tells pins copied mid new → LeavesKept tells pins copied old new
-reads_then tells pins copied old mid new limbo shown same passes leaves = record {
+pub settles_then : (tells : Bool) (pins : FinMap nat_cmp PinOf) (copied : List Name) (old mid new : SeenAll) → mid.limbo ≡ old.limbo → KeepsShown tells old mid → (IsTrue tells → SameFiles old.stores.files mid.stores.files) → (IsTrue tells → Passes SameFiles old.stores.past mid.stores.past) → LeavesKept tells pins copied mid new
+    → LeavesKeptFiles tells pins copied old new
+settles_then tells pins copied old mid new limbo shown same passes leaves = record {
   shown = λ name bytes kept was. leaves.shown name bytes kept (shown name bytes was);
-  files = λ told n kept. leaves.files told n (λ r within is. kept r (from r within) is) ∙ ap (λ (f : Files). f n) (same told);
+  files = λ told n other kept. leaves.files told n (λ r within is. kept r (from r within) is) ∙ same told n other;
   any_moment = λ told.
-      passes_then (SparesKept new.stores pins copied old.limbo) (SparesKept new.stores pins copied mid.limbo) old.stores.past mid.stores.past new.stores.past
-      (passes_weaker (λ a b. b ≡ a) (SparesKept new.stores pins copied old.limbo) old.stores.past mid.stores.past (passes told) (λ a b left step n kept. ap (λ (f : Files). f n) step)) (leaves.any_moment told)
-      (λ a b c was one now two n kept. two n (λ r within is. kept r (from r within) is) ∙ one n kept);
+      passes_then (SparesFiles new.stores pins copied old.limbo) (SparesKept new.stores pins copied mid.limbo) old.stores.past mid.stores.past new.stores.past
+      (passes_weaker SameFiles (SparesFiles new.stores pins copied old.limbo) old.stores.past mid.stores.past (passes told) (λ a b left step n other kept. step n other)) (leaves.any_moment told)
+      (λ a b c was one now two n other kept. two n (λ r within is. kept r (from r within) is) ∙ one n other kept);
 }
   where
     from : (r : Retired) → Contains mid.limbo r → Contains old.limbo r

@@ -1,7 +1,7 @@
 -- How a row is pinned for a query: which of its files, in which order, and that they answer the query.
 use Rattle.std.specs.FinMap.{FinMap, get, insert}
 use Rattle.std.specs.Ordering.{nat_cmp}
-use Rattle.std.specs.Prelude.{◌≡◌, ◌<◌, ◌^◌, ◌+◌, ◌++◌, ℕ, List, [], length, map, filter, nat_eq, nat_lt, Bool, Option, None, Some, IsSome, IsTrue, slice_get}
+use Rattle.std.specs.Prelude.{◌≡◌, ◌<◌, ◌^◌, ◌+◌, ◌++◌, ℕ, List, [], ◌∷◌, length, map, filter, nat_eq, nat_lt, ◌&&◌, if◌then◌else◌, Bool, Option, None, Some, IsSome, IsTrue, slice_get}
 use Rattle.act_model.specs.Limbo.{FileState}
 use Rattle.act_model.specs.Pin.{over_pieces}
 use Rattle.act_model.specs.Rows.{Store, Short, Medium, Long}
@@ -62,6 +62,12 @@ listed_in row ms = (listed 3 (entries_of row (slice_get ms 2)) ++ listed 2 (entr
 
 -- PINS
 
+-- Up to which moment files are needed: to the interval's end. Where the tail has begun by then there is no such moment, and no file behind
+-- the interval is left out, since the tail stands over all files.
+abbrev pub files_to : Query → List Sample → Option ℕ
+files_to q [] = Some q.to
+files_to q (s ∷ rest) = if nat_lt q.from s.t && nat_lt q.to s.t then Some q.to else None
+
 -- something is listed of the file; of each file of its form there is
 abbrev pub has_bytes : Listed → Bool
 has_bytes l = nat_lt 0 l.entry.len
@@ -81,18 +87,19 @@ pub record IsPinned (rows : List Row) (all : List Listed) (who i : ℕ) (query :
   pub free : get old pin ≡ None
   pub least : (lower : ℕ) → lower < pin → IsSome (get old lower)
   pub opened : List Listed
-  pub chosen : IsChosen query.from all opened
+  pub chosen : IsChosen query.from (files_to query tail) all opened
   pub pieces : List PinnedFile
   pub are : pieces ≡ map (piece_of rows) (filter has_bytes opened)
   pub number : count ≡ length pieces
   pub made : new ≡ insert old pin (record { owner = who; pieces = pieces })
 
--- The files that are opened are the last of the row's, so few that each has a number of 32 bits. Where what is held stands, all of them are pinned, and with a tail over them they
--- answer the query as all that is held of the row does with that tail.
+-- The files that are opened stand behind one another among the row's, and are so few that each has a number of 32 bits. Where what is held stands, all of them are pinned, and with a
+-- tail over them they answer the query as all that is held of the row does with that tail.
 pub record AreEnough (held : Stores) (i : ℕ) (query : Query) (tail : List Sample) (opened : List Listed) : Type 0 where
   pub closed : List Placed
   pub files : List Placed
-  pub split : files_in i held ≡ closed ++ files
+  pub behind : List Placed
+  pub split : files_in i held ≡ closed ++ (files ++ behind)
   pub are : map listed_of files ≡ opened
   pub few : length opened < 2 ^ 32
   pub all : IsTrue held.stands → filter has_bytes opened ≡ opened

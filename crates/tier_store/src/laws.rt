@@ -29,11 +29,11 @@ ghost use Rattle.tier_store.specs.Copied.{IsPartFile, WritesNext, end_after};
 ghost use Rattle.tier_store.specs.Copying.{CopiesBeside, KnowsHeads};
 ghost use Rattle.tier_store.specs.Finding.{SplitsAt};
 ghost use Rattle.tier_store.specs.Retiring.{oldest};
-ghost use Rattle.tier_store.specs.Limbo.{LimboStands, LeavesKept};
+ghost use Rattle.tier_store.specs.Limbo.{LimboStands, LeavesKeptFiles};
 ghost use Rattle.tier_store.specs.Moving.{GoesBeside, LeavesNames, RunsBeside, names_of};
 ghost use Rattle.tier_store.specs.Pinned.{beside, NoneOf, PinsStand, KeepsShown};
 ghost use Rattle.tier_store.specs.declared.limbo.Retired.{Retired};
-ghost use Rattle.tier_store.specs.Change.{IsKnown, Has, HasEither, IsOpen, Acts, Flushes, CanList, flushing};
+ghost use Rattle.tier_store.specs.Change.{IsKnown, Has, HasEither, IsOpen, Acts, Flushes, CanList, flushing, SameFiles};
 ghost use Rattle.tier_store.specs.Given.{ActsGiven};
 ghost use Rattle.tier_store.specs.Revival.{AreWhole, FlushesOver, flushing_over, revived, fresh};
 
@@ -88,7 +88,7 @@ pub fn limbo_is_whole<D: Disk>()
     ensures { (disk after : D) (catalogue later : CatalogueState) (ms ns : List ManifestState) (limbo : List Retired) (i : ℕ) (stands : Bool) (files : List Filed) (before next : Stores) → i < 3
         → IsOpen D.tells (seen_on D.files D.opened D.past D.faults catalogue ms disk) before next
         → ((x y : Stores) → IsOpen D.tells (seen_on D.files D.opened D.past D.faults catalogue ms disk) x y → HasEither D.tells (seen_on D.files D.opened D.past D.faults later ns after) x y)
-        → KeepsRows catalogue.rows later.rows → granularities ns ≡ granularities ms → (IsTrue D.tells → D.files after ≡ D.files disk) → (IsTrue D.tells → D.opened after ≡ D.opened disk) → (IsTrue D.tells → Passes (λ a b. b ≡ a) (D.past disk) (D.past after))
+        → KeepsRows catalogue.rows later.rows → granularities ns ≡ granularities ms → (IsTrue D.tells → SameFiles (D.files disk) (D.files after)) → (IsTrue D.tells → (n : Name) → D.opened after n ≤ D.opened disk n) → (IsTrue D.tells → Passes SameFiles (D.past disk) (D.past after))
         → AreWhole i D.tells (seen_on D.files D.opened D.past D.faults catalogue ms disk) limbo stands files → AreWhole i D.tells (seen_on D.files D.opened D.past D.faults later ns after) limbo stands files }
 {}
 
@@ -106,7 +106,7 @@ pub fn pins_stand<D: Disk>()
         → KeepsShown D.tells (beside (seen_on D.files D.opened D.past D.faults catalogue ms old) limbo) (beside (seen_on D.files D.opened D.past D.faults later ns new) left)
         → PinsStand D.tells (beside (seen_on D.files D.opened D.past D.faults catalogue ms old) limbo) pins → PinsStand D.tells (beside (seen_on D.files D.opened D.past D.faults later ns new) left) pins }
     ensures swept { (old new : D) (catalogue later : CatalogueState) (ms ns : List ManifestState) (limbo left : List Retired) (pins : FinMap nat_cmp PinOf) (copied : List Name)
-        → LeavesKept D.tells pins copied (beside (seen_on D.files D.opened D.past D.faults catalogue ms old) limbo) (beside (seen_on D.files D.opened D.past D.faults later ns new) left)
+        → LeavesKeptFiles D.tells pins copied (beside (seen_on D.files D.opened D.past D.faults catalogue ms old) limbo) (beside (seen_on D.files D.opened D.past D.faults later ns new) left)
         → PinsStand D.tells (beside (seen_on D.files D.opened D.past D.faults catalogue ms old) limbo) pins → PinsStand D.tells (beside (seen_on D.files D.opened D.past D.faults later ns new) left) pins }
     ensures fewer { (disk : D) (catalogue : CatalogueState) (ms : List ManifestState) (limbo : List Retired) (pins : FinMap nat_cmp PinOf) (n : ℕ)
         → PinsStand D.tells (beside (seen_on D.files D.opened D.past D.faults catalogue ms disk) limbo) pins → PinsStand D.tells (beside (seen_on D.files D.opened D.past D.faults catalogue ms disk) limbo) (remove pins n) }

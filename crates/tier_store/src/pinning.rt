@@ -2,7 +2,7 @@
 ghost use Rattle.std.specs.Prelude.{◌≡◌, ◌<◌, ◌++◌, ◌∷◌, [], ℕ, List, All, length, map, filter, IfOk, OnOk, OnErr, IfErr};
 ghost use Rattle.act_model.specs.declared.acts.Answer.TheVariants.{NoSuchVariable};
 ghost use Rattle.disk_model.specs.declared.disk.DiskErr.TheVariants.{Memory};
-ghost use Rattle.piece_choice.specs.Choosing.{IsChosen};
+ghost use Rattle.piece_choice.specs.Choosing.{IsChoice};
 ghost use Rattle.piece_choice.specs.declared.choosing.Listed.{Listed as ListedValue};
 ghost use Rattle.pv_catalog.specs.Rows.{HasName};
 ghost use Rattle.durable_write.specs.Ends.{IsCut};
@@ -12,7 +12,7 @@ ghost use Rattle.tier_store.specs.Change.{IsOpen};
 ghost use Rattle.tier_store.specs.Opening.{answer_of, end_of_answer};
 ghost use Rattle.tier_store.specs.Moving.{LeavesLater};
 ghost use Rattle.tier_store.specs.Pinned.{seen_all, PinsStand, KeepsShown};
-ghost use Rattle.tier_store.specs.Pinning.{HasNoName, PinsOf, SaysPinned, listed_in, has_bytes, piece_of};
+ghost use Rattle.tier_store.specs.Pinning.{HasNoName, PinsOf, SaysPinned, files_to, listed_in, has_bytes, piece_of};
 ghost use Rattle.tier_store.specs.Revival.{KeepsWhole};
 ghost use Rattle.tier_store.specs.Settling.{Settles};
 
@@ -25,16 +25,37 @@ use event_types::About;
 use piece_choice::{Choice, Listed};
 use pinned_pieces::PinnedFile;
 use pv_catalog::Row;
-use series_model::{Query, Samples};
+use series_model::{Query, Sample, Samples};
 use std::alloc::{AllocError, Global};
 use store_manifest::Manifest;
 
-// Of what is listed of a row, the files that an answer from a moment on needs.
-fn chosen(alloc: Global, manifests: &[Manifest], row: u32, from: u64) -> Result<Choice, AllocError>
-    requires three { length manifests.now ≡ 3 }
-    ensures { IfOk result (λ choice. IsChosen from (listed_in row manifests.now) choice.opened.items) }
+// Up to which moment files are needed: to the end of the interval, or with no end where the tail begins no later than that. The tail stands
+// over all files, so one behind the interval might keep such samples of it out. An archive's tail is later than all that is listed, and then
+// there is no such file.
+fn needed_to(query: Query, tail: &[Sample]) -> Option<u64>
+    ensures { result ≡ files_to query tail.now }
 {
-    let mut choice = Choice::new(alloc, from);
+    match tail.first() {
+        Some(sample) if sample.t <= query.from || sample.t <= query.to => None,
+        _ => Some(query.to),
+    }
+}
+
+// Of what is listed of a row, the files that an answer needs over which the tail stands.
+fn chosen(
+    alloc: Global,
+    manifests: &[Manifest],
+    row: u32,
+    query: Query,
+    tail: &[Sample],
+) -> Result<Choice, AllocError>
+    requires three { length manifests.now ≡ 3 }
+
+    ensures told { IfOk result (IsChoice (listed_in row manifests.now)) }
+    ensures from { IfOk result (λ choice. choice.from ≡ query.from) }
+    ensures to { IfOk result (λ choice. choice.to ≡ files_to query tail.now) }
+{
+    let mut choice = Choice::new(alloc, query.from, needed_to(query, tail));
     choice.add(3, manifests[2].entries(row))?;
     choice.add(2, manifests[1].entries(row))?;
     choice.add(1, manifests[0].entries(row))?;
@@ -112,7 +133,7 @@ impl<D: Disk> TierStore<D> {
         let found = &rows[row as usize];
         let name = found.name.clone()?;
         let about = copied(&found.about)?;
-        let choice = chosen(self.alloc, &self.manifests, row, query.from)?;
+        let choice = chosen(self.alloc, &self.manifests, row, query, tail.items())?;
         let pieces = pieces_of(self.alloc, rows, choice.opened())?;
         let count = pieces.len() as u64;
         let pin = self.pinned.pin(who, pieces)?;
@@ -171,8 +192,9 @@ impl<D: Disk> TierStore<D> {
 
     /// Pins the files of a variable that its samples of an interval need, as long as they are listed now, for an owner: under the least
     /// number that no pin has. It tells how many these are; `tail` is told with them, and stands for the samples that no store lists yet.
-    /// The files, read in the order in which they are pinned, and the tail over them answer the query as all samples do. A file of which
-    /// no byte is listed, as only damaged stores have one, isn't pinned.
+    /// The files, read in the order in which they are pinned, and the tail over them answer the query as all samples do. Where the tail is
+    /// empty or begins later than both ends of the interval, the last files stay closed, as many as begin so late. A file of which no byte
+    /// is listed, as only damaged stores have one, isn't pinned.
     ///
     /// `NoSuchVariable` comes exactly where no row has the name, before or after a change that stands in doubt is settled.
     /// `DiskFault` comes only where the disk's count of faults rose in the call, which then settled nothing. After every answer but

@@ -1,11 +1,12 @@
-// The settling of a change that stands in doubt: it only reads.
-ghost use Rattle.std.specs.Prelude.{◌≡◌, ◌<◌, ℕ, length, slice_get, Some, None, IfSome, OnOk, OnErr, IsTrue, true, false, Ok};
+// The settling of a change that stands in doubt: it changes no file outside store 0.
+ghost use Rattle.std.specs.Prelude.{◌≡◌, ◌≤◌, ◌<◌, ℕ, length, slice_get, Some, None, IfSome, OnOk, OnErr, IsTrue, true, false, Ok};
+ghost use Rattle.disk_model.specs.Files.{Name};
 ghost use Rattle.pv_catalog.specs.Rows.{KeepsRows};
 ghost use Rattle.store_manifest.specs.Manifest.{ManifestState};
 ghost use Rattle.durable_write.specs.Ends.{end_of_disk};
 ghost use Rattle.tier_store.specs.Stores.{Stores};
 ghost use Rattle.tier_store.specs.Seen.{seen, AtEach, IsSettled, granularities};
-ghost use Rattle.tier_store.specs.Change.{IsOpen, HasEither, OnlyReads};
+ghost use Rattle.tier_store.specs.Change.{IsOpen, HasEither, OnlySettles};
 ghost use Rattle.tier_store.specs.Moving.{LeavesLater};
 ghost use Rattle.tier_store.specs.Pinned.{seen_all, KeepsShown, LeavesFronts};
 ghost use Rattle.tier_store.specs.Revival.{KeepsWhole};
@@ -33,9 +34,9 @@ impl<D: Disk> TierStore<D> {
         ensures manifests { self.new.manifests.items ≡ self.old.manifests.items }
         ensures pins { self.new.pinned ≡ self.old.pinned }
         ensures limbo { self.new.limbo ≡ self.old.limbo }
-        ensures reads { OnlyReads D.tells (seen D.Disk self.old) (seen D.Disk self.new) (end_of_disk result) }
+        ensures settles { OnlySettles D.tells (seen D.Disk self.old) (seen D.Disk self.new) (end_of_disk result) }
         ensures leaves { LeavesLater D.tells (seen_all D.Disk self.old) (seen_all D.Disk self.new) }
-        ensures opened { IsTrue D.tells → D.opened self.new.disk ≡ D.opened self.old.disk }
+        ensures opened { IsTrue D.tells → (n : Name) → D.opened self.new.disk n ≤ D.opened self.old.disk n }
     {
         self.catalogue.review(&mut self.disk)?;
         Ok(())
@@ -52,9 +53,9 @@ impl<D: Disk> TierStore<D> {
         ensures pins { self.new.pinned ≡ self.old.pinned }
         ensures limbo { self.new.limbo ≡ self.old.limbo }
         ensures granularity { granularities self.new.manifests.items ≡ granularities self.old.manifests.items }
-        ensures reads { OnlyReads D.tells (seen D.Disk self.old) (seen D.Disk self.new) (end_of_disk result) }
+        ensures settles { OnlySettles D.tells (seen D.Disk self.old) (seen D.Disk self.new) (end_of_disk result) }
         ensures leaves { LeavesLater D.tells (seen_all D.Disk self.old) (seen_all D.Disk self.new) }
-        ensures opened { IsTrue D.tells → D.opened self.new.disk ≡ D.opened self.old.disk }
+        ensures opened { IsTrue D.tells → (n : Name) → D.opened self.new.disk n ≤ D.opened self.old.disk n }
     {
         self.manifests[i].review(&mut self.disk)?;
         Ok(())
@@ -77,10 +78,10 @@ impl<D: Disk> TierStore<D> {
         ensures pins { self.new.pinned ≡ self.old.pinned }
         ensures limbo { self.new.limbo ≡ self.old.limbo }
         ensures nothing { IsSettled (seen D.Disk self.old) → (result ≡ Ok tt) × (self.new ≡ self.old) }
-        ensures reads { OnlyReads D.tells (seen D.Disk self.old) (seen D.Disk self.new) (end_of_disk result) }
+        ensures settles { OnlySettles D.tells (seen D.Disk self.old) (seen D.Disk self.new) (end_of_disk result) }
         ensures leaves { LeavesLater D.tells (seen_all D.Disk self.old) (seen_all D.Disk self.new) }
+        ensures opened { IsTrue D.tells → (n : Name) → D.opened self.new.disk n ≤ D.opened self.old.disk n }
         ensures whole { KeepsWhole D.tells (seen_all D.Disk self.old) (seen_all D.Disk self.new) }
-        ensures opened { IsTrue D.tells → D.opened self.new.disk ≡ D.opened self.old.disk }
     {
         if !self.catalogue.is_sound() {
             return self.settle_rows();

@@ -8,7 +8,7 @@ ghost use Rattle.tier_store.specs.Seen.{seen, IsSettled};
 ghost use Rattle.tier_store.specs.Change.{Has, IsOpen, Changes, Acts};
 ghost use Rattle.tier_store.specs.Moving.{LeavesLater, LeavesNames};
 ghost use Rattle.tier_store.specs.Pinned.{seen_all, KeepsShown};
-ghost use Rattle.tier_store.specs.Limbo.{LimboStands, IsSwept, AreGone, LeavesKept, staying};
+ghost use Rattle.tier_store.specs.Limbo.{LimboStands, IsSwept, AreGone, LeavesKept, LeavesKeptFiles, staying};
 ghost use Rattle.tier_store.specs.Revival.{KeepsWhole};
 
 use crate::TierStore;
@@ -53,7 +53,8 @@ impl<D: Disk> TierStore<D> {
         ensures gone { IsTrue D.tells → IfOk result (λ swept. OnOk swept.removed (AreGone (seen D.Disk self.new) self.old.pinned copied.now self.old.limbo.items)) }
         ensures cause { IfOk result (λ swept. IsErrOf swept.removed DiskErr.Fault → Rose (D.faults self.old.disk) (D.faults self.new.disk)) }
         ensures failed { OnErr result ((self.new.limbo ≡ self.old.limbo) × KeepsShown D.tells (seen_all D.Disk self.old) (seen_all D.Disk self.new) × LeavesLater D.tells (seen_all D.Disk self.old) (seen_all D.Disk self.new)) }
-        ensures leaves { LeavesKept D.tells self.old.pinned copied.now (seen_all D.Disk self.old) (seen_all D.Disk self.new) }
+        ensures leaves { LeavesKeptFiles D.tells self.old.pinned copied.now (seen_all D.Disk self.old) (seen_all D.Disk self.new) }
+        ensures kept { IsSettled (seen D.Disk self.old) → LeavesKept D.tells self.old.pinned copied.now (seen_all D.Disk self.old) (seen_all D.Disk self.new) }
         ensures whole { KeepsWhole D.tells (seen_all D.Disk self.old) (seen_all D.Disk self.new) }
         ensures copied { All (λ (n : Name). 2 ≤ n.0) copied.now → LeavesNames copied.now D.tells (seen_all D.Disk self.old) (seen_all D.Disk self.new) }
         ensures stands { LimboStands (seen D.Disk self.new) self.new.limbo.items }

@@ -1,5 +1,5 @@
 -- Which passes are left, as passes are drawn, act and end.
-use Rattle.std.proofs.Common.{◌≡◌, ℕ, ◌+◌, ◌<◌, ◌≤◌, ◌==◌, Bool, true, false, List, [], ◌∷◌, ◌++◌, ◌⊎◌, inl, inr, ⊎_elim, refl, sym, ap, ◌∙◌, subst, arith, append-nil, append_assoc, flat_map, length}
+use Rattle.std.proofs.Common.{◌≡◌, ℕ, ◌+◌, ◌<◌, ◌≤◌, ◌==◌, Bool, true, false, List, [], ◌∷◌, ◌++◌, ◌⊎◌, inl, inr, ⊎_elim, refl, sym, ap, ◌∙◌, subst, arith, append-nil, append_assoc, flat_map, length, length-append}
 use Rattle.std.specs.Prelude.{All, Contains}
 use Rattle.std.specs.List.{AllZip}
 use Rattle.std.proofs.lemmas.Bool.Decides.{nat_tests}
@@ -11,7 +11,7 @@ use Rattle.turn_rooms.specs.declared.rooms.Pass.{Pass}
 use Rattle.turn_rooms.specs.declared.rooms.Rooms.{Rooms}
 use Rattle.turn_rooms.specs.declared.view.Seen.{Seen}
 use Rattle.turn_rooms.specs.declared.view.Standing.{Standing}
-use Rattle.turn_rooms.specs.Histories.{by}
+use Rattle.turn_rooms.specs.Histories.{most_numbers, by}
 use Rattle.turn_rooms.specs.Passes.{IsPassOf, IsLast, Goes, Stays, Parts, Meets, KnowsAllOf, known, stands, gave, drained}
 use Rattle.turn_rooms.proofs.Lists.{no_element, has_first, cons_cases, cons_more, prefix_self, prefix_trans, by_behind, by_none}
 use Rattle.turn_rooms.proofs.Ended.{ended_meets, ended_still}
@@ -233,6 +233,26 @@ module _ {S A B : Type 0} (steps : S → ℕ → ℕ → A → B → S → Type 
       (λ none. met.only (omega arith) q none ∙ ap (λ (h : List (Entry S A B)). by q h) d.knows)
       (drawn_acts o b q (n ∷ ns) d.each met.each))
 
+  -- each stands for one number
+  one_each : (o : Q) (ns : List Q) → All (λ (n : Q). IsNew o n) ns → length (st ns) ≡ length ns
+  one_each o [] fresh = refl
+  one_each o (n ∷ ns) fresh =
+      let one : length (stands n) ≡ 1 = ap length (All-head (λ (k : Q). IsNew o k) n ns fresh).stands_for in
+      let more : length (stands n ++ st ns) ≡ length (stands n) + length (st ns) = length-append (stands n) (st ns) in
+      let rest : length (st ns) ≡ length ns = one_each o ns (All-tail (λ (k : Q). IsNew o k) n ns fresh) in omega arith
+
+  -- where no number was left to draw, the pass and those drawn of it stood for all of them
+  pub numbers_drawn : (o a b c : Q) (ns : List Q) → Drawn steps r o a ns → Stays steps r a b → drained b ≡ drained a + 1 → (IsLast a → most_numbers ≤ length (stands a)) → Met steps r b c ns → most_numbers ≤ length (stands o) + length ns
+  numbers_drawn o a b c [] d stays more alone met =
+      let all : most_numbers ≤ length (stands a) = alone (left_last a d.left) in
+      let same : length (stands a) ≡ length (stands o) = ap length d.same_stands in omega arith
+  numbers_drawn o a b c (n ∷ ns) d stays more alone met =
+      let rises = met.back.drained_rises in
+      let all : most_numbers ≤ length (stands c) = met.all_drawn (omega arith) (omega arith) in
+      let now = met.numbers in
+      let same : length (stands b) ≡ length (stands o) = ap length (stays.same_stands ∙ d.same_stands) in
+      let ones : length (st (n ∷ ns)) ≡ length (n ∷ ns) = one_each o (n ∷ ns) d.each in omega arith
+
   -- MET
 
   -- These ended so far in a pass, beside which others may be left.
@@ -247,6 +267,8 @@ module _ {S A B : Type 0} (steps : S → ℕ → ℕ → A → B → S → Type 
     pub no_more : (q : ℕ) → Contains (stands new) q → ¬ Contains (stands old) q → All (λ (n : Q). ¬ Contains (stands n) q) met → ⊥
     pub whole : 0 < length met → IsLast new → (q : ℕ) → ¬ Contains (stands new) q → by q (known new) ≡ []
     pub none : met ≡ [] → new ≡ old
+    pub numbers : length (stands new) ≡ length (stands old) + length (st met)
+    pub all_drawn : 0 < length met → IsLast new → 0 < drained new → most_numbers ≤ length (stands new)
 
   pub met_none : (p : Q) → MetSoFar p p []
   met_none p = record {
@@ -260,6 +282,8 @@ module _ {S A B : Type 0} (steps : S → ℕ → ℕ → A → B → S → Type 
     no_more = λ q c none all. none c;
     whole = λ some. absurd (omega (arith, some));
     none = λ is. refl;
+    numbers = omega arith;
+    all_drawn = λ some. absurd (omega (arith, some));
   }
 
   met_more : (o a b : Q) (met : List Q) (n : Q) → IsPassOf steps r a → MetSoFar o a met → Meets steps r a b n → MetSoFar o b (n ∷ met)
@@ -278,6 +302,11 @@ module _ {S A B : Type 0} (steps : S → ℕ → ℕ → A → B → S → Type 
         (Contains-append_cases (stands a) (stands n) q (subst (λ (xs : List ℕ). Contains xs q) meets.stands_for c));
     whole = λ some. meets.whole;
     none = λ is. absurd cc;
+    numbers =
+        let now : length (stands b) ≡ length (stands a) + length (stands n) = ap length meets.stands_for ∙ length-append (stands a) (stands n) in
+        let more : length (st (n ∷ met)) ≡ length (stands n) + length (st met) = length-append (stands n) (st met) in
+        let before = so.numbers in omega arith;
+    all_drawn = λ some. meets.all_drawn;
   }
 
   -- one more of the others ended
@@ -315,4 +344,6 @@ module _ {S A B : Type 0} (steps : S → ℕ → ℕ → A → B → S → Type 
             (λ no. let gone : by q (known p) ≡ [] = f.whole many last q (λ c. f.no_more q c no all) in gone ∙ sym (by_none q (known o) (known p) f.goes_on gone))
             (has_or_not q (stands o));
         none = λ is. f.none (sym so.are ∙ is);
+        numbers = subst (λ (ks : List Q). length (stands p) ≡ length (stands o) + length (st ks)) (sym so.are) f.numbers;
+        all_drawn = λ some. f.all_drawn (subst (λ (ks : List Q). 0 < length ks) so.are some) last;
       }

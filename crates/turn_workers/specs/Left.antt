@@ -1,9 +1,9 @@
 -- Which passes are left, and what the last of them knows.
-use Rattle.std.specs.Prelude.{◌≡◌, ℕ, ◌<◌, ◌≤◌, List, [], ◌∷◌, ◌++◌, length, All, Contains, flat_map}
+use Rattle.std.specs.Prelude.{◌≡◌, ℕ, ◌+◌, ◌<◌, ◌≤◌, List, [], ◌∷◌, ◌++◌, length, All, Contains, flat_map}
 use mathlib.Core.List.{IsPrefix}
 use Rattle.turn_rooms.specs.declared.rooms.Pass.{Pass}
 use Rattle.turn_rooms.specs.declared.rooms.Rooms.{Rooms}
-use Rattle.turn_rooms.specs.Histories.{by}
+use Rattle.turn_rooms.specs.Histories.{most_numbers, by}
 use Rattle.turn_rooms.specs.Passes.{IsPassOf, IsLast, KnowsAllOf, known, own_acts, stands, gave, drained}
 
 module _ {S A B : Type 0} where
@@ -54,3 +54,6 @@ module _ {S A B : Type 0} (steps : S → ℕ → ℕ → A → B → S → Type 
     pub knows_more : All (λ (n : Pass S A B). IsPrefix (known n) (known new)) notes
     pub only : 0 < length notes → (q : ℕ) → All (λ (n : Pass S A B). ¬ Contains (stands n) q) notes → by q (known new) ≡ by q (known old)
     pub none : notes ≡ [] → new ≡ old
+    -- it stands for its numbers and theirs, and where one of them found that all numbers are drawn, for all that there are
+    pub numbers : length (stands new) ≡ length (stands old) + length (flat_map (λ (n : Pass S A B). stands n) notes)
+    pub all_drawn : 0 < length notes → 0 < drained new → most_numbers ≤ length (stands new)

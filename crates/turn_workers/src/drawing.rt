@@ -1,8 +1,9 @@
 // Workers are made of one pass.
-ghost use Rattle.std.specs.Prelude.{◌≡◌, ◌<◌, ◌+◌, [], IfOk, OnErr, IsErr, IsErrOf, vec_len, map};
+ghost use Rattle.std.specs.Prelude.{◌≡◌, ◌<◌, ◌≤◌, ◌+◌, [], length, IfOk, OnErr, IsErr, IsErrOf, vec_len, map};
 ghost use Rattle.std.specs.List.{range_with_len};
 ghost use Rattle.edge_io.specs.Moments.{Gives};
-ghost use Rattle.turn_rooms.specs.Passes.{IsLast, IsPassOf, Parts, Stays, drained, known};
+ghost use Rattle.turn_rooms.specs.Histories.{most_numbers};
+ghost use Rattle.turn_rooms.specs.Passes.{IsLast, IsPassOf, Parts, Stays, drained, known, stands};
 ghost use Rattle.turn_workers.specs.Left.{Drawn, IsBack};
 
 use crate::meeting::meet_workers;
@@ -25,6 +26,7 @@ fn draw_one<R: Room, C: Clock, E: Copy>(
     ensures parts { IfOk result (λ worker. Parts R.steps rooms.now pass.old pass.new worker.pass) }
     ensures worker { IfOk result (λ worker. (worker.place ≡ place) × (worker.end ≡ end)) }
     ensures spent { OnErr result (Stays R.steps rooms.now pass.old pass.new × (drained pass.new ≡ drained pass.old + 1)) }
+    ensures numbers { OnErr result (IsLast pass.old → most_numbers ≤ length (stands pass.old)) }
     ensures clock { Gives (C.coming clock.old) (C.coming clock.new) [] }
 {
     match rooms.part(rt, pass) {
@@ -40,8 +42,9 @@ fn draw_one<R: Room, C: Clock, E: Copy>(
 
 /// Draws so many workers of a pass beside which no other is left. Each has a second clock, its place from 0 on, and `end` for an end.
 ///
-/// At `Err` the pass is again one beside which no other is left, and knows what it knew. `Spent` comes only where the last load of the count
-/// of numbers read that all are drawn, and `Memory` before any was drawn. No moment is read of the clock.
+/// At `Err` the pass is again one beside which no other is left, and knows what it knew. `Spent` comes only where the numbers that the pass
+/// stands for and those of the workers would be more than there are, 2^64 - 1, and `Memory` before any was drawn. No moment is read of the
+/// clock.
 pub fn draw_workers<R: Room, C: Clock + Drop, E: Copy + Drop>(
     rt: &impl Wait,
     alloc: Global,
@@ -57,6 +60,7 @@ pub fn draw_workers<R: Room, C: Clock + Drop, E: Copy + Drop>(
     ensures places { IfOk result (λ workers. map (λ w. w.place) workers.items ≡ range_with_len 0 count) }
     ensures back { IsErr result → IsPassOf R.steps rooms.now pass.new × IsBack pass.old pass.new × (known pass.new ≡ known pass.old) }
     ensures spent { IsErrOf result NotDrawn.Spent → drained pass.old < drained pass.new }
+    ensures numbers { IsErrOf result NotDrawn.Spent → most_numbers < length (stands pass.old) + count }
     ensures memory { IsErrOf result NotDrawn.Memory → pass.new ≡ pass.old }
     ensures clock { Gives (C.coming clock.old) (C.coming clock.new) [] }
 {

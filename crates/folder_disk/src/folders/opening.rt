@@ -16,6 +16,9 @@ const RANDOM: &str = "/dev/urandom";
 // The bytes of a manifest that has its configuration and never listed a file.
 const BEGUN: u64 = 8;
 
+// The bytes of a manifest's file of generations that tells none.
+const NONE_TOLD: u64 = 1;
+
 impl<R: Files<File = File> + Drop> Folders<R> {
     // Before the first call: takes the locks, and looks whether the stores have folders of their own that are the archive's.
     pub(super) fn begin(&mut self) -> io::Result<()> {
@@ -204,12 +207,21 @@ impl<R: Files<File = File> + Drop> Folders<R> {
         }
     }
 
-    // Whether the site may have listed a file of the store.
+    // Whether the site may have listed a file of the store: its manifest has more than its configuration, or has begun anew.
     fn may_have_listed(&mut self, store: u8) -> io::Result<bool> {
-        let path = format!(in self.alloc; "{}/manifest{store}", self.root(0)?)?;
-        let size = self.size_of(path.as_str());
-        let size = self.noted(path.as_str(), size)?;
-        Ok(size.is_some_and(|size| BEGUN < size))
+        let manifest = format!(in self.alloc; "{}/manifest{store}", self.root(0)?)?;
+        let generations = format!(in self.alloc; "{manifest}.at")?;
+        Ok(
+            self.is_longer(manifest.as_str(), BEGUN)?
+                || self.is_longer(generations.as_str(), NONE_TOLD)?,
+        )
+    }
+
+    // Whether a file is there and has more bytes than these.
+    fn is_longer(&mut self, path: &str, bytes: u64) -> io::Result<bool> {
+        let size = self.size_of(path);
+        let size = self.noted(path, size)?;
+        Ok(size.is_some_and(|size| bytes < size))
     }
 
     // Whether a store's folder has a file beside its mark, there or in a folder below. One that may not be listed isn't looked into.

@@ -1,7 +1,7 @@
-use Rattle.std.proofs.Common.{◌≡◌, rules, ℕ, List, sym, ◌∙◌, ap, subst}
+use Rattle.std.proofs.Common.{rules, ℕ, List, ◌∙◌, subst}
 use Rattle.act_model.specs.Asks.{details_told_reply}
 use Rattle.archiver_appliance.specs.Drilling.{CameTo, HasFiles, TellsOn}
-use Rattle.archiver_appliance.proofs.DrillReads.{asked_acts, stands_behind, tells_files}
+use Rattle.archiver_appliance.proofs.DrillReads.{asked_acts, made_one, stands_behind, tells_files}
 use Rattle.archiver_appliance.proofs.drill_report.files_of.Goals as goal
 
 pub ask_details-requires : goal.ask_details-requires
@@ -15,7 +15,7 @@ returns-in-Ok-Described-clause-stands g c =
 pub returns-in-Ok-Described-clause-files : goal.returns-in-Ok-Described-clause-files
 returns-in-Ok-Described-clause-files g c =
     let d = c.in-Ok-Described.details in
-    let made = rw c.in-Ok-Described.field-0-is at c.in-Ok-Described.ensures.asked.done in
+    let made = made_one g.D.Disk c.args.archive.now c.archive-1.given.0 c.new-actor.result c.ask_details.new.actor c.new-actor.ensures.number c.new-actor.ensures.archive (λ same. search (rules, same, c.new-actor.ensures.same_reference)) details_told_reply _ _ _ c.in-Ok-Described.field-0-is c.in-Ok-Described.ensures.asked.done in
     let told = tells_files g.D.Disk c.args.archive.now c.archive-1.given.0 c.new-actor.result c.ask_details.new.actor c.new-actor.ensures.number c.new-actor.ensures.archive (λ same. search (rules, same, c.new-actor.ensures.same_reference)) c.from-name.result d made in
     let named = c.from-name.ensures ∙ (c.in_ok-from_slice.ensures.items ∙ c.as_bytes.ensures.value) in
     subst (λ (n : List ℕ). TellsOn g.D.Disk c.args.archive.now c.archive-1.given.0 (λ m entries. CameTo m entries (HasFiles n d.files))) named told

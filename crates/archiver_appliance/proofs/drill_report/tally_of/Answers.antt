@@ -1,8 +1,8 @@
-use Rattle.std.proofs.Common.{◌≡◌, rules, ℕ, List, Option, sym, subst}
+use Rattle.std.proofs.Common.{rules, ℕ, List, Option, sym, subst}
 use Rattle.drill_feed.specs.declared.report.Tally.{Tally}
 use Rattle.archiver_appliance.specs.Drilling.{CameTo, HasTally, TellsOn}
 use Rattle.archiver_appliance.proofs.DrillReads.{retrieval_acts, stands_behind, tells_tally}
-use Rattle.archiver_appliance.proofs.drill_report.tally_of.Goals.{in-Finished, in-Spent, in_default}
+use Rattle.archiver_appliance.proofs.drill_report.tally_of.Goals.{in-Finished, in_default}
 use Rattle.archiver_appliance.proofs.drill_report.tally_of.Goals as goal
 
 pub retrieve-requires : goal.retrieve-requires
@@ -23,6 +23,5 @@ returns-clause-tally g c = elim c.match-retrieve.branch [
       rw w.result-is
       (subst (λ (t : Option Tally). TellsOn g.D.Disk c.args.archive.now c.archive-1.given.0 (λ m entries. CameTo m entries (HasTally c.args.name.now c.args.query t))) (sym w.tally.ensures.value)
       (subst (λ (n : List ℕ). TellsOn g.D.Disk c.args.archive.now c.archive-1.given.0 (λ m entries. CameTo m entries (HasTally n c.args.query out.tally))) c.as_bytes.ensures.value told))
-  | in-Spent w ↦ search (rules, w.result-is)
   | in_default w ↦ search (rules, w.result-is)
 ]

@@ -1,7 +1,8 @@
-use Rattle.archiver_appliance.proofs.DrillRuns.{has_well, opened_by}
+use Rattle.archiver_appliance.proofs.DrillRuns.{opened_by, stands_by}
 use Rattle.archiver_appliance.proofs.drilling.opened.Goals as goal
 
-pub returns-in-Ok : goal.returns-in-Ok
-returns-in-Ok g c =
-    let well = has_well g.D.Disk _ c.args.disk c.in-Ok.store c.in-Ok.ensures.has c.requires.opens c.in-Ok.ensures.stands in
-    opened_by g.D.Disk c.in-Ok.store c.args.config.now c.on_stores.result c.in-Ok.ensures.settings well c.on_stores.ensures
+pub returns-in-Ok-clause-stands : goal.returns-in-Ok-clause-stands
+returns-in-Ok-clause-stands g c = stands_by g.D.Disk c.in-Ok.store c.args.doors c.on_stores.result c.in-Ok.ensures.has c.on_stores.ensures
+
+pub returns-in-Ok-clause-begun : goal.returns-in-Ok-clause-begun
+returns-in-Ok-clause-begun g c = opened_by g.D.Disk c.in-Ok.store c.args.config.now c.args.disk c.args.doors c.on_stores.result c.in-Ok.ensures.settings c.in-Ok.ensures.stands c.on_stores.ensures

@@ -1,17 +1,20 @@
 use Rattle.std.proofs.Common.{refl, sym, ap, subst, Err}
+use Rattle.std.specs.Prelude.{IsTrue}
 use Rattle.store_reopen.specs.Reopen.{disk_in, stores_of}
 use Rattle.command_words.specs.declared.command.Command.TheVariants.{OverStore}
 use Rattle.command_words.specs.declared.command.StoreCommand.{StoreCommand}
 use Rattle.command_words.specs.declared.command.StoreCommand.TheVariants as command
 use Rattle.command_words.specs.declared.status.Status.{Status}
 use Rattle.archiver_appliance.specs.Outside.{outside}
-use Rattle.archiver_appliance.specs.Run.{Does, EndsAs}
+use Rattle.archiver_appliance.specs.Run.{Does, EndsAs, OnlyReads}
+use Rattle.archiver_appliance.specs.Serving.{IsUnserved}
 use Rattle.archiver_appliance.proofs.Judgements.{OneVerdict}
 use Rattle.archiver_appliance.proofs.Opening.{opening_reads}
 use Rattle.archiver_appliance.proofs.Refusals.{refused_does}
 use Rattle.archiver_appliance.proofs.Doing.{check_does, etl_does, get_does, ingest_does, never_damaged, refused_none, status_does, three_of}
-use Rattle.archiver_appliance.proofs.ServingAll.{serve_does}
-use Rattle.archiver_appliance.proofs.Posts.{serves_nobody}
+use Rattle.archiver_appliance.proofs.Services.{gives_nothing}
+use Rattle.archiver_appliance.proofs.ServingAll.{serve_does, serve_makes}
+use Rattle.archiver_appliance.proofs.Posts.{refusal_unserved, serves_nobody}
 use Rattle.archiver_appliance.proofs.opened.serve.Goals as goal
 
 pub returns-in-Err-clause-does : goal.returns-in-Err-clause-does
@@ -25,6 +28,14 @@ returns-in-Err-clause-does g c =
     (λ told d name at is. c.in-Err.ensures.damaged told d name at (ap (λ e. Err e) is)) (λ told d kept other is. c.in-Err.ensures.differs told d kept other (ap (λ e. Err e) is)) in
     subst (λ d. Does config g.D.Disk.tells (OverStore c.args.command) old (outside g.S.Source g.K.Sink g.C.Clock g.D.Disk c.args.source.now c.args.sink.now c.args.clock.now d) c.refused.result.status) (sym c.refused.ensures.disk)
     (subst (λ (s : Status). Does config g.D.Disk.tells (OverStore c.args.command) old new s) (sym c.refused.ensures.status) does)
+
+pub returns-in-Err-clause-serves : goal.returns-in-Err-clause-serves
+returns-in-Err-clause-serves g c numbers is =
+    let reads : IsTrue g.D.Disk.tells → OnlyReads (stores_of c.args.config.now) (g.D.Disk.files c.args.disk) (g.D.Disk.files c.refused.result.disk) (g.D.Disk.past c.args.disk) (g.D.Disk.past c.refused.result.disk) = λ told. subst (λ d. OnlyReads (stores_of c.args.config.now) (g.D.Disk.files c.args.disk) (g.D.Disk.files d) (g.D.Disk.past c.args.disk) (g.D.Disk.past d)) (sym c.refused.ensures.disk) (opening_reads g.D.Disk (stores_of c.args.config.now) c.args.disk (disk_in c.in-Err.err) (c.in-Err.ensures.reopens told)) in
+    serves_nobody _ _ _ _ _ _ c.refused.result.status c.args.posts.now (subst IsUnserved (sym c.refused.ensures.status) (refusal_unserved c.in-Err.err)) (refl, reads)
+
+pub returns-in-Err-clause-serve_alone : goal.returns-in-Err-clause-serve_alone
+returns-in-Err-clause-serve_alone g c numbers is = (refl, refl, gives_nothing (g.C.Clock.coming c.args.clock.now))
 
 pub returns-in-Ingest-clause-does : goal.returns-in-Ingest-clause-does
 returns-in-Ingest-clause-does g c =
@@ -102,8 +113,14 @@ returns-in-Serve-clause-does g c =
     let new = outside g.S.Source g.K.Sink g.C.Clock g.D.Disk c.args.source.now c.args.sink.now c.serve_posts.new.clock c.serve_posts.result.disk in
     subst (λ (x : StoreCommand). Does config g.D.Disk.tells (OverStore x) old new c.serve_posts.result.status) (sym c.in-Serve.is)
     (serve_does g.S.Source g.K.Sink g.C.Clock g.D.Disk config c.args.disk c.in-Ok.store verdict c.in-Ok.ensures.stands (λ told. c.in-Ok.ensures.whole told refl) c.in-Ok.ensures.reopens
-    c.args.source.now c.args.sink.now c.args.clock.now c.serve_posts.new.clock c.serve_posts.result.disk c.serve_posts.result.status
-    c.in-Serve.field-0 _ c.in-Ok.ensures.settings c.serve_posts.ensures.serves c.serve_posts.ensures.opened c.serve_posts.ensures.undamaged (c.serve_posts.ensures.ends c.in-Serve.field-0))
+    c.args.source.now c.args.sink.now c.args.clock.now c.serve_posts.new.clock c.serve_posts.result.disk c.serve_posts.result.status _ _ _ _ _ _ _
+    c.in-Serve.field-0 c.serve_posts.ensures.serves c.serve_posts.ensures.opened c.serve_posts.ensures.undamaged (c.serve_posts.ensures.ends c.in-Serve.field-0))
+
+pub returns-in-Serve-clause-serves : goal.returns-in-Serve-clause-serves
+returns-in-Serve-clause-serves g c numbers is =
+    let verdict : OneVerdict = record { whole = c.one_verdict.ensures.whole; same = c.one_verdict.ensures.same; undamaged = c.one_verdict.ensures.undamaged } in
+    serve_makes g.S.Source g.K.Sink g.C.Clock g.D.Disk c.args.config.now c.args.disk c.in-Ok.store verdict c.in-Ok.ensures.stands (λ told. c.in-Ok.ensures.whole told refl) c.in-Ok.ensures.reopens
+    c.args.source.now c.args.sink.now c.args.clock.now c.serve_posts.new.clock c.serve_posts.result.disk c.serve_posts.result.status _ _ _ _ _ _ _ c.in-Ok.ensures.settings c.serve_posts.ensures.serves
 
 pub returns-in-Serve-clause-refused : goal.returns-in-Serve-clause-refused
 returns-in-Serve-clause-refused g c = λ is.

@@ -119,13 +119,13 @@ pub returns-clause-files : goal.returns-clause-files
 returns-clause-files g c =
     let new = c.get_alone-got.new.archive in
     let r = c.get_alone-got.ensures.retrieves in
-    files_given g.D.Disk c.in-Ok.archive new r.done r.made c.args.store c.in-Ok.ensures.store c.into_disk.result (handed g.D.Disk new c.into_store.result c.into_disk.result c.into_store.ensures c.into_disk.ensures) (retrieval_looking c.as_bytes.result.now c.args.query r.are)
+    files_given g.D.Disk c.in-Ok.archive new r.done r.made c.args.store c.in-Ok.ensures.store c.into_disk.result (handed g.D.Disk new c.into_store.result c.into_disk.result c.into_store.ensures c.into_disk.ensures) (retrieval_looking c.as_bytes.result.now c.args.query r.are) c.requires.fresh.has.1.settled
 
 pub returns-clause-any_moment : goal.returns-clause-any_moment
 returns-clause-any_moment g c =
     let new = c.get_alone-got.new.archive in
     let r = c.get_alone-got.ensures.retrieves in
-    moments_given g.D.Disk c.in-Ok.archive new r.done r.made c.args.store c.in-Ok.ensures.store c.into_disk.result (handed g.D.Disk new c.into_store.result c.into_disk.result c.into_store.ensures c.into_disk.ensures) (retrieval_looking c.as_bytes.result.now c.args.query r.are)
+    moments_given g.D.Disk c.in-Ok.archive new r.done r.made c.args.store c.in-Ok.ensures.store c.into_disk.result (handed g.D.Disk new c.into_store.result c.into_disk.result c.into_store.ensures c.into_disk.ensures) (retrieval_looking c.as_bytes.result.now c.args.query r.are) c.requires.fresh.has.1.settled
 
 pub returns-clause-caused : goal.returns-clause-caused
 returns-clause-caused g c =

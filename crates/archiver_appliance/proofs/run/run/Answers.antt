@@ -30,5 +30,5 @@ returns-clause-complete g c command asks can quiet doors =
     let new = outside g.S.Source g.K.Sink g.C.Clock g.D.Disk c.obey-came.new.source c.obey-came.new.sink c.obey-came.new.clock came.disk in
     subst (λ (n : ℕ). EndsWellBy command n) (sym c.number.ensures)
     (ends_well g.D.Reader.ReadAt.faults (map (λ w. w.now) c.args.words.now) c.args.config.now g.D.Disk.tells old new came.status came.failed c.obey-came.ensures.caused command asks can quiet
-    (doors_hold g.W.Door.is_closed g.W.Door.door_faults g.W.Door.ledger _ (map (λ w. w.now) c.args.words.now) came.status c.args.posts.now c.obey-came.new.posts c.obey-came.ensures.serves command asks doors)
+    (doors_hold g.W.Door.is_closed g.W.Door.door_faults g.W.Door.ledger _ _ _ (map (λ w. w.now) c.args.words.now) came.status c.args.posts.now c.obey-came.new.posts c.obey-came.ensures.serves command asks doors)
     c.obey-came.ensures.obeys)

@@ -1,12 +1,9 @@
-use Rattle.std.proofs.Common.{◌≡◌, ap, refl, sym, ◌∙◌}
+use Rattle.std.proofs.Common.{ap, length, ◌∙◌}
 use Rattle.act_model.specs.Reply.{reply_of}
-use Rattle.archive_actors.specs.Steps.{SharedStands}
-use Rattle.archive_core.specs.Parts.{parts}
-use Rattle.archive_core.specs.Stands.{Stands}
-use Rattle.link_service.specs.Doors.{IsServed}
 use Rattle.archiver_appliance.specs.Serving.{ArchiveStep}
-use Rattle.archiver_appliance.proofs.Posts.{door_left, posts_served}
-use Rattle.archiver_appliance.proofs.Services.{first_is_last, leaves_room, stands_first}
+use Rattle.archiver_appliance.proofs.Posts.{door_left, posts_left}
+use Rattle.archiver_appliance.proofs.Services.{first_is_last, leaves_room, numbers_left, stands_first}
+use Rattle.archiver_appliance.proofs.Spending.{door_full}
 use Rattle.archiver_appliance.proofs.serving.serve_in_rooms.Goals as goal
 
 pub serve_all-told-requires-clause-stands : goal.serve_all-told-requires-clause-stands
@@ -26,8 +23,9 @@ returns-clause-leaves g c =
     let R = g.D.Reader.ReadAt in
     let steps = ArchiveStep g.D.Disk R.tells R.bytes R.faults in
     let is = c.into_inner.ensures ∙ ap (λ room. room.archive) c.close.ensures in
-    leaves_room g.D.Disk steps (reply_of R.tells R.bytes R.faults) c.args.rooms c.args.pass c.requires.opens c.serve_all-told.new.pass _ c.serve_all-told.result c.into_inner.result c.serve_all-told.ensures.rooms is c.serve_all-told.ensures.spent c.serve_all-told.ensures.disk_fault c.serve_all-told.ensures.ends
-
-pub returns-clause-posts : goal.returns-clause-posts
-returns-clause-posts g c =
-    posts_served _ _ _ _ _ _ _ _ (door_left _ _ _ _ _ _ _ _ _ _ _ _ _ _) c.args.rooms _ _ c.serve_all-told.result c.args.pass c.serve_all-told.new.pass c.args.posts.now c.serve_all-told.new.posts c.serve_all-told.ensures.served
+    let few = numbers_left steps c.args.rooms c.args.pass c.requires.opens (length c.args.posts.now) c.requires.few in
+    let left = posts_left _ _ _ _ _ _ _ _ (door_left _ _ _ _ _ _ _ _ _ _ _ _ _ _) (door_full _ _ _ _ _ _ _ _ _ _ _ _ _) c.args.rooms _ _ c.serve_all-told.result c.args.pass c.serve_all-told.new.pass c.args.posts.now c.serve_all-told.new.posts few c.serve_all-told.ensures.served in (
+      left.began,
+      leaves_room g.D.Disk steps (reply_of R.tells R.bytes R.faults) c.args.rooms c.args.pass c.requires.opens c.serve_all-told.new.pass _ left.began c.serve_all-told.result c.into_inner.result c.serve_all-told.ensures.rooms is left.none left.spent c.serve_all-told.ensures.disk_fault c.serve_all-told.ensures.ends,
+      left.posts,
+    )

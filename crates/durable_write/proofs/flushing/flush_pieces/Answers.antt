@@ -170,3 +170,23 @@ returns-clause-listed g c tells =
     let is = c.requires.stored tells in
     leaves_on ((c.args.store, c.args.rows.now), c.args.manifest.now.entries) _ _ _ _ (g.D.Disk.past c.write_all.new.disk) _ (leaves_copied is.0 c.args.manifest.now (c.args.store, c.args.rows.now) _ _ _ _ _ is.1 is.2 is.4 (c.write_all.ensures.behind tells c.args.manifest.now.granularity is.2 is.3 is.4.safe is.5) (c.write_all.ensures.any_moment tells c.args.manifest.now.granularity is.2 is.3 is.4.safe is.5))
     (leaves_committed is.0 c.args.manifest.now (c.args.store, c.args.rows.now) _ _ _ _ _ _ _ is.1 is.4.stored (c.relist.ensures.elsewhere tells) (c.relist.ensures.frame tells))
+
+-- WHAT IS ELSEWHERE
+
+pub returns-in_err-relist-clause-elsewhere : goal.returns-in_err-relist-clause-elsewhere
+returns-in_err-relist-clause-elsewhere g c tells n other apart = c.relist.ensures.elsewhere tells n apart ∙ c.write_all.ensures.elsewhere tells n other
+
+pub returns-clause-elsewhere : goal.returns-clause-elsewhere
+returns-clause-elsewhere g c tells n other apart = c.relist.ensures.elsewhere tells n apart ∙ c.write_all.ensures.elsewhere tells n other
+
+pub returns-in_err-relist-clause-no_more : goal.returns-in_err-relist-clause-no_more
+returns-in_err-relist-clause-no_more g c tells n =
+    let first = c.write_all.ensures.no_more tells n in
+    let second = c.relist.ensures.no_more tells n in
+    omega (arith, first, second)
+
+pub returns-clause-no_more : goal.returns-clause-no_more
+returns-clause-no_more g c tells n =
+    let first = c.write_all.ensures.no_more tells n in
+    let second = c.relist.ensures.no_more tells n in
+    omega (arith, first, second)

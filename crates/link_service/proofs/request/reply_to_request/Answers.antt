@@ -1,7 +1,7 @@
 use Rattle.std.proofs.Common.{◌≡◌, ◌∙◌, ap, inr, sym, Option, List, ℕ, Err}
 use Rattle.edge_io.specs.Stream.{Direction}
 use Rattle.act_model.proofs.Histories.{made_nothing}
-use Rattle.link_service.proofs.Replying.{call_begins, refused_begins}
+use Rattle.link_service.proofs.Replying.{call_acts, call_begins, refused_begins}
 use Rattle.link_service.proofs.request.reply_to_request.Goals as goal
 
 -- the reading of a request leaves what was written on the link, and how often that failed
@@ -17,23 +17,11 @@ returns-in-Ok-clause-begun g c =
     let L = g.L in
     let mid = c.read_request.new.source in
     let kept = stays L.Source.beside L.Sink.written L.Sink.write_faults g.met.L.Link.written_stays c.args.link.now mid c.read_request.ensures.beside in
-    rw kept.0 at (call_begins A.number A.between A.is_spent R.tells R.faults _ c.in-Ok.request.version c.args.actor.now c.serve.new.actor c.in-Ok.request.call (L.Sink.written mid) (L.Sink.written c.serve.new.link) c.serve.result c.serve.ensures.replies)
+    let acts = call_acts A.number A.between A.is_spent A.stands R.tells R.faults _ c.in-Ok.request.version c.args.actor.now c.serve.new.actor c.in-Ok.request.call (L.Sink.written mid) (L.Sink.written c.serve.new.link) c.serve.result c.serve.ensures.replies in
+    rw kept.0 at (call_begins A.number A.between A.is_spent R.tells R.faults _ c.in-Ok.request.version c.args.actor.now c.serve.new.actor c.in-Ok.request.call (L.Sink.written mid) (L.Sink.written c.serve.new.link) c.serve.result acts)
 
 pub returns-in-Err-clause-replies : goal.returns-in-Err-clause-replies
 returns-in-Err-clause-replies g c =
-    let A = g.A.Actor in
-    let L = g.L in
-    let mid = c.read_request.new.source in
-    let kept = stays L.Source.beside L.Sink.written L.Sink.write_faults g.met.L.Link.written_stays c.args.link.now mid c.read_request.ensures.beside in
-    record {
-      request = Err c.in-Err.why;
-      later = L.Source.left mid;
-      read = c.in-Err.ensures.read;
-      replies = (made_nothing A.number A.between g.met.A.Actor.nothing c.args.actor.now, rw (kept.0, kept.1) at c.refuse_request.ensures.tells);
-    }
-
-pub returns-in-Err-clause-whole : goal.returns-in-Err-clause-whole
-returns-in-Err-clause-whole g c telling m is told headers =
     let A = g.A.Actor in
     let L = g.L in
     let mid = c.read_request.new.source in

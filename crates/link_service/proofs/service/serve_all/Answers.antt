@@ -1,5 +1,6 @@
 use Rattle.std.proofs.Common.{rules, ◌≡◌, ◌∙◌, ◌+◌, ◌<◌, inl, inr, length, ap, refl}
-use Rattle.turn_rooms.specs.Passes.{drained, known}
+use Rattle.turn_rooms.specs.Histories.{most_numbers}
+use Rattle.turn_rooms.specs.Passes.{drained, known, stands}
 use Rattle.archive_actors.specs.Steps.{SharedStands, SharedStep}
 use Rattle.link_service.proofs.Servicing.{all_end, all_fault, all_full, all_worked, done_length, drawn_can, left_all, met_all, told_as}
 use Rattle.link_service.proofs.Tending.{placed, written_back}
@@ -64,7 +65,8 @@ pub returns-in-Err-Spent-clause-served : goal.returns-in-Err-Spent-clause-served
 returns-in-Err-Spent-clause-served g c =
     let more : drained c.args.pass.now < drained c.draw_workers.new.pass = search rules in
     let same : known c.draw_workers.new.pass ≡ known c.args.pass.now = search rules in
-    inr (refl, inl (refl, more, same))
+    let many : most_numbers < length (stands c.args.pass.now) + (length c.args.posts.now + 2) = search rules in
+    inr (refl, inl (refl, (more, same, many)))
 
 pub returns-in-Err-Memory-clause-served : goal.returns-in-Err-Memory-clause-served
 returns-in-Err-Memory-clause-served g c =
@@ -75,4 +77,5 @@ pub returns-in-Err-Spent-clause-spent : goal.returns-in-Err-Spent-clause-spent
 returns-in-Err-Spent-clause-spent g c = λ spent.
     let more : drained c.args.pass.now < drained c.draw_workers.new.pass = search rules in
     let same : known c.draw_workers.new.pass ≡ known c.args.pass.now = search rules in
-    inr (more, same)
+    let many : most_numbers < length (stands c.args.pass.now) + (length c.args.posts.now + 2) = search rules in
+    inr (more, same, many)

@@ -1,4 +1,4 @@
-use Rattle.std.proofs.Common.{◌≡◌, ℕ, suc, List, [], ◌++◌, take, drop, ◌+◌, sym, ◌∙◌, ap, subst, arith, take-append-drop}
+use Rattle.std.proofs.Common.{List, [], ◌+◌, sym, ◌∙◌, ap, subst, take-append-drop}
 use Rattle.store_manifest.specs.declared.entry.Entry.{Entry}
 use Rattle.store_manifest.specs.declared.entry.Change.{Change}
 use Rattle.store_manifest.specs.Entries.{Place, changed}
@@ -12,10 +12,8 @@ returns-in-Ok-clause-items c =
     let at = c.in-Ok.at in
     let p : Place = (c.in-Drop.series, c.in-Drop.start) in
     let P : List Entry → Type 0 = λ l. IsAround p l at (at + 1) in
-    let step : suc at ≡ at + 1 = omega arith in
     c.remove.ensures.items
-    ∙ ap (λ (k : ℕ). take at xs ++ drop k xs) step
-    ∙ spliced_around p xs [] at (at + 1) (subst P c.as_slice.ensures.value c.in-Ok.ensures.found.1)
+    ∙ spliced_around p xs [] at (at + 1) (subst P c.as_slice.ensures c.in-Ok.ensures.found.1)
     ∙ ap (λ (z : Change). changed xs z) (sym c.in-Drop.is)
 
 pub returns-in_default-clause-items : goal.returns-in_default-clause-items
@@ -24,4 +22,4 @@ returns-in_default-clause-items c =
     let at = c.in_default.field-0 in
     let p : Place = (c.in-Drop.series, c.in-Drop.start) in
     let P : List Entry → Type 0 = λ l. IsAround p l at at in
-    sym (take-append-drop at xs) ∙ spliced_around p xs [] at at (subst P c.as_slice.ensures.value c.in_default.ensures.absent.1) ∙ ap (λ (z : Change). changed xs z) (sym c.in-Drop.is)
+    sym (take-append-drop at xs) ∙ spliced_around p xs [] at at (subst P c.as_slice.ensures c.in_default.ensures.absent.1) ∙ ap (λ (z : Change). changed xs z) (sym c.in-Drop.is)

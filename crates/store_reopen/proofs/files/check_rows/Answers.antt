@@ -1,6 +1,6 @@
-use Rattle.std.proofs.Common.{List, arith}
+use Rattle.std.proofs.Common.{arith}
 use Rattle.std.specs.Prelude.{All}
-use Rattle.store_reopen.specs.Verdict.{HasRow, stranger}
+use Rattle.store_reopen.specs.Verdict.{stranger, HasRow}
 use Rattle.store_reopen.proofs.Looking.{here_from, next_place, at_all, told_stranger}
 use Rattle.store_reopen.proofs.files.check_rows.Goals as goal
 

@@ -1,12 +1,18 @@
-use Rattle.std.proofs.Common.{ℕ, List, length, take, inl, inr, ◌∙◌, ap, Err}
+use Rattle.std.proofs.Common.{ℕ, List, length, take, ◌∙◌, ap, Err}
 use Rattle.gate_journal.specs.Batches.{open_gates}
-use Rattle.store_reopen.proofs.OneJournal.{same_batches}
+use Rattle.store_reopen.proofs.OneJournal.{settled_file_of}
+use Rattle.store_reopen.proofs.OneReading.{one_list}
 use Rattle.store_reopen.proofs.journals.gate_of.Goals as goal
 
-pub returns-in-Ok-clause-gate : goal.returns-in-Ok-clause-gate
-returns-in-Ok-clause-gate g c tells bs has =
-    let same = same_batches (g.D.Disk.files c.args.disk.now c.args.name.now) c.in-Ok.batches bs (c.in-Ok.ensures.batches tells) has in
-    inr (c.in_ok-place-in-Ok.ensures ∙ ap (λ (l : List (List ℕ)). length (open_gates (take c.args.number l))) same)
+pub returns-in_ok-file-in-Ok-clause-gate : goal.returns-in_ok-file-in-Ok-clause-gate
+returns-in_ok-file-in-Ok-clause-gate g c tells bs has =
+    let old = g.D.Disk.files c.args.disk.now in
+    let same = one_list c.args.name.now old c.in-Ok.batches bs (c.in-Ok.ensures.batches tells) has in
+    let current = settled_file_of c.in-Ok.journal c.args.name.now old (g.D.Disk.files c.load.new.disk) (g.D.Disk.opened c.load.new.disk) (g.D.Disk.past c.load.new.disk) bs c.in-Ok.batches c.in-Ok.ensures.journal.0 (c.in-Ok.ensures.settled tells) (c.load.ensures.kept tells).here has in (
+      c.in_ok-file-in-Ok.ensures ∙ c.file.ensures ∙ current,
+      c.in_ok-at-in-Ok.ensures ∙ ap (λ (l : List (List ℕ)). length (open_gates (take c.args.number l))) same,
+    )
 
-pub returns-clause-gate : goal.returns-clause-gate
-returns-clause-gate g c tells bs has = inl (c.in-Err-BadJournal.ensures.bad tells c.in-Err-BadJournal.at (ap Err c.in-Err-BadJournal.field-0-is))
+pub returns-in-Err-BadJournal-clause-gate : goal.returns-in-Err-BadJournal-clause-gate
+returns-in-Err-BadJournal-clause-gate g c tells bs has =
+    absurd (c.one_bad_place.ensures.excluded c.args.name.now (g.D.Disk.files c.args.disk.now) bs c.in-Err-BadJournal.file c.in-Err-BadJournal.at has (c.in-Err-BadJournal.ensures.bad tells c.in-Err-BadJournal.file c.in-Err-BadJournal.at (ap Err c.in-Err-BadJournal.field-0-is)))

@@ -1,61 +1,86 @@
-use Rattle.std.proofs.Common.{◌≡◌, Err, sym, ap, subst}
+use Rattle.std.proofs.Common.{inl, Err, sym, ◌∙◌, subst, ap}
 use Rattle.disk_model.specs.Files.{Name}
+use Rattle.gate_journal.specs.Generations.{IsOwn}
 use Rattle.pv_catalog.specs.Catalogue.{catalogue_name}
 use Rattle.pv_catalog.specs.Rows.{IsBadBatch}
+use Rattle.store_reopen.specs.OneJournal.{NoneOpened, IsGate}
 use Rattle.store_reopen.specs.Verdict.{catalogue_bad}
 use Rattle.store_reopen.proofs.Keeping.{kept_rows, kept_then, rows_again}
-use Rattle.store_reopen.proofs.OneJournal.{IsGate, bad_again, no_bad_rows}
+use Rattle.store_reopen.proofs.OneJournal.{bad_again, no_bad_rows}
 use Rattle.store_reopen.proofs.journals.load_catalogue.Goals as goal
 
 pub returns-in-Ok-clause-keeps : goal.returns-in-Ok-clause-keeps
-returns-in-Ok-clause-keeps g c tells gs =
-    kept_rows gs (g.D.Disk.files c.args.disk.now) (g.D.Disk.files c.load.new.disk) (g.D.Disk.opened c.args.disk.now) (g.D.Disk.opened c.load.new.disk) (g.D.Disk.past c.args.disk.now) (g.D.Disk.past c.load.new.disk) (c.load.ensures.any_moment tells) (c.load.ensures.elsewhere tells)
-    (c.load.ensures.reads tells) (c.load.ensures.opened tells) (c.requires.unopened tells) (c.load.ensures.unopened tells)
+returns-in-Ok-clause-keeps g c tells g' =
+    kept_rows g' (g.D.Disk.files c.args.disk.now) (g.D.Disk.files c.load.new.disk) (g.D.Disk.opened c.args.disk.now) (g.D.Disk.opened c.load.new.disk) (g.D.Disk.past c.args.disk.now) (g.D.Disk.past c.load.new.disk) (c.load.ensures.any_moment tells) (c.load.ensures.reads tells)
+    (c.load.ensures.opened tells) (c.load.ensures.unopened tells)
 
 pub returns-in-Err-Disk-clause-keeps : goal.returns-in-Err-Disk-clause-keeps
-returns-in-Err-Disk-clause-keeps g c tells gs =
-    kept_rows gs (g.D.Disk.files c.args.disk.now) (g.D.Disk.files c.load.new.disk) (g.D.Disk.opened c.args.disk.now) (g.D.Disk.opened c.load.new.disk) (g.D.Disk.past c.args.disk.now) (g.D.Disk.past c.load.new.disk) (c.load.ensures.any_moment tells) (c.load.ensures.elsewhere tells)
-    (c.load.ensures.reads tells) (c.load.ensures.opened tells) (c.requires.unopened tells) (c.load.ensures.unopened tells)
+returns-in-Err-Disk-clause-keeps g c tells g' =
+    kept_rows g' (g.D.Disk.files c.args.disk.now) (g.D.Disk.files c.load.new.disk) (g.D.Disk.opened c.args.disk.now) (g.D.Disk.opened c.load.new.disk) (g.D.Disk.past c.args.disk.now) (g.D.Disk.past c.load.new.disk) (c.load.ensures.any_moment tells) (c.load.ensures.reads tells)
+    (c.load.ensures.opened tells) (c.load.ensures.unopened tells)
 
 pub returns-in-Err-BadJournal-clause-keeps : goal.returns-in-Err-BadJournal-clause-keeps
-returns-in-Err-BadJournal-clause-keeps g c tells gs =
-    kept_rows gs (g.D.Disk.files c.args.disk.now) (g.D.Disk.files c.load.new.disk) (g.D.Disk.opened c.args.disk.now) (g.D.Disk.opened c.load.new.disk) (g.D.Disk.past c.args.disk.now) (g.D.Disk.past c.load.new.disk) (c.load.ensures.any_moment tells) (c.load.ensures.elsewhere tells)
-    (c.load.ensures.reads tells) (c.load.ensures.opened tells) (c.requires.unopened tells) (c.load.ensures.unopened tells)
+returns-in-Err-BadJournal-clause-keeps g c tells g' =
+    kept_rows g' (g.D.Disk.files c.args.disk.now) (g.D.Disk.files c.load.new.disk) (g.D.Disk.opened c.args.disk.now) (g.D.Disk.opened c.load.new.disk) (g.D.Disk.past c.args.disk.now) (g.D.Disk.past c.load.new.disk) (c.load.ensures.any_moment tells) (c.load.ensures.reads tells)
+    (c.load.ensures.opened tells) (c.load.ensures.unopened tells)
 
-pub returns-in_err-at-in-Err-BadBatch-clause-keeps : goal.returns-in_err-at-in-Err-BadBatch-clause-keeps
-returns-in_err-at-in-Err-BadBatch-clause-keeps g c tells gs =
-    kept_then gs _ _ _ _ _ _ _ _ _
-    (kept_rows gs (g.D.Disk.files c.args.disk.now) (g.D.Disk.files c.load.new.disk) (g.D.Disk.opened c.args.disk.now) (g.D.Disk.opened c.load.new.disk) (g.D.Disk.past c.args.disk.now) (g.D.Disk.past c.load.new.disk) (c.load.ensures.any_moment tells) (c.load.ensures.elsewhere tells)
-    (c.load.ensures.reads tells) (c.load.ensures.opened tells) (c.requires.unopened tells) (c.load.ensures.unopened tells))
+pub returns-in_err-file-in-Err-BadBatch-clause-keeps : goal.returns-in_err-file-in-Err-BadBatch-clause-keeps
+returns-in_err-file-in-Err-BadBatch-clause-keeps g c tells g' =
+    kept_then g' _ _ _ _ _ _ _ _ _
+    (kept_rows g' (g.D.Disk.files c.args.disk.now) (g.D.Disk.files c.load.new.disk) (g.D.Disk.opened c.args.disk.now) (g.D.Disk.opened c.load.new.disk) (g.D.Disk.past c.args.disk.now) (g.D.Disk.past c.load.new.disk) (c.load.ensures.any_moment tells) (c.load.ensures.reads tells)
+    (c.load.ensures.opened tells) (c.load.ensures.unopened tells))
     (
-    rows_again gs (g.D.Disk.files c.load.new.disk) (g.D.Disk.files c.gate_of.new.disk) (g.D.Disk.opened c.load.new.disk) (g.D.Disk.opened c.gate_of.new.disk) (g.D.Disk.past c.load.new.disk) (g.D.Disk.past c.gate_of.new.disk) c.in_ok-name.name c.in_ok-name.ensures
+    rows_again g' (g.D.Disk.files c.load.new.disk) (g.D.Disk.files c.gate_of.new.disk) (g.D.Disk.opened c.load.new.disk) (g.D.Disk.opened c.gate_of.new.disk) (g.D.Disk.past c.load.new.disk) (g.D.Disk.past c.gate_of.new.disk) c.in_ok-name.name c.in_ok-name.ensures
     (record {
       kept = c.gate_of.ensures.kept tells;
       passes = c.gate_of.ensures.any_moment tells;
       others = c.gate_of.ensures.opened tells;
-      was = subst (λ (n : Name). g.D.Disk.opened c.load.new.disk n ≡ 0) (sym c.in_ok-name.ensures) (c.load.ensures.unopened tells);
       is = c.gate_of.ensures.unopened tells;
     })
     )
 
-pub returns-in_ok-at-in-Err-BadBatch-clause-keeps : goal.returns-in_ok-at-in-Err-BadBatch-clause-keeps
-returns-in_ok-at-in-Err-BadBatch-clause-keeps g c tells gs =
-    kept_then gs _ _ _ _ _ _ _ _ _
-    (kept_rows gs (g.D.Disk.files c.args.disk.now) (g.D.Disk.files c.load.new.disk) (g.D.Disk.opened c.args.disk.now) (g.D.Disk.opened c.load.new.disk) (g.D.Disk.past c.args.disk.now) (g.D.Disk.past c.load.new.disk) (c.load.ensures.any_moment tells) (c.load.ensures.elsewhere tells)
-    (c.load.ensures.reads tells) (c.load.ensures.opened tells) (c.requires.unopened tells) (c.load.ensures.unopened tells))
+pub returns-clause-keeps : goal.returns-clause-keeps
+returns-clause-keeps g c tells g' =
+    kept_then g' _ _ _ _ _ _ _ _ _
+    (kept_rows g' (g.D.Disk.files c.args.disk.now) (g.D.Disk.files c.load.new.disk) (g.D.Disk.opened c.args.disk.now) (g.D.Disk.opened c.load.new.disk) (g.D.Disk.past c.args.disk.now) (g.D.Disk.past c.load.new.disk) (c.load.ensures.any_moment tells) (c.load.ensures.reads tells)
+    (c.load.ensures.opened tells) (c.load.ensures.unopened tells))
     (
-    rows_again gs (g.D.Disk.files c.load.new.disk) (g.D.Disk.files c.gate_of.new.disk) (g.D.Disk.opened c.load.new.disk) (g.D.Disk.opened c.gate_of.new.disk) (g.D.Disk.past c.load.new.disk) (g.D.Disk.past c.gate_of.new.disk) c.in_ok-name.name c.in_ok-name.ensures
+    rows_again g' (g.D.Disk.files c.load.new.disk) (g.D.Disk.files c.gate_of.new.disk) (g.D.Disk.opened c.load.new.disk) (g.D.Disk.opened c.gate_of.new.disk) (g.D.Disk.past c.load.new.disk) (g.D.Disk.past c.gate_of.new.disk) c.in_ok-name.name c.in_ok-name.ensures
     (record {
       kept = c.gate_of.ensures.kept tells;
       passes = c.gate_of.ensures.any_moment tells;
       others = c.gate_of.ensures.opened tells;
-      was = subst (λ (n : Name). g.D.Disk.opened c.load.new.disk n ≡ 0) (sym c.in_ok-name.ensures) (c.load.ensures.unopened tells);
       is = c.gate_of.ensures.unopened tells;
     })
     )
 
-pub returns-in_ok-at-in-Err-BadBatch-clause-told : goal.returns-in_ok-at-in-Err-BadBatch-clause-told
-returns-in_ok-at-in-Err-BadBatch-clause-told g c tells gs =
+pub gate_of-requires : goal.gate_of-requires
+gate_of-requires g c = record { unopened = λ tells. subst (λ (n : Name). NoneOpened n (g.D.Disk.opened c.load.new.disk)) (sym c.in_ok-name.ensures) (c.load.ensures.unopened tells) }
+
+pub returns-in-Err-BadJournal-clause-told : goal.returns-in-Err-BadJournal-clause-told
+returns-in-Err-BadJournal-clause-told g c tells g' = catalogue_bad (inl (c.in-Err-BadJournal.ensures.bad_journal tells c.in-Err-BadJournal.file c.in-Err-BadJournal.at (ap Err c.in-Err-BadJournal.field-0-is)))
+
+pub returns-clause-told : goal.returns-clause-told
+returns-clause-told g c tells g' =
     let bad = c.in-Err-BadBatch.ensures.bad_batch tells c.in-Err-BadBatch.number (ap Err c.in-Err-BadBatch.field-0-is) in
-    let gate = subst (λ (n : Name). IsGate (g.D.Disk.files c.load.new.disk n) c.in-Err-BadBatch.number c.in_ok-at-in-Err-BadBatch.at) c.in_ok-name.ensures (c.in_ok-at-in-Err-BadBatch.ensures.gate tells) in
-    catalogue_bad (record { named = c.in_ok-name.ensures; bad = bad_again IsBadBatch no_bad_rows (g.D.Disk.files c.args.disk.now catalogue_name) (g.D.Disk.files c.load.new.disk catalogue_name) _ bad.0 c.in-Err-BadBatch.number c.in_ok-at-in-Err-BadBatch.at bad.1 bad.2 (c.load.ensures.reads tells) gate })
+    let file = c.in_ok-file-in-Err-BadBatch.file in
+    let at = c.in_ok-file-in-Err-BadBatch.at in
+    let gate = subst (λ (n : Name). IsGate n (g.D.Disk.files c.load.new.disk) c.in-Err-BadBatch.number file at) c.in_ok-name.ensures (c.in_ok-file-in-Err-BadBatch.ensures.gate tells) in
+    catalogue_bad (bad_again IsBadBatch no_bad_rows catalogue_name (g.D.Disk.files c.args.disk.now) (g.D.Disk.files c.load.new.disk) ⊥ bad.0 c.in-Err-BadBatch.number file at bad.1 bad.2 (inl (c.load.ensures.reads tells).here) gate)
+
+pub returns-in_err-file-in-Err-BadBatch-clause-others : goal.returns-in_err-file-in-Err-BadBatch-clause-others
+returns-in_err-file-in-Err-BadBatch-clause-others g c tells n other =
+    (c.gate_of.ensures.kept tells).elsewhere n (λ own. other (subst (λ (m : Name). IsOwn m n) c.in_ok-name.ensures own)) ∙ (c.load.ensures.reads tells).elsewhere n other
+
+pub returns-clause-others : goal.returns-clause-others
+returns-clause-others g c tells n other =
+    (c.gate_of.ensures.kept tells).elsewhere n (λ own. other (subst (λ (m : Name). IsOwn m n) c.in_ok-name.ensures own)) ∙ (c.load.ensures.reads tells).elsewhere n other
+
+pub returns-in-Ok-clause-others : goal.returns-in-Ok-clause-others
+returns-in-Ok-clause-others g c tells n other = (c.load.ensures.reads tells).elsewhere n other
+
+pub returns-in-Err-Disk-clause-others : goal.returns-in-Err-Disk-clause-others
+returns-in-Err-Disk-clause-others g c tells n other = (c.load.ensures.reads tells).elsewhere n other
+
+pub returns-in-Err-BadJournal-clause-others : goal.returns-in-Err-BadJournal-clause-others
+returns-in-Err-BadJournal-clause-others g c tells n other = (c.load.ensures.reads tells).elsewhere n other

@@ -1,13 +1,12 @@
-use Rattle.std.proofs.Common.{◌≡◌, ◌+◌, ◌-◌, Err, Some, inl, sym, ◌∙◌, ap, subst, arith}
-use Rattle.disk_model.specs.Files.{Name, Content}
-use Rattle.gate_journal.specs.Batches.{IsBadJournal}
-use Rattle.gate_journal.specs.Kept.{Says, StillSays}
+use Rattle.std.proofs.Common.{◌+◌, ◌-◌, Err, Some, inl, sym, ◌∙◌, ap, subst, arith}
+use Rattle.disk_model.specs.Files.{Name}
+use Rattle.gate_journal.proofs.Keeping.{says_stays}
 use Rattle.partition_names.specs.declared.granularity.Granularity.{Granularity}
-use Rattle.store_manifest.specs.Batches.{Configured, Folds, IsBadBatch}
+use Rattle.store_manifest.specs.Batches.{Configured, IsBadBatch}
 use Rattle.store_manifest.specs.Entries.{AreEntries}
-use Rattle.store_manifest.specs.Manifest.{Lists, manifest_name}
-use Rattle.store_reopen.specs.OneJournal.{IsBadManifest}
-use Rattle.store_reopen.proofs.OneJournal.{catalogue_stays, IsGate, bad_again, no_bad_entries}
+use Rattle.store_manifest.specs.Manifest.{StaysOrBegins, Lists, manifest_name}
+use Rattle.store_reopen.specs.OneJournal.{NoneOpened, IsGate}
+use Rattle.store_reopen.proofs.OneJournal.{catalogue_stays, bad_again, bad_in, no_bad_entries}
 use Rattle.store_reopen.specs.Reopen.{stores_of}
 use Rattle.store_reopen.specs.Verdict.{manifest_bad}
 use Rattle.store_reopen.proofs.Having.{here_at}
@@ -17,70 +16,73 @@ use Rattle.store_reopen.proofs.journals.load_manifest.Goals as goal
 
 pub returns-in-Ok-clause-keeps : goal.returns-in-Ok-clause-keeps
 returns-in-Ok-clause-keeps g c tells =
-    kept_list (stores_of c.args.config.now) (g.D.Disk.files c.args.disk.now) (g.D.Disk.files c.load.new.disk) (g.D.Disk.opened c.args.disk.now) (g.D.Disk.opened c.load.new.disk) (g.D.Disk.past c.args.disk.now) (g.D.Disk.past c.load.new.disk) c.args.place c.granularity.result (here_at c.args.config.now c.args.place (c.args.place + 1 - 1) c.granularity.result c.requires.place (omega arith) c.granularity.ensures.value) (c.load.ensures.any_moment tells) (c.load.ensures.elsewhere tells)
-    (c.load.ensures.reads tells) (c.load.ensures.opened tells) (c.requires.unopened tells) (c.load.ensures.unopened tells)
+    kept_list (stores_of c.args.config.now) (g.D.Disk.files c.args.disk.now) (g.D.Disk.files c.load.new.disk) (g.D.Disk.opened c.args.disk.now) (g.D.Disk.opened c.load.new.disk) (g.D.Disk.past c.args.disk.now) (g.D.Disk.past c.load.new.disk) c.args.place c.granularity.result (here_at c.args.config.now c.args.place (c.args.place + 1 - 1) c.granularity.result c.requires.place (omega arith) c.granularity.ensures.value) (c.load.ensures.any_moment tells) (c.load.ensures.reads tells)
+    (c.load.ensures.opened tells) (c.load.ensures.unopened tells)
 
 pub returns-in-Err-Disk-clause-keeps : goal.returns-in-Err-Disk-clause-keeps
 returns-in-Err-Disk-clause-keeps g c tells =
-    kept_list (stores_of c.args.config.now) (g.D.Disk.files c.args.disk.now) (g.D.Disk.files c.load.new.disk) (g.D.Disk.opened c.args.disk.now) (g.D.Disk.opened c.load.new.disk) (g.D.Disk.past c.args.disk.now) (g.D.Disk.past c.load.new.disk) c.args.place c.granularity.result (here_at c.args.config.now c.args.place (c.args.place + 1 - 1) c.granularity.result c.requires.place (omega arith) c.granularity.ensures.value) (c.load.ensures.any_moment tells) (c.load.ensures.elsewhere tells)
-    (c.load.ensures.reads tells) (c.load.ensures.opened tells) (c.requires.unopened tells) (c.load.ensures.unopened tells)
+    kept_list (stores_of c.args.config.now) (g.D.Disk.files c.args.disk.now) (g.D.Disk.files c.load.new.disk) (g.D.Disk.opened c.args.disk.now) (g.D.Disk.opened c.load.new.disk) (g.D.Disk.past c.args.disk.now) (g.D.Disk.past c.load.new.disk) c.args.place c.granularity.result (here_at c.args.config.now c.args.place (c.args.place + 1 - 1) c.granularity.result c.requires.place (omega arith) c.granularity.ensures.value) (c.load.ensures.any_moment tells) (c.load.ensures.reads tells)
+    (c.load.ensures.opened tells) (c.load.ensures.unopened tells)
 
 pub returns-in-Err-BadJournal-clause-keeps : goal.returns-in-Err-BadJournal-clause-keeps
 returns-in-Err-BadJournal-clause-keeps g c tells =
-    kept_list (stores_of c.args.config.now) (g.D.Disk.files c.args.disk.now) (g.D.Disk.files c.load.new.disk) (g.D.Disk.opened c.args.disk.now) (g.D.Disk.opened c.load.new.disk) (g.D.Disk.past c.args.disk.now) (g.D.Disk.past c.load.new.disk) c.args.place c.granularity.result (here_at c.args.config.now c.args.place (c.args.place + 1 - 1) c.granularity.result c.requires.place (omega arith) c.granularity.ensures.value) (c.load.ensures.any_moment tells) (c.load.ensures.elsewhere tells)
-    (c.load.ensures.reads tells) (c.load.ensures.opened tells) (c.requires.unopened tells) (c.load.ensures.unopened tells)
+    kept_list (stores_of c.args.config.now) (g.D.Disk.files c.args.disk.now) (g.D.Disk.files c.load.new.disk) (g.D.Disk.opened c.args.disk.now) (g.D.Disk.opened c.load.new.disk) (g.D.Disk.past c.args.disk.now) (g.D.Disk.past c.load.new.disk) c.args.place c.granularity.result (here_at c.args.config.now c.args.place (c.args.place + 1 - 1) c.granularity.result c.requires.place (omega arith) c.granularity.ensures.value) (c.load.ensures.any_moment tells) (c.load.ensures.reads tells)
+    (c.load.ensures.opened tells) (c.load.ensures.unopened tells)
 
-pub returns-in-Err-GranularityDiffers-clause-keeps : goal.returns-in-Err-GranularityDiffers-clause-keeps
-returns-in-Err-GranularityDiffers-clause-keeps g c tells =
-    kept_list (stores_of c.args.config.now) (g.D.Disk.files c.args.disk.now) (g.D.Disk.files c.load.new.disk) (g.D.Disk.opened c.args.disk.now) (g.D.Disk.opened c.load.new.disk) (g.D.Disk.past c.args.disk.now) (g.D.Disk.past c.load.new.disk) c.args.place c.granularity.result (here_at c.args.config.now c.args.place (c.args.place + 1 - 1) c.granularity.result c.requires.place (omega arith) c.granularity.ensures.value) (c.load.ensures.any_moment tells) (c.load.ensures.elsewhere tells)
-    (c.load.ensures.reads tells) (c.load.ensures.opened tells) (c.requires.unopened tells) (c.load.ensures.unopened tells)
+pub returns-clause-keeps : goal.returns-clause-keeps
+returns-clause-keeps g c tells =
+    kept_list (stores_of c.args.config.now) (g.D.Disk.files c.args.disk.now) (g.D.Disk.files c.load.new.disk) (g.D.Disk.opened c.args.disk.now) (g.D.Disk.opened c.load.new.disk) (g.D.Disk.past c.args.disk.now) (g.D.Disk.past c.load.new.disk) c.args.place c.granularity.result (here_at c.args.config.now c.args.place (c.args.place + 1 - 1) c.granularity.result c.requires.place (omega arith) c.granularity.ensures.value) (c.load.ensures.any_moment tells) (c.load.ensures.reads tells)
+    (c.load.ensures.opened tells) (c.load.ensures.unopened tells)
 
-pub returns-in_err-at-in-Err-BadBatch-clause-keeps : goal.returns-in_err-at-in-Err-BadBatch-clause-keeps
-returns-in_err-at-in-Err-BadBatch-clause-keeps g c tells =
+pub returns-in_err-file-in-Err-BadBatch-clause-keeps : goal.returns-in_err-file-in-Err-BadBatch-clause-keeps
+returns-in_err-file-in-Err-BadBatch-clause-keeps g c tells =
     kept_then (stores_of c.args.config.now) _ _ _ _ _ _ _ _ _
-    (kept_list (stores_of c.args.config.now) (g.D.Disk.files c.args.disk.now) (g.D.Disk.files c.load.new.disk) (g.D.Disk.opened c.args.disk.now) (g.D.Disk.opened c.load.new.disk) (g.D.Disk.past c.args.disk.now) (g.D.Disk.past c.load.new.disk) c.args.place c.granularity.result (here_at c.args.config.now c.args.place (c.args.place + 1 - 1) c.granularity.result c.requires.place (omega arith) c.granularity.ensures.value) (c.load.ensures.any_moment tells) (c.load.ensures.elsewhere tells)
-    (c.load.ensures.reads tells) (c.load.ensures.opened tells) (c.requires.unopened tells) (c.load.ensures.unopened tells))
+    (kept_list (stores_of c.args.config.now) (g.D.Disk.files c.args.disk.now) (g.D.Disk.files c.load.new.disk) (g.D.Disk.opened c.args.disk.now) (g.D.Disk.opened c.load.new.disk) (g.D.Disk.past c.args.disk.now) (g.D.Disk.past c.load.new.disk) c.args.place c.granularity.result (here_at c.args.config.now c.args.place (c.args.place + 1 - 1) c.granularity.result c.requires.place (omega arith) c.granularity.ensures.value) (c.load.ensures.any_moment tells) (c.load.ensures.reads tells)
+    (c.load.ensures.opened tells) (c.load.ensures.unopened tells))
     (
     list_again (stores_of c.args.config.now) (g.D.Disk.files c.load.new.disk) (g.D.Disk.files c.gate_of.new.disk) (g.D.Disk.opened c.load.new.disk) (g.D.Disk.opened c.gate_of.new.disk) (g.D.Disk.past c.load.new.disk) (g.D.Disk.past c.gate_of.new.disk) c.args.place c.granularity.result (here_at c.args.config.now c.args.place (c.args.place + 1 - 1) c.granularity.result c.requires.place (omega arith) c.granularity.ensures.value) c.in_ok-name.name c.in_ok-name.ensures
     (record {
       kept = c.gate_of.ensures.kept tells;
       passes = c.gate_of.ensures.any_moment tells;
       others = c.gate_of.ensures.opened tells;
-      was = subst (λ (n : Name). g.D.Disk.opened c.load.new.disk n ≡ 0) (sym c.in_ok-name.ensures) (c.load.ensures.unopened tells);
       is = c.gate_of.ensures.unopened tells;
     })
     )
 
-pub returns-in_ok-at-in-Err-BadBatch-clause-keeps : goal.returns-in_ok-at-in-Err-BadBatch-clause-keeps
-returns-in_ok-at-in-Err-BadBatch-clause-keeps g c tells =
+pub returns-in-Err-BadBatch-clause-keeps : goal.returns-in-Err-BadBatch-clause-keeps
+returns-in-Err-BadBatch-clause-keeps g c tells =
     kept_then (stores_of c.args.config.now) _ _ _ _ _ _ _ _ _
-    (kept_list (stores_of c.args.config.now) (g.D.Disk.files c.args.disk.now) (g.D.Disk.files c.load.new.disk) (g.D.Disk.opened c.args.disk.now) (g.D.Disk.opened c.load.new.disk) (g.D.Disk.past c.args.disk.now) (g.D.Disk.past c.load.new.disk) c.args.place c.granularity.result (here_at c.args.config.now c.args.place (c.args.place + 1 - 1) c.granularity.result c.requires.place (omega arith) c.granularity.ensures.value) (c.load.ensures.any_moment tells) (c.load.ensures.elsewhere tells)
-    (c.load.ensures.reads tells) (c.load.ensures.opened tells) (c.requires.unopened tells) (c.load.ensures.unopened tells))
+    (kept_list (stores_of c.args.config.now) (g.D.Disk.files c.args.disk.now) (g.D.Disk.files c.load.new.disk) (g.D.Disk.opened c.args.disk.now) (g.D.Disk.opened c.load.new.disk) (g.D.Disk.past c.args.disk.now) (g.D.Disk.past c.load.new.disk) c.args.place c.granularity.result (here_at c.args.config.now c.args.place (c.args.place + 1 - 1) c.granularity.result c.requires.place (omega arith) c.granularity.ensures.value) (c.load.ensures.any_moment tells) (c.load.ensures.reads tells)
+    (c.load.ensures.opened tells) (c.load.ensures.unopened tells))
     (
     list_again (stores_of c.args.config.now) (g.D.Disk.files c.load.new.disk) (g.D.Disk.files c.gate_of.new.disk) (g.D.Disk.opened c.load.new.disk) (g.D.Disk.opened c.gate_of.new.disk) (g.D.Disk.past c.load.new.disk) (g.D.Disk.past c.gate_of.new.disk) c.args.place c.granularity.result (here_at c.args.config.now c.args.place (c.args.place + 1 - 1) c.granularity.result c.requires.place (omega arith) c.granularity.ensures.value) c.in_ok-name.name c.in_ok-name.ensures
     (record {
       kept = c.gate_of.ensures.kept tells;
       passes = c.gate_of.ensures.any_moment tells;
       others = c.gate_of.ensures.opened tells;
-      was = subst (λ (n : Name). g.D.Disk.opened c.load.new.disk n ≡ 0) (sym c.in_ok-name.ensures) (c.load.ensures.unopened tells);
       is = c.gate_of.ensures.unopened tells;
     })
     )
+
+pub gate_of-requires : goal.gate_of-requires
+gate_of-requires g c = record { unopened = λ tells. subst (λ (n : Name). NoneOpened n (g.D.Disk.opened c.load.new.disk)) (sym c.in_ok-name.ensures) (c.load.ensures.unopened tells) }
 
 pub returns-in-Err-BadJournal-clause-told : goal.returns-in-Err-BadJournal-clause-told
 returns-in-Err-BadJournal-clause-told g c tells seen rows lists says earlier same =
-    let broken = c.in-Err-BadJournal.ensures.bad_journal tells c.in-Err-BadJournal.at (ap Err c.in-Err-BadJournal.field-0-is) in
-    manifest_bad (record { rows = rows; rows_said = says; place = c.args.place; within = c.requires.place; lists = lists; earlier = earlier; named = c.in_ok-name.ensures; bad = inl (subst (λ (x : Content). IsBadJournal x c.in-Err-BadJournal.at) same broken) })
+    let broken = c.in-Err-BadJournal.ensures.bad_journal tells c.in-Err-BadJournal.file c.in-Err-BadJournal.at (ap Err c.in-Err-BadJournal.field-0-is) in
+    manifest_bad (record { rows = rows; rows_said = says; place = c.args.place; within = c.requires.place; lists = lists; earlier = earlier; bad = bad_in IsBadBatch (manifest_name (c.args.place + 1)) (g.D.Disk.files c.args.disk.now) seen c.in-Err-BadJournal.file c.in-Err-BadJournal.at (λ n own. sym (same n own)) (inl broken) })
 
-pub returns-in_ok-at-in-Err-BadBatch-clause-told : goal.returns-in_ok-at-in-Err-BadBatch-clause-told
-returns-in_ok-at-in-Err-BadBatch-clause-told g c tells seen rows lists says earlier same =
+pub returns-in-Err-BadBatch-clause-told : goal.returns-in-Err-BadBatch-clause-told
+returns-in-Err-BadBatch-clause-told g c tells seen rows lists says earlier same =
     let bad = c.in-Err-BadBatch.ensures.bad_batch tells c.in-Err-BadBatch.number (ap Err c.in-Err-BadBatch.field-0-is) in
-    let gate = subst (λ (n : Name). IsGate (g.D.Disk.files c.load.new.disk n) c.in-Err-BadBatch.number c.in_ok-at-in-Err-BadBatch.at) c.in_ok-name.ensures (c.in_ok-at-in-Err-BadBatch.ensures.gate tells) in
-    let found = bad_again IsBadBatch no_bad_entries (g.D.Disk.files c.args.disk.now (manifest_name (c.args.place + 1))) (g.D.Disk.files c.load.new.disk (manifest_name (c.args.place + 1))) _ bad.0 c.in-Err-BadBatch.number c.in_ok-at-in-Err-BadBatch.at bad.1 bad.2 (c.load.ensures.reads tells) gate in
-    manifest_bad (record { rows = rows; rows_said = says; place = c.args.place; within = c.requires.place; lists = lists; earlier = earlier; named = c.in_ok-name.ensures; bad = subst (λ (x : Content). IsBadManifest x c.in_ok-at-in-Err-BadBatch.at) same found })
+    let file = c.in_ok-file-in-Err-BadBatch.file in
+    let at = c.in_ok-file-in-Err-BadBatch.at in
+    let gate = subst (λ (n : Name). IsGate n (g.D.Disk.files c.load.new.disk) c.in-Err-BadBatch.number file at) c.in_ok-name.ensures (c.in_ok-file-in-Err-BadBatch.ensures.gate tells) in
+    let found = bad_again IsBadBatch no_bad_entries (manifest_name (c.args.place + 1)) (g.D.Disk.files c.args.disk.now) (g.D.Disk.files c.load.new.disk) _ bad.0 c.in-Err-BadBatch.number file at bad.1 bad.2 (c.load.ensures.reads tells).here gate in
+    manifest_bad (record { rows = rows; rows_said = says; place = c.args.place; within = c.requires.place; lists = lists; earlier = earlier; bad = bad_in IsBadBatch (manifest_name (c.args.place + 1)) (g.D.Disk.files c.args.disk.now) seen file at (λ n own. sym (same n own)) found })
 
-pub returns-in-Err-GranularityDiffers-clause-told : goal.returns-in-Err-GranularityDiffers-clause-told
-returns-in-Err-GranularityDiffers-clause-told g c tells seen rows lists says earlier same =
+pub returns-clause-told : goal.returns-clause-told
+returns-clause-told g c tells seen rows lists says earlier same =
     let d = c.in-Err-GranularityDiffers.ensures.differs tells c.in-Err-GranularityDiffers.kept c.in-Err-GranularityDiffers.asked (ap Err c.in-Err-GranularityDiffers.field-0-is) in
     let here = (here_at c.args.config.now c.args.place (c.args.place + 1 - 1) c.granularity.result c.requires.place (omega arith) c.granularity.ensures.value) in
     record {
@@ -91,12 +93,12 @@ returns-in-Err-GranularityDiffers-clause-told g c tells seen rows lists says ear
       lists = lists;
       earlier = earlier;
       entries = d.2;
-      entries_said = subst (Says (Configured c.in-Err-GranularityDiffers.kept) d.2) same d.3;
+      entries_said = says_stays (Configured c.in-Err-GranularityDiffers.kept) d.2 (manifest_name (c.args.place + 1)) (g.D.Disk.files c.args.disk.now) seen (λ n own. sym (same n own)) d.3;
       other = λ is. d.1 (is ∙ d.0);
     }
 
 pub returns-in-Ok-clause-entries : goal.returns-in-Ok-clause-entries
-returns-in-Ok-clause-entries g c tells = subst (λ (h : Granularity). Lists h c.in-Ok.manifest.entries (g.D.Disk.files c.args.disk.now (manifest_name (c.args.place + 1)))) (sym c.in-Ok.ensures.manifest.1) (c.in-Ok.ensures.entries tells)
+returns-in-Ok-clause-entries g c tells = subst (λ (h : Granularity). Lists h c.in-Ok.manifest.entries (manifest_name (c.args.place + 1)) (g.D.Disk.files c.args.disk.now)) (sym c.in-Ok.ensures.manifest.1) (c.in-Ok.ensures.entries tells)
 
 pub returns-in-Ok-clause-are : goal.returns-in-Ok-clause-are
 returns-in-Ok-clause-are g c = subst (λ (h : Granularity). AreEntries h c.in-Ok.manifest.entries) (sym c.in-Ok.ensures.manifest.1) c.in-Ok.ensures.are
@@ -106,13 +108,13 @@ returns-in-Ok-clause-manifest g c = (c.in-Ok.ensures.manifest.0, c.in-Ok.ensures
 
 pub returns-in-Ok-clause-catalogue : goal.returns-in-Ok-clause-catalogue
 returns-in-Ok-clause-catalogue g c tells catalogue named stored =
-    catalogue_stays (c.args.place + 1) (StillSays (Folds c.granularity.result) (g.D.Disk.files c.args.disk.now (manifest_name (c.args.place + 1)))) catalogue.journal (g.D.Disk.files c.args.disk.now) (g.D.Disk.opened c.args.disk.now) (g.D.Disk.past c.args.disk.now) (g.D.Disk.files c.load.new.disk) (g.D.Disk.opened c.load.new.disk) (g.D.Disk.past c.load.new.disk)
-    catalogue.rows named stored (c.load.ensures.elsewhere tells) (c.load.ensures.any_moment tells) (c.load.ensures.opened tells)
+    catalogue_stays (c.args.place + 1) (StaysOrBegins c.granularity.result (manifest_name (c.args.place + 1))) catalogue.journal (g.D.Disk.files c.args.disk.now) (g.D.Disk.opened c.args.disk.now) (g.D.Disk.past c.args.disk.now) (g.D.Disk.files c.load.new.disk) (g.D.Disk.opened c.load.new.disk) (g.D.Disk.past c.load.new.disk)
+    catalogue.rows named stored (c.load.ensures.reads tells).elsewhere (c.load.ensures.any_moment tells) (c.load.ensures.opened tells)
 
 pub returns-in-Ok-clause-earlier : goal.returns-in-Ok-clause-earlier
 returns-in-Ok-clause-earlier g c tells i m low named kept =
-    manifest_stays (c.args.place + 1) (StillSays (Folds c.granularity.result) (g.D.Disk.files c.args.disk.now (manifest_name (c.args.place + 1)))) (i + 1) m (g.D.Disk.files c.args.disk.now) (g.D.Disk.opened c.args.disk.now) (g.D.Disk.past c.args.disk.now) (g.D.Disk.files c.load.new.disk) (g.D.Disk.opened c.load.new.disk) (g.D.Disk.past c.load.new.disk)
-    named (λ is. absurd (omega (arith, is, low))) kept (c.load.ensures.elsewhere tells) (c.load.ensures.any_moment tells) (c.load.ensures.opened tells)
+    manifest_stays (c.args.place + 1) (StaysOrBegins c.granularity.result (manifest_name (c.args.place + 1))) (i + 1) m (g.D.Disk.files c.args.disk.now) (g.D.Disk.opened c.args.disk.now) (g.D.Disk.past c.args.disk.now) (g.D.Disk.files c.load.new.disk) (g.D.Disk.opened c.load.new.disk) (g.D.Disk.past c.load.new.disk)
+    named (λ is. absurd (omega (arith, is, low))) kept (c.load.ensures.reads tells).elsewhere (c.load.ensures.any_moment tells) (c.load.ensures.opened tells)
 
 pub returns-in-Ok-clause-nested : goal.returns-in-Ok-clause-nested
 returns-in-Ok-clause-nested g c ok i few next = nested_next c.args.config.now i (c.args.place + 1 - 1) c.granularity.result c.granularity.ensures.good c.granularity.ensures.value few (next ∙ omega arith)

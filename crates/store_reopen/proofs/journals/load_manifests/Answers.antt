@@ -1,15 +1,17 @@
-use Rattle.std.proofs.Common.{◌≡◌, ◌≤◌, ◌<◌, ◌+◌, ℕ, List, [], ◌∷◌, length, true, Some, refl, sym, ◌∙◌, ap, subst, arith, length-append}
+use Rattle.std.proofs.Common.{◌≡◌, ◌+◌, [], ◌∷◌, length, true, Some, refl, sym, ◌∙◌, ap, arith, length-append}
 use Rattle.std.specs.Prelude.{slice_get}
 use Rattle.std.proofs.lemmas.Option.{slice_get_within}
 use Rattle.std.proofs.lemmas.Result.{err_from_is_err_and}
 use Rattle.disk_model.proofs.Passing.{passes_none}
 use Rattle.gate_journal.specs.Kept.{Says}
+use Rattle.gate_journal.proofs.Keeping.{says_stays}
 use Rattle.store_manifest.specs.Batches.{Folds}
 use Rattle.store_manifest.specs.Entries.{AreEntries}
-use Rattle.store_manifest.specs.Manifest.{ManifestState, IsKept, manifest_name}
-use Rattle.tier_store.specs.Seen.{AtEach}
+use Rattle.store_manifest.specs.Manifest.{IsKept, manifest_name}
+use Rattle.durable_write.proofs.Three.{manifests_differ}
+use Rattle.store_reopen.specs.Loading.{Manifest}
 use Rattle.store_reopen.specs.Reopen.{stores_of, lists_of}
-use Rattle.store_reopen.proofs.Keeping.{kept_then, kept_same, one_store}
+use Rattle.store_reopen.proofs.Keeping.{kept_then, kept_same}
 use Rattle.store_reopen.proofs.Manifests.{no_manifest, one_more, one_further, said_below}
 use Rattle.store_reopen.proofs.journals.load_manifests.Goals as goal
 
@@ -21,17 +23,20 @@ loop-place-init g c =
       few = omega arith;
       count = ap length none;
       kept = λ tells. no_manifest (λ i m. IsKept m (g.D.Disk.files c.args.disk.now) (g.D.Disk.opened c.args.disk.now) (g.D.Disk.past c.args.disk.now)) ms none;
-      said = λ tells. no_manifest (λ i m. Says (Folds m.granularity) m.entries (g.D.Disk.files c.args.disk.now (manifest_name (i + 1)))) ms none;
+      said = λ tells. no_manifest (λ i m. Says (Folds m.granularity) m.entries (manifest_name (i + 1)) (g.D.Disk.files c.args.disk.now)) ms none;
       names = no_manifest (λ i m. m.journal.name ≡ manifest_name (i + 1)) ms none;
       sound = no_manifest (λ i m. m.journal.sound ≡ true) ms none;
       granularity = no_manifest (λ i m. slice_get (stores_of c.args.config.now) i ≡ Some m.granularity) ms none;
       nested = λ i few low. absurd (omega (arith, low));
       are = no_manifest (λ i m. AreEntries m.granularity m.entries) ms none;
-      rest = λ tells i from low. refl;
+      rest = λ tells i n from low own. refl;
       catalogue = λ tells s named stored. stored;
       keeps = λ tells. kept_same (stores_of c.args.config.now) (g.D.Disk.files c.args.disk.now) (g.D.Disk.opened c.args.disk.now) (g.D.Disk.past c.args.disk.now) (passes_none (λ a b. b ≡ a) (g.D.Disk.past c.args.disk.now) (λ a left. refl));
       faults = omega arith;
     }
+
+pub load_manifest-requires-clause-unopened : goal.load_manifest-requires-clause-unopened
+load_manifest-requires-clause-unopened g c tells = (c.loop-place.invariant.keeps tells).none_opened (Manifest c.loop-place.place) (c.requires.unopened tells c.loop-place.place c.loop-place-test.true)
 
 pub loop-place-preserved : goal.loop-place-preserved
 loop-place-preserved g c =
@@ -48,14 +53,14 @@ loop-place-preserved g c =
       count = ap length is ∙ length-append ms (m ∷ []) ∙ omega (arith, was.count);
       kept = λ tells. one_more (λ i k. IsKept k (g.D.Disk.files disk) (g.D.Disk.opened disk) (g.D.Disk.past disk)) ms made m place is was.count
           (λ i k here. let low = slice_get_within ms i k here in says.earlier tells i k (omega (arith, low, was.count)) (was.names i k here) (was.kept tells i k here)) (says.kept tells);
-      said = λ tells. one_more (λ i k. Says (Folds k.granularity) k.entries (g.D.Disk.files c.args.disk.now (manifest_name (i + 1)))) ms made m place is was.count (was.said tells)
-          (subst (Says (Folds m.granularity) m.entries) (was.rest tells place (omega arith) c.loop-place-test.true) (says.entries tells));
+      said = λ tells. one_more (λ i k. Says (Folds k.granularity) k.entries (manifest_name (i + 1)) (g.D.Disk.files c.args.disk.now)) ms made m place is was.count (was.said tells)
+          (says_stays (Folds m.granularity) m.entries (manifest_name (place + 1)) (g.D.Disk.files c.loop-place.disk) (g.D.Disk.files c.args.disk.now) (λ n own. sym (was.rest tells place n (omega arith) c.loop-place-test.true own)) (says.entries tells));
       names = one_more (λ i k. k.journal.name ≡ manifest_name (i + 1)) ms made m place is was.count was.names says.manifest.0;
       sound = one_more (λ i k. k.journal.sound ≡ true) ms made m place is was.count was.sound says.manifest.1;
       granularity = one_more (λ i k. slice_get (stores_of c.args.config.now) i ≡ Some k.granularity) ms made m place is was.count was.granularity says.manifest.2;
       nested = λ i few low. one_further i place (λ earlier. was.nested i few earlier) (λ last. says.nested refl i few last) low;
       are = one_more (λ i k. AreEntries k.granularity k.entries) ms made m place is was.count was.are says.are;
-      rest = λ tells i from low. says.others tells (manifest_name (i + 1)) (λ same. let store = one_store (i + 1) (place + 1) same in absurd (omega (arith, store, from))) ∙ was.rest tells i (omega (arith, from)) low;
+      rest = λ tells i n from low own. says.others tells n (λ too. manifests_differ (i + 1) (place + 1) (λ same. omega (arith, same, from)) n own too) ∙ was.rest tells i n (omega (arith, from)) low own;
       catalogue = λ tells s named stored. says.catalogue tells s named (was.catalogue tells s named stored);
       keeps = λ tells. kept_then (stores_of c.args.config.now) _ _ _ _ _ _ _ _ _ (was.keeps tells) (says.keeps tells);
       faults = omega (arith, was.faults, says.faults);
@@ -67,7 +72,7 @@ returns-in_err-manifest-clause-told g c tells seen rows says same =
     let ms = c.loop-place.manifests.items in
     let was = c.loop-place.invariant in
     let earlier = said_below (stores_of c.args.config.now) (g.D.Disk.files c.args.disk.now) seen ms c.loop-place.place was.count was.few (was.said tells) was.granularity same in
-    rw (p.1, p.2) (c.in_err-manifest.ensures.told tells seen rows (lists_of ms) says earlier (was.rest tells c.loop-place.place (omega arith) c.loop-place-test.true ∙ same c.loop-place.place c.loop-place-test.true))
+    rw (p.1, p.2) (c.in_err-manifest.ensures.told tells seen rows (lists_of ms) says earlier (λ n own. was.rest tells c.loop-place.place n (omega arith) c.loop-place-test.true own ∙ same c.loop-place.place n c.loop-place-test.true own))
 
 pub returns-in_err-manifest-clause-keeps : goal.returns-in_err-manifest-clause-keeps
 returns-in_err-manifest-clause-keeps g c tells = kept_then (stores_of c.args.config.now) _ _ _ _ _ _ _ _ _ (c.loop-place.invariant.keeps tells) (c.load_manifest.ensures.keeps tells)

@@ -1,5 +1,7 @@
 use Rattle.std.proofs.Common.{◌≡◌, ◌≤◌, ◌<◌, ◌+◌, ℕ, IsTrue, length, true, Some}
 use Rattle.std.specs.Prelude.{slice_get}
+use Rattle.disk_model.specs.Files.{Name}
+use Rattle.gate_journal.specs.Generations.{IsOwn}
 use Rattle.gate_journal.specs.Kept.{Says}
 use Rattle.pv_catalog.specs.Catalogue.{CatalogueState, catalogue_name, IsStored}
 use Rattle.store_manifest.specs.Batches.{Folds}
@@ -16,13 +18,13 @@ invariant-loop-place g l = record {
   few : l.place ≤ 3;
   count : length l.manifests.items ≡ l.place;
   kept : IsTrue g.D.Disk.tells → AtEach l.manifests.items (λ i m. IsKept m (g.D.Disk.files l.disk) (g.D.Disk.opened l.disk) (g.D.Disk.past l.disk));
-  said : IsTrue g.D.Disk.tells → AtEach l.manifests.items (λ i m. Says (Folds m.granularity) m.entries (g.D.Disk.files l.fn.disk (manifest_name (i + 1))));
+  said : IsTrue g.D.Disk.tells → AtEach l.manifests.items (λ i m. Says (Folds m.granularity) m.entries (manifest_name (i + 1)) (g.D.Disk.files l.fn.disk));
   names : AtEach l.manifests.items (λ i m. m.journal.name ≡ manifest_name (i + 1));
   sound : AtEach l.manifests.items (λ i m. m.journal.sound ≡ true);
   granularity : AtEach l.manifests.items (λ i m. slice_get (stores_of l.config) i ≡ Some m.granularity);
   nested : (i : ℕ) → i < 2 → i + 1 < l.place → AreNested i (stores_of l.config);
   are : AtEach l.manifests.items (λ i m. AreEntries m.granularity m.entries);
-  rest : IsTrue g.D.Disk.tells → (i : ℕ) → l.place ≤ i → i < 3 → g.D.Disk.files l.disk (manifest_name (i + 1)) ≡ g.D.Disk.files l.fn.disk (manifest_name (i + 1));
+  rest : IsTrue g.D.Disk.tells → (i : ℕ) (n : Name) → l.place ≤ i → i < 3 → IsOwn (manifest_name (i + 1)) n → g.D.Disk.files l.disk n ≡ g.D.Disk.files l.fn.disk n;
   catalogue : IsTrue g.D.Disk.tells → (s : CatalogueState) → s.journal.name ≡ catalogue_name → IsStored s (g.D.Disk.files l.fn.disk) (g.D.Disk.opened l.fn.disk) (g.D.Disk.past l.fn.disk) → IsStored s (g.D.Disk.files l.disk) (g.D.Disk.opened l.disk) (g.D.Disk.past l.disk);
   keeps : IsTrue g.D.Disk.tells → KeepsSaid (stores_of l.config) (g.D.Disk.files l.fn.disk) (g.D.Disk.opened l.fn.disk) (g.D.Disk.past l.fn.disk) (g.D.Disk.files l.disk) (g.D.Disk.opened l.disk) (g.D.Disk.past l.disk);
   faults : g.D.Disk.faults l.fn.disk ≤ g.D.Disk.faults l.disk;

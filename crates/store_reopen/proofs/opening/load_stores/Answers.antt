@@ -1,15 +1,17 @@
-use Rattle.std.proofs.Common.{◌≡◌, ◌+◌, List, length, Some, refl, sym, ◌∙◌, ap, subst}
+use Rattle.std.proofs.Common.{◌≡◌, ◌+◌, List, length, refl, sym, ◌∙◌, ap, subst}
 use Rattle.std.specs.Prelude.{All, slice_get}
 use Rattle.std.proofs.lemmas.Result.{err_from_is_err_and}
 use Rattle.disk_model.specs.Files.{Files}
 use Rattle.partition_names.specs.declared.granularity.Granularity.{Granularity}
 use Rattle.store_manifest.specs.Batches.{Configured}
-use Rattle.store_manifest.specs.Manifest.{ManifestState, manifest_name}
+use Rattle.store_manifest.specs.Manifest.{ManifestState}
 use Rattle.pv_catalog.specs.declared.row.Row.{Row}
 use Rattle.pv_catalog.specs.Rows.{IsCatalogue}
-use Rattle.store_reopen.specs.Verdict.{HasRow, AreSaid, IsThere}
-use Rattle.store_reopen.proofs.OneJournal.{journals_differ, kept_reads}
+use Rattle.durable_write.proofs.Ending.{other_journal}
+use Rattle.store_reopen.proofs.OneJournal.{kept_reads}
+use Rattle.store_reopen.specs.Loading.{Manifest}
 use Rattle.store_reopen.specs.Reopen.{stores_of, lists_of}
+use Rattle.store_reopen.specs.Verdict.{AreSaid, IsThere, HasRow}
 use Rattle.store_reopen.proofs.Having.{all_there_in, same_granularities}
 use Rattle.store_reopen.proofs.Keeping.{kept_then, kept_reading}
 use Rattle.store_reopen.proofs.Manifests.{are_said}
@@ -23,7 +25,7 @@ pub load_catalogue-requires : goal.load_catalogue-requires
 load_catalogue-requires g c = record { unopened = λ tells. (c.requires.unopened tells).0 }
 
 pub load_manifests-requires : goal.load_manifests-requires
-load_manifests-requires g c = record { unopened = λ tells i low. (c.load_catalogue.ensures.keeps tells (stores_of c.args.config.now)).same_opened (manifest_name (i + 1)) ∙ (c.requires.unopened tells).1 i low }
+load_manifests-requires g c = record { unopened = λ tells i low. (c.load_catalogue.ensures.keeps tells (stores_of c.args.config.now)).none_opened (Manifest i) ((c.requires.unopened tells).1 i low) }
 
 pub check_rows-requires : goal.check_rows-requires
 check_rows-requires g c = record { three = ap length c.deref.ensures.value ∙ c.in_ok-manifests.ensures.three }
@@ -45,7 +47,7 @@ returns-in_err-catalogue-clause-keeps g c tells = c.load_catalogue.ensures.keeps
 pub returns-in_err-manifests-clause-told : goal.returns-in_err-manifests-clause-told
 returns-in_err-manifests-clause-told g c tells =
     let p = err_from_is_err_and c.from_residual-in_err-manifests.result c.from_residual-in_err-manifests.ensures.1 in
-    rw (p.1, p.2) (c.in_err-manifests.ensures.told tells (g.D.Disk.files c.args.disk.now) c.in_ok-catalogue.catalogue.rows (c.in_ok-catalogue.ensures.rows tells) (λ i low. c.load_catalogue.ensures.others tells (manifest_name (i + 1)) (λ is. journals_differ (i + 1) (sym is))))
+    rw (p.1, p.2) (c.in_err-manifests.ensures.told tells (g.D.Disk.files c.args.disk.now) c.in_ok-catalogue.catalogue.rows (c.in_ok-catalogue.ensures.rows tells) (λ i n low own. c.load_catalogue.ensures.others tells n (λ too. other_journal (i + 1) n too own)))
 
 pub returns-in_err-manifests-clause-keeps : goal.returns-in_err-manifests-clause-keeps
 returns-in_err-manifests-clause-keeps g c tells = (kept_then (stores_of c.args.config.now) (g.D.Disk.files c.args.disk.now) (g.D.Disk.opened c.args.disk.now) (g.D.Disk.past c.args.disk.now) (g.D.Disk.files c.load_catalogue.new.disk) (g.D.Disk.opened c.load_catalogue.new.disk) (g.D.Disk.past c.load_catalogue.new.disk) (g.D.Disk.files c.load_manifests.new.disk) (g.D.Disk.opened c.load_manifests.new.disk) (g.D.Disk.past c.load_manifests.new.disk) (c.load_catalogue.ensures.keeps tells (stores_of c.args.config.now)) (c.load_manifests.ensures.keeps tells))
@@ -53,7 +55,7 @@ returns-in_err-manifests-clause-keeps g c tells = (kept_then (stores_of c.args.c
 pub returns-in_err-check_rows-clause-told : goal.returns-in_err-check_rows-clause-told
 returns-in_err-check_rows-clause-told g c tells =
     let p = err_from_is_err_and c.from_residual-in_err-check_rows.result c.from_residual-in_err-check_rows.ensures.1 in
-    rw (p.1, p.2) (c.in_err-check_rows.ensures.told (stores_of c.args.config.now) (g.D.Disk.files c.args.disk.now) refl (said_as (stores_of c.args.config.now) (g.D.Disk.files c.args.disk.now) c.in_ok-catalogue.catalogue.rows c.rows-rows.result.now c.in_ok-manifests.manifests.items c.deref.result.now c.rows-rows.ensures.value c.deref.ensures.value (are_said (stores_of c.args.config.now) (g.D.Disk.files c.load_catalogue.new.disk) (g.D.Disk.files c.args.disk.now) c.in_ok-catalogue.catalogue.rows c.in_ok-manifests.manifests.items refl c.in_ok-manifests.ensures.three (c.in_ok-catalogue.ensures.rows tells) (c.in_ok-manifests.ensures.said tells) c.in_ok-manifests.ensures.granularity (λ i low. c.load_catalogue.ensures.others tells (manifest_name (i + 1)) (λ is. journals_differ (i + 1) (sym is))))))
+    rw (p.1, p.2) (c.in_err-check_rows.ensures.told (stores_of c.args.config.now) (g.D.Disk.files c.args.disk.now) refl (said_as (stores_of c.args.config.now) (g.D.Disk.files c.args.disk.now) c.in_ok-catalogue.catalogue.rows c.rows-rows.result.now c.in_ok-manifests.manifests.items c.deref.result.now c.rows-rows.ensures.value c.deref.ensures.value (are_said (stores_of c.args.config.now) (g.D.Disk.files c.load_catalogue.new.disk) (g.D.Disk.files c.args.disk.now) c.in_ok-catalogue.catalogue.rows c.in_ok-manifests.manifests.items refl c.in_ok-manifests.ensures.three (c.in_ok-catalogue.ensures.rows tells) (c.in_ok-manifests.ensures.said tells) c.in_ok-manifests.ensures.granularity (λ i n low own. c.load_catalogue.ensures.others tells n (λ too. other_journal (i + 1) n too own)))))
 
 pub returns-in_err-check_rows-clause-keeps : goal.returns-in_err-check_rows-clause-keeps
 returns-in_err-check_rows-clause-keeps g c tells = (kept_then (stores_of c.args.config.now) (g.D.Disk.files c.args.disk.now) (g.D.Disk.opened c.args.disk.now) (g.D.Disk.past c.args.disk.now) (g.D.Disk.files c.load_catalogue.new.disk) (g.D.Disk.opened c.load_catalogue.new.disk) (g.D.Disk.past c.load_catalogue.new.disk) (g.D.Disk.files c.load_manifests.new.disk) (g.D.Disk.opened c.load_manifests.new.disk) (g.D.Disk.past c.load_manifests.new.disk) (c.load_catalogue.ensures.keeps tells (stores_of c.args.config.now)) (c.load_manifests.ensures.keeps tells))
@@ -61,7 +63,7 @@ returns-in_err-check_rows-clause-keeps g c tells = (kept_then (stores_of c.args.
 pub returns-in_err-check_files-clause-told : goal.returns-in_err-check_files-clause-told
 returns-in_err-check_files-clause-told g c tells =
     let p = err_from_is_err_and c.from_residual-in_err-check_files.result c.from_residual-in_err-check_files.ensures.1 in
-    rw (p.1, p.2) (c.in_err-check_files.ensures.told tells (stores_of c.args.config.now) (g.D.Disk.files c.args.disk.now) refl (said_as (stores_of c.args.config.now) (g.D.Disk.files c.args.disk.now) c.in_ok-catalogue.catalogue.rows c.rows-rows.result.now c.in_ok-manifests.manifests.items c.deref-2.result.now c.rows-rows.ensures.value c.deref-2.ensures.value (are_said (stores_of c.args.config.now) (g.D.Disk.files c.load_catalogue.new.disk) (g.D.Disk.files c.args.disk.now) c.in_ok-catalogue.catalogue.rows c.in_ok-manifests.manifests.items refl c.in_ok-manifests.ensures.three (c.in_ok-catalogue.ensures.rows tells) (c.in_ok-manifests.ensures.said tells) c.in_ok-manifests.ensures.granularity (λ i low. c.load_catalogue.ensures.others tells (manifest_name (i + 1)) (λ is. journals_differ (i + 1) (sym is))))) (λ n other. (c.load_manifests.ensures.keeps tells).elsewhere n other ∙ (c.load_catalogue.ensures.keeps tells (stores_of c.args.config.now)).elsewhere n other))
+    rw (p.1, p.2) (c.in_err-check_files.ensures.told tells (stores_of c.args.config.now) (g.D.Disk.files c.args.disk.now) refl (said_as (stores_of c.args.config.now) (g.D.Disk.files c.args.disk.now) c.in_ok-catalogue.catalogue.rows c.rows-rows.result.now c.in_ok-manifests.manifests.items c.deref-2.result.now c.rows-rows.ensures.value c.deref-2.ensures.value (are_said (stores_of c.args.config.now) (g.D.Disk.files c.load_catalogue.new.disk) (g.D.Disk.files c.args.disk.now) c.in_ok-catalogue.catalogue.rows c.in_ok-manifests.manifests.items refl c.in_ok-manifests.ensures.three (c.in_ok-catalogue.ensures.rows tells) (c.in_ok-manifests.ensures.said tells) c.in_ok-manifests.ensures.granularity (λ i n low own. c.load_catalogue.ensures.others tells n (λ too. other_journal (i + 1) n too own)))) (λ n other. (c.load_manifests.ensures.keeps tells).elsewhere n other ∙ (c.load_catalogue.ensures.keeps tells (stores_of c.args.config.now)).elsewhere n other))
 
 pub returns-in_err-check_files-clause-keeps : goal.returns-in_err-check_files-clause-keeps
 returns-in_err-check_files-clause-keeps g c tells = (kept_then (stores_of c.args.config.now) (g.D.Disk.files c.args.disk.now) (g.D.Disk.opened c.args.disk.now) (g.D.Disk.past c.args.disk.now) (g.D.Disk.files c.load_manifests.new.disk) (g.D.Disk.opened c.load_manifests.new.disk) (g.D.Disk.past c.load_manifests.new.disk) (g.D.Disk.files c.check_files.new.disk) (g.D.Disk.opened c.check_files.new.disk) (g.D.Disk.past c.check_files.new.disk) (kept_then (stores_of c.args.config.now) (g.D.Disk.files c.args.disk.now) (g.D.Disk.opened c.args.disk.now) (g.D.Disk.past c.args.disk.now) (g.D.Disk.files c.load_catalogue.new.disk) (g.D.Disk.opened c.load_catalogue.new.disk) (g.D.Disk.past c.load_catalogue.new.disk) (g.D.Disk.files c.load_manifests.new.disk) (g.D.Disk.opened c.load_manifests.new.disk) (g.D.Disk.past c.load_manifests.new.disk) (c.load_catalogue.ensures.keeps tells (stores_of c.args.config.now)) (c.load_manifests.ensures.keeps tells)) (kept_reading (stores_of c.args.config.now) (g.D.Disk.files c.load_manifests.new.disk) (g.D.Disk.files c.check_files.new.disk) (g.D.Disk.opened c.load_manifests.new.disk) (g.D.Disk.opened c.check_files.new.disk) (g.D.Disk.past c.load_manifests.new.disk) (g.D.Disk.past c.check_files.new.disk) (c.check_files.ensures.same tells) (c.check_files.ensures.any_moment tells) (c.check_files.ensures.opened tells)))
@@ -75,7 +77,7 @@ pub returns-clause-kept : goal.returns-clause-kept
 returns-clause-kept g c tells i m here = kept_reads (Configured m.granularity) m.journal (g.D.Disk.files c.load_manifests.new.disk) (g.D.Disk.opened c.load_manifests.new.disk) (g.D.Disk.past c.load_manifests.new.disk) (g.D.Disk.files c.check_files.new.disk) (g.D.Disk.opened c.check_files.new.disk) (g.D.Disk.past c.check_files.new.disk) m.entries (c.in_ok-manifests.ensures.kept tells i m here) (c.check_files.ensures.same tells) (c.check_files.ensures.any_moment tells) (c.check_files.ensures.opened tells)
 
 pub returns-clause-said : goal.returns-clause-said
-returns-clause-said g c tells = (are_said (stores_of c.args.config.now) (g.D.Disk.files c.load_catalogue.new.disk) (g.D.Disk.files c.args.disk.now) c.in_ok-catalogue.catalogue.rows c.in_ok-manifests.manifests.items refl c.in_ok-manifests.ensures.three (c.in_ok-catalogue.ensures.rows tells) (c.in_ok-manifests.ensures.said tells) c.in_ok-manifests.ensures.granularity (λ i low. c.load_catalogue.ensures.others tells (manifest_name (i + 1)) (λ is. journals_differ (i + 1) (sym is))))
+returns-clause-said g c tells = (are_said (stores_of c.args.config.now) (g.D.Disk.files c.load_catalogue.new.disk) (g.D.Disk.files c.args.disk.now) c.in_ok-catalogue.catalogue.rows c.in_ok-manifests.manifests.items refl c.in_ok-manifests.ensures.three (c.in_ok-catalogue.ensures.rows tells) (c.in_ok-manifests.ensures.said tells) c.in_ok-manifests.ensures.granularity (λ i n low own. c.load_catalogue.ensures.others tells n (λ too. other_journal (i + 1) n too own)))
 
 pub returns-clause-there : goal.returns-clause-there
 returns-clause-there g c tells i m here =

@@ -1,6 +1,7 @@
-use Rattle.std.proofs.Common.{rules, ◌≡◌, ◌∷◌, [], ◌++◌, refl, subst, arith, map}
+use Rattle.std.proofs.Common.{rules, ◌≡◌, ◌<◌, ◌∷◌, [], ◌++◌, refl, sym, ◌∙◌, subst, arith, length, map}
 use Rattle.std.specs.List.{range_with_len}
-use Rattle.turn_workers.proofs.Leaving.{drawn_none, drawn_more, drawn_stays, drawn_back, nothing_told}
+use Rattle.std.proofs.lemmas.List.{length-map}
+use Rattle.turn_workers.proofs.Leaving.{drawn_none, drawn_more, drawn_stays, drawn_back, nothing_told, numbers_drawn}
 use Rattle.edge_io.proofs.Clocks.{gives_on}
 use Rattle.turn_workers.proofs.Pushing.{gives_none, passes_pushed, places_pushed}
 use Rattle.turn_workers.proofs.drawing.draw_workers.Goals as goal
@@ -26,6 +27,15 @@ returns-in-Err-clause-back g c = λ err.
       drawn_back g.R.Room.steps c.args.rooms.now c.args.pass.now c.draw_one.new.pass c.meet_workers.new.pass _ drawn c.meet_workers.ensures,
       nothing_told g.R.Room.steps c.args.rooms.now c.args.pass.now c.draw_one.new.pass c.meet_workers.new.pass _ drawn c.meet_workers.ensures,
     )
+
+pub returns-in-Err-clause-numbers : goal.returns-in-Err-clause-numbers
+returns-in-Err-clause-numbers g c = λ spent.
+    let all = numbers_drawn g.R.Room.steps c.args.rooms.now c.args.pass.now c.loop-place.pass c.draw_one.new.pass c.meet_workers.new.pass _ c.loop-place.invariant.drawn c.in-Err.ensures.spent.0 c.in-Err.ensures.spent.1 c.in-Err.ensures.numbers c.meet_workers.ensures in
+    let long : length (map (λ w. w.pass) c.loop-place.workers.items) ≡ length c.loop-place.workers.items = length-map c.loop-place.workers.items (λ w. w.pass) in
+    let has : c.loop-place.workers.len ≡ length c.loop-place.workers.items = search rules in
+    let drawn : length c.loop-place.workers.items ≡ c.loop-place.place = sym has ∙ c.loop-place.invariant.count in
+    let low : c.loop-place.place < c.args.count = c.loop-place-test.true in
+    omega arith
 
 pub returns-in-Err-clause-clock : goal.returns-in-Err-clause-clock
 returns-in-Err-clause-clock g c = gives_on _ _ _ [] [] c.loop-place.invariant.clock c.draw_one.ensures.clock

@@ -22,7 +22,7 @@ returns-in_err-begun-clause-cause g c =
     let e = err_from_is_err_and c.from_residual-in_err-begun.result c.from_residual-in_err-begun.ensures.1 in
     let old = g.D.Disk.faults c.args.self.now.store.disk in
     let new = g.D.Disk.faults c.begin_move.new.self.disk in
-    subst (λ (x : Result MoveBegun DiskErr). IfErr x (λ d. (d ≡ Memory) ⊎ Rose old new)) (sym (e.1 ∙ ap (λ (d : DiskErr). Err d) e.2)) (cut_by c.in_err-begun.field-0.0 c.begin_move.result old new c.in_err-begun.was c.begin_move.ensures.settles.reads.cause)
+    subst (λ (x : Result MoveBegun DiskErr). IfErr x (λ d. (d ≡ Memory) ⊎ Rose old new)) (sym (e.1 ∙ ap (λ (d : DiskErr). Err d) e.2)) (cut_by c.in_err-begun.field-0.0 c.begin_move.result old new c.in_err-begun.was c.begin_move.ensures.settles.settles.cause)
 
 pub returns-in_err-m-in-Begun-clause-spent : goal.returns-in_err-m-in-Begun-clause-spent
 returns-in_err-m-in-Begun-clause-spent g c =

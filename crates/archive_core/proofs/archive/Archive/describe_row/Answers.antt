@@ -39,7 +39,7 @@ returns-clause-answers g c =
     details_answer g.row.D-Reader.Denot g.D.Disk.tells g.D.Reader.ReadAt.tells g.D.Reader.ReadAt.bytes g.D.Reader.ReadAt.faults p was.0 was.1 c.args.row c.args.name.now c.requires.named c.details.result new settles shown
 
 pub returns-clause-faults : goal.returns-clause-faults
-returns-clause-faults g c = (c.details.ensures.settles c.args.row c.requires.named).reads.faults
+returns-clause-faults g c = (c.details.ensures.settles c.args.row c.requires.named).settles.faults
 
 pub returns-in_err-tail-clause-reads : goal.returns-in_err-tail-clause-reads
 returns-in_err-tail-clause-reads g c = reads_none g.D.Disk.tells (parts g.D.Disk c.args.self.now) (parts g.D.Disk c.args.self.now) refl
@@ -48,5 +48,7 @@ pub returns-clause-reads : goal.returns-clause-reads
 returns-clause-reads g c =
     let was = c.requires.rests in
     let call = c.details.ensures in
-    let same = (call.settles c.args.row c.requires.named).nothing (rests_has g.D.Disk.tells (parts g.D.Disk c.args.self.now) was.0 was.1).settled in
-    reads_beside g.D.Disk.tells (parts g.D.Disk c.args.self.now) (parts g.D.Disk (record c.args.self.now { store = c.details.new.self })) (end_of_answer c.details.result) (call.settles c.args.row c.requires.named).reads (same.0, same.1) (ap (λ l. l.items) call.limbo)
+    let settled = (rests_has g.D.Disk.tells (parts g.D.Disk c.args.self.now) was.0 was.1).settled in
+    let settles = call.settles c.args.row c.requires.named in
+    let same = settles.nothing settled in
+    reads_beside g.D.Disk.tells (parts g.D.Disk c.args.self.now) (parts g.D.Disk (record c.args.self.now { store = c.details.new.self })) (same.0, same.1) (ap (λ l. l.items) call.limbo) (settles.settles.quiet settled)

@@ -17,10 +17,10 @@ returns-in_err-settle-clause-step g c =
     let old = parts g.D.Disk c.args.self.now in
     let new = parts g.D.Disk c.settle.new.self in
     flush_told g.D.Disk.tells c.args.limit old new (Err c.in_err-settle.field-0.0) c.from_residual.result (sym (p.1 ∙ ap (λ (e : DiskErr). Err e) p.2))
-    (flush_cut g.D.Disk.tells c.args.limit c.requires.limit old new c.settle.result c.in_err-settle.field-0.0 c.in_err-settle.was c.in_err-settle.ensures.still c.settle.ensures.reads)
+    (flush_cut g.D.Disk.tells c.args.limit c.requires.limit old new c.settle.result c.in_err-settle.field-0.0 c.in_err-settle.was c.in_err-settle.ensures.still c.settle.ensures.settles)
 
 pub returns-in_err-settle-clause-crash : goal.returns-in_err-settle-clause-crash
-returns-in_err-settle-clause-crash g c = crash_flush_cut g.D.Disk.tells c.args.limit c.requires.limit (parts g.D.Disk c.args.self.now) (parts g.D.Disk c.settle.new.self) c.settle.ensures.reads.any_moment
+returns-in_err-settle-clause-crash g c = crash_flush_cut g.D.Disk.tells c.args.limit c.requires.limit (parts g.D.Disk c.args.self.now) (parts g.D.Disk c.settle.new.self) c.settle.ensures.settles.any_moment
 
 pub flush_settled-requires-clause-rests : goal.flush_settled-requires-clause-rests
 flush_settled-requires-clause-rests g c =
@@ -29,11 +29,11 @@ flush_settled-requires-clause-rests g c =
     (record then.0 { faults = (parts g.D.Disk c.settle.new.self).at.faults }, then.2)
 
 pub returns-clause-step : goal.returns-clause-step
-returns-clause-step g c = flush_ends g.D.Disk.tells c.args.limit c.requires.limit (parts g.D.Disk c.args.self.now) (parts g.D.Disk c.settle.new.self) c.in_ok-settle.ensures.settled c.settle.ensures.reads.faults (parts g.D.Disk c.flush_settled.new.self) c.flush_settled.result c.flush_settled.ensures.changes
+returns-clause-step g c = flush_ends g.D.Disk.tells c.args.limit c.requires.limit (parts g.D.Disk c.args.self.now) (parts g.D.Disk c.settle.new.self) c.in_ok-settle.ensures.settled c.settle.ensures.settles.faults (parts g.D.Disk c.flush_settled.new.self) c.flush_settled.result c.flush_settled.ensures.changes
     (λ samples is. subst (λ (x : Result ℕ DiskErr). IfOk x (λ n. (m : Machine) → Rests g.D.Disk.tells (parts g.D.Disk c.settle.new.self) m → m.told ≡ true → n ≡ count_in (batch_of c.args.limit c.settle.new.self.intake))) is c.flush_settled.ensures.count)
 
 pub returns-clause-crash : goal.returns-clause-crash
-returns-clause-crash g c = crash_flush g.D.Disk.tells c.args.limit c.requires.limit (parts g.D.Disk c.args.self.now) (parts g.D.Disk c.settle.new.self) c.in_ok-settle.ensures.settled c.settle.ensures.reads.faults (parts g.D.Disk c.flush_settled.new.self) c.flush_settled.result c.settle.ensures.reads.any_moment c.settle.ensures.granularity c.flush_settled.ensures.changes
+returns-clause-crash g c = crash_flush g.D.Disk.tells c.args.limit c.requires.limit (parts g.D.Disk c.args.self.now) (parts g.D.Disk c.settle.new.self) c.in_ok-settle.ensures.settled c.settle.ensures.settles.faults (parts g.D.Disk c.flush_settled.new.self) c.flush_settled.result c.settle.ensures.settles.any_moment c.settle.ensures.granularity c.flush_settled.ensures.changes
 
 pub returns-clause-fronts : goal.returns-clause-fronts
 returns-clause-fronts g c = fronts_on g.D.Disk.tells (files_of (parts g.D.Disk c.args.self.now)) (files_of (parts g.D.Disk c.settle.new.self)) (files_of (parts g.D.Disk c.flush_settled.new.self)) c.settle.ensures.fronts c.flush_settled.ensures.fronts

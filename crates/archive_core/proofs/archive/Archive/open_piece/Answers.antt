@@ -2,10 +2,10 @@ use Rattle.std.proofs.Common.{List, refl, ap, subst}
 use Rattle.std.specs.FinMap.{get}
 use Rattle.pinned_pieces.specs.Pieces.{asked}
 use Rattle.tier_store.specs.Moving.{KeepsBeside}
-use Rattle.tier_store.specs.Opening.{end_of_answer}
 use Rattle.tier_store.specs.Pinned.{beside, seen_all}
 use Rattle.tier_store.specs.declared.limbo.Retired.{Retired}
 use Rattle.tier_store.specs.Seen.{seen}
+use Rattle.tier_store.proofs.Acting.{reads_settle}
 use Rattle.act_model.specs.Step.{refuse_by, change_by}
 use Rattle.act_model.specs.declared.acts.Act.TheVariants.{OpenPiece}
 use Rattle.archive_core.specs.Parts.{parts}
@@ -44,14 +44,14 @@ returns-clause-step g c = λ m s.
     rw (c.opened.ensures, same.2, same.3) ends
 
 pub returns-clause-crash : goal.returns-clause-crash
-returns-clause-crash g c = crash_settling g.D.Disk.tells (refuse_by (OpenPiece c.args.pin c.args.i)) (change_by (OpenPiece c.args.pin c.args.i)) (λ m f. refl) (λ m f. refl) (parts g.D.Disk c.args.self.now) (record (parts g.D.Disk c.args.self.now) { at = seen g.D.Disk c.open_piece.new.self }) c.open_piece.ensures.reads.any_moment
+returns-clause-crash g c = crash_settling g.D.Disk.tells (refuse_by (OpenPiece c.args.pin c.args.i)) (change_by (OpenPiece c.args.pin c.args.i)) (λ m f. refl) (λ m f. refl) (parts g.D.Disk c.args.self.now) (record (parts g.D.Disk c.args.self.now) { at = seen g.D.Disk c.open_piece.new.self }) (reads_settle g.D.Disk.tells _ _ _ c.open_piece.ensures.reads).any_moment
 
 pub returns-clause-reads : goal.returns-clause-reads
 returns-clause-reads g c =
     let call = c.open_piece.ensures in
     let same = call.same in
     let p = (parts g.D.Disk c.args.self.now) in
-    reads_beside g.D.Disk.tells p (parts g.D.Disk (record c.args.self.now { store = c.open_piece.new.self })) (end_of_answer c.open_piece.result) call.reads (same.0, ap (λ l. l.items) same.1) (ap (λ l. l.items) same.3)
+    reads_beside g.D.Disk.tells p (parts g.D.Disk (record c.args.self.now { store = c.open_piece.new.self })) (same.0, ap (λ l. l.items) same.1) (ap (λ l. l.items) same.3) (λ told. (call.reads.files told, call.reads.any_moment told))
 
 pub returns-clause-pins : goal.returns-clause-pins
 returns-clause-pins g c =

@@ -42,7 +42,7 @@ returns-clause-answers g c =
     (λ stand. subst (λ (l : List Retired). PinsStand g.D.Disk.tells (beside new l) c.pin.new.self.pinned) limbo (call.stand stand)) (g.met.D.Disk.seen c.pin.new.self.disk)
 
 pub returns-clause-faults : goal.returns-clause-faults
-returns-clause-faults g c = (c.pin.ensures.settles c.args.row c.requires.named).reads.faults
+returns-clause-faults g c = (c.pin.ensures.settles c.args.row c.requires.named).settles.faults
 
 pub returns-in_err-tail-clause-reads : goal.returns-in_err-tail-clause-reads
 returns-in_err-tail-clause-reads g c = reads_none g.D.Disk.tells (parts g.D.Disk c.args.self.now) (parts g.D.Disk c.args.self.now) refl
@@ -51,8 +51,10 @@ pub returns-clause-reads : goal.returns-clause-reads
 returns-clause-reads g c =
     let was = c.requires.rests in
     let call = c.pin.ensures in
-    let same = (call.settles c.args.row c.requires.named).nothing (rests_has g.D.Disk.tells (parts g.D.Disk c.args.self.now) was.0 was.1).settled in
-    reads_beside g.D.Disk.tells (parts g.D.Disk c.args.self.now) (parts g.D.Disk (record c.args.self.now { store = c.pin.new.self })) (end_of_answer c.pin.result) (call.settles c.args.row c.requires.named).reads (same.0, same.1) (ap (λ l. l.items) call.limbo)
+    let settled = (rests_has g.D.Disk.tells (parts g.D.Disk c.args.self.now) was.0 was.1).settled in
+    let settles = call.settles c.args.row c.requires.named in
+    let same = settles.nothing settled in
+    reads_beside g.D.Disk.tells (parts g.D.Disk c.args.self.now) (parts g.D.Disk (record c.args.self.now { store = c.pin.new.self })) (same.0, same.1) (ap (λ l. l.items) call.limbo) (settles.settles.quiet settled)
 
 pub returns-clause-made : goal.returns-clause-made
 returns-clause-made g c =

@@ -22,18 +22,18 @@ returns-in_err-refuse_taken-clause-crash g c = crash_register_refused g.D.Disk.t
 pub returns-in_err-settle-clause-step : goal.returns-in_err-settle-clause-step
 returns-in_err-settle-clause-step g c =
     let p = err_from_is_err_and c.from_residual-in_err-settle.result c.from_residual-in_err-settle.ensures.1 in
-    subst (λ (x : Result ℕ RegisterErr). RegisterEnds g.D.Disk.tells c.args.name.now c.args.about.now (parts g.D.Disk c.args.self.now) (register_reply x) (parts g.D.Disk c.settle.new.self)) (sym (p.1 ∙ ap (λ (e : RegisterErr). Err e) p.2)) (register_cut g.D.Disk.tells c.args.name.now c.args.about.now (parts g.D.Disk c.args.self.now) (parts g.D.Disk c.settle.new.self) c.settle.result c.in_err-settle.field-0.0 (subst (λ (x : CatalogueState). (e : RegisterErr) → Refuses x.rows c.args.name.now e → ⊥) c.catalogue.ensures c.in_ok-refuse_taken.ensures.free) c.in_err-settle.was c.in_err-settle.ensures.still c.settle.ensures.reads)
+    subst (λ (x : Result ℕ RegisterErr). RegisterEnds g.D.Disk.tells c.args.name.now c.args.about.now (parts g.D.Disk c.args.self.now) (register_reply x) (parts g.D.Disk c.settle.new.self)) (sym (p.1 ∙ ap (λ (e : RegisterErr). Err e) p.2)) (register_cut g.D.Disk.tells c.args.name.now c.args.about.now (parts g.D.Disk c.args.self.now) (parts g.D.Disk c.settle.new.self) c.settle.result c.in_err-settle.field-0.0 (subst (λ (x : CatalogueState). (e : RegisterErr) → Refuses x.rows c.args.name.now e → ⊥) c.catalogue.ensures c.in_ok-refuse_taken.ensures.free) c.in_err-settle.was c.in_err-settle.ensures.still c.settle.ensures.settles)
 
 pub returns-in_err-settle-clause-crash : goal.returns-in_err-settle-clause-crash
-returns-in_err-settle-clause-crash g c = crash_register_cut g.D.Disk.tells c.args.name.now c.args.about.now (parts g.D.Disk c.args.self.now) (parts g.D.Disk c.settle.new.self) c.settle.ensures.reads.any_moment
+returns-in_err-settle-clause-crash g c = crash_register_cut g.D.Disk.tells c.args.name.now c.args.about.now (parts g.D.Disk c.args.self.now) (parts g.D.Disk c.settle.new.self) c.settle.ensures.settles.any_moment
 
 pub returns-in_err-refuse_taken-2-clause-step : goal.returns-in_err-refuse_taken-2-clause-step
 returns-in_err-refuse_taken-2-clause-step g c =
     let p = err_from_is_err_and c.from_residual-in_err-refuse_taken-2.result c.from_residual-in_err-refuse_taken-2.ensures.1 in
-    subst (λ (x : Result ℕ RegisterErr). RegisterEnds g.D.Disk.tells c.args.name.now c.args.about.now (parts g.D.Disk c.args.self.now) (register_reply x) (parts g.D.Disk c.settle.new.self)) (sym (p.1 ∙ ap (λ (e : RegisterErr). Err e) p.2)) (register_refused_then g.D.Disk.tells c.args.name.now c.args.about.now (parts g.D.Disk c.args.self.now) (parts g.D.Disk c.settle.new.self) (subst (λ (x : CatalogueState). (e : RegisterErr) → Refuses x.rows c.args.name.now e → ⊥) c.catalogue.ensures c.in_ok-refuse_taken.ensures.free) c.in_ok-settle.ensures.settled c.settle.ensures.reads.faults c.in_err-refuse_taken-2.field-0.0 (subst (λ (x : CatalogueState). Refuses x.rows c.args.name.now c.in_err-refuse_taken-2.field-0.0) c.catalogue-2.ensures c.in_err-refuse_taken-2.ensures.refuses))
+    subst (λ (x : Result ℕ RegisterErr). RegisterEnds g.D.Disk.tells c.args.name.now c.args.about.now (parts g.D.Disk c.args.self.now) (register_reply x) (parts g.D.Disk c.settle.new.self)) (sym (p.1 ∙ ap (λ (e : RegisterErr). Err e) p.2)) (register_refused_then g.D.Disk.tells c.args.name.now c.args.about.now (parts g.D.Disk c.args.self.now) (parts g.D.Disk c.settle.new.self) (subst (λ (x : CatalogueState). (e : RegisterErr) → Refuses x.rows c.args.name.now e → ⊥) c.catalogue.ensures c.in_ok-refuse_taken.ensures.free) c.in_ok-settle.ensures.settled c.settle.ensures.settles.faults c.in_err-refuse_taken-2.field-0.0 (subst (λ (x : CatalogueState). Refuses x.rows c.args.name.now c.in_err-refuse_taken-2.field-0.0) c.catalogue-2.ensures c.in_err-refuse_taken-2.ensures.refuses))
 
 pub returns-in_err-refuse_taken-2-clause-crash : goal.returns-in_err-refuse_taken-2-clause-crash
-returns-in_err-refuse_taken-2-clause-crash g c = crash_register_cut g.D.Disk.tells c.args.name.now c.args.about.now (parts g.D.Disk c.args.self.now) (parts g.D.Disk c.settle.new.self) c.settle.ensures.reads.any_moment
+returns-in_err-refuse_taken-2-clause-crash g c = crash_register_cut g.D.Disk.tells c.args.name.now c.args.about.now (parts g.D.Disk c.args.self.now) (parts g.D.Disk c.settle.new.self) c.settle.ensures.settles.any_moment
 
 pub add_row-requires-clause-rests : goal.add_row-requires-clause-rests
 add_row-requires-clause-rests g c =
@@ -47,21 +47,21 @@ add_row-requires-clause-free g c = subst (λ (x : CatalogueState). (e : Register
 pub returns-in_err-add_row-clause-step : goal.returns-in_err-add_row-clause-step
 returns-in_err-add_row-clause-step g c =
     let p = err_from_is_err_and c.from_residual-in_err-add_row.result c.from_residual-in_err-add_row.ensures.1 in
-    subst (λ (x : Result ℕ RegisterErr). RegisterEnds g.D.Disk.tells c.args.name.now c.args.about.now (parts g.D.Disk c.args.self.now) (register_reply x) (parts g.D.Disk c.add_row.new.self)) (sym (p.1 ∙ ap (λ (e : RegisterErr). Err e) p.2)) (register_failed g.D.Disk.tells c.args.name.now c.args.about.now (parts g.D.Disk c.args.self.now) (parts g.D.Disk c.settle.new.self) (subst (λ (x : CatalogueState). (e : RegisterErr) → Refuses x.rows c.args.name.now e → ⊥) c.catalogue.ensures c.in_ok-refuse_taken.ensures.free) c.in_ok-settle.ensures.settled c.settle.ensures.reads.faults (subst (λ (x : CatalogueState). (e : RegisterErr) → Refuses x.rows c.args.name.now e → ⊥) c.catalogue-2.ensures c.in_ok-refuse_taken-2.ensures.free) (parts g.D.Disk c.add_row.new.self) c.in_err-add_row.field-0.0
+    subst (λ (x : Result ℕ RegisterErr). RegisterEnds g.D.Disk.tells c.args.name.now c.args.about.now (parts g.D.Disk c.args.self.now) (register_reply x) (parts g.D.Disk c.add_row.new.self)) (sym (p.1 ∙ ap (λ (e : RegisterErr). Err e) p.2)) (register_failed g.D.Disk.tells c.args.name.now c.args.about.now (parts g.D.Disk c.args.self.now) (parts g.D.Disk c.settle.new.self) (subst (λ (x : CatalogueState). (e : RegisterErr) → Refuses x.rows c.args.name.now e → ⊥) c.catalogue.ensures c.in_ok-refuse_taken.ensures.free) c.in_ok-settle.ensures.settled c.settle.ensures.settles.faults (subst (λ (x : CatalogueState). (e : RegisterErr) → Refuses x.rows c.args.name.now e → ⊥) c.catalogue-2.ensures c.in_ok-refuse_taken-2.ensures.free) (parts g.D.Disk c.add_row.new.self) c.in_err-add_row.field-0.0
     (λ m r. subst (λ (x : Result ℕ DiskErr). ChangesTo g.D.Disk.tells (AddsRow c.args.name.now c.args.about.now) (parts g.D.Disk c.settle.new.self) m (parts g.D.Disk c.add_row.new.self) x) c.in_err-add_row.was (c.add_row.ensures.changes m r)))
 
 pub returns-in_err-add_row-clause-crash : goal.returns-in_err-add_row-clause-crash
 returns-in_err-add_row-clause-crash g c =
-    crash_register g.D.Disk.tells c.args.name.now c.args.about.now (parts g.D.Disk c.args.self.now) (parts g.D.Disk c.settle.new.self) (subst (λ (x : CatalogueState). (e : RegisterErr) → Refuses x.rows c.args.name.now e → ⊥) c.catalogue.ensures c.in_ok-refuse_taken.ensures.free) c.in_ok-settle.ensures.settled c.settle.ensures.reads.faults (subst (λ (x : CatalogueState). (e : RegisterErr) → Refuses x.rows c.args.name.now e → ⊥) c.catalogue-2.ensures c.in_ok-refuse_taken-2.ensures.free) (parts g.D.Disk c.add_row.new.self) c.add_row.result c.settle.ensures.reads.any_moment c.settle.ensures.granularity c.add_row.ensures.changes
+    crash_register g.D.Disk.tells c.args.name.now c.args.about.now (parts g.D.Disk c.args.self.now) (parts g.D.Disk c.settle.new.self) (subst (λ (x : CatalogueState). (e : RegisterErr) → Refuses x.rows c.args.name.now e → ⊥) c.catalogue.ensures c.in_ok-refuse_taken.ensures.free) c.in_ok-settle.ensures.settled c.settle.ensures.settles.faults (subst (λ (x : CatalogueState). (e : RegisterErr) → Refuses x.rows c.args.name.now e → ⊥) c.catalogue-2.ensures c.in_ok-refuse_taken-2.ensures.free) (parts g.D.Disk c.add_row.new.self) c.add_row.result c.settle.ensures.settles.any_moment c.settle.ensures.granularity c.add_row.ensures.changes
 
 pub returns-clause-step : goal.returns-clause-step
 returns-clause-step g c =
-    register_done g.D.Disk.tells c.args.name.now c.args.about.now (parts g.D.Disk c.args.self.now) (parts g.D.Disk c.settle.new.self) (subst (λ (x : CatalogueState). (e : RegisterErr) → Refuses x.rows c.args.name.now e → ⊥) c.catalogue.ensures c.in_ok-refuse_taken.ensures.free) c.in_ok-settle.ensures.settled c.settle.ensures.reads.faults (subst (λ (x : CatalogueState). (e : RegisterErr) → Refuses x.rows c.args.name.now e → ⊥) c.catalogue-2.ensures c.in_ok-refuse_taken-2.ensures.free) (parts g.D.Disk c.add_row.new.self) c.in_ok-add_row.field-0 c.in_ok-add_row.ensures.number
+    register_done g.D.Disk.tells c.args.name.now c.args.about.now (parts g.D.Disk c.args.self.now) (parts g.D.Disk c.settle.new.self) (subst (λ (x : CatalogueState). (e : RegisterErr) → Refuses x.rows c.args.name.now e → ⊥) c.catalogue.ensures c.in_ok-refuse_taken.ensures.free) c.in_ok-settle.ensures.settled c.settle.ensures.settles.faults (subst (λ (x : CatalogueState). (e : RegisterErr) → Refuses x.rows c.args.name.now e → ⊥) c.catalogue-2.ensures c.in_ok-refuse_taken-2.ensures.free) (parts g.D.Disk c.add_row.new.self) c.in_ok-add_row.field-0 c.in_ok-add_row.ensures.number
     (λ m r. subst (λ (x : Result ℕ DiskErr). ChangesTo g.D.Disk.tells (AddsRow c.args.name.now c.args.about.now) (parts g.D.Disk c.settle.new.self) m (parts g.D.Disk c.add_row.new.self) x) c.in_ok-add_row.was (c.add_row.ensures.changes m r))
 
 pub returns-clause-crash : goal.returns-clause-crash
 returns-clause-crash g c =
-    crash_register g.D.Disk.tells c.args.name.now c.args.about.now (parts g.D.Disk c.args.self.now) (parts g.D.Disk c.settle.new.self) (subst (λ (x : CatalogueState). (e : RegisterErr) → Refuses x.rows c.args.name.now e → ⊥) c.catalogue.ensures c.in_ok-refuse_taken.ensures.free) c.in_ok-settle.ensures.settled c.settle.ensures.reads.faults (subst (λ (x : CatalogueState). (e : RegisterErr) → Refuses x.rows c.args.name.now e → ⊥) c.catalogue-2.ensures c.in_ok-refuse_taken-2.ensures.free) (parts g.D.Disk c.add_row.new.self) c.add_row.result c.settle.ensures.reads.any_moment c.settle.ensures.granularity c.add_row.ensures.changes
+    crash_register g.D.Disk.tells c.args.name.now c.args.about.now (parts g.D.Disk c.args.self.now) (parts g.D.Disk c.settle.new.self) (subst (λ (x : CatalogueState). (e : RegisterErr) → Refuses x.rows c.args.name.now e → ⊥) c.catalogue.ensures c.in_ok-refuse_taken.ensures.free) c.in_ok-settle.ensures.settled c.settle.ensures.settles.faults (subst (λ (x : CatalogueState). (e : RegisterErr) → Refuses x.rows c.args.name.now e → ⊥) c.catalogue-2.ensures c.in_ok-refuse_taken-2.ensures.free) (parts g.D.Disk c.add_row.new.self) c.add_row.result c.settle.ensures.settles.any_moment c.settle.ensures.granularity c.add_row.ensures.changes
 
 pub returns-in_err-refuse_taken-clause-fronts : goal.returns-in_err-refuse_taken-clause-fronts
 returns-in_err-refuse_taken-clause-fronts g c = nothing_fronts g.D.Disk.tells (files_of (parts g.D.Disk c.args.self.now))

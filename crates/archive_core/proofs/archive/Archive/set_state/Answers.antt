@@ -27,10 +27,10 @@ returns-in_err-settle-clause-step g c =
     let p = err_from_is_err_and c.from_residual-in_err-settle.result c.from_residual-in_err-settle.ensures.1 in
     let can = subst (λ (x : CatalogueState). IsFound x.rows c.args.name.now (Some c.in_ok-row_to_switch.field-0) × HasState x.rows c.in_ok-row_to_switch.field-0 (from_of c.args.switch)) c.catalogue.ensures c.in_ok-row_to_switch.ensures.found in
     subst (λ (x : Result (Unit {0}) Unset). SetEnds g.D.Disk.tells c.args.switch c.args.name.now (parts g.D.Disk c.args.self.now) (switch_reply c.args.switch x) (parts g.D.Disk c.settle.new.self)) (sym (p.1 ∙ ap (λ (e : Unset). Err e) p.2))
-    (set_cut g.D.Disk.tells c.args.switch c.args.name.now (parts g.D.Disk c.args.self.now) (parts g.D.Disk c.settle.new.self) c.in_ok-row_to_switch.field-0 c.settle.result c.in_err-settle.field-0.0 can c.in_err-settle.was c.in_err-settle.ensures.still c.settle.ensures.reads)
+    (set_cut g.D.Disk.tells c.args.switch c.args.name.now (parts g.D.Disk c.args.self.now) (parts g.D.Disk c.settle.new.self) c.in_ok-row_to_switch.field-0 c.settle.result c.in_err-settle.field-0.0 can c.in_err-settle.was c.in_err-settle.ensures.still c.settle.ensures.settles)
 
 pub returns-in_err-settle-clause-crash : goal.returns-in_err-settle-clause-crash
-returns-in_err-settle-clause-crash g c = crash_cut g.D.Disk.tells c.args.switch c.args.name.now (parts g.D.Disk c.args.self.now) (parts g.D.Disk c.settle.new.self) c.settle.ensures.reads.any_moment
+returns-in_err-settle-clause-crash g c = crash_cut g.D.Disk.tells c.args.switch c.args.name.now (parts g.D.Disk c.args.self.now) (parts g.D.Disk c.settle.new.self) c.settle.ensures.settles.any_moment
 
 pub returns-in_err-row-clause-step : goal.returns-in_err-row-clause-step
 returns-in_err-row-clause-step g c =
@@ -38,10 +38,10 @@ returns-in_err-row-clause-step g c =
     let can = subst (λ (x : CatalogueState). IsFound x.rows c.args.name.now (Some c.in_ok-row_to_switch.field-0) × HasState x.rows c.in_ok-row_to_switch.field-0 (from_of c.args.switch)) c.catalogue.ensures c.in_ok-row_to_switch.ensures.found in
     let is = subst (λ (x : CatalogueState). IsUnset x.rows c.args.name.now c.args.switch c.in_err-row.field-0.0) c.catalogue-2.ensures c.in_err-row.ensures.refused in
     subst (λ (x : Result (Unit {0}) Unset). SetEnds g.D.Disk.tells c.args.switch c.args.name.now (parts g.D.Disk c.args.self.now) (switch_reply c.args.switch x) (parts g.D.Disk c.settle.new.self)) (sym (p.1 ∙ ap (λ (e : Unset). Err e) p.2))
-    (set_refused_then g.D.Disk.tells c.args.switch c.args.name.now (parts g.D.Disk c.args.self.now) (parts g.D.Disk c.settle.new.self) c.in_ok-row_to_switch.field-0 can c.in_ok-settle.ensures.settled c.settle.ensures.reads.faults c.in_err-row.field-0.0 is)
+    (set_refused_then g.D.Disk.tells c.args.switch c.args.name.now (parts g.D.Disk c.args.self.now) (parts g.D.Disk c.settle.new.self) c.in_ok-row_to_switch.field-0 can c.in_ok-settle.ensures.settled c.settle.ensures.settles.faults c.in_err-row.field-0.0 is)
 
 pub returns-in_err-row-clause-crash : goal.returns-in_err-row-clause-crash
-returns-in_err-row-clause-crash g c = crash_cut g.D.Disk.tells c.args.switch c.args.name.now (parts g.D.Disk c.args.self.now) (parts g.D.Disk c.settle.new.self) c.settle.ensures.reads.any_moment
+returns-in_err-row-clause-crash g c = crash_cut g.D.Disk.tells c.args.switch c.args.name.now (parts g.D.Disk c.args.self.now) (parts g.D.Disk c.settle.new.self) c.settle.ensures.settles.any_moment
 
 pub switch-requires-clause-rests : goal.switch-requires-clause-rests
 switch-requires-clause-rests g c =
@@ -55,27 +55,27 @@ returns-in_err-switch-clause-step g c =
     let can = subst (λ (x : CatalogueState). IsFound x.rows c.args.name.now (Some c.in_ok-row_to_switch.field-0) × HasState x.rows c.in_ok-row_to_switch.field-0 (from_of c.args.switch)) c.catalogue.ensures c.in_ok-row_to_switch.ensures.found in
     let can_then = subst (λ (x : CatalogueState). IsFound x.rows c.args.name.now (Some c.in_ok-row.row) × HasState x.rows c.in_ok-row.row (from_of c.args.switch)) c.catalogue-2.ensures c.in_ok-row.ensures.found in
     subst (λ (x : Result (Unit {0}) Unset). SetEnds g.D.Disk.tells c.args.switch c.args.name.now (parts g.D.Disk c.args.self.now) (switch_reply c.args.switch x) (parts g.D.Disk c.switch.new.self)) (sym (p.1 ∙ ap (λ (e : Unset). Err e) p.2))
-    (set_failed g.D.Disk.tells c.args.switch c.args.name.now (parts g.D.Disk c.args.self.now) (parts g.D.Disk c.settle.new.self) c.in_ok-row_to_switch.field-0 can c.in_ok-settle.ensures.settled c.settle.ensures.reads.faults c.in_ok-row.row can_then (parts g.D.Disk c.switch.new.self) c.in_err-switch.field-0.0
+    (set_failed g.D.Disk.tells c.args.switch c.args.name.now (parts g.D.Disk c.args.self.now) (parts g.D.Disk c.settle.new.self) c.in_ok-row_to_switch.field-0 can c.in_ok-settle.ensures.settled c.settle.ensures.settles.faults c.in_ok-row.row can_then (parts g.D.Disk c.switch.new.self) c.in_err-switch.field-0.0
     (λ m r. subst (λ (x : Result (Unit {0}) DiskErr). ChangesTo g.D.Disk.tells (SetsState c.in_ok-row.row (to_of c.args.switch)) (parts g.D.Disk c.settle.new.self) m (parts g.D.Disk c.switch.new.self) x) c.in_err-switch.was (c.switch.ensures.changes m r)))
 
 pub returns-in_err-switch-clause-crash : goal.returns-in_err-switch-clause-crash
 returns-in_err-switch-clause-crash g c =
     let can = subst (λ (x : CatalogueState). IsFound x.rows c.args.name.now (Some c.in_ok-row_to_switch.field-0) × HasState x.rows c.in_ok-row_to_switch.field-0 (from_of c.args.switch)) c.catalogue.ensures c.in_ok-row_to_switch.ensures.found in
     let can_then = subst (λ (x : CatalogueState). IsFound x.rows c.args.name.now (Some c.in_ok-row.row) × HasState x.rows c.in_ok-row.row (from_of c.args.switch)) c.catalogue-2.ensures c.in_ok-row.ensures.found in
-    crash_set g.D.Disk.tells c.args.switch c.args.name.now (parts g.D.Disk c.args.self.now) (parts g.D.Disk c.settle.new.self) c.in_ok-row_to_switch.field-0 can c.in_ok-settle.ensures.settled c.settle.ensures.reads.faults c.in_ok-row.row can_then (parts g.D.Disk c.switch.new.self) c.switch.result c.settle.ensures.reads.any_moment c.settle.ensures.granularity c.switch.ensures.changes
+    crash_set g.D.Disk.tells c.args.switch c.args.name.now (parts g.D.Disk c.args.self.now) (parts g.D.Disk c.settle.new.self) c.in_ok-row_to_switch.field-0 can c.in_ok-settle.ensures.settled c.settle.ensures.settles.faults c.in_ok-row.row can_then (parts g.D.Disk c.switch.new.self) c.switch.result c.settle.ensures.settles.any_moment c.settle.ensures.granularity c.switch.ensures.changes
 
 pub returns-clause-step : goal.returns-clause-step
 returns-clause-step g c =
     let can = subst (λ (x : CatalogueState). IsFound x.rows c.args.name.now (Some c.in_ok-row_to_switch.field-0) × HasState x.rows c.in_ok-row_to_switch.field-0 (from_of c.args.switch)) c.catalogue.ensures c.in_ok-row_to_switch.ensures.found in
     let can_then = subst (λ (x : CatalogueState). IsFound x.rows c.args.name.now (Some c.in_ok-row.row) × HasState x.rows c.in_ok-row.row (from_of c.args.switch)) c.catalogue-2.ensures c.in_ok-row.ensures.found in
-    set_done g.D.Disk.tells c.args.switch c.args.name.now (parts g.D.Disk c.args.self.now) (parts g.D.Disk c.settle.new.self) c.in_ok-row_to_switch.field-0 can c.in_ok-settle.ensures.settled c.settle.ensures.reads.faults c.in_ok-row.row can_then (parts g.D.Disk c.switch.new.self) tt
+    set_done g.D.Disk.tells c.args.switch c.args.name.now (parts g.D.Disk c.args.self.now) (parts g.D.Disk c.settle.new.self) c.in_ok-row_to_switch.field-0 can c.in_ok-settle.ensures.settled c.settle.ensures.settles.faults c.in_ok-row.row can_then (parts g.D.Disk c.switch.new.self) tt
     (λ m r. subst (λ (x : Result (Unit {0}) DiskErr). ChangesTo g.D.Disk.tells (SetsState c.in_ok-row.row (to_of c.args.switch)) (parts g.D.Disk c.settle.new.self) m (parts g.D.Disk c.switch.new.self) x) c.in_ok-switch.was (c.switch.ensures.changes m r))
 
 pub returns-clause-crash : goal.returns-clause-crash
 returns-clause-crash g c =
     let can = subst (λ (x : CatalogueState). IsFound x.rows c.args.name.now (Some c.in_ok-row_to_switch.field-0) × HasState x.rows c.in_ok-row_to_switch.field-0 (from_of c.args.switch)) c.catalogue.ensures c.in_ok-row_to_switch.ensures.found in
     let can_then = subst (λ (x : CatalogueState). IsFound x.rows c.args.name.now (Some c.in_ok-row.row) × HasState x.rows c.in_ok-row.row (from_of c.args.switch)) c.catalogue-2.ensures c.in_ok-row.ensures.found in
-    crash_set g.D.Disk.tells c.args.switch c.args.name.now (parts g.D.Disk c.args.self.now) (parts g.D.Disk c.settle.new.self) c.in_ok-row_to_switch.field-0 can c.in_ok-settle.ensures.settled c.settle.ensures.reads.faults c.in_ok-row.row can_then (parts g.D.Disk c.switch.new.self) c.switch.result c.settle.ensures.reads.any_moment c.settle.ensures.granularity c.switch.ensures.changes
+    crash_set g.D.Disk.tells c.args.switch c.args.name.now (parts g.D.Disk c.args.self.now) (parts g.D.Disk c.settle.new.self) c.in_ok-row_to_switch.field-0 can c.in_ok-settle.ensures.settled c.settle.ensures.settles.faults c.in_ok-row.row can_then (parts g.D.Disk c.switch.new.self) c.switch.result c.settle.ensures.settles.any_moment c.settle.ensures.granularity c.switch.ensures.changes
 
 pub returns-in_err-row_to_switch-clause-fronts : goal.returns-in_err-row_to_switch-clause-fronts
 returns-in_err-row_to_switch-clause-fronts g c = nothing_fronts g.D.Disk.tells (files_of (parts g.D.Disk c.args.self.now))

@@ -20,28 +20,28 @@ returns-then-not-runs-clause-moves g c = λ name place told. absurd (cc (told))
 pub returns-in-Err-Fault-clause-step : goal.returns-in-Err-Fault-clause-step
 returns-in-Err-Fault-clause-step g c =
     cut_by_fault g.D.Disk.tells c.args.number (parts g.D.Disk c.args.self.now) (sym c.runs.ensures ∙ c.if-not-runs.false) (parts g.D.Disk c.settle.new.self) c.take.new.self.slots.items c.in-Err-Fault.ensures.still c.take.ensures.others
-    (c.settle.ensures.reads.cause (subst (λ r. IsFailed (end_of_disk r)) (sym (c.in-Err-Fault.is ∙ ap (λ (d : DiskErr). Err d) c.in-Err-Fault.field-0-is)) tt))
+    (c.settle.ensures.settles.cause (subst (λ r. IsFailed (end_of_disk r)) (sym (c.in-Err-Fault.is ∙ ap (λ (d : DiskErr). Err d) c.in-Err-Fault.field-0-is)) tt))
 
 pub returns-in-Err-Fault-clause-crash : goal.returns-in-Err-Fault-clause-crash
-returns-in-Err-Fault-clause-crash g c = crash_cut g.D.Disk.tells c.args.number (parts g.D.Disk c.args.self.now) (sym c.runs.ensures ∙ c.if-not-runs.false) (parts g.D.Disk c.settle.new.self) c.settle.ensures.reads.any_moment
+returns-in-Err-Fault-clause-crash g c = crash_cut g.D.Disk.tells c.args.number (parts g.D.Disk c.args.self.now) (sym c.runs.ensures ∙ c.if-not-runs.false) (parts g.D.Disk c.settle.new.self) c.settle.ensures.settles.any_moment
 
 pub returns-in-Err-Fault-clause-moves : goal.returns-in-Err-Fault-clause-moves
 returns-in-Err-Fault-clause-moves g c = λ name place told. absurd (cc (told))
 
 pub returns-in-Err-Memory-clause-step : goal.returns-in-Err-Memory-clause-step
-returns-in-Err-Memory-clause-step g c = cut_by_memory g.D.Disk.tells c.args.number (parts g.D.Disk c.args.self.now) (sym c.runs.ensures ∙ c.if-not-runs.false) (parts g.D.Disk c.settle.new.self) c.in-Err-Memory.ensures.still c.settle.ensures.reads.faults
+returns-in-Err-Memory-clause-step g c = cut_by_memory g.D.Disk.tells c.args.number (parts g.D.Disk c.args.self.now) (sym c.runs.ensures ∙ c.if-not-runs.false) (parts g.D.Disk c.settle.new.self) c.in-Err-Memory.ensures.still c.settle.ensures.settles.faults
 
 pub returns-in-Err-Memory-clause-crash : goal.returns-in-Err-Memory-clause-crash
-returns-in-Err-Memory-clause-crash g c = crash_cut g.D.Disk.tells c.args.number (parts g.D.Disk c.args.self.now) (sym c.runs.ensures ∙ c.if-not-runs.false) (parts g.D.Disk c.settle.new.self) c.settle.ensures.reads.any_moment
+returns-in-Err-Memory-clause-crash g c = crash_cut g.D.Disk.tells c.args.number (parts g.D.Disk c.args.self.now) (sym c.runs.ensures ∙ c.if-not-runs.false) (parts g.D.Disk c.settle.new.self) c.settle.ensures.settles.any_moment
 
 pub returns-in-Err-Memory-clause-moves : goal.returns-in-Err-Memory-clause-moves
 returns-in-Err-Memory-clause-moves g c = λ name place told. absurd (cc (told))
 
 pub returns-in_default-clause-step : goal.returns-in_default-clause-step
-returns-in_default-clause-step g c = gone_then g.D.Disk.tells c.args.number (parts g.D.Disk c.args.self.now) (sym c.runs.ensures ∙ c.if-not-runs.false) (parts g.D.Disk c.settle.new.self) c.in-Ok.ensures.settled c.settle.ensures.reads.faults c.take-2.new.self.slots.items c.take-2.ensures.others (sym c.take-2.ensures.taken ∙ c.in_default.is)
+returns-in_default-clause-step g c = gone_then g.D.Disk.tells c.args.number (parts g.D.Disk c.args.self.now) (sym c.runs.ensures ∙ c.if-not-runs.false) (parts g.D.Disk c.settle.new.self) c.in-Ok.ensures.settled c.settle.ensures.settles.faults c.take-2.new.self.slots.items c.take-2.ensures.others (sym c.take-2.ensures.taken ∙ c.in_default.is)
 
 pub returns-in_default-clause-crash : goal.returns-in_default-clause-crash
-returns-in_default-clause-crash g c = crash_cut g.D.Disk.tells c.args.number (parts g.D.Disk c.args.self.now) (sym c.runs.ensures ∙ c.if-not-runs.false) (parts g.D.Disk c.settle.new.self) c.settle.ensures.reads.any_moment
+returns-in_default-clause-crash g c = crash_cut g.D.Disk.tells c.args.number (parts g.D.Disk c.args.self.now) (sym c.runs.ensures ∙ c.if-not-runs.false) (parts g.D.Disk c.settle.new.self) c.settle.ensures.settles.any_moment
 
 pub returns-in_default-clause-moves : goal.returns-in_default-clause-moves
 returns-in_default-clause-moves g c = λ name place told. absurd (cc (told))
@@ -55,18 +55,18 @@ go_on-requires g c =
 pub returns-clause-step : goal.returns-clause-step
 returns-clause-step g c =
     let takes : TakesMove c.args.number c.in-Some.running c.settle.new.self.moves.slots.items c.take-2.new.self.slots.items = record { ran = sym c.take-2.ensures.taken ∙ c.in-Some.is; others = c.take-2.ensures.others } in
-    went g.D.Disk.tells c.args.number (parts g.D.Disk c.args.self.now) (sym c.runs.ensures ∙ c.if-not-runs.false) (parts g.D.Disk c.settle.new.self) c.in-Ok.ensures.settled c.settle.ensures.reads.faults c.in-Some.running takes.ran (parts g.D.Disk c.go_on.new.self) (stepped_reply c.go_on.result)
+    went g.D.Disk.tells c.args.number (parts g.D.Disk c.args.self.now) (sym c.runs.ensures ∙ c.if-not-runs.false) (parts g.D.Disk c.settle.new.self) c.in-Ok.ensures.settled c.settle.ensures.settles.faults c.in-Some.running takes.ran (parts g.D.Disk c.go_on.new.self) (stepped_reply c.go_on.result)
     (λ m r. c.go_on.ensures.on c.settle.new.self.moves.slots.items m takes r)
 
 pub returns-clause-crash : goal.returns-clause-crash
 returns-clause-crash g c =
     let takes : TakesMove c.args.number c.in-Some.running c.settle.new.self.moves.slots.items c.take-2.new.self.slots.items = record { ran = sym c.take-2.ensures.taken ∙ c.in-Some.is; others = c.take-2.ensures.others } in
-    crash_went g.D.Disk.tells c.args.number (parts g.D.Disk c.args.self.now) (sym c.runs.ensures ∙ c.if-not-runs.false) (parts g.D.Disk c.settle.new.self) c.in-Ok.ensures.settled c.settle.ensures.reads.faults c.in-Some.running takes.ran (parts g.D.Disk c.go_on.new.self) (stepped_reply c.go_on.result)
-    (λ m r. c.go_on.ensures.on c.settle.new.self.moves.slots.items m takes r) c.settle.ensures.reads.any_moment c.settle.ensures.granularity
+    crash_went g.D.Disk.tells c.args.number (parts g.D.Disk c.args.self.now) (sym c.runs.ensures ∙ c.if-not-runs.false) (parts g.D.Disk c.settle.new.self) c.in-Ok.ensures.settled c.settle.ensures.settles.faults c.in-Some.running takes.ran (parts g.D.Disk c.go_on.new.self) (stepped_reply c.go_on.result)
+    (λ m r. c.go_on.ensures.on c.settle.new.self.moves.slots.items m takes r) c.settle.ensures.settles.any_moment c.settle.ensures.granularity
 
 pub returns-clause-moves : goal.returns-clause-moves
 returns-clause-moves g c =
     let takes : TakesMove c.args.number c.in-Some.running c.settle.new.self.moves.slots.items c.take-2.new.self.slots.items = record { ran = sym c.take-2.ensures.taken ∙ c.in-Some.is; others = c.take-2.ensures.others } in
     let was = c.requires.stands in
-    tells_went g.D.Disk.tells c.args.number (parts g.D.Disk c.args.self.now) (sym c.runs.ensures ∙ c.if-not-runs.false) (parts g.D.Disk c.settle.new.self) c.in-Ok.ensures.settled c.settle.ensures.reads.faults c.in-Some.running takes.ran (parts g.D.Disk c.go_on.new.self) (stepped_reply c.go_on.result)
+    tells_went g.D.Disk.tells c.args.number (parts g.D.Disk c.args.self.now) (sym c.runs.ensures ∙ c.if-not-runs.false) (parts g.D.Disk c.settle.new.self) c.in-Ok.ensures.settled c.settle.ensures.settles.faults c.in-Some.running takes.ran (parts g.D.Disk c.go_on.new.self) (stepped_reply c.go_on.result)
     (λ m r. c.go_on.ensures.on c.settle.new.self.moves.slots.items m takes r) (ap (λ t. t.slots.items) c.settle.ensures.moves) (λ settled. ap (seen g.D.Disk) (c.settle.ensures.quiet settled)) was.0 was.1

@@ -23,10 +23,10 @@ returns-in_err-settle-clause-step g c =
     let old = parts g.D.Disk c.args.self.now in
     let new = parts g.D.Disk c.settle.new.self in
     subst (λ (r : Result Swept DiskErr). Steps g.D.Disk.tells SweepStep old (sweep_reply r) new) (sym (e.1 ∙ ap (λ (d : DiskErr). Err d) e.2))
-    (sweep_cut g.D.Disk.tells old new c.settle.result c.in_err-settle.field-0.0 c.in_err-settle.was c.in_err-settle.ensures.still c.settle.ensures.reads)
+    (sweep_cut g.D.Disk.tells old new c.settle.result c.in_err-settle.field-0.0 c.in_err-settle.was c.in_err-settle.ensures.still c.settle.ensures.settles)
 
 pub returns-in_err-settle-clause-crash : goal.returns-in_err-settle-clause-crash
-returns-in_err-settle-clause-crash g c = crash_sweep_cut g.D.Disk.tells (parts g.D.Disk c.args.self.now) (parts g.D.Disk c.settle.new.self) c.settle.ensures.reads.any_moment
+returns-in_err-settle-clause-crash g c = crash_sweep_cut g.D.Disk.tells (parts g.D.Disk c.args.self.now) (parts g.D.Disk c.settle.new.self) c.settle.ensures.settles.any_moment
 
 pub written_names-requires : goal.written_names-requires
 written_names-requires g c =
@@ -51,10 +51,10 @@ returns-in_err-written-clause-step g c =
     let e = err_from_is_err_and c.from_residual-in_err-written.result c.from_residual-in_err-written.ensures.1 in
     let old = parts g.D.Disk c.args.self.now in
     let q = parts g.D.Disk c.settle.new.self in
-    subst (λ (r : Result Swept DiskErr). Steps g.D.Disk.tells SweepStep old (sweep_reply r) q) (sym (e.1 ∙ ap (λ (d : DiskErr). Err d) e.2)) (sweep_unnamed g.D.Disk.tells old q c.in_ok-settle.ensures.settled c.settle.ensures.reads.faults)
+    subst (λ (r : Result Swept DiskErr). Steps g.D.Disk.tells SweepStep old (sweep_reply r) q) (sym (e.1 ∙ ap (λ (d : DiskErr). Err d) e.2)) (sweep_unnamed g.D.Disk.tells old q c.in_ok-settle.ensures.settled c.settle.ensures.settles.faults)
 
 pub returns-in_err-written-clause-crash : goal.returns-in_err-written-clause-crash
-returns-in_err-written-clause-crash g c = crash_sweep_cut g.D.Disk.tells (parts g.D.Disk c.args.self.now) (parts g.D.Disk c.settle.new.self) c.settle.ensures.reads.any_moment
+returns-in_err-written-clause-crash g c = crash_sweep_cut g.D.Disk.tells (parts g.D.Disk c.args.self.now) (parts g.D.Disk c.settle.new.self) c.settle.ensures.settles.any_moment
 
 pub returns-clause-step : goal.returns-clause-step
 returns-clause-step g c =
@@ -65,7 +65,7 @@ returns-clause-step g c =
     let then = c.in_ok-settle.ensures.settled was.0 was.1 in
     let later = names_later g.D.Disk.tells q (record then.0 { faults = q.at.faults }) then.2 c.deref.result.now written in
     let new = record q { at = seen g.D.Disk c.sweep.new.self; limbo = c.sweep.new.self.limbo.items; pinned = c.sweep.new.self.pinned } in
-    sweep_ends g.D.Disk.tells (parts g.D.Disk c.args.self.now) q c.in_ok-settle.ensures.settled c.settle.ensures.reads.faults new c.deref.result.now refl written c.sweep.result
+    sweep_ends g.D.Disk.tells (parts g.D.Disk c.args.self.now) q c.in_ok-settle.ensures.settled c.settle.ensures.settles.faults new c.deref.result.now refl written c.sweep.result
     (record { acts = call.acts; swept = call.swept; failed = on_err c.sweep.result _ _ (λ stay. (ap (λ l. l.items) stay.0, λ name bytes shown. subst (λ (l : List Retired). Shows g.D.Disk.tells (beside new.at l) name bytes) (ap (λ l. l.items) stay.0) (stay.1 name bytes shown), subst (λ (l : List Retired). LeavesLater g.D.Disk.tells (beside q.at q.limbo) (beside new.at l)) (ap (λ l. l.items) stay.0) stay.2)) call.failed; left = call.copied later; leaves = call.leaves; whole = call.whole; stands = call.stands; pins = call.pins; nothing = λ settled. (let same = call.nothing settled in (same.0, ap (λ l. l.items) same.1)) })
 
 pub returns-clause-crash : goal.returns-clause-crash
@@ -77,6 +77,6 @@ returns-clause-crash g c =
     let then = c.in_ok-settle.ensures.settled was.0 was.1 in
     let later = names_later g.D.Disk.tells q (record then.0 { faults = q.at.faults }) then.2 c.deref.result.now written in
     let new = record q { at = seen g.D.Disk c.sweep.new.self; limbo = c.sweep.new.self.limbo.items; pinned = c.sweep.new.self.pinned } in
-    crash_sweep g.D.Disk.tells (parts g.D.Disk c.args.self.now) q c.in_ok-settle.ensures.settled c.settle.ensures.reads.faults new c.deref.result.now refl written c.sweep.result
+    crash_sweep g.D.Disk.tells (parts g.D.Disk c.args.self.now) q c.in_ok-settle.ensures.settled c.settle.ensures.settles.faults new c.deref.result.now refl written c.sweep.result
     (record { acts = call.acts; swept = call.swept; failed = on_err c.sweep.result _ _ (λ stay. (ap (λ l. l.items) stay.0, λ name bytes shown. subst (λ (l : List Retired). Shows g.D.Disk.tells (beside new.at l) name bytes) (ap (λ l. l.items) stay.0) (stay.1 name bytes shown), subst (λ (l : List Retired). LeavesLater g.D.Disk.tells (beside q.at q.limbo) (beside new.at l)) (ap (λ l. l.items) stay.0) stay.2)) call.failed; left = call.copied later; leaves = call.leaves; whole = call.whole; stands = call.stands; pins = call.pins; nothing = λ settled. (let same = call.nothing settled in (same.0, ap (λ l. l.items) same.1)) })
-    c.settle.ensures.reads.any_moment c.settle.ensures.granularity
+    c.settle.ensures.settles.any_moment c.settle.ensures.granularity

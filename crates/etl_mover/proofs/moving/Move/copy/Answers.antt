@@ -1,4 +1,4 @@
-use Rattle.std.proofs.Common.{◌≡◌, inl, Option, None, Some, length, refl, sym, ◌∙◌, subst, arith}
+use Rattle.std.proofs.Common.{◌≡◌, Option, None, Some, refl, sym, ◌∙◌, subst}
 use Rattle.std.specs.Prelude.{IfSome}
 use Rattle.store_manifest.specs.declared.entry.Entry.{Entry}
 use Rattle.std.specs.Option.{option_copied}

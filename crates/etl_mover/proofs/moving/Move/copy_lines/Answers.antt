@@ -1,4 +1,4 @@
-use Rattle.std.proofs.Common.{rules, ◌≡◌, ◌≤◌, ◌++◌, inr, List, length, take, refl, sym, ◌∙◌, ap, subst, arith, true}
+use Rattle.std.proofs.Common.{rules, ◌≡◌, ◌≤◌, ◌++◌, inr, List, length, sym, ◌∙◌, ap, subst, arith}
 use Rattle.disk_model.specs.Files.{Name, HasFile}
 use Rattle.store_manifest.specs.declared.entry.Entry.{Entry}
 use Rattle.etl_mover.specs.Copying.{SetsLast}

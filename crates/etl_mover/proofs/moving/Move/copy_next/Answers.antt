@@ -1,4 +1,4 @@
-use Rattle.std.proofs.Common.{◌≡◌, inl, inr, List, ℕ, Some, sym, subst, arith}
+use Rattle.std.proofs.Common.{◌≡◌, inl, inr, Some, sym, subst, arith}
 use Rattle.std.specs.Prelude.{OnOk}
 use Rattle.store_manifest.specs.declared.entry.Entry.{Entry}
 use Rattle.etl_mover.specs.declared.copying.Start.{Start}

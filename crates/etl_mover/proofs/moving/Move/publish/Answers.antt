@@ -2,7 +2,7 @@ use Rattle.std.proofs.Common.{◌≡◌, List, length, get_or, map, Bool, Result
 use Rattle.std.specs.Prelude.{All}
 use Rattle.std.proofs.lemmas.Result.{err_from_is_err_and}
 use Rattle.std.proofs.lemmas.List.{length-map}
-use Rattle.disk_model.specs.Files.{At}
+use Rattle.gate_journal.specs.Generations.{AtOwn}
 use Rattle.disk_model.specs.declared.disk.DiskErr.{DiskErr}
 use Rattle.disk_model.proofs.Passing.{passes_none}
 use Rattle.partition_names.specs.declared.granularity.Granularity.{Granularity}
@@ -59,7 +59,7 @@ returns-in_err-changes-clause-commits g c =
     }
 
 pub returns-in_err-changes-clause-frame : goal.returns-in_err-changes-clause-frame
-returns-in_err-changes-clause-frame g c tells = passes_none (At c.args.dest.now.journal.name Anything) (g.D.Disk.past c.args.disk.now) (λ a left. record { here = tt; elsewhere = λ n apart. refl })
+returns-in_err-changes-clause-frame g c tells = passes_none (AtOwn c.args.dest.now.journal.name Anything) (g.D.Disk.past c.args.disk.now) (λ a left. record { here = tt; elsewhere = λ n apart. refl })
 
 pub returns-in_err-relist-clause-relists : goal.returns-in_err-relist-clause-relists
 returns-in_err-relist-clause-relists g c tells catalogue shelf held ahead has is =

@@ -14,6 +14,7 @@ loop-entry-preserved c = (
       let more = listed_more c.args.store c.args.entries.now c.loop-entry.entry-index c.entry-item.result c.loop-entry-test.true c.entry-item.is in
       subst (λ (l : List Listed). IsChoice l c.add_file.new.self) (append_assoc told so_far (file ∷ []) ∙ ap (λ (l : List Listed). told ++ l) (sym more)) (c.in_ok-add_file.ensures.chosen (told ++ so_far) (c.loop-entry.invariant.0 told choice)),
   c.add_file.ensures.from ∙ c.loop-entry.invariant.1,
+  c.add_file.ensures.to ∙ c.loop-entry.invariant.2,
 )
 
 pub returns-clause-chosen : goal.returns-clause-chosen

@@ -6,5 +6,5 @@ use Rattle.piece_choice.proofs.choosing.Choice.start_with.Goals as goal
 pub returns-clause-chosen : goal.returns-clause-chosen
 returns-clause-chosen c told choice cuts =
     on_ok_both c.go_on_with.result
-    (λ opened more. choice_anew told c.args.self.now c.go_on_with.new.self c.args.file choice cuts c.go_on_with.ensures.from (opened ∙ ap (λ (l : List Listed). l ++ c.args.file ∷ []) c.clear.ensures.items) more)
-    c.go_on_with.ensures.opened c.go_on_with.ensures.greatest
+    (λ rest more. choice_anew told c.args.self.now c.go_on_with.new.self c.args.file choice cuts c.go_on_with.ensures.from (rest ∙ ap (λ (l : List Listed). l ++ c.args.file ∷ []) c.clear.ensures.items) more)
+    c.go_on_with.ensures.rest c.go_on_with.ensures.greatest

@@ -1,6 +1,5 @@
-use Rattle.std.proofs.Common.{ap, sym, ◌∙◌, Option, Vec}
-use Rattle.std.specs.declared.alloc.Global.{Global}
-use Rattle.store_manifest.specs.declared.entry.Entry.{Entry}
+use Rattle.std.proofs.Common.{ap, sym, ◌∙◌, Option}
+use Rattle.store_manifest.specs.EntryList.{ListState}
 use Rattle.store_manifest.specs.Listing.{own}
 use Rattle.store_manifest.proofs.Slots.{shown}
 use Rattle.store_manifest.proofs.InMemory.{shows_own}
@@ -8,10 +7,10 @@ use Rattle.store_manifest.proofs.lists.SeriesLists.entries.Goals as goal
 
 pub returns-in-Some : goal.returns-in-Some
 returns-in-Some c =
-    c.as_slice.ensures.value
-    ∙ ap (λ (o : Option (Vec Entry Global)). shown own c.args.series o) c.in-Some.ensures.value
+    c.as_slice.ensures
+    ∙ ap (λ (o : Option ListState). shown own c.args.series o) c.in-Some.ensures.value
     ∙ sym (shows_own c.args.series c.args.self.now.listed.entries c.requires)
 
 pub returns-in-None : goal.returns-in-None
 returns-in-None c =
-    ap (λ (o : Option (Vec Entry Global)). shown own c.args.series o) c.in-None.ensures.value ∙ sym (shows_own c.args.series c.args.self.now.listed.entries c.requires)
+    ap (λ (o : Option ListState). shown own c.args.series o) c.in-None.ensures.value ∙ sym (shows_own c.args.series c.args.self.now.listed.entries c.requires)

@@ -1,9 +1,5 @@
-use Rattle.std.proofs.Common.{◌≡◌, ◌+◌, ◌≤◌, ℕ, Vec, Option, Some, None, sym, ◌∙◌, refl}
-use Rattle.std.specs.Vec.{vec_len, vec_capacity}
-use Rattle.std.specs.declared.alloc.Global.{Global}
-use Rattle.store_manifest.specs.declared.entry.Entry.{Entry}
-use Rattle.store_manifest.specs.Listing.{list_of}
-use Rattle.store_manifest.proofs.InMemory.{roomy_lists, roomy_entries, differ_other}
+use Rattle.std.proofs.Common.{sym, ◌∙◌}
+use Rattle.store_manifest.proofs.InMemory.{roomy_lists, roomy_entries}
 use Rattle.store_manifest.proofs.lists.SeriesLists.make_room.Goals as goal
 
 pub returns-in-Some-clause-good : goal.returns-in-Some-clause-good

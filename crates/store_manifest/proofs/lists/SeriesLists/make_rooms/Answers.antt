@@ -1,9 +1,8 @@
 use Rattle.std.proofs.Common.{◌≡◌, inl, inr, ℕ, ◌+◌, ◌≤◌, IsSome, IfSome, cond, Bool, List, [], ◌∷◌, ◌++◌, Option, Some, take, sym, ◌∙◌, ap, subst, arith, nat_cmp}
 use Rattle.std.proofs.lemmas.Bool.{cases_eq}
 use Rattle.std.proofs.lemmas.List.{take_more, length-take-le}
-use Rattle.std.specs.BTreeMap.{get, is_at}
+use Rattle.std.specs.BTreeMap.{get}
 use Rattle.std.specs.Option.{unwrap_or}
-use Rattle.std.specs.Vec.{vec_len, vec_capacity}
 use Rattle.store_manifest.specs.declared.entry.Change.{Change}
 use Rattle.store_manifest.specs.Entries.{place_of}
 use Rattle.store_manifest.specs.Listing.{list_of, sets, sets_in, HasRoom}
@@ -46,7 +45,7 @@ loop-change-preserved c =
           ]);
       room =
           let P : List Change → Type 0 = λ l. HasRoom c.make_room.new.self.listed.entries l in
-          let Q : ℕ → Type 0 = λ k. IfSome (list_of k c.make_room.new.self.listed.entries) (λ list. vec_len list + (c.unwrap_or-before.result + c.sets.result) ≤ vec_capacity list) in
+          let Q : ℕ → Type 0 = λ k. IfSome (list_of k c.make_room.new.self.listed.entries) (λ list. list.used + (c.unwrap_or-before.result + c.sets.result) ≤ list.capacity) in
           let R : ℕ → Type 0 = λ k. IsSome (list_of k c.make_room.new.self.listed.entries) in
           subst P (sym more) (more_room item c.loop-change.self.listed.entries c.make_room.new.self.listed.entries (λ q apart. c.in_ok-make_room.ensures.others q (λ at. apart (at ∙ of))) (subst R of c.in_ok-make_room.ensures.there) done (c.unwrap_or-before.result + c.sets.result) c.loop-change.invariant.room
           (subst Q of c.in_ok-make_room.ensures.room) room);

@@ -4,7 +4,7 @@ use Rattle.store_manifest.proofs.InMemory.{opened, opened_entries, none_from_tes
 use Rattle.store_manifest.proofs.lists.SeriesLists.open.Goals as goal
 
 pub returns-clause-good : goal.returns-clause-good
-returns-clause-good c = opened c.args.series c.new.result c.args.self.now.listed.entries c.insert.new.self.entries c.requires c.new.ensures.items c.in_ok-insert.ensures.ordered c.in_ok-insert.ensures.entries
+returns-clause-good c = opened c.args.series c.new.result c.args.self.now.listed.entries c.insert.new.self.entries c.requires c.new.ensures c.in_ok-insert.ensures.ordered c.in_ok-insert.ensures.entries
 
 pub returns-clause-entries : goal.returns-clause-entries
 returns-clause-entries c =
@@ -13,7 +13,7 @@ returns-clause-entries c =
     c.new.result
     c.args.self.now.listed.entries
     c.insert.new.self.entries
-    c.new.ensures.items
+    c.new.ensures
     c.in_ok-insert.ensures.entries
     (none_from_test (list_of c.args.series c.args.self.now.listed.entries) (sym c.contains_key.ensures ∙ c.if-contains_key.false))
 

@@ -24,7 +24,7 @@ pub returns-in_err-review-clause-settles : goal.returns-in_err-review-clause-set
 returns-in_err-review-clause-settles g c =
     let p = err_from_is_err_and c.from_residual.result c.from_residual.ensures.1 in
     cut_settles g.D.Disk.tells _ _ _ c.review.result c.in_err-review.field-0.0 _ c.in_err-review.was (ap (λ (r : Result MoveBegun DiskErr). end_of_disk r) (p.1 ∙ ap (λ (x : DiskErr). Err x) p.2)) (λ settled. (tt, (c.review.ensures.nothing settled).0)) c.in_err-review.ensures.still
-    (record { keeps = c.review.ensures.keeps; granularity = c.review.ensures.granularity; reads = c.review.ensures.reads })
+    (record { keeps = c.review.ensures.keeps; granularity = c.review.ensures.granularity; settles = c.review.ensures.settles })
 
 pub returns-clause-settles : goal.returns-clause-settles
 returns-clause-settles g c =
@@ -37,7 +37,7 @@ returns-clause-settles g c =
     let says = SaysBegun disk.tells c.args.place c.args.rule.now running mid.manifests.items in
     then_settles disk.tells says before at c.review.result (end_of_disk c.begin_settled.result) c.in_ok-review.ensures.settled (λ held has. rw (c.review.ensures.nothing has.settled).1 has)
     (λ settled. let is = (c.review.ensures.nothing settled).1 in (ap (λ s. s.catalogue) is, ap (λ s. s.manifests.items) is, ap (λ s. disk.faults s.disk) is))
-    (record { keeps = c.review.ensures.keeps; granularity = c.review.ensures.granularity; reads = c.review.ensures.reads })
+    (record { keeps = c.review.ensures.keeps; granularity = c.review.ensures.granularity; settles = c.review.ensures.settles })
     (λ held has. told says held c.begin_settled.result (c.begin_settled.ensures.says held has) c.begin_settled.ensures.memory)
     (not_failed c.begin_settled.result c.begin_settled.ensures.memory)
 

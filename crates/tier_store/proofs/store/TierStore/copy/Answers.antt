@@ -29,7 +29,7 @@ copy_settled-requires-clause-runs g c =
     let between = beside (seen_on disk.files disk.opened disk.past disk.faults mid.catalogue mid.manifests.items mid.disk) mid.limbo.items in
     let held = settled_one disk.tells between.stores was.2 was.3 (c.in_ok-review.ensures.settled was.2 was.3 was.4) in
     let runs = is_one (λ s. CopiesAmong c.args.place disk.tells all was.1 c.args.moving.now was.0 s) was.2 was.3 held.0 held.1 was.5 was.6 in
-    (was.0, was.1, held.0, held.2, (copies_on c.args.place disk.tells all between c.args.moving.now was.0 held.0 c.review.ensures.granularity c.review.ensures.leaves runs.0, subst (λ (l : List Retired). AreWhole (c.args.place + 1) disk.tells between.stores l (held.0).stands was.1) (sym (ap (λ l. l.items) c.review.ensures.limbo)) (settled_whole disk.tells all.stores between.stores old.limbo.items was.2 was.3 was.4 c.in_ok-review.ensures.settled c.review.ensures.keeps c.review.ensures.granularity c.review.ensures.reads.files c.review.ensures.opened c.review.ensures.reads.any_moment (c.args.place + 1) (held.0).stands was.1 (omega (arith, c.requires.within)) runs.1)))
+    (was.0, was.1, held.0, held.2, (copies_on c.args.place disk.tells all between c.args.moving.now was.0 held.0 c.review.ensures.granularity c.review.ensures.leaves runs.0, subst (λ (l : List Retired). AreWhole (c.args.place + 1) disk.tells between.stores l (held.0).stands was.1) (sym (ap (λ l. l.items) c.review.ensures.limbo)) (settled_whole disk.tells all.stores between.stores old.limbo.items was.2 was.3 was.4 c.in_ok-review.ensures.settled c.review.ensures.keeps c.review.ensures.granularity c.review.ensures.settles.files c.review.ensures.opened c.review.ensures.settles.frame (c.args.place + 1) (held.0).stands was.1 (omega (arith, c.requires.within)) runs.1)))
 
 pub copy_settled-requires-clause-stands : goal.copy_settled-requires-clause-stands
 copy_settled-requires-clause-stands g c = subst (LimboStands _) (sym (ap (λ v. v.items) c.review.ensures.limbo)) (limbo_kept _ _ c.args.self.now.limbo.items c.review.ensures.keeps c.review.ensures.granularity c.requires.stands)
@@ -55,7 +55,7 @@ returns-in_err-review-clause-unfinished g c files retired before after was one t
 pub returns-in_err-review-clause-acts : goal.returns-in_err-review-clause-acts
 returns-in_err-review-clause-acts g c files retired =
     let p = err_from_is_err_and c.from_residual.result c.from_residual.ensures.1 in
-    cut_given _ g.D.Disk.tells (staying {A = CopyEnd}) _ _ c.review.result c.in_err-review.field-0.0 _ c.in_err-review.was (ap (λ (r : Result CopyEnd DiskErr). end_of_disk r) (p.1 ∙ ap (λ (x : DiskErr). Err x) p.2)) (λ settled. (tt, (c.review.ensures.nothing settled).0)) c.in_err-review.ensures.still c.review.ensures.granularity c.review.ensures.reads
+    cut_given _ g.D.Disk.tells (staying {A = CopyEnd}) _ _ c.review.result c.in_err-review.field-0.0 _ c.in_err-review.was (ap (λ (r : Result CopyEnd DiskErr). end_of_disk r) (p.1 ∙ ap (λ (x : DiskErr). Err x) p.2)) (λ settled. (tt, (c.review.ensures.nothing settled).0)) c.in_err-review.ensures.still c.review.ensures.granularity c.review.ensures.settles
 
 pub returns-in_err-review-clause-leaves : goal.returns-in_err-review-clause-leaves
 returns-in_err-review-clause-leaves g c names later none = c.review.ensures.leaves names later
@@ -69,7 +69,7 @@ returns-clause-copies g c files retired before after was one two =
     let between = beside (seen_on disk.files disk.opened disk.past disk.faults mid.catalogue mid.manifests.items mid.disk) mid.limbo.items in
     let held = settled_one disk.tells between.stores before after (c.in_ok-review.ensures.settled before after was) in
     let those = is_one (λ s. CopiesAmong c.args.place disk.tells all retired c.args.moving.now files s) before after held.0 held.1 one two in
-    let runs : CopiesAmong c.args.place disk.tells between retired c.args.moving.now files held.0 = (copies_on c.args.place disk.tells all between c.args.moving.now files held.0 c.review.ensures.granularity c.review.ensures.leaves those.0, subst (λ (l : List Retired). AreWhole (c.args.place + 1) disk.tells between.stores l (held.0).stands retired) (sym (ap (λ l. l.items) c.review.ensures.limbo)) (settled_whole disk.tells all.stores between.stores old.limbo.items before after was c.in_ok-review.ensures.settled c.review.ensures.keeps c.review.ensures.granularity c.review.ensures.reads.files c.review.ensures.opened c.review.ensures.reads.any_moment (c.args.place + 1) (held.0).stands retired (omega (arith, c.requires.within)) those.1)) in
+    let runs : CopiesAmong c.args.place disk.tells between retired c.args.moving.now files held.0 = (copies_on c.args.place disk.tells all between c.args.moving.now files held.0 c.review.ensures.granularity c.review.ensures.leaves those.0, subst (λ (l : List Retired). AreWhole (c.args.place + 1) disk.tells between.stores l (held.0).stands retired) (sym (ap (λ l. l.items) c.review.ensures.limbo)) (settled_whole disk.tells all.stores between.stores old.limbo.items before after was c.in_ok-review.ensures.settled c.review.ensures.keeps c.review.ensures.granularity c.review.ensures.settles.files c.review.ensures.opened c.review.ensures.settles.frame (c.args.place + 1) (held.0).stands retired (omega (arith, c.requires.within)) those.1)) in
     let said = c.copy_settled.ensures.copies files retired held.0 held.2 runs in
     on_ok c.copy_settled.result said.1 (λ end says. (held.0, held.1, said.0, says))
 
@@ -82,7 +82,7 @@ returns-clause-unfinished g c files retired before after was one two =
     let between = beside (seen_on disk.files disk.opened disk.past disk.faults mid.catalogue mid.manifests.items mid.disk) mid.limbo.items in
     let held = settled_one disk.tells between.stores before after (c.in_ok-review.ensures.settled before after was) in
     let those = is_one (λ s. CopiesAmong c.args.place disk.tells all retired c.args.moving.now files s) before after held.0 held.1 one two in
-    let runs : CopiesAmong c.args.place disk.tells between retired c.args.moving.now files held.0 = (copies_on c.args.place disk.tells all between c.args.moving.now files held.0 c.review.ensures.granularity c.review.ensures.leaves those.0, subst (λ (l : List Retired). AreWhole (c.args.place + 1) disk.tells between.stores l (held.0).stands retired) (sym (ap (λ l. l.items) c.review.ensures.limbo)) (settled_whole disk.tells all.stores between.stores old.limbo.items before after was c.in_ok-review.ensures.settled c.review.ensures.keeps c.review.ensures.granularity c.review.ensures.reads.files c.review.ensures.opened c.review.ensures.reads.any_moment (c.args.place + 1) (held.0).stands retired (omega (arith, c.requires.within)) those.1)) in
+    let runs : CopiesAmong c.args.place disk.tells between retired c.args.moving.now files held.0 = (copies_on c.args.place disk.tells all between c.args.moving.now files held.0 c.review.ensures.granularity c.review.ensures.leaves those.0, subst (λ (l : List Retired). AreWhole (c.args.place + 1) disk.tells between.stores l (held.0).stands retired) (sym (ap (λ l. l.items) c.review.ensures.limbo)) (settled_whole disk.tells all.stores between.stores old.limbo.items before after was c.in_ok-review.ensures.settled c.review.ensures.keeps c.review.ensures.granularity c.review.ensures.settles.files c.review.ensures.opened c.review.ensures.settles.frame (c.args.place + 1) (held.0).stands retired (omega (arith, c.requires.within)) those.1)) in
     let said = c.copy_settled.ensures.copies files retired held.0 held.2 runs in
     on_err_then c.copy_settled.result said.2 (λ still. inr (held.0, held.1, said.0, still))
 
@@ -94,8 +94,8 @@ returns-clause-acts g c files retired =
     let all = beside (seen_on disk.files disk.opened disk.past disk.faults old.catalogue old.manifests.items old.disk) old.limbo.items in
     let between = beside (seen_on disk.files disk.opened disk.past disk.faults mid.catalogue mid.manifests.items mid.disk) mid.limbo.items in
     then_given (CopiesAmong c.args.place disk.tells all retired c.args.moving.now files) (CopiesAmong c.args.place disk.tells between retired c.args.moving.now files) disk.tells (staying {A = CopyEnd}) _ _ _ (end_of_disk c.review.result) _
-    (λ held runs. let was = c.requires.begun in (copies_on c.args.place disk.tells all between c.args.moving.now files held c.review.ensures.granularity c.review.ensures.leaves runs.0, subst (λ (l : List Retired). AreWhole (c.args.place + 1) disk.tells between.stores l (held).stands retired) (sym (ap (λ l. l.items) c.review.ensures.limbo)) (settled_whole disk.tells all.stores between.stores old.limbo.items was.2 was.3 was.4 c.in_ok-review.ensures.settled c.review.ensures.keeps c.review.ensures.granularity c.review.ensures.reads.files c.review.ensures.opened c.review.ensures.reads.any_moment (c.args.place + 1) (held).stands retired (omega (arith, c.requires.within)) runs.1)))
-    c.in_ok-review.ensures.settled (λ held has. rw (c.review.ensures.nothing has.settled).1 has) c.review.ensures.granularity c.review.ensures.reads (c.copy_settled.ensures.changes files retired)
+    (λ held runs. let was = c.requires.begun in (copies_on c.args.place disk.tells all between c.args.moving.now files held c.review.ensures.granularity c.review.ensures.leaves runs.0, subst (λ (l : List Retired). AreWhole (c.args.place + 1) disk.tells between.stores l (held).stands retired) (sym (ap (λ l. l.items) c.review.ensures.limbo)) (settled_whole disk.tells all.stores between.stores old.limbo.items was.2 was.3 was.4 c.in_ok-review.ensures.settled c.review.ensures.keeps c.review.ensures.granularity c.review.ensures.settles.files c.review.ensures.opened c.review.ensures.settles.frame (c.args.place + 1) (held).stands retired (omega (arith, c.requires.within)) runs.1)))
+    c.in_ok-review.ensures.settled (λ held has. rw (c.review.ensures.nothing has.settled).1 has) c.review.ensures.granularity c.review.ensures.settles (c.copy_settled.ensures.changes files retired)
 
 pub returns-clause-shown : goal.returns-clause-shown
 returns-clause-shown g c name bytes was = c.copy_settled.ensures.shown name bytes (c.review.ensures.shown name bytes was)
@@ -122,7 +122,7 @@ returns-in_err-review-clause-whole g c i stands files low whole =
     let was = c.requires.begun in
     let says = c.review.ensures in
     let limbo = old.limbo.items in
-    (files, subst (λ (l : List Retired). AreWhole i disk.tells between l stands files) (sym (ap (λ l. l.items) says.limbo)) (still_whole disk.tells before between limbo was.2 was.3 was.4 c.in_err-review.ensures.still says.keeps says.granularity says.reads.files says.opened says.reads.any_moment i stands files low whole))
+    (files, subst (λ (l : List Retired). AreWhole i disk.tells between l stands files) (sym (ap (λ l. l.items) says.limbo)) (still_whole disk.tells before between limbo was.2 was.3 was.4 c.in_err-review.ensures.still says.keeps says.granularity says.settles.files says.opened says.settles.frame i stands files low whole))
 
 pub returns-clause-whole : goal.returns-clause-whole
 returns-clause-whole g c i stands files low whole =
@@ -134,7 +134,7 @@ returns-clause-whole g c i stands files low whole =
     let was = c.requires.begun in
     let says = c.review.ensures in
     let limbo = old.limbo.items in
-    let settled = settled_whole disk.tells before between limbo was.2 was.3 was.4 c.in_ok-review.ensures.settled says.keeps says.granularity says.reads.files says.opened says.reads.any_moment i stands files low whole in
+    let settled = settled_whole disk.tells before between limbo was.2 was.3 was.4 c.in_ok-review.ensures.settled says.keeps says.granularity says.settles.files says.opened says.settles.frame i stands files low whole in
     c.copy_settled.ensures.whole i stands files low (subst (λ (l : List Retired). AreWhole i disk.tells between l stands files) (sym (ap (λ l. l.items) says.limbo)) settled)
 
 pub returns-clause-settled : goal.returns-clause-settled

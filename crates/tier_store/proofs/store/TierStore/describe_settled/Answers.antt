@@ -25,7 +25,7 @@ pub returns-in_err-review-clause-settles : goal.returns-in_err-review-clause-set
 returns-in_err-review-clause-settles g c =
     let p = err_from_is_err_and c.from_residual.result c.from_residual.ensures.1 in
     settles_reads g.D.Disk.tells _ _ _ _ (cut_settles g.D.Disk.tells _ _ _ c.review.result c.in_err-review.field-0.0 _ c.in_err-review.was (err_end c.from_residual.result _ _ p.1 p.2) (λ settled. (tt, (c.review.ensures.nothing settled).0)) c.in_err-review.ensures.still
-    (record { keeps = c.review.ensures.keeps; granularity = c.review.ensures.granularity; reads = c.review.ensures.reads }))
+    (record { keeps = c.review.ensures.keeps; granularity = c.review.ensures.granularity; settles = c.review.ensures.settles }))
 
 pub returns-clause-settles : goal.returns-clause-settles
 returns-clause-settles g c =
@@ -52,7 +52,7 @@ returns-clause-settles g c =
     (same_seen disk.files disk.opened disk.past disk.faults mid.catalogue new.catalogue mid.manifests.items new.manifests.items new.disk new.disk told.same.0 (ap (λ m. m.items) told.same.1) refl)
     (then_reads_files disk.tells (SaysDescribed disk.tells name tail) before at later c.review.result _ c.in_ok-review.ensures.settled (λ held has. rw (c.review.ensures.nothing has.settled).1 has)
     (λ settled. let is = (c.review.ensures.nothing settled).1 in (ap (λ s. s.catalogue) is, ap (λ s. s.manifests.items) is))
-    (record { keeps = c.review.ensures.keeps; granularity = c.review.ensures.granularity; reads = c.review.ensures.reads })
+    (record { keeps = c.review.ensures.keeps; granularity = c.review.ensures.granularity; settles = c.review.ensures.settles })
     (λ held has. (has_read disk.files disk.opened disk.past disk.faults disk.tells mid.catalogue mid.manifests.items mid.disk new.disk told.reads held has, says_described disk.tells name tail held r (told.says held has)))
     refl refl reads)
 

@@ -59,7 +59,7 @@ returns-clause-changes g c =
     let can = can_drop disk.tells at c.args.place c.args.row c.args.n m c.args.drops.now here (c.requires.drops m here) in
     call_done disk.files disk.opened disk.past disk.faults disk.tells self.catalogue self.manifests.items c.args.place m c.relist.new.manifest here self.disk c.relist.new.disk c.args.drops.now can
     says.state.0 says.any_moment
-    (λ tells. beside_all disk.files disk.opened disk.past disk.faults disk.tells self.catalogue self.manifests.items c.args.place m c.relist.new.manifest here self.disk c.relist.new.disk c.args.drops.now can was.0 was.1 tells (says.frame tells) (says.elsewhere tells) (says.opened tells))
+    (λ tells. beside_all disk.files disk.opened disk.past disk.faults disk.tells self.catalogue self.manifests.items c.args.place m c.relist.new.manifest here self.disk c.relist.new.disk c.args.drops.now can was.0 was.1 tells (says.frame tells) (says.elsewhere tells) (says.no_more tells))
     says.faults (dropping c.args.place c.args.row c.args.n) (λ held has. refl) (λ held has. tt) c.in_ok-relist.ensures.entries c.in_ok-relist.ensures.sound c.in_ok-relist.ensures.made
 
 pub returns-in_err-relist-clause-changes : goal.returns-in_err-relist-clause-changes
@@ -75,7 +75,7 @@ returns-in_err-relist-clause-changes g c =
     let p = err_from_is_err_and c.from_residual.result c.from_residual.ensures.1 in
     call_cut disk.files disk.opened disk.past disk.faults disk.tells self.catalogue self.manifests.items c.args.place m c.relist.new.manifest here self.disk c.relist.new.disk c.args.drops.now can
     says.state.0 says.any_moment
-    (λ tells. beside_all disk.files disk.opened disk.past disk.faults disk.tells self.catalogue self.manifests.items c.args.place m c.relist.new.manifest here self.disk c.relist.new.disk c.args.drops.now can was.0 was.1 tells (says.frame tells) (says.elsewhere tells) (says.opened tells))
+    (λ tells. beside_all disk.files disk.opened disk.past disk.faults disk.tells self.catalogue self.manifests.items c.args.place m c.relist.new.manifest here self.disk c.relist.new.disk c.args.drops.now can was.0 was.1 tells (says.frame tells) (says.elsewhere tells) (says.no_more tells))
     says.faults (dropping c.args.place c.args.row c.args.n) (λ held has. refl) (λ held has. tt) c.in_err-relist.ensures.unchanged c.in_err-relist.ensures.next c.in_err-relist.ensures.unmade c.in_err-relist.ensures.in_doubt
     c.in_err-relist.field-0.0 _ (ap (λ (r : Result (Unit {0}) DiskErr). end_of_disk r) (p.1 ∙ ap (λ (x : DiskErr). Err x) p.2))
     (λ is. says.memory (c.in_err-relist.was ∙ ap (λ (x : DiskErr). Err x) is)) (λ is. says.cause (c.in_err-relist.was ∙ ap (λ (x : DiskErr). Err x) is))
@@ -105,7 +105,7 @@ returns-clause-leaves g c =
     let m = c.index_mut.result.now in
     let here = manifest_here self.manifests.items c.args.place m c.index_mut.ensures.value c.requires.within in
     let says = c.relist.ensures in
-    commit_leaves_files g.D.Disk.tells _ _ m.journal.name Anything refl (λ tells. ap (λ (n : Name). n.0) ((was.1.disk tells).each c.args.place m here).named) (λ tells n apart. says.elsewhere tells n apart) says.opened says.frame
+    commit_leaves_files g.D.Disk.tells _ _ m.journal.name Anything refl (λ tells. ap (λ (n : Name). n.0) ((was.1.disk tells).each c.args.place m here).named) (λ tells n apart. says.elsewhere tells n apart) says.no_more says.frame
 
 pub returns-in_err-relist-clause-leaves : goal.returns-in_err-relist-clause-leaves
 returns-in_err-relist-clause-leaves g c =
@@ -114,4 +114,4 @@ returns-in_err-relist-clause-leaves g c =
     let m = c.index_mut.result.now in
     let here = manifest_here self.manifests.items c.args.place m c.index_mut.ensures.value c.requires.within in
     let says = c.relist.ensures in
-    commit_leaves_files g.D.Disk.tells _ _ m.journal.name Anything refl (λ tells. ap (λ (n : Name). n.0) ((was.1.disk tells).each c.args.place m here).named) (λ tells n apart. says.elsewhere tells n apart) says.opened says.frame
+    commit_leaves_files g.D.Disk.tells _ _ m.journal.name Anything refl (λ tells. ap (λ (n : Name). n.0) ((was.1.disk tells).each c.args.place m here).named) (λ tells n apart. says.elsewhere tells n apart) says.no_more says.frame

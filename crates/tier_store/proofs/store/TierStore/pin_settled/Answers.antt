@@ -20,7 +20,7 @@ pub returns-in_err-review-clause-settles : goal.returns-in_err-review-clause-set
 returns-in_err-review-clause-settles g c =
     let p = err_from_is_err_and c.from_residual.result c.from_residual.ensures.1 in
     cut_settles g.D.Disk.tells _ _ _ c.review.result c.in_err-review.field-0.0 _ c.in_err-review.was (err_end c.from_residual.result _ _ p.1 p.2) (λ settled. (tt, (c.review.ensures.nothing settled).0)) c.in_err-review.ensures.still
-    (record { keeps = c.review.ensures.keeps; granularity = c.review.ensures.granularity; reads = c.review.ensures.reads })
+    (record { keeps = c.review.ensures.keeps; granularity = c.review.ensures.granularity; settles = c.review.ensures.settles })
 
 pub returns-in_err-review-clause-unchanged : goal.returns-in_err-review-clause-unchanged
 returns-in_err-review-clause-unchanged g c cut = c.review.ensures.pins
@@ -41,7 +41,7 @@ returns-clause-settles g c =
     (same_seen disk.files disk.opened disk.past disk.faults mid.catalogue new.catalogue mid.manifests.items new.manifests.items mid.disk new.disk same.0 (ap (λ m. m.items) same.1) same.2)
     (then_settles disk.tells (SaysPinned c.args.who c.args.name.now c.args.query c.args.tail old.pinned new.pinned) before at c.review.result _ c.in_ok-review.ensures.settled (λ held has. rw (c.review.ensures.nothing has.settled).1 has)
     (λ settled. let is = (c.review.ensures.nothing settled).1 in (ap (λ s. s.catalogue) is, ap (λ s. s.manifests.items) is, ap (λ s. disk.faults s.disk) is))
-    (record { keeps = c.review.ensures.keeps; granularity = c.review.ensures.granularity; reads = c.review.ensures.reads })
+    (record { keeps = c.review.ensures.keeps; granularity = c.review.ensures.granularity; settles = c.review.ensures.settles })
     (λ held has. says_from disk.tells at held c.args.who c.args.name.now c.args.query c.args.tail old.pinned mid.pinned new.pinned c.review.ensures.pins has c.pin_named.result c.pin_named.ensures.pinned c.pin_named.ensures.memory)
     (let was = c.requires.begun in let held = has_one disk.tells at was.0 was.1 (c.in_ok-review.ensures.settled was.0 was.1 was.2) in not_failed disk.tells at held.0 c.args.who c.args.name.now c.args.query c.args.tail mid.pinned new.pinned held.1 c.pin_named.result c.pin_named.ensures.pinned c.pin_named.ensures.memory))
 

@@ -38,7 +38,7 @@ publish_settled-requires-clause-runs g c =
 pub returns-in_err-review-clause-acts : goal.returns-in_err-review-clause-acts
 returns-in_err-review-clause-acts g c files =
     let p = err_from_is_err_and c.from_residual.result c.from_residual.ensures.1 in
-    cut_given _ g.D.Disk.tells (publishing c.args.place files) _ _ c.review.result c.in_err-review.field-0.0 _ c.in_err-review.was (ap (λ (r : Result (Unit {0}) DiskErr). end_of_disk r) (p.1 ∙ ap (λ (x : DiskErr). Err x) p.2)) (λ settled. (tt, (c.review.ensures.nothing settled).0)) c.in_err-review.ensures.still c.review.ensures.granularity c.review.ensures.reads
+    cut_given _ g.D.Disk.tells (publishing c.args.place files) _ _ c.review.result c.in_err-review.field-0.0 _ c.in_err-review.was (ap (λ (r : Result (Unit {0}) DiskErr). end_of_disk r) (p.1 ∙ ap (λ (x : DiskErr). Err x) p.2)) (λ settled. (tt, (c.review.ensures.nothing settled).0)) c.in_err-review.ensures.still c.review.ensures.granularity c.review.ensures.settles
 
 pub returns-clause-acts : goal.returns-clause-acts
 returns-clause-acts g c files =
@@ -49,7 +49,7 @@ returns-clause-acts g c files =
     let between = beside (seen_on disk.files disk.opened disk.past disk.faults mid.catalogue mid.manifests.items mid.disk) mid.limbo.items in
     then_given (RunsBeside c.args.place disk.tells all c.args.moving.now files) (RunsBeside c.args.place disk.tells between c.args.moving.now files) disk.tells (publishing c.args.place files) _ _ _ (end_of_disk c.review.result) _
     (λ held runs. still c.args.place disk.tells all between c.args.moving.now files held c.review.ensures.granularity c.review.ensures.leaves runs)
-    c.in_ok-review.ensures.settled (λ held has. rw (c.review.ensures.nothing has.settled).1 has) c.review.ensures.granularity c.review.ensures.reads (c.publish_settled.ensures.changes files)
+    c.in_ok-review.ensures.settled (λ held has. rw (c.review.ensures.nothing has.settled).1 has) c.review.ensures.granularity c.review.ensures.settles (c.publish_settled.ensures.changes files)
 
 pub returns-clause-shown : goal.returns-clause-shown
 returns-clause-shown g c name bytes was = c.publish_settled.ensures.shown name bytes (c.review.ensures.shown name bytes was)

@@ -1,6 +1,7 @@
 use Rattle.std.proofs.Common.{◌≡◌, ℕ, ◌≤◌, ◌+◌, ap, refl, arith}
 use Rattle.disk_model.proofs.Passing.{passes_weaker}
-use Rattle.disk_model.specs.Files.{At, Name}
+use Rattle.disk_model.specs.Files.{Name}
+use Rattle.gate_journal.specs.Generations.{AtOwn}
 use Rattle.pv_catalog.proofs.Standing.{keeps_same}
 use Rattle.durable_write.specs.Ends.{end_of_disk}
 use Rattle.durable_write.specs.Flush.{with_files}
@@ -72,7 +73,7 @@ returns-clause-changes g c files =
     let here = manifest_here self.manifests.items c.args.place m c.index_mut.ensures.value (place_low c.args.place disk.tells (beside at self.limbo.items) c.args.moving.now runs.0 runs.1 runs.3) in
     publish_ends disk.files disk.opened disk.past disk.faults disk.tells self.catalogue self.manifests.items self.limbo.items c.args.place m c.publish.new.dest here self.disk c.publish.new.disk (λ tells. g.met.D.Disk.seen self.disk tells) c.args.moving.now files
     c.publish.result says.commits says.relists
-    (λ tells. on_store disk.tells at runs.1 c.args.place m here runs.2 tells _ _ _ (passes_weaker (At m.journal.name Anything) (Beside (c.args.place + 1) m.journal.name) _ _ (says.frame tells) (λ a x was step n other apart. step.elsewhere n apart)) (λ n other apart. says.elsewhere tells n apart) (λ n. same_opened n (says.opened tells)))
+    (λ tells. on_store disk.tells at runs.1 c.args.place m here runs.2 tells _ _ _ (passes_weaker (AtOwn m.journal.name Anything) (Beside (c.args.place + 1) m.journal.name) _ _ (says.frame tells) (λ a x was step n other apart. step.elsewhere n apart)) (λ n other apart. says.elsewhere tells n apart) (says.no_more tells))
     says.faults (λ is. says.memory is) (λ is. says.cause is)
 
 pub returns-clause-shown : goal.returns-clause-shown
@@ -94,7 +95,7 @@ returns-clause-leaves g c =
     let all = beside (seen_on disk.files disk.opened disk.past disk.faults self.catalogue self.manifests.items self.disk) self.limbo.items in
     let here = manifest_here self.manifests.items c.args.place m c.index_mut.ensures.value (place_low c.args.place disk.tells all c.args.moving.now runs.0 runs.1 runs.3) in
     let says = c.publish.ensures in
-    commit_leaves disk.tells all _ m.journal.name Anything refl (λ tells. ap (λ (n : Name). n.0) ((runs.2.disk tells).each c.args.place m here).named) (λ tells n apart. says.elsewhere tells n apart) says.opened says.frame
+    commit_leaves disk.tells all _ m.journal.name Anything refl (λ tells. ap (λ (n : Name). n.0) ((runs.2.disk tells).each c.args.place m here).named) (λ tells n apart. says.elsewhere tells n apart) says.no_more says.frame
 
 pub returns-clause-whole : goal.returns-clause-whole
 returns-clause-whole g c =
@@ -109,4 +110,4 @@ returns-clause-whole g c =
     call_whole disk.tells all _ runs.2.known.three refl
     (λ name h. ends_held disk.tells (publishing c.args.place runs.0) all.stores _ runs.1 (end_of_disk c.publish.result) name 0 runs.2 (λ made by. goes_on c.args.place disk.tells all runs.1 runs.0 runs.3.ahead m here runs.2 made by) (change.ends runs.1 runs.2 runs.3) h)
     (keeps_same self.catalogue.rows) change.costs.granularity
-    (commit_leaves_files disk.tells all _ m.journal.name Anything refl (λ tells. ap (λ (n : Name). n.0) ((runs.2.disk tells).each c.args.place m here).named) (λ tells n apart. says.elsewhere tells n apart) says.opened says.frame)
+    (commit_leaves_files disk.tells all _ m.journal.name Anything refl (λ tells. ap (λ (n : Name). n.0) ((runs.2.disk tells).each c.args.place m here).named) (λ tells n apart. says.elsewhere tells n apart) says.no_more says.frame)

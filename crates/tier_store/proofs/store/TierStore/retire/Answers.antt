@@ -39,7 +39,7 @@ retire_settled-requires-clause-stands g c =
 pub returns-in_err-review-clause-acts : goal.returns-in_err-review-clause-acts
 returns-in_err-review-clause-acts g c =
     let p = err_from_is_err_and c.from_residual.result c.from_residual.ensures.1 in
-    cut_acts g.D.Disk.tells _ _ _ c.review.result c.in_err-review.field-0.0 _ c.in_err-review.was (ap (λ (r : Result RetireEnd DiskErr). end_of_disk r) (p.1 ∙ ap (λ (x : DiskErr). Err x) p.2)) (λ settled. (tt, (c.review.ensures.nothing settled).0)) c.in_err-review.ensures.still c.review.ensures.granularity c.review.ensures.reads
+    cut_acts g.D.Disk.tells _ _ _ c.review.result c.in_err-review.field-0.0 _ c.in_err-review.was (ap (λ (r : Result RetireEnd DiskErr). end_of_disk r) (p.1 ∙ ap (λ (x : DiskErr). Err x) p.2)) (λ settled. (tt, (c.review.ensures.nothing settled).0)) c.in_err-review.ensures.still c.review.ensures.granularity c.review.ensures.settles
 
 pub returns-in_err-review-clause-failed : goal.returns-in_err-review-clause-failed
 returns-in_err-review-clause-failed g c =
@@ -67,7 +67,7 @@ returns-clause-acts g c =
     let between = seen_on disk.files disk.opened disk.past disk.faults mid.catalogue mid.manifests.items mid.disk in
     let after = seen_on disk.files disk.opened disk.past disk.faults new.catalogue new.manifests.items new.disk in
     let end = end_of_disk c.retire_settled.result in
-    then_acts disk.tells (retiring c.args.place c.args.row c.args.published.now (Remain disk.tells after old.pinned old.limbo.items new.limbo.items)) _ _ _ (end_of_disk c.review.result) _ c.in_ok-review.ensures.settled (λ held has. rw (c.review.ensures.nothing has.settled).1 has) c.review.ensures.granularity c.review.ensures.reads
+    then_acts disk.tells (retiring c.args.place c.args.row c.args.published.now (Remain disk.tells after old.pinned old.limbo.items new.limbo.items)) _ _ _ (end_of_disk c.review.result) _ c.in_ok-review.ensures.settled (λ held has. rw (c.review.ensures.nothing has.settled).1 has) c.review.ensures.granularity c.review.ensures.settles
     (subst (λ (l : List Retired). Changes disk.tells (retiring c.args.place c.args.row c.args.published.now (Remain disk.tells after old.pinned l new.limbo.items)) between after end) (ap (λ l. l.items) c.review.ensures.limbo)
     (subst (λ (p : FinMap nat_cmp PinOf). Changes disk.tells (retiring c.args.place c.args.row c.args.published.now (Remain disk.tells after p mid.limbo.items new.limbo.items)) between after end) c.review.ensures.pins c.retire_settled.ensures.changes))
 
@@ -111,7 +111,7 @@ returns-clause-handed g c settled fault =
 pub returns-clause-cause : goal.returns-clause-cause
 returns-clause-cause g c told is failed =
     let faults = g.D.Disk.faults in
-    rose_after (faults c.args.self.now.disk) (faults c.review.new.self.disk) (faults c.retire_settled.new.self.disk) c.review.ensures.reads.faults (c.retire_settled.ensures.cause told is failed)
+    rose_after (faults c.args.self.now.disk) (faults c.review.new.self.disk) (faults c.retire_settled.new.self.disk) c.review.ensures.settles.faults (c.retire_settled.ensures.cause told is failed)
 
 pub returns-in_err-review-clause-whole : goal.returns-in_err-review-clause-whole
 returns-in_err-review-clause-whole g c before after was i files low whole = c.review.ensures.whole i before.stands files low whole

@@ -10,13 +10,13 @@ use Rattle.pv_catalog.specs.Rows.{KeepsRows}
 use Rattle.durable_write.specs.Ends.{end_of_disk}
 use Rattle.durable_write.proofs.Rises.{rose_after}
 use Rattle.tier_store.specs.Limbo.{LimboStands, IsSwept, AreGone, LeavesKept, staying}
-use Rattle.tier_store.specs.Pinned.{beside}
+use Rattle.tier_store.specs.Pinned.{beside, seen_all}
 use Rattle.tier_store.specs.Seen.{seen_on}
 use Rattle.tier_store.specs.declared.limbo.Retired.{Retired}
 use Rattle.tier_store.specs.declared.removing.Swept.{Swept}
 use Rattle.tier_store.proofs.Acting.{has_one, cut_acts, then_acts}
 use Rattle.tier_store.proofs.Staying.{limbo_kept}
-use Rattle.tier_store.proofs.Sparing.{reads_leave, reads_then}
+use Rattle.tier_store.proofs.Sparing.{settles_leave, settles_then}
 use Rattle.tier_store.proofs.LeavingNames.{names_then}
 use Rattle.tier_store.proofs.WholeCalls.{whole_then}
 use Rattle.tier_store.proofs.store.TierStore.sweep.Goals as goal
@@ -36,7 +36,7 @@ sweep_settled-requires-clause-stands g c =
 pub returns-in_err-review-clause-acts : goal.returns-in_err-review-clause-acts
 returns-in_err-review-clause-acts g c =
     let p = err_from_is_err_and c.from_residual.result c.from_residual.ensures.1 in
-    cut_acts g.D.Disk.tells staying _ _ c.review.result c.in_err-review.field-0.0 _ c.in_err-review.was (ap (λ (r : Result Swept DiskErr). end_of_disk r) (p.1 ∙ ap (λ (x : DiskErr). Err x) p.2)) (λ settled. (tt, (c.review.ensures.nothing settled).0)) c.in_err-review.ensures.still c.review.ensures.granularity c.review.ensures.reads
+    cut_acts g.D.Disk.tells staying _ _ c.review.result c.in_err-review.field-0.0 _ c.in_err-review.was (ap (λ (r : Result Swept DiskErr). end_of_disk r) (p.1 ∙ ap (λ (x : DiskErr). Err x) p.2)) (λ settled. (tt, (c.review.ensures.nothing settled).0)) c.in_err-review.ensures.still c.review.ensures.granularity c.review.ensures.settles
 
 pub returns-in_err-review-clause-failed : goal.returns-in_err-review-clause-failed
 returns-in_err-review-clause-failed g c =
@@ -44,7 +44,7 @@ returns-in_err-review-clause-failed g c =
     rw p.1 (c.review.ensures.limbo, c.review.ensures.shown, c.review.ensures.leaves)
 
 pub returns-in_err-review-clause-leaves : goal.returns-in_err-review-clause-leaves
-returns-in_err-review-clause-leaves g c = reads_leave g.D.Disk.tells c.args.self.now.pinned c.args.copied.now _ _ c.review.ensures.shown c.review.ensures.reads.files c.review.ensures.reads.any_moment
+returns-in_err-review-clause-leaves g c = settles_leave g.D.Disk.tells c.args.self.now.pinned c.args.copied.now _ _ c.review.ensures.shown c.review.ensures.settles.files c.review.ensures.settles.frame
 
 pub returns-in_err-review-clause-stands : goal.returns-in_err-review-clause-stands
 returns-in_err-review-clause-stands g c =
@@ -56,7 +56,7 @@ returns-in_err-review-clause-stands g c =
     subst (λ (l : List Retired). LimboStands between l) (sym (ap (λ l. l.items) c.review.ensures.limbo)) (limbo_kept before between old.limbo.items c.review.ensures.keeps c.review.ensures.granularity c.requires.stands)
 
 pub returns-clause-acts : goal.returns-clause-acts
-returns-clause-acts g c = then_acts g.D.Disk.tells staying _ _ _ (end_of_disk c.review.result) _ c.in_ok-review.ensures.settled (λ held has. rw (c.review.ensures.nothing has.settled).1 has) c.review.ensures.granularity c.review.ensures.reads c.sweep_settled.ensures.changes
+returns-clause-acts g c = then_acts g.D.Disk.tells staying _ _ _ (end_of_disk c.review.result) _ c.in_ok-review.ensures.settled (λ held has. rw (c.review.ensures.nothing has.settled).1 has) c.review.ensures.granularity c.review.ensures.settles c.sweep_settled.ensures.changes
 
 pub returns-clause-swept : goal.returns-clause-swept
 returns-clause-swept g c =
@@ -81,7 +81,7 @@ returns-clause-gone g c tells =
 pub returns-clause-cause : goal.returns-clause-cause
 returns-clause-cause g c failed =
     let faults = g.D.Disk.faults in
-    rose_after (faults c.args.self.now.disk) (faults c.review.new.self.disk) (faults c.sweep_settled.new.self.disk) c.review.ensures.reads.faults (c.sweep_settled.ensures.cause failed)
+    rose_after (faults c.args.self.now.disk) (faults c.review.new.self.disk) (faults c.sweep_settled.new.self.disk) c.review.ensures.settles.faults (c.sweep_settled.ensures.cause failed)
 
 pub returns-clause-leaves : goal.returns-clause-leaves
 returns-clause-leaves g c =
@@ -92,8 +92,19 @@ returns-clause-leaves g c =
     let before = beside (seen_on disk.files disk.opened disk.past disk.faults old.catalogue old.manifests.items old.disk) old.limbo.items in
     let between = beside (seen_on disk.files disk.opened disk.past disk.faults mid.catalogue mid.manifests.items mid.disk) mid.limbo.items in
     let after = beside (seen_on disk.files disk.opened disk.past disk.faults new.catalogue new.manifests.items new.disk) new.limbo.items in
-    reads_then disk.tells old.pinned c.args.copied.now before between after (ap (λ l. l.items) c.review.ensures.limbo) c.review.ensures.shown c.review.ensures.reads.files c.review.ensures.reads.any_moment
+    settles_then disk.tells old.pinned c.args.copied.now before between after (ap (λ l. l.items) c.review.ensures.limbo) c.review.ensures.shown c.review.ensures.settles.files c.review.ensures.settles.frame
     (subst (λ (p : FinMap nat_cmp PinOf). LeavesKept disk.tells p c.args.copied.now between after) c.review.ensures.pins c.sweep_settled.ensures.leaves)
+
+pub returns-in_err-review-clause-kept : goal.returns-in_err-review-clause-kept
+returns-in_err-review-clause-kept g c settled =
+    let fine = (c.review.ensures.nothing settled).0 in
+    let failed = c.in_err-review.was in
+    absurd (cc (fine, failed))
+
+pub returns-clause-kept : goal.returns-clause-kept
+returns-clause-kept g c settled =
+    let after = seen_all g.D.Disk c.sweep_settled.new.self in
+    subst (λ s. LeavesKept g.D.Disk.tells s.pinned c.args.copied.now (seen_all g.D.Disk s) after) (c.review.ensures.nothing settled).1 c.sweep_settled.ensures.leaves
 
 pub returns-clause-keeps : goal.returns-clause-keeps
 returns-clause-keeps g c = subst (λ (s : CatalogueState). KeepsRows c.args.self.now.catalogue.rows s.rows) (sym c.sweep_settled.ensures.same.0) c.review.ensures.keeps

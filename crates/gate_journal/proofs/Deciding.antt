@@ -1,0 +1,177 @@
+-- What a crash may leave of a journal in doubt, and what a review finds.
+use Rattle.std.proofs.Common.{◌≡◌, ◌⊎◌, inl, inr, ℕ, ◌+◌, List, [], ◌∷◌, ◌++◌, true, false, refl, sym, ◌∙◌, ap, subst, arith}
+use Rattle.std.specs.Int.{to_le_bytes, w64}
+use Rattle.disk_model.specs.Files.{Name, Files}
+use Rattle.disk_model.specs.Past.{Past, MayLeave, Passes}
+use Rattle.gate_journal.specs.Batches.{HasBatches, IsShort}
+use Rattle.gate_journal.specs.Journal.{JournalState, state_of, IsThere, IsSettledWith, IsUncommitted, IsHalfSwitched, IsSwitching, IsRemoving, IsOpen, IsUndecided}
+use Rattle.gate_journal.specs.declared.journal.Pending.{Pending}
+use Rattle.gate_journal.specs.declared.journal.Pending.TheVariants.{Nothing, Switch, Removal}
+use Rattle.gate_journal.specs.Generations.{IsOwn, AtOwn, HasOneOf, HasBatchesOf, generation_batches}
+use Rattle.gate_journal.specs.Plain.{PlainState, IsSettled, IsInDoubt}
+use Rattle.gate_journal.proofs.Elsewhere.{settled_stays, journal_left}
+use Rattle.gate_journal.proofs.Holding.{holds_at, same_left, holds_left}
+use Rattle.gate_journal.proofs.Begin.{journal_has}
+use Rattle.gate_journal.proofs.Owned.{own_none, own_first, leaves_all, left_now}
+use Rattle.gate_journal.proofs.Telling.{next_told}
+
+abbrev Same : Files → Files → Type 0
+Same a b = b ≡ a
+
+stays_same : (n : Name) (a c : Files) → Same a c → c n ≡ a n
+stays_same n a c same = ap (λ (f : Files). f n) same
+
+pub open_as : (pending other : Pending) (journal : JournalState) (files : Files) (opened : Name → ℕ) (past : Past) (before after : List (List ℕ)) → pending ≡ other → IsOpen pending journal files opened past before after → IsOpen other journal files opened past before after
+open_as pending other journal files opened past before after is = subst (λ (p : Pending). IsOpen p journal files opened past before after) is
+
+module _ (journal : JournalState) (files : Files) (opened : Name → ℕ) (past : Past) (before after : List (List ℕ)) where
+  pub uncommitted_left : IsUncommitted journal files opened past before after → (image : Files) → MayLeave past image → HasBatchesOf journal.name image before ⊎ HasBatchesOf journal.name image after
+  uncommitted_left u image left =
+      let holds = λ (cs : List (List ℕ)) (has : HasBatches (image journal.current.name) cs).
+      holds_at journal.name journal.at.name journal.current.name image u.generation cs u.named.small u.named.at u.named.current (journal_left journal.at files opened past (generation_batches u.generation) u.at image left) has (u.there_left image left) in
+      elim (u.current.left image left) [
+        | inl without ↦ inl (holds before (journal_has before (image journal.current.name) without))
+        | inr with_it ↦ inr (subst (HasBatchesOf journal.name image) (sym u.more) (holds (before ++ u.batch ∷ []) (journal_has (before ++ u.batch ∷ []) (image journal.current.name) with_it)))
+      ]
+
+  pub switching_left : (next : PlainState) → IsSwitching journal next files opened past before after → (image : Files) → MayLeave past image → HasBatchesOf journal.name image before ⊎ HasBatchesOf journal.name image after
+  switching_left next w image left =
+      let old = λ (told : HasBatches (image journal.at.name) (generation_batches w.generation)).
+      holds_at journal.name journal.at.name journal.current.name image w.generation before w.named.small w.named.at w.named.current told (journal_left journal.current files opened past before w.current image left)
+      (subst (IsThere w.generation) (sym (same_left journal.current files opened past before w.current image left)) w.there) in
+      elim w.switch [
+        | inl un ↦ inl (old (journal_left journal.at files opened past (generation_batches w.generation) un.at image left))
+        | inr half ↦ elim (half.at.left image left) [
+          | inl without ↦ inl (old (journal_has (generation_batches w.generation) (image journal.at.name) without))
+          | inr with_it ↦
+              let told : HasBatches (image journal.at.name) (generation_batches (w.generation + 1)) =
+              subst (λ (cs : List (List ℕ)). HasBatches (image journal.at.name) cs) (sym (next_told w.generation (w.generation + 1) refl)) (journal_has (generation_batches w.generation ++ to_le_bytes w64 (w.generation + 1) ∷ []) (image journal.at.name) with_it) in
+              inr (
+              holds_at journal.name journal.at.name next.name image (w.generation + 1) after half.small w.named.at half.named told (journal_left next files opened past after half.made image left)
+              (λ one_on few. half.there (subst IsShort (same_left next files opened past after half.made image left) few))
+              )
+        ]
+      ]
+
+  pub removing_left : (old : PlainState) → IsRemoving journal old files opened past after → (image : Files) → MayLeave past image → HasBatchesOf journal.name image before ⊎ HasBatchesOf journal.name image after
+  removing_left old r image left = inr (holds_left journal files opened past after r.settled image left)
+
+  pub open_left : (pending : Pending) → IsOpen pending journal files opened past before after → (image : Files) → MayLeave past image → HasBatchesOf journal.name image before ⊎ HasBatchesOf journal.name image after
+  open_left Nothing u = uncommitted_left u
+  open_left (Switch next) w = switching_left next w
+  open_left (Removal old) r = removing_left old r
+
+  -- nothing is written
+  pub undecided_passes : (new : Past) → IsUndecided journal files opened past before after → Passes Same past new → Passes (AtOwn journal.name (HasOneOf journal.name before after)) past new
+  undecided_passes new doubt passes =
+      own_first journal.name (HasOneOf journal.name before after) Same past new passes
+      (λ a c was same. subst (λ (f : Files). HasBatchesOf journal.name f before ⊎ HasBatchesOf journal.name f after) (sym same) (open_left journal.pending doubt a was)) (leaves_all journal.name)
+
+  pub undecided_none : IsUndecided journal files opened past before after → Passes (AtOwn journal.name (HasOneOf journal.name before after)) past past
+  undecided_none doubt = own_none journal.name (HasOneOf journal.name before after) past (λ a was. open_left journal.pending doubt a was)
+
+  -- the current generation's file was reviewed
+  module _ (u : IsUncommitted journal files opened past before after) (current : PlainState) (pending : Pending) (later : Files) (opened_later : Name → ℕ) (new : Past) (same_name : current.name ≡ journal.current.name) (same : later ≡ files) (same_opened : opened_later ≡ opened) (passes : Passes Same past new) where
+    abbrev reviewed : JournalState
+    reviewed = state_of journal.name journal.at current pending
+
+    unopened : (n : Name) → IsOwn journal.name n → opened_later n ≡ 0
+    unopened n own = ap (λ (f : Name → ℕ). f n) same_opened ∙ u.named.unopened n own
+
+    at_settled : IsSettled journal.at later opened_later new (generation_batches u.generation)
+    at_settled =
+        settled_stays journal.at files later opened opened_later past new (generation_batches u.generation) Same u.at passes (stays_same journal.at.name) (ap (λ (f : Files). f journal.at.name) same)
+        (let fewer = ap (λ (f : Name → ℕ). f journal.at.name) same_opened in omega (arith, fewer))
+
+    there : IsThere u.generation (later current.name)
+    there = subst (IsThere u.generation) (sym (ap later same_name ∙ ap (λ (f : Files). f journal.current.name) same)) u.there
+
+    pub reviewed_settled : (cs : List (List ℕ)) → IsSettled current later opened_later new cs → IsSettledWith reviewed later opened_later new cs
+    reviewed_settled cs settled = record {
+      generation = u.generation;
+      named = record { small = u.named.small; at = u.named.at; current = same_name ∙ u.named.current; unopened = unopened };
+      at = at_settled;
+      current = settled;
+      there = there;
+    }
+
+    pub reviewed_made : IsSettled current later opened_later new (before ++ u.batch ∷ []) → IsSettledWith reviewed later opened_later new after
+    reviewed_made settled = subst (λ (cs : List (List ℕ)). IsSettledWith reviewed later opened_later new cs) (sym u.more) (reviewed_settled (before ++ u.batch ∷ []) settled)
+
+    pub reviewed_doubtful : pending ≡ Nothing → IsInDoubt current later opened_later new before u.batch → IsUndecided reviewed later opened_later new before after
+    reviewed_doubtful nothing doubt =
+        let is : IsUncommitted reviewed later opened_later new before after = record {
+          generation = u.generation;
+          batch = u.batch;
+          more = u.more;
+          named = record { small = u.named.small; at = u.named.at; current = same_name ∙ u.named.current; unopened = unopened };
+          at = at_settled;
+          current = doubt;
+          there = there;
+          there_left = λ image left.
+              let come = left_now Same past new image passes left in
+              subst (IsThere u.generation) (sym (ap image same_name ∙ ap (λ (f : Files). f journal.current.name) come.2)) (u.there_left come.0 come.1);
+        } in
+        subst (λ (p : Pending). IsOpen p reviewed later opened_later new before after) (sym nothing) is
+
+  -- the file that tells the generation was reviewed
+  module _ (next : PlainState) (w : IsSwitching journal next files opened past before after) where
+    pub half_switched : journal.at.sound ≡ false → IsHalfSwitched journal next files opened past w.generation after
+    half_switched unsound = elim w.switch [ inl un ↦ let wrong : true ≡ false = sym un.sound ∙ unsound in absurd (cc wrong) | inr half ↦ half ]
+
+    -- it was never written
+    pub unswitched : (pending : Pending) → journal.at.sound ≡ true → IsSettledWith (state_of journal.name journal.at journal.current pending) files opened past before
+    unswitched pending sound = elim w.switch [
+      | inl un ↦ record { generation = w.generation; named = record { small = w.named.small; at = w.named.at; current = w.named.current; unopened = w.named.unopened }; at = un.at; current = w.current; there = w.there }
+      | inr half ↦ let wrong : true ≡ false = sym sound ∙ half.unsound in absurd (cc wrong)
+    ]
+
+    module _ (half : IsHalfSwitched journal next files opened past w.generation after) (at : PlainState) (pending : Pending) (later : Files) (opened_later : Name → ℕ) (new : Past) (same_name : at.name ≡ journal.at.name) (same : later ≡ files) (same_opened : opened_later ≡ opened) (passes : Passes Same past new) where
+      pub unopened_still : (n : Name) → IsOwn journal.name n → opened_later n ≡ 0
+      unopened_still n own = ap (λ (f : Name → ℕ). f n) same_opened ∙ w.named.unopened n own
+
+      pub stays : (j : PlainState) (cs : List (List ℕ)) → IsSettled j files opened past cs → IsSettled j later opened_later new cs
+      stays j cs settled =
+          settled_stays j files later opened opened_later past new cs Same settled passes (stays_same j.name) (ap (λ (f : Files). f j.name) same)
+          (let fewer = ap (λ (f : Name → ℕ). f j.name) same_opened in omega (arith, fewer))
+
+      -- it tells the old generation
+      pub not_switched : IsSettled at later opened_later new (generation_batches w.generation) → IsSettledWith (state_of journal.name at journal.current pending) later opened_later new before
+      not_switched told = record {
+        generation = w.generation;
+        named = record { small = w.named.small; at = same_name ∙ w.named.at; current = w.named.current; unopened = unopened_still };
+        at = told;
+        current = stays journal.current before w.current;
+        there = subst (IsThere w.generation) (sym (ap (λ (f : Files). f journal.current.name) same)) w.there;
+      }
+
+      -- it tells the next one
+      abbrev pub is_switched : IsSettled at later opened_later new (generation_batches w.generation ++ to_le_bytes w64 (w.generation + 1) ∷ []) → IsSettledWith (state_of journal.name at next pending) later opened_later new after
+      is_switched told = record {
+        generation = w.generation + 1;
+        named = record { small = half.small; at = same_name ∙ w.named.at; current = half.named; unopened = unopened_still };
+        at = subst (λ (cs : List (List ℕ)). IsSettled at later opened_later new cs) (sym (next_told w.generation (w.generation + 1) refl)) told;
+        current = stays next after half.made;
+        there = λ one_on few. half.there (subst IsShort (ap (λ (f : Files). f next.name) same) few);
+      }
+
+      -- it wasn't told
+      pub still_switching : at ≡ journal.at → pending ≡ Switch next → IsInDoubt at later opened_later new (generation_batches w.generation) (to_le_bytes w64 (w.generation + 1))
+          → IsUndecided (state_of journal.name at journal.current pending) later opened_later new before after
+      still_switching is_at is_pending doubt =
+          let state : JournalState = state_of journal.name at journal.current pending in
+          let is : IsSwitching state next later opened_later new before after = record {
+            generation = w.generation;
+            named = record { small = w.named.small; at = same_name ∙ w.named.at; current = w.named.current; unopened = unopened_still };
+            current = stays journal.current before w.current;
+            there = subst (IsThere w.generation) (sym (ap (λ (f : Files). f journal.current.name) same)) w.there;
+            switch = inr (record {
+              unsound = ap (λ (j : PlainState). j.sound) is_at ∙ half.unsound;
+              small = half.small;
+              named = half.named;
+              at = doubt;
+              made = stays next after half.made;
+              there = λ few. half.there (subst IsShort (ap (λ (f : Files). f next.name) same) few);
+            });
+          } in
+          subst (λ (p : Pending). IsOpen p state later opened_later new before after) (sym is_pending) is

@@ -1,0 +1,90 @@
+-- One name's file goes over to any content while the others stay.
+use Rattle.std.proofs.Common.{◌≡◌, inl, inr, ℕ, ◌+◌, List, [], ◌++◌, length, Some, None, Result, Ok, Err, OnOk, refl, sym, ◌∙◌, ap, subst, arith}
+use Rattle.std.proofs.lemmas.Bool.{cases_lt}
+use Rattle.std.proofs.lemmas.List.{drop_all, append-nil}
+use Rattle.disk_model.specs.Files.{Name, Content, Files, At, HasFile, KeptOr, Overwritten, overwritten, size_of}
+use Rattle.disk_model.specs.Past.{Past, MayLeave, Passes}
+use Rattle.disk_model.proofs.Passing.{passes_none, passes_then, passes_weaker}
+use Rattle.gate_journal.proofs.Steps.{from_file}
+
+-- in whatever way
+abbrev pub Anyhow : Name → Files → Files → Type 0
+Anyhow name = At name (λ a b. Unit {0})
+
+pub loosely : (R : Content → Content → Type 0) (name : Name) (old new : Past) → Passes (At name R) old new → Passes (Anyhow name) old new
+loosely R name old new passes = passes_weaker (At name R) (Anyhow name) old new passes (λ a c was step. record { here = tt; elsewhere = step.elsewhere })
+
+pub then_loosely : (R : Content → Content → Type 0) (name : Name) (old mid new : Past) → Passes (Anyhow name) old mid → Passes (At name R) mid new → Passes (Anyhow name) old new
+then_loosely R name old mid new first second =
+    passes_then (Anyhow name) (At name R) old mid new first second (λ a b c was before now step. record { here = tt; elsewhere = λ n other. step.elsewhere n other ∙ before.elsewhere n other })
+
+pub anyhow_none : (name : Name) (past : Past) → Passes (Anyhow name) past past
+anyhow_none name past = passes_none (Anyhow name) past (λ a was. record { here = tt; elsewhere = λ n other. refl })
+
+pub unmoved : (name : Name) (old new : Past) → Passes (λ a b. b ≡ a) old new → Passes (Anyhow name) old new
+unmoved name old new passes = passes_weaker (λ a b. b ≡ a) (Anyhow name) old new passes (λ a c was step. record { here = tt; elsewhere = λ n other. ap (λ (f : Files). f n) step })
+
+pub then_unmoved : (name : Name) (old mid new : Past) → Passes (Anyhow name) old mid → Passes (λ a b. b ≡ a) mid new → Passes (Anyhow name) old new
+then_unmoved name old mid new first second =
+    passes_then (Anyhow name) (λ a b. b ≡ a) old mid new first second (λ a b c was before now step. record { here = tt; elsewhere = λ n other. ap (λ (f : Files). f n) step ∙ before.elsewhere n other })
+
+-- a write into an empty file
+pub written_whole : (name : Name) (bytes : List ℕ) (mid new : Files) → mid name ≡ Some [] → At name (Overwritten 0 bytes) mid new → new name ≡ Some bytes
+written_whole name bytes mid new empty step =
+    let file = from_file (λ (b c : List ℕ). c ≡ overwritten 0 bytes b) [] (mid name) (new name) empty step.here in
+    file.1 ∙ ap (λ (l : List ℕ). Some l) (file.2 ∙ ap (λ (l : List ℕ). bytes ++ l) (drop_all (0 + length bytes) [] (omega arith)) ∙ append-nil bytes)
+
+pub on_ok_both : {T E P Q S : Type 0} (r : Result T E) → (P → Q → S) → OnOk r P → OnOk r Q → OnOk r S
+on_ok_both (Ok x) both p q = both p q
+on_ok_both (Err e) both p q = tt
+
+pub has_file : (files later : Files) (name : Name) (n : ℕ) → later ≡ files → size_of (files name) ≡ Some n → HasFile later name (λ b. Unit {0})
+has_file files later name n same size = go (files name) refl size
+  where
+    go : (c : Content) → files name ≡ c → size_of c ≡ Some n → HasFile later name (λ b. Unit {0})
+    go None is size = absurd (cc size)
+    go (Some b) is size = record { bytes = b; file = ap (λ (f : Files). f name) same ∙ is; holds = tt }
+
+-- one call more, which makes another relation of the one before it
+pub passes_over : (P R S : Files → Files → Type 0) (old mid new : Past) → Passes P old mid → Passes S mid new → ((a c : Files) → MayLeave old a → P a c → R a c)
+    → ((a b c : Files) → MayLeave old a → P a b → MayLeave mid b → S b c → R a c) → Passes R old new
+passes_over P R S old mid new first second weak step = record {
+  later = omega (arith, first.later, second.later);
+  kept = λ k image le left. second.kept k image (omega (arith, le, first.later)) (first.kept k image le left);
+  nothing_else = λ k image le left. first.nothing_else k image le (second.nothing_else k image (omega (arith, le, first.later)) left);
+  each = λ k image from to left. elim (cases_lt mid.now k) [
+    | inl after ↦
+        let come = second.each k image (omega (arith, after)) to left in
+        let begun = first.each mid.now come.0 first.later (omega arith) come.1 in
+        (begun.0, begun.1, step begun.0 come.0 image begun.1 begun.2 come.1 come.2)
+    | inr before ↦
+        let come = first.each k image from before (second.nothing_else k image before left) in
+        (come.0, come.1, weak come.0 image come.1 come.2)
+  ];
+}
+
+-- a file stays or is gone
+abbrev pub Goes : Name → Files → Files → Type 0
+Goes name = At name (KeptOr None)
+
+pub goes_not : (name : Name) (a c : Files) → c ≡ a → Goes name a c
+goes_not name a c same = record { here = inl (ap (λ (f : Files). f name) same); elsewhere = λ n other. ap (λ (f : Files). f n) same }
+
+pub goes_never : (name : Name) (old new : Past) → Passes (λ a b. b ≡ a) old new → Passes (Goes name) old new
+goes_never name old new passes = passes_weaker (λ a b. b ≡ a) (Goes name) old new passes (λ a c was same. goes_not name a c same)
+
+pub goes_then : (name : Name) (old mid new : Past) → Passes (Goes name) old mid → Passes (λ a b. b ≡ a) mid new → Passes (Goes name) old new
+goes_then name old mid new first second =
+    passes_then (Goes name) (λ a b. b ≡ a) old mid new first second (λ a b c was before now same. subst (λ (f : Files). Goes name a f) (sym same) before)
+
+pub then_goes : (name : Name) (old mid new : Past) → Passes (λ a b. b ≡ a) old mid → Passes (Goes name) mid new → Passes (Goes name) old new
+then_goes name old mid new first second =
+    passes_over (λ a b. b ≡ a) (Goes name) (Goes name) old mid new first second (λ a c was same. goes_not name a c same)
+    (λ a b c was same now step. subst (λ (f : Files). Goes name f c) same step)
+
+-- every name stays but where P is true
+pub leaves_same : (P : Name → Type 0) (old new : Past) → Passes (λ a b. b ≡ a) old new → Passes (λ a b. (n : Name) → (P n → ⊥) → b n ≡ a n) old new
+leaves_same P old new passes = passes_weaker (λ a b. b ≡ a) (λ a b. (n : Name) → (P n → ⊥) → b n ≡ a n) old new passes (λ a c was same n other. ap (λ (f : Files). f n) same)
+
+pub leaves_one : (P : Name → Type 0) (file : Name) (old new : Past) → P file → Passes (Anyhow file) old new → Passes (λ a b. (n : Name) → (P n → ⊥) → b n ≡ a n) old new
+leaves_one P file old new here passes = passes_weaker (Anyhow file) (λ a b. (n : Name) → (P n → ⊥) → b n ≡ a n) old new passes (λ a c was step n other. step.elsewhere n (λ is. other (subst P (sym is) here)))

@@ -1,0 +1,88 @@
+use Rattle.std.proofs.Common.{◌≡◌, ℕ, List, [], ◌∷◌, Some, Err, inl, refl, sym, ◌∙◌, ap, subst, arith}
+use Rattle.disk_model.specs.Files.{Name, At}
+use Rattle.disk_model.specs.Past.{Passes}
+use Rattle.gate_journal.specs.Batches.{HasBatches, IsBadJournal, IsShort}
+use Rattle.gate_journal.specs.Generations.{at_name, generation_batches}
+use Rattle.gate_journal.specs.Load.{StaysOrShort}
+use Rattle.gate_journal.specs.Plain.{IsSettled}
+use Rattle.gate_journal.specs.declared.load_plain.PlainErr.{PlainErr}
+use Rattle.gate_journal.specs.declared.load.JournalErr.TheVariants.{BadJournal as BadNamed}
+use Rattle.gate_journal.proofs.NamedErrs.{named_bad}
+use Rattle.gate_journal.proofs.Synced.{same_at, stays_none}
+use Rattle.gate_journal.proofs.Turns.{tells_all, tells_out, bad_place, bad_told}
+use Rattle.gate_journal.proofs.load.load_told.Goals as goal
+
+pub returns-in_err-file-clause-kept : goal.returns-in_err-file-clause-kept
+returns-in_err-file-clause-kept g c tells = same_at (at_name c.args.name.now) (g.D.Disk.files c.args.disk.now) (g.D.Disk.files c.args.disk.now) refl
+
+pub returns-in_err-file-clause-any_moment : goal.returns-in_err-file-clause-any_moment
+returns-in_err-file-clause-any_moment g c tells = stays_none (at_name c.args.name.now) (g.D.Disk.past c.args.disk.now)
+
+pub returns-clause-told : goal.returns-clause-told
+returns-clause-told g c tells =
+    let took = c.in-Ok.ensures.took in
+    let all = tells_all c.load_into.new.fold.out_of_turn c.load_into.new.fold.generation took.0 c.if-told.false took.1 in
+    let t = took.2 tells in (
+      all.0,
+      subst (λ (n : Name). HasBatches ((g.D.Disk.files c.args.disk.now) n) (generation_batches c.load_into.new.fold.generation)) c.in_ok-file.ensures (subst (λ (bs : List (List ℕ)). HasBatches ((g.D.Disk.files c.args.disk.now) c.in_ok-file.file) bs) all.1 t.0),
+      subst (λ (bs : List (List ℕ)). IsSettled c.in-Ok.journal (g.D.Disk.files c.load_into.new.disk) (g.D.Disk.opened c.load_into.new.disk) (g.D.Disk.past c.load_into.new.disk) bs) all.1 t.1,
+    )
+
+pub returns-clause-journal : goal.returns-clause-journal
+returns-clause-journal g c = (c.in-Ok.ensures.journal.0 ∙ c.in_ok-file.ensures, c.in-Ok.ensures.journal.1)
+
+pub returns-then-told-clause-bad : goal.returns-then-told-clause-bad
+returns-then-told-clause-bad g c tells file at failed =
+    let took = c.in-Ok.ensures.took in
+    let t = took.2 tells in
+    let which : c.in_ok-file.file ≡ file = cc failed in
+    let same : c.min-at.result ≡ at = cc failed in
+    let out = tells_out c.load_into.new.fold.out_of_turn c.load_into.new.fold.generation took.0 c.if-told.true took.1 in
+    let place = bad_place c.load_into.new.fold.generation c.saturating_mul-place.result c.min-at.result c.len.result c.in-Ok.journal.place took.0 c.saturating_mul-place.ensures c.min-at.ensures c.len.ensures (omega arith) t.1.place out in
+    bad_told c.args.name.now file (g.D.Disk.files c.args.disk.now) c.load_into.new.fold.out_of_turn c.load_into.new.fold.generation at took.0 (sym which ∙ c.in_ok-file.ensures) c.if-told.true took.1 (subst (λ (n : Name). HasBatches ((g.D.Disk.files c.args.disk.now) n) took.0) which t.0) (sym same ∙ place)
+
+pub returns-in-Err-clause-bad : goal.returns-in-Err-clause-bad
+returns-in-Err-clause-bad g c tells file at failed =
+    let is : c.named.result ≡ BadNamed file at = cc failed in
+    let b = named_bad c.in-Err.error c.in_ok-file.file file at (sym c.named.ensures ∙ is) in
+    inl (b.1 ∙ c.in_ok-file.ensures, inl (subst (λ (n : Name). IsBadJournal ((g.D.Disk.files c.args.disk.now) n) at) (sym b.1) (c.in-Err.ensures.bad tells at (ap (λ (e : PlainErr). Err e) b.0))))
+
+pub returns-in-Err-clause-kept : goal.returns-in-Err-clause-kept
+returns-in-Err-clause-kept g c tells = subst (λ (n : Name). At n StaysOrShort (g.D.Disk.files c.args.disk.now) (g.D.Disk.files c.load_into.new.disk)) c.in_ok-file.ensures (c.load_into.ensures.kept tells)
+
+pub returns-in-Err-clause-any_moment : goal.returns-in-Err-clause-any_moment
+returns-in-Err-clause-any_moment g c tells = subst (λ (n : Name). Passes (At n StaysOrShort) (g.D.Disk.past c.args.disk.now) (g.D.Disk.past c.load_into.new.disk)) c.in_ok-file.ensures (c.load_into.ensures.any_moment tells)
+
+pub returns-in-Err-clause-opened : goal.returns-in-Err-clause-opened
+returns-in-Err-clause-opened g c tells n other = c.load_into.ensures.opened tells n (λ is. other (is ∙ c.in_ok-file.ensures))
+
+pub returns-in-Err-clause-unopened : goal.returns-in-Err-clause-unopened
+returns-in-Err-clause-unopened g c tells = ap (g.D.Disk.opened c.load_into.new.disk) (sym c.in_ok-file.ensures) ∙ c.load_into.ensures.unopened tells
+
+pub returns-then-told-clause-kept : goal.returns-then-told-clause-kept
+returns-then-told-clause-kept g c tells = subst (λ (n : Name). At n StaysOrShort (g.D.Disk.files c.args.disk.now) (g.D.Disk.files c.load_into.new.disk)) c.in_ok-file.ensures (c.load_into.ensures.kept tells)
+
+pub returns-then-told-clause-any_moment : goal.returns-then-told-clause-any_moment
+returns-then-told-clause-any_moment g c tells = subst (λ (n : Name). Passes (At n StaysOrShort) (g.D.Disk.past c.args.disk.now) (g.D.Disk.past c.load_into.new.disk)) c.in_ok-file.ensures (c.load_into.ensures.any_moment tells)
+
+pub returns-then-told-clause-opened : goal.returns-then-told-clause-opened
+returns-then-told-clause-opened g c tells n other = c.load_into.ensures.opened tells n (λ is. other (is ∙ c.in_ok-file.ensures))
+
+pub returns-then-told-clause-unopened : goal.returns-then-told-clause-unopened
+returns-then-told-clause-unopened g c tells = ap (g.D.Disk.opened c.load_into.new.disk) (sym c.in_ok-file.ensures) ∙ c.load_into.ensures.unopened tells
+
+pub returns-clause-kept : goal.returns-clause-kept
+returns-clause-kept g c tells = subst (λ (n : Name). At n StaysOrShort (g.D.Disk.files c.args.disk.now) (g.D.Disk.files c.load_into.new.disk)) c.in_ok-file.ensures (c.load_into.ensures.kept tells)
+
+pub returns-clause-any_moment : goal.returns-clause-any_moment
+returns-clause-any_moment g c tells = subst (λ (n : Name). Passes (At n StaysOrShort) (g.D.Disk.past c.args.disk.now) (g.D.Disk.past c.load_into.new.disk)) c.in_ok-file.ensures (c.load_into.ensures.any_moment tells)
+
+pub returns-clause-opened : goal.returns-clause-opened
+returns-clause-opened g c tells n other = c.load_into.ensures.opened tells n (λ is. other (is ∙ c.in_ok-file.ensures))
+
+pub returns-clause-unopened : goal.returns-clause-unopened
+returns-clause-unopened g c tells = ap (g.D.Disk.opened c.load_into.new.disk) (sym c.in_ok-file.ensures) ∙ c.load_into.ensures.unopened tells
+
+pub returns-clause-made : goal.returns-clause-made
+returns-clause-made g c tells short =
+    subst (λ (n : Name). g.D.Disk.files c.load_into.new.disk n ≡ Some (0 ∷ [])) c.in_ok-file.ensures (c.in-Ok.ensures.made tells (subst (λ (n : Name). IsShort (g.D.Disk.files c.args.disk.now n)) (sym c.in_ok-file.ensures) short))

@@ -1,0 +1,44 @@
+use Rattle.std.proofs.Common.{◌≡◌, ◌⊎◌, Bool, true, false, cond, sym, subst}
+use Rattle.store_manifest.specs.Batches.{Configured}
+use Rattle.store_manifest.specs.Listing.{entries_of, next_of}
+use Rattle.store_manifest.specs.Manifest.{ManifestState, IsKept}
+use Rattle.store_manifest.proofs.Committing.{review_kept, review_moment}
+use Rattle.store_manifest.proofs.manifest.Manifest.review.Goals as goal
+use Rattle.store_manifest.proofs.manifest.Manifest.review.Goals.{else-branch-via-then-branch+else-of_commit, else-branch-via-else-branch}
+
+pub review-requires-clause-in_doubt : goal.review-requires-clause-in_doubt
+review-requires-clause-in_doubt g c tells = let u = rw (← c.self.view_is) at (c.requires.doubt tells) in (u.before, u.after, u.undecided)
+
+pub returns-in_err-review-clause-any_moment : goal.returns-in_err-review-clause-any_moment
+returns-in_err-review-clause-any_moment g c = rw (← c.self.view_is) (λ tells.
+    let u = rw (← c.self.view_is) at (c.requires.doubt tells) in
+    review_moment _ _ u.before u.after _ _ _ _ _ u.means u.means_after (c.review.ensures.any_moment tells u.before u.after u.undecided))
+
+pub returns-else-branch-clause-kept : goal.returns-else-branch-clause-kept
+returns-else-branch-clause-kept g c tells =
+    let u = rw (← c.self.view_is) at (c.requires.doubt tells) in
+    let after : ManifestState = record { journal = c.review.new.self; granularity = c.self.inside.granularity; entries = entries_of c.self.inside.listing.lists.listed.entries; next = next_of c.self.inside.listing } in
+    let is : c.else-branch.self ≡ after = elim c.else-branch.branch [ else-branch-via-then-branch+else-of_commit w ↦ w.self-is | else-branch-via-else-branch w ↦ w.self-is ] in
+    let which : ((c.in_ok-review.field-0 ≡ true) × (c.is_commit_open-of_commit.result ≡ false)) ⊎ (c.in_ok-review.field-0 ≡ false) = c.else-branch.either in
+    let Q : Bool → Type 0 = λ b. Configured after.granularity u.after (cond b after.next after.entries) in
+    let R : ManifestState → Type 0 = λ m. IsKept m (g.D.Disk.files c.review.new.disk) (g.D.Disk.opened c.review.new.disk) (g.D.Disk.past c.review.new.disk) in
+    subst R (sym is) (review_kept after.granularity c.is_commit_open-of_commit.result c.in_ok-review.field-0 after.journal (g.D.Disk.files c.review.new.disk) (g.D.Disk.opened c.review.new.disk) (g.D.Disk.past c.review.new.disk) u.before u.after after.entries after.next u.means
+    (subst Q (sym c.is_commit_open-of_commit.ensures) u.means_after) (c.in_ok-review.ensures.made tells u.before u.after u.undecided) (c.in_ok-review.ensures.unmade tells u.before u.after u.undecided) which)
+
+pub returns-else-branch-clause-any_moment : goal.returns-else-branch-clause-any_moment
+returns-else-branch-clause-any_moment g c =
+    rw (← c.self.view_is) (λ tells.
+    let u = rw (← c.self.view_is) at (c.requires.doubt tells) in
+    review_moment _ _ u.before u.after _ _ _ _ _ u.means u.means_after (c.review.ensures.any_moment tells u.before u.after u.undecided))
+
+pub returns-then-of_commit-clause-any_moment : goal.returns-then-of_commit-clause-any_moment
+returns-then-of_commit-clause-any_moment g c =
+    rw (← c.self.view_is) (λ tells.
+    let u = rw (← c.self.view_is) at (c.requires.doubt tells) in
+    review_moment _ _ u.before u.after _ _ _ _ _ u.means u.means_after (c.review.ensures.any_moment tells u.before u.after u.undecided))
+
+pub returns-else-branch-clause-elsewhere : goal.returns-else-branch-clause-elsewhere
+returns-else-branch-clause-elsewhere g c = rw (← c.self.view_is) (λ tells n other. c.review.ensures.elsewhere tells n other)
+
+pub returns-else-branch-clause-opened : goal.returns-else-branch-clause-opened
+returns-else-branch-clause-opened g c = rw (← c.self.view_is) (λ tells n other. c.review.ensures.opened tells n other)
