@@ -156,6 +156,14 @@ class Disk:
                 return None
         return folder, parts[-1] if parts else None
 
+    def give(self, path, content):
+        """A file that is there gets these bytes, and is on the disk."""
+        folder, name = self.place(str(path).encode())
+        node = folder.names[name]
+        node.content = bytearray(content)
+        node.sync()
+        folder.sync()
+
     def call(self, name, arguments, result):
         """Does a call."""
         if name == "openat":

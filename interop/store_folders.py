@@ -150,14 +150,24 @@ def beside_moves(rng, place):
 COPIES = 12
 
 
+def copied_journal(site, copy, name):
+    """A copy of a journal: the file that tells which of its files counts, and then those."""
+    tells = site / f"{name}.at"
+    with contextlib.suppress(FileNotFoundError):  # the ingest hasn't made it yet
+        shutil.copyfile(tells, copy / tells.name)
+    for path in site.glob(f"{name}*"):
+        if path != tells:
+            with contextlib.suppress(FileNotFoundError):  # the ingest no longer has it
+                shutil.copyfile(path, copy / path.name)
+
+
 def copied(place, folder):
     """A copy of an archive beside an ingest, in the order in which it may be taken: what a file needs is copied behind it. The marks
     are left out."""
     copy = place.elsewhere(folder)
     copy.site.mkdir(parents=True)
     for name in (*(f"manifest{store}" for store in STORES), "catalogue"):
-        with contextlib.suppress(FileNotFoundError):  # the ingest hasn't made it yet
-            shutil.copyfile(place.site / name, copy.site / name)
+        copied_journal(place.site, copy.site, name)
     for store, folder in place.stores.items():
         if folder.exists():
             shutil.copytree(folder, copy.stores[store], ignore=shutil.ignore_patterns(MARK), ignore_dangling_symlinks=True)
@@ -215,7 +225,7 @@ def only_read(rng, place):
         close_folders(place)
         before = paths_below(place.folder)
         compare_whole(place, model)
-        denied = place.told(place.site / ("catalogue" if locked else "lock"))
+        denied = place.told(place.site / ("catalogue.at" if locked else "lock"))
         refused(place, fault(denied, "Permission denied (os error 13)"), *WRITING)
         agree("what is there", paths_below(place.folder), before)
         place.before = []

@@ -181,8 +181,12 @@ def another_site(rng, place):
 
 
 def stores_of_none(rng, place):
-    """A fresh site over stores that have files and no marks. Nothing of the stores is changed, and their own site gets them."""
+    """A fresh site over stores that have files and no marks. Nothing of the stores is changed, and their own site gets them, also
+    where a manifest of it has begun anew."""
     model, _ = marked(rng, place)
+    place.lengthen(1)
+    take(place, model, more(rng))
+    agree("the manifest", place.manifest_name(1), "manifest1.1")
     unmark(place)
     before = content_of(place)
     for store in STORES:

@@ -467,6 +467,27 @@ def batches(data):
         at = behind
 
 
+def journal(batches):
+    """A journal of these batches."""
+    return b"".join(b"\x01%s%s" % (len(batch).to_bytes(4, "little"), batch) for batch in batches) + b"\0"
+
+
+def generation(tells):
+    """The generation of a journal that its file `.at` tells, by that file's bytes."""
+    found = 0
+    for place, batch in batches(tells):
+        if batch != (found + 1).to_bytes(8, "little"):
+            raise Damaged(place)
+        found += 1
+    return found
+
+
+def current_name(name, tells):
+    """The name of a journal's file that counts, by the bytes of its file `.at`."""
+    number = generation(tells)
+    return f"{name}.{number}" if number else name
+
+
 class Reader:
     """Little-endian numbers of a batch, one after another."""
 
@@ -478,6 +499,12 @@ class Reader:
         """The next number, of so many bytes."""
         self.at += size
         return int.from_bytes(self.data[self.at - size : self.at], "little")
+
+
+def set_batch(where, entry):
+    """The batch of a manifest that lists one file of this series and start."""
+    numbers = zip((*where, entry.length, entry.head, entry.first, entry.last, entry.count), (4, 8, 8, 4, 8, 8, 8))
+    return b"\x02" + b"".join(number.to_bytes(size, "little") for number, size in numbers)
 
 
 def listed(manifest):

@@ -20,6 +20,8 @@ FOLDERS = ("SHORT_TERM", "MEDIUM_TERM", "LONG_TERM", "SITE")
 DEFAULTS = ("sts", "mts", "lts", "site")
 # The file of each folder that tells of which archive it is.
 MARK = "archive-mark"
+# A manifest of so many bytes, and four times those that list what it lists, begins anew at its next commit.
+LONG = 1 << 20
 # All of time, as moments and as words.
 WHOLE = (0, pb_model.END - 1)
 WHOLE_WORDS = tuple(pb_model.iso(t) for t in WHOLE)
@@ -123,13 +125,33 @@ class Place:
 
     # Files
 
-    def manifest(self, store):
-        """The bytes of a store's manifest. A program that was killed before it made the file left none, which is as good as
-        an empty one."""
+    def bytes_of(self, name):
+        """The bytes of a file of the site's folder. A program that was killed before it made the file left none, which is as
+        good as an empty one."""
         try:
-            return (self.site / f"manifest{store}").read_bytes()
+            return (self.site / name).read_bytes()
         except FileNotFoundError:
             return b""
+
+    def manifest_name(self, store):
+        """The name of the file that counts of a store's manifest."""
+        name = f"manifest{store}"
+        return store_model.current_name(name, self.bytes_of(f"{name}.at"))
+
+    def manifest(self, store):
+        """The bytes of the file that counts of a store's manifest."""
+        return self.bytes_of(self.manifest_name(store))
+
+    def lengthen(self, store):
+        """Lists again what a store's manifest lists, until its next commit is to begin it anew. True where it lists some."""
+        _, entries = self.listed(store)
+        again = [store_model.set_batch(where, entry) for where, entry in entries.items()]
+        if again:
+            batches = [batch for _, batch in store_model.batches(self.manifest(store))]
+            few = len(again) * (5 + len(again[0]))
+            times = max(LONG // few, 4) + 1
+            (self.site / self.manifest_name(store)).write_bytes(store_model.journal(batches + again * times))
+        return bool(again)
 
     def listed(self, store):
         """The granularity of a store's manifest, and what it lists."""

@@ -373,7 +373,7 @@ def numbers_for_prometheus(_, service):
                 want(row, found[row], wanted)
             want("the age of the last sample", 89 < found['archappl_last_sample_age_seconds{pv="E:A"}'] < 300, True)
             want("no age", 'archappl_last_sample_age_seconds{pv="E:B"}' in found, False)
-            size = (service.folder / "site/manifest1").stat().st_size
+            size = sum(file.stat().st_size for file in (service.folder / "site").glob("manifest1*"))
             want("a manifest", found['archappl_journal_bytes{journal="manifest1"}'], size)
             want("room", found['archappl_folder_free_bytes{folder="medium"}'] > 0, True)
             want("memory", found["archappl_memory_bytes"] > 1 << 20, True)
