@@ -37,6 +37,7 @@ impl<'a> Door for ServiceDoor<'a> {
     fn next(&mut self) -> Next<TcpLink<&'a HostRuntime>> {
         if let Some(telling) = &self.telling {
             telling.opened();
+            self.stop.tell_serving();
         }
         if self.closed || self.stop.is_asked() {
             self.closed = true;

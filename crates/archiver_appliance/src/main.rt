@@ -52,7 +52,7 @@ fn main(rt: HostRuntime) -> ExitCode {
                 // Where no thread can be made nobody watches: the run comes first then.
                 let ((), ended) = join(
                     &rt,
-                    || watch(&rt, &stop, &file, &ports),
+                    || watch(&rt, &rt, &stop, &file, &ports),
                     || {
                         let ended = run_over(&rt, &rt, prepared);
                         stop.tell_over();

@@ -1,7 +1,9 @@
 // How a service is told to end: by a file.
+use crate::telling::tell;
 use std::alloc::{AllocError, Global};
 use std::fs::{self, Files};
-use std::net::{Net, TcpStream};
+use std::io::ErrorKind;
+use std::net::{Net, TcpStream, ToSocketAddrs};
 use std::sync::atomic::{AtomicBool, Ordering};
 use std::sync::{Arc, Wait};
 use std::thread;
@@ -10,9 +12,13 @@ use std::time::{Clock, Duration};
 // How many milliseconds lie between two looks for the file.
 const PAUSE: u64 = 100;
 
-/// Whether a service is to end, and whether it is over.
+// How many milliseconds a connection that wakes a door may take.
+const WAKING: u64 = 250;
+
+/// How far a service is: whether its archive is open, whether it is to end, and whether it is over.
 #[derive(Drop)]
 pub struct Stop {
+    serving: AtomicBool,
     asked: AtomicBool,
     over: AtomicBool,
 }
@@ -21,10 +27,16 @@ impl Stop {
     /// For a service that is to go on.
     pub fn shared(alloc: Global) -> Result<Arc<Stop, Global>, AllocError> {
         let stop = Stop {
+            serving: AtomicBool::new(false),
             asked: AtomicBool::new(false),
             over: AtomicBool::new(false),
         };
         Ok(Arc::new(alloc, stop)?)
+    }
+
+    /// Tells that its archive is open, and so that nobody else works in the folders.
+    pub fn tell_serving(&self) {
+        self.serving.store(true, Ordering::SeqCst);
     }
 
     /// Whether its doors are to close.
@@ -48,18 +60,57 @@ pub struct Ports {
     pub doors: u32,
 }
 
-/// Waits until the file is there or the service is over. Then the service is to end, and each port gets as many connections as it has
-/// doors, so that those that wait for one find out.
-pub fn watch<R: Files + Net + Clock + Wait>(rt: &R, stop: &Stop, file: &str, ports: &Ports) {
-    for _ in rt.forever() {
-        if stop.over.load(Ordering::SeqCst) || matches!(fs::exists(rt, file), Ok(true)) {
+/// Waits until the file is there or the service is over. Then the service is to end, and those doors that wait for a connection find
+/// out. A file that was there before asked for the end of an earlier service: it is removed once the archive is open, and one that can't be
+/// removed ends this one too.
+pub fn watch<R: Files + Net + Clock + Wait>(
+    rt: &HostRuntime,
+    handles: &R,
+    stop: &Stop,
+    file: &str,
+    ports: &Ports,
+) {
+    let mut is_old = is_there(handles, file);
+    for _ in handles.forever() {
+        if stop.over.load(Ordering::SeqCst) {
             break;
         }
-        thread::sleep(rt, Duration::from_millis(PAUSE));
+        if is_old && stop.serving.load(Ordering::SeqCst) {
+            is_old = false;
+            let _ = fs::remove_file(handles, file);
+        }
+        if !is_old && is_there(handles, file) {
+            if let Ok(line) = format!(in rt.alloc(); "archappl: to end, since {file} is there\n") {
+                tell(rt, &line);
+            }
+            break;
+        }
+        thread::sleep(handles, Duration::from_millis(PAUSE));
     }
     stop.asked.store(true, Ordering::SeqCst);
-    for _ in 0..ports.doors {
-        let _ = TcpStream::connect(rt, (ports.address.as_str(), ports.feed_port));
-        let _ = TcpStream::connect(rt, (ports.address.as_str(), ports.http_port));
+    for port in [ports.feed_port, ports.http_port] {
+        wake_doors(handles, &ports.address, port, ports.doors);
+    }
+}
+
+fn is_there(files: &impl Files, file: &str) -> bool {
+    matches!(fs::exists(files, file), Ok(true))
+}
+
+// Makes as many connections to a port as it has doors. One that isn't taken in time shows that so many wait at the port already that each
+// door finds one of those.
+fn wake_doors(net: &impl Net, address: &str, port: u16, doors: u32) {
+    let limit = Duration::from_millis(WAKING);
+    for _ in 0..doors {
+        let Ok(places) = (address, port).to_socket_addrs(net) else {
+            return;
+        };
+        for place in places {
+            match TcpStream::connect_timeout(net, &place, limit) {
+                Ok(_) => break,
+                Err(err) if err.kind() == ErrorKind::TimedOut => return,
+                Err(_) => {}
+            }
+        }
     }
 }
