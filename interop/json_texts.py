@@ -1,15 +1,8 @@
-#!/usr/bin/env python3
-"""Reads the JSON texts that the archiver's tests write with Python's own reader, and looks at their members.
-
-The texts are the lines of `crates/text_tests/stdout`, with which the gate compares what that program writes.
-"""
+"""The reading of the service's JSON texts with Python's own reader, which looks at their members, their order and types."""
 
 import json
 import re
-import sys
-from pathlib import Path
 
-TEXTS = Path(__file__).resolve().parent.parent / "crates" / "text_tests" / "stdout"
 MEMBERS = ["secs", "nanos", "val", "severity", "status"]
 BITS = re.compile(r"0x([0-9a-f]{8}|[0-9a-f]{16})")
 
@@ -38,30 +31,13 @@ def check_sample(sample):
     assert all(BITS.fullmatch(text) for text in bits), f"bits {bits}"
 
 
-def check_text(line):
-    """A text is one object of what is known of the variable and of its samples. Objects are read as lists of pairs."""
-    [answer] = json.loads(line, object_pairs_hook=lambda pairs: pairs)
+def check_text(text):
+    """A text is one object of what is known of the variable and of its samples, of which it gives the number. Objects are read as lists of pairs."""
+    assert text.endswith("]}]\n"), "the text's end"
+    [answer] = json.loads(text, object_pairs_hook=lambda pairs: pairs)
     assert [name for name, _ in answer] == ["meta", "data"], "the answer's members"
     meta, data = answer[0][1], answer[1][1]
     assert meta[0][0] == "name" and are_texts(meta), "meta"
     for sample in data:
         check_sample(sample)
     return len(data)
-
-
-def main():
-    failed = samples = 0
-    lines = TEXTS.read_text(encoding="utf-8").split("\n")[:-1]
-    for number, line in enumerate(lines, 1):
-        try:
-            assert line.endswith("]}]"), "the text's end"
-            samples += check_text(line)
-        except (AssertionError, ValueError, TypeError, IndexError) as error:
-            print(f"text {number}: {error}\n{line}")
-            failed += 1
-    print(f"interop JSON texts: {len(lines) - failed} passed, {failed} failed, {samples} samples")
-    return 1 if failed or not lines else 0
-
-
-if __name__ == "__main__":
-    sys.exit(main())

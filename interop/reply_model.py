@@ -1,0 +1,238 @@
+"""What a service tells its clients, one connection after another: a model to compare with.
+
+It says in Python what docs/FORMATS.md says in words, over lists of samples. It stands on `http_model.py`, `store_model.py`
+and `pb_model.py` alone, and takes nothing from the program.
+"""
+
+from dataclasses import dataclass
+
+import pb_model
+from http_model import CHUNK, MOST_TAKEN, chunk, head_of, request_of
+from pb_model import SECOND, unescape
+from store_model import AHEAD, STORES, TYPE_NAMES, Archive, Row, chosen, is_name, key_of
+
+MOST_ROWS = 65_536
+STRING, SHORT, FLOAT, ENUM, BYTE, INT, DOUBLE = range(7)
+KEPT, HELD, DROPPED = range(3)
+
+
+@dataclass
+class Variable(Row):
+    """A row that may be paused or sampled each period, and of whose samples so many are durable."""
+
+    period: int = 0
+    paused: bool = False
+    durable: int = 0
+
+    def state(self):
+        return "Paused" if self.paused else "Being archived"
+
+
+class Site(Archive):
+    """An archive that a service has, and whether writes to its disk fail."""
+
+    def __init__(self):
+        super().__init__()
+        self.fails = False
+
+    # Acts
+
+    def row_of_key(self, name):
+        """The number of the row that has the name or its key, None where there is none."""
+        return next((number for number, row in enumerate(self.rows) if key_of(row.name) == key_of(name)), None)
+
+    def register(self, header):
+        """Makes a row of a header whose name and key are free."""
+        if is_name(header.name) and self.row_of_key(header.name) is None:
+            self.rows.append(Variable(header.name, header.type, header.count, header.headers))
+
+    def offer(self, header, t, line, now):
+        """How a sample is counted: as kept, as held until a tick, or as dropped."""
+        row = self.find(header.name)
+        if row is None or row.paused or row.type != header.type:
+            return DROPPED
+        if (row.samples and t <= row.samples[-1][0]) or t > now + AHEAD:
+            return DROPPED
+        if row.period:
+            return HELD
+        row.add(t, line)
+        return KEPT
+
+    def ingest(self, stream, now):
+        """Takes a stream as `ingest` does."""
+        run = super().ingest(stream, now)
+        self.settle()
+        return run
+
+    def pending(self):
+        """How many samples are kept and not told durable."""
+        return sum(len(row.samples) - row.durable for row in self.rows)
+
+    def settle(self):
+        """All that was kept is durable."""
+        for row in self.rows:
+            row.durable = len(row.samples)
+
+    # Feeds
+
+    def feed(self, stream, now):
+        """What a feed of these bytes is told."""
+        chunks, refused = pb_model.read_stream(stream)
+        told, kept = b"", 0
+        for chunk in chunks:
+            counts = [0, 0, 0]
+            for t, line in chunk.samples:
+                counts[self.offer(chunk.header, t, line, now)] += 1
+            kept += counts[KEPT]
+            if chunk.ended:
+                told += b"ok %d %d %d\n" % tuple(counts)
+        if self.fails and self.pending():
+            return told + b"fault disk\n"
+        self.settle()
+        if refused:
+            return told + b"refused %d E%d\n" % (refused.line, refused.fault)
+        return told + b"durable %d\n" % kept
+
+    # Requests
+
+    def replies(self, data):
+        """The replies that bytes of a request may have, behind which nothing comes. It is one but for a flush of what may be durable by itself."""
+        request = request_of(data, MOST_TAKEN, set())[0]
+        if request.startswith("E"):
+            return [self.refusal(request)]
+        version, call, *words = request.split(" ")
+        if call in ("raw", "json"):
+            return [self.data(int(version), call, *words)]
+        if call == "flush" and not self.fails:
+            most = self.pending()
+            self.settle()
+            return [managed(200, '{"status":"ok","flushed":%d}' % count) for count in range(most, -1, -1)]
+        return [managed(*self.told(call, words))]
+
+    def refusal(self, request):
+        number, _, parameter = request.partition(" ")
+        status = {"E28": 431, "E29": 405, "E30": 404}.get(number, 400)
+        return managed(status, '{"status":"%s"%s}' % (number, f',"parameter":"{parameter}"' if parameter else ""))
+
+    def told(self, call, words):
+        """Status and body of the reply to a management call."""
+        if call == "all":
+            return 200, "[" + ",".join(f'"{row.name.decode()}"' for row in self.rows) + "]"
+        if call == "flush":
+            return (500, '{"status":"disk"}') if self.pending() else (200, '{"status":"ok","flushed":0}')
+        if call == "archive":
+            return self.told_of_archiving(*words)
+        return self.told_of_row(call, words[0])
+
+    def told_of_archiving(self, name, type_name, method, *rest):
+        number = self.row_of_key(name.encode())
+        if number is not None:
+            taken = "E18" if self.rows[number].name == name.encode() else "E19"
+            return 409, '{"status":"%s","row":%d}' % (taken, number)
+        if len(self.rows) == MOST_ROWS:
+            return 409, '{"status":"E20"}'
+        if self.fails:
+            return 500, '{"status":"disk"}'
+        period = int(rest[0]) if method == "scan" else 0
+        self.rows.append(Variable(name.encode(), TYPE_NAMES.index(type_name), None, [], period=period))
+        return 200, '{"status":"ok","row":%d}' % (len(self.rows) - 1)
+
+    def told_of_row(self, call, name):
+        row = self.find(name.encode())
+        if call == "status":
+            return 200, '[{"pvName":"%s","status":"%s"}]' % (name, row.state() if row else "Not being archived")
+        if row is None:
+            return 404, '{"status":"E26"}'
+        if call == "details":
+            return 200, details(row)
+        if row.paused == (call == "pause"):
+            return 409, '{"status":"%s"}' % ("E21" if row.paused else "E22")
+        if self.fails:
+            return 500, '{"status":"disk"}'
+        row.paused = not row.paused
+        return 200, '{"status":"ok"}'
+
+    def data(self, version, call, name, first, last):
+        """The reply to a request for data."""
+        row = self.find(name.encode())
+        if row is None:
+            return managed(404, '{"status":"E26"}')
+        if call == "raw":
+            text = self.get(row.name, int(first), int(last)).output
+        else:
+            text = json_text(row, chosen(row.samples, int(first), int(last)))
+        return head_of(200, call == "json", version, None) + (in_chunks(text) if version == 1 else text)
+
+
+def in_chunks(text):
+    """A body in chunks, and its end."""
+    return b"".join(chunk(text[at : at + CHUNK]) for at in range(0, len(text), CHUNK)) + b"0\r\n\r\n"
+
+
+def managed(status, body):
+    """A reply with a JSON body of a known length."""
+    text = body.encode() + b"\n"
+    return head_of(status, True, 1, len(text)) + text
+
+
+def details(row):
+    members = {
+        "pvName": f'"{row.name.decode()}"',
+        "type": f'"{TYPE_NAMES[row.type]}"',
+        "status": f'"{row.state()}"',
+        "samplingMethod": '"SCAN"' if row.period else '"MONITOR"',
+        "samplingPeriodNanos": row.period,
+        "accepted": len(row.samples),
+        "durable": row.durable,
+        "files": "[%s]" % ",".join(str(len(row.listed[store])) for store in STORES),
+    }
+    return "{" + ",".join(f'"{name}":{value}' for name, value in members.items()) + "}"
+
+
+# JSON texts
+
+
+def json_text(row, samples):
+    """The JSON text of samples of a row."""
+    members = ",".join(first_of_each([(b"name", row.name), *row.headers]))
+    return ('[{"meta":{%s},"data":[%s]}]\n' % (members, ",".join(json_sample(row.type, t, line) for t, line in samples))).encode()
+
+
+def json_sample(type_number, t, line):
+    event = pb_model.event(type_number, unescape(line[:-1]))
+    text = f'{{"secs":{t // SECOND},"nanos":{t % SECOND},"val":{json_value(type_number, event.val)}'
+    text += f',"severity":{event.severity},"status":{event.status}'
+    if event.fieldvalues:
+        text += ',"fields":{' + ",".join(first_of_each(event.fieldvalues)) + "}"
+    return text + "}"
+
+
+def json_value(type_number, value):
+    kind = type_number % 7
+    if kind == BYTE:
+        return "[" + ",".join(map(str, value)) + "]"
+    if type_number >= 7:
+        return "[" + ",".join(json_element(kind, element) for element in value) + "]"
+    return json_element(kind, value)
+
+
+def json_element(kind, element):
+    if kind == STRING:
+        return json_string(element)
+    if kind in (FLOAT, DOUBLE):
+        return f'"0x{element:0{8 if kind == FLOAT else 16}x}"'
+    return str(element)
+
+
+def first_of_each(pairs):
+    """The members of an object, the first alone of those with one name."""
+    seen = {}
+    for name, value in pairs:
+        seen.setdefault(name, value)
+    return [f"{json_string(name)}:{json_string(value)}" for name, value in seen.items()]
+
+
+def json_string(data):
+    short = {'"': '\\"', "\\": "\\\\", "\b": "\\b", "\t": "\\t", "\n": "\\n", "\f": "\\f", "\r": "\\r"}
+    escaped = (short.get(mark) or (f"\\u{ord(mark):04x}" if mark < " " else mark) for mark in data.decode(errors="replace"))
+    return '"' + "".join(escaped) + '"'
