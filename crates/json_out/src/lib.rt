@@ -18,7 +18,7 @@
 //! object's members are compared each with each, so the time for an event grows with the square of the number of its field values.
 //! Memory is taken for one sample's text.
 //!
-//! Tests: `text_tests`.
+//! Tests: the built program's run it.
 #![tactic(auto)]
 
 mod event;

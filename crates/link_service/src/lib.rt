@@ -22,7 +22,7 @@
 //! Caveats: a link of HTTP serves one request. A feed registers no variables. A reply's text isn't kept, so memory doesn't grow with the
 //! answer.
 //!
-//! Tests: `feed_tests` and `reply_tests` run the two sessions, and `service_tests` whole services, over the board of `turn_tests`.
+//! Tests: the built program's run the two sessions, and `service_tests` whole services, over the board of `turn_tests`.
 #![tactic(auto)]
 
 mod body;

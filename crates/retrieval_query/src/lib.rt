@@ -14,7 +14,7 @@
 //! Caveats: the year of each sample is computed from its moment. A pin is given up before the text is ended, so `Finished` says that both
 //! were done.
 //!
-//! Tests: `query_tests`.
+//! Tests: the built program's run it.
 #![tactic(auto)]
 
 mod give;
