@@ -8,7 +8,7 @@
 //! move is running. With an hour's partitions of series 0 and 1, five of each ended, hold 5 and gather 3, it answers series 0 with three
 //! parts; while that move runs series 1 with three; and while both run the number of series 0's move.
 //!
-//! The tests are in `archive_tests`.
+//! The tests of an archive run it.
 #![tactic(auto)]
 
 mod parts;

@@ -4,7 +4,7 @@
 //! move takes it out by its number (`take`), and puts it back where it goes on (`put_back`), which needs no memory; a move that has
 //! ended isn't put back, and its number is free. `by_series` tells which series have a move that runs.
 //!
-//! What a move is, is the caller's to say. The tests are in `archive_tests`.
+//! What a move is, is the caller's to say. The tests of an archive run it.
 #![tactic(auto)]
 
 mod table;
