@@ -22,6 +22,7 @@ from contextlib import contextmanager
 from dataclasses import dataclass, field
 from http.client import HTTPConnection, HTTPException
 from io import BufferedReader, RawIOBase
+from itertools import islice
 from urllib.parse import urlencode
 
 import pb_stream
@@ -31,6 +32,9 @@ USUAL = "127.0.0.1:5001:5002"
 FIRST, LAST = "1991-01-01T00:00:00Z", "2499-12-31T23:59:59.999999999Z"
 # How long a connection, a read or a write may take, in seconds.
 PATIENCE = 60
+# What is told of a variable as headers of a stream and as field values of samples: its unit and its decimals.
+ABOUT = ("EGU", "PREC")
+HOUR = 3_600 * pb_stream.SECOND
 WORDS = {
     "E18": "the archive has this variable",
     "E19": "the archive has a variable whose name differs in separators alone",
@@ -292,8 +296,20 @@ def newest(server, pv, since=None):
 
 def later(piece, since):
     """The samples of a piece that are later than a moment."""
-    at = piece.times.astype("int64") > since
-    return pb_stream.Piece(piece.header, piece.times[at], piece.values[at], piece.severities[at], piece.statuses[at])
+    return piece.at(piece.times.astype("int64") > since)
+
+
+def described(server, pv, piece):
+    """The piece, with what the first sample of its first one's hour tells of the unit where it tells none itself.
+
+    A feed tells units by field values of the first sample of each hour (`describing`).
+    """
+    if len(piece) and not piece.about("EGU"):
+        first = int(piece.times[0].astype("int64"))
+        with raw(server, pv, first - first % HOUR, first) as stream:
+            for front in pb_stream.pieces(islice(stream, 6)):
+                piece.field_values = front.field_values + piece.field_values
+    return piece
 
 
 # Feeds
@@ -433,7 +449,7 @@ def run_plot(options):
     now = time.time_ns()
     words = [sample_text.moment_of(word, now) for word in (options.start, options.end)]
     each = Each(options.pv)
-    found = each.do(lambda pv: get(options.server, pv, *words))
+    found = each.do(lambda pv: described(options.server, pv, get(options.server, pv, *words)))
     if not found:
         return each.status
     for line in drawing.left_out(found):
@@ -482,6 +498,38 @@ def header_of(line):
         return None
 
 
+def describing(lines, pairs):
+    """Lines of a stream whose headers tell these pairs too. What a header tells of the unit and the decimals also goes with the
+    first sample of each hour, as field values, since a service keeps those and passes over the headers of a feed."""
+    header, hours, in_chunk = None, {}, False
+    for line in lines:
+        if line == b"\n":
+            in_chunk = False
+        elif not in_chunk:
+            in_chunk, header = True, header_of(line)
+            if header and pairs:
+                header.headers = pairs + [pair for pair in header.headers if pair[0] not in dict(pairs)]
+                line = pb_stream.header_line(header)
+            about = [pair for pair in header.headers if pair[0] in ABOUT] if header else []
+        elif about:
+            line = described_line(line, header, about, hours)
+        yield line
+
+
+def described_line(line, header, about, hours):
+    """A sample's line with these pairs where it is the first one of its hour, and has no field values of its own."""
+    try:
+        message = pb_stream.message_of(line)
+        found = dict(pb_stream.fields(message))
+        hour = (pb_stream.year_start(header.year) + found[1]) // 3_600
+    except pb_stream.BAD:
+        return line  # the service will tell
+    if 7 in found or hours.get(header.name) == hour:
+        return line
+    hours[header.name] = hour
+    return pb_stream.escape(message + pb_stream.of_pairs(7, about)) + b"\n"
+
+
 def together(lines, size=1 << 16):
     """Lines in parts of about so many bytes, since one is too little to be sent by itself."""
     part = bytearray()
@@ -495,9 +543,11 @@ def together(lines, size=1 << 16):
 
 def run_feed(options):
     """Sends a raw stream, and tells what became of it."""
+    words = zip(ABOUT, (options.unit, options.precision))
+    pairs = [(name, str(word)) for name, word in words if word is not None]
     with open(options.stream or 0, "rb") as stream:
-        lines = registering(options.server, stream) if options.register else stream
-        told = send(options.server, together(lines))
+        lines = describing(stream, pairs)
+        told = send(options.server, together(registering(options.server, lines) if options.register else lines))
     print(f"kept {told.sum(0)} held {told.sum(1)} dropped {told.sum(2)} durable {told.durable}")
 
 
@@ -592,6 +642,8 @@ def add_words(command):
         found.add_argument("pv", nargs="+", help="names of variables")
     feed_words = command("feed", run_feed)
     feed_words.add_argument("--register", action="store_true", help="register the variables that aren't in the archive")
+    feed_words.add_argument("--unit", help="the unit of all variables, as C")
+    feed_words.add_argument("--precision", type=int, metavar="DECIMALS", help="how many decimals of a value are to be shown")
     feed_words.add_argument("stream", nargs="?", help="a file; standard input where it is left out")
     silent_words = command("silent", run_silent)
     silent_words.add_argument("--since", default="10m", help=sample_text.FORMS)

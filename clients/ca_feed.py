@@ -5,8 +5,9 @@ Usage: clients/ca_feed.py [--server HOST:FEEDPORT:HTTPPORT] [--file NAMES] [NAME
 
 Subscribes to each variable, and sends its changes once a second as samples, with the time stamp, the severity
 and the status of the record; a variable that the archive doesn't have is registered first, with the type that
-the channel has. A sample is kept until the service has told that it is durable, and is sent again after a lost
-connection: the archive drops what it has already. Channels that are lost come back by themselves. Ctrl-C or
+the channel has. The unit and the decimals (EGU and PREC) go with the first sample of each hour, and with the next
+one where they change. A sample is kept until the service has told that it is durable, and is sent again after a
+lost connection: the archive drops what it has already. Channels that are lost come back by themselves. Ctrl-C or
 SIGTERM ends it, once all is durable or --patience is over.
 
 Where to look for channels is told by EPICS_CA_ADDR_LIST and the other variables of Channel Access.
@@ -26,7 +27,7 @@ from archappl import ArchiverError, FeedRefused, Refused
 
 try:
     import ca_monitors
-    from ca_monitors import CHANGED, CONNECTED, LOST
+    from ca_monitors import CHANGED, CONNECTED, DESCRIBED, LOST
 except ImportError as missing:
     sys.exit(f"ca_feed: {missing} (apt-get install python3-pyepics)")
 
@@ -59,12 +60,15 @@ class Variable:
         # Whether the archive has it under its type; why it is left out, if it is.
         self.is_registered = False
         self.left_out = None
+        # The unit and the decimals, and the hour with whose first sample they went, and what they were then.
+        self.about = []
+        self.went = None
         # The year and the line of each sample.
         self.waiting = deque()
 
     def header(self, year):
         """The header of a chunk."""
-        return pb_stream.Header(self.type, self.name, year)
+        return pb_stream.Header(self.type, self.name, year, None, self.about)
 
     def take(self, t, values, severity, status):
         """Has one sample more, if the archive would take it. After each connection the last one comes once more."""
@@ -76,7 +80,9 @@ class Variable:
             self.unusable += 1
             return
         header = self.header(year)
-        line = pb_stream.sample_line(header, t, ca_monitors.value_of(header, values), severity, status)
+        went, self.went = self.went, (t // archappl.HOUR, self.about)
+        field_values = self.about if went != self.went else ()
+        line = pb_stream.sample_line(header, t, ca_monitors.value_of(header, values), severity, status, field_values)
         if len(line) > LONGEST_LINE:
             self.leave_out(f"a sample has {len(line)} bytes, more than a line may have")
             return
@@ -125,6 +131,8 @@ class Bridge:
             elif what == LOST:
                 lost.add(name)
                 self.not_connected.add(name)
+            elif what == DESCRIBED:
+                self.variables[name].about = ca_monitors.about(*told)
             elif what == CHANGED and self.variables[name].left_out is None:
                 self.variables[name].take(*ca_monitors.sample(*told))
         lost &= self.not_connected
@@ -178,6 +186,8 @@ class Bridge:
             if found != type_name:
                 variable.leave_out(f"the archive has it as {found}, and its channel is {type_name}")
             variable.is_registered = True
+            # An archive that is new knows no unit.
+            variable.went = None
 
     def type_in_archive(self, name, type_name):
         """The type under which the archive has a variable, which is registered where it isn't there."""
@@ -201,8 +211,11 @@ class Bridge:
             self.refused(chunks, refused)
             return
         self.durable += told.durable
-        for variable, count, _ in chunks:
+        for (variable, count, _), (_, _, dropped) in zip(chunks, told.chunks):
             self.forget(variable, count)
+            if dropped:
+                # The archive has them already, maybe without the unit.
+                variable.went = None
 
     def refused(self, chunks, refused):
         """Gives the chunk of a bad line up; those before it are durable. After a fault of the disk all are kept."""

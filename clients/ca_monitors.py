@@ -26,10 +26,13 @@ KINDS = {
 }
 # What an archiver is told of: changes beyond the archive's dead band, and of the alarm.
 MASK = dbr.DBE_LOG | dbr.DBE_ALARM
+# The first of the types with units (DBR_GR), and how many decimals a value has and what its unit is in their structures.
+GRAPHIC = 21
+DECIMALS_AND_UNIT = {"FLOAT": "=4xh2x8s", "DOUBLE": "=4xh2x8s", "SHORT": "=4x8s", "INT": "=4x8s", "BYTE": "=4x8s"}
 EPOCH = int(dbr.EPICS2UNIX_EPOCH)
 # pyepics would take libca's context apart at the end, which may wait for ever; the end of the program does as much.
 ca.AUTO_CLEANUP = False
-CONNECTED, LOST, CHANGED = "connected", "lost", "changed"
+CONNECTED, LOST, CHANGED, DESCRIBED = "connected", "lost", "changed", "described"
 
 
 def type_number(kind, count):
@@ -59,6 +62,17 @@ def value_of(header, values):
     return values[:1].tobytes() if header.element in pb_stream.PACKED else int(values[0])
 
 
+def about(kind, data):
+    """The unit and the decimals of a channel by the bytes of its properties, as pairs of names and texts."""
+    *decimals, unit = struct.unpack_from(DECIMALS_AND_UNIT[KINDS[kind][0]], data)
+    unit = unit.split(b"\0")[0]
+    try:
+        unit = unit.decode()
+    except UnicodeDecodeError:
+        unit = unit.decode("latin-1")
+    return [("EGU", unit)] * bool(unit) + [("PREC", str(number)) for number in decimals]
+
+
 def size_of(dbr_type, count):
     """How many bytes a monitor has."""
     _, offset, form = KINDS[dbr_type - dbr.TIME_STRING]
@@ -66,12 +80,13 @@ def size_of(dbr_type, count):
 
 
 class Monitors:
-    """Channels of variables. What becomes of them comes into a queue: CONNECTED, LOST or CHANGED, a name, and data."""
+    """Channels of variables. What becomes of them comes into a queue: one of the four words, a name, and data."""
 
     def __init__(self, names, events):
         self.events = events
         # libca keeps no references, so all that it calls with is kept here.
         self.handler = dbr.make_callback(self.on_monitor, dbr.event_handler_args)
+        self.property_handler = dbr.make_callback(self.on_property, dbr.event_handler_args)
         self.names = {name: ctypes.py_object(name) for name in names}
         self.channels = {}
         self.subscriptions = {}
@@ -89,6 +104,13 @@ class Monitors:
             data = ctypes.string_at(args.raw_dbr, size_of(args.type, args.count))
             self.events.put((CHANGED, args.usr, (args.type, args.count, data)))
 
+    def on_property(self, args):
+        """The unit or the decimals changed, or came for the first time."""
+        if args.status == dbr.ECA_NORMAL and args.raw_dbr:
+            kind = args.type - GRAPHIC
+            size = struct.calcsize(DECIMALS_AND_UNIT[KINDS[kind][0]])
+            self.events.put((DESCRIBED, args.usr, (kind, ctypes.string_at(args.raw_dbr, size))))
+
     def subscribe(self, name):
         """Subscribes a connected channel, if it wasn't before: libca does it again after a loss. Its payload type."""
         channel = self.channels[name]
@@ -96,18 +118,26 @@ class Monitors:
         if kind not in KINDS:
             return None
         if name not in self.subscriptions:
-            event = ctypes.c_void_p()
+            self.subscriptions[name] = []
+            if KINDS[kind][0] in DECIMALS_AND_UNIT:
+                self.add(name, kind + GRAPHIC, 1, dbr.DBE_PROPERTY, self.property_handler)
             # With a count of 0 as many elements come as there are at the time.
-            told = ca.libca.ca_create_subscription(kind + dbr.TIME_STRING, 0, channel, MASK, self.handler,
-                                                   self.names[name], ctypes.byref(event))
-            ca.PySEVCHK("create_subscription", told)
-            self.subscriptions[name] = event
+            self.add(name, kind + dbr.TIME_STRING, 0, MASK, self.handler)
             ca.flush_io()
         return type_number(kind, count)
 
+    def add(self, name, dbr_type, count, mask, handler):
+        """One subscription more."""
+        event = ctypes.c_void_p()
+        told = ca.libca.ca_create_subscription(dbr_type, count, self.channels[name], mask, handler, self.names[name],
+                                               ctypes.byref(event))
+        ca.PySEVCHK("create_subscription", told)
+        self.subscriptions[name].append(event)
+
     def close(self):
         """Ends all subscriptions."""
-        for event in self.subscriptions.values():
-            ca.clear_subscription(event)
+        for events in self.subscriptions.values():
+            for event in events:
+                ca.clear_subscription(event)
         self.subscriptions = {}
         ca.flush_io()

@@ -1,6 +1,6 @@
 """Draws samples of variables over time. `clients/plot` stands on it.
 
-A value holds until the next one, so lines are steps. Variables of one unit (the header EGU) share an axis.
+A value holds until the next one, so lines are steps. Variables of one unit (EGU) share an axis.
 Samples of a severity other than 0 are marked. Of a waveform the mean of its elements is drawn; texts aren't.
 """
 
@@ -19,8 +19,8 @@ COLUMNS = 4_000
 
 
 def unit(piece):
-    """The unit that the headers tell, or nothing."""
-    return piece.headers.get("EGU", "")
+    """The unit that field values or headers tell, or nothing."""
+    return piece.about("EGU")
 
 
 def draw(axis, piece, values, color, end):

@@ -70,6 +70,8 @@ class Piece:
     values: numpy.ndarray
     severities: numpy.ndarray
     statuses: numpy.ndarray
+    # The moments of the samples that have field values, each with these by their names.
+    field_values: list = field(default_factory=list)
 
     def __len__(self):
         return len(self.times)
@@ -78,6 +80,16 @@ class Piece:
     def headers(self):
         """The headers by their names; the first one of a name counts."""
         return dict(reversed(self.header.headers))
+
+    def about(self, name):
+        """What is told of the variable under a name, as EGU or PREC: by its newest field value, else by a header."""
+        told = (found[name] for _, found in reversed(self.field_values) if name in found)
+        return next(told, self.headers.get(name, ""))
+
+    def at(self, places):
+        """The samples at some places, with all field values."""
+        columns = (column[places] for column in (self.times, self.values, self.severities, self.statuses))
+        return Piece(self.header, *columns, self.field_values)
 
 
 # Bytes
@@ -244,18 +256,28 @@ def read_value(header, values):
     return read_elements(header.element, values)
 
 
+def read_field_values(data):
+    """Field values by their names, of which the first of a name counts, where there is nothing else."""
+    found = list(fields(data))
+    if any(number != 7 for number, _ in found):
+        raise ValueError("a field that is no field value")
+    return dict(reversed([read_pair(value) for _, value in found]))
+
+
 def read_sample(header, message):
-    """Moment, value, severity and status of a sample."""
-    last, values = {4: 0, 5: 0}, []
+    """Moment, value, severity, status and field values of a sample."""
+    last, values, pairs = {4: 0, 5: 0}, [], []
     for number, value in fields(message):
         if number == 3:
             values.append(value)
+        elif number == 7:
+            pairs.append(read_pair(value))
         else:
             last[number] = value
     t = (year_start(header.year) + last[1]) * SECOND + last[2]
     if t >= 1 << 63:
         raise ValueError("a moment after the year 2262, which numpy can't hold")
-    return t, read_value(header, values), signed(last[4]), signed(last[5])
+    return t, read_value(header, values), signed(last[4]), signed(last[5]), dict(reversed(pairs))
 
 
 # What a line raises that isn't of the form.
@@ -302,8 +324,13 @@ class Gathered:
         found = pb_columns.columns(header.element, lines)
         if found is None:
             return None
-        seconds, nanos, values, severities, statuses = found
-        return (year_start(header.year) + seconds) * SECOND + nanos, values, severities, statuses
+        seconds, nanos, values, severities, statuses, rest = found
+        times = (year_start(header.year) + seconds) * SECOND + nanos
+        try:
+            pairs = [(int(times[place]), read_field_values(data)) for place, data in rest]
+        except BAD:
+            return None
+        return times, values, severities, statuses, pairs
 
     def one_by_one(self):
         """The columns of any samples."""
@@ -313,9 +340,9 @@ class Gathered:
                 rows.append(read_sample(self.header, message_of(line)))
             except BAD as error:
                 raise BadStream(number, error) from None
-        times, values, severities, statuses = zip(*rows) if rows else ((), (), (), ())
+        times, values, severities, statuses, pairs = zip(*rows) if rows else ((), (), (), (), ())
         return (numpy.array(times, numpy.int64), array_of(self.header, values), numpy.array(severities, numpy.int32),
-                numpy.array(statuses, numpy.int32))
+                numpy.array(statuses, numpy.int32), [one for one in zip(times, pairs) if one[1]])
 
 
 def array_of(header, values):
@@ -373,7 +400,7 @@ def joined(parts):
         columns.append(numpy.concatenate([getattr(part, name) for part in parts]))
         for part in parts:
             setattr(part, name, columns[-1][:0])
-    return Piece(parts[0].header, *columns)
+    return Piece(parts[0].header, *columns, [one for part in parts for one in part.field_values])
 
 
 # Moments
@@ -392,14 +419,17 @@ def year_of(t):
 # Writing
 
 
+def of_pairs(number, pairs):
+    """Fields of names and values."""
+    return b"".join(of_bytes(number, of_bytes(1, name.encode()) + of_bytes(2, value.encode())) for name, value in pairs)
+
+
 def header_line(header):
     """The line of a header."""
     message = of_number(1, header.type) + of_bytes(2, header.name.encode()) + of_number(3, header.year)
     if header.count is not None:
         message += of_number(4, header.count)
-    for name, value in header.headers:
-        message += of_bytes(15, of_bytes(1, name.encode()) + of_bytes(2, value.encode()))
-    return escape(message) + b"\n"
+    return escape(message + of_pairs(15, header.headers)) + b"\n"
 
 
 def scalar_field(element, value):
@@ -424,17 +454,17 @@ def value_fields(header, value):
     return of_bytes(3, b"".join(varint(zigzag(int(one))) for one in value))
 
 
-def sample_line(header, t, value, severity=0, status=0):
-    """The line of a sample of the header's year."""
+def sample_line(header, t, value, severity=0, status=0, field_values=()):
+    """The line of a sample of the header's year; field values are pairs of names and texts."""
     seconds, nanos = divmod(t - year_start(header.year) * SECOND, SECOND)
     message = of_number(1, seconds) + of_number(2, nanos) + value_fields(header, value)
     if severity:
         message += of_number(4, severity)
     if status:
         message += of_number(5, status)
-    return escape(message) + b"\n"
+    return escape(message + of_pairs(7, field_values)) + b"\n"
 
 
 def chunk(header, samples):
-    """The bytes of a chunk: each sample is its moment, value, and maybe severity and status."""
+    """The bytes of a chunk: each sample is its moment, value, and maybe severity, status and field values."""
     return header_line(header) + b"".join(sample_line(header, *sample) for sample in samples) + b"\n"

@@ -46,4 +46,4 @@ def thinned(piece, span):
     if values is None:
         values = numpy.zeros(len(piece))
     at = chosen(piece.times.astype(numpy.int64), values, piece.severities, span)
-    return type(piece)(piece.header, piece.times[at], piece.values[at], piece.severities[at], piece.statuses[at])
+    return piece.at(at)

@@ -15,6 +15,7 @@ from running import Service, free_ports
 from service_cases import ALL, shown
 
 SECOND = 1_000_000_000
+HOUR = 3_600 * SECOND
 # Values that end the 7 kinds' ranges, and a float that is no number with bits of its own.
 ODD_FLOAT = struct.unpack(">f", bytes.fromhex("7fc12345"))[0]
 VALUES = {
@@ -197,6 +198,49 @@ def left_out(_, service, channels):
     want("no sample of it", accepted(service, "O:NEVER"), 0)
 
 
+def units(_, service, channels):
+    """Units and decimals go with the first samples, the first one of an hour, and the next one where they change."""
+    hour = (time.time_ns() // HOUR - 2) * HOUR
+    names, posted = ("U:DOUBLE", "U:INT", "U:BYTES", "U:TEXT"), {}
+    for name, kind, first, room in zip(names, (DOUBLE, LONG, CHAR, STRING), (0.5, 1, 1, b"on"), (1, 1, 4, 1)):
+        channels.add(name, kind, [first], hour, room)
+        posted[name] = [(hour, [first], 0, 0)]
+    channels.describe("U:DOUBLE", "°C".encode("latin-1"), 2)
+    channels.describe("U:INT", b"counts00")
+    channels.describe("U:BYTES", "µA".encode())
+    with Bridge(channels, service, names) as bridge:
+        wait_for("all are archived", lambda: has_all(service, posted))
+        for at in (600, 1_200, 3_605, 3_610, 3_615):
+            for name, samples in posted.items():
+                post(channels, posted, name, samples[0][1], hour + at * SECOND)
+        channels.describe("U:DOUBLE", b"K", 3)
+        post(channels, posted, "U:DOUBLE", [1.5], hour + 3_620 * SECOND)
+        wait_for("the changes are archived", lambda: has_all(service, posted))
+        want("the end", bridge.end()[0], 0)
+    for name, samples in posted.items():
+        same(service, name, channels.channels[name], samples)
+    celsius, kelvin, counts = {"EGU": "°C", "PREC": "2"}, {"EGU": "K", "PREC": "3"}, {"EGU": "counts00"}
+    for name, wanted in (("U:DOUBLE", [(0, celsius), (3_605, celsius), (3_620, kelvin)]), ("U:TEXT", []),
+                         ("U:INT", [(0, counts), (3_605, counts)]),
+                         ("U:BYTES", [(0, {"EGU": "µA"}), (3_605, {"EGU": "µA"})])):
+        found = archappl.get(service.address, name, *ALL).field_values
+        # Whether the second sample has them too depends on whether the first one came before the registration.
+        found = [one for one in found if one[0] != hour + 600 * SECOND]
+        want(f"the field values of {name}", found, [(hour + at * SECOND, told) for at, told in wanted])
+    late = archappl.get(service.address, "U:DOUBLE", hour + 3_612 * SECOND, hour + 3_616 * SECOND)
+    want("samples without a unit", (len(late), late.about("EGU")), (2, ""))
+    want("their unit", archappl.described(service.address, "U:DOUBLE", late).about("EGU"), "°C")
+    # The value that comes first by another start is there already; what follows it has the new unit.
+    channels.describe("U:DOUBLE", b"mK", 1)
+    with Bridge(channels, service, ["U:DOUBLE"]) as bridge:
+        for at in (3_625, 3_630, 3_635):
+            wait_for("it is subscribed", lambda: channels.subscribers("U:DOUBLE"))
+            post(channels, posted, "U:DOUBLE", [0.25], hour + at * SECOND)
+            wait_for("the change is archived", lambda: has_all(service, posted))
+    late = archappl.get(service.address, "U:DOUBLE", hour + 3_625 * SECOND, hour + 3_635 * SECOND)
+    want("the new unit", (late.about("EGU"), late.about("PREC")), ("mK", "1"))
+
+
 def cases(program):
     """The cases, each with a service and channels of its own."""
 
@@ -213,4 +257,4 @@ def cases(program):
         case.__name__ = work.__name__
         return case
 
-    return [(over(work), 1) for work in (all_types, lost_connections, ended_without_service, left_out)]
+    return [(over(work), 1) for work in (all_types, lost_connections, ended_without_service, left_out, units)]

@@ -14,8 +14,10 @@ NORMAL = 1
 # By the number of the type: the padding between the time stamp and the value, and the form of an element.
 FORMS = {0: (0, "40s"), 1: (2, "h"), 2: (0, "f"), 3: (2, "H"), 4: (3, "B"), 5: (0, "i"), 6: (4, "d")}
 STRING, SHORT, FLOAT, ENUM, CHAR, LONG, DOUBLE = range(7)
-TIME = 14
+TIME, GRAPHIC = 14, 21
 EPOCH = 631_152_000
+# Of what a subscription may be told: values, the archive's values, alarms, properties.
+VALUES, PROPERTIES = 1 | 2 | 4, 8
 
 
 def message(command, kind=0, count=0, first=0, second=0, payload=b""):
@@ -41,14 +43,22 @@ class Channel:
         self.kind = kind
         self.room = room
         self.elements, self.moment, self.severity, self.status = [], (0, 0), 0, 0
+        self.unit, self.decimals = b"", 0
         self.subscriptions = []
 
     def value(self, kind):
         """The payload and the number of elements of a type with or without the time."""
         elements = list(self.elements)
         padding, form = FORMS[self.kind]
+        if kind >= GRAPHIC:
+            elements = elements[:1]
         data = b"".join(struct.pack(f">{form}", one) for one in elements)
-        if kind >= TIME:
+        if kind >= GRAPHIC:
+            # Decimals of floats alone, the unit, six limits, and of one byte a byte more.
+            decimals = struct.pack(">hh", self.decimals, 0) if self.kind in (FLOAT, DOUBLE) else b""
+            limits = bytes(6 * struct.calcsize(f">{form}") + (self.kind == CHAR))
+            data = struct.pack(">HH", self.status, self.severity) + decimals + struct.pack("8s", self.unit) + limits + data
+        elif kind >= TIME:
             data = struct.pack(">HHII", self.status, self.severity, *self.moment) + bytes(padding) + data
         return data, len(elements)
 
@@ -98,11 +108,13 @@ class Peer:
         elif command == EVENT_ADD:
             with self.server.lock:
                 channel = self.channels[first]
-                channel.subscriptions.append((self, kind, second))
+                mask = struct.unpack_from(">H", payload, 12)[0]
+                channel.subscriptions.append((self, kind, second, mask))
                 self.send(self.event(channel, kind, second))
         elif command == EVENT_CANCEL:
             with self.server.lock:
-                self.channels[first].subscriptions.remove((self, kind, second))
+                found = self.channels[first].subscriptions
+                found[:] = [one for one in found if one[:3] != (self, kind, second)]
             self.send(message(EVENT_ADD, kind, count, NORMAL, second))
         elif command == READ_NOTIFY:
             data, number = self.channels[first].value(kind)
@@ -216,13 +228,26 @@ class ChannelServer:
             seconds, nanos = divmod(moment, 1_000_000_000)
             channel.moment = (seconds - EPOCH, nanos)
             channel.severity, channel.status = severity, status
-            for peer, kind, subscription in channel.subscriptions:
+            self.tell(channel, VALUES)
+
+    def describe(self, name, unit, decimals=0):
+        """Gives a variable a unit, as bytes, and decimals, and tells who subscribed to them."""
+        with self.lock:
+            channel = self.channels[name]
+            channel.unit, channel.decimals = unit, decimals
+            self.tell(channel, PROPERTIES)
+
+    @staticmethod
+    def tell(channel, which):
+        """Tells those that subscribed to changes of this kind."""
+        for peer, kind, subscription, mask in channel.subscriptions:
+            if mask & which:
                 peer.send(peer.event(channel, kind, subscription))
 
     def subscribers(self, name):
-        """How many subscriptions a variable has."""
+        """How many subscriptions to its values a variable has."""
         with self.lock:
-            return len(self.channels[name].subscriptions)
+            return sum(bool(mask & VALUES) for _, _, _, mask in self.channels[name].subscriptions)
 
     def environment(self):
         """The variables by which a client finds this server and no other."""

@@ -100,6 +100,13 @@ def answers(_, service):
         want("the severity", 2 in many["severities"], True)
         _, new = viewer.asked("/newest", pv="V:A", since=str((START + number - 3) * SECOND))
         want("new samples", new["values"], values[-2:])
+        archappl.archive(service.address, "V:U", "SCALAR_DOUBLE")
+        header = pb_stream.Header(6, "V:U", 2024)
+        units = ([("EGU", "mm"), ("PREC", "2")], [], [])
+        samples = [((START + at) * SECOND, 1.0, 0, 0, pairs) for at, pairs in enumerate(units)]
+        archappl.send(service.address, [pb_stream.chunk(header, samples)])
+        _, late = viewer.asked("/samples", pv="V:U", columns=100, **{"from": iso(START + 2), "to": iso(START + 2)})
+        want("its unit and decimals", (late["count"], late["unit"], late["decimals"]), (2, "mm", 2))
         want("no such variable", viewer.asked("/newest", pv="V:B")[0], 502)
         want("not of the form", viewer.asked("/samples", pv="V:A")[0], 400)
         want("nothing else", viewer.asked("/mgmt/bpl/flush")[0], 404)
@@ -134,6 +141,7 @@ def page(_, service):
         colors = browser.value("new Set(paper.getImageData(0, 0, canvas.width, canvas.height).data).size")
         want("it is drawn", colors > 20, True)
         zoomed(browser)
+        unknown(browser, viewer, words)
         followed(browser, viewer, service)
 
 
@@ -153,6 +161,19 @@ def zoomed(browser):
     browser.value("document.getElementById('back').click()")
     browser.until("the whole is shown again", "document.querySelector('#legend tr').cells[6].textContent === '1,440'")
     want("from", browser.value("document.getElementById('from').value"), iso(START))
+
+
+def unknown(browser, viewer, words):
+    """Of a link with a variable that isn't there the others are shown, and that one is named until it is left out."""
+    browser.ask("Page.navigate", url=f"{viewer.address}?unknown#{urlencode([('pv', 'NO:SUCH'), *words])}")
+    browser.until("the others are shown", "document.querySelectorAll('#legend tr').length === 4")
+    want("it is named", browser.value("document.getElementById('told').innerText"),
+         "NO:SUCH: E26: the archive has no such variable")
+    want("it is marked", browser.value("document.querySelector('#names .unknown').innerText"), "NO:SUCH")
+    browser.value("document.querySelector('#names .unknown input').click()")
+    browser.until("nothing is wrong any more", "document.getElementById('told').className === ''")
+    want("it is gone", browser.value("document.querySelectorAll('#names .unknown').length"), 0)
+    want("the others stay", len(shown_rows(browser)), 4)
 
 
 def followed(browser, viewer, service):

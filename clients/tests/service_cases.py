@@ -403,6 +403,32 @@ def units_drawn(_, service):
     want("the last value is held", list(held), [3590 % 7] * 2)
 
 
+def units_fed(_, service):
+    """Units and decimals of a feed go with the first sample of each hour, come back, and are found for later samples."""
+    where = dict(os.environ, ARCHAPPL_SERVER=service.address)
+    start = 1_704_067_200
+    lines = b"".join(b"%s %d 21.5\n" % (name, start + 600 * number) for name in (b"F:A", b"F:B") for number in range(12))
+    stream = run("import", "--unit", "mA", data=lines)[0]
+    for words in ((), ("--unit", "K", "--precision", "3")):
+        data = stream if not words else stream.replace(b"F:", b"G:")
+        told = run("archappl.py", "feed", "--register", *words, data=data, environment=where)[0]
+        want("the feed", told, b"kept 24 held 0 dropped 0 durable 24\n")
+    for name, fields in (("F:B", {"EGU": "mA"}), ("G:A", {"EGU": "K", "PREC": "3"})):
+        query = f"pv={name}&from={ALL[0]}&to={ALL[1]}"
+        with urllib.request.urlopen(f"http://127.0.0.1:{service.ports[1]}/retrieval/data/getData.json?{query}", timeout=60) as body:
+            (answer,) = json.load(body)
+        wanted = [fields if number % 6 == 0 else None for number in range(12)]
+        want(f"the field values of {name}", [sample.get("fields") for sample in answer["data"]], wanted)
+        late = archappl.get(service.address, name, "2024-01-01T01:25:00Z", ALL[1])
+        want("samples without a unit", (len(late), late.about("EGU")), (4, ""))
+        want("its unit", drawing.unit(archappl.described(service.address, name, late)), fields["EGU"])
+    chunk = pb_stream.chunk(pb_stream.Header(6, "F:A", 2024, None, [("EGU", "V")]),
+                            [((start + 8_000) * SECOND, 1.0, 0, 0, [("HIHI", "9")]), ((start + 8_001) * SECOND, 2.0)])
+    run("archappl.py", "feed", data=chunk, environment=where)
+    found = archappl.get(service.address, "F:A", "2024-01-01T02:13:00Z", ALL[1]).field_values
+    want("what has its own", found, [((start + 8_000) * SECOND, {"HIHI": "9"}), ((start + 8_001) * SECOND, {"EGU": "V"})])
+
+
 def cases(program):
     """The cases, each with a service of its own."""
 
@@ -415,4 +441,5 @@ def cases(program):
         return case
 
     return [(over(work), 1) for work in (fed_and_got, long_answer, management, bad_feeds, bad_peers, progress,
-                                         continued, words, watched, silent, numbers_for_prometheus, units_drawn)]
+                                         continued, words, watched, silent, numbers_for_prometheus, units_drawn,
+                                         units_fed)]
