@@ -2,6 +2,7 @@
 
 import os
 import signal
+import socket
 import struct
 import subprocess
 import sys
@@ -9,9 +10,9 @@ import time
 
 import archappl
 import channel_access
-from cases import CLIENTS, wait_for, want
+from cases import CLIENTS, started, told_by, wait_for, want
 from channel_access import CHAR, DOUBLE, ENUM, FLOAT, LONG, SHORT, STRING, ChannelServer
-from running import Service, free_ports
+from running import Service
 from service_cases import ALL, shown
 
 SECOND = 1_000_000_000
@@ -36,9 +37,12 @@ class Bridge:
     def __init__(self, channels, service, names, *words):
         self.channels = channels
         self.posted = {}
-        environment = dict(os.environ, **channels.environment(), EPICS_CA_REPEATER_PORT=str(free_ports(1)[0]))
+        # Where the repeater's port is taken, libca takes the repeater for there, and starts none that would stay.
+        self.repeater = socket.socket(socket.AF_INET, socket.SOCK_DGRAM)
+        self.repeater.bind(("", 0))
+        environment = dict(os.environ, **channels.environment(), EPICS_CA_REPEATER_PORT=str(self.repeater.getsockname()[1]))
         command = [sys.executable, CLIENTS / "ca_feed.py", "--server", service.address, "--every", "0.1"]
-        self.process = subprocess.Popen([*command, *words, *names], env=environment, stderr=subprocess.PIPE, text=True)
+        self.process = started([*command, *words, *names], env=environment, stderr=subprocess.PIPE, text=True)
 
     def __enter__(self):
         return self
@@ -47,11 +51,12 @@ class Bridge:
         self.process.kill()
         self.process.wait()
         self.process.stderr.close()
+        self.repeater.close()
 
     def end(self, number=signal.SIGINT):
         """Ends it, and gives its status and what it told."""
         self.process.send_signal(number)
-        _, told = self.process.communicate(timeout=30)
+        _, told = told_by(self.process)
         return self.process.returncode, told
 
 
@@ -96,9 +101,13 @@ def accepted(service, name):
         return 0
 
 
-def has_all(service, posted):
-    """Whether the archive has as much as was posted."""
-    return all(accepted(service, name) >= len(samples) for name, samples in posted.items())
+def wait_for_all(what, service, posted):
+    """Waits until the archive has as much as was posted."""
+
+    def left():
+        return sum(max(0, len(samples) - accepted(service, name)) for name, samples in posted.items())
+
+    wait_for(what, lambda: not left(), left)
 
 
 def all_types(_, service, channels):
@@ -109,13 +118,13 @@ def all_types(_, service, channels):
             channels.add(name, kind, first, start, room)
             posted[name] = [(start, first, 0, 0)]
     with Bridge(channels, service, posted) as bridge:
-        wait_for("all are archived", lambda: has_all(service, posted))
+        wait_for_all("all are archived", service, posted)
         for number in range(1, 5):
             for kind, values in VALUES.items():
                 moment = start + number * SECOND + 123_456_789
                 post(channels, posted, f"S:{PB[kind]}", [values[number % 4]], moment, number % 4, number)
                 post(channels, posted, f"W:{PB[kind]}", (values * 2)[: 1 + number], moment, number % 4, number)
-        wait_for("the changes are archived", lambda: has_all(service, posted))
+        wait_for_all("the changes are archived", service, posted)
         status, told = bridge.end()
     number = sum(map(len, posted.values()))
     last = (f"ca_feed: {number} samples are durable, 0 weren't told durable, 0 were given up, "
@@ -140,7 +149,7 @@ def lost_connections(rng, service, channels):
             time.sleep(0.002)
 
     with Bridge(channels, service, names) as bridge:
-        wait_for("all are archived", lambda: has_all(service, posted))
+        wait_for_all("all are archived", service, posted)
         for _ in range(2):
             changes(100)
             service.kill()
@@ -148,13 +157,14 @@ def lost_connections(rng, service, channels):
             time.sleep(0.3)
             service.start()
             changes(100)
-            wait_for("the changes are archived", lambda: has_all(service, posted))
+            wait_for_all("the changes are archived", service, posted)
             channels.stop()
             time.sleep(0.3)
             channels.start()
-            wait_for("all are subscribed again", lambda: all(channels.subscribers(name) for name in names), 30)
+            wait_for("all are subscribed again", lambda: all(map(channels.subscribers, names)),
+                     lambda: sum(map(channels.subscribers, names)))
             changes(50)
-        wait_for("the changes are archived", lambda: has_all(service, posted))
+        wait_for_all("the changes are archived", service, posted)
         status, told = bridge.end(signal.SIGTERM)
     want("the status", status, 0)
     for what in ("Connection refused", "the service is there again", "channels are lost"):
@@ -209,13 +219,13 @@ def units(_, service, channels):
     channels.describe("U:INT", b"counts00")
     channels.describe("U:BYTES", "µA".encode())
     with Bridge(channels, service, names) as bridge:
-        wait_for("all are archived", lambda: has_all(service, posted))
+        wait_for_all("all are archived", service, posted)
         for at in (600, 1_200, 3_605, 3_610, 3_615):
             for name, samples in posted.items():
                 post(channels, posted, name, samples[0][1], hour + at * SECOND)
         channels.describe("U:DOUBLE", b"K", 3)
         post(channels, posted, "U:DOUBLE", [1.5], hour + 3_620 * SECOND)
-        wait_for("the changes are archived", lambda: has_all(service, posted))
+        wait_for_all("the changes are archived", service, posted)
         want("the end", bridge.end()[0], 0)
     for name, samples in posted.items():
         same(service, name, channels.channels[name], samples)
@@ -236,7 +246,7 @@ def units(_, service, channels):
         for at in (3_625, 3_630, 3_635):
             wait_for("it is subscribed", lambda: channels.subscribers("U:DOUBLE"))
             post(channels, posted, "U:DOUBLE", [0.25], hour + at * SECOND)
-            wait_for("the change is archived", lambda: has_all(service, posted))
+            wait_for_all("the change is archived", service, posted)
     late = archappl.get(service.address, "U:DOUBLE", hour + 3_625 * SECOND, hour + 3_635 * SECOND)
     want("the new unit", (late.about("EGU"), late.about("PREC")), ("mK", "1"))
 

@@ -8,9 +8,7 @@ import subprocess
 import tempfile
 import time
 
-from cases import Failed
-
-PATIENCE = 30
+from cases import Failed, Limit, started
 
 
 def program():
@@ -33,7 +31,7 @@ class Browser:
         # It reads commands from descriptor 3, and writes what it tells to descriptor 4.
         command = ["/bin/sh", "-c", f'exec "$0" "$@" 3<&{theirs} 4>&{ours}', program(), *words, "about:blank"]
         quiet = subprocess.DEVNULL
-        self.process = subprocess.Popen(command, pass_fds=(theirs, ours), stdout=quiet, stderr=quiet)
+        self.process = started(command, pass_fds=(theirs, ours), stdout=quiet, stderr=quiet)
         os.close(theirs)
         os.close(ours)
         self.number, self.text, self.session = 0, b"", None
@@ -88,16 +86,23 @@ class Browser:
         return found["result"].get("value")
 
     def until(self, what, expression):
-        """Waits until an expression is true in the page, and gives its value."""
-        end = time.monotonic() + PATIENCE
-        while time.monotonic() < end:
+        """Waits until an expression is true in the page, as long as the page changes, and gives its value."""
+        limit = Limit(self.text_of_page)
+        while not limit.is_over():
             try:
                 if found := self.value(expression):
                     return found
             except Failed:
                 pass  # the page is being loaded
             time.sleep(0.05)
-        raise Failed(f"{what} wasn't so: {self.value('document.body.innerText')!r}")
+        raise Failed(f"{what} wasn't so: {self.text_of_page()!r}")
+
+    def text_of_page(self):
+        """What the page shows as text, but for its fields of time."""
+        try:
+            return self.value("document.body && document.body.innerText")
+        except Failed:
+            return None
 
     def mouse(self, kind, x, y, **more):
         """An event of the mouse."""

@@ -2,7 +2,6 @@
 
 import json
 import math
-import signal
 import subprocess
 import sys
 import time
@@ -14,7 +13,7 @@ from urllib.parse import urlencode
 import archappl
 import pb_stream
 from browser import Browser
-from cases import CLIENTS, Failed, run, want
+from cases import CLIENTS, PATIENCE, Failed, run, started, want
 from running import Service
 
 SECOND = 1_000_000_000
@@ -35,21 +34,21 @@ class Viewer:
 
     def __init__(self, service):
         command = [sys.executable, CLIENTS / "viewer", "--server", service.address, "--port", "0"]
-        self.process = subprocess.Popen(command, stderr=subprocess.PIPE, text=True)
+        self.process = started(command, stderr=subprocess.PIPE, text=True)
         self.address = self.process.stderr.readline().split()[1]
 
     def __enter__(self):
         return self
 
     def __exit__(self, *_):
-        self.process.send_signal(signal.SIGINT)
-        self.process.wait(60)
+        self.process.terminate()
+        self.process.wait()
         self.process.stderr.close()
 
     def asked(self, path, **query):
         """The status and what is answered."""
         try:
-            with urllib.request.urlopen(f"{self.address}{path}?{urlencode(query)}", timeout=60) as reply:
+            with urllib.request.urlopen(f"{self.address}{path}?{urlencode(query)}", timeout=PATIENCE) as reply:
                 return reply.status, json.load(reply)
         except urllib.error.HTTPError as error:
             with error:
@@ -112,7 +111,7 @@ def answers(_, service):
         want("nothing else", viewer.asked("/mgmt/bpl/flush")[0], 404)
         request = urllib.request.Request(viewer.address + "/names", headers={"Host": "example.com"})
         try:
-            urllib.request.urlopen(request, timeout=60).close()
+            urllib.request.urlopen(request, timeout=PATIENCE).close()
             raise Failed("a page of another name was answered")
         except urllib.error.HTTPError as error:
             want("another name", error.code, 403)

@@ -4,13 +4,9 @@ import os
 import socket
 import subprocess
 import tempfile
-import time
 from pathlib import Path
 
-from cases import Failed, want
-
-# How long a service may take until its doors are open, or to end.
-PATIENCE = 120
+from cases import Failed, ran, started, status_of, used, wait_for, want
 
 
 class Service:
@@ -40,14 +36,17 @@ class Service:
         """Starts it, and waits until its doors are open."""
         words = [self.program, "serve", *map(str, self.ports), str(self.workers), "0"]
         with self.log.open("wb") as log:
-            self.process = subprocess.Popen(words, stdin=subprocess.DEVNULL, stdout=log, stderr=log,
-                                            env=self.environment)
-        until = time.monotonic() + PATIENCE
-        while b"listening" not in self.log.read_bytes():
-            if self.process.poll() is not None or time.monotonic() > until:
-                raise Failed(f"the service doesn't listen: {self.log.read_text()}")
-            time.sleep(0.01)
+            self.process = started(words, stdin=subprocess.DEVNULL, stdout=log, stderr=log, env=self.environment)
+        wait_for("the service listens", self.listens, lambda: used(self.process))
         return self
+
+    def listens(self):
+        """Whether its doors are open."""
+        if b"listening" in self.log.read_bytes():
+            return True
+        if self.process.poll() is not None:
+            raise Failed(f"the service doesn't listen: {self.log.read_text()}")
+        return False
 
     def kill(self):
         """Kills it, as a power cut would."""
@@ -59,14 +58,12 @@ class Service:
         """Ends it by the file `stop`."""
         stop = self.folder / "site" / "stop"
         stop.touch()
-        want("the status of the service", self.process.wait(PATIENCE), 0)
+        want("the status of the service", status_of(self.process), 0)
         stop.unlink()
 
     def archappl(self, *words, data=b""):
         """What another command writes over the same folders, where the service doesn't run."""
-        done = subprocess.run([self.program, *words], input=data, capture_output=True, env=self.environment, timeout=60)
-        want(f"the status of {words[0]} ({done.stderr.decode()!r})", done.returncode, 0)
-        return done.stdout
+        return ran([self.program, *words], data, env=self.environment)[0]
 
 
 def free_ports(number=2):

@@ -20,7 +20,7 @@ import drawing
 import numpy
 import pb_stream
 import serve_model
-from cases import CLIENTS, Failed, run, want
+from cases import CLIENTS, PATIENCE, Failed, run, started, status_of, told_by, want
 from running import Service, free_ports
 
 SECOND = 1_000_000_000
@@ -197,8 +197,8 @@ def progress(_, service):
     ours, theirs = pty.openpty()
     with answering([head, *[part] * 4], pause=0.5) as peer:
         command = [sys.executable, CLIENTS / "archappl.py", "--server", peer.address, "get", "--raw", "A:B"]
-        with subprocess.Popen(command, stdout=subprocess.PIPE, stderr=theirs) as process:
-            size = len(process.communicate(timeout=60)[0])
+        with started(command, stdout=subprocess.PIPE, stderr=theirs) as process:
+            size = len(told_by(process)[0])
     os.close(theirs)
     told = os.read(ours, 65_536).decode()
     os.close(ours)
@@ -311,7 +311,7 @@ def watched(_, service):
     start = 1_704_067_200 * SECOND
     archappl.send(server, [pb_stream.chunk(header, [(start, 1), (start + SECOND, 2)])])
     command = [sys.executable, CLIENTS / "archappl.py", "--server", server, "watch", "--every", "0.1", "W:A"]
-    with subprocess.Popen(command, stdout=subprocess.PIPE, stderr=subprocess.PIPE, text=True) as process:
+    with started(command, stdout=subprocess.PIPE, stderr=subprocess.PIPE, text=True) as process:
         try:
             want("the first line", process.stdout.readline(), "name time value severity status\n")
             want("the last sample", process.stdout.readline(), "W:A 2024-01-01T00:00:01.000000000Z 2 0 0\n")
@@ -320,7 +320,7 @@ def watched(_, service):
                 line = f"W:A 2024-01-01T00:00:0{number}.000000000Z {number} 1 6\n"
                 want("a new one", process.stdout.readline(), line)
             process.send_signal(signal.SIGINT)
-            want("the end", (process.wait(60), process.stderr.read()), (130, ""))
+            want("the end", (status_of(process), process.stderr.read()), (130, ""))
         finally:
             process.kill()
 
@@ -352,12 +352,12 @@ def numbers_for_prometheus(_, service):
             samples = [(moment - at * SECOND, at) for at in reversed(range(count))]
             archappl.send(service.address, [pb_stream.chunk(header, samples)])
     command = [sys.executable, CLIENTS / "exporter", "--server", service.address, "--listen", "127.0.0.1:0"]
-    with subprocess.Popen(command, stderr=subprocess.PIPE, text=True, env=service.environment) as process:
+    with started(command, stderr=subprocess.PIPE, text=True, env=service.environment) as process:
         try:
             address = process.stderr.readline().split()[-1]
 
             def numbers():
-                with urllib.request.urlopen(address, timeout=60) as body:
+                with urllib.request.urlopen(address, timeout=PATIENCE) as body:
                     rows = body.read().decode().splitlines()
                 return {row.rpartition(" ")[0]: float(row.rpartition(" ")[2]) for row in rows if not row.startswith("#")}
 
@@ -405,17 +405,17 @@ def units_drawn(_, service):
 
 def units_fed(_, service):
     """Units and decimals of a feed go with the first sample of each hour, come back, and are found for later samples."""
-    where = dict(os.environ, ARCHAPPL_SERVER=service.address)
+    environment = dict(os.environ, ARCHAPPL_SERVER=service.address)
     start = 1_704_067_200
     lines = b"".join(b"%s %d 21.5\n" % (name, start + 600 * number) for name in (b"F:A", b"F:B") for number in range(12))
     stream = run("import", "--unit", "mA", data=lines)[0]
     for words in ((), ("--unit", "K", "--precision", "3")):
         data = stream if not words else stream.replace(b"F:", b"G:")
-        told = run("archappl.py", "feed", "--register", *words, data=data, environment=where)[0]
+        told = run("archappl.py", "feed", "--register", *words, data=data, environment=environment)[0]
         want("the feed", told, b"kept 24 held 0 dropped 0 durable 24\n")
     for name, fields in (("F:B", {"EGU": "mA"}), ("G:A", {"EGU": "K", "PREC": "3"})):
-        query = f"pv={name}&from={ALL[0]}&to={ALL[1]}"
-        with urllib.request.urlopen(f"http://127.0.0.1:{service.ports[1]}/retrieval/data/getData.json?{query}", timeout=60) as body:
+        where = f"http://127.0.0.1:{service.ports[1]}/retrieval/data/getData.json"
+        with urllib.request.urlopen(f"{where}?pv={name}&from={ALL[0]}&to={ALL[1]}", timeout=PATIENCE) as body:
             (answer,) = json.load(body)
         wanted = [fields if number % 6 == 0 else None for number in range(12)]
         want(f"the field values of {name}", [sample.get("fields") for sample in answer["data"]], wanted)
@@ -424,7 +424,7 @@ def units_fed(_, service):
         want("its unit", drawing.unit(archappl.described(service.address, name, late)), fields["EGU"])
     chunk = pb_stream.chunk(pb_stream.Header(6, "F:A", 2024, None, [("EGU", "V")]),
                             [((start + 8_000) * SECOND, 1.0, 0, 0, [("HIHI", "9")]), ((start + 8_001) * SECOND, 2.0)])
-    run("archappl.py", "feed", data=chunk, environment=where)
+    run("archappl.py", "feed", data=chunk, environment=environment)
     found = archappl.get(service.address, "F:A", "2024-01-01T02:13:00Z", ALL[1]).field_values
     want("what has its own", found, [((start + 8_000) * SECOND, {"HIHI": "9"}), ((start + 8_001) * SECOND, {"EGU": "V"})])
 
