@@ -414,7 +414,7 @@ class Each:
         for pv in self.names:
             try:
                 found[pv] = work(pv)
-            except Refused as error:
+            except (Refused, CutOff, pb_stream.BadStream) as error:
                 self.status = 1
                 print(f"archappl: {pv}: {error}", file=sys.stderr)
         return found
@@ -560,16 +560,19 @@ def run_details(options):
 
 def run_silent(options):
     """Writes the variables that are archived and had no sample for so long, with the last one's time."""
-    since = sample_text.moment_of(options.since, time.time_ns())
-    quiet = False
-    for pv in options.pv or names(options.server):
-        if status(options.server, pv) != "Being archived":
-            continue
-        times = newest(options.server, pv).times
-        if not len(times) or int(times[-1].astype("int64")) < sample_text.nanoseconds(since):
-            quiet = True
-            print(pv, f"{times[-1]}Z" if len(times) else "none")
-    return 1 if quiet else 0
+    since = sample_text.nanoseconds(sample_text.moment_of(options.since, time.time_ns()))
+    each = Each(options.pv or names(options.server))
+
+    def write_silent(pv):
+        found = status(options.server, pv)
+        times = newest(options.server, pv).times if found == "Being archived" else ()
+        if len(times) and int(times[-1].astype("int64")) >= since or found == "Paused":
+            return
+        each.status = 1
+        print(pv, f"{times[-1]}Z" if len(times) else "none" if found == "Being archived" else "not archived")
+
+    each.do(write_silent)
+    return each.status
 
 
 def run_names(options):

@@ -325,33 +325,47 @@ def watched(_, service):
             process.kill()
 
 
+def damage(service, name):
+    """Spoils the last lines of the files of a variable."""
+    for file in (service.folder / "short_term").glob(name.replace(":", "/") + ":*.pb"):
+        file.write_bytes(file.read_bytes()[:-5] + b"\x1b\x09\x09\x09\n")
+
+
 def silent(_, service):
     """Variables without new samples are told, and those that are paused or have new ones aren't."""
     where, now = dict(os.environ, ARCHAPPL_SERVER=service.address), time.time_ns() // SECOND * SECOND
-    for name, ages in (("S:NEW", (30,)), ("S:OLD", (7_200, 3_000)), ("S:NONE", ()), ("S:PAUSED", (3_600,))):
+    aged = (("S:BAD", (30,)), ("S:NEW", (30,)), ("S:OLD", (7_200, 3_000)), ("S:NONE", ()), ("S:PAUSED", (3_600,)))
+    for name, ages in aged:
         archappl.archive(service.address, name, "SCALAR_INT")
         samples = [(now - age * SECOND, 1) for age in ages]
         for moment, value in samples:
             header = pb_stream.Header(5, name, time.gmtime(moment // SECOND).tm_year)
             archappl.send(service.address, [pb_stream.chunk(header, [(moment, value)])])
     archappl.pause(service.address, "S:PAUSED")
-    told = run("archappl.py", "silent", status=1, environment=where)[0].decode()
-    want("who is silent", told, f"S:OLD {serve_model.iso(now - 3_000 * SECOND)}\nS:NONE none\n")
-    told = run("archappl.py", "silent", "--since", "1h", status=1, environment=where)[0].decode()
-    want("who is for an hour", told, "S:NONE none\n")
-    want("one of them", run("archappl.py", "silent", "S:NEW", environment=where)[0], b"")
+    damage(service, "S:BAD")
+    told, complaint = run("archappl.py", "silent", status=1, environment=where)
+    want("who is silent", told.decode(), f"S:OLD {serve_model.iso(now - 3_000 * SECOND)}\nS:NONE none\n")
+    want("what couldn't be read is named", complaint.startswith("archappl: S:BAD: "), True)
+    told = run("archappl.py", "silent", "--since", "1h", "S:OLD", "S:NONE", "S:NO", status=1, environment=where)[0].decode()
+    want("who is for an hour", told, "S:NONE none\nS:NO not archived\n")
+    want("one of them", run("archappl.py", "silent", "S:NEW", "S:PAUSED", environment=where)[0], b"")
 
 
 def numbers_for_prometheus(_, service):
     """What the exporter tells of a service, and of one that is away."""
     moment = (time.time_ns() // SECOND - 90) * SECOND
-    for name, count in (("E:A", 3), ("E:B", 0)):
+    for name, count in (("E:A", 3), ("E:B", 0), ("E:BAD", 1)):
         archappl.archive(service.address, name, "SCALAR_INT")
         header = pb_stream.Header(5, name, time.gmtime(moment // SECOND).tm_year)
         if count:
             samples = [(moment - at * SECOND, at) for at in reversed(range(count))]
             archappl.send(service.address, [pb_stream.chunk(header, samples)])
-    command = [sys.executable, CLIENTS / "exporter", "--server", service.address, "--listen", "127.0.0.1:0"]
+    damage(service, "E:BAD")
+    log = service.folder / "log"
+    fault, begins = "archappl: sts/E/A: No space left on device (os error 28)\n", "archappl: listening on 127.0.0.1: ..\n"
+    log.write_text(fault + begins + fault + "another line\n" + fault)
+    words = ("--server", service.address, "--listen", "127.0.0.1:0", "--log", str(log))
+    command = [sys.executable, CLIENTS / "exporter", *words]
     with started(command, stderr=subprocess.PIPE, text=True, env=service.environment) as process:
         try:
             address = process.stderr.readline().split()[-1]
@@ -366,16 +380,21 @@ def numbers_for_prometheus(_, service):
                 ("archappl_up", 1),
                 ('archappl_samples_accepted_total{pv="E:A"}', 3),
                 ('archappl_samples_durable_total{pv="E:B"}', 0),
-                ("archappl_all_samples_durable_total", 3),
-                ('archappl_variables{status="Being archived"}', 2),
+                ("archappl_all_samples_durable_total", 4),
+                ('archappl_variables{status="Being archived"}', 3),
+                ('archappl_samples_durable_total{pv="E:BAD"}', 1),
+                ("archappl_unanswered", 1),
+                ("archappl_faults_total", 2),
                 ('archappl_files{pv="E:B",store="long"}', 0),
             ):
                 want(row, found[row], wanted)
             want("the age of the last sample", 89 < found['archappl_last_sample_age_seconds{pv="E:A"}'] < 300, True)
-            want("no age", 'archappl_last_sample_age_seconds{pv="E:B"}' in found, False)
+            for name in ("E:B", "E:BAD"):
+                want("no age", f'archappl_last_sample_age_seconds{{pv="{name}"}}' in found, False)
             size = sum(file.stat().st_size for file in (service.folder / "site").glob("manifest1*"))
             want("a manifest", found['archappl_journal_bytes{journal="manifest1"}'], size)
             want("room", found['archappl_folder_free_bytes{folder="medium"}'] > 0, True)
+            want("room for files", found['archappl_folder_free_files{folder="site"}'] > 0, True)
             want("memory", found["archappl_memory_bytes"] > 1 << 20, True)
             service.stop()
             want("a service that is away", numbers()["archappl_up"], 0)
