@@ -288,8 +288,11 @@ def options_of_words():
     parser.add_argument("names", nargs="*", metavar="NAME")
     options = parser.parse_args()
     if options.file:
-        with open(options.file, encoding="utf-8") as lines:
-            options.names += [line.strip() for line in lines if line.strip() and not line.startswith("#")]
+        try:
+            with open(options.file, encoding="utf-8") as lines:
+                options.names += [line.strip() for line in lines if line.strip() and not line.startswith("#")]
+        except (OSError, UnicodeDecodeError) as error:
+            parser.error(str(error))
     options.names = list(dict.fromkeys(options.names))
     if not options.names:
         parser.error("no variables are named")
