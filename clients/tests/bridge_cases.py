@@ -185,6 +185,37 @@ def ended_without_service(_, service, channels):
     want("the end", (status, "1 weren't told durable" in told), (1, True))
 
 
+def full_disk(_, service, channels):
+    """What the archive's disk has no room for is kept, and sent once there is room. Where nothing can be mounted it isn't tried."""
+    small = service.folder / "small"
+    small.mkdir()
+    if subprocess.run(["mount", "-t", "tmpfs", "-o", "size=2m", "tmpfs", small], capture_output=True, check=False).returncode:
+        print("clients: a small disk can't be mounted here, so the bridge isn't tried with a full one")
+        return
+    try:
+        service.stop()
+        for name in ("SITE", "SHORT_TERM", "MEDIUM_TERM", "LONG_TERM"):
+            service.environment[f"ARCHAPPL_{name}_FOLDER"] = str(small / name.lower())
+        service.start()
+        ballast, start, posted = small / "ballast", time.time_ns() - 100 * SECOND, {}
+        channels.add("D:A", DOUBLE, [0.0] * 1_000, start)
+        posted["D:A"] = [(start, [0.0] * 1_000, 0, 0)]
+        with Bridge(channels, service, posted) as bridge:
+            wait_for_all("the first is archived", service, posted)
+            ballast.write_bytes(bytes(1_900 * 1_024))
+            for number in range(1, 40):
+                post(channels, posted, "D:A", [number / 7] * 1_000, start + number * SECOND)
+            wait_for("the disk is full", lambda: "No space left" in service.log.read_text())
+            ballast.unlink()
+            wait_for_all("all are archived", service, posted)
+            status, told = bridge.end()
+        want("the end", (status, "0 were given up" in told), (0, True))
+        same(service, "D:A", channels.channels["D:A"], posted["D:A"])
+        service.kill()
+    finally:
+        subprocess.run(["umount", "--lazy", small], check=True)
+
+
 def left_out(_, service, channels):
     """Names and types that the archive doesn't take, time stamps that it doesn't, and names that are nowhere."""
     now = time.time_ns()
@@ -267,4 +298,5 @@ def cases(program):
         case.__name__ = work.__name__
         return case
 
-    return [(over(work), 1) for work in (all_types, lost_connections, ended_without_service, left_out, units)]
+    return [(over(work), 1) for work in (all_types, lost_connections, ended_without_service, full_disk, left_out,
+                                         units)]
