@@ -302,13 +302,16 @@ def later(piece, since):
 def described(server, pv, piece):
     """The piece, with what the first sample of its first one's hour tells of the unit where it tells none itself.
 
-    A feed tells units by field values of the first sample of each hour (`describing`).
+    A feed tells units by field values of the first sample of each hour (`describing`). What can't be read tells nothing.
     """
     if len(piece) and not piece.about("EGU"):
         first = int(piece.times[0].astype("int64"))
-        with raw(server, pv, first - first % HOUR, first) as stream:
-            for front in pb_stream.pieces(islice(stream, 6)):
-                piece.field_values = front.field_values + piece.field_values
+        try:
+            with raw(server, pv, first - first % HOUR, first) as stream:
+                fronts = list(pb_stream.pieces(islice(stream, 6)))
+            piece.field_values = [one for front in fronts for one in front.field_values] + piece.field_values
+        except (ArchiverError, pb_stream.BadStream):
+            pass
     return piece
 
 
