@@ -29,14 +29,22 @@ def calls(queries):
     return ["/mgmt/bpl/" + query for query in queries]
 
 
+def front_of(link, count):
+    """The next so many bytes that come."""
+    came = b""
+    while len(came) < count:
+        more = link.recv(count - len(came))
+        if not more:
+            raise Difference(f"a connection ended behind {shown(came)}")
+        came += more
+    return came
+
+
 def line_of(link):
     """The next line that comes."""
     line = b""
     while not line.endswith(b"\n"):
-        byte = link.recv(1)
-        if not byte:
-            raise Difference(f"a connection ended within {line!r}")
-        line += byte
+        line += front_of(link, 1)
     return line
 
 
@@ -90,7 +98,7 @@ def broken_requests(talk):
     for taken in (0, 1, 100, 20_000):
         link = connected(talk.ports()[1])
         link.sendall(get(RAW))
-        came = link.recv(taken, socket.MSG_WAITALL) if taken else b""
+        came = front_of(link, taken)
         reset(link)
         agree("the front of a reply", came, talk.site.replies(get(RAW))[0][:taken])
     talk.ask(get(RAW))
