@@ -10,7 +10,7 @@ import time
 
 import archappl
 import channel_access
-from cases import CLIENTS, started, told_by, wait_for, want
+from cases import CLIENTS, started, status_of, wait_for, want
 from channel_access import CHAR, DOUBLE, ENUM, FLOAT, LONG, SHORT, STRING, ChannelServer
 from running import Service
 from service_cases import ALL, shown
@@ -42,7 +42,9 @@ class Bridge:
         self.repeater.bind(("", 0))
         environment = dict(os.environ, **channels.environment(), EPICS_CA_REPEATER_PORT=str(self.repeater.getsockname()[1]))
         command = [sys.executable, CLIENTS / "ca_feed.py", "--server", service.address, "--every", "0.1"]
-        self.process = started([*command, *words, *names], env=environment, stderr=subprocess.PIPE, text=True)
+        self.log = service.folder / f"bridge-{environment['EPICS_CA_REPEATER_PORT']}"
+        with self.log.open("wb") as log:
+            self.process = started([*command, *words, *names], env=environment, stderr=log)
 
     def __enter__(self):
         return self
@@ -50,14 +52,16 @@ class Bridge:
     def __exit__(self, *_):
         self.process.kill()
         self.process.wait()
-        self.process.stderr.close()
         self.repeater.close()
+
+    def told(self):
+        """All that it told so far."""
+        return self.log.read_text()
 
     def end(self, number=signal.SIGINT):
         """Ends it, and gives its status and what it told."""
         self.process.send_signal(number)
-        _, told = told_by(self.process)
-        return self.process.returncode, told
+        return status_of(self.process), self.told()
 
 
 def post(channels, posted, name, elements, moment, severity=0, status=0):
@@ -180,9 +184,10 @@ def ended_without_service(_, service, channels):
         wait_for("it is archived", lambda: accepted(service, "E:A") == 1)
         service.kill()
         channels.post("E:A", [2], time.time_ns())
-        time.sleep(0.5)
+        wait_for("it tells that samples wait", lambda: "samples wait" in bridge.told())
         status, told = bridge.end()
-    want("the end", (status, "1 weren't told durable" in told), (1, True))
+    # The first one may be durable and not be told so yet.
+    want("the end", (status, any(f"{number} weren't told durable" in told for number in (1, 2))), (1, True))
 
 
 def full_disk(_, service, channels):
