@@ -24,7 +24,7 @@ use Rattle.store_manifest.proofs.Committing.{one_listing}
 use Rattle.pv_catalog.specs.declared.row.Row.{Row}
 use Rattle.pv_catalog.specs.Catalogue.{catalogue_name, IsStored}
 use Rattle.pv_catalog.specs.Rows.{IsCatalogue, AreRows}
-use Rattle.durable_write.specs.Held.{Shelf, Filed, Held, IsListed, AreFiled, AreIn, entry_of, file_of, shelf_of, bytes_of, filed_at}
+use Rattle.durable_write.specs.Held.{Shelf, Filed, Held, IsListed, AreFiled, AreIn, entry_of, file_of, shelf_of, bytes_of, filed_at, Shelf}
 use Rattle.durable_write.specs.Flush.{PlacesRise}
 use Rattle.durable_write.specs.Stored.{KeysDiffer, AreHeld, TierStored}
 use Rattle.tier_store.specs.Stores.{Stores, list_at, tier}
