@@ -121,6 +121,9 @@ class Sink:
 
 # Services
 
+# Why a service ends that a file asks to.
+ENDS = b"archappl: to end, since site/stop is there\n"
+
 
 class Service:
     """A service over a place's folders, by two free ports, until it is to end."""
@@ -154,7 +157,9 @@ class Service:
         stop.touch()
         output, complaint = self.process.communicate(timeout=SECONDS)
         stop.unlink()
-        return Run(self.process.returncode, output, complaint)
+        if not complaint.startswith(ENDS):
+            raise Difference(f"a service that is to end tells {complaint}")
+        return Run(self.process.returncode, output, complaint.removeprefix(ENDS))
 
     def __exit__(self, *_):
         self.process.kill()
