@@ -1,7 +1,7 @@
-"""What the journals of an archive say by their bytes, or what is told where they don't: a model that stands on `store_model.py` and
+"""What the journals of an archive say by their bytes, or what is told where they don't: it stands on `store_model.py` and
 `pb_model.py` alone, and says in Python what docs/FORMATS.md says in words of journals, the catalogue and manifests."""
 
-from dataclasses import dataclass
+from dataclasses import dataclass, field
 
 from pb_model import END, SECOND, Run, year_start
 from store_model import (
@@ -10,23 +10,22 @@ from store_model import (
 
 BEGIN = year_start(1991) * SECOND
 MOST_ROWS = 65_536
-MINUTES = {"5MIN": 5, "15MIN": 15, "30MIN": 30, "HOUR": 60, "DAY": 60, "MONTH": 60, "YEAR": 60}
 
 
 class Refused(Exception):
     """No command opens the archive: what each ends with."""
 
-    def __init__(self, run):
-        super().__init__(run.complaint.decode())
-        self.run = run
-
-
-def damaged(store, path, at):
-    return Refused(Run(8, b"", complaint(f"damaged: {store} {path} at {at}")))
+    def __init__(self, status, text):
+        super().__init__(text)
+        self.run = Run(status, b"", complaint(text))
 
 
 class BadBatch(Exception):
     """A batch says nothing behind those before it."""
+
+
+def damaged(store, path, at):
+    return Refused(8, f"damaged: {store} {path} at {at}")
 
 
 class Members:
@@ -50,20 +49,8 @@ class Members:
         return self.bytes(self.number(4))
 
 
-def read_batches(files, name):
-    """The batches of a journal with their gates' places, and the name of the file that has them."""
-    tells, generation = f"{name}.at", 0
-    for place, batch in framed(files, tells):
-        generation += 1
-        if batch != generation.to_bytes(8, "little"):
-            raise damaged(0, tells, place)
-    current = f"{name}.{generation}" if generation else name
-    if generation and len(files.get(current, b"")) < 2:
-        raise damaged(0, current, 0)
-    return framed(files, current), current
-
-
 def framed(files, name):
+    """The batches of a file with their gates' places. Its form comes before what the batches say."""
     try:
         return list(batches(files.get(name, b"")))
     except Damaged as found:
@@ -72,8 +59,15 @@ def framed(files, name):
 
 def taken(files, name, take, into):
     """What a journal's batches come to, which are taken in one after another."""
-    found, current = read_batches(files, name)
-    for place, batch in found:
+    generation = 0
+    for place, batch in framed(files, f"{name}.at"):
+        generation += 1
+        if batch != generation.to_bytes(8, "little"):
+            raise damaged(0, f"{name}.at", place)
+    current = f"{name}.{generation}" if generation else name
+    if generation and len(files.get(current, b"")) < 2:
+        raise damaged(0, current, 0)
+    for place, batch in framed(files, current):
         try:
             take(Members(batch), into)
         except BadBatch:
@@ -89,11 +83,6 @@ class Row:
     name: bytes
     type: int
     paused: bool = False
-
-    def line(self, counts):
-        """What `status` writes of it, but for the number of its samples."""
-        state = b"paused" if self.paused else b"running"
-        return b"%s %s %s samples # files %d %d %d" % (self.name, TYPE_NAMES[self.type].encode(), state, *counts)
 
 
 def take_rows(members, rows):
@@ -117,8 +106,7 @@ def take_row(members, number, rows):
     members.number(4)
     for _ in range(2 * members.number(4)):
         members.text()
-    keys = {key_of(row.name) for row in rows}
-    if number != len(rows) or number >= MOST_ROWS or not is_name(name) or key_of(name) in keys:
+    if number != len(rows) or number >= MOST_ROWS or not is_name(name) or key_of(name) in {key_of(row.name) for row in rows}:
         raise BadBatch
     if type_number >= len(TYPE_NAMES) or method > 1 or has_count > 1:
         raise BadBatch
@@ -132,8 +120,8 @@ def take_row(members, number, rows):
 class Listed:
     """A manifest's granularity, and its entries by series and partition's start."""
 
-    granularity: object
-    entries: dict
+    granularity: object = None
+    entries: dict = field(default_factory=dict)
 
 
 def take_changes(members, listed):
@@ -155,10 +143,11 @@ def is_start(granularity, t):
     if not BEGIN <= t < END or t % (60 * SECOND):
         return False
     at = civil(t)
-    if at.minute % MINUTES[granularity]:
-        return False
-    parts = {"DAY": (at.hour,), "MONTH": (at.hour, at.day - 1), "YEAR": (at.hour, at.day - 1, at.month - 1)}
-    return not any(parts.get(granularity, ()))
+    parts = [at.minute, at.hour, at.day - 1, at.month - 1]
+    whole = {"HOUR": 1, "DAY": 2, "MONTH": 3, "YEAR": 4}
+    if granularity in whole:
+        return not any(parts[: whole[granularity]])
+    return at.minute % int(granularity.removesuffix("MIN")) == 0
 
 
 # The archive
@@ -177,9 +166,12 @@ class Opened:
             for (series, start), entry in self.entries[store].items():
                 yield store, series, start, path_of(self.rows[series].name, start, store), entry
 
-    def counts(self, series):
-        """How many files of a row each store lists."""
-        return [sum(where[0] == series for where in self.entries[store]) for store in STORES]
+    def status_lines(self):
+        """What `status` writes of the rows, but for the numbers of samples."""
+        for series, row in enumerate(self.rows):
+            counts = [sum(where[0] == series for where in self.entries[store]) for store in STORES]
+            state = b"paused" if row.paused else b"running"
+            yield b"%s %s %s samples # files %d %d %d" % (row.name, TYPE_NAMES[row.type].encode(), state, *counts)
 
 
 def opened(files, sizes):
@@ -187,16 +179,16 @@ def opened(files, sizes):
     rows = taken(files, "catalogue", take_rows, [])
     entries = {}
     for store in STORES:
-        listed = taken(files, f"manifest{store}", take_changes, Listed(None, {}))
+        listed = taken(files, f"manifest{store}", take_changes, Listed())
         if listed.granularity not in (None, CONFIGURED[store]):
-            raise Refused(Run(12, b"", complaint(f"granularity: kept {listed.granularity}, asked {CONFIGURED[store]}")))
+            raise Refused(12, f"granularity: kept {listed.granularity}, asked {CONFIGURED[store]}")
         entries[store] = dict(sorted(listed.entries.items()))
     for store in STORES:
         if any(series >= len(rows) for series, _ in entries[store]):
             raise damaged(0, f"manifest{store}", 0)
     found = Opened(rows, entries)
     for store, _, _, path, entry in found.files():
-        size = sizes.get((store, path))
-        if size is None or size < entry.length:
-            raise damaged(store, path.decode(), size or 0)
+        size = sizes.get((store, path), 0)
+        if size < entry.length or (store, path) not in sizes:
+            raise damaged(store, path.decode(), size)
     return found

@@ -8,51 +8,40 @@ import streams
 from pb_model import Fault, escape, unescape
 from store_model import Damaged, batches, journal, varint
 
-PIECES = (b"\n", b"\n\n", b"\r", b"\x1b", b"\x1b\x02", b"\x00", b"\x01", b"\x7f", b"\x80", b"\xff", b" ", b"%", b"&", b":", b"?")
+PIECES = (*streams.PIECES, b"\x7f", b" ", b"%", b"&", b":", b"?")
 NUMBERS = (0, 1, 2, 127, 128, 2**14, 2**31 - 1, 2**31, 2**32 - 1, 2**32, 2**63 - 1, 2**63, 2**64 - 1)
-# Where the members of an entry of a manifest stand, behind its kind, and their sizes.
-MEMBERS = ((1, 4), (5, 8), (13, 8), (21, 4), (25, 8), (33, 8), (41, 8))
+# Where the members of an entry of a manifest stand, and their sizes; and the size of all.
+MEMBERS = ((0, 1), (1, 4), (5, 8), (13, 8), (21, 4), (25, 8), (33, 8), (41, 8))
 ENTRY = 49
 
 
 # Any bytes
 
 
-def span(rng, data, most=40):
-    """Two places of some bytes, mostly not far apart."""
-    start = rng.randrange(len(data) + 1)
-    return start, min(len(data), start + rng.randrange(1, most))
+def near(rng, old):
+    """A number at an edge, or beside an old one."""
+    return rng.choice((*NUMBERS, old + 1, old - 1, old * 2, old // 2, old + rng.randrange(-50, 50))) % 2**64
 
 
-def flipped(rng, data, _others):
-    at = rng.randrange(len(data))
-    return data[:at] + bytes([data[at] ^ 1 << rng.randrange(8)]) + data[at + 1 :]
+def other_piece(rng, data, others):
+    """Bytes with a piece cut off, put in, removed, or doubled, here or elsewhere, or with the end of others."""
+    at, end = sorted(rng.randrange(len(data) + 1) for _ in range(2))
+    end = rng.choice((end, min(len(data), at + rng.randrange(1, 40))))
+    way = rng.randrange(6)
+    if way == 0:
+        return rng.choice((data[:at], data[at:]))
+    if way == 1:
+        return data[:at] + rng.choice((rng.choice(PIECES), rng.randbytes(3), varint(rng.choice(NUMBERS)))) + data[at:]
+    if way == 2:
+        return data[:at] + data[end:]
+    if way < 5:
+        to = rng.choice((end, rng.randrange(len(data) + 1)))
+        return data[:to] + data[at:end] + data[to:]
+    other = rng.choice(others or (data,))
+    return data[:at] + other[rng.randrange(len(other) + 1) :]
 
 
-def cut(rng, data, _others):
-    at = rng.randrange(len(data))
-    return rng.choice((data[:at], data[:at], data[at:]))
-
-
-def inserted(rng, data, _others):
-    at = rng.randrange(len(data) + 1)
-    more = rng.choice((rng.choice(PIECES), rng.randbytes(rng.randrange(1, 5)), varint(rng.choice(NUMBERS))))
-    return data[:at] + more + data[at + rng.choice((0, 0, 1, len(more))) :]
-
-
-def removed(rng, data, _others):
-    start, end = span(rng, data)
-    return data[:start] + data[end:]
-
-
-def doubled(rng, data, _others):
-    """A piece comes again, here or elsewhere."""
-    start, end = span(rng, data)
-    at = rng.choice((end, rng.randrange(len(data) + 1)))
-    return data[:at] + data[start:end] + data[at:]
-
-
-def lines_moved(rng, data, _others):
+def other_lines(rng, data, _others):
     """A line comes twice, in the place of another, or not at all."""
     lines = data.split(b"\n")
     one, other = rng.randrange(len(lines)), rng.randrange(len(lines))
@@ -66,32 +55,20 @@ def lines_moved(rng, data, _others):
     return b"\n".join(lines)
 
 
-def numbered(rng, data, _others):
-    """Little-endian bytes become another number."""
-    size = rng.choice((1, 4, 8))
-    at = rng.randrange(len(data))
-    old = int.from_bytes(data[at : at + size], "little")
+def other_number(rng, data, _others):
+    """A bit is flipped, or little-endian bytes are another number."""
+    size, at = rng.choice((0, 1, 4, 8)), rng.randrange(len(data))
+    old = int.from_bytes(data[at : at + max(size, 1)], "little")
+    if size == 0:
+        return data[:at] + bytes([old ^ 1 << rng.randrange(8)]) + data[at + 1 :]
     return data[:at] + near(rng, old).to_bytes(8, "little")[:size] + data[at + size :]
-
-
-def near(rng, old):
-    """A number that is one at an edge, or beside an old one."""
-    return rng.choice((*NUMBERS, old + 1, old - 1, old * 2, old // 2)) % 2**64
-
-
-def spliced(rng, data, others):
-    """The front of the one and the end of another."""
-    other = rng.choice(others or (data,))
-    return data[: rng.randrange(len(data) + 1)] + other[rng.randrange(len(other) + 1) :]
-
-
-WAYS = (flipped, flipped, cut, inserted, removed, doubled, lines_moved, numbered, spliced)
 
 
 def mutated(rng, data, others=()):
     """Some bytes with one to three mutations."""
     for _ in range(rng.choice((1, 1, 1, 2, 3))):
-        data = rng.choice(WAYS)(rng, data, others) if data else rng.choice(PIECES)
+        way = rng.choice((other_piece, other_piece, other_lines, other_number, other_number))
+        data = way(rng, data, others) if data else rng.choice(PIECES)
     return data
 
 
@@ -100,12 +77,11 @@ def mutated(rng, data, others=()):
 
 def mutated_stream(rng, data, others):
     """A stream with mutated bytes, or with fields at the edge of what they may be."""
-    if rng.random() < 0.5:
+    if rng.random() < 0.4:
         return mutated(rng, data, others)
     lines = data.split(b"\n")
-    for _ in range(rng.choice((1, 1, 2))):
-        at = rng.choice([number for number, line in enumerate(lines) if line] or [0])
-        lines[at] = mutated_line(rng, lines[at], others)
+    at = rng.choice([number for number, line in enumerate(lines) if line] or [0])
+    lines[at] = mutated_line(rng, lines[at], others)
     return b"\n".join(lines)
 
 
@@ -115,14 +91,13 @@ def mutated_line(rng, line, others):
         extents = streams.extents(message)
     except Fault:
         return mutated(rng, line, others)
-    way = rng.randrange(3)
+    way = rng.randrange(4)
     if not extents or way == 0:
         return escape(mutated(rng, message, others))
     start, end = rng.choice(extents)
     if way == 1:
-        return escape(message[:start] + edge_field(rng, message[start:end]) + message[end:])
-    other_start, other_end = rng.choice(extents)
-    return escape(rng.choice((message[:start] + message[end:], message + message[other_start:other_end])))
+        return escape(rng.choice((message[:start] + message[end:], message + message[start:end])))
+    return escape(message[:start] + edge_field(rng, message[start:end]) + message[end:])
 
 
 def edge_field(rng, field):
@@ -157,16 +132,14 @@ def mutated_journals(rng, files):
     """The files of journals by their names, of which one or two are mutated."""
     files = dict(files)
     for _ in range(rng.choice((1, 1, 1, 2))):
-        name = rng.choice(sorted(files))
-        other = rng.choice(sorted(files))
-        way = rng.randrange(10)
+        name, other, way = rng.choice(sorted(files)), rng.choice(sorted(files)), rng.randrange(10)
         if way == 0:
             files[name] = rng.choice((b"", b"\x01", files[name][:2], files[other]))
         elif way == 1:
             files[rng.choice((f"{name}.at", f"{name.partition('.')[0]}.{rng.randrange(4)}", other))] = files[name]
         elif way == 2 and len(files) > 1:
             del files[name]
-        elif way < 6:
+        elif way < 5:
             files[name] = mutated(rng, files[name], list(files.values()))
         else:
             files[name] = other_batches(rng, files[name])
@@ -181,17 +154,14 @@ def other_batches(rng, data):
         return data
     if not parts:
         return journal([rng.choice((b"", b"\x01\x03", b"\x01\x04", b"\x02\x00\x00\x00\x00\x01", (1).to_bytes(8, "little")))])
-    one, other = rng.randrange(len(parts)), rng.randrange(len(parts))
-    way = rng.randrange(8)
+    one, other, way = rng.randrange(len(parts)), rng.randrange(len(parts)), rng.randrange(8)
     if way == 0:
         del parts[one]
     elif way == 1:
         parts[one], parts[other] = parts[other], parts[one]
     elif way == 2:
-        parts.insert(one, parts[other])
-    elif way == 3:
         parts[one : one + 2] = [b"".join(parts[one : one + 2])]
-    elif way < 6:
+    elif way < 5:
         parts[one] = mutated(rng, parts[one], parts)
     else:
         parts[one] = other_member(rng, parts[one])
@@ -199,10 +169,10 @@ def other_batches(rng, data):
 
 
 def other_member(rng, batch):
-    """A batch of a manifest with another member of one of its entries."""
+    """A batch of a manifest with another member of one of its entries, or a batch of the catalogue with another number."""
     start = 2 if batch[:1] == b"\x01" else 0
     at, size = rng.choice(MEMBERS)
     at += start + ENTRY * rng.randrange(max(1, (len(batch) - start) // ENTRY))
     old = int.from_bytes(batch[at : at + size], "little")
-    new = rng.choice((near(rng, old), old + rng.randrange(-50, 50), old + rng.choice((-1, 1)) * 3600 * 10**9)) % 2 ** (8 * size)
+    new = rng.choice((near(rng, old), old + rng.choice((-1, 1)) * 3600 * 10**9)) % 2 ** (8 * size)
     return batch[:at] + new.to_bytes(size, "little") + batch[at + size :] if at < len(batch) else batch[:-1]

@@ -81,18 +81,22 @@ def other_bytes(rng, file):
 
 def compare_check(place, files):
     """`check` with the files as they are."""
+    place.expect(check_of((file.store, file.path, file.span, place.front(file)) for file in files), "check")
+
+
+def check_of(found):
+    """What `check` tells of files: of each its store, its path, the span of its moments, and its listed bytes."""
     lines, wanted = [], Run(0, b"", b"")
-    for file in files:
-        front = place.front(file)
-        at = damage_of(check_file, front, file.span)
+    for store, path, span, front in found:
+        at = damage_of(check_file, front, span)
         if at is None:
-            lines.append(b"%d %s ok %d\n" % (file.store, file.path, check_file(front, file.span)))
+            lines.append(b"%d %s ok %d\n" % (store, path, check_file(front, span)))
             continue
-        lines.append(b"%d %s damaged %d\n" % (file.store, file.path, at))
+        lines.append(b"%d %s damaged %d\n" % (store, path, at))
         if wanted.status == 0:
-            wanted = Run(8, b"", damaged_at(file.store, file.path.decode(), at))
+            wanted = Run(8, b"", damaged_at(store, path.decode(), at))
     wanted.output = b"".join(lines)
-    place.expect(wanted, "check")
+    return wanted
 
 
 def compare_damaged_get(place, row):
