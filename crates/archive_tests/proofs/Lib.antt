@@ -1,3 +1,0 @@
-pub mod AllAsked
-pub mod Seated
-pub mod Usable

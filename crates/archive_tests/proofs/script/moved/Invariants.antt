@@ -1,9 +1,0 @@
-use Rattle.std.proofs.Common.{true}
-use Rattle.disk_model.specs.contracts.memory.MemDiskDisk.TheImpl.{ghosts}
-use Rattle.act_model.specs.Machine.{Machine}
-use Rattle.archive_core.specs.Parts.{parts}
-use Rattle.archive_core.specs.Stands.{Stands}
-use Rattle.archive_tests.proofs.script.moved.Given as goal
-
-abbrev pub invariant-loop : goal.invariant-loop
-invariant-loop l = (m : Machine) × Stands true (parts ghosts l.archive) m
