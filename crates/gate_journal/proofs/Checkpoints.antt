@@ -4,8 +4,9 @@ use Rattle.std.proofs.lemmas.Bool.{cases_eq}
 use Rattle.std.specs.Int.{to_le_bytes, w64}
 use Rattle.disk_model.specs.Files.{Name, Content, Files}
 use Rattle.disk_model.specs.Past.{Past, MayLeave, Passes, Only}
+use Rattle.disk_model.proofs.Passing.{passes_then, passes_weaker}
 use Rattle.gate_journal.specs.Batches.{open_gates, framed_bytes, Reads, HasBatches}
-use Rattle.gate_journal.specs.Journal.{JournalState, state_of, IsThere, IsSettledWith, IsUndecided, Switches, IsLeft, IsTold}
+use Rattle.gate_journal.specs.Journal.{JournalState, state_of, IsThere, IsSettledWith, IsUndecided, Switches, IsLeft, IsTold, OnlyGoesOn, OnlyMakes}
 use Rattle.gate_journal.specs.declared.journal.Pending.{Pending}
 use Rattle.gate_journal.specs.declared.journal.Pending.TheVariants.{Switch}
 use Rattle.gate_journal.specs.Generations.{generation_name, IsOwn, AtOwn, HasOneOf, generation_batches}
@@ -13,6 +14,7 @@ use Rattle.gate_journal.specs.Plain.{PlainState, IsSettled, IsInDoubt}
 use Rattle.gate_journal.proofs.Bytes.{one, length-framed_bytes}
 use Rattle.gate_journal.proofs.Elsewhere.{settled_stays}
 use Rattle.gate_journal.proofs.FileNames.{at_apart, one_generation}
+use Rattle.gate_journal.proofs.Files.{Anyhow}
 use Rattle.gate_journal.proofs.Holding.{holds_at, settled_seen, same_left, names_apart, at_is_own, current_is_own, not_short, holds_left}
 use Rattle.gate_journal.proofs.Begin.{journal_has}
 use Rattle.gate_journal.proofs.Owned.{own_none, own_first}
@@ -52,6 +54,33 @@ module _ (journal : JournalState) (files : Files) (opened : Name → ℕ) (past 
 
   pub next_is_own : IsOwn journal.name next
   next_is_own = inr (n, small, named)
+
+  module _ (k : ℕ) (small_k : k < 2 ^ 64) (current : journal.current.name ≡ generation_name journal.name k) where
+    next_behind : next ≡ generation_name journal.name (k + 1)
+    next_behind =
+        let same : s.generation ≡ k = one_generation journal.name s.generation k s.named.small small_k (sym s.named.current ∙ current) in
+        let number : n ≡ k + 1 = omega (arith, counted, same) in named ∙ ap (λ (m : ℕ). generation_name journal.name m) number
+
+    -- only the three files change
+    pub goes_on : (a b : Files) → ((m : Name) → m ≢ journal.at.name → m ≢ journal.current.name → m ≢ next → b m ≡ a m) → OnlyGoesOn journal.name k a b
+    goes_on a b same m not_at not_current not_next = same m (λ is. not_at (is ∙ s.named.at)) (λ is. not_current (is ∙ current)) (λ is. not_next (is ∙ next_behind))
+
+    -- only the next one's file does
+    pub makes : (a b : Files) → ((m : Name) → m ≢ next → b m ≡ a m) → OnlyMakes journal.name k a b
+    makes a b same m not_next = same m (λ is. not_next (is ∙ next_behind))
+
+    pub switch_goes_on : (cs : List (List ℕ)) (batch bytes : List ℕ) (mid : Past) → Passes (Switches journal.at.name next cs batch bytes) past mid → Passes (OnlyGoesOn journal.name k) past mid
+    switch_goes_on cs batch bytes mid passes =
+        passes_weaker (Switches journal.at.name next cs batch bytes) (OnlyGoesOn journal.name k) past mid passes (λ a c was step. goes_on a c (λ m not_at not_current not_next. step.elsewhere m not_at not_next))
+
+    -- and then the old file is removed
+    pub removal_goes_on : (mid new : Past) → Passes (OnlyGoesOn journal.name k) past mid → Passes (Anyhow journal.current.name) mid new → Passes (OnlyGoesOn journal.name k) past new
+    removal_goes_on mid new first second =
+        passes_then (OnlyGoesOn journal.name k) (Anyhow journal.current.name) past mid new first second
+        (λ a b c was before now step m not_at not_current not_next. step.elsewhere m (λ is. not_current (is ∙ current)) ∙ before m not_at not_current not_next)
+
+    pub only_makes : (mid : Past) → Passes (Anyhow next) past mid → Passes (OnlyMakes journal.name k) past mid
+    only_makes mid passes = passes_weaker (Anyhow next) (OnlyMakes journal.name k) past mid passes (λ a c was step. makes a c step.elsewhere)
 
   module _ (batch bytes : List ℕ) (short : length batch < 2 ^ 32) (is_file : bytes ≡ open_gates (batch ∷ []) ++ 0 ∷ []) (later : Files) (opened_later : Name → ℕ) (new : Past)
       (passes : Passes (Switches journal.at.name next (generation_batches s.generation) (to_le_bytes w64 n) bytes) past new)

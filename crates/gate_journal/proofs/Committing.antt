@@ -1,5 +1,5 @@
 -- A commit to the current generation's file.
-use Rattle.std.proofs.Common.{◌≡◌, ◌⊎◌, inl, inr, ℕ, List, [], ◌∷◌, ◌++◌, Bool, true, false, not, Some, None, refl, sym, ◌∙◌, ap, subst, arith}
+use Rattle.std.proofs.Common.{◌≡◌, ◌⊎◌, inl, inr, ℕ, List, [], ◌∷◌, ◌++◌, Bool, true, Some, None, refl, sym, ◌∙◌, ap, subst, arith}
 use Rattle.disk_model.specs.Files.{Name, Content, Files, At}
 use Rattle.disk_model.specs.Past.{Past, MayLeave, Passes}
 use Rattle.gate_journal.specs.Batches.{HasBatches}
@@ -29,22 +29,8 @@ state_same name at current other pending also same too = ap (λ (j : PlainState)
 pub orderly_nothing : (pending : Pending) (at current : PlainState) → pending ≡ Nothing → at.sound ≡ true → IsOrderly pending at current
 orderly_nothing pending at current is sound = subst (λ (p : Pending). IsOrderly p at current) (sym is) sound
 
-pub orderly_switch : (pending : Pending) (next at current : PlainState) → pending ≡ Switch next → IsOrderly pending at current → (current.sound ≡ true) × (next.sound ≡ true)
-orderly_switch pending next at current is orderly = subst (λ (p : Pending). IsOrderly p at current) is orderly
-
-pub orderly_removal : (pending : Pending) (old at current : PlainState) → pending ≡ Removal old → IsOrderly pending at current → (at.sound ≡ true) × (current.sound ≡ true)
-orderly_removal pending old at current is orderly = subst (λ (p : Pending). IsOrderly p at current) is orderly
-
 pub nothing_sound : (pending : Pending) (sound : Bool) → pending ≡ Nothing → is_sound_with pending sound ≡ sound
 nothing_sound pending sound is = ap (λ (p : Pending). is_sound_with p sound) is
-
-pub is_off : (b : Bool) → not b ≡ true → b ≡ false
-is_off false is = refl
-is_off true is = absurd (cc is)
-
-pub is_on : (b : Bool) → not b ≡ false → b ≡ true
-is_on true is = refl
-is_on false is = absurd (cc is)
 
 pub no_shorter_there : (g : ℕ) (x y : Content) → NoShorter x y → IsThere g x → IsThere g y
 no_shorter_there g None None grown there = there

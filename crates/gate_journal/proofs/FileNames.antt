@@ -74,11 +74,5 @@ own_apart name other n apart own too =
           differ.3 (sym (get_or-front name.1 one.0 differ.0 differ.1) ∙ ap (λ (m : Name). get_or m.1 differ.0 0) same ∙ get_or-front other.1 two.0 differ.0 differ.2)
     ]
 
-pub at_own : (name : Name) → IsOwn name (at_name name)
-at_own name = inl refl
-
-pub generation_own : (name : Name) (g : ℕ) → g < 2 ^ 64 → IsOwn name (generation_name name g)
-generation_own name g small = inr (g, small, refl)
-
 pub named_so : (name : Name) (g : ℕ) (more : List ℕ) → 0 < g → more ≡ 46 ∷ decimal g → ◌≡◌ {A = Name} (name.0, name.1 ++ more) (generation_name name g)
 named_so name g more some is = ap (λ (l : List ℕ). (name.0, name.1 ++ l)) is ∙ sym (later_generation name g some)

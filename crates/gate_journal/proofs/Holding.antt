@@ -49,11 +49,6 @@ module _ (journal : JournalState) (files : Files) (opened : Name → ℕ) (past 
       (journal_left journal.current files opened past bs s.current image left)
       (subst (IsThere s.generation) (sym (same_left journal.current files opened past bs s.current image left)) s.there)
 
-  pub holds_seen : HasBatchesOf journal.name files bs
-  holds_seen =
-      holds_at journal.name journal.at.name journal.current.name files s.generation bs s.named.small s.named.at s.named.current (settled_seen journal.at files opened past (generation_batches s.generation) s.at)
-      (settled_seen journal.current files opened past bs s.current) s.there
-
   -- and so does an image in which the two files are the same
   pub holds_behind : (b c : Files) → MayLeave past b → c journal.at.name ≡ b journal.at.name → c journal.current.name ≡ b journal.current.name → HasBatchesOf journal.name c bs
   holds_behind b c was at_same current_same =

@@ -15,7 +15,7 @@ mod LoadingBoth
 mod LoadingEach
 mod Meaning
 mod NamedErrs
-mod OneReading
+pub mod OneReading
 mod Owned
 pub mod Owning
 mod Pieces
@@ -24,6 +24,6 @@ mod Reviewing
 mod Steps
 mod Switching
 mod Synced
-mod Telling
+pub mod Telling
 mod Turns
 mod Unmoved

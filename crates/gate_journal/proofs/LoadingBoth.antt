@@ -166,10 +166,6 @@ pub sized_short : (c : Content) (n : ℕ) → size_of c ≡ Some n → n < 2 →
 sized_short None n size few = tt
 sized_short (Some b) n size few = let is : length b ≡ n = cc size in omega (arith, is, few)
 
-pub no_size : (c : Content) → size_of c ≡ None → IsShort c
-no_size None size = tt
-no_size (Some b) size = absurd (cc size)
-
 -- what reads gave
 pub all_read : (name : Name) (g : ℕ) (files first : Files) (bs : List (List ℕ)) → g < 2 ^ 64 → At (at_name name) StaysOrShort files first → HasBatches (files (at_name name)) (generation_batches g) → HasBatches (first (generation_name name g)) bs
     → IsThere g (first (generation_name name g)) → HasBatchesOf name files bs

@@ -1,18 +1,14 @@
 -- The file of the generation before is removed.
 use Rattle.std.proofs.Common.{◌≡◌, ◌≢◌, inl, inr, ℕ, ◌+◌, ◌<◌, ◌^◌, List, None, sym, ◌∙◌, ap, subst, arith}
-use Rattle.disk_model.specs.Files.{Name, Files, HasFile}
+use Rattle.disk_model.specs.Files.{Name, Files}
 use Rattle.disk_model.specs.Past.{Past, MayLeave, Passes, Only}
 use Rattle.gate_journal.specs.Journal.{JournalState, IsSettledWith, HasNoneBefore}
 use Rattle.gate_journal.specs.Generations.{generation_name, IsOwn, AtOwn, HasBatchesOf}
-use Rattle.gate_journal.specs.Plain.{PlainState, IsSettled}
 use Rattle.gate_journal.proofs.Checkpoints.{is_next}
 use Rattle.gate_journal.proofs.FileNames.{at_apart, one_generation}
 use Rattle.gate_journal.proofs.Files.{Anyhow}
 use Rattle.gate_journal.proofs.Holding.{holds_behind, settled_with_stays}
 use Rattle.gate_journal.proofs.Owned.{own_then, leaves_at}
-
-pub settled_file : (journal : PlainState) (files : Files) (opened : Name → ℕ) (past : Past) (bs : List (List ℕ)) → IsSettled journal files opened past bs → HasFile files journal.name (λ b. Unit {0})
-settled_file journal files opened past bs settled = record { bytes = settled.bytes; file = settled.file; holds = tt }
 
 module _ (journal : JournalState) (files : Files) (opened : Name → ℕ) (past : Past) (bs : List (List ℕ)) (s : IsSettledWith journal files opened past bs)
     (g : ℕ) (before : g + 1 ≡ s.generation) (old : Name) (named : old ≡ generation_name journal.name g) where

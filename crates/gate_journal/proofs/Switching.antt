@@ -1,5 +1,5 @@
 -- The next generation's file is made, and then the file that tells the generation tells it.
-use Rattle.std.proofs.Common.{◌≡◌, ◌≢◌, inl, inr, ℕ, List, Some, Result, Ok, Err, OnOk, sym, ◌∙◌, subst, arith}
+use Rattle.std.proofs.Common.{◌≡◌, ◌≢◌, inl, inr, ℕ, List, Some, Result, Ok, Err, OnOk, sym, ◌∙◌, ap, subst, arith}
 use Rattle.disk_model.specs.Files.{Name, Files, At}
 use Rattle.disk_model.specs.Past.{Past, MayLeave, Passes, Only}
 use Rattle.disk_model.proofs.Passing.{passes_then, passes_weaker, only_elsewhere}
@@ -42,6 +42,13 @@ module _ (at : PlainState) (files : Files) (opened : Name → ℕ) (past : Past)
 
     pub still_durable : Only new next (Some bytes)
     still_durable = only_elsewhere (BeforeOrAfter bs batch) mid new at.name next (Some bytes) two (λ is. apart (sym is)) durable
+
+-- the call behind it did nothing
+pub files_same : {S : Type 0} (files : S → Files) (mid new : S) (n : Name) → new ≡ mid → files new n ≡ files mid n
+files_same {S} files mid new n same = ap (λ (d : S). files d n) same
+
+pub passes_same : {S : Type 0} (past : S → Past) (R : Files → Files → Type 0) (old : Past) (mid new : S) → new ≡ mid → Passes R old (past mid) → Passes R old (past new)
+passes_same {S} past R old mid new same passes = subst (λ (d : S). Passes R old (past d)) (sym same) passes
 
 -- nothing was committed to it
 pub left_same : {S : Type 0} (files : S → Files) (opened : S → Name → ℕ) (past : S → Past) (mid new : S) (at after : PlainState) (bs : List (List ℕ)) → new ≡ mid → after ≡ at

@@ -35,9 +35,8 @@ pub use batches::Batches;
 pub use fold::BatchFold;
 pub use journal::Journal;
 pub use laws::{
-    a_commit_adds_its_batch, a_crash_leaves_the_batches, a_crash_leaves_the_list,
-    a_load_keeps_the_batches, apart_journals_share_no_file, every_file_is_read,
-    every_image_is_read, one_bad_place, one_list, one_meaning, one_refusal, other_files_may_change,
+    a_commit_adds_its_batch, a_crash_leaves_the_list, apart_journals_share_no_file,
+    every_file_is_read, every_image_is_read, one_bad_place, one_list, one_meaning, one_refusal,
     other_names_may_change, past_the_closed_gate,
 };
 pub use load::JournalErr;

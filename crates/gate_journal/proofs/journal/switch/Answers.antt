@@ -4,7 +4,8 @@ use Rattle.disk_model.specs.Files.{Name}
 use Rattle.disk_model.specs.Past.{Passes}
 use Rattle.gate_journal.specs.Journal.{Switches}
 use Rattle.gate_journal.specs.Plain.{IsSettled, IsInDoubt}
-use Rattle.gate_journal.proofs.Switching.{on_ok_always, making_passes, made_settled, making_left, switch_passes, still_durable, left_same}
+use Rattle.gate_journal.proofs.Files.{Anyhow}
+use Rattle.gate_journal.proofs.Switching.{on_ok_always, making_passes, made_settled, making_left, switch_passes, still_durable, left_same, files_same, passes_same}
 use Rattle.gate_journal.proofs.journal.switch.Goals as goal
 
 pub commit-requires-clause-settled : goal.commit-requires-clause-settled
@@ -71,3 +72,13 @@ returns-clause-opened g c tells m not_next = ap (λ (f : Name → ℕ). f m) (c.
 
 pub returns-clause-unopened : goal.returns-clause-unopened
 returns-clause-unopened g c tells = ap (λ (f : Name → ℕ). f c.args.next.now) (c.commit.ensures.opened tells) ∙ c.make_anew.ensures.unopened tells
+
+pub returns-in_err-make_anew-clause-untold : goal.returns-in_err-make_anew-clause-untold
+returns-in_err-make_anew-clause-untold g c tells failed = (c.make_anew.ensures.elsewhere tells, c.make_anew.ensures.any_moment tells)
+
+pub returns-clause-untold : goal.returns-clause-untold
+returns-clause-untold g c tells failed =
+    let same = (c.commit.ensures.memory failed).1 in (
+      λ m not_next. files_same g.D.Disk.files c.make_anew.new.disk c.commit.new.disk m same ∙ c.make_anew.ensures.elsewhere tells m not_next,
+      passes_same g.D.Disk.past (Anyhow c.args.next.now) (g.D.Disk.past c.args.disk.now) c.make_anew.new.disk c.commit.new.disk same (c.make_anew.ensures.any_moment tells),
+    )

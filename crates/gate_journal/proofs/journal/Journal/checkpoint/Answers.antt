@@ -1,11 +1,13 @@
 use Rattle.std.proofs.Common.{◌≡◌, ℕ, ◌+◌, ◌/◌, ◌<◌, ◌^◌, List, [], ◌∷◌, length, Err, Some, inl, inr, refl, sym, ◌∙◌, ap, subst, arith}
+use Rattle.std.specs.Int.{to_le_bytes, w64}
 use Rattle.std.proofs.lemmas.Result.{on_ok_weaker, IfErr-at_err}
 use Rattle.disk_model.specs.declared.disk.DiskErr.{DiskErr}
+use Rattle.disk_model.proofs.Passing.{passes_none}
 use Rattle.gate_journal.specs.Journal.{JournalState, state_of, is_of_commit, IsSettledWith, IsUndecided}
 use Rattle.gate_journal.specs.declared.journal.Pending.TheVariants.{Nothing, Removal}
 use Rattle.gate_journal.specs.Generations.{generation_name, generation_batches, HasOneOf}
 use Rattle.gate_journal.specs.Plain.{PlainState}
-use Rattle.gate_journal.proofs.Checkpoints.{told_by_length, at_not_next, current_not_next, switch_passes_own, settled_none, left_settled, gone_over, switch_open}
+use Rattle.gate_journal.proofs.Checkpoints.{told_by_length, at_not_next, current_not_next, switch_passes_own, settled_none, left_settled, gone_over, switch_open, goes_on, makes, switch_goes_on, removal_goes_on, only_makes}
 use Rattle.gate_journal.proofs.Committing.{sound_parts}
 use Rattle.gate_journal.proofs.FileNames.{one_generation}
 use Rattle.gate_journal.proofs.Holding.{names_apart}
@@ -274,3 +276,68 @@ returns-in-Ok-clause-next g c = rw (← c.self.view_is) (λ tells k small is.
     let same : s.1.generation ≡ k = one_generation c.self.inside.name s.1.generation k s.1.named.small small (sym s.1.named.current ∙ is) in
     let number : n ≡ k + 1 = omega (arith, counted, same) in
     on_ok_weaker c.go_over.result (λ over. ap (λ (j : JournalState). j.current.name) over ∙ named ∙ ap (λ (m : ℕ). generation_name c.self.inside.name m) number) (c.go_over.ensures.over c.closed_at-next.result refl))
+
+pub returns-in_err-name-clause-three_files : goal.returns-in_err-name-clause-three_files
+returns-in_err-name-clause-three_files g c tells k small_k is = (λ m not_at not_current not_next. refl, passes_none _ (g.D.Disk.past c.args.disk.now) (λ a was m not_at not_current not_next. refl))
+
+pub returns-in_err-name-clause-untold : goal.returns-in_err-name-clause-untold
+returns-in_err-name-clause-untold g c tells k small_k is failed = (λ m not_next. refl, passes_none _ (g.D.Disk.past c.args.disk.now) (λ a was m not_next. refl))
+
+pub returns-in_err-first_bytes-clause-three_files : goal.returns-in_err-first_bytes-clause-three_files
+returns-in_err-first_bytes-clause-three_files g c tells k small_k is = (λ m not_at not_current not_next. refl, passes_none _ (g.D.Disk.past c.args.disk.now) (λ a was m not_at not_current not_next. refl))
+
+pub returns-in_err-first_bytes-clause-untold : goal.returns-in_err-first_bytes-clause-untold
+returns-in_err-first_bytes-clause-untold g c tells k small_k is failed = (λ m not_next. refl, passes_none _ (g.D.Disk.past c.args.disk.now) (λ a was m not_next. refl))
+
+pub returns-in-Err-Memory-clause-three_files : goal.returns-in-Err-Memory-clause-three_files
+returns-in-Err-Memory-clause-three_files g c = rw (← c.self.view_is) (λ tells k small_k is.
+    let s = rw (← c.self.view_is) at (c.requires.settled tells) in
+    let n = c.len.result / 13 + 1 in
+    let next = c.name-2.result.now in
+    let counted : n ≡ s.1.generation + 1 = told_by_length c.self.inside.at (g.D.Disk.files c.args.disk.now) (g.D.Disk.opened c.args.disk.now) (g.D.Disk.past c.args.disk.now) s.1.generation c.len.result s.1.at c.len.ensures in
+    let named : next ≡ generation_name c.self.inside.name n = c.name-2.ensures ∙ ap (λ (j : PlainState). j.name) c.closed_at-next.ensures ∙ c.in_ok-name.ensures.named in
+    let small = c.generation_name.ensures.small in (
+      goes_on _ (g.D.Disk.files c.args.disk.now) (g.D.Disk.opened c.args.disk.now) (g.D.Disk.past c.args.disk.now) s.0 s.1 n counted next small named k small_k is (g.D.Disk.files c.args.disk.now) (g.D.Disk.files c.switch.new.disk) (λ m not_at not_current not_next. c.switch.ensures.elsewhere tells m not_at not_next),
+      switch_goes_on _ (g.D.Disk.files c.args.disk.now) (g.D.Disk.opened c.args.disk.now) (g.D.Disk.past c.args.disk.now) s.0 s.1 n counted next small named k small_k is (generation_batches s.1.generation) (to_le_bytes w64 n) c.deref.result.now (g.D.Disk.past c.switch.new.disk) (c.switch.ensures.any_moment tells (generation_batches s.1.generation) s.1.at),
+    ))
+
+pub returns-in-Err-Fault-clause-three_files : goal.returns-in-Err-Fault-clause-three_files
+returns-in-Err-Fault-clause-three_files g c = rw (← c.self.view_is) (λ tells k small_k is.
+    let s = rw (← c.self.view_is) at (c.requires.settled tells) in
+    let n = c.len.result / 13 + 1 in
+    let next = c.name-2.result.now in
+    let counted : n ≡ s.1.generation + 1 = told_by_length c.self.inside.at (g.D.Disk.files c.args.disk.now) (g.D.Disk.opened c.args.disk.now) (g.D.Disk.past c.args.disk.now) s.1.generation c.len.result s.1.at c.len.ensures in
+    let named : next ≡ generation_name c.self.inside.name n = c.name-2.ensures ∙ ap (λ (j : PlainState). j.name) c.closed_at-next.ensures ∙ c.in_ok-name.ensures.named in
+    let small = c.generation_name.ensures.small in (
+      goes_on _ (g.D.Disk.files c.args.disk.now) (g.D.Disk.opened c.args.disk.now) (g.D.Disk.past c.args.disk.now) s.0 s.1 n counted next small named k small_k is (g.D.Disk.files c.args.disk.now) (g.D.Disk.files c.switch.new.disk) (λ m not_at not_current not_next. c.switch.ensures.elsewhere tells m not_at not_next),
+      switch_goes_on _ (g.D.Disk.files c.args.disk.now) (g.D.Disk.opened c.args.disk.now) (g.D.Disk.past c.args.disk.now) s.0 s.1 n counted next small named k small_k is (generation_batches s.1.generation) (to_le_bytes w64 n) c.deref.result.now (g.D.Disk.past c.switch.new.disk) (c.switch.ensures.any_moment tells (generation_batches s.1.generation) s.1.at),
+    ))
+
+pub returns-in-Err-Memory-clause-untold : goal.returns-in-Err-Memory-clause-untold
+returns-in-Err-Memory-clause-untold g c = rw (← c.self.view_is) (λ tells k small_k is failed.
+    let s = rw (← c.self.view_is) at (c.requires.settled tells) in
+    let n = c.len.result / 13 + 1 in
+    let next = c.name-2.result.now in
+    let counted : n ≡ s.1.generation + 1 = told_by_length c.self.inside.at (g.D.Disk.files c.args.disk.now) (g.D.Disk.opened c.args.disk.now) (g.D.Disk.past c.args.disk.now) s.1.generation c.len.result s.1.at c.len.ensures in
+    let named : next ≡ generation_name c.self.inside.name n = c.name-2.ensures ∙ ap (λ (j : PlainState). j.name) c.closed_at-next.ensures ∙ c.in_ok-name.ensures.named in
+    let small = c.generation_name.ensures.small in
+    let made = c.in-Err-Memory.ensures.untold tells (ap (λ (e : DiskErr). Err e) c.in-Err-Memory.field-0-is) in (
+      makes _ (g.D.Disk.files c.args.disk.now) (g.D.Disk.opened c.args.disk.now) (g.D.Disk.past c.args.disk.now) s.0 s.1 n counted next small named k small_k is (g.D.Disk.files c.args.disk.now) (g.D.Disk.files c.switch.new.disk) made.0,
+      only_makes _ (g.D.Disk.files c.args.disk.now) (g.D.Disk.opened c.args.disk.now) (g.D.Disk.past c.args.disk.now) s.0 s.1 n counted next small named k small_k is (g.D.Disk.past c.switch.new.disk) made.1,
+    ))
+
+pub returns-in-Ok-clause-three_files : goal.returns-in-Ok-clause-three_files
+returns-in-Ok-clause-three_files g c = rw (← c.self.view_is) (λ tells k small_k is.
+    let s = rw (← c.self.view_is) at (c.requires.settled tells) in
+    let n = c.len.result / 13 + 1 in
+    let next = c.name-2.result.now in
+    let counted : n ≡ s.1.generation + 1 = told_by_length c.self.inside.at (g.D.Disk.files c.args.disk.now) (g.D.Disk.opened c.args.disk.now) (g.D.Disk.past c.args.disk.now) s.1.generation c.len.result s.1.at c.len.ensures in
+    let named : next ≡ generation_name c.self.inside.name n = c.name-2.ensures ∙ ap (λ (j : PlainState). j.name) c.closed_at-next.ensures ∙ c.in_ok-name.ensures.named in
+    let small = c.generation_name.ensures.small in (
+      goes_on _ (g.D.Disk.files c.args.disk.now) (g.D.Disk.opened c.args.disk.now) (g.D.Disk.past c.args.disk.now) s.0 s.1 n counted next small named k small_k is (g.D.Disk.files c.args.disk.now) (g.D.Disk.files c.go_over.new.disk) (λ m not_at not_current not_next. c.go_over.ensures.elsewhere tells m not_current ∙ c.switch.ensures.elsewhere tells m not_at not_next),
+      removal_goes_on _ (g.D.Disk.files c.args.disk.now) (g.D.Disk.opened c.args.disk.now) (g.D.Disk.past c.args.disk.now) s.0 s.1 n counted next small named k small_k is (g.D.Disk.past c.switch.new.disk) (g.D.Disk.past c.go_over.new.disk)
+          (switch_goes_on _ (g.D.Disk.files c.args.disk.now) (g.D.Disk.opened c.args.disk.now) (g.D.Disk.past c.args.disk.now) s.0 s.1 n counted next small named k small_k is (generation_batches s.1.generation) (to_le_bytes w64 n) c.deref.result.now (g.D.Disk.past c.switch.new.disk) (c.switch.ensures.any_moment tells (generation_batches s.1.generation) s.1.at)) (c.go_over.ensures.any_moment tells),
+    ))
+
+pub returns-in-Ok-clause-untold : goal.returns-in-Ok-clause-untold
+returns-in-Ok-clause-untold g c tells k small_k is failed = absurd (c.go_over.ensures.no_memory failed)
