@@ -4,5 +4,4 @@ pub mod Keeping
 pub mod Looking
 pub mod Manifests
 pub mod OneJournal
-pub mod OneReading
 pub mod Verdicts

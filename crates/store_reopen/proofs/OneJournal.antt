@@ -26,7 +26,8 @@ use Rattle.std.proofs.lemmas.Option.{none-some, same_Some}
 use Rattle.std.specs.Int.{to_le_bytes, w32}
 use Rattle.gate_journal.specs.Batches.{HasBatches, IsBadJournal, IsShort, open_gates, framed_bytes}
 use Rattle.gate_journal.proofs.Holding.{settled_seen}
-use Rattle.store_reopen.proofs.OneReading.{one_list, none_told, one_generation_told}
+use Rattle.gate_journal.proofs.OneReading.{one_list}
+use Rattle.gate_journal.proofs.Telling.{none_told, one_generation_told}
 use Rattle.store_manifest.specs.Batches as manifest
 use Rattle.pv_catalog.specs.Rows as catalogue
 

@@ -26,7 +26,8 @@ use Rattle.durable_write.specs.Held.{Filed, IsFiled, IsListed, IsIn, entry_of, f
 use Rattle.tier_store.specs.Stores.{Stores, list_at}
 use Rattle.tier_store.specs.Stored.{HoldsAll}
 use Rattle.store_reopen.specs.OneJournal.{IsBadFile, IsBadCatalogue, IsBadManifest}
-use Rattle.store_reopen.proofs.OneReading.{one_list, one_generation_told}
+use Rattle.gate_journal.proofs.OneReading.{one_list}
+use Rattle.gate_journal.proofs.Telling.{one_generation_told}
 use Rattle.store_reopen.specs.Verdict.{Listings, AreSaidBelow, AreSaid, IsThere, IsFirstShort, IsWhole, Differs, ManifestIsBad, HasStranger, HasShortFile, IsDamaged, catalogue_bad, manifest_bad, stranger, file_short, HasRow, EndsEarly}
 use Rattle.store_reopen.proofs.Having.{said_of, listing, granularity_here}
 

@@ -1,7 +1,7 @@
 use Rattle.std.proofs.Common.{ℕ, List, length, take, ◌∙◌, ap, Err}
 use Rattle.gate_journal.specs.Batches.{open_gates}
 use Rattle.store_reopen.proofs.OneJournal.{settled_file_of}
-use Rattle.store_reopen.proofs.OneReading.{one_list}
+use Rattle.gate_journal.proofs.OneReading.{one_list}
 use Rattle.store_reopen.proofs.journals.gate_of.Goals as goal
 
 pub returns-in_ok-file-in-Ok-clause-gate : goal.returns-in_ok-file-in-Ok-clause-gate
