@@ -138,13 +138,6 @@ both_moment g entries next name old mid new first second =
 
 -- A REVIEW
 
--- what the journal has after a review that found the batches after the change, or those before it
-pub reviewed_kept : (g : Granularity) (journal : JournalState) (files : Files) (opened : Name → ℕ) (past : Past) (bs : List (List ℕ)) (entries : List Entry) → IsSettledWith journal files opened past bs → Configured g bs entries → IsKept (Configured g) journal files opened past entries
-reviewed_kept g journal files opened past bs entries settled means = record { batches = bs; settled = settled; means = means }
-
-pub unsure_means : (g : Granularity) (of_commit : Bool) (after : List (List ℕ)) (entries next : List Entry) → of_commit ≡ true → Configured g after (cond of_commit next entries) → Configured g after next
-unsure_means g of_commit after entries next is means = let P : Bool → Type 0 = λ b. Configured g after (cond b next entries) in subst P is means
-
 pub sure_means : (g : Granularity) (of_commit : Bool) (after : List (List ℕ)) (entries next : List Entry) → of_commit ≡ false → Configured g after (cond of_commit next entries) → Configured g after entries
 sure_means g of_commit after entries next is means = let P : Bool → Type 0 = λ b. Configured g after (cond b next entries) in subst P is means
 

@@ -27,31 +27,12 @@ at_other s q apart = grind (arith, nat_tests)
 abbrev pub Differ : List Slot → List Slot → ℕ → Option ListState → Type 0
 Differ old new s w = (q : ℕ) → list_of q new ≡ cond (is_at (nat_cmp s) q) w (list_of q old)
 
-pub differ_same : (old new : List Slot) (s q : ℕ) (w : Option ListState) → Differ old new s w → s ≡ q → list_of q new ≡ w
-differ_same old new s q w differ is = differ q ∙ ap (λ (b : Bool). cond b w (list_of q old)) (at_same s q is)
-
 pub differ_other : (old new : List Slot) (s q : ℕ) (w : Option ListState) → Differ old new s w → (q ≡ s → ⊥) → list_of q new ≡ list_of q old
 differ_other old new s q w differ apart = differ q ∙ ap (λ (b : Bool). cond b w (list_of q old)) (at_other s q apart)
-
-pub is_there : (o : Option ListState) (w : ListState) → o ≡ Some w → IsSome o
-is_there o w is = let P : Option ListState → Type 0 = λ x. IsSome x in subst P (sym is) refl
 
 pub none_from_test : (o : Option ListState) → is_some o ≡ false → o ≡ None
 none_from_test None test = refl
 none_from_test (Some w) test = let no : true ≡ false = test in absurd (cc no)
-
-pub some_at : (o : Option ListState) → IsSome o → (w : ListState) × (o ≡ Some w)
-some_at None some = let no : false ≡ true = some in absurd (cc no)
-some_at (Some w) some = (w, refl)
-
-pub in_some : (P : ListState → Type 0) (o : Option ListState) (w : ListState) → o ≡ Some w → IfSome o P → P w
-in_some P o w is if = let Q : Option ListState → Type 0 = λ x. IfSome x P in subst Q is if
-
-pub from_some : (P : ListState → Type 0) (o : Option ListState) (w : ListState) → o ≡ Some w → P w → IfSome o P
-from_some P o w is p = let Q : Option ListState → Type 0 = λ x. IfSome x P in subst Q (sym is) p
-
-pub never_there : (o : Option ListState) → None ≡ o → IsSome o → ⊥
-never_there o none some = let P : Option ListState → Type 0 = λ x. IsSome x in let no : false ≡ true = subst P (sym none) some in cc no
 
 -- SHOWING
 
@@ -114,17 +95,6 @@ module _ (c : Change) (v w : ListState) (old new : List Slot) (are : AreLists ol
       ∙ spliced_value (place_of c) (mid_of c) v w (made ∙ changed_is v.items c) old are.ordered are.own_entries there
       ∙ sym (changed_is (flat_map own old) c)
 
-  pub changed_keeps : Differ old new (place_of c).0 (Some w) → w.used ≤ v.used + sets c → w.capacity ≡ v.capacity → KeepsLists c old new
-  changed_keeps differ len capacity =
-      let here = differ_same old new (place_of c).0 (place_of c).0 (Some w) differ refl in
-      record {
-        others = λ s apart. differ_other old new (place_of c).0 s (Some w) differ (λ at. apart (sym at));
-        there = is_there (list_of (place_of c).0 new) w here;
-        room = λ n room.
-            let was = in_some (λ (list : ListState). list.used + (sets c + n) ≤ list.capacity) (list_of (place_of c).0 old) v there room in
-            from_some (λ (list : ListState). list.used + n ≤ list.capacity) (list_of (place_of c).0 new) w here (omega (arith, was, len, capacity));
-      }
-
 -- ROOM
 
 sets_here : (s : ℕ) (c : Change) (cs : List Change) → (place_of c).0 ≡ s → sets_in s (c ∷ cs) ≡ sets c + sets_in s cs
@@ -134,15 +104,6 @@ sets_there : (s : ℕ) (c : Change) (cs : List Change) → ((place_of c).0 ≡ s
 sets_there s c cs apart = let test : ((place_of c).0 == s) ≡ false = grind (arith, nat_tests) in
     let none : 0 + sets_in s cs ≡ sets_in s cs = omega arith in
     ap (λ (b : Bool). cond b (sets c) 0 + sets_in s cs) test ∙ none
-
--- of the first change, and of those behind it once it is made
-pub first_room : (c : Change) (cs : List Change) (slots : List Slot) → HasRoom slots (c ∷ cs) → 1 ≤ sets c → IfSome (list_of (place_of c).0 slots) (λ list. list.used + sets c ≤ list.capacity)
-first_room c cs slots has some =
-    let s = (place_of c).0 in
-    let here = sets_here s c cs refl in
-    let found = some_at (list_of s slots) has.there.0 in
-    from_some (λ (list : ListState). list.used + sets c ≤ list.capacity) (list_of s slots) found.0 found.1
-    (omega (arith, here, in_some (λ (list : ListState). list.used + sets_in s (c ∷ cs) ≤ list.capacity) (list_of s slots) found.0 found.1 (has.room s (omega (arith, here, some)))))
 
 still_there : (c : Change) (old new : List Slot) → KeepsLists c old new → (cs : List Change) → AllByRecursion (λ d. IsSome (list_of (place_of d).0 old)) cs → AllByRecursion (λ d. IsSome (list_of (place_of d).0 new)) cs
 still_there c old new keeps [] there = tt
@@ -215,6 +176,3 @@ module _ (c : Change) (old new : List Slot) (others : (s : ℕ) → (s ≡ (plac
           subst Q (sym (others s apart)) (subst P (sym same) (has.room s (omega (arith, same, some))))
     ];
   }
-
-pub no_room : (slots : List Slot) → HasRoom slots []
-no_room slots = record { there = tt; room = λ s some. absurd (omega (arith, some)) }

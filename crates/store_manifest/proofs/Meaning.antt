@@ -55,12 +55,6 @@ one_made g es bytes a b one two =
 
 -- READING ON
 
-pub made_none : (g : Granularity) (es : List Entry) → Makes g es [] es
-made_none g es = record { changes = []; bytes_are = refl; follow = tt; next_is = refl }
-
-pub only_none : (g : Granularity) (es next : List Entry) → Makes g es [] next → next ≡ es
-only_none g es next made = one_made g es [] next es made (made_none g es)
-
 pub made_first : (g : Granularity) (es : List Entry) (bytes rest : List ℕ) (c : Change) (next : List Entry) → IsFront g bytes c rest → IsAllowed es c → Makes g (changed es c) rest next → Makes g es bytes next
 made_first g es bytes rest c next front allowed made = record {
   changes = c ∷ made.changes;

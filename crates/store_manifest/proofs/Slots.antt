@@ -36,9 +36,6 @@ less_means s k h = grind (arith, nat_tests)
 equal_means : (s k : ℕ) → nat_cmp s k ≡ Equal → s ≡ k
 equal_means s k h = grind (arith, nat_tests)
 
-greater_means : (s k : ℕ) → nat_cmp s k ≡ Greater → k < s
-greater_means s k h = grind (arith, nat_tests)
-
 abbrev Ordered : List Slot → Type 0
 Ordered slots = IsStrictlySortedBy nat_cmp (keys_of slots)
 

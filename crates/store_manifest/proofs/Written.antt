@@ -1,13 +1,8 @@
 -- Changes that are written one after another.
-use Rattle.std.proofs.Common.{◌≡◌, ℕ, ◌+◌, ◌*◌, ◌<◌, ◌≤◌, ◌||◌, Bool, true, false, IsTrue, List, [], ◌∷◌, ◌++◌, length, get_or, take, refl, sym, ◌∙◌, ap, append_assoc, append-nil, length-append, arith}
+use Rattle.std.proofs.Common.{◌≡◌, ℕ, ◌+◌, ◌*◌, ◌<◌, ◌≤◌, List, [], ◌∷◌, ◌++◌, length, get_or, take, refl, sym, ◌∙◌, ap, append_assoc, append-nil, length-append, arith}
 use Rattle.std.proofs.lemmas.List.{take_more}
-use Rattle.std.proofs.lemmas.Bool.Decides.{nat_tests}
-use Rattle.std.proofs.lemmas.List.Folds.{list_any-append}
-use Rattle.std.specs.List.{filter, list_any}
-use Rattle.store_manifest.specs.declared.entry.Entry.{Entry}
 use Rattle.store_manifest.specs.declared.entry.Change.{Change}
 use Rattle.store_manifest.specs.declared.entry.Change.TheVariants.{Set, Drop}
-use Rattle.store_manifest.specs.Entries.{place, comes_before, is_place, is_listed, put}
 use Rattle.store_manifest.proofs.Bytes.{length_members}
 use Rattle.store_manifest.specs.Batches.{encoded, batch_of}
 
@@ -34,15 +29,3 @@ change_length (Drop s t) = omega arith
 pub batch_length : (cs : List Change) → length (batch_of cs) ≤ 49 * length cs
 batch_length [] = omega arith
 batch_length (c ∷ cs) = omega (arith, length-append (encoded c) (batch_of cs), change_length c, batch_length cs)
-
-pub put_listed : (xs : List Entry) (e : Entry) → IsTrue (is_listed (put place e xs) (place e))
-put_listed xs e =
-    let test : Entry → Bool = λ x. is_place (place x) (place e) in
-    let here : test e ≡ true = grind (arith, nat_tests) in
-    list_any-append test (filter (λ y. comes_before (place y) (place e)) xs) (e ∷ filter (λ y. comes_before (place e) (place y)) xs)
-    ∙ ap (λ (b : Bool). list_any test (filter (λ y. comes_before (place y) (place e)) xs) || (b || list_any test (filter (λ y. comes_before (place e) (place y)) xs))) here
-    ∙ any_true (list_any test (filter (λ y. comes_before (place y) (place e)) xs))
-  where
-    any_true : (b : Bool) → (b || true) ≡ true
-    any_true true = refl
-    any_true false = refl

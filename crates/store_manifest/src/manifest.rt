@@ -5,7 +5,7 @@ ghost use Rattle.disk_model.specs.Files.{Name, Rose};
 ghost use Rattle.disk_model.specs.Past.{Passes};
 ghost use Rattle.disk_model.specs.declared.disk.DiskErr.TheVariants.{Fault};
 ghost use Rattle.gate_journal.specs.Generations.{IsOwn, AtOwn, HasBatchesOf, HasOneOf, IsBadOf};
-ghost use Rattle.gate_journal.specs.Journal.{IsSettledWith};
+ghost use Rattle.gate_journal.specs.Journal.{IsSettledWith, is_of_commit, OnlyRemoves};
 ghost use Rattle.gate_journal.specs.Kept.{Says, SaysEither};
 ghost use Rattle.partition_names.specs.declared.granularity.Granularity.{Granularity as GranularityValue};
 ghost use Rattle.store_manifest.specs.declared.entry.Entry.{Entry as EntryValue};
@@ -133,8 +133,8 @@ impl Manifest {
     /// With no change it leaves the disk alone. Where the journal is long for the entries, it is begun anew first with a batch that lists
     /// them: where it has at least as many bytes as four such batches, and at least 1,048,576, and that batch at most 1,073,741,824.
     ///
-    /// After `Fault` the manifest isn't sound: it is reviewed, or loaded again. After `Memory` it lists what it listed, and its journal
-    /// may have begun anew.
+    /// After `Fault` the manifest isn't sound: it is reviewed, or loaded again. After `Memory` it lists what it listed; its journal may
+    /// have begun anew where it was long, and nothing was done where it wasn't.
     pub fn commit<D: Disk>(&mut self, disk: &mut D, changes: &[Change]) -> Result<(), DiskErr>
         requires sound { IsTrue self.old.journal.sound }
         requires follow { AllCanFollow self.old.granularity self.old.entries changes.now }
@@ -165,6 +165,8 @@ impl Manifest {
         ensures fault { IsErrOf result DiskErr.Fault → (self.new.journal.sound ≡ false) × Rose (D.faults disk.old) (D.faults disk.new) }
         ensures memory { IsErrOf result DiskErr.Memory → (self.new.journal.sound ≡ true) × (self.new.entries ≡ self.old.entries) }
         ensures unchanged { IsTrue D.tells → IsErrOf result DiskErr.Memory → IsKept self.new (D.files disk.new) (D.opened disk.new) (D.past disk.new) }
+        ensures untouched { let size = length (whole self.old.granularity self.old.entries) in IsErrOf result DiskErr.Memory → (IsLong (self.old.journal.current.place + 1) size → ⊥)
+            → (self.new.journal ≡ self.old.journal) × (disk.new ≡ disk.old) }
         ensures faults { D.faults disk.old ≤ D.faults disk.new }
     {
         if changes.is_empty() {
@@ -192,6 +194,13 @@ impl Manifest {
         ensures any_moment { IsTrue D.tells → Passes (AtOwn self.old.journal.name (SaysEither (Configured self.old.granularity) self.old.entries self.old.next self.old.journal.name)) (D.past disk.old) (D.past disk.new) }
         ensures elsewhere { IsTrue D.tells → (n : Name) → (IsOwn self.old.journal.name n → ⊥) → D.files disk.new n ≡ D.files disk.old n }
         ensures opened { IsTrue D.tells → (n : Name) → (IsOwn self.old.journal.name n → ⊥) → D.opened disk.new n ≡ D.opened disk.old n }
+
+        // After a commit it changes no file and no image of a crash, and after an error the manifest is as before. After a journal that was to begin anew it changes only the file that it removes.
+        ensures one_file { IsTrue D.tells → OnlyRemoves self.old.journal (D.files disk.old) (D.files disk.new) × Passes (OnlyRemoves self.old.journal) (D.past disk.old) (D.past disk.new) }
+        ensures quiet { IsTrue D.tells → is_of_commit self.old.journal.pending ≡ true
+            → (D.files disk.new ≡ D.files disk.old) × Passes (λ a b. b ≡ a) (D.past disk.old) (D.past disk.new) × (D.opened disk.new ≡ D.opened disk.old) }
+        ensures unchanged { is_of_commit self.old.journal.pending ≡ true → OnErr result (self.new ≡ self.old) }
+
         ensures faults { D.faults disk.old ≤ D.faults disk.new }
         ensures cause { IsErrOf result DiskErr.Fault → Rose (D.faults disk.old) (D.faults disk.new) }
     {
@@ -210,6 +219,8 @@ impl Manifest {
         ensures state { (self.new.granularity ≡ self.old.granularity) × (self.new.journal.name ≡ self.old.journal.name) × (self.new.entries ≡ self.old.entries) × (self.new.next ≡ self.old.next) }
         ensures begun { let size = length (whole self.old.granularity self.old.entries) in IsLong (self.old.journal.current.place + 1) size → OnOk result (self.new.journal.current.place ≡ size + 5) }
         ensures grown { let size = length (whole self.old.granularity self.old.entries) in (IsLong (self.old.journal.current.place + 1) size → ⊥) → OnOk result (self.new.journal.current.place ≡ self.old.journal.current.place) }
+        ensures untouched { let size = length (whole self.old.granularity self.old.entries) in (IsLong (self.old.journal.current.place + 1) size → ⊥)
+            → (result ≡ Ok tt) × (self.new.journal ≡ self.old.journal) × (disk.new ≡ disk.old) }
         ensures any_moment { IsTrue D.tells → Passes (AtOwn self.old.journal.name (λ a b. Says (Configured self.old.granularity) self.old.entries self.old.journal.name b)) (D.past disk.old) (D.past disk.new) }
         ensures elsewhere { IsTrue D.tells → (n : Name) → (IsOwn self.old.journal.name n → ⊥) → D.files disk.new n ≡ D.files disk.old n }
         ensures opened { IsTrue D.tells → (n : Name) → (IsOwn self.old.journal.name n → ⊥) → D.opened disk.new n ≡ D.opened disk.old n }

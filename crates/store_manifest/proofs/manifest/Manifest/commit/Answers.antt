@@ -1,4 +1,4 @@
-use Rattle.std.proofs.Common.{◌≡◌, ℕ, ◌+◌, sym, ◌∙◌, ap, subst, List, length}
+use Rattle.std.proofs.Common.{◌≡◌, ℕ, ◌+◌, sym, ◌∙◌, ap, subst, List, length, Ok}
 use Rattle.std.proofs.lemmas.Result.{on_ok_weaker, err_from_is_err_and}
 use Rattle.disk_model.specs.Files.{Name}
 use Rattle.disk_model.specs.Past.{Passes}
@@ -85,3 +85,17 @@ returns-clause-unchanged g c tells memory =
     let left = c.add.ensures.memory memory in
     let still = rw memory at c.add.ensures.doubtful in
     rw (left.0, left.1, still.0, c.add.ensures.state.0) (c.in_ok-shorten.ensures.kept tells (λ failed. cc failed))
+
+pub returns-in_err-shorten-clause-untouched : goal.returns-in_err-shorten-clause-untouched
+returns-in_err-shorten-clause-untouched g c =
+    rw (← c.self.view_is) (λ memory not_long.
+    let Q : List Entry → Type 0 = λ l. (IsLong (c.self.inside.journal.current.place + 1) (length (whole c.self.inside.granularity l)) → ⊥) → c.shorten.result ≡ Ok tt in
+    let done = subst Q c.in_ok-prepare.ensures.entries (λ not. (c.shorten.ensures.untouched not).0) not_long in
+    let failed = c.in_err-shorten.was in absurd (cc (done, failed)))
+
+pub returns-clause-untouched : goal.returns-clause-untouched
+returns-clause-untouched g c =
+    rw (← c.self.view_is) (λ memory not_long.
+    let Q : List Entry → Type 0 = λ l. (IsLong (c.self.inside.journal.current.place + 1) (length (whole c.self.inside.granularity l)) → ⊥) → (c.shorten.new.self.journal ≡ c.self.inside.journal) × (c.shorten.new.disk ≡ c.args.disk.now) in
+    let same = subst Q c.in_ok-prepare.ensures.entries (λ not. let all = c.shorten.ensures.untouched not in (all.1, all.2)) not_long in
+    let left = c.add.ensures.memory memory in (left.0 ∙ same.0, left.1 ∙ same.1))

@@ -42,3 +42,21 @@ returns-else-branch-clause-elsewhere g c = rw (← c.self.view_is) (λ tells n o
 
 pub returns-else-branch-clause-opened : goal.returns-else-branch-clause-opened
 returns-else-branch-clause-opened g c = rw (← c.self.view_is) (λ tells n other. c.review.ensures.opened tells n other)
+
+pub returns-in_err-review-clause-one_file : goal.returns-in_err-review-clause-one_file
+returns-in_err-review-clause-one_file g c = rw (← c.self.view_is) (λ tells. (c.review.ensures.one_file tells, c.review.ensures.one_file_moment tells))
+
+pub returns-in_err-review-clause-quiet : goal.returns-in_err-review-clause-quiet
+returns-in_err-review-clause-quiet g c = rw (← c.self.view_is) c.review.ensures.quiet
+
+pub returns-else-branch-clause-one_file : goal.returns-else-branch-clause-one_file
+returns-else-branch-clause-one_file g c = rw (← c.self.view_is) (λ tells. (c.review.ensures.one_file tells, c.review.ensures.one_file_moment tells))
+
+pub returns-else-branch-clause-quiet : goal.returns-else-branch-clause-quiet
+returns-else-branch-clause-quiet g c = rw (← c.self.view_is) c.review.ensures.quiet
+
+pub returns-then-of_commit-clause-one_file : goal.returns-then-of_commit-clause-one_file
+returns-then-of_commit-clause-one_file g c = rw (← c.self.view_is) (λ tells. (c.review.ensures.one_file tells, c.review.ensures.one_file_moment tells))
+
+pub returns-then-of_commit-clause-quiet : goal.returns-then-of_commit-clause-quiet
+returns-then-of_commit-clause-quiet g c = rw (← c.self.view_is) c.review.ensures.quiet

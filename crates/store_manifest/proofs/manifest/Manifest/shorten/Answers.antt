@@ -59,3 +59,9 @@ returns-clause-elsewhere g c = rw (← c.self.view_is) (λ tells n other. c.chec
 
 pub returns-clause-opened : goal.returns-clause-opened
 returns-clause-opened g c = rw (← c.self.view_is) (λ tells n other. c.checkpoint.ensures.opened tells n other)
+
+pub returns-clause-untouched : goal.returns-clause-untouched
+returns-clause-untouched g c = rw (← c.self.view_is) (λ not_long. absurd (not_long (so_long c.self.inside.granularity _ c.all.result c.len.result c.self.inside.journal.current.place c.all.ensures c.len.ensures (c.is_long.ensures.0 c.if-not-is_long.false))))
+
+pub returns-in_err-encode_whole-clause-untouched : goal.returns-in_err-encode_whole-clause-untouched
+returns-in_err-encode_whole-clause-untouched g c = rw (← c.self.view_is) (λ not_long. absurd (not_long (so_long c.self.inside.granularity _ c.all.result c.len.result c.self.inside.journal.current.place c.all.ensures c.len.ensures (c.is_long.ensures.0 c.if-not-is_long.false))))
