@@ -1,7 +1,11 @@
+pub mod Going
 pub mod HandedBack
 pub mod Having
 pub mod Keeping
 pub mod Looking
 pub mod Manifests
 pub mod OneJournal
+pub mod Paths
+pub mod StraysGone
+pub mod Swept
 pub mod Verdicts

@@ -16,7 +16,7 @@ use Rattle.store_reopen.specs.declared.error.Refusal.{Refusal}
 use Rattle.store_reopen.specs.declared.error.Refusal.TheVariants.{Disk, Damaged, GranularityDiffers}
 use Rattle.store_reopen.specs.Refusal.{IsTold, IsToldShort}
 use Rattle.store_reopen.specs.Reopen.{lists_of}
-use Rattle.store_reopen.specs.Verdict.{AreSaid, IsThere, IsFirstShort, HasStranger, file_short, stranger, HasRow, EndsEarly}
+use Rattle.store_reopen.specs.Verdict.{AreSaid, IsThere, IsFirstShort, HasStranger, file_short, HasRow, EndsEarly}
 use Rattle.store_reopen.proofs.Having.{all_there_in, listed_at, listed_elsewhere}
 
 pub no_some : (o : Option ℕ) → ((x : ℕ) → o ≡ Some x → ⊥) → o ≡ None

@@ -2,4 +2,5 @@ pub mod Loading
 pub mod OneJournal
 pub mod Refusal
 pub mod Reopen
+pub mod Strays
 pub mod Verdict

@@ -15,7 +15,7 @@ use Rattle.pv_catalog.specs.Rows.{AreRows, IsCatalogue}
 use Rattle.durable_write.specs.Held.{AreIn, file_of}
 use Rattle.tier_store.specs.Beginning.{AllNested}
 use Rattle.tier_store.specs.Stores.{Stores, list_at, tier, with_list, with_rows}
-use Rattle.tier_store.specs.Seen.{AtEach, granularities, seen}
+use Rattle.tier_store.specs.Seen.{AtEach, Seen, granularities, seen, seen_on}
 use Rattle.tier_store.specs.Stored.{HoldsAll}
 use Rattle.tier_store.specs.Change.{Has, IsEither}
 use Rattle.tier_store.specs.declared.store.TierStore.{TierStore}
@@ -24,7 +24,8 @@ use Rattle.store_reopen.specs.OneJournal.{NoneOpened}
 use Rattle.store_reopen.specs.declared.error.ReopenErr.{ReopenErr}
 use Rattle.store_reopen.specs.declared.error.ReopenErr.TheVariants.{DiskFault, Damaged, GranularityDiffers, Memory}
 use Rattle.store_reopen.specs.Loading.{granularity_at}
-use Rattle.store_reopen.specs.Verdict.{Listings, HasRow}
+use Rattle.store_reopen.specs.Verdict.{Listings, HasRow, IsWhole}
+use Rattle.store_reopen.specs.Strays.{AreGone, IsStray, SweptStores}
 
 -- the granularities of stores 1 to 3
 abbrev pub stores_of : ConfigState → List Granularity
@@ -98,12 +99,46 @@ pub record Reopens {D R : Type 0} (disk : Ghosts D R) (gs : List Granularity) (o
   pub stores : Passes SameStores (disk.past old) (disk.past new)
   pub unopened : IsUnopened (disk.files new) (disk.opened new)
 
+-- what reads gave is what was before a change, or what is after it; their image is whole, and from now on whatever a crash leaves holds that
+pub record OpensRead (gs : List Granularity) (files : Files) (past : Past) (before after : Stores) : Type 0 where
+  pub held : Stores
+  pub either : IsEither before after held
+  pub read : HoldsAll gs files held
+  pub whole : IsWhole gs files
+  pub opens : Opens gs past held
+
+-- What an opening that sweeps makes of a disk that tells its files, whatever it answers: each image goes on to hold what it held, at each
+-- moment, and the disk may be opened again: with what it might hold before, or with what reads gave alone, once they are swept by that.
+-- Of the stores of partition files only strays go, at any moment, and none where the image isn't whole.
+pub record Sweeps {D R : Type 0} (disk : Ghosts D R) (gs : List Granularity) (old new : D) : Type 0 where
+  pub any_moment : Passes (StillHolds gs) (disk.past old) (disk.past new)
+  pub either : (before after : Stores) → OpensEither gs (disk.past old) before after → Passes (λ a b. HoldsEither gs before after b) (disk.past old) (disk.past new)
+  pub opens : (before after : Stores) → OpensEither gs (disk.past old) before after → OpensEither gs (disk.past new) before after ⊎ OpensRead gs (disk.files old) (disk.past new) before after
+  pub elsewhere : SweptStores gs (disk.files old) (disk.files old) (disk.files new)
+  pub stores : Passes (SweptStores gs (disk.files old)) (disk.past old) (disk.past new)
+  pub unopened : IsUnopened (disk.files new) (disk.opened new)
+
+-- after an opening that swept, a file of stores 1 to 3 that is of a row and a partition is listed; and no crash brings back what went
+abbrev pub IsSwept : List Granularity → Files → Files → Past → Type 0
+IsSwept gs files later past = AreGone (IsStray gs files) files later past
+
 -- the stores have what reads give of the disk, which is the one or the other
 pub record HasRead {D R : Type 0} (disk : Ghosts D R) (gs : List Granularity) (old : D) (store : TierStore D R) (before after : Stores) : Type 0 where
   pub held : Stores
   pub either : IsEither before after held
   pub read : HoldsAll gs (disk.files old) held
   pub has : Has disk.tells (seen disk store) held
+
+-- what is seen of journals that were loaded of a disk
+abbrev pub loaded : {D R : Type 0} → Ghosts D R → CatalogueState → List ManifestState → D → Seen
+loaded {D} {R} disk catalogue manifests d = seen_on disk.files disk.opened disk.past disk.faults catalogue manifests d
+
+-- the same of these as of stores
+pub record HasLoaded {D R : Type 0} (disk : Ghosts D R) (gs : List Granularity) (old : D) (catalogue : CatalogueState) (manifests : List ManifestState) (new : D) (before after : Stores) : Type 0 where
+  pub held : Stores
+  pub either : IsEither before after held
+  pub read : HoldsAll gs (disk.files old) held
+  pub has : Has disk.tells (loaded disk catalogue manifests new) held
 
 -- the stores may be changed, and what their journals say fits together
 pub record IsReady (gs : List Granularity) (catalogue : CatalogueState) (manifests : List ManifestState) : Type 0 where

@@ -15,8 +15,12 @@
 //! | a listed file is absent | that file | 0 |
 //! | a listed file is shorter than it is listed | that file | its length |
 //!
-//! What the image holds is what the stores hold. Opening writes nothing but the first bytes of journals that are missing, and
-//! removes nothing but the file of a journal's generation before the current one.
+//! What the image holds is what the stores hold. `reopen` then removes strays, each with a sync: files of stores 1 to 3 that are named as
+//! the file of a row and of a partition of their store, and that aren't listed. A flush or a move that was cut off left them. Whatever is
+//! named otherwise stays. `open_to_read` opens in the same way and removes none.
+//!
+//! Beside that, opening writes nothing but the first bytes of journals that are missing, and removes nothing but the file of a journal's
+//! generation before the current one.
 //!
 //! Caveat: it looks only at lengths, so a disk whose listed bytes others damaged is opened too.
 #![tactic(auto)]
@@ -26,6 +30,8 @@ mod files;
 mod journals;
 pub mod laws;
 mod opening;
+mod strays;
+mod sweeping;
 
 pub use error::ReopenErr;
-pub use opening::reopen;
+pub use opening::{open_to_read, reopen};

@@ -1,6 +1,6 @@
 // The opening of a disk, from its journals to its listed files.
 ghost use Rattle.std.specs.FinMap as map;
-ghost use Rattle.std.specs.Prelude.{◌≡◌, ◌≢◌, ◌≤◌, ◌<◌, ◌+◌, [], ℕ, List, All, IfOk, IfErr, IsOk, IsTrue, Err, length};
+ghost use Rattle.std.specs.Prelude.{◌≡◌, ◌≢◌, ◌≤◌, ◌<◌, ◌+◌, [], ℕ, List, All, IfOk, IfErr, IsOk, IsTrue, OnOk, Err, length};
 ghost use Rattle.disk_model.specs.Files.{Name, Rose};
 ghost use Rattle.disk_model.specs.Past.{Passes};
 ghost use Rattle.disk_model.specs.declared.disk.DiskErr.TheVariants.{Fault};
@@ -12,7 +12,7 @@ ghost use Rattle.tier_store.specs.Seen.{seen, AtEach};
 ghost use Rattle.tier_store.specs.Change.{Has};
 ghost use Rattle.store_reopen.specs.OneJournal.{NoneOpened};
 ghost use Rattle.store_reopen.specs.Verdict.{AreSaid, IsThere, IsWhole, IsDamaged, Differs};
-ghost use Rattle.store_reopen.specs.Reopen.{IsUnopened, OpensEither, HasRead, Reopens, IsReady, stores_of, lists_of, disk_of};
+ghost use Rattle.store_reopen.specs.Reopen.{IsUnopened, OpensEither, HasLoaded, HasRead, IsReady, IsSwept, Reopens, Sweeps, loaded, stores_of, lists_of, disk_of};
 ghost use Rattle.store_reopen.specs.Loading.{KeepsSaid};
 ghost use Rattle.store_reopen.specs.Refusal.{IsTold};
 ghost use Rattle.store_reopen.specs.declared.error.Refusal.TheVariants.{Disk as OfDisk};
@@ -22,6 +22,7 @@ use crate::ReopenErr;
 use crate::error::Refusal;
 use crate::files::{check_files, check_rows};
 use crate::journals::{load_catalogue, load_manifests};
+use crate::sweeping::sweep_stores;
 use disk_model::{Disk, DiskErr};
 use etl_rules::Config;
 use pv_catalog::Catalogue;
@@ -29,12 +30,16 @@ use std::alloc::Global;
 use store_manifest::Manifest;
 use tier_store::TierStore;
 
-/// Opens a disk as three stores, in the configured granularities. What the disk's image holds is what the stores hold, with no pin and
-/// nothing in limbo, and they keep the settings. It needs that no journal of the disk was opened, and no listed file beyond its listed length.
+/// Opens a disk as three stores, in the configured granularities, and removes strays. What the disk's image holds is what the stores hold,
+/// with no pin and nothing in limbo, and they keep the settings. It needs that no journal of the disk was opened, and no listed file beyond
+/// its listed length.
 ///
 /// The first that is wrong is told, in this order: the catalogue; the manifests of stores 1 to 3, each with its granularity; an entry of
 /// no row; the listed files, store by store and in the order of series and time. Of files it looks only at lengths. `DiskFault` comes only
 /// where the disk's count of faults rose in the call; `Memory` alone may come at any time.
+///
+/// Strays are removed once all that is listed was found, each with a sync. At `Ok` none is left: a file of stores 1 to 3 that is named as
+/// that of a row and of a partition of its store is listed there. Every other file stays. After `DiskFault` and `Memory` some may be left.
 pub fn reopen<D: Disk>(
     alloc: Global,
     disk: D,
@@ -43,6 +48,48 @@ pub fn reopen<D: Disk>(
     requires unopened { IsTrue D.tells → IsUnopened (D.files disk) (D.opened disk) }
 
     // What reads give is held from then on, if each image holds that or one thing more; and each disk that opens has rows and lists files.
+    ensures stands { IsTrue D.tells → (before after : Stores) → OpensEither (stores_of config.now) (D.past disk) before after
+        → IfOk result (λ s. HasRead D.Disk (stores_of config.now) disk s before after) }
+    ensures has { IfOk result (λ s. (held : Stores) × Has D.tells (seen D.Disk s) held) }
+    ensures said { IsTrue D.tells → IfOk result (λ s. let now = seen D.Disk s in AreSaid (stores_of config.now) (D.files disk) now.catalogue.rows (lists_of now.manifests)) }
+    ensures ready { IfOk result (λ s. let now = seen D.Disk s in IsReady (stores_of config.now) now.catalogue now.manifests) }
+    ensures fresh { IfOk result (λ s. (s.limbo.items ≡ []) × (s.pinned ≡ map.empty)) }
+    ensures settings { IfOk result (λ s. s.config ≡ config.now) }
+
+    ensures whole { IsTrue D.tells → IsOk result → IsWhole (stores_of config.now) (D.files disk) }
+    ensures damaged { IsTrue D.tells → (d : D) (name : Name) (at : ℕ) → result ≡ Err (Damaged d name at) → IsDamaged (stores_of config.now) (D.files disk) name at }
+    ensures differs { IsTrue D.tells → (d : D) (kept asked : GranularityValue) → result ≡ Err (GranularityDiffers d kept asked)
+        → Differs (stores_of config.now) (D.files disk) kept asked }
+
+    // No stray is left. A crash at any moment leaves what the image held, and the disk can be opened again.
+    ensures swept { IsTrue D.tells → IfOk result (λ s. IsSwept (stores_of config.now) (D.files disk) (D.files s.disk) (D.past s.disk)) }
+    ensures sweeps { IsTrue D.tells → Sweeps D.Disk (stores_of config.now) disk (disk_of result) }
+    ensures faults { D.faults disk ≤ D.faults (disk_of result) }
+    ensures cause { (d : D) → result ≡ Err (DiskFault d) → Rose (D.faults disk) (D.faults d) }
+{
+    let mut disk = disk;
+    match load_and_sweep(alloc, &mut disk, config) {
+        Ok((catalogue, manifests)) => Ok(TierStore::new(
+            alloc, disk, *config, catalogue, manifests,
+        )),
+        Err(Refusal::Disk(DiskErr::Fault)) => Err(ReopenErr::DiskFault(disk)),
+        Err(Refusal::Disk(DiskErr::Memory)) => Err(ReopenErr::Memory(disk)),
+        Err(Refusal::Damaged { name, at }) => Err(ReopenErr::Damaged { disk, name, at }),
+        Err(Refusal::GranularityDiffers { kept, asked }) => {
+            Err(ReopenErr::GranularityDiffers { disk, kept, asked })
+        }
+    }
+}
+
+/// Opens a disk as `reopen` does, and removes no stray: so a command opens it that only reads.
+pub fn open_to_read<D: Disk>(
+    alloc: Global,
+    disk: D,
+    config: &Config,
+) -> Result<TierStore<D>, ReopenErr<D>>
+    requires unopened { IsTrue D.tells → IsUnopened (D.files disk) (D.opened disk) }
+
+    // The first nine clauses are those of `reopen`.
     ensures stands { IsTrue D.tells → (before after : Stores) → OpensEither (stores_of config.now) (D.past disk) before after
         → IfOk result (λ s. HasRead D.Disk (stores_of config.now) disk s before after) }
     ensures has { IfOk result (λ s. (held : Stores) × Has D.tells (seen D.Disk s) held) }
@@ -73,6 +120,30 @@ pub fn reopen<D: Disk>(
             Err(ReopenErr::GranularityDiffers { disk, kept, asked })
         }
     }
+}
+
+// Loads the journals, looks whether all that they list is there, and removes strays.
+fn load_and_sweep<D: Disk>(
+    alloc: Global,
+    disk: &mut D,
+    config: &Config,
+) -> Result<(Catalogue, Vec<Manifest>), Refusal>
+    requires unopened { IsTrue D.tells → IsUnopened (D.files disk.old) (D.opened disk.old) }
+    ensures stands { IsTrue D.tells → (before after : Stores) → OpensEither (stores_of config.now) (D.past disk.old) before after
+        → IfOk result (λ r. HasLoaded D.Disk (stores_of config.now) disk.old r.0 r.1.items disk.new before after) }
+    ensures has { IfOk result (λ r. (held : Stores) × Has D.tells (loaded D.Disk r.0 r.1.items disk.new) held) }
+    ensures said { IsTrue D.tells → IfOk result (λ r. AreSaid (stores_of config.now) (D.files disk.old) r.0.rows (lists_of r.1.items)) }
+    ensures whole { IsTrue D.tells → IsOk result → IsWhole (stores_of config.now) (D.files disk.old) }
+    ensures ready { IfOk result (λ r. IsReady (stores_of config.now) r.0 r.1.items) }
+    ensures told { IsTrue D.tells → IfErr result (IsTold (stores_of config.now) (D.files disk.old)) }
+    ensures swept { IsTrue D.tells → OnOk result (IsSwept (stores_of config.now) (D.files disk.old) (D.files disk.new) (D.past disk.new)) }
+    ensures sweeps { IsTrue D.tells → Sweeps D.Disk (stores_of config.now) disk.old disk.new }
+    ensures faults { D.faults disk.old ≤ D.faults disk.new }
+    ensures cause { result ≡ Err (OfDisk Fault) → Rose (D.faults disk.old) (D.faults disk.new) }
+{
+    let (catalogue, manifests) = load_stores(alloc, disk, config)?;
+    sweep_stores(alloc, disk, &catalogue, &manifests)?;
+    Ok((catalogue, manifests))
 }
 
 // Loads the journals, and looks whether all that they list is there.

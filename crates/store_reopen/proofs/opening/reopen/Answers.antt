@@ -1,76 +1,21 @@
-use Rattle.std.proofs.Common.{◌≡◌, ℕ, List, Option, None, Some, refl, sym, subst}
-use Rattle.std.specs.Prelude.{All, slice_get}
-use Rattle.std.proofs.lemmas.List.Elements.{All-nil}
-use Rattle.disk_model.specs.Files.{Files}
-use Rattle.partition_names.specs.declared.granularity.Granularity.{Granularity}
-use Rattle.store_manifest.specs.declared.entry.Entry.{Entry}
-use Rattle.store_manifest.specs.Manifest.{ManifestState}
-use Rattle.pv_catalog.specs.declared.row.Row.{Row}
+use Rattle.std.proofs.Common.{sym, subst}
 use Rattle.tier_store.specs.Stores.{Stores}
-use Rattle.tier_store.specs.Seen.{AtEach, seen_on}
 use Rattle.tier_store.specs.Change.{Has}
 use Rattle.tier_store.proofs.Sparing.{seen_new}
-use Rattle.store_reopen.specs.Reopen.{Reopens, entries_in, lists_of, stores_of}
-use Rattle.store_reopen.specs.Verdict.{AreSaid, IsThere, IsWhole, HasRow}
-use Rattle.store_reopen.proofs.Having.{has_some, has_read, reads_one, loaded_again, reopened, count_of}
+use Rattle.store_reopen.specs.Reopen.{IsSwept, Sweeps, stores_of}
 use Rattle.store_reopen.proofs.opening.reopen.Goals as goal
-
--- the entries of a place are those of its manifest, or there are none
-at_place : (P : Entry → Type 0) (ms : List ManifestState) (i : ℕ) → ((m : ManifestState) → slice_get ms i ≡ Some m → All P m.entries) → All P (lists_of ms i)
-at_place P ms i each = go (slice_get ms i) refl
-  where
-    go : (o : Option ManifestState) → slice_get ms i ≡ o → All P (entries_in o)
-    go None is = All-nil P
-    go (Some m) is = each m is
-
--- stores that are ready, and whose listed files are there
-all_whole : (gs : List Granularity) (files : Files) (rows : List Row) (ms : List ManifestState) → AreSaid gs files rows (lists_of ms) → AtEach ms (λ i m. All (HasRow rows) m.entries) → AtEach ms (λ i m. All (IsThere i files rows) m.entries) → IsWhole gs files
-all_whole gs files rows ms said of_rows there = record {
-  rows = rows;
-  lists = lists_of ms;
-  said = said;
-  of_rows = λ i low. at_place (HasRow rows) ms i (of_rows i);
-  there = λ i low. at_place (IsThere i files rows) ms i (there i);
-}
-
-pub load_stores-requires : goal.load_stores-requires
-load_stores-requires g c = record { unopened = λ tells. ((c.requires.unopened tells).catalogue, (c.requires.unopened tells).manifests) }
 
 pub returns-in-Ok-clause-stands : goal.returns-in-Ok-clause-stands
 returns-in-Ok-clause-stands g c tells before after opens =
-    let gs = stores_of c.args.config.now in
-    let old = c.args.disk in
-    let s = seen_on g.D.Disk.files g.D.Disk.opened g.D.Disk.past g.D.Disk.faults c.in-Ok.catalogue c.in-Ok.manifests.items c.load_stores.new.disk in
-    let read = reads_one gs (g.D.Disk.files old) (g.D.Disk.past old) before after (g.met.D.Disk.seen old tells) opens in
-    let has = has_read g.D.Disk.tells gs s (g.D.Disk.files old) (g.D.Disk.past old) before after read.0 refl c.in-Ok.ensures.ready opens read.1 read.2
-    (λ told. (loaded_again gs s (g.D.Disk.files old) (g.D.Disk.opened old) (g.D.Disk.past old) refl (c.load_stores.ensures.keeps told) (c.requires.unopened told) c.in-Ok.ensures.ready (c.in-Ok.ensures.stored told) (c.in-Ok.ensures.kept told) c.in-Ok.ensures.name c.in-Ok.ensures.names (c.in-Ok.ensures.said told) (c.in-Ok.ensures.there told), (c.load_stores.ensures.keeps told).passes))
-    (c.in-Ok.ensures.said tells) in
-    record { held = read.0; either = read.1; read = read.2; has = subst (λ s. Has g.D.Disk.tells s read.0) (sym (seen_new g.D.Disk c.new.result c.in-Ok.catalogue c.in-Ok.manifests.items c.load_stores.new.disk c.new.ensures.rows c.new.ensures.lists c.new.ensures.disk)) has }
+    let read = c.in-Ok.ensures.stands tells before after opens in
+    record { held = read.held; either = read.either; read = read.read; has = subst (λ s. Has g.D.Disk.tells s read.held) (sym (seen_new g.D.Disk c.new.result c.in-Ok.catalogue c.in-Ok.manifests.items c.load_and_sweep.new.disk c.new.ensures.rows c.new.ensures.lists c.new.ensures.disk)) read.has }
 
 pub returns-in-Ok-clause-has : goal.returns-in-Ok-clause-has
 returns-in-Ok-clause-has g c =
-    let gs = stores_of c.args.config.now in
-    let old = c.args.disk in
-    let s = seen_on g.D.Disk.files g.D.Disk.opened g.D.Disk.past g.D.Disk.faults c.in-Ok.catalogue c.in-Ok.manifests.items c.load_stores.new.disk in
-    let some = has_some g.D.Disk.tells gs s refl c.in-Ok.ensures.ready (count_of gs c.in-Ok.manifests.items refl c.in-Ok.ensures.ready.granularity) (λ told. loaded_again gs s (g.D.Disk.files old) (g.D.Disk.opened old) (g.D.Disk.past old) refl (c.load_stores.ensures.keeps told) (c.requires.unopened told) c.in-Ok.ensures.ready (c.in-Ok.ensures.stored told) (c.in-Ok.ensures.kept told) c.in-Ok.ensures.name c.in-Ok.ensures.names (c.in-Ok.ensures.said told) (c.in-Ok.ensures.there told)) in
-    subst (λ s. (held : Stores) × Has g.D.Disk.tells s held) (sym (seen_new g.D.Disk c.new.result c.in-Ok.catalogue c.in-Ok.manifests.items c.load_stores.new.disk c.new.ensures.rows c.new.ensures.lists c.new.ensures.disk)) some
+    subst (λ s. (held : Stores) × Has g.D.Disk.tells s held) (sym (seen_new g.D.Disk c.new.result c.in-Ok.catalogue c.in-Ok.manifests.items c.load_and_sweep.new.disk c.new.ensures.rows c.new.ensures.lists c.new.ensures.disk)) c.in-Ok.ensures.has
 
-pub returns-in-Ok-clause-whole : goal.returns-in-Ok-clause-whole
-returns-in-Ok-clause-whole g c tells fine =
-    all_whole (stores_of c.args.config.now) (g.D.Disk.files c.args.disk) c.in-Ok.catalogue.rows c.in-Ok.manifests.items (c.in-Ok.ensures.said tells) c.in-Ok.ensures.ready.of_rows (c.in-Ok.ensures.there tells)
+pub returns-in-Ok-clause-swept : goal.returns-in-Ok-clause-swept
+returns-in-Ok-clause-swept g c tells = subst (λ d. IsSwept (stores_of c.args.config.now) (g.D.Disk.files c.args.disk) (g.D.Disk.files d) (g.D.Disk.past d)) (sym c.new.ensures.disk) (c.in-Ok.ensures.swept tells)
 
-pub returns-in-Ok-clause-reopens : goal.returns-in-Ok-clause-reopens
-returns-in-Ok-clause-reopens g c tells =
-    subst (λ d. Reopens g.D.Disk (stores_of c.args.config.now) c.args.disk d) (sym c.new.ensures.disk) (reopened g.D.Disk (stores_of c.args.config.now) c.args.disk c.load_stores.new.disk (c.requires.unopened tells) (c.load_stores.ensures.keeps tells))
-
-pub returns-in-Err-Disk-Fault-clause-reopens : goal.returns-in-Err-Disk-Fault-clause-reopens
-returns-in-Err-Disk-Fault-clause-reopens g c tells = reopened g.D.Disk (stores_of c.args.config.now) c.args.disk c.load_stores.new.disk (c.requires.unopened tells) (c.load_stores.ensures.keeps tells)
-
-pub returns-in-Err-Disk-Memory-clause-reopens : goal.returns-in-Err-Disk-Memory-clause-reopens
-returns-in-Err-Disk-Memory-clause-reopens g c tells = reopened g.D.Disk (stores_of c.args.config.now) c.args.disk c.load_stores.new.disk (c.requires.unopened tells) (c.load_stores.ensures.keeps tells)
-
-pub returns-in-Err-Damaged-clause-reopens : goal.returns-in-Err-Damaged-clause-reopens
-returns-in-Err-Damaged-clause-reopens g c tells = reopened g.D.Disk (stores_of c.args.config.now) c.args.disk c.load_stores.new.disk (c.requires.unopened tells) (c.load_stores.ensures.keeps tells)
-
-pub returns-in-Err-GranularityDiffers-clause-reopens : goal.returns-in-Err-GranularityDiffers-clause-reopens
-returns-in-Err-GranularityDiffers-clause-reopens g c tells = reopened g.D.Disk (stores_of c.args.config.now) c.args.disk c.load_stores.new.disk (c.requires.unopened tells) (c.load_stores.ensures.keeps tells)
+pub returns-in-Ok-clause-sweeps : goal.returns-in-Ok-clause-sweeps
+returns-in-Ok-clause-sweeps g c tells = subst (λ d. Sweeps g.D.Disk (stores_of c.args.config.now) c.args.disk d) (sym c.new.ensures.disk) (c.load_and_sweep.ensures.sweeps tells)
