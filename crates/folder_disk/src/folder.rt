@@ -4,12 +4,13 @@ ghost use Rattle.disk_model.specs.declared.disk.DiskErr.TheVariants.{Fault};
 ghost use Rattle.disk_model.specs.Files.{Rose};
 
 use crate::folders::{Access, Folders, read_from};
-use crate::trouble::{FaultLines, Trouble, note};
+use crate::trouble::{Faults, Trouble, keep};
 use disk_model::{Disk, DiskErr, FileName, ReadAt, ReadFailed};
 use std::alloc::{AllocError, Global};
 use std::fs::File;
 use std::io;
 use std::rt::Files;
+use std::sync::Arc;
 
 /// A file that a `FolderDisk` opened. It keeps the file open, so that its bytes stay when the name is removed.
 #[derive(Drop)]
@@ -18,12 +19,12 @@ pub struct FolderFile {
     path: Option<String>,
     len: u64,
     faults: u64,
-    lines: Option<FaultLines>,
+    told: Option<Arc<Faults, Global>>,
     trouble: Option<Trouble>,
 }
 
 impl FolderFile {
-    /// Why its first read that failed did, since this was asked last; nothing where each fault is told at once.
+    /// Why its first read that failed did, since this was asked last; nothing where each fault is told.
     pub fn take_trouble(&mut self) -> Option<Trouble> {
         self.trouble.take()
     }
@@ -59,7 +60,11 @@ impl ReadAt for FolderFile {
             Err(error) => {
                 self.faults = self.faults.saturating_add(1);
                 let path = self.path.take();
-                note(self.lines, &mut self.trouble, Trouble { path, error });
+                let trouble = Trouble { path, error };
+                match &self.told {
+                    Some(faults) => faults.add(&trouble),
+                    None => keep(&mut self.trouble, trouble),
+                }
                 Err(ReadFailed)
             }
         }
@@ -83,7 +88,7 @@ impl ReadAt for FolderFile {
 pub struct FolderDisk<R: Files<File = File> + Drop> {
     folders: Folders<R>,
     faults: u64,
-    lines: Option<FaultLines>,
+    told: Option<Arc<Faults, Global>>,
     trouble: Option<Trouble>,
 }
 
@@ -100,22 +105,22 @@ impl<R: Files<File = File> + Drop> FolderDisk<R> {
         Ok(FolderDisk {
             folders: Folders::new(files, alloc, access, folders)?,
             faults: 0,
-            lines: None,
+            told: None,
             trouble: None,
         })
     }
 
-    /// The same disk, which tells each fault by these lines as it counts it, also those of the files that it opens.
-    pub fn telling(self, lines: FaultLines) -> FolderDisk<R>
+    /// The same disk, which adds each fault to these as it counts it, also those of the files that it opens.
+    pub fn telling(self, faults: Arc<Faults, Global>) -> FolderDisk<R>
         ensures { result.faults ≡ self.faults }
     {
         FolderDisk {
-            lines: Some(lines),
+            told: Some(faults),
             ..self
         }
     }
 
-    /// Why its first call that failed did, since this was asked last; nothing where each fault is told at once.
+    /// Why its first call that failed did, since this was asked last; nothing where each fault is told.
     pub fn take_trouble(&mut self) -> Option<Trouble>
         ensures { self.new.faults ≡ self.old.faults }
     {
@@ -138,13 +143,12 @@ impl<R: Files<File = File> + Drop> FolderDisk<R> {
             Err(error) => {
                 self.faults = self.faults.saturating_add(1);
                 let path = self.folders.place_of(name);
-                // One by which the folders can't be used is told by whoever tells why nothing was done.
-                let lines = if self.folders.is_begun() {
-                    self.lines
-                } else {
-                    None
-                };
-                note(lines, &mut self.trouble, Trouble { path, error });
+                let trouble = Trouble { path, error };
+                match &self.told {
+                    // One by which the folders can't be used is told by whoever tells why nothing was done.
+                    Some(faults) if self.folders.is_begun() => faults.add(&trouble),
+                    _ => keep(&mut self.trouble, trouble),
+                }
                 Err(DiskErr::Fault)
             }
         }
@@ -216,12 +220,16 @@ impl<R: Files<File = File> + Drop> Disk for FolderDisk<R> {
     fn open_file(&mut self, name: &FileName, len: u64) -> Result<FolderFile, DiskErr> {
         let answer = self.folders.open(name, len);
         let (file, path) = self.counted(Some(name), answer)?;
+        let told = match &self.told {
+            Some(faults) => Arc::try_clone(faults).ok(),
+            None => None,
+        };
         Ok(FolderFile {
             file,
             path: Some(path),
             len,
             faults: 0,
-            lines: self.lines,
+            told,
             trouble: None,
         })
     }

@@ -506,7 +506,8 @@ impl<R: Files<File = File> + Drop> Folders<R> {
         Ok(names)
     }
 
-    // The files of one folder, and the folders in it that wait for their turn.
+    // The files of one folder, and the folders in it that wait for their turn. It passes by what is no regular file, such as a link, by names
+    // that are no text, and by folders within a store that the program may not read: none of them is a file of the disk.
     fn list(
         &self,
         store: u8,
@@ -516,15 +517,24 @@ impl<R: Files<File = File> + Drop> Folders<R> {
     ) -> io::Result<()> {
         let root = self.root(store)?;
         let path = format!(in self.alloc; "{root}/{folder}")?;
-        for entry in fs::read_dir(&(&self.files, self.alloc), path.as_str())? {
-            let entry = entry?;
+        let entries = match fs::read_dir(&(&self.files, self.alloc), path.as_str()) {
+            Ok(entries) => entries,
+            Err(e) if !folder.is_empty() && e.kind() == ErrorKind::PermissionDenied => {
+                return Ok(());
+            }
+            Err(e) => return Err(e),
+        };
+        for entry in entries {
+            let entry = match entry {
+                Ok(entry) => entry,
+                Err(e) if e.kind() == ErrorKind::InvalidFilename => continue,
+                Err(e) => return Err(e),
+            };
             let name = format!(in self.alloc; "{folder}{}", entry.file_name())?;
             let kind = entry.file_type()?;
             if kind.is_dir() {
                 waiting.push(format!(in self.alloc; "{name}/")?)?;
-            } else if !kind.is_file() {
-                return Err(not_a_file());
-            } else if !is_own(store, name.as_str()) {
+            } else if kind.is_file() && !is_own(store, name.as_str()) {
                 let path = name.into_bytes();
                 names.push(FileName { store, path })?;
             }
