@@ -1,0 +1,165 @@
+// What was told of each row, and whether what an image holds of it may be left then.
+use crate::asking::word;
+use act_model::Answer;
+use anyhow::Result;
+use disk_model::MemFile;
+use event_types::State;
+use std::alloc::Global;
+use std::fmt::Write as _;
+
+/// A row that an image holds, with the lines of its samples.
+#[derive(Drop)]
+pub(crate) struct RowLeft {
+    pub(crate) name: String,
+    pub(crate) state: State,
+    pub(crate) lines: Vec<String>,
+}
+
+// A row of which something was told.
+#[derive(Drop)]
+struct RowTold {
+    name: String,
+    // Whether it was told to be there. Else a fault was told of its registration.
+    is_there: bool,
+    // `None` where a fault was told of a change of it.
+    state: Option<State>,
+    held: Option<String>,
+    // The lines of all samples that were accepted, and how many of them were told to be durable.
+    lines: Vec<String>,
+    durable: usize,
+}
+
+impl RowTold {
+    fn accept(&mut self, line: Option<String>) -> Result<()> {
+        self.is_there = true;
+        if let Some(line) = line {
+            self.lines.push(line)?;
+        }
+        Ok(())
+    }
+
+    // What is wrong with what is left of it, or nothing.
+    fn wrong(&self, left: &RowLeft) -> &'static str {
+        if self.state.is_some() && self.state != Some(left.state) {
+            "has another state"
+        } else if left.lines.len() < self.durable {
+            "has lost what was durable"
+        } else if !self.lines.starts_with(&left.lines) {
+            "has other samples than were accepted"
+        } else {
+            ""
+        }
+    }
+}
+
+/// What was told, of each row.
+#[derive(Drop)]
+pub(crate) struct Ledger {
+    alloc: Global,
+    rows: Vec<RowTold>,
+}
+
+impl Ledger {
+    pub(crate) fn new(alloc: Global) -> Ledger {
+        let rows = Vec::new(alloc);
+        Ledger { alloc, rows }
+    }
+
+    // A row is behind those in front of this place, if it is there. Those were made, and one in its place that was in doubt wasn't.
+    fn push(&mut self, name: &str, place: usize, is_there: bool) -> Result<()> {
+        self.rows.truncate(place);
+        for row in &mut self.rows {
+            row.is_there |= is_there;
+        }
+        self.rows.push(RowTold {
+            name: String::from_str(self.alloc, name)?,
+            is_there,
+            state: Some(State::Running),
+            held: None,
+            lines: Vec::new(self.alloc),
+            durable: 0,
+        })?;
+        Ok(())
+    }
+
+    // Whole tails were taken, in the order of rows, of so many samples; nothing is left where no byte is.
+    fn flushed(&mut self, samples: u64, left: u64) {
+        let mut samples = samples;
+        for row in &mut self.rows {
+            let tail = row.lines.len().saturating_sub(row.durable) as u64;
+            if left > 0 && samples < tail {
+                return;
+            }
+            row.durable = row.lines.len();
+            samples = samples.saturating_sub(tail);
+        }
+    }
+
+    // The row of a name, or of a number.
+    fn find(&mut self, word: &str) -> Option<&mut RowTold> {
+        let mut place = word.parse::<usize>().unwrap_or(usize::MAX);
+        for (number, row) in self.rows.iter().enumerate() {
+            if row.name.as_str() == word {
+                place = number;
+            }
+        }
+        self.rows.get_mut(place)
+    }
+
+    /// Takes note of what an act was answered.
+    pub(crate) fn note(&mut self, words: &[&str], answer: &Answer<MemFile>) -> Result<()> {
+        let (act, name) = (word(words, 0), word(words, 1));
+        let line = Some(String::from_str(self.alloc, word(words, 4))?);
+        if let Answer::Registered { row } = answer {
+            return self.push(name, *row as usize, true);
+        }
+        if let Answer::Flushed { samples, left, .. } = answer {
+            self.flushed(*samples, *left);
+        }
+        let Some(row) = self.find(name) else {
+            if act == "register" && matches!(answer, Answer::DiskFault) {
+                return self.push(name, usize::MAX, false);
+            }
+            return Ok(());
+        };
+        match (act, answer) {
+            ("register", Answer::NameTaken { .. }) => row.is_there = true,
+            ("pause" | "resume", Answer::DiskFault) => row.state = None,
+            ("pause", Answer::Done) => row.state = Some(State::Paused),
+            ("resume", Answer::Done) => row.state = Some(State::Running),
+            ("offer", Answer::Held) => row.held = line,
+            ("offer", Answer::Kept) => row.accept(line)?,
+            ("tick", Answer::TickKept { .. }) => {
+                let held = row.held.take();
+                row.accept(held)?;
+            }
+            _ => {}
+        }
+        Ok(())
+    }
+
+    /// Puts what is wrong with what an image holds: each row that was told is there, in its state; its samples are a front of what was
+    /// accepted, and all that was told to be durable is among them. It tells whether the image holds more than was told to be durable.
+    pub(crate) fn put_wrong(&self, left: &[RowLeft], text: &mut String) -> Result<bool> {
+        let mut is_ahead = false;
+        let mut left = left;
+        for row in &self.rows {
+            match left.split_first() {
+                Some((other, others)) if other.name == row.name => {
+                    let wrong = row.wrong(other);
+                    if !wrong.is_empty() {
+                        write!(text, " {} {wrong}", row.name)?;
+                    }
+                    is_ahead |= !row.is_there || row.durable < other.lines.len();
+                    left = others;
+                }
+                _ if row.is_there => write!(text, " {} isn't there", row.name)?,
+                _ => {}
+            }
+        }
+        if !left.is_empty() {
+            text.push_str(" has a row more")?;
+        }
+        Ok(is_ahead)
+    }
+}
