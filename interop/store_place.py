@@ -258,6 +258,27 @@ def compare_listed(place, model):
         agree(f"the file {place.path(file)}", place.front(file), file.content)
 
 
+def compare_swept(place, model):
+    """Those that only read have removed no file. One that writes leaves of the files of variables those that are listed, and every
+    other as it is."""
+    if not (place.site / "archive-mark").is_file():
+        # A folder that has files and no archive's marks is taken for another's.
+        return
+    files, folder = place.stored(), place.stores[1]
+    for command in ("status", "check"):
+        place.run(command)
+    agree("the files behind those that only read", place.stored(), files)
+    others = [folder / "notes.txt", folder / "no" / "such:2024_01_01_00.pb"]
+    for other in others:
+        other.parent.mkdir(parents=True, exist_ok=True)
+        other.write_bytes(b"notes")
+    place.expect(Run(3, b"", b"archappl: line 1: E13\n"), "ingest")
+    agree("the files behind an opening", place.stored(), {place.path(file) for file in model.files()} | set(others))
+    for other in others:
+        agree(f"the file {other}", other.read_bytes(), b"notes")
+        other.unlink()
+
+
 def compare_read(place, model):
     """What Google's library reads of the listed bytes of each file with the model, where it hasn't read these bytes before."""
     for row in model.rows:

@@ -20,7 +20,7 @@ use Rattle.tier_store.specs.Change.{Has}
 use Rattle.tier_store.specs.Seen.{granularities, seen}
 use Rattle.tier_store.specs.Stores.{Stores}
 use Rattle.tier_store.specs.declared.store.TierStore.{TierStore}
-use Rattle.store_reopen.specs.Reopen.{HasRead, HoldsEither, IsReady, OpensEither, Reopens, lists_of, stores_of}
+use Rattle.store_reopen.specs.Reopen.{HasRead, HoldsEither, IsReady, OpensEither, lists_of, stores_of}
 use Rattle.store_reopen.specs.Verdict.{AreSaid, IsWhole, Listings}
 use Rattle.store_reports.specs.Status.{status_text}
 use Rattle.store_reopen.proofs.Having.{listed_at}
@@ -37,12 +37,12 @@ use Rattle.archiver_appliance.specs.Moving.{MovesFrom}
 use Rattle.archiver_appliance.specs.Outside.{Outside, outside}
 use Rattle.archiver_appliance.specs.Reporting.{ChecksAll, Tells, TellsListed}
 use Rattle.archiver_appliance.specs.Retrieving.{Gets, GetsSome, HasNone, RetrievesFrom}
-use Rattle.archiver_appliance.specs.Run.{Does, EndsAs, IsRefused, IsUnasked, Makes, NoDamage, OnlyReads}
+use Rattle.archiver_appliance.specs.Run.{Does, EndsAs, IsRefused, IsUnasked, Makes, NoDamage, OnlyOpens, OnlyReads}
 use Rattle.command_words.specs.Status.{number_of}
 use Rattle.archiver_appliance.proofs.Acting.{acts_behind, same_end}
 use Rattle.archiver_appliance.proofs.Checking.{checks_in, first_in, with_lists}
 use Rattle.archiver_appliance.proofs.Judgements.{OneVerdict, check_judges, etl_judges, exactly, get_judges, ingest_judges, status_judges, whole_with}
-use Rattle.archiver_appliance.proofs.Opening.{first_stands, opened_listed, opening_reads, reads_listed, same_said, then_reads}
+use Rattle.archiver_appliance.proofs.Opening.{first_stands, opened_listed, reads_listed, same_said, then_reads}
 
 -- THE STORES THAT WERE OPENED
 
@@ -84,7 +84,7 @@ module _ {S K C D R : Type 0} (src : OfSource S) (snk : OfSink K) (clk : OfClock
     (stands : IsTrue disk.tells → (before after : Stores) → OpensEither (stores_of config) (disk.past first) before after → HasRead disk (stores_of config) first store before after)
     (said : IsTrue disk.tells → AreSaid (stores_of config) (disk.files first) store.catalogue.rows (lists_of store.manifests.items))
     (whole : IsTrue disk.tells → IsWhole (stores_of config) (disk.files first))
-    (reopens : IsTrue disk.tells → Reopens disk (stores_of config) first store.disk)
+    (opening : IsTrue disk.tells → OnlyOpens (stores_of config) (disk.files first) (disk.files store.disk) (disk.past first) (disk.past store.disk))
     (s s' : S) (k k' : K) (c c' : C) (given : D) (status : Status) where
   gs : List Granularity
   gs = stores_of config
@@ -98,9 +98,6 @@ module _ {S K C D R : Type 0} (src : OfSource S) (snk : OfSink K) (clk : OfClock
   lists : Listings
   lists = lists_of store.manifests.items
 
-  opening : IsTrue disk.tells → OnlyReads (stores_of config) (disk.files first) (disk.files store.disk) (disk.past first) (disk.past store.disk)
-  opening told = opening_reads disk (stores_of config) first store.disk (reopens told)
-
   -- the image's own rows and lists are those of the stores
   of_image : IsTrue disk.tells → (P : List Row → List Entry → List Entry → List Entry → Type 0) → P store.catalogue.rows (lists_of store.manifests.items 0) (lists_of store.manifests.items 1) (lists_of store.manifests.items 2)
       → (w : IsWhole (stores_of config) (disk.files first)) → P w.rows (w.lists 0) (w.lists 1) (w.lists 2)
@@ -108,10 +105,10 @@ module _ {S K C D R : Type 0} (src : OfSource S) (snk : OfSink K) (clk : OfClock
       let same = same_said (stores_of config) (disk.files first) store.catalogue.rows w.rows (lists_of store.manifests.items) w.lists (said told) w.said in
       with_lists P store.catalogue.rows w.rows (lists_of store.manifests.items) w.lists same.0 (λ i low. same.1 i low) p
 
-  -- where the disk was only read since
-  module _ (files : IsTrue disk.tells → disk.files given ≡ disk.files store.disk) (any_moment : IsTrue disk.tells → Passes (λ a b. b ≡ a) (disk.past store.disk) (disk.past given)) where
+  -- where the disk was only read, by the opening and since
+  module _ (begun : IsTrue disk.tells → OnlyReads (stores_of config) (disk.files first) (disk.files store.disk) (disk.past first) (disk.past store.disk)) (files : IsTrue disk.tells → disk.files given ≡ disk.files store.disk) (any_moment : IsTrue disk.tells → Passes (λ a b. b ≡ a) (disk.past store.disk) (disk.past given)) where
     only : IsTrue disk.tells → OnlyReads (stores_of config) (disk.files first) (disk.files given) (disk.past first) (disk.past given)
-    only told = then_reads (stores_of config) (disk.files first) (disk.files store.disk) (disk.files given) (disk.past first) (disk.past store.disk) (disk.past given) (opening told) (files told) (any_moment told)
+    only told = then_reads (stores_of config) (disk.files first) (disk.files store.disk) (disk.files given) (disk.past first) (disk.past store.disk) (disk.past given) (begun told) (files told) (any_moment told)
 
     pub status_does : ((input : Option (List ℕ)) → EndsAs command.Status input status) → ((held : Stores) → Has disk.tells (seen disk store) held → IsTrue held.stands → IsTrue disk.tells → Tells (status_text held) (snk.written k) (snk.written k') status)
         → TellsListed store.catalogue.rows (lists_of store.manifests.items 0) (lists_of store.manifests.items 1) (lists_of store.manifests.items 2) (snk.written k) (snk.written k') status
@@ -146,7 +143,7 @@ module _ {S K C D R : Type 0} (src : OfSource S) (snk : OfSink K) (clk : OfClock
           let long = lists_of store.manifests.items 2 in
           let a = snk.written k in
           let b = snk.written k' in
-          let same = (reopens told).elsewhere in
+          let same = (begun told).elsewhere in
           let finds : (name : Name) (at : ℕ) → status ≡ Damaged name at → IsWholeWith (stores_of config) (disk.files first) (λ rs ls. FindsDamage command.Check (disk.files first) rs ls name at) = λ name at is.
           whole_with (stores_of config) (disk.files first) rows (lists_of store.manifests.items) (λ rs ls. FindsDamage command.Check (disk.files first) rs ls name at) (whole told) (said told)
           (first_in rows (disk.files store.disk) (disk.files first) same short medium long a b name at (subst (λ (x : Status). ChecksAll rows (disk.files store.disk) short medium long a b x) is (checks told))) in
@@ -171,12 +168,12 @@ module _ {S K C D R : Type 0} (src : OfSource S) (snk : OfSink K) (clk : OfClock
     source = ap src.left same.0;
     sink = ap snk.written same.1;
     clock = ap clk.coming same.2;
-    reads = subst (λ (d : D). OnlyReads (stores_of config) (disk.files first) (disk.files d) (disk.past first) (disk.past d)) (sym not.same) (opening told);
+    opens = subst (λ (d : D). OnlyOpens (stores_of config) (disk.files first) (disk.files d) (disk.past first) (disk.past d)) (sym not.same) (opening told);
   }
 
   -- the disk behind the opening is the one that was opened for acts
   is_opened : IsTrue disk.tells → (before after : Stores) → OpensEither (stores_of config) (disk.past first) before after → Passes (λ a image. HoldsEither (stores_of config) before after image) (disk.past first) (disk.past store.disk)
-  is_opened told before after opens = (reopens told).either before after opens
+  is_opened told before after opens = (opening told).either before after opens
 
   not_differs : IsOfOpened status → (kept asked : Granularity) → status ≡ GranularityDiffers kept asked → ⊥
   not_differs opened kept asked is = subst IsOfOpened is opened
@@ -201,7 +198,7 @@ module _ {S K C D R : Type 0} (src : OfSource S) (snk : OfSink K) (clk : OfClock
                 let same = same_said (stores_of config) (disk.files first) store.catalogue.rows w.rows (lists_of store.manifests.items) w.lists (said told) w.said in
                 let m = manifest_there store.manifests.items i (omega (arith, low, three)) in
                 let is : m.0.entries ≡ w.lists i = sym (listed_at store.manifests.items i m.0 m.1) ∙ same.1 i low in
-                opened_listed (stores_of config) (disk.files first) (disk.files store.disk) (disk.files given) (disk.past first) (disk.past store.disk) (disk.past given) i w.rows (w.lists i) (opening told)
+                opened_listed (stores_of config) (disk.files first) (disk.files store.disk) (disk.files given) (disk.past first) (disk.past store.disk) (disk.past given) w i low (opening told)
                 (subst (λ (es : List Entry). LeavesListed ((i + 1, w.rows), es) (disk.files store.disk) (disk.files given) (disk.past store.disk) (disk.past given)) is
                 (subst (λ (rs : List Row). LeavesListed ((i + 1, rs), m.0.entries) (disk.files store.disk) (disk.files given) (disk.past store.disk) (disk.past given)) same.0 (lists told i m.0 m.1)));
           },
@@ -268,7 +265,7 @@ module _ {S K C D R : Type 0} (src : OfSource S) (snk : OfSink K) (clk : OfClock
           inr (subst (λ (x : ConfigState). MovesFrom Before true x held (clk.coming c) (clk.coming c') (snk.written k) (snk.written k') (disk.past first) (disk.past given) status) settings
           (subst (λ (t : Bool). MovesFrom Before t store.config held (clk.coming c) (clk.coming c') (snk.written k) (snk.written k') (disk.past first) (disk.past given) status) told made))
 
-  module _ (name : Bor (List ℕ)) (query : Query) (files : IsTrue disk.tells → disk.files given ≡ disk.files store.disk) (any_moment : IsTrue disk.tells → Passes (λ a b. b ≡ a) (disk.past store.disk) (disk.past given)) where
+  module _ (name : Bor (List ℕ)) (query : Query) (begun : IsTrue disk.tells → OnlyReads (stores_of config) (disk.files first) (disk.files store.disk) (disk.past first) (disk.past store.disk)) (files : IsTrue disk.tells → disk.files given ≡ disk.files store.disk) (any_moment : IsTrue disk.tells → Passes (λ a b. b ≡ a) (disk.past store.disk) (disk.past given)) where
     pub get_does : s' ≡ s → c' ≡ c → store.config ≡ config
         → (IsNotMade store.disk given status × (k' ≡ k)) ⊎ ((held : Stores) → Has disk.tells (seen disk store) held → RetrievesFrom (λ image. ⊥) disk.tells store.config held name.now query (snk.written k) (snk.written k') (disk.past store.disk) (disk.past given) status)
         → GetsSome store.catalogue.rows name.now query (snk.written k) (snk.written k') status → (HasNone store.catalogue.rows name.now → IsOneOf (number_of status) 4 7 9) → (status ≡ NoSuchVariable → HasNone store.catalogue.rows name.now)
@@ -278,7 +275,7 @@ module _ {S K C D R : Type 0} (src : OfSource S) (snk : OfSink K) (clk : OfClock
       ends (src.left s),
       λ told.
           let judges = get_judges (stores_of config) (disk.files first) store.catalogue.rows (lists_of store.manifests.items) (whole told) (said told) name query (src.left s) status (ends (src.left s)) none vain
-          (λ file at is. moved (reopens told).elsewhere file at (damaged told file at is)) (not_differs opened) in (
+          (λ file at is. moved (begun told).elsewhere file at (damaged told file at is)) (not_differs opened) in (
             record {
               judges = judges;
               makes = λ before after opens stand.
@@ -286,8 +283,8 @@ module _ {S K C D R : Type 0} (src : OfSource S) (snk : OfSink K) (clk : OfClock
                   let standing = first_stands (stores_of config) (disk.past first) before after read.held opens stand read.either in
                   record { first = read.held; either = read.either; read = read.read; makes = by_made told before after opens read.held read.has retrieves; undamaged = by_writes told read.held read.has standing retrieves };
               tells = of_image told (λ rs x y z. GetsSome rs name.now query (snk.written k) (snk.written k') status) some;
-              reads = λ reading. only files any_moment told;
-              listed = λ w keeps i low. reads_listed (stores_of config) (disk.files first) (disk.files given) (disk.past first) (disk.past given) i w.rows (w.lists i) (only files any_moment told);
+              reads = λ reading. only begun files any_moment told;
+              listed = λ w keeps i low. reads_listed (stores_of config) (disk.files first) (disk.files given) (disk.past first) (disk.past given) i w.rows (w.lists i) (only begun files any_moment told);
             },
             exactly verdict (stores_of config) (command.Get name query) (disk.files first) status judges,
           ),

@@ -1,6 +1,7 @@
 -- What a disk holds from its opening on, through calls that only read.
-use Rattle.std.proofs.Common.{◌≡◌, ◌≢◌, inl, inr, ℕ, ◌<◌, ◌+◌, List, length, refl, sym, ◌∙◌, ap, subst, arith}
-use Rattle.std.specs.Prelude.{IsTrue}
+use Rattle.std.proofs.Common.{◌≡◌, ◌≢◌, inl, inr, ℕ, ◌<◌, ◌+◌, List, length, get_or, refl, sym, ◌∙◌, ap, subst, arith}
+use Rattle.std.specs.Prelude.{Contains, IsTrue}
+use Rattle.std.proofs.lemmas.List.Elements.{Contains-get_or}
 use Rattle.disk_model.specs.Files.{Files}
 use Rattle.disk_model.specs.Past.{Past, MayLeave, Passes}
 use Rattle.disk_model.specs.declared.disk.Disk.{Ghosts}
@@ -10,17 +11,21 @@ use Rattle.pv_catalog.specs.declared.row.Row.{Row}
 use Rattle.store_manifest.specs.declared.entry.Entry.{Entry}
 use Rattle.store_manifest.specs.Manifest.{manifest_name}
 use Rattle.store_manifest.proofs.Committing.{one_listing}
-use Rattle.durable_write.specs.Held.{KeepsListed}
+use Rattle.durable_write.specs.Held.{KeepsListed, file_of}
+use Rattle.store_files.specs.Fronts.{Keeps}
 use Rattle.durable_write.specs.Writing.{LeavesListed}
 use Rattle.durable_write.proofs.KeptBytes.{keeps_outside, leaves_on}
-use Rattle.store_reopen.specs.Reopen.{SameStores, AllIn, ChangesOne, HoldsEither, OpensEither, Reopens, StillHolds}
+use Rattle.store_reopen.specs.Reopen.{SameStores, AllIn, ChangesOne, HoldsEither, OpensEither, Reopens, StillHolds, Sweeps}
+use Rattle.store_reopen.specs.Strays.{IsStray, SweptStores}
 use Rattle.store_reopen.proofs.OneJournal.{one_list_of_rows}
 use Rattle.tier_store.specs.Change.{IsEither}
 use Rattle.tier_store.specs.Stored.{HoldsAll}
 use Rattle.tier_store.specs.Stores.{Stores}
-use Rattle.store_reopen.specs.Verdict.{AreSaid, Listings}
+use Rattle.store_reopen.specs.Verdict.{AreSaid, IsWhole, Listings}
 use Rattle.store_reopen.proofs.Having.{granularity_here}
-use Rattle.archiver_appliance.specs.Run.{OnlyReads}
+use Rattle.archiver_appliance.specs.Run.{IsReading, IsReport, OnlyOpens, OnlyReads}
+use Rattle.command_words.specs.declared.command.StoreCommand.{StoreCommand}
+use Rattle.command_words.specs.declared.command.StoreCommand.TheVariants as command
 
 -- an image's journals say one list of rows, and of each store one of entries
 pub same_said : (gs : List Granularity) (files : Files) (rows r₂ : List Row) (lists l₂ : Listings) → AreSaid gs files rows lists → AreSaid gs files r₂ l₂ → (rows ≡ r₂) × ((i : ℕ) → i < length gs → lists i ≡ l₂ i)
@@ -54,6 +59,42 @@ first_stands gs past before after first opens stands (inr is) = subst (λ (h : S
 pub opening_reads : {D R : Type 0} (disk : Ghosts D R) (gs : List Granularity) (old new : D) → Reopens disk gs old new → OnlyReads gs (disk.files old) (disk.files new) (disk.past old) (disk.past new)
 opening_reads {D} {R} disk gs old new reopens = record { any_moment = reopens.any_moment; either = reopens.either; opens = reopens.opens; elsewhere = reopens.elsewhere; stores = reopens.stores }
 
+-- so what only reads only opens
+pub reads_open : (gs : List Granularity) (files later : Files) (old new : Past) → OnlyReads gs files later old new → OnlyOpens gs files later old new
+reads_open gs files later old new reads = record {
+  any_moment = reads.any_moment;
+  either = reads.either;
+  opens = λ before after opens. inl (reads.opens before after opens);
+  elsewhere = λ n other. inl (reads.elsewhere n other);
+  stores = passes_weaker SameStores (SweptStores gs files) old new reads.stores (λ a c left same n other. inl (same n other));
+}
+
+-- an opening that sweeps only opens
+pub opening_opens : {D R : Type 0} (disk : Ghosts D R) (gs : List Granularity) (old new : D) → Sweeps disk gs old new → OnlyOpens gs (disk.files old) (disk.files new) (disk.past old) (disk.past new)
+opening_opens {D} {R} disk gs old new sweeps = record { any_moment = sweeps.any_moment; either = sweeps.either; opens = sweeps.opens; elsewhere = sweeps.elsewhere; stores = sweeps.stores }
+
+-- and it only reads where the image isn't whole
+same_unwhole : (gs : List Granularity) (files a c : Files) → (IsWhole gs files → ⊥) → SweptStores gs files a c → SameStores a c
+same_unwhole gs files a c none swept n other = elim (swept n other) [ inl same ↦ same | inr gone ↦ absurd (none gone.0.whole) ]
+
+pub opens_unwhole : (gs : List Granularity) (files later : Files) (old new : Past) → (IsWhole gs files → ⊥) → OnlyOpens gs files later old new → OnlyReads gs files later old new
+opens_unwhole gs files later old new none opens = record {
+  any_moment = opens.any_moment;
+  either = opens.either;
+  opens = λ before after either. elim (opens.opens before after either) [ inl same ↦ same | inr read ↦ absurd (none read.whole) ];
+  elsewhere = same_unwhole gs files files later none opens.elsewhere;
+  stores = passes_weaker (SweptStores gs files) SameStores old new opens.stores (λ a c left swept. same_unwhole gs files a c none swept);
+}
+
+-- a command that acts only reads where the image isn't whole
+pub unreported : (gs : List Granularity) (files : Files) (asked : StoreCommand) → (IsReport asked → ⊥) → IsReading gs asked files → IsWhole gs files → ⊥
+unreported gs files command.Ingest acts reading = reading
+unreported gs files command.Etl acts reading = reading
+unreported gs files (command.Serve numbers) acts reading = reading
+unreported gs files (command.Get name query) acts reading = absurd (acts tt)
+unreported gs files command.Status acts reading = absurd (acts tt)
+unreported gs files command.Check acts reading = absurd (acts tt)
+
 same_image : (P : Files → Type 0) (a b : Files) → b ≡ a → P a → P b
 same_image P a b is holds = subst P (sym is) holds
 
@@ -84,7 +125,32 @@ reads_listed gs files later old new i rows entries reads =
     let one : ◌≢◌ {A = ℕ} (i + 1) 0 = λ is. absurd (omega (arith, is)) in
     record { now = keeps_outside ((i + 1, rows), entries) 0 files later one reads.elsewhere; any_moment = passes_weaker SameStores (KeepsListed ((i + 1, rows), entries)) old new reads.stores (λ a c left same. keeps_outside ((i + 1, rows), entries) 0 a c one same) }
 
+-- no stray is listed
+listed_stays : (gs : List Granularity) (files : Files) (whole : IsWhole gs files) (i : ℕ) → i < length gs → (a c : Files) → SweptStores gs files a c → KeepsListed ((i + 1, whole.rows), whole.lists i) a c
+listed_stays gs files whole i low a c swept k d lt = keep (get_or (whole.lists i) k d) (Contains-get_or (whole.lists i) k d lt)
+  where
+    not_listed : (e : Entry) → Contains (whole.lists i) e → IsStray gs files (file_of (i + 1, whole.rows) e) → ⊥
+    not_listed e within stray =
+        let same = same_said gs files whole.rows stray.whole.rows whole.lists stray.whole.lists whole.said stray.whole.said in
+        let store : i + 1 ≡ stray.place + 1 = stray.stray.store in
+        let place : stray.place ≡ i = omega (arith, store) in
+        let rows : stray.whole.rows ≡ whole.rows = sym same.0 in
+        let lists : whole.lists i ≡ stray.whole.lists stray.place = same.1 i low ∙ ap stray.whole.lists (sym place) in
+        stray.stray.unlisted e (subst (λ (es : List Entry). Contains es e) lists within) (λ t. file_of (place t + 1, rows t) e)
+
+    keep : (e : Entry) → Contains (whole.lists i) e → Keeps e.len (a (file_of (i + 1, whole.rows) e)) (c (file_of (i + 1, whole.rows) e))
+    keep e within = elim (swept (file_of (i + 1, whole.rows) e) (λ is. absurd (let zero_store : i + 1 ≡ 0 = is in omega (arith, zero_store)))) [
+      | inl same ↦ subst (Keeps e.len (a (file_of (i + 1, whole.rows) e))) (sym same) (λ front some le begins. begins)
+      | inr gone ↦ absurd (not_listed e within gone.0)
+    ]
+
+pub opens_listed : (gs : List Granularity) (files later : Files) (old new : Past) (whole : IsWhole gs files) (i : ℕ) → i < length gs → OnlyOpens gs files later old new → LeavesListed ((i + 1, whole.rows), whole.lists i) files later old new
+opens_listed gs files later old new whole i low opens = record {
+  now = listed_stays gs files whole i low files later opens.elsewhere;
+  any_moment = passes_weaker (SweptStores gs files) (KeepsListed ((i + 1, whole.rows), whole.lists i)) old new opens.stores (λ a c left swept. listed_stays gs files whole i low a c swept);
+}
+
 -- and behind an opening, where it stays from then on
-pub opened_listed : (gs : List Granularity) (files between later : Files) (old mid new : Past) (i : ℕ) (rows : List Row) (entries : List Entry) → OnlyReads gs files between old mid → LeavesListed ((i + 1, rows), entries) between later mid new
-    → LeavesListed ((i + 1, rows), entries) files later old new
-opened_listed gs files between later old mid new i rows entries opening leaves = leaves_on ((i + 1, rows), entries) files between later old mid new (reads_listed gs files between old mid i rows entries opening) leaves
+pub opened_listed : (gs : List Granularity) (files between later : Files) (old mid new : Past) (whole : IsWhole gs files) (i : ℕ) → i < length gs → OnlyOpens gs files between old mid → LeavesListed ((i + 1, whole.rows), whole.lists i) between later mid new
+    → LeavesListed ((i + 1, whole.rows), whole.lists i) files later old new
+opened_listed gs files between later old mid new whole i low opening leaves = leaves_on ((i + 1, whole.rows), whole.lists i) files between later old mid new (opens_listed gs files between old mid whole i low opening) leaves

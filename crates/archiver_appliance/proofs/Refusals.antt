@@ -25,9 +25,9 @@ use Rattle.command_words.specs.declared.command.Command.TheVariants.{OverStore}
 use Rattle.archiver_appliance.specs.Judging.{refusal_of}
 use Rattle.archiver_appliance.specs.Outside.{Outside}
 use Rattle.archiver_appliance.specs.Reporting.{TellsRows, listed_files}
-use Rattle.archiver_appliance.specs.Run.{Does, IsUnasked, Makes, MakesOfRead, NoDamage, OnlyReads, Serves, TellsSaid}
+use Rattle.archiver_appliance.specs.Run.{Does, IsReading, IsUnasked, Makes, MakesOfRead, NoDamage, OnlyOpens, OnlyReads, Serves, TellsSaid}
 use Rattle.archiver_appliance.proofs.Judgements.{OneVerdict, exactly, refusal_judges}
-use Rattle.archiver_appliance.proofs.Opening.{read_of, first_stands, reads_listed}
+use Rattle.archiver_appliance.proofs.Opening.{read_of, first_stands, opens_listed}
 use Rattle.archiver_appliance.proofs.Outcomes.{refused_ends}
 
 front_none : (a b : Option (List ℕ)) (text : List ℕ) → b ≡ a → AppendsFront a b text
@@ -43,12 +43,12 @@ three_of : (config : ConfigState) → length (stores_of config) ≡ 3
 three_of config = refl
 
 -- A disk that failed, or wanting memory, before anything but the disk was read, and before anything was written.
-module _ (config : ConfigState) (old new : Outside) (source : new.source ≡ old.source) (sink : new.sink ≡ old.sink) (clock : new.clock ≡ old.clock) (reads : OnlyReads (stores_of config) old.files new.files old.past new.past) where
+module _ (config : ConfigState) (old new : Outside) (source : new.source ≡ old.source) (sink : new.sink ≡ old.sink) (clock : new.clock ≡ old.clock) (opens : OnlyOpens (stores_of config) old.files new.files old.past new.past) where
   gs : List Granularity
   gs = stores_of config
 
   unasked : IsUnasked (stores_of config) old new DiskFault × IsUnasked (stores_of config) old new OutOfMemory
-  unasked = (record { cut = inl refl; source = source; sink = sink; clock = clock; reads = reads }, record { cut = inr refl; source = source; sink = sink; clock = clock; reads = reads })
+  unasked = (record { cut = inl refl; source = source; sink = sink; clock = clock; opens = opens }, record { cut = inr refl; source = source; sink = sink; clock = clock; opens = opens })
 
   pub makes_nothing : (asked : StoreCommand) (before after first : Stores) → Makes config asked before after first old new DiskFault × Makes config asked before after first old new OutOfMemory
   makes_nothing command.Ingest before after first = (inl unasked.0, inl unasked.1)
@@ -88,20 +88,20 @@ module _ (config : ConfigState) (old new : Outside) (source : new.source ≡ old
           undamaged = refusal_cases (λ e. NoDamage (refusal_of e)) whole (λ d. tt) (λ d. tt) err refl;
         }
 
-    pub refused_serves : (asked : StoreCommand) → MayLeave old.past old.files → Serves config asked old new (refusal_of err)
-    refused_serves asked seen = record {
+    pub refused_serves : (asked : StoreCommand) → MayLeave old.past old.files → (IsReading (stores_of config) asked old.files → OnlyReads (stores_of config) old.files new.files old.past new.past) → Serves config asked old new (refusal_of err)
+    refused_serves asked seen reads = record {
       judges = refusal_judges (stores_of config) asked old.files err damaged differs;
       makes = refused_makes asked seen;
       tells = λ whole. let both = tells_nothing asked whole.rows whole.lists in refusal_cases (λ e. TellsSaid asked old.files whole.rows whole.lists old new (refusal_of e)) whole (λ d. both.0) (λ d. both.1) err refl;
-      reads = λ reading. reads;
-      listed = λ whole keeps i low. reads_listed (stores_of config) old.files new.files old.past new.past i whole.rows (whole.lists i) reads;
+      reads = reads;
+      listed = λ whole keeps i low. opens_listed (stores_of config) old.files new.files old.past new.past whole i low opens;
     }
 
 -- What a disk that isn't opened comes to.
 pub refused_does : {D R : Type 0} (tells : Bool) (config : ConfigState) (asked : StoreCommand) (old new : Outside) (verdict : OneVerdict) (err : ReopenErr D R) → new.source ≡ old.source → new.sink ≡ old.sink → new.clock ≡ old.clock
-    → (IsTrue tells → MayLeave old.past old.files) → (IsTrue tells → OnlyReads (stores_of config) old.files new.files old.past new.past) → (IsTrue tells → (d : D) (name : Name) (at : ℕ) → err ≡ reopening.Damaged d name at → IsDamaged (stores_of config) old.files name at)
+    → (IsTrue tells → MayLeave old.past old.files) → (IsTrue tells → OnlyOpens (stores_of config) old.files new.files old.past new.past) → (IsTrue tells → IsReading (stores_of config) asked old.files → OnlyReads (stores_of config) old.files new.files old.past new.past) → (IsTrue tells → (d : D) (name : Name) (at : ℕ) → err ≡ reopening.Damaged d name at → IsDamaged (stores_of config) old.files name at)
     → (IsTrue tells → (d : D) (kept other : Granularity) → err ≡ reopening.GranularityDiffers d kept other → Differs (stores_of config) old.files kept other) → Does config tells (OverStore asked) old new (refusal_of err)
-refused_does {D} {R} tells config asked old new verdict err source sink clock seen reads damaged differs = (
+refused_does {D} {R} tells config asked old new verdict err source sink clock seen opens reads damaged differs = (
   refused_ends asked old.source err,
-  λ told. let serves = refused_serves config old new source sink clock (reads told) verdict err (damaged told) (differs told) asked (seen told) in (serves, exactly verdict (stores_of config) asked old.files (refusal_of err) serves.judges),
+  λ told. let serves = refused_serves config old new source sink clock (opens told) verdict err (damaged told) (differs told) asked (seen told) (reads told) in (serves, exactly verdict (stores_of config) asked old.files (refusal_of err) serves.judges),
 )

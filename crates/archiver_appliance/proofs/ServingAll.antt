@@ -13,7 +13,7 @@ use Rattle.tier_store.specs.Change.{Has}
 use Rattle.tier_store.specs.Seen.{seen}
 use Rattle.tier_store.specs.Stores.{Stores}
 use Rattle.tier_store.specs.declared.store.TierStore.{TierStore}
-use Rattle.store_reopen.specs.Reopen.{HasRead, HoldsEither, OpensEither, Reopens, stores_of}
+use Rattle.store_reopen.specs.Reopen.{HasRead, HoldsEither, OpensEither, stores_of}
 use Rattle.store_reopen.specs.Verdict.{IsWhole}
 use Rattle.link_service.specs.declared.posts.Post.{Post}
 use Rattle.link_service.specs.declared.served.Kind.{Kind}
@@ -26,10 +26,9 @@ use Rattle.command_words.specs.declared.status.Status.TheVariants.{Usage, NoSuch
 use Rattle.archiver_appliance.specs.Acting.{IsNotMade}
 use Rattle.archiver_appliance.specs.Judging.{IsOfOpened, Judges}
 use Rattle.archiver_appliance.specs.Outside.{outside}
-use Rattle.archiver_appliance.specs.Run.{Does, EndsAs, IsOfService, IsUnasked, IsUnopenedFor, NoDamage, OnlyReads}
+use Rattle.archiver_appliance.specs.Run.{Does, EndsAs, IsOfService, IsUnasked, IsUnopenedFor, NoDamage, OnlyOpens}
 use Rattle.archiver_appliance.specs.Serving.{CameOfPosts, ServesFrom, ServesPosts, are_not, on_archive, status_of}
 use Rattle.archiver_appliance.proofs.Judgements.{OneVerdict, exactly, whole_alone}
-use Rattle.archiver_appliance.proofs.Opening.{opening_reads}
 use Rattle.archiver_appliance.proofs.Posts.{serves_weaker}
 use Rattle.archiver_appliance.proofs.Services.{serves_behind}
 
@@ -45,13 +44,10 @@ serve_judges gs files whole numbers source status ends none opened = whole_alone
 module _ {S K C D R : Type 0} (src : OfSource S) (snk : OfSink K) (clk : OfClock C) (disk : Ghosts D R) (config : ConfigState) (first : D) (store : TierStore D R) (verdict : OneVerdict)
     (stands : IsTrue disk.tells → (before after : Stores) → OpensEither (stores_of config) (disk.past first) before after → HasRead disk (stores_of config) first store before after)
     (whole : IsTrue disk.tells → IsWhole (stores_of config) (disk.files first))
-    (reopens : IsTrue disk.tells → Reopens disk (stores_of config) first store.disk)
+    (opening : IsTrue disk.tells → OnlyOpens (stores_of config) (disk.files first) (disk.files store.disk) (disk.past first) (disk.past store.disk))
     (s : S) (k : K) (c c' : C) (given : D) (status : Status) where
-  opening : IsTrue disk.tells → OnlyReads (stores_of config) (disk.files first) (disk.files store.disk) (disk.past first) (disk.past store.disk)
-  opening told = opening_reads disk (stores_of config) first store.disk (reopens told)
-
-  unmade : IsNotMade store.disk given status → IsTrue disk.tells → OnlyReads (stores_of config) (disk.files first) (disk.files given) (disk.past first) (disk.past given)
-  unmade not told = subst (λ (d : D). OnlyReads (stores_of config) (disk.files first) (disk.files d) (disk.past first) (disk.past d)) (sym not.same) (opening told)
+  unmade : IsNotMade store.disk given status → IsTrue disk.tells → OnlyOpens (stores_of config) (disk.files first) (disk.files given) (disk.past first) (disk.past given)
+  unmade not told = subst (λ (d : D). OnlyOpens (stores_of config) (disk.files first) (disk.files d) (disk.past first) (disk.past d)) (sym not.same) (opening told)
 
   module _ {P L : Type 0} (is_closed : P → Bool) (faults : P → ℕ) (ledger : P → Option (Ledger L)) (Is : Kind → L → Type 0) (olds news : List (Post P)) (doors : ℕ) where
     -- no archive could be made, or this was made of whatever the stores have
@@ -72,7 +68,7 @@ module _ {S K C D R : Type 0} (src : OfSource S) (snk : OfSink K) (clk : OfClock
             let read = stands tells before after opens in
             let Before : Files → Type 0 = λ image. HoldsEither (stores_of config) before after image in
             let from : ServesFrom Before disk.tells store.config read.held doors began told (disk.past first) (disk.past given) =
-            serves_behind Before disk.tells store.config read.held doors began told (disk.past first) (disk.past store.disk) (disk.past given) ((reopens tells).either before after opens) (made read.held read.has) in
+            serves_behind Before disk.tells store.config read.held doors began told (disk.past first) (disk.past store.disk) (disk.past given) ((opening tells).either before after opens) (made read.held read.has) in
             record {
               first = read.held;
               either = read.either;
@@ -100,4 +96,4 @@ module _ {S K C D R : Type 0} (src : OfSource S) (snk : OfSink K) (clk : OfClock
       where
         by_came : IsTrue disk.tells → CameOfPosts is_closed faults ledger Is Unmade Made status olds news → IsUnasked (stores_of config) (outside src snk clk disk s k c first) (outside src snk clk disk s k c' given) status ⊎ ((told : AllServed) × (status ≡ status_of told))
         by_came told (on_archive began end is left made) = inr (end, is)
-        by_came told (are_not not same un) = inl (record { cut = inr un.0.status_is; source = refl; sink = refl; clock = un.1; reads = unmade un.0 told })
+        by_came told (are_not not same un) = inl (record { cut = inr un.0.status_is; source = refl; sink = refl; clock = un.1; opens = unmade un.0 told })

@@ -11,7 +11,8 @@ use Rattle.pb_lines.specs.Stream.{Item, Stop, IsWholeStream}
 use Rattle.pv_catalog.specs.declared.row.Row.{Row}
 use Rattle.pv_catalog.specs.Rows.{HasName}
 use Rattle.durable_write.specs.Writing.{LeavesListed}
-use Rattle.store_reopen.specs.Reopen.{SameStores, HoldsEither, OpensEither, StillHolds, stores_of}
+use Rattle.store_reopen.specs.Reopen.{SameStores, HoldsEither, OpensEither, OpensRead, StillHolds, stores_of}
+use Rattle.store_reopen.specs.Strays.{SweptStores}
 use Rattle.tier_store.specs.Change.{IsEither}
 use Rattle.tier_store.specs.Stored.{HoldsAll}
 use Rattle.tier_store.specs.Stores.{Stores}
@@ -95,13 +96,22 @@ pub record OnlyReads (gs : List Granularity) (files later : Files) (old new : Pa
   pub elsewhere : SameStores files later
   pub stores : Passes SameStores old new
 
--- the disk failed, or memory was wanting, before any act: nothing was read but the disk, and nothing written
+-- It only opens. A crash leaves what the disk held, in doubt or not, or from then on what reads gave alone. Of the files of stores only
+-- strays go, at any moment, and none where the image isn't whole.
+pub record OnlyOpens (gs : List Granularity) (files later : Files) (old new : Past) : Type 0 where
+  pub any_moment : Passes (StillHolds gs) old new
+  pub either : (before after : Stores) → OpensEither gs old before after → Passes (λ a b. HoldsEither gs before after b) old new
+  pub opens : (before after : Stores) → OpensEither gs old before after → OpensEither gs new before after ⊎ OpensRead gs files new before after
+  pub elsewhere : SweptStores gs files files later
+  pub stores : Passes (SweptStores gs files) old new
+
+-- the disk failed, or memory was wanting, before any act: nothing was read but the disk, and nothing done but that it was opened
 pub record IsUnasked (gs : List Granularity) (old new : Outside) (status : Status) : Type 0 where
   pub cut : (status ≡ DiskFault) ⊎ (status ≡ OutOfMemory)
   pub source : new.source ≡ old.source
   pub sink : new.sink ≡ old.sink
   pub clock : new.clock ≡ old.clock
-  pub reads : OnlyReads gs old.files new.files old.past new.past
+  pub opens : OnlyOpens gs old.files new.files old.past new.past
 
 -- What a command makes of what reads give. Those that act open an archive on it, and what a crash left before is what was before a change
 -- that stood in doubt, or what is after it. What a service makes of it is said with what it leaves of its posts (IsOfService).
@@ -139,7 +149,7 @@ IsOfService config tells doors old new began told = IsTrue tells → (before aft
 
 -- no archive was opened or made for a service
 abbrev pub IsUnopenedFor : ConfigState → Bool → Outside → Outside → Type 0
-IsUnopenedFor config tells old new = (new.clock ≡ old.clock) × (IsTrue tells → OnlyReads (stores_of config) old.files new.files old.past new.past)
+IsUnopenedFor config tells old new = (new.clock ≡ old.clock) × (IsTrue tells → OnlyOpens (stores_of config) old.files new.files old.past new.past)
 
 -- what is written by what the journals of a whole image say, whatever its listed files are
 abbrev pub TellsSaid : StoreCommand → Files → List Row → Listings → Outside → Outside → Status → Type 0

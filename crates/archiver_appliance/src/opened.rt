@@ -1,10 +1,18 @@
 // The commands over the archive.
-ghost use Rattle.std.specs.Prelude.{◌≡◌, ◌<◌, ◌^◌, [], IsTrue, None, length};
+ghost use Rattle.std.specs.FinMap as map;
+ghost use Rattle.std.specs.Prelude.{◌≡◌, ◌≤◌, ◌<◌, ◌^◌, [], ℕ, IfOk, IsOk, IsTrue, None, Err, false, length, true};
+ghost use Rattle.disk_model.specs.Files.{Name, Rose};
 ghost use Rattle.edge_io.specs.Moments.{Gives};
-ghost use Rattle.store_reopen.specs.Reopen.{IsUnopened, disk_in};
+ghost use Rattle.partition_names.specs.declared.granularity.Granularity.{Granularity as GranularityValue};
+ghost use Rattle.store_reopen.specs.Reopen.{HasRead, IsReady, IsUnopened, OpensEither, disk_in, disk_of, lists_of, stores_of};
+ghost use Rattle.store_reopen.specs.Verdict.{AreSaid, Differs, IsDamaged, IsWhole};
+ghost use Rattle.store_reopen.specs.declared.error.ReopenErr.TheVariants.{DiskFault, Damaged, GranularityDiffers};
+ghost use Rattle.tier_store.specs.Change.{Has};
+ghost use Rattle.tier_store.specs.Seen.{seen};
+ghost use Rattle.tier_store.specs.Stores.{Stores};
 ghost use Rattle.archiver_appliance.specs.Judging.{refusal_of};
 ghost use Rattle.archiver_appliance.specs.Outside.{outside, IsCaused, NoneFell};
-ghost use Rattle.archiver_appliance.specs.Run.{Does, IsOfService, IsRefused, IsReport, IsUnopenedFor};
+ghost use Rattle.archiver_appliance.specs.Run.{Does, IsOfService, IsReading, IsRefused, IsReport, IsUnopenedFor, OnlyOpens, OnlyReads};
 ghost use Rattle.command_words.specs.Status.{number_of};
 ghost use Rattle.command_words.specs.declared.command.Command.TheVariants.{OverStore};
 ghost use Rattle.command_words.specs.declared.command.StoreCommand.TheVariants as asked;
@@ -26,7 +34,7 @@ use std::alloc::Global;
 use std::sync::Wait;
 use std::thread::Threads;
 use store_reopen::laws::one_verdict;
-use store_reopen::{ReopenErr, reopen};
+use store_reopen::{ReopenErr, open_to_read, reopen};
 use tier_store::TierStore;
 
 /// What a command over the archive came to.
@@ -91,7 +99,7 @@ where
     ensures unopened { IsTrue D.tells → IsUnopened (D.files result.disk) (D.opened result.disk) }
 {
     one_verdict();
-    match reopen(alloc, disk, config) {
+    match opened(alloc, disk, config, &command) {
         Err(err) => refused(err),
         Ok(store) => match command {
             StoreCommand::Ingest => ingest_into(rt, alloc, store, source, clock),
@@ -101,6 +109,54 @@ where
             StoreCommand::Check => tell_files(alloc, store, sink),
             StoreCommand::Serve(_) => serve_posts(rt, alloc, store, posts, clock),
         },
+    }
+}
+
+// Opens the disk for a command: as it is for one that only reads, and without strays for one that acts.
+fn opened<D: Disk>(
+    alloc: Global,
+    disk: D,
+    config: &Config,
+    command: &StoreCommand<'_>,
+) -> Result<TierStore<D>, ReopenErr<D>>
+    requires unopened { IsTrue D.tells → IsUnopened (D.files disk) (D.opened disk) }
+    ensures stands { IsTrue D.tells → (before after : Stores) → OpensEither (stores_of config.now) (D.past disk) before after
+        → IfOk result (λ s. HasRead D.Disk (stores_of config.now) disk s before after) }
+    ensures has { IfOk result (λ s. (held : Stores) × Has D.tells (seen D.Disk s) held) }
+    ensures said { IsTrue D.tells → IfOk result (λ s. let now = seen D.Disk s in AreSaid (stores_of config.now) (D.files disk) now.catalogue.rows (lists_of now.manifests)) }
+    ensures ready { IfOk result (λ s. let now = seen D.Disk s in IsReady (stores_of config.now) now.catalogue now.manifests) }
+    ensures fresh { IfOk result (λ s. (s.limbo.items ≡ []) × (s.pinned ≡ map.empty)) }
+    ensures settings { IfOk result (λ s. s.config ≡ config.now) }
+    ensures whole { IsTrue D.tells → IsOk result → IsWhole (stores_of config.now) (D.files disk) }
+    ensures damaged { IsTrue D.tells → (d : D) (name : Name) (at : ℕ) → result ≡ Err (Damaged d name at) → IsDamaged (stores_of config.now) (D.files disk) name at }
+    ensures differs { IsTrue D.tells → (d : D) (kept asked : GranularityValue) → result ≡ Err (GranularityDiffers d kept asked)
+        → Differs (stores_of config.now) (D.files disk) kept asked }
+    ensures opens { IsTrue D.tells → OnlyOpens (stores_of config.now) (D.files disk) (D.files (disk_of result)) (D.past disk) (D.past (disk_of result)) }
+    ensures reads { IsTrue D.tells → IsReading (stores_of config.now) command.now (D.files disk)
+        → OnlyReads (stores_of config.now) (D.files disk) (D.files (disk_of result)) (D.past disk) (D.past (disk_of result)) }
+    ensures unopened { IsTrue D.tells → IsUnopened (D.files (disk_of result)) (D.opened (disk_of result)) }
+    ensures faults { D.faults disk ≤ D.faults (disk_of result) }
+    ensures cause { (d : D) → result ≡ Err (DiskFault d) → Rose (D.faults disk) (D.faults d) }
+{
+    if only_reads(command) {
+        open_to_read(alloc, disk, config)
+    } else {
+        reopen(alloc, disk, config)
+    }
+}
+
+// Whether it writes what a disk holds, and nothing else.
+fn only_reads(command: &StoreCommand<'_>) -> bool
+    ensures reads { result ≡ true → IsReport command.now }
+    ensures acts { result ≡ false → IsReport command.now → ⊥ }
+{
+    match command {
+        StoreCommand::Get { .. } => true,
+        StoreCommand::Status => true,
+        StoreCommand::Check => true,
+        StoreCommand::Ingest => false,
+        StoreCommand::Etl => false,
+        StoreCommand::Serve(_) => false,
     }
 }
 
