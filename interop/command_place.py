@@ -1,6 +1,7 @@
 """The folders of a case, and runs of the program over them, with inputs that break off and outputs that nobody takes."""
 
 import os
+import re
 import socket
 import struct
 import subprocess
@@ -121,8 +122,9 @@ class Sink:
 
 # Services
 
-# Why a service ends that a file asks to.
-ENDS = b"archappl: to end, since site/stop is there\n"
+# A line of a service's log, by its time, and why one ends that a file asks to.
+LOG = re.compile(rb"archappl: [0-9-]{10}T[0-9:]{8}Z (.*\n)")
+ENDS = b"to end, since site/stop is there\n"
 
 
 class Service:
@@ -139,7 +141,7 @@ class Service:
         streams = {"stdin": subprocess.DEVNULL, "stdout": subprocess.PIPE, "stderr": subprocess.PIPE}
         self.process = self.place.start(words, self.before, bufsize=0, **streams)
         self.told = self.process.stderr.readline()
-        if not self.told.startswith(b"archappl: listening on "):
+        if not LOG.fullmatch(self.told) or b"Z listening on " not in self.told:
             raise Difference(f"a service tells {self.told}")
         return self
 
@@ -157,9 +159,9 @@ class Service:
         stop.touch()
         output, complaint = self.process.communicate(timeout=SECONDS)
         stop.unlink()
-        if not complaint.startswith(ENDS):
+        if ENDS not in LOG.findall(complaint):
             raise Difference(f"a service that is to end tells {complaint}")
-        return Run(self.process.returncode, output, complaint.removeprefix(ENDS))
+        return Run(self.process.returncode, output, LOG.sub(b"", complaint))
 
     def __exit__(self, *_):
         self.process.kill()

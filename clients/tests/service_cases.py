@@ -362,8 +362,12 @@ def numbers_for_prometheus(_, service):
             archappl.send(service.address, [pb_stream.chunk(header, samples)])
     damage(service, "E:BAD")
     log = service.folder / "log"
-    fault, begins = "archappl: sts/E/A: No space left on device (os error 28)\n", "archappl: listening on 127.0.0.1: ..\n"
-    log.write_text(fault + begins + fault + "another line\n" + fault)
+    at = "archappl: 2024-01-01T08:00:00Z "
+    fault = at + "sts/E/A: No space left on device (os error 28)"
+    dropped = at + "dropped 1 samples: 1 of no variable, 0 paused, 0 of another type, 0 late, 0 ahead; the last of A"
+    again, over = fault + " (9 times more)", fault + " (no more for a minute; 10 times in all)"
+    lines = (fault, at + "listening on 127.0.0.1: ..", fault, "another line", again, over, dropped, at + "to end, since site/stop is there")
+    log.write_text("".join(line + "\n" for line in lines))
     words = ("--server", service.address, "--listen", "127.0.0.1:0", "--log", str(log))
     command = [sys.executable, CLIENTS / "exporter", *words]
     with started(command, stderr=subprocess.PIPE, text=True, env=service.environment) as process:

@@ -21,9 +21,11 @@ mod opened;
 mod reporting;
 mod retrieving;
 mod run;
+mod service_log;
 mod serving;
 mod stopping;
 mod tallying;
+mod teller;
 mod telling;
 
 ghost use Rattle.std.specs.Prelude.{◌≤◌, ◌<◌, ◌^◌, length, vec_len, IfOk};
@@ -33,8 +35,9 @@ use contents::Contents;
 use doors::{Doors, ServiceDoor, Unbound};
 use edge_io::{StdSink, StdSource, SystemClock};
 use etl_rules::Config;
-use folder_disk::{Access, FaultLines, FolderDisk, Trouble};
+use folder_disk::{Access, FolderDisk, Trouble};
 use link_service::Post;
+use service_log::Log;
 use std::alloc::{AllocError, Global};
 use std::env::{self, VarError};
 use std::io::ErrorKind;
@@ -43,16 +46,22 @@ use std::process::ExitCode;
 use std::sync::{Arc, Wait};
 use std::thread::{Threads, join};
 use stopping::{Ports, Stop, watch};
-use telling::{Telling, tell};
+use telling::{Telling, tell_plain};
 
 fn main(rt: HostRuntime) -> ExitCode {
     let ended = match prepare(&rt, &rt) {
         Ok((prepared, watched)) => match watched {
-            Some(Watched { stop, file, ports }) => {
+            Some(watched) => {
+                let Watched {
+                    stop,
+                    file,
+                    ports,
+                    log,
+                } = watched;
                 // Where no thread can be made nobody watches: the run comes first then.
                 let ((), ended) = join(
                     &rt,
-                    || watch(&rt, &rt, &stop, &file, &ports),
+                    || watch(&rt, &rt, &stop, &file, &ports, &log),
                     || {
                         let ended = run_over(&rt, &rt, prepared);
                         stop.tell_over();
@@ -89,12 +98,13 @@ struct Prepared<'a> {
     telling: Option<Arc<Telling<'a>, Global>>,
 }
 
-// A service that a file ends, and where its doors listen.
+// A service that a file ends, where its doors listen, and what it hands in to be told.
 #[derive(Drop)]
 struct Watched {
     stop: Arc<Stop, Global>,
     file: String,
     ports: Ports,
+    log: Log,
 }
 
 // What the words and the environment ask for: the folders, and the doors of a service. A folder whose name isn't UTF-8 can't be used.
@@ -124,12 +134,14 @@ fn prepare<'a>(
         ports,
         telling,
     } = opened_doors(rt, net, &words, folders, &stop)?;
-    let watched = match ports {
-        Some(ports) => {
-            let file = format!(in rt.alloc(); "{site}/stop")?;
-            Some(Watched { stop, file, ports })
-        }
-        None => None,
+    let watched = match (ports, &telling) {
+        (Some(ports), Some(telling)) => Some(Watched {
+            stop,
+            file: format!(in rt.alloc(); "{site}/stop")?,
+            ports,
+            log: telling.log.again(),
+        }),
+        _ => None,
     };
     drop(words);
     let prepared = Prepared {
@@ -189,7 +201,7 @@ fn run_over<H: Threads + Wait + Sync>(
     Ok(ended.status)
 }
 
-// The disk, on which each fault is told from now on, where a service is to begin. What its archive has is told with the service's first
+// The disk, of which each fault is told from now on, where a service is to begin. What its archive has is told with the service's first
 // line: a report finds it. Where that fails the service does too, and tells why.
 fn counted<'a, H: Threads + Wait + Sync>(
     rt: &HostRuntime,
@@ -215,7 +227,10 @@ fn counted<'a, H: Threads + Wait + Sync>(
         telling.count(&contents);
     }
     drop(ended.disk.take_trouble());
-    ended.disk.telling(FaultLines::new(rt.stderr(), rt.alloc()))
+    match telling.log.faults() {
+        Some(faults) => ended.disk.telling(faults),
+        None => ended.disk,
+    }
 }
 
 // The doors that the words ask for: none, unless they are those of `serve`.
@@ -249,7 +264,7 @@ fn tell_trouble(rt: &HostRuntime, trouble: Option<Trouble>) {
         return;
     };
     if let Ok(line) = format!(in rt.alloc(); "archappl: {trouble}\n") {
-        tell(rt, &line);
+        tell_plain(rt, &line);
     }
 }
 
@@ -259,7 +274,7 @@ fn tell_unbound(rt: &HostRuntime, unbound: Option<Unbound>) {
         return;
     };
     if let Ok(line) = format!(in rt.alloc(); "archappl: port {port}: {error}\n") {
-        tell(rt, &line);
+        tell_plain(rt, &line);
     }
 }
 

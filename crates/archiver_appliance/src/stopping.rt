@@ -1,4 +1,6 @@
 // How a service is told to end: by a file.
+use crate::service_log::Log;
+use crate::teller::Teller;
 use crate::telling::tell;
 use std::alloc::{AllocError, Global};
 use std::fs::{self, Files};
@@ -60,36 +62,37 @@ pub struct Ports {
     pub doors: u32,
 }
 
-/// Waits until the file is there or the service is over. Then the service is to end, and those doors that wait for a connection find
-/// out. A file that was there before asked for the end of an earlier service: it is removed once the archive is open, and one that can't be
-/// removed ends this one too.
+/// Tells what a service hands in to be told, until it is over, and looks for the file. Where that is there the service is to end, and those
+/// doors that wait for a connection find out. A file that was there before asked for the end of an earlier service: it is removed once the
+/// archive is open, and one that can't be removed ends this one too.
 pub fn watch<R: Files + Net + Clock + Wait>(
     rt: &HostRuntime,
     handles: &R,
     stop: &Stop,
     file: &str,
     ports: &Ports,
+    log: &Log,
 ) {
     let mut is_old = is_there(handles, file);
+    let mut teller = Teller::new(rt);
     for _ in handles.forever() {
-        if stop.over.load(Ordering::SeqCst) {
-            break;
+        let is_over = stop.over.load(Ordering::SeqCst);
+        teller.tell(rt, log);
+        if is_over {
+            return;
         }
         if is_old && stop.serving.load(Ordering::SeqCst) {
             is_old = false;
             let _ = fs::remove_file(handles, file);
         }
-        if !is_old && is_there(handles, file) {
-            if let Ok(line) = format!(in rt.alloc(); "archappl: to end, since {file} is there\n") {
-                tell(rt, &line);
+        if !is_old && !stop.is_asked() && is_there(handles, file) {
+            tell(rt, format!(in rt.alloc(); "to end, since {file} is there"));
+            stop.asked.store(true, Ordering::SeqCst);
+            for port in [ports.feed_port, ports.http_port] {
+                wake_doors(handles, &ports.address, port, ports.doors);
             }
-            break;
         }
         thread::sleep(handles, Duration::from_millis(PAUSE));
-    }
-    stop.asked.store(true, Ordering::SeqCst);
-    for port in [ports.feed_port, ports.http_port] {
-        wake_doors(handles, &ports.address, port, ports.doors);
     }
 }
 
