@@ -1,6 +1,7 @@
 // The doors of a service: connections of TCP, by two ports.
 ghost use Rattle.std.specs.Prelude.{◌≡◌, ◌≤◌, ◌+◌, vec_len, None, IfOk};
 
+use crate::service_log::{Log, Logged};
 use crate::stopping::{Ports, Stop};
 use crate::telling::Telling;
 use command_words::ServeWords;
@@ -21,6 +22,15 @@ pub struct ServiceDoor<'a> {
     // Nothing where the ports couldn't be bound, so that no connections come.
     telling: Option<Arc<Telling<'a>, Global>>,
     closed: bool,
+}
+
+impl<'a> Logged for ServiceDoor<'a> {
+    fn log(&self) -> Log {
+        match &self.telling {
+            Some(telling) => telling.log.again(),
+            None => Log::none(),
+        }
+    }
 }
 
 impl<'a> Door for ServiceDoor<'a> {

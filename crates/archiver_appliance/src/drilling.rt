@@ -17,6 +17,7 @@ ghost use Rattle.archiver_appliance.specs.Acting.{ActsAlone, IsFresh};
 ghost use Rattle.archiver_appliance.specs.Drilling.{AreFed, Drills, HasRegistered, IsBegunWith, IsDrillText, OfHeld, OpensWell, WereSpent, nothing_held, registers, shipped, unmoving};
 
 use crate::drill_report::report;
+use crate::service_log::Log;
 use crate::serving::serve_archive;
 use act_model::{Registered, ask_register};
 use archive_actors::Alone;
@@ -126,7 +127,14 @@ where
     let mut posts = [post(alloc, drill, 0)?, post(alloc, drill, 1)?];
     let mut clock = drill.clock(alloc)?;
     let archive = begun(alloc, disk)?;
-    let Ok((told, archive)) = serve_archive(rt, alloc, archive, &mut posts, &mut clock) else {
+    let Ok((told, archive)) = serve_archive(
+        rt,
+        alloc,
+        archive,
+        &mut posts,
+        &mut clock,
+        &Log::none(),
+    ) else {
         return Err(Lack::Memory);
     };
     if told.spent {

@@ -24,6 +24,7 @@ use crate::ingesting::ingest_into;
 use crate::moving::move_due;
 use crate::reporting::{tell_files, tell_rows};
 use crate::retrieving::get_from;
+use crate::service_log::Logged;
 use crate::serving::serve_posts;
 use command_words::{Status, StoreCommand};
 use disk_model::Disk;
@@ -67,7 +68,7 @@ pub fn serve<
     K: Sink,
     D: Disk + Send,
     C: Clock + Drop + Send,
-    W: Door + Send,
+    W: Door + Logged + Send,
 >(
     rt: &R,
     alloc: Global,

@@ -19,6 +19,7 @@ ghost use Rattle.archiver_appliance.specs.Run.{Obeys, Ran, IsOfService, IsRefuse
 
 use crate::drilling::run_drill;
 use crate::opened::{Came, serve};
+use crate::service_log::Logged;
 use command_words::{Command, Status, command_of, complain};
 use disk_model::Disk;
 use edge_io::{Clock, Door, Sink, Source};
@@ -66,7 +67,7 @@ pub fn run<
     E: Sink,
     D: Disk + Send,
     C: Clock + Drop + Send,
-    W: Door + Send,
+    W: Door + Logged + Send,
 >(
     rt: &R,
     alloc: Global,
@@ -127,7 +128,7 @@ fn obey<
     K: Sink,
     D: Disk + Send,
     C: Clock + Drop + Send,
-    W: Door + Send,
+    W: Door + Logged + Send,
 >(
     rt: &R,
     alloc: Global,

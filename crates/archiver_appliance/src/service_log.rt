@@ -1,6 +1,9 @@
 // What a service hands in to be told.
+use disk_model::FileName;
 use folder_disk::{Faults, Met};
+use link_service::Gate;
 use std::alloc::{AllocError, Global};
+use std::str;
 use std::sync::Arc;
 
 // What those hand in who work in a service.
@@ -17,6 +20,11 @@ pub struct Log {
 }
 
 impl Log {
+    /// Where nobody tells anything.
+    pub fn none() -> Log {
+        Log { notes: None }
+    }
+
     /// For a service.
     pub fn shared(alloc: Global) -> Result<Log, AllocError> {
         let faults = Faults::shared(alloc)?;
@@ -51,4 +59,42 @@ impl Log {
             None => None,
         }
     }
+
+    /// A file is damaged, in which the first bad line begins at this place.
+    pub fn damage(&self, name: &FileName, at: u64) {
+        if let Some(notes) = &self.notes {
+            notes.damage(name, at);
+        }
+    }
+}
+
+impl Notes {
+    // A file is damaged, in which the first bad line begins at this place.
+    fn damage(&self, name: &FileName, at: u64) {
+        let store = name.store;
+        let path = str::from_utf8(&name.path).unwrap_or("?");
+        if let Ok(text) = format!(in self.alloc; "damaged: {store} {path} at {at}") {
+            self.faults.meet(text);
+        }
+    }
+}
+
+impl Gate for Log {
+    ghost entered = { λ gate post. Unit {0} };
+
+    ghost left = { λ gate post. Unit {0} };
+
+    fn enter(&self, _post: usize) {}
+
+    fn leave(&self, _post: usize) {}
+
+    fn damaged(&self, name: &FileName, at: u64) {
+        self.damage(name, at);
+    }
+}
+
+/// A door whose service may have a log.
+pub trait Logged {
+    /// Where those hand in what is to be told who serve its links.
+    fn log(&self) -> Log;
 }

@@ -21,6 +21,7 @@ ghost use Rattle.command_words.specs.declared.command.StoreCommand.TheVariants a
 ghost use Rattle.command_words.specs.declared.service_words.ServeWords.{ServeWords as Numbers};
 
 use crate::opened::{Came, out_of_memory};
+use crate::service_log::{Log, Logged};
 use act_model::laws::soundness_stays;
 use archive_actors::Shared;
 use archive_core::Archive;
@@ -28,7 +29,7 @@ use archive_core::laws::turns_lose_no_more;
 use command_words::Status;
 use disk_model::Disk;
 use edge_io::{Clock, Door};
-use link_service::{AllServed, NoGate, Post, serve_all};
+use link_service::{AllServed, Post, serve_all};
 use std::alloc::Global;
 use std::sync::Wait;
 use std::thread::Threads;
@@ -41,7 +42,7 @@ pub fn serve_posts<
     R: Threads + Wait + Sync,
     D: Disk + Send,
     C: Clock + Drop + Send,
-    W: Door + Send,
+    W: Door + Logged + Send,
 >(rt: &R, alloc: Global, store: TierStore<D>, posts: &mut [Post<W>], clock: &mut C) -> Came<D>
 where
     D::Reader: Send,
@@ -64,7 +65,8 @@ where
         Ok(archive) => archive,
         Err(store) => return out_of_memory(store),
     };
-    match serve_archive(rt, alloc, archive, posts, clock) {
+    let log = log_of(posts);
+    match serve_archive(rt, alloc, archive, posts, clock, &log) {
         Ok((told, archive)) => Came {
             status: served_status(told),
             disk: archive.into_store().into_disk(),
@@ -74,8 +76,8 @@ where
     }
 }
 
-/// Serves all posts on an archive that has as many doors, to the ends of their doors. `Err` comes for want of memory alone, and gives the
-/// archive back.
+/// Serves all posts on an archive that has as many doors, to the ends of their doors, and hands in to `log` what is to be told. `Err` comes
+/// for want of memory alone, and gives the archive back.
 pub fn serve_archive<
     R: Threads + Wait + Sync,
     D: Disk + Send,
@@ -87,6 +89,7 @@ pub fn serve_archive<
     archive: Archive<D>,
     posts: &mut [Post<W>],
     clock: &mut C,
+    log: &Log,
 ) -> Result<(AllServed, Archive<D>), Archive<D>>
 where
     D::Reader: Send,
@@ -99,8 +102,16 @@ where
 {
     turns_lose_no_more::<D>();
     match Rooms::new(alloc, Shared::new(archive)) {
-        Ok((rooms, pass)) => Ok(serve_in_rooms(rt, alloc, rooms, pass, posts, clock)),
+        Ok((rooms, pass)) => Ok(serve_in_rooms(rt, alloc, rooms, pass, posts, clock, log)),
         Err(shared) => Err(shared.into_inner()),
+    }
+}
+
+// Where those hand in what is to be told who work at these posts.
+fn log_of<W: Logged>(posts: &[Post<W>]) -> Log {
+    match posts.first() {
+        Some(post) => post.door.log(),
+        None => Log::none(),
     }
 }
 
@@ -112,6 +123,7 @@ fn serve_in_rooms<R: Threads + Wait + Sync, D: Disk + Send, C: Clock + Drop + Se
     mut pass: Pass<Shared<Archive<D>>>,
     posts: &mut [Post<W>],
     clock: &mut C,
+    log: &Log,
 ) -> (AllServed, Archive<D>)
 where
     D::Reader: Send,
@@ -123,7 +135,7 @@ where
         × PostsLeft W.is_closed W.door_faults W.ledger (λ kind l. IsServed kind W.L.Sink.written W.L.Source.read_faults W.L.Sink.write_faults l) began result.0 posts.old posts.new }
     ensures clock { Gives (C.coming clock.old) (C.coming clock.new) [] }
 {
-    let told = serve_all(rt, alloc, &rooms, &mut pass, posts, clock, &NoGate);
+    let told = serve_all(rt, alloc, &rooms, &mut pass, posts, clock, log);
     (told, rooms.close(pass).into_inner())
 }
 

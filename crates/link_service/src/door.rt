@@ -10,6 +10,7 @@ use crate::gate::Gate;
 use crate::link::serve_link;
 use crate::served::{Kind, Served};
 use act_model::{Actor, Spent, ask_door_done};
+use disk_model::ReadAt;
 use edge_io::{Clock, Door, Next};
 use std::alloc::Global;
 use std::sync::Wait;
@@ -38,7 +39,7 @@ enum Asked {
 /// Serves all links of a door, each of one kind: asks the door for them to its end, serves each, gives each back, and then counts the door
 /// off. It goes on behind a fault of a link and behind want of memory.
 ///
-/// `gate` is told of each link before and after it is served, with the number `post`.
+/// `gate` is told of each link before and after it is served, with the number `post`, and of a damaged file that ended its reply.
 ///
 /// The acts are those of the links' sessions, one session after another, and then one `DoorDone`. `Spent` comes only where no act was left
 /// for one of them.
@@ -116,7 +117,7 @@ fn serve_next<A: Actor, W: Door, C: Clock, G: Gate>(
         Next::Link(mut link) => {
             gate.enter(post);
             let served = serve_link(rt, alloc, actor, kind, &mut link, clock);
-            gate.leave(post);
+            tell_served(gate, post, &served);
             door.back(link);
             match served {
                 Served::Spent => return Asked::Spent,
@@ -127,4 +128,14 @@ fn serve_next<A: Actor, W: Door, C: Clock, G: Gate>(
         Next::Closed => Asked::End { failed: false },
         Next::Failed => Asked::End { failed: true },
     }
+}
+
+// Tells the gate of a link that was served, and of the damage that its reply met.
+fn tell_served<R: ReadAt, G: Gate>(gate: &G, post: usize, served: &Served<R>)
+    ensures told { G.left gate.now post }
+{
+    if let Served::Damaged { name, at } = served {
+        gate.damaged(name, *at);
+    }
+    gate.leave(post);
 }

@@ -1,6 +1,8 @@
 // What is told of links as they are served.
 ghost use Rattle.std.specs.Prelude.{ℕ};
 
+use disk_model::FileName;
+
 /// Is told of each link that is served.
 pub trait Gate {
     // It was told that a link is to be served at this post.
@@ -16,6 +18,9 @@ pub trait Gate {
     /// The link was served.
     fn leave(&self, post: usize)
         ensures told { left self.now post };
+
+    /// A reply ended at this place of this file, where its first bad line begins.
+    fn damaged(&self, _name: &FileName, _at: u64) {}
 }
 
 /// Does nothing of it.

@@ -17,7 +17,7 @@ returns-in-Spent-clause-asked g c =
       link = c.serve_link-served.new.link;
       result = c.serve_link-served.result;
       fresh = gives.3;
-      serves = (c.serve_link-served.ensures.serves, (c.enter.ensures.told, c.leave.ensures.told));
+      serves = (c.serve_link-served.ensures.serves, (c.enter.ensures.told, c.tell_served.ensures.told));
       returned = c.back.ensures.back.2 ∙ (ap (λ o. option_map (one_back c.serve_link-served.new.link) o) gives.2 ∙ back_one c.serve_link-served.new.link (g.W.Door.ledger c.args.door.now));
       faults_rise = rw c.back.ensures.back.1 c.in-Link.ensures.faults;
     }
@@ -33,7 +33,7 @@ returns-in-Memory-clause-asked g c =
         link = c.serve_link-served.new.link;
         result = c.serve_link-served.result;
         fresh = gives.3;
-        serves = (c.serve_link-served.ensures.serves, (c.enter.ensures.told, c.leave.ensures.told));
+        serves = (c.serve_link-served.ensures.serves, (c.enter.ensures.told, c.tell_served.ensures.told));
         returned = c.back.ensures.back.2 ∙ (ap (λ o. option_map (one_back c.serve_link-served.new.link) o) gives.2 ∙ back_one c.serve_link-served.new.link (g.W.Door.ledger c.args.door.now));
         faults_rise = rw c.back.ensures.back.1 c.in-Link.ensures.faults;
       },
@@ -50,7 +50,7 @@ returns-in_default-clause-asked g c =
         link = c.serve_link-served.new.link;
         result = c.serve_link-served.result;
         fresh = gives.3;
-        serves = (c.serve_link-served.ensures.serves, (c.enter.ensures.told, c.leave.ensures.told));
+        serves = (c.serve_link-served.ensures.serves, (c.enter.ensures.told, c.tell_served.ensures.told));
         returned = c.back.ensures.back.2 ∙ (ap (λ o. option_map (one_back c.serve_link-served.new.link) o) gives.2 ∙ back_one c.serve_link-served.new.link (g.W.Door.ledger c.args.door.now));
         faults_rise = rw c.back.ensures.back.1 c.in-Link.ensures.faults;
       },
