@@ -30,7 +30,7 @@ use Rattle.act_model.specs.Growth.{Onward}
 use Rattle.act_model.specs.History.{Done, Entry, Runs, done_of, mine, own}
 use Rattle.act_model.specs.Laws.{AnswersAreOfActs}
 use Rattle.act_model.specs.Machine.{Machine}
-use Rattle.act_model.specs.Reply.{Reply}
+use Rattle.act_model.specs.Reply.{Reply, reply_of}
 use Rattle.act_model.specs.Rule.{Rule}
 use Rattle.act_model.specs.Sound.{IsSound}
 use Rattle.act_model.proofs.Histories.{mine-append, runs_onward}
@@ -39,10 +39,12 @@ use Rattle.archive_actors.specs.SeatLaws.{kept_append}
 use Rattle.archive_actors.specs.Steps.{SharedStands, all_kept, kept}
 use Rattle.archive_actors.specs.declared.shared.Shared.{Shared}
 use Rattle.archive_core.specs.Opening.{OpensAs}
+use Rattle.archive_core.proofs.RunOfActs.{room_runs_on}
 use Rattle.archive_core.specs.Parts.{parts}
 use Rattle.archive_core.specs.Running.{HoldsBetween, RunsOn}
 use Rattle.archive_core.specs.Stands.{Stands}
 use Rattle.archive_core.specs.declared.archive.Archive.{Archive}
+use Rattle.archiver_appliance.specs.declared.observed.Observed.{Observed}
 use Rattle.serving_end.specs.End.{EndsWell}
 use Rattle.serving_end.proofs.Works.{own_map}
 use Rattle.turns_end.specs.Acting.{EndsInTurns, HasFlushFault}
@@ -52,7 +54,7 @@ use Rattle.archiver_appliance.specs.Drilling.{IsBegunWith}
 use Rattle.archiver_appliance.specs.Outside.{HasNotFallen, IsCausedBy}
 use Rattle.archiver_appliance.specs.Judging.{IsOfOpened}
 use Rattle.archiver_appliance.specs.Run.{EndsAs, NoDamage}
-use Rattle.archiver_appliance.specs.Serving.{HasFailedFlush, LeavesArchive, LeavesRoom, ServesFrom, first_of, status_of}
+use Rattle.archiver_appliance.specs.Serving.{ArchiveStep, HasFailedFlush, LeavesArchive, LeavesRoom, ServesFrom, first_of, status_of}
 use Rattle.command_words.specs.declared.command.StoreCommand.TheVariants as command
 use Rattle.command_words.specs.declared.service_words.ServeWords.{ServeWords}
 use Rattle.archiver_appliance.proofs.Acting.{both_hold, count_given, handed, opens_again, rose_given, tells_headers, unopened_given}
@@ -116,34 +118,34 @@ first_is_last steps rooms pass opens = record {
 pub numbers_left : {S A B : Type 0} (steps : S → ℕ → ℕ → A → B → S → Type 0) (rooms : Rooms S A B) (pass : Pass S A B) → Opens steps rooms (opened rooms) pass → (posts : ℕ) → posts < 2 ^ 32 → length (stands pass) + (posts + 2) ≤ most_numbers
 numbers_left steps rooms pass opens posts few = let one : length (stands pass) ≡ 1 = ap (λ (n : Standing). length n.stands) opens.standing in omega arith
 
-module _ {D R : Type 0} (disk : Ghosts D R) (steps : Shared (Archive D R) R → ℕ → ℕ → Act → Answer R → Shared (Archive D R) R → Type 0) (reply : Answer R → Reply) (rooms : Rooms (Shared (Archive D R) R) Act (Answer R)) (old : Pass (Shared (Archive D R) R) Act (Answer R))
+module _ {D R : Type 0} (disk : Ghosts D R) (steps : Shared (Observed D R) R → ℕ → ℕ → Act → Answer R → Shared (Observed D R) R → Type 0) (reply : Answer R → Reply) (rooms : Rooms (Shared (Observed D R) R) Act (Answer R)) (old : Pass (Shared (Observed D R) R) Act (Answer R))
     (opens : Opens steps rooms (opened rooms) old) where
-  abbrev Stood : Shared (Archive D R) R → Machine → Type 0
-  Stood room m = SharedStands (λ a n. Stands disk.tells (parts disk a) n) room m
+  abbrev Stood : Shared (Observed D R) R → Machine → Type 0
+  Stood room m = SharedStands (λ o n. Stands disk.tells (parts disk o.archive) n) room m
 
   -- a room that was just opened stands for what its archive stands for
-  pub stands_first : (m : Machine) → Stands disk.tells (parts disk (opened rooms).archive) m → StandsFor steps Stood rooms old m
-  stands_first m s = record { is_pass = opens.rooms; begun = (m, s); now = subst (λ (h : List (RoomEntry (Shared (Archive D R) R) Act (Answer R))). Stood (end_of (opened rooms) h) m) (sym opens.knows) s }
+  pub stands_first : (m : Machine) → Stands disk.tells (parts disk (opened rooms).archive.archive) m → StandsFor steps Stood rooms old m
+  stands_first m s = record { is_pass = opens.rooms; begun = (m, s); now = subst (λ (h : List (RoomEntry (Shared (Observed D R) R) Act (Answer R))). Stood (end_of (opened rooms) h) m) (sym opens.knows) s }
 
-  module _ (new : Pass (Shared (Archive D R) R) Act (Answer R)) where
+  module _ (new : Pass (Shared (Observed D R) R) Act (Answer R)) where
     -- all that is known in the end was learnt
-    all_learnt : (more : List (RoomEntry (Shared (Archive D R) R) Act (Answer R))) → known new ≡ known old ++ more → known new ≡ more
-    all_learnt more is = is ∙ ap (λ (h : List (RoomEntry (Shared (Archive D R) R) Act (Answer R))). h ++ more) opens.knows
+    all_learnt : (more : List (RoomEntry (Shared (Observed D R) R) Act (Answer R))) → known new ≡ known old ++ more → known new ≡ more
+    all_learnt more is = is ∙ ap (λ (h : List (RoomEntry (Shared (Observed D R) R) Act (Answer R))). h ++ more) opens.knows
 
     failed_flush : HasFlushFault reply old new → HasFailedFlush (all_kept reply (known new))
     failed_flush f = record {
       front = all_kept reply f.front;
       flush = kept reply f.flush.who f.flush.act f.flush.answer;
       back = all_kept reply f.back;
-      is = ap (λ (h : List (RoomEntry (Shared (Archive D R) R) Act (Answer R))). all_kept reply h) (all_learnt f.more f.goes_on ∙ f.is) ∙ kept_append reply f.front (f.flush ∷ f.back);
-      last = own_map (λ (e : RoomEntry (Shared (Archive D R) R) Act (Answer R)). kept reply e.who e.act e.answer) (λ (e : RoomEntry (Shared (Archive D R) R) Act (Answer R)). e.who) (λ e. refl) f.flush.who f.back
-          ∙ ap (λ (h : List (RoomEntry (Shared (Archive D R) R) Act (Answer R))). all_kept reply h) f.last;
+      is = ap (λ (h : List (RoomEntry (Shared (Observed D R) R) Act (Answer R))). all_kept reply h) (all_learnt f.more f.goes_on ∙ f.is) ∙ kept_append reply f.front (f.flush ∷ f.back);
+      last = own_map (λ (e : RoomEntry (Shared (Observed D R) R) Act (Answer R)). kept reply e.who e.act e.answer) (λ (e : RoomEntry (Shared (Observed D R) R) Act (Answer R)). e.who) (λ e. refl) f.flush.who f.back
+          ∙ ap (λ (h : List (RoomEntry (Shared (Observed D R) R) Act (Answer R))). all_kept reply h) f.last;
       limit = f.limit;
       act = f.act;
       answered = f.answer;
     }
 
-    pub leaves_room : (doors : ℕ) (began : Bool) (told : AllServed) (left : Archive D R) → IsPassOf steps rooms new → left ≡ (end_of (opened rooms) (known new)).archive → (began ≡ false → known new ≡ known old) → (told.spent ≡ true → most_acts ≤ length (known new)) → (told.disk_fault ≡ true → HasFlushFault reply old new)
+    pub leaves_room : (doors : ℕ) (began : Bool) (told : AllServed) (left : Archive D R) → IsPassOf steps rooms new → left ≡ (end_of (opened rooms) (known new)).archive.archive → (began ≡ false → known new ≡ known old) → (told.spent ≡ true → most_acts ≤ length (known new)) → (told.disk_fault ≡ true → HasFlushFault reply old new)
         → ((m : Machine) → StandsFor steps Stood rooms old m → m.doors ≡ doors → told.spent ≡ false → told.memory ≡ false → told.disk_fault ≡ false → (mover : ℕ) × EndsInTurns steps Stood reply rooms old new m mover)
         → LeavesRoom disk steps reply (opened rooms) doors began told left
     leaves_room doors began told left is_pass is none spent failed ends = record {
@@ -159,22 +161,28 @@ module _ {D R : Type 0} (disk : Ghosts D R) (steps : Shared (Archive D R) R → 
           let same = sym (all_learnt e.more e.goes_on) in (
             one.0,
             e.after,
-            subst (λ (h : List (RoomEntry (Shared (Archive D R) R) Act (Answer R))). Runs m (all_kept reply h) e.after) same e.runs,
+            subst (λ (h : List (RoomEntry (Shared (Observed D R) R) Act (Answer R))). Runs m (all_kept reply h) e.after) same e.runs,
             subst (λ (a : Archive D R). Stands disk.tells (parts disk a) e.after) (sym is) e.stands_for.now,
-            subst (λ (h : List (RoomEntry (Shared (Archive D R) R) Act (Answer R))). EndsWell m (all_kept reply h) e.after one.0) same e.ends,
+            subst (λ (h : List (RoomEntry (Shared (Observed D R) R) Act (Answer R))). EndsWell m (all_kept reply h) e.after one.0) same e.ends,
           );
     }
 
 -- AN ARCHIVE THAT IS SHARED
 
-pub leaves_archive : {D R : Type 0} (disk : Ghosts D R) (steps : Shared (Archive D R) R → ℕ → ℕ → Act → Answer R → Shared (Archive D R) R → Type 0) (reply : Answer R → Reply) (room : Shared (Archive D R) R) (old : Archive D R) (doors : ℕ) (began : Bool) (told : AllServed) (left : Archive D R) → room.archive ≡ old
-    → ((acts : List (RoomEntry (Shared (Archive D R) R) Act (Answer R))) (m : Machine) → Stands disk.tells (parts disk room.archive) m → Legal steps room acts → RunsOn disk.tells (parts disk room.archive) m (all_kept reply acts) (parts disk (end_of room acts).archive))
+-- whatever order the turns take, the acts run in the machine, and lose no more than it does
+pub turns_run_on : {D R : Type 0} (disk : Ghosts D R) (reads : Bool) (bytes : R → List ℕ) (faults : R → ℕ) (acts : List (RoomEntry (Shared (Observed D R) R) Act (Answer R))) (room : Shared (Observed D R) R) (m : Machine)
+    → Stands disk.tells (parts disk room.archive.archive) m → Legal (ArchiveStep disk reads bytes faults) room acts
+    → RunsOn disk.tells (parts disk room.archive.archive) m (all_kept (reply_of reads bytes faults) acts) (parts disk (end_of room acts).archive.archive)
+turns_run_on {D} {R} disk reads bytes faults acts room m stands legal = room_runs_on disk.tells (λ (o : Observed D R). parts disk o.archive) reads bytes faults acts room m stands legal
+
+pub leaves_archive : {D R : Type 0} (disk : Ghosts D R) (steps : Shared (Observed D R) R → ℕ → ℕ → Act → Answer R → Shared (Observed D R) R → Type 0) (reply : Answer R → Reply) (room : Shared (Observed D R) R) (old : Archive D R) (doors : ℕ) (began : Bool) (told : AllServed) (left : Archive D R) → room.archive.archive ≡ old
+    → ((acts : List (RoomEntry (Shared (Observed D R) R) Act (Answer R))) (m : Machine) → Stands disk.tells (parts disk room.archive.archive) m → Legal steps room acts → RunsOn disk.tells (parts disk room.archive.archive) m (all_kept reply acts) (parts disk (end_of room acts).archive.archive))
     → LeavesRoom disk steps reply room doors began told left → LeavesArchive disk old doors began told left
 leaves_archive {D} {R} disk steps reply room old doors began told left is law leaves = subst (λ (a : Archive D R). LeavesArchive disk a doors began told left) is (record {
   entries = all_kept reply leaves.acts;
-  run = λ m stands. subst (λ (a : Archive D R). RunsOn disk.tells (parts disk room.archive) m (all_kept reply leaves.acts) (parts disk a)) (sym leaves.is_left) (law leaves.acts m stands leaves.legal);
-  none = λ is. ap (λ (h : List (RoomEntry (Shared (Archive D R) R) Act (Answer R))). all_kept reply h) (leaves.none is);
-  spent = λ so. subst (λ (n : ℕ). most_acts ≤ n) (sym (length-map leaves.acts (λ (e : RoomEntry (Shared (Archive D R) R) Act (Answer R)). kept reply e.who e.act e.answer))) (leaves.spent so);
+  run = λ m stands. subst (λ (a : Archive D R). RunsOn disk.tells (parts disk room.archive.archive) m (all_kept reply leaves.acts) (parts disk a)) (sym leaves.is_left) (law leaves.acts m stands leaves.legal);
+  none = λ is. ap (λ (h : List (RoomEntry (Shared (Observed D R) R) Act (Answer R))). all_kept reply h) (leaves.none is);
+  spent = λ so. subst (λ (n : ℕ). most_acts ≤ n) (sym (length-map leaves.acts (λ (e : RoomEntry (Shared (Observed D R) R) Act (Answer R)). kept reply e.who e.act e.answer))) (leaves.spent so);
   failed = leaves.failed;
   ends = leaves.ends;
 })

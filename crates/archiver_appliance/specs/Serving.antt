@@ -25,6 +25,7 @@ use Rattle.archive_core.specs.Parts.{parts}
 use Rattle.archive_core.specs.Running.{HoldsBetween, RunsOn}
 use Rattle.archive_core.specs.Stands.{Stands}
 use Rattle.archive_core.specs.declared.archive.Archive.{Archive}
+use Rattle.archiver_appliance.specs.declared.observed.Observed.{Observed}
 use Rattle.serving_end.specs.End.{EndsWell}
 use Rattle.serving_end.specs.declared.ends.FlushEnd.{FlushEnd}
 use Rattle.serving_end.specs.declared.ends.MoverEnd.{MoverEnd}
@@ -141,19 +142,19 @@ pub record HasFailedFlush (entries : List Entry) : Type 0 where
   pub answered : flush.answer ≡ answer.DiskFault
 
 -- a step of an archive that many share
-abbrev pub ArchiveStep : {D R : Type 0} → Ghosts D R → Bool → (R → List ℕ) → (R → ℕ) → Shared (Archive D R) R → ℕ → ℕ → Act → Answer R → Shared (Archive D R) R → Type 0
-ArchiveStep {D} {R} disk told bytes faults = SharedStep (λ a n. Stands disk.tells (parts disk a) n) (λ a e b. Leaves disk.tells (parts disk a) e (parts disk b)) told bytes faults
+abbrev pub ArchiveStep : {D R : Type 0} → Ghosts D R → Bool → (R → List ℕ) → (R → ℕ) → Shared (Observed D R) R → ℕ → ℕ → Act → Answer R → Shared (Observed D R) R → Type 0
+ArchiveStep {D} {R} disk told bytes faults = SharedStep (λ o n. Stands disk.tells (parts disk o.archive) n) (λ o e p. Leaves disk.tells (parts disk o.archive) e (parts disk p.archive)) told bytes faults
 
 -- All acts that were made in a room in which an archive is shared, and the archive as they left it: none where nobody began. Where
 -- nothing was wanting and the last flush didn't fail, they came to their end from whatever the archive stood for with as many doors.
-pub record LeavesRoom {D R : Type 0} (disk : Ghosts D R) (steps : Shared (Archive D R) R → ℕ → ℕ → Act → Answer R → Shared (Archive D R) R → Type 0) (reply : Answer R → Reply) (room : Shared (Archive D R) R) (doors : ℕ) (began : Bool) (told : AllServed) (left : Archive D R) : Type 0 where
-  pub acts : List (RoomEntry (Shared (Archive D R) R) Act (Answer R))
+pub record LeavesRoom {D R : Type 0} (disk : Ghosts D R) (steps : Shared (Observed D R) R → ℕ → ℕ → Act → Answer R → Shared (Observed D R) R → Type 0) (reply : Answer R → Reply) (room : Shared (Observed D R) R) (doors : ℕ) (began : Bool) (told : AllServed) (left : Archive D R) : Type 0 where
+  pub acts : List (RoomEntry (Shared (Observed D R) R) Act (Answer R))
   pub legal : Legal steps room acts
-  pub is_left : left ≡ (end_of room acts).archive
+  pub is_left : left ≡ (end_of room acts).archive.archive
   pub none : began ≡ false → acts ≡ []
   pub spent : told.spent ≡ true → most_acts ≤ length acts
   pub failed : told.disk_fault ≡ true → HasFailedFlush (all_kept reply acts)
-  pub ends : (m : Machine) → Stands disk.tells (parts disk room.archive) m → m.doors ≡ doors → told.spent ≡ false → told.memory ≡ false → told.disk_fault ≡ false
+  pub ends : (m : Machine) → Stands disk.tells (parts disk room.archive.archive) m → m.doors ≡ doors → told.spent ≡ false → told.memory ≡ false → told.disk_fault ≡ false
       → (mover : ℕ) × (after : Machine) × Runs m (all_kept reply acts) after × Stands disk.tells (parts disk left) after × EndsWell m (all_kept reply acts) after mover
 
 -- So it is of an archive that was shared: all that was done on it is one run from each state that it stood for.

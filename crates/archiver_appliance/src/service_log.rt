@@ -1,16 +1,23 @@
 // What a service hands in to be told.
+use crate::drops::{Drops, Whose};
 use disk_model::FileName;
 use folder_disk::{Faults, Met};
 use link_service::Gate;
+use series_model::Reason;
 use std::alloc::{AllocError, Global};
-use std::str;
-use std::sync::Arc;
+use std::sync::{Arc, Mutex, MutexGuard};
+use std::thread::yield_now;
+use std::{mem, str};
+
+// How often a lock is tried that nobody keeps for long.
+const TRIES: u32 = 1_000;
 
 // What those hand in who work in a service.
 #[derive(Drop)]
 struct Notes {
     alloc: Global,
     faults: Arc<Faults, Global>,
+    drops: Mutex<Drops>,
 }
 
 /// Where those who work in a service hand in what is to be told: nowhere, where nobody tells it.
@@ -28,7 +35,11 @@ impl Log {
     /// For a service.
     pub fn shared(alloc: Global) -> Result<Log, AllocError> {
         let faults = Faults::shared(alloc)?;
-        let notes = Notes { alloc, faults };
+        let notes = Notes {
+            alloc,
+            faults,
+            drops: Mutex::new(Drops::none(alloc)),
+        };
         Ok(Log {
             notes: Some(Arc::new(alloc, notes)?),
         })
@@ -66,9 +77,42 @@ impl Log {
             notes.damage(name, at);
         }
     }
+
+    /// A sample was dropped.
+    pub fn dropped(&self, reason: Reason, whose: Whose<'_>) {
+        let Some(notes) = &self.notes else {
+            return;
+        };
+        if let Some(mut drops) = notes.locked() {
+            drops.count(reason, whose);
+        }
+    }
+
+    /// Takes what was dropped and nobody took yet.
+    pub fn take_drops(&self) -> Option<Drops> {
+        let Some(notes) = &self.notes else {
+            return None;
+        };
+        let mut drops = notes.locked()?;
+        if drops.total() == 0 {
+            return None;
+        }
+        Some(mem::replace(&mut *drops, Drops::none(notes.alloc)))
+    }
 }
 
 impl Notes {
+    // Nothing where others have the lock whenever it is tried.
+    fn locked(&self) -> Option<MutexGuard<'_, Drops>> {
+        for _ in 0..TRIES {
+            if let Some(drops) = self.drops.try_lock() {
+                return Some(drops);
+            }
+            yield_now();
+        }
+        None
+    }
+
     // A file is damaged, in which the first bad line begins at this place.
     fn damage(&self, name: &FileName, at: u64) {
         let store = name.store;

@@ -20,12 +20,12 @@ ghost use Rattle.archiver_appliance.specs.Serving.{ArchiveStep, LeavesArchive, L
 ghost use Rattle.command_words.specs.declared.command.StoreCommand.TheVariants as asked;
 ghost use Rattle.command_words.specs.declared.service_words.ServeWords.{ServeWords as Numbers};
 
+use crate::observed::Observed;
 use crate::opened::{Came, out_of_memory};
 use crate::service_log::{Log, Logged};
 use act_model::laws::soundness_stays;
 use archive_actors::Shared;
 use archive_core::Archive;
-use archive_core::laws::turns_lose_no_more;
 use command_words::Status;
 use disk_model::Disk;
 use edge_io::{Clock, Door};
@@ -100,10 +100,10 @@ where
     ensures clock { Gives (C.coming clock.old) (C.coming clock.new) [] }
     ensures back { IfErr result (λ given. (given ≡ archive) × (posts.new ≡ posts.old) × (clock.new ≡ clock.old)) }
 {
-    turns_lose_no_more::<D>();
-    match Rooms::new(alloc, Shared::new(archive)) {
+    let observed = Observed::new(alloc, archive, log.again());
+    match Rooms::new(alloc, Shared::new(observed)) {
         Ok((rooms, pass)) => Ok(serve_in_rooms(rt, alloc, rooms, pass, posts, clock, log)),
-        Err(shared) => Err(shared.into_inner()),
+        Err(shared) => Err(shared.into_inner().into_archive()),
     }
 }
 
@@ -119,8 +119,8 @@ fn log_of<W: Logged>(posts: &[Post<W>]) -> Log {
 fn serve_in_rooms<R: Threads + Wait + Sync, D: Disk + Send, C: Clock + Drop + Send, W: Door + Send>(
     rt: &R,
     alloc: Global,
-    rooms: Rooms<Shared<Archive<D>>>,
-    mut pass: Pass<Shared<Archive<D>>>,
+    rooms: Rooms<Shared<Observed<D>>>,
+    mut pass: Pass<Shared<Observed<D>>>,
     posts: &mut [Post<W>],
     clock: &mut C,
     log: &Log,
@@ -129,14 +129,14 @@ where
     D::Reader: Send,
     W::L: Send,
     requires opens { Opens (ArchiveStep D.Disk D.Reader.tells D.Reader.bytes D.Reader.faults) rooms (opened rooms) pass }
-    requires stands { (m : Machine) × Stands D.tells (parts D.Disk (opened rooms).archive) m }
+    requires stands { (m : Machine) × Stands D.tells (parts D.Disk (opened rooms).archive.archive) m }
     requires few { length posts.old < 2 ^ 32 }
     ensures leaves { (began : Bool) × LeavesRoom D.Disk (ArchiveStep D.Disk D.Reader.tells D.Reader.bytes D.Reader.faults) (reply_of D.Reader.tells D.Reader.bytes D.Reader.faults) (opened rooms) (length posts.old) began result.0 result.1
         × PostsLeft W.is_closed W.door_faults W.ledger (λ kind l. IsServed kind W.L.Sink.written W.L.Source.read_faults W.L.Sink.write_faults l) began result.0 posts.old posts.new }
     ensures clock { Gives (C.coming clock.old) (C.coming clock.new) [] }
 {
     let told = serve_all(rt, alloc, &rooms, &mut pass, posts, clock, log);
-    (told, rooms.close(pass).into_inner())
+    (told, rooms.close(pass).into_inner().into_archive())
 }
 
 // The status of what a service came to: of what befell it, the first of these.

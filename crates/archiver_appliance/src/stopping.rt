@@ -77,7 +77,7 @@ pub fn watch<R: Files + Net + Clock + Wait>(
     let mut teller = Teller::new(rt);
     for _ in handles.forever() {
         let is_over = stop.over.load(Ordering::SeqCst);
-        teller.tell(rt, log);
+        teller.tell(rt, log, is_over);
         if is_over {
             return;
         }

@@ -58,11 +58,14 @@ impl Standing {
     }
 }
 
-/// Tells what was handed in: a fault when it is met, again each minute while it is met again, and once it wasn't for a minute.
+/// Tells what was handed in: a fault when it is met, again each minute while it is met again, and once it wasn't for a minute; and at most
+/// once a minute how many samples were dropped.
 #[derive(Drop)]
 pub struct Teller {
     begun: Option<Instant>,
     standing: Vec<Standing>,
+    // The seconds at which it told of dropped samples last.
+    dropped: Option<u64>,
 }
 
 impl Teller {
@@ -71,11 +74,12 @@ impl Teller {
         Teller {
             begun: Instant::now(rt).ok(),
             standing: Vec::new(rt.alloc()),
+            dropped: None,
         }
     }
 
-    /// Tells what is to be told by now.
-    pub fn tell(&mut self, rt: &HostRuntime, log: &Log) {
+    /// Tells what is to be told by now, or all, where the service is over.
+    pub fn tell(&mut self, rt: &HostRuntime, log: &Log, is_over: bool) {
         let now = self.seconds(rt);
         if let Some(faults) = log.take_faults() {
             for met in faults {
@@ -86,6 +90,23 @@ impl Teller {
             fault.tell(rt, now);
         }
         self.standing.retain(|fault| !fault.is_over(now));
+        if is_over || self.may_tell_drops(now) {
+            self.tell_drops(rt, log, now);
+        }
+    }
+
+    fn may_tell_drops(&self, now: u64) -> bool {
+        match self.dropped {
+            Some(told) => now.saturating_sub(told) >= MINUTE,
+            None => true,
+        }
+    }
+
+    fn tell_drops(&mut self, rt: &HostRuntime, log: &Log, now: u64) {
+        if let Some(drops) = log.take_drops() {
+            tell(rt, drops.text(rt.alloc()));
+            self.dropped = Some(now);
+        }
     }
 
     // How many seconds it has been at work.

@@ -5,23 +5,23 @@ use Rattle.act_model.specs.Reply.{reply_of}
 use Rattle.archive_core.specs.Parts.{parts}
 use Rattle.archive_core.specs.Stands.{Stands}
 use Rattle.archiver_appliance.specs.Serving.{ArchiveStep}
-use Rattle.archiver_appliance.proofs.Services.{gives_nothing, leaves_archive}
+use Rattle.archiver_appliance.proofs.Services.{gives_nothing, leaves_archive, turns_run_on}
 use Rattle.archiver_appliance.proofs.serving.serve_archive.Goals as goal
 
 pub serve_in_rooms-requires-clause-stands : goal.serve_in_rooms-requires-clause-stands
 serve_in_rooms-requires-clause-stands g c κs within =
-    let same = ap (λ room. room.archive) c.in-Ok.ensures.ok.opens ∙ c.new.ensures in
+    let same = ap (λ o. o.archive) (ap (λ room. room.archive) c.in-Ok.ensures.ok.opens ∙ c.new.ensures) ∙ c.new-observed.ensures in
     let s = c.requires.stands in
     (s.0, subst (λ a. Stands g.D.Disk.tells (parts g.D.Disk a) s.0) (sym same) s.1)
 
 pub returns-in-Ok-clause-leaves : goal.returns-in-Ok-clause-leaves
 returns-in-Ok-clause-leaves g c =
     let R = g.D.Reader.ReadAt in
-    let same = ap (λ room. room.archive) c.in-Ok.ensures.ok.opens ∙ c.new.ensures in
+    let same = ap (λ o. o.archive) (ap (λ room. room.archive) c.in-Ok.ensures.ok.opens ∙ c.new.ensures) ∙ c.new-observed.ensures in
     let left = c.serve_in_rooms.ensures.leaves in (
       left.0,
       leaves_archive g.D.Disk (ArchiveStep g.D.Disk R.tells R.bytes R.faults) (reply_of R.tells R.bytes R.faults) (opened c.in-Ok.rooms) c.args.archive (length c.args.posts.now) left.0 c.serve_in_rooms.result.0 c.serve_in_rooms.result.1 same
-          (λ acts m stands legal. c.turns_lose_no_more.ensures (opened c.in-Ok.rooms) acts m stands legal) left.1,
+          (λ acts m stands legal. turns_run_on g.D.Disk R.tells R.bytes R.faults acts (opened c.in-Ok.rooms) m stands legal) left.1,
       left.2,
     )
 

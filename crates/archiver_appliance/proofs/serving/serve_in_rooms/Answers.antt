@@ -22,10 +22,10 @@ pub returns-clause-leaves : goal.returns-clause-leaves
 returns-clause-leaves g c =
     let R = g.D.Reader.ReadAt in
     let steps = ArchiveStep g.D.Disk R.tells R.bytes R.faults in
-    let is = c.into_inner.ensures ∙ ap (λ room. room.archive) c.close.ensures in
+    let is = c.into_archive.ensures ∙ ap (λ o. o.archive) (c.into_inner.ensures ∙ ap (λ room. room.archive) c.close.ensures) in
     let few = numbers_left steps c.args.rooms c.args.pass c.requires.opens (length c.args.posts.now) c.requires.few in
     let left = posts_left _ _ _ _ _ _ _ _ (door_left _ _ _ _ _ _ _ _ _ _ _ _ _ _) (door_full _ _ _ _ _ _ _ _ _ _ _ _ _) c.args.rooms _ _ c.serve_all-told.result c.args.pass c.serve_all-told.new.pass c.args.posts.now c.serve_all-told.new.posts few c.serve_all-told.ensures.served in (
       left.began,
-      leaves_room g.D.Disk steps (reply_of R.tells R.bytes R.faults) c.args.rooms c.args.pass c.requires.opens c.serve_all-told.new.pass _ left.began c.serve_all-told.result c.into_inner.result c.serve_all-told.ensures.rooms is left.none left.spent c.serve_all-told.ensures.disk_fault c.serve_all-told.ensures.ends,
+      leaves_room g.D.Disk steps (reply_of R.tells R.bytes R.faults) c.args.rooms c.args.pass c.requires.opens c.serve_all-told.new.pass _ left.began c.serve_all-told.result c.into_archive.result c.serve_all-told.ensures.rooms is left.none left.spent c.serve_all-told.ensures.disk_fault c.serve_all-told.ensures.ends,
       left.posts,
     )

@@ -1,0 +1,103 @@
+// An archive whose answers are looked at for what is to be told.
+ghost use Rattle.std.specs.Prelude.{◌≡◌};
+
+use crate::drops::Whose;
+use crate::service_log::Log;
+use act_model::{Act, Answer};
+use archive_actors::Applies;
+use archive_core::Archive;
+use disk_model::Disk;
+use std::alloc::Global;
+
+// So many bytes of a name are told at most. That of a variable has no more.
+const LONGEST: usize = 128;
+
+// Whose sample was tried last.
+#[derive(Drop)]
+struct Tried {
+    // The row's, where a tick tried it, or else that of the name.
+    row: Option<u32>,
+    name: Vec<u8>,
+}
+
+impl Tried {
+    // Keeps whose sample an act tries, if it tries one.
+    fn note(&mut self, act: &Act) {
+        match act {
+            Act::Offer { name, .. } => {
+                let name = name.bytes();
+                self.row = None;
+                self.name.clear();
+                let _ = self
+                    .name
+                    .extend_from_slice(&name[..name.len().min(LONGEST)]);
+            }
+            Act::Tick { row, .. } => self.row = Some(*row),
+            _ => {}
+        }
+    }
+
+    fn whose(&self) -> Whose<'_> {
+        match self.row {
+            Some(row) => Whose::Row(row),
+            None => Whose::Name(self.name.as_slice()),
+        }
+    }
+}
+
+/// An archive that hands in what is to be told of its answers: the samples that it drops, and the damage that a move meets.
+#[derive(Drop)]
+pub struct Observed<D: Disk> {
+    archive: Archive<D>,
+    log: Log,
+    tried: Tried,
+}
+
+impl<D: Disk> Observed<D> {
+    /// This archive. It takes no memory.
+    pub fn new(alloc: Global, archive: Archive<D>, log: Log) -> Observed<D>
+        ensures { result.archive ≡ archive }
+    {
+        let tried = Tried {
+            row: None,
+            name: Vec::new(alloc),
+        };
+        Observed {
+            archive,
+            log,
+            tried,
+        }
+    }
+
+    /// The archive, given back.
+    pub fn into_archive(self) -> Archive<D>
+        ensures { result ≡ self.archive }
+    {
+        self.archive
+    }
+}
+
+impl<D: Disk> Applies for Observed<D> {
+    ghost use Rattle.archive_core.specs.Leaving.{Leaves};
+    ghost use Rattle.archive_core.specs.Parts.{parts};
+    ghost use Rattle.archive_core.specs.Stands.{Stands};
+
+    type Reader = D::Reader;
+
+    ghost stands = { λ o m. Stands D.tells (parts D.Disk o.archive) m };
+
+    ghost leaves = { λ o e p. Leaves D.tells (parts D.Disk o.archive) e (parts D.Disk p.archive) };
+
+    ghost sound = { λ o m s. s.sound };
+
+    fn apply(&mut self, who: u64, act: Act) -> Answer<D::Reader> {
+        self.tried.note(&act);
+        let answer = self.archive.apply(who, act);
+        match &answer {
+            Answer::Dropped(reason) => self.log.dropped(*reason, self.tried.whose()),
+            Answer::Damaged { name, at } => self.log.damage(name, *at),
+            _ => {}
+        }
+        answer
+    }
+}
