@@ -225,7 +225,7 @@ module _ {D R : Type 0} (disk : Ghosts D R) (old : D) where
 
   -- WHAT IS SERVED
 
-  module _ (hours : ℕ) (archive left : Archive D R) (began : Bool) (told : AllServed) (posts : List (Post (Listing Both))) (registered : RegisteredOn 4 archive) (leaves : LeavesArchive disk archive 2 began told left) (feeds : FeedsLeft hours began told posts) where
+  module _ (hours : ℕ) (archive left : Archive D R) (began : Bool) (told : AllServed) (posts : List (Post (Listing Both))) (registered : RegisteredOn 4 archive) (Given : Machine → List Entry → Type 0) (leaves : LeavesArchive disk archive 2 Given began told left) (feeds : FeedsLeft hours began told posts) where
     -- what one began who found nothing wanting
     clean_began : (b : Bool) → FeedsLeft hours b told posts → IsClean told → b ≡ true
     clean_began true left clean = refl

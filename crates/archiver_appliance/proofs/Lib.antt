@@ -10,6 +10,7 @@ pub mod DrillReads
 pub mod DrillRuns
 pub mod Drills
 pub mod Gotten
+pub mod Histories
 pub mod Ingests
 pub mod Judgements
 pub mod LeftFiles
@@ -21,6 +22,7 @@ pub mod Refusals
 pub mod Retrievals
 pub mod Services
 pub mod ServingAll
+pub mod Sessions
 pub mod Spending
 pub mod StoppedMoves
 pub mod Tallies

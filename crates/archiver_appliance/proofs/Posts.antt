@@ -28,7 +28,7 @@ use Rattle.link_service.specs.declared.posts.Post.{Post}
 use Rattle.link_service.specs.declared.served.Kind.{Kind}
 use Rattle.link_service.specs.declared.service.AllServed.{AllServed}
 use Rattle.link_service.specs.Doors.{IsServed, ServesDoorAt}
-use Rattle.link_service.specs.Service.{NumbersSpent, PostWork, ServesAll, ServesPost, at_door, at_flushes, at_moves, fails, finds_none, told_of, told_want}
+use Rattle.link_service.specs.Service.{AllWorked, NumbersSpent, PostWork, ServesAll, ServesPost, at_door, at_flushes, at_moves, fails, finds_none, told_of, told_want}
 use Rattle.archiver_appliance.specs.Serving.{CameOfPosts, DoorLeft, EachOf, HasFailed, IsUnserved, PostServed, PostsLeft, ServesPosts, are_not, on_archive, first_of, status_of}
 use Rattle.command_words.specs.declared.command.Command.{Command}
 use Rattle.command_words.specs.declared.command.Command.TheVariants.{Drill, Extract, OverStore}
@@ -70,18 +70,20 @@ module _ {A S B C D L : Type 0} (Serves : Kind → ℕ → A → Option Moments 
   ends_at [] = refl
   ends_at (w ∷ ws) = ap (λ es. at_door w.served ∷ es) (ends_at ws)
 
-  -- what is left of the posts, and what the last pass knows then
-  pub record LeftKnowing (told : AllServed) (old new : Pass S Act B) (olds news : List (Post D)) : Type 0 where
+  -- what is left of the posts, what the last pass knows then, and what more is said where all worked
+  pub record LeftKnowing (Worked : Type 0) (told : AllServed) (old new : Pass S Act B) (olds news : List (Post D)) : Type 0 where
     pub began : Bool
     pub posts : PostsLeft is_closed faults ledger Is began told olds news
+    pub worked : began ≡ true → Worked
     pub none : began ≡ false → known new ≡ known old
     pub spent : told.spent ≡ true → most_acts ≤ length (known new)
 
   -- where the pass stands for so few numbers that those of all who serve are left
-  pub posts_left : (steps : S → ℕ → ℕ → Act → B → S → Type 0) (reply : B → Reply) (told : AllServed) (old new : Pass S Act B) (olds news : List (Post D)) → length (stands old) + (length olds + 2) ≤ most_numbers
-      → ServesAll Serves pass_of rooms_of coming steps reply rooms told old new olds news → LeftKnowing told old new olds news
-  posts_left steps reply told old new olds news few (inl all) = record {
+  pub posts_left : (steps : S → ℕ → ℕ → Act → B → S → Type 0) (reply : B → Reply) (told : AllServed) (old new : Pass S Act B) (olds news : List (Post D)) (Worked : Type 0) → (AllWorked Serves pass_of rooms_of coming steps reply rooms told old new olds news → Worked)
+      → length (stands old) + (length olds + 2) ≤ most_numbers → ServesAll Serves pass_of rooms_of coming steps reply rooms told old new olds news → LeftKnowing Worked told old new olds news
+  posts_left steps reply told old new olds news Worked works few (inl all) = record {
     began = true;
+    worked = λ yes. works all;
     posts = record {
       served = map (λ (w : W). w.served) all.works;
       each = rw (all.posts, all.posts') (each_left all.works all.serve);
@@ -92,11 +94,12 @@ module _ {A S B C D L : Type 0} (Serves : Kind → ℕ → A → Option Moments 
     none = λ is. absurd (false≢true (sym is));
     spent = λ spent. all_spent Serves pass_of rooms_of coming full rooms new steps reply told old olds news all spent;
   }
-  posts_left steps reply told old new olds news few (inr nobody) =
+  posts_left steps reply told old new olds news Worked works few (inr nobody) =
       let lacks = want nobody.1 in
       record {
         began = false;
         posts = record { same = nobody.0; want = lacks.0 };
+        worked = λ is. absurd (false≢true is);
         none = λ is. ap (λ (p : Pass S Act B). known p) lacks.1;
         spent = λ spent. absurd (false≢true (sym (ap (λ (t : AllServed). t.spent) lacks.0) ∙ spent));
       }

@@ -145,14 +145,16 @@ module _ {D R : Type 0} (disk : Ghosts D R) (steps : Shared (Observed D R) R →
       answered = f.answer;
     }
 
-    pub leaves_room : (doors : ℕ) (began : Bool) (told : AllServed) (left : Archive D R) → IsPassOf steps rooms new → left ≡ (end_of (opened rooms) (known new)).archive.archive → (began ≡ false → known new ≡ known old) → (told.spent ≡ true → most_acts ≤ length (known new)) → (told.disk_fault ≡ true → HasFlushFault reply old new)
+    pub leaves_room : (doors : ℕ) (Given : Machine → List Entry → Type 0) (began : Bool) (told : AllServed) (left : Archive D R) → IsPassOf steps rooms new → left ≡ (end_of (opened rooms) (known new)).archive.archive → (began ≡ false → known new ≡ known old)
+        → (began ≡ true → (m : Machine) → Stands disk.tells (parts disk (opened rooms).archive.archive) m → Given m (all_kept reply (known new))) → (told.spent ≡ true → most_acts ≤ length (known new)) → (told.disk_fault ≡ true → HasFlushFault reply old new)
         → ((m : Machine) → StandsFor steps Stood rooms old m → m.doors ≡ doors → told.spent ≡ false → told.memory ≡ false → told.disk_fault ≡ false → (mover : ℕ) × EndsInTurns steps Stood reply rooms old new m mover)
-        → LeavesRoom disk steps reply (opened rooms) doors began told left
-    leaves_room doors began told left is_pass is none spent failed ends = record {
+        → LeavesRoom disk steps reply (opened rooms) doors Given began told left
+    leaves_room doors Given began told left is_pass is none given spent failed ends = record {
       acts = known new;
       legal = is_pass.belongs.legal;
       is_left = is;
       none = λ is. none is ∙ opens.knows;
+      given = given;
       spent = spent;
       failed = λ fault. failed_flush (failed fault);
       ends = λ m s as_many spent memory fault.
@@ -175,13 +177,14 @@ pub turns_run_on : {D R : Type 0} (disk : Ghosts D R) (reads : Bool) (bytes : R 
     → RunsOn disk.tells (parts disk room.archive.archive) m (all_kept (reply_of reads bytes faults) acts) (parts disk (end_of room acts).archive.archive)
 turns_run_on {D} {R} disk reads bytes faults acts room m stands legal = room_runs_on disk.tells (λ (o : Observed D R). parts disk o.archive) reads bytes faults acts room m stands legal
 
-pub leaves_archive : {D R : Type 0} (disk : Ghosts D R) (steps : Shared (Observed D R) R → ℕ → ℕ → Act → Answer R → Shared (Observed D R) R → Type 0) (reply : Answer R → Reply) (room : Shared (Observed D R) R) (old : Archive D R) (doors : ℕ) (began : Bool) (told : AllServed) (left : Archive D R) → room.archive.archive ≡ old
+pub leaves_archive : {D R : Type 0} (disk : Ghosts D R) (steps : Shared (Observed D R) R → ℕ → ℕ → Act → Answer R → Shared (Observed D R) R → Type 0) (reply : Answer R → Reply) (room : Shared (Observed D R) R) (old : Archive D R) (doors : ℕ) (Given : Machine → List Entry → Type 0) (began : Bool) (told : AllServed) (left : Archive D R) → room.archive.archive ≡ old
     → ((acts : List (RoomEntry (Shared (Observed D R) R) Act (Answer R))) (m : Machine) → Stands disk.tells (parts disk room.archive.archive) m → Legal steps room acts → RunsOn disk.tells (parts disk room.archive.archive) m (all_kept reply acts) (parts disk (end_of room acts).archive.archive))
-    → LeavesRoom disk steps reply room doors began told left → LeavesArchive disk old doors began told left
-leaves_archive {D} {R} disk steps reply room old doors began told left is law leaves = subst (λ (a : Archive D R). LeavesArchive disk a doors began told left) is (record {
+    → LeavesRoom disk steps reply room doors Given began told left → LeavesArchive disk old doors Given began told left
+leaves_archive {D} {R} disk steps reply room old doors Given began told left is law leaves = subst (λ (a : Archive D R). LeavesArchive disk a doors Given began told left) is (record {
   entries = all_kept reply leaves.acts;
   run = λ m stands. subst (λ (a : Archive D R). RunsOn disk.tells (parts disk room.archive.archive) m (all_kept reply leaves.acts) (parts disk a)) (sym leaves.is_left) (law leaves.acts m stands leaves.legal);
   none = λ is. ap (λ (h : List (RoomEntry (Shared (Observed D R) R) Act (Answer R))). all_kept reply h) (leaves.none is);
+  given = leaves.given;
   spent = λ so. subst (λ (n : ℕ). most_acts ≤ n) (sym (length-map leaves.acts (λ (e : RoomEntry (Shared (Observed D R) R) Act (Answer R)). kept reply e.who e.act e.answer))) (leaves.spent so);
   failed = leaves.failed;
   ends = leaves.ends;
@@ -242,11 +245,11 @@ module _ {D R : Type 0} (disk : Ghosts D R) (old left : Archive D R) (entries : 
       let one : DiskRose m.faults run.after.faults = flush_rose answers entries m run.after stands.sound run.runs f in
       subst (λ (n : ℕ). DiskRose n (disk.faults left.store.disk)) stands.faults (subst (λ (n : ℕ). DiskRose m.faults n) run.stands.faults one)
 
-pub serves_from : {D R : Type 0} (disk : Ghosts D R) (config : ConfigState) (held : Stores) (doors : ℕ) (old left : Archive D R) (entries : List Entry) (began : Bool) (told : AllServed) → (begun : IsBegunWith disk config held doors old) → RunsOn disk.tells (parts disk old) begun.start entries (parts disk left)
-    → (began ≡ false → entries ≡ []) → (told.spent ≡ true → most_acts ≤ length entries) → (told.disk_fault ≡ true → HasFailedFlush entries)
+pub serves_from : {D R : Type 0} (disk : Ghosts D R) (config : ConfigState) (held : Stores) (doors : ℕ) (old left : Archive D R) (entries : List Entry) (Given : Machine → List Entry → Type 0) (began : Bool) (told : AllServed) → (begun : IsBegunWith disk config held doors old) → RunsOn disk.tells (parts disk old) begun.start entries (parts disk left)
+    → (began ≡ false → entries ≡ []) → (began ≡ true → Given begun.start entries) → (told.spent ≡ true → most_acts ≤ length entries) → (told.disk_fault ≡ true → HasFailedFlush entries)
     → ((m : Machine) → Stands disk.tells (parts disk old) m → m.doors ≡ doors → told.spent ≡ false → told.memory ≡ false → told.disk_fault ≡ false → (mover : ℕ) × (after : Machine) × Runs m entries after × Stands disk.tells (parts disk left) after × EndsWell m entries after mover)
-    → ServesFrom (λ image. ⊥) disk.tells config held doors began told (disk.past old.store.disk) (disk.past left.store.disk)
-serves_from {D} {R} disk config held doors old left entries began told begun run none spent failed ends = record {
+    → ServesFrom (λ image. ⊥) disk.tells config held doors Given began told (disk.past old.store.disk) (disk.past left.store.disk)
+serves_from {D} {R} disk config held doors old left entries Given began told begun run none given spent failed ends = record {
   start = begun.start;
   opened = begun.opened;
   with_doors = begun.with_doors;
@@ -257,6 +260,7 @@ serves_from {D} {R} disk config held doors old left entries began told begun run
   any_moment = λ t stood. passes_weaker (λ a image. HoldsBetween (granularities (seen disk old.store).manifests) begun.start entries run.after image) (λ a image. ⊥ ⊎ HoldsBetween (stores_of config) begun.start entries run.after image) (disk.past old.store.disk) (disk.past left.store.disk)
       (run.any_moment t (begun.opened.told ∙ both_hold disk.tells held.stands t stood)) (λ a image l h. inr (subst (λ (gs : List Granularity). HoldsBetween gs begun.start entries run.after image) gs_is h));
   none = none;
+  given = given;
   spent = spent;
   failed = failed;
   ends = λ acts memory fault.
@@ -271,8 +275,9 @@ serves_from {D} {R} disk config held doors old left entries began told begun run
     gs_is = sym begun.stands.rule.granularity ∙ ap (λ (r : Rule). r.granularity) begun.opened.rule
 
 -- an opening before them
-pub serves_behind : (Before : Files → Type 0) (tells : Bool) (config : ConfigState) (held : Stores) (doors : ℕ) (began : Bool) (told : AllServed) (old mid new : Past) → Passes (λ a image. Before image) old mid → ServesFrom (λ image. ⊥) tells config held doors began told mid new → ServesFrom Before tells config held doors began told old new
-serves_behind Before tells config held doors began told old mid new opening from = record {
+pub serves_behind : (Before : Files → Type 0) (tells : Bool) (config : ConfigState) (held : Stores) (doors : ℕ) (Given : Machine → List Entry → Type 0) (began : Bool) (told : AllServed) (old mid new : Past) → Passes (λ a image. Before image) old mid → ServesFrom (λ image. ⊥) tells config held doors Given began told mid new
+    → ServesFrom Before tells config held doors Given began told old new
+serves_behind Before tells config held doors Given began told old mid new opening from = record {
   start = from.start;
   opened = from.opened;
   with_doors = from.with_doors;
@@ -285,6 +290,7 @@ serves_behind Before tells config held doors began told old mid new opening from
       passes_then All (λ a image. ⊥ ⊎ HoldsBetween (stores_of config) from.start from.entries from.end image) old mid new (passes_weaker (λ a image. Before image) All old mid opening (λ a image left h. inl h)) (from.any_moment t stood)
       (λ a b c left h now is. by_either c is);
   none = from.none;
+  given = from.given;
   spent = from.spent;
   failed = from.failed;
   ends = from.ends;
@@ -297,13 +303,13 @@ serves_behind Before tells config held doors began told old mid new opening from
 -- THE DISK THAT IS HANDED BACK
 
 module _ {D R : Type 0} (disk : Ghosts D R) (store : TierStore D R) (fresh : IsFresh disk store) (doors : ℕ) (old left : Archive D R) (same : old.store ≡ store) (opens : OpensAs disk.tells (seen disk store) store.config doors (parts disk old))
-    (after : TierStore D R) (given : D) (back : after ≡ left.store) (is : given ≡ after.disk) (began : Bool) (told : AllServed) (leaves : LeavesArchive disk old doors began told left) where
-  pub served_from : (held : Stores) → Has disk.tells (seen disk store) held → ServesFrom (λ image. ⊥) disk.tells store.config held doors began told (disk.past store.disk) (disk.past given)
+    (after : TierStore D R) (given : D) (back : after ≡ left.store) (is : given ≡ after.disk) (Given : Machine → List Entry → Type 0) (began : Bool) (told : AllServed) (leaves : LeavesArchive disk old doors Given began told left) where
+  pub served_from : (held : Stores) → Has disk.tells (seen disk store) held → ServesFrom (λ image. ⊥) disk.tells store.config held doors Given began told (disk.past store.disk) (disk.past given)
   served_from held has =
       let begun = begins_with disk store fresh doors old opens held has in
-      let from = serves_from disk store.config held doors old left leaves.entries began told begun (leaves.run begun.start begun.stands) leaves.none leaves.spent leaves.failed leaves.ends in
-      subst (λ (s : TierStore D R). ServesFrom (λ image. ⊥) disk.tells store.config held doors began told (disk.past s.disk) (disk.past given)) same
-      (subst (λ (d : D). ServesFrom (λ image. ⊥) disk.tells store.config held doors began told (disk.past old.store.disk) (disk.past d)) (handed disk left after given back is) from)
+      let from = serves_from disk store.config held doors old left leaves.entries Given began told begun (leaves.run begun.start begun.stands) leaves.none (λ yes. leaves.given yes begun.start begun.stands) leaves.spent leaves.failed leaves.ends in
+      subst (λ (s : TierStore D R). ServesFrom (λ image. ⊥) disk.tells store.config held doors Given began told (disk.past s.disk) (disk.past given)) same
+      (subst (λ (d : D). ServesFrom (λ image. ⊥) disk.tells store.config held doors Given began told (disk.past old.store.disk) (disk.past d)) (handed disk left after given back is) from)
 
   first : (m : Machine) × Stands disk.tells (parts disk old) m
   first = stands_with disk store fresh doors old opens

@@ -5,6 +5,8 @@ use Rattle.edge_io.specs.Doors.{Ledger}
 use Rattle.edge_io.specs.declared.stream.Source.{Ghosts as OfSource}
 use Rattle.edge_io.specs.declared.stream.Sink.{Ghosts as OfSink}
 use Rattle.edge_io.specs.declared.clock.Clock.{Ghosts as OfClock}
+use Rattle.act_model.specs.History.{Entry}
+use Rattle.act_model.specs.Machine.{Machine}
 use Rattle.disk_model.specs.Files.{Files}
 use Rattle.disk_model.specs.declared.disk.Disk.{Ghosts}
 use Rattle.etl_rules.specs.Config.{ConfigState}
@@ -49,32 +51,32 @@ module _ {S K C D R : Type 0} (src : OfSource S) (snk : OfSink K) (clk : OfClock
   unmade : IsNotMade store.disk given status → IsTrue disk.tells → OnlyOpens (stores_of config) (disk.files first) (disk.files given) (disk.past first) (disk.past given)
   unmade not told = subst (λ (d : D). OnlyOpens (stores_of config) (disk.files first) (disk.files d) (disk.past first) (disk.past d)) (sym not.same) (opening told)
 
-  module _ {P L : Type 0} (is_closed : P → Bool) (faults : P → ℕ) (ledger : P → Option (Ledger L)) (Is : Kind → L → Type 0) (olds news : List (Post P)) (doors : ℕ) where
+  module _ {P L : Type 0} (is_closed : P → Bool) (faults : P → ℕ) (ledger : P → Option (Ledger L)) (Is : Kind → L → Type 0) (olds news : List (Post P)) (doors : ℕ) (Given : AllServed → Machine → List Entry → Type 0) where
     -- no archive could be made, or this was made of whatever the stores have
     abbrev Unmade : Type 0
     Unmade = IsNotMade store.disk given status × (clk.coming c' ≡ clk.coming c)
 
     abbrev Made : Bool → AllServed → Type 0
-    Made began told = (held : Stores) → Has disk.tells (seen disk store) held → ServesFrom (λ image. ⊥) disk.tells store.config held doors began told (disk.past store.disk) (disk.past given)
+    Made began told = (held : Stores) → Has disk.tells (seen disk store) held → ServesFrom (λ image. ⊥) disk.tells store.config held doors (Given told) began told (disk.past store.disk) (disk.past given)
 
     pub serve_makes : store.config ≡ config → ServesPosts is_closed faults ledger Is Unmade Made status olds news
-        → ServesPosts is_closed faults ledger Is (IsUnopenedFor config disk.tells (outside src snk clk disk s k c first) (outside src snk clk disk s k c' given)) (IsOfService config disk.tells doors (outside src snk clk disk s k c first) (outside src snk clk disk s k c' given)) status olds news
+        → ServesPosts is_closed faults ledger Is (IsUnopenedFor config disk.tells (outside src snk clk disk s k c first) (outside src snk clk disk s k c' given)) (IsOfService config disk.tells doors Given (outside src snk clk disk s k c first) (outside src snk clk disk s k c' given)) status olds news
     serve_makes settings serves =
-        serves_weaker is_closed faults ledger Is Unmade (IsUnopenedFor config disk.tells (outside src snk clk disk s k c first) (outside src snk clk disk s k c' given)) Made (IsOfService config disk.tells doors (outside src snk clk disk s k c first) (outside src snk clk disk s k c' given)) status olds news
+        serves_weaker is_closed faults ledger Is Unmade (IsUnopenedFor config disk.tells (outside src snk clk disk s k c first) (outside src snk clk disk s k c' given)) Made (IsOfService config disk.tells doors Given (outside src snk clk disk s k c first) (outside src snk clk disk s k c' given)) status olds news
         (λ not. (not.1, unmade not.0)) of_service serves
       where
-        of_service : (began : Bool) (told : AllServed) → Made began told → IsOfService config disk.tells doors (outside src snk clk disk s k c first) (outside src snk clk disk s k c' given) began told
+        of_service : (began : Bool) (told : AllServed) → Made began told → IsOfService config disk.tells doors Given (outside src snk clk disk s k c first) (outside src snk clk disk s k c' given) began told
         of_service began told made tells before after opens stand =
             let read = stands tells before after opens in
             let Before : Files → Type 0 = λ image. HoldsEither (stores_of config) before after image in
-            let from : ServesFrom Before disk.tells store.config read.held doors began told (disk.past first) (disk.past given) =
-            serves_behind Before disk.tells store.config read.held doors began told (disk.past first) (disk.past store.disk) (disk.past given) ((opening tells).either before after opens) (made read.held read.has) in
+            let from : ServesFrom Before disk.tells store.config read.held doors (Given told) began told (disk.past first) (disk.past given) =
+            serves_behind Before disk.tells store.config read.held doors (Given told) began told (disk.past first) (disk.past store.disk) (disk.past given) ((reopens tells).either before after opens) (made read.held read.has) in
             record {
               first = read.held;
               either = read.either;
               read = read.read;
-              from = subst (λ (x : ConfigState). ServesFrom Before true x read.held doors began told (disk.past first) (disk.past given)) settings
-                  (subst (λ (t : Bool). ServesFrom Before t store.config read.held doors began told (disk.past first) (disk.past given)) tells from);
+              from = subst (λ (x : ConfigState). ServesFrom Before true x read.held doors (Given told) began told (disk.past first) (disk.past given)) settings
+                  (subst (λ (t : Bool). ServesFrom Before t store.config read.held doors (Given told) began told (disk.past first) (disk.past given)) tells from);
             }
 
     pub serve_does : (numbers : ServeWords) → ServesPosts is_closed faults ledger Is Unmade Made status olds news

@@ -8,4 +8,5 @@ pub mod Reporting
 pub mod Retrieving
 pub mod Run
 pub mod Serving
+pub mod Sessions
 pub mod Tallying

@@ -1,5 +1,7 @@
 -- What a run came to, by its words.
 use Rattle.std.specs.Prelude.{◌≡◌, ◌⊎◌, ◌<◌, ◌+◌, ℕ, List, Bool, true, IsTrue, Option, IfSome, None, Some, slice_get}
+use Rattle.act_model.specs.History.{Entry}
+use Rattle.act_model.specs.Machine.{Machine}
 use Rattle.disk_model.specs.Files.{Files}
 use Rattle.edge_io.specs.Stream.{Rose}
 use Rattle.link_service.specs.declared.posts.Post.{Post}
@@ -136,16 +138,16 @@ pub record MakesOfRead (config : ConfigState) (asked : StoreCommand) (before aft
   pub makes : Makes config asked before after first old new status
   pub undamaged : NoDamage status
 
--- what a service with so many doors made of such a disk
-pub record MakesOfService (config : ConfigState) (doors : ℕ) (before after : Stores) (old new : Outside) (began : Bool) (told : AllServed) : Type 0 where
+-- what a service with so many doors made of such a disk, and what it gave by its acts
+pub record MakesOfService (config : ConfigState) (doors : ℕ) (Given : Machine → List Entry → Type 0) (before after : Stores) (old new : Outside) (began : Bool) (told : AllServed) : Type 0 where
   pub first : Stores
   pub either : IsEither before after first
   pub read : HoldsAll (stores_of config) old.files first
-  pub from : ServesFrom (HoldsEither (stores_of config) before after) true config first doors began told old.past new.past
+  pub from : ServesFrom (HoldsEither (stores_of config) before after) true config first doors Given began told old.past new.past
 
 -- so it is where the disk tells its files, and what they hold stands
-abbrev pub IsOfService : ConfigState → Bool → ℕ → Outside → Outside → Bool → AllServed → Type 0
-IsOfService config tells doors old new began told = IsTrue tells → (before after : Stores) → OpensEither (stores_of config) old.past before after → IsTrue before.stands → MakesOfService config doors before after old new began told
+abbrev pub IsOfService : ConfigState → Bool → ℕ → (AllServed → Machine → List Entry → Type 0) → Outside → Outside → Bool → AllServed → Type 0
+IsOfService config tells doors Given old new began told = IsTrue tells → (before after : Stores) → OpensEither (stores_of config) old.past before after → IsTrue before.stands → MakesOfService config doors (Given told) before after old new began told
 
 -- no archive was opened or made for a service
 abbrev pub IsUnopenedFor : ConfigState → Bool → Outside → Outside → Type 0

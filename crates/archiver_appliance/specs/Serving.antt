@@ -145,23 +145,26 @@ pub record HasFailedFlush (entries : List Entry) : Type 0 where
 abbrev pub ArchiveStep : {D R : Type 0} → Ghosts D R → Bool → (R → List ℕ) → (R → ℕ) → Shared (Observed D R) R → ℕ → ℕ → Act → Answer R → Shared (Observed D R) R → Type 0
 ArchiveStep {D} {R} disk told bytes faults = SharedStep (λ o n. Stands disk.tells (parts disk o.archive) n) (λ o e p. Leaves disk.tells (parts disk o.archive) e (parts disk p.archive)) told bytes faults
 
--- All acts that were made in a room in which an archive is shared, and the archive as they left it: none where nobody began. Where
--- nothing was wanting and the last flush didn't fail, they came to their end from whatever the archive stood for with as many doors.
-pub record LeavesRoom {D R : Type 0} (disk : Ghosts D R) (steps : Shared (Observed D R) R → ℕ → ℕ → Act → Answer R → Shared (Observed D R) R → Type 0) (reply : Answer R → Reply) (room : Shared (Observed D R) R) (doors : ℕ) (began : Bool) (told : AllServed) (left : Archive D R) : Type 0 where
+-- All acts that were made in a room in which an archive is shared, and the archive as they left it: none where nobody began. `Given` says
+-- what was given by them to those who came, from whatever the archive stood for. Where nothing was wanting and the last flush didn't fail,
+-- they came to their end from whatever the archive stood for with as many doors.
+pub record LeavesRoom {D R : Type 0} (disk : Ghosts D R) (steps : Shared (Observed D R) R → ℕ → ℕ → Act → Answer R → Shared (Observed D R) R → Type 0) (reply : Answer R → Reply) (room : Shared (Observed D R) R) (doors : ℕ) (Given : Machine → List Entry → Type 0) (began : Bool) (told : AllServed) (left : Archive D R) : Type 0 where
   pub acts : List (RoomEntry (Shared (Observed D R) R) Act (Answer R))
   pub legal : Legal steps room acts
   pub is_left : left ≡ (end_of room acts).archive.archive
   pub none : began ≡ false → acts ≡ []
+  pub given : began ≡ true → (m : Machine) → Stands disk.tells (parts disk room.archive.archive) m → Given m (all_kept reply acts)
   pub spent : told.spent ≡ true → most_acts ≤ length acts
   pub failed : told.disk_fault ≡ true → HasFailedFlush (all_kept reply acts)
   pub ends : (m : Machine) → Stands disk.tells (parts disk room.archive.archive) m → m.doors ≡ doors → told.spent ≡ false → told.memory ≡ false → told.disk_fault ≡ false
       → (mover : ℕ) × (after : Machine) × Runs m (all_kept reply acts) after × Stands disk.tells (parts disk left) after × EndsWell m (all_kept reply acts) after mover
 
 -- So it is of an archive that was shared: all that was done on it is one run from each state that it stood for.
-pub record LeavesArchive {D R : Type 0} (disk : Ghosts D R) (old : Archive D R) (doors : ℕ) (began : Bool) (told : AllServed) (left : Archive D R) : Type 0 where
+pub record LeavesArchive {D R : Type 0} (disk : Ghosts D R) (old : Archive D R) (doors : ℕ) (Given : Machine → List Entry → Type 0) (began : Bool) (told : AllServed) (left : Archive D R) : Type 0 where
   pub entries : List Entry
   pub run : (m : Machine) → Stands disk.tells (parts disk old) m → RunsOn disk.tells (parts disk old) m entries (parts disk left)
   pub none : began ≡ false → entries ≡ []
+  pub given : began ≡ true → (m : Machine) → Stands disk.tells (parts disk old) m → Given m entries
   pub spent : told.spent ≡ true → most_acts ≤ length entries
   pub failed : told.disk_fault ≡ true → HasFailedFlush entries
   pub ends : (m : Machine) → Stands disk.tells (parts disk old) m → m.doors ≡ doors → told.spent ≡ false → told.memory ≡ false → told.disk_fault ≡ false
@@ -177,10 +180,10 @@ pub record IsServedWell (tells : Bool) (config : ConfigState) (start : Machine) 
   pub leaves : IsTrue tells → OpensAgain config end past
 
 -- The archive was opened on what is held, with so many doors; all that anybody did on it were steps, in one order, and none where nobody
--- began; and the disk was given back. It is told of these acts what befell. At each moment a crash left what `Before` says, as of an opening;
+-- began; and the disk was given back. `Given` says what was given by these acts to those who came, and it is told of them what befell. At each moment a crash left what `Before` says, as of an opening;
 -- or what one within one of the acts leaves, which stands: of each variable it extends what was durable at first, and is extended by what is
 -- accepted in the end.
-pub record ServesFrom (Before : Files → Type 0) (tells : Bool) (config : ConfigState) (held : Stores) (doors : ℕ) (began : Bool) (told : AllServed) (old new : Past) : Type 0 where
+pub record ServesFrom (Before : Files → Type 0) (tells : Bool) (config : ConfigState) (held : Stores) (doors : ℕ) (Given : Machine → List Entry → Type 0) (began : Bool) (told : AllServed) (old new : Past) : Type 0 where
   pub start : Machine
   pub opened : IsOpenedOn tells config held start
   pub with_doors : start.doors ≡ doors
@@ -190,6 +193,7 @@ pub record ServesFrom (Before : Files → Type 0) (tells : Bool) (config : Confi
   pub leaves : IsTrue tells → OpensAgain config end new
   pub any_moment : IsTrue tells → IsTrue held.stands → Passes (λ a image. Before image ⊎ HoldsBetween (stores_of config) start entries end image) old new
   pub none : began ≡ false → entries ≡ []
+  pub given : began ≡ true → Given start entries
   pub spent : told.spent ≡ true → most_acts ≤ length entries
   pub failed : told.disk_fault ≡ true → HasFailedFlush entries
   pub ends : told.spent ≡ false → told.memory ≡ false → told.disk_fault ≡ false → IsServedWell tells config start entries new

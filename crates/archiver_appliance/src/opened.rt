@@ -19,6 +19,7 @@ ghost use Rattle.command_words.specs.declared.command.StoreCommand.TheVariants a
 ghost use Rattle.command_words.specs.declared.service_words.ServeWords.{ServeWords as Numbers};
 ghost use Rattle.link_service.specs.Doors.{IsServed};
 ghost use Rattle.archiver_appliance.specs.Serving.{ServesPosts};
+ghost use Rattle.archiver_appliance.specs.Sessions.{Given};
 
 use crate::ingesting::ingest_into;
 use crate::moving::move_due;
@@ -95,7 +96,7 @@ where
     ensures serve_alone { (numbers : Numbers) → command.entry ≡ asked.Serve numbers → (source.new ≡ source.old) × (sink.new ≡ sink.old) × Gives (C.coming clock.old) (C.coming clock.new) [] }
     ensures serves { (numbers : Numbers) → command.entry ≡ asked.Serve numbers
         → ServesPosts W.is_closed W.door_faults W.ledger (λ kind l. IsServed kind W.L.Sink.written W.L.Source.read_faults W.L.Sink.write_faults l) (IsUnopenedFor config.now D.tells (outside S.Source K.Sink C.Clock D.Disk source.old sink.old clock.old disk) (outside S.Source K.Sink C.Clock D.Disk source.new sink.new clock.new result.disk))
-        (IsOfService config.now D.tells (length posts.old) (outside S.Source K.Sink C.Clock D.Disk source.old sink.old clock.old disk) (outside S.Source K.Sink C.Clock D.Disk source.new sink.new clock.new result.disk)) result.status posts.old posts.new }
+        (IsOfService config.now D.tells (length posts.old) (λ told start entries. Given start D.Reader.tells D.Reader.faults W.L.Source.left W.L.Sink.written W.L.Sink.write_faults entries W.L.Source.read_faults W.is_closed W.door_faults W.ledger told posts.old posts.new) (outside S.Source K.Sink C.Clock D.Disk source.old sink.old clock.old disk) (outside S.Source K.Sink C.Clock D.Disk source.new sink.new clock.new result.disk)) result.status posts.old posts.new }
     ensures refused { IsRefused config.now D.tells (D.files disk) (number_of result.status) → (source.new ≡ source.old) × (sink.new ≡ sink.old) × (clock.new ≡ clock.old) }
     ensures unopened { IsTrue D.tells → IsUnopened (D.files result.disk) (D.opened result.disk) }
 {

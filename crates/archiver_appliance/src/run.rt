@@ -12,6 +12,7 @@ ghost use Rattle.command_words.specs.declared.service_words.ServeWords.{ServeWor
 ghost use Rattle.command_words.specs.declared.status.Status.{Status as StatusValue};
 ghost use Rattle.link_service.specs.Doors.{IsServed};
 ghost use Rattle.archiver_appliance.specs.Serving.{ServesPosts};
+ghost use Rattle.archiver_appliance.specs.Sessions.{Given};
 ghost use Rattle.command_words.specs.Command.{IsCommand, IsFaulty};
 ghost use Rattle.archiver_appliance.specs.Outside.{outside, IsCaused, IsQuiet, NoneFell};
 ghost use Rattle.command_words.specs.Status.{number_of};
@@ -104,7 +105,7 @@ where
     ensures serve_alone { (numbers : Numbers) → IsCommand (map (λ w. w.now) words.now) (OverStore (asked.Serve numbers)) → (source.new ≡ source.old) × (sink.new ≡ sink.old) × Gives (C.coming clock.old) (C.coming clock.new) [] }
     ensures serves { (numbers : Numbers) → IsCommand (map (λ w. w.now) words.now) (OverStore (asked.Serve numbers))
         → (status : StatusValue) × (result.status ≡ number_of status) × ServesPosts W.is_closed W.door_faults W.ledger (λ kind l. IsServed kind W.L.Sink.written W.L.Source.read_faults W.L.Sink.write_faults l) (IsUnopenedFor config.now D.tells (outside S.Source K.Sink C.Clock D.Disk source.old sink.old clock.old disk) (outside S.Source K.Sink C.Clock D.Disk source.new sink.new clock.new result.disk))
-        (IsOfService config.now D.tells (length posts.old) (outside S.Source K.Sink C.Clock D.Disk source.old sink.old clock.old disk) (outside S.Source K.Sink C.Clock D.Disk source.new sink.new clock.new result.disk)) status posts.old posts.new }
+        (IsOfService config.now D.tells (length posts.old) (λ told start entries. Given start D.Reader.tells D.Reader.faults W.L.Source.left W.L.Sink.written W.L.Sink.write_faults entries W.L.Source.read_faults W.is_closed W.door_faults W.ledger told posts.old posts.new) (outside S.Source K.Sink C.Clock D.Disk source.old sink.old clock.old disk) (outside S.Source K.Sink C.Clock D.Disk source.new sink.new clock.new result.disk)) status posts.old posts.new }
 
     // Where no count rose, each command is done that can be, or memory was wanting.
     ensures complete { (command : CommandValue) → IsCommand (map (λ w. w.now) words.now) command → CanBeDone config.now D.tells command (outside S.Source K.Sink C.Clock D.Disk source.old sink.old clock.old disk)
@@ -160,7 +161,7 @@ where
     ensures serve_alone { (numbers : Numbers) → IsCommand (map (λ w. w.now) words.now) (OverStore (asked.Serve numbers)) → (source.new ≡ source.old) × (sink.new ≡ sink.old) × Gives (C.coming clock.old) (C.coming clock.new) [] }
     ensures serves { (numbers : Numbers) → IsCommand (map (λ w. w.now) words.now) (OverStore (asked.Serve numbers))
         → ServesPosts W.is_closed W.door_faults W.ledger (λ kind l. IsServed kind W.L.Sink.written W.L.Source.read_faults W.L.Sink.write_faults l) (IsUnopenedFor config.now D.tells (outside S.Source K.Sink C.Clock D.Disk source.old sink.old clock.old disk) (outside S.Source K.Sink C.Clock D.Disk source.new sink.new clock.new result.disk))
-        (IsOfService config.now D.tells (length posts.old) (outside S.Source K.Sink C.Clock D.Disk source.old sink.old clock.old disk) (outside S.Source K.Sink C.Clock D.Disk source.new sink.new clock.new result.disk)) result.status posts.old posts.new }
+        (IsOfService config.now D.tells (length posts.old) (λ told start entries. Given start D.Reader.tells D.Reader.faults W.L.Source.left W.L.Sink.written W.L.Sink.write_faults entries W.L.Source.read_faults W.is_closed W.door_faults W.ledger told posts.old posts.new) (outside S.Source K.Sink C.Clock D.Disk source.old sink.old clock.old disk) (outside S.Source K.Sink C.Clock D.Disk source.new sink.new clock.new result.disk)) result.status posts.old posts.new }
     ensures unopened { IsTrue D.tells → IsUnopened (D.files result.disk) (D.opened result.disk) }
 {
     match command_of(words) {

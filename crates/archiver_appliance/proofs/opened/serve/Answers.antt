@@ -115,14 +115,14 @@ returns-in-Serve-clause-does g c =
     let new = outside g.S.Source g.K.Sink g.C.Clock g.D.Disk c.args.source.now c.args.sink.now c.serve_posts.new.clock c.serve_posts.result.disk in
     subst (λ (x : StoreCommand). Does config g.D.Disk.tells (OverStore x) old new c.serve_posts.result.status) (sym c.in-Serve.is)
     (serve_does g.S.Source g.K.Sink g.C.Clock g.D.Disk config c.args.disk c.in-Ok.store verdict c.in-Ok.ensures.stands (λ told. c.in-Ok.ensures.whole told refl) c.in-Ok.ensures.opens
-    c.args.source.now c.args.sink.now c.args.clock.now c.serve_posts.new.clock c.serve_posts.result.disk c.serve_posts.result.status _ _ _ _ _ _ _
+    c.args.source.now c.args.sink.now c.args.clock.now c.serve_posts.new.clock c.serve_posts.result.disk c.serve_posts.result.status _ _ _ _ _ _ _ _
     c.in-Serve.field-0 c.serve_posts.ensures.serves c.serve_posts.ensures.opened c.serve_posts.ensures.undamaged (c.serve_posts.ensures.ends c.in-Serve.field-0))
 
 pub returns-in-Serve-clause-serves : goal.returns-in-Serve-clause-serves
 returns-in-Serve-clause-serves g c numbers is =
     let verdict : OneVerdict = record { whole = c.one_verdict.ensures.whole; same = c.one_verdict.ensures.same; undamaged = c.one_verdict.ensures.undamaged } in
     serve_makes g.S.Source g.K.Sink g.C.Clock g.D.Disk c.args.config.now c.args.disk c.in-Ok.store verdict c.in-Ok.ensures.stands (λ told. c.in-Ok.ensures.whole told refl) c.in-Ok.ensures.opens
-    c.args.source.now c.args.sink.now c.args.clock.now c.serve_posts.new.clock c.serve_posts.result.disk c.serve_posts.result.status _ _ _ _ _ _ _ c.in-Ok.ensures.settings c.serve_posts.ensures.serves
+    c.args.source.now c.args.sink.now c.args.clock.now c.serve_posts.new.clock c.serve_posts.result.disk c.serve_posts.result.status _ _ _ _ _ _ _ _ c.in-Ok.ensures.settings c.serve_posts.ensures.serves
 
 pub returns-in-Serve-clause-refused : goal.returns-in-Serve-clause-refused
 returns-in-Serve-clause-refused g c = λ is.

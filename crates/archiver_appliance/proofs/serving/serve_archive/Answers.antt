@@ -20,7 +20,7 @@ returns-in-Ok-clause-leaves g c =
     let same = ap (λ o. o.archive) (ap (λ room. room.archive) c.in-Ok.ensures.ok.opens ∙ c.new.ensures) ∙ c.new-observed.ensures in
     let left = c.serve_in_rooms.ensures.leaves in (
       left.0,
-      leaves_archive g.D.Disk (ArchiveStep g.D.Disk R.tells R.bytes R.faults) (reply_of R.tells R.bytes R.faults) (opened c.in-Ok.rooms) c.args.archive (length c.args.posts.now) left.0 c.serve_in_rooms.result.0 c.serve_in_rooms.result.1 same
+      leaves_archive g.D.Disk (ArchiveStep g.D.Disk R.tells R.bytes R.faults) (reply_of R.tells R.bytes R.faults) (opened c.in-Ok.rooms) c.args.archive (length c.args.posts.now) _ left.0 c.serve_in_rooms.result.0 c.serve_in_rooms.result.1 same
           (λ acts m stands legal. turns_run_on g.D.Disk R.tells R.bytes R.faults acts (opened c.in-Ok.rooms) m stands legal) left.1,
       left.2,
     )

@@ -9,6 +9,7 @@ use Rattle.tier_store.specs.Stores.{Stores}
 use Rattle.archiver_appliance.specs.Acting.{IsNotMade}
 use Rattle.command_words.specs.declared.status.Status.{Status}
 use Rattle.archiver_appliance.specs.Outside.{IsCausedBy}
+use Rattle.archiver_appliance.specs.Sessions.{Given}
 use Rattle.archiver_appliance.specs.Serving.{IsUnserved, ServesFrom, ServesPosts, status_of}
 use Rattle.archiver_appliance.proofs.Acting.{nested_in, unopened_back}
 use Rattle.archiver_appliance.proofs.Posts.{serves_nobody, serves_posts}
@@ -42,27 +43,28 @@ returns-in-Ok-serve_archive-clause-serves g c =
     let news = c.serve_archive.new.posts in
     let given = c.into_disk.result in
     let leaves = c.in-Ok-serve_archive.ensures.leaves in
-    let Made : Bool → AllServed → Type 0 = λ began told. (held : Stores) → Has disk.tells (seen disk store) held → ServesFrom (λ image. ⊥) disk.tells store.config held (length olds) began told (disk.past store.disk) (disk.past given) in
+    let Made : Bool → AllServed → Type 0 = λ began told. (held : Stores) → Has disk.tells (seen disk store) held → ServesFrom (λ image. ⊥) disk.tells store.config held (length olds)
+    (λ start entries. Given start g.D.Reader.ReadAt.tells g.D.Reader.ReadAt.faults L.Source.left L.Sink.written L.Sink.write_faults entries L.Source.read_faults W.is_closed W.door_faults W.ledger told olds news) began told (disk.past store.disk) (disk.past given) in
     let Unmade : Status → Type 0 = λ s. IsNotMade store.disk given s × (g.C.Clock.coming c.serve_archive.new.clock ≡ g.C.Clock.coming c.args.clock.now) in
     subst (λ (s : Status). ServesPosts W.is_closed W.door_faults W.ledger (λ kind l. IsServed kind L.Sink.written L.Source.read_faults L.Sink.write_faults l) (Unmade s) Made s olds news) (sym c.served_status.ensures)
     (serves_posts W.is_closed W.door_faults W.ledger (λ kind l. IsServed kind L.Sink.written L.Source.read_faults L.Sink.write_faults l) (Unmade (status_of c.in-Ok-serve_archive.told)) Made c.in-Ok-serve_archive.told olds news leaves.0 leaves.2
-    (served_from disk store c.requires.fresh (length olds) c.in-Ok.archive c.in-Ok-serve_archive.archive c.in-Ok.ensures.store c.in-Ok.ensures.opened c.into_store.result given c.into_store.ensures c.into_disk.ensures leaves.0 c.in-Ok-serve_archive.told leaves.1))
+    (served_from disk store c.requires.fresh (length olds) c.in-Ok.archive c.in-Ok-serve_archive.archive c.in-Ok.ensures.store c.in-Ok.ensures.opened c.into_store.result given c.into_store.ensures c.into_disk.ensures _ leaves.0 c.in-Ok-serve_archive.told leaves.1))
 
 pub returns-in-Ok-serve_archive-clause-caused : goal.returns-in-Ok-serve_archive-clause-caused
 returns-in-Ok-serve_archive-clause-caused g c =
     let disk = g.D.Disk in
     let new = c.in-Ok-serve_archive.archive in
     subst (λ (s : Status). IsCausedBy g.D.Reader.ReadAt.faults ⊥ ⊥ (DiskRose (disk.faults c.args.store.disk) (disk.faults c.into_disk.result)) s None) (sym c.served_status.ensures)
-    (served_caused disk c.args.store c.requires.fresh _ c.in-Ok.archive new c.in-Ok.ensures.store c.in-Ok.ensures.opened c.into_store.result c.into_disk.result c.into_store.ensures c.into_disk.ensures c.in-Ok-serve_archive.ensures.leaves.0 c.in-Ok-serve_archive.told c.in-Ok-serve_archive.ensures.leaves.1 g.D.Reader.ReadAt.faults c.soundness_stays.ensures.answers)
+    (served_caused disk c.args.store c.requires.fresh _ c.in-Ok.archive new c.in-Ok.ensures.store c.in-Ok.ensures.opened c.into_store.result c.into_disk.result c.into_store.ensures c.into_disk.ensures _ c.in-Ok-serve_archive.ensures.leaves.0 c.in-Ok-serve_archive.told c.in-Ok-serve_archive.ensures.leaves.1 g.D.Reader.ReadAt.faults c.soundness_stays.ensures.answers)
 
 pub returns-in-Ok-serve_archive-clause-disk_faults : goal.returns-in-Ok-serve_archive-clause-disk_faults
 returns-in-Ok-serve_archive-clause-disk_faults g c =
-    served_counts g.D.Disk c.args.store c.requires.fresh _ c.in-Ok.archive c.in-Ok-serve_archive.archive c.in-Ok.ensures.store c.in-Ok.ensures.opened c.into_store.result c.into_disk.result c.into_store.ensures c.into_disk.ensures c.in-Ok-serve_archive.ensures.leaves.0 c.in-Ok-serve_archive.told c.in-Ok-serve_archive.ensures.leaves.1
+    served_counts g.D.Disk c.args.store c.requires.fresh _ c.in-Ok.archive c.in-Ok-serve_archive.archive c.in-Ok.ensures.store c.in-Ok.ensures.opened c.into_store.result c.into_disk.result c.into_store.ensures c.into_disk.ensures _ c.in-Ok-serve_archive.ensures.leaves.0 c.in-Ok-serve_archive.told c.in-Ok-serve_archive.ensures.leaves.1
 
 pub returns-in-Ok-serve_archive-clause-unopened : goal.returns-in-Ok-serve_archive-clause-unopened
 returns-in-Ok-serve_archive-clause-unopened g c =
     let new = c.in-Ok-serve_archive.archive in
-    served_unopened g.D.Disk c.args.store c.requires.fresh _ c.in-Ok.archive new c.in-Ok.ensures.store c.in-Ok.ensures.opened c.into_store.result c.into_disk.result c.into_store.ensures c.into_disk.ensures c.in-Ok-serve_archive.ensures.leaves.0 c.in-Ok-serve_archive.told c.in-Ok-serve_archive.ensures.leaves.1 (λ told. (g.met.D.Disk g.world.𝓛 g.world.𝓜 g.world.𝓡 ((λ s x. x), (λ x. x), (λ x. x), λ x. x)).seen new.store.disk told)
+    served_unopened g.D.Disk c.args.store c.requires.fresh _ c.in-Ok.archive new c.in-Ok.ensures.store c.in-Ok.ensures.opened c.into_store.result c.into_disk.result c.into_store.ensures c.into_disk.ensures _ c.in-Ok-serve_archive.ensures.leaves.0 c.in-Ok-serve_archive.told c.in-Ok-serve_archive.ensures.leaves.1 (λ told. (g.met.D.Disk g.world.𝓛 g.world.𝓜 g.world.𝓡 ((λ s x. x), (λ x. x), (λ x. x), λ x. x)).seen new.store.disk told)
 
 pub returns-in-Err-serve_archive-clause-serves : goal.returns-in-Err-serve_archive-clause-serves
 returns-in-Err-serve_archive-clause-serves g c =
