@@ -248,9 +248,13 @@ class Progress:
 
 
 @contextmanager
-def raw(server, pv, start, end, progress=None):
-    """The raw stream, as a file, of a variable's samples of an interval, ends included, and the last one before it."""
-    query = {"pv": pv, "from": sample_text.iso(start), "to": sample_text.iso(end)}
+def raw(server, pv, start, end, progress=None, op=None):
+    """The raw stream, as a file, of a variable's samples of an interval, ends included, and the last one before it.
+
+    With an operator, as `firstSample_60`, `lastSample_60`, `count_60`, `nth_10` or `ncount`, it is what the service makes
+    of the samples of the interval alone.
+    """
+    query = {"pv": f"{op}({pv})" if op else pv, "from": sample_text.iso(start), "to": sample_text.iso(end)}
     progress = progress or Progress(pv)
     try:
         with reply(server, "/retrieval/data/getData.raw", query, progress.add) as body:
@@ -284,6 +288,15 @@ def pieces(server, pv, start, end):
 def get(server, pv, start, end):
     """The same samples as one piece: `times` are datetime64[ns], `values` an array of the variable's type."""
     found = pb_stream.joined(list(pieces(server, pv, start, end)))
+    found.times = found.times.view("datetime64[ns]")
+    return found
+
+
+def thinned(server, pv, start, end, op):
+    """What an operator makes of the samples of an interval, as one piece."""
+    progress = Progress(pv)
+    with raw(server, pv, start, end, progress, op) as stream:
+        found = pb_stream.joined(list(pb_stream.pieces(stream)))
     found.times = found.times.view("datetime64[ns]")
     return found
 
@@ -430,12 +443,15 @@ def run_get(options):
     each, begun = Each(options.pv), []
 
     def write_raw(pv):
-        with raw(options.server, pv, *interval) as stream:
+        with raw(options.server, pv, *interval, op=options.op) as stream:
             sys.stdout.buffer.write(b"\n" if begun else b"")
             begun.append(pv)
             shutil.copyfileobj(stream, sys.stdout.buffer)
 
     def write_lines(pv):
+        if options.op:
+            writer.piece(thinned(options.server, pv, *interval, options.op))
+            return
         for piece in pieces(options.server, pv, *interval):
             writer.piece(piece)
 
@@ -636,6 +652,7 @@ def add_words(command):
     """The words of each command."""
     get_words = command("get", run_get, interval=True, text=True)
     get_words.add_argument("--raw", action="store_true", help="the raw stream as the service gives it")
+    get_words.add_argument("--op", metavar="OPERATOR", help="thinned or counted: firstSample_60, lastSample_60, count_60, nth_10, ncount")
     plot_words = command("plot", run_plot, interval=True)
     plot_words.add_argument("--out", required=True, help="the picture's file; its ending says which kind")
     watch_words = command("watch", run_watch, text=True)

@@ -194,9 +194,10 @@ def parameters(call, form):
     """The words of a call's parameters."""
     if call in ("all", "flush"):
         return []
-    words = [name_in(form)]
     if call in ("raw", "json"):
-        words += [moment_in(form, "from"), moment_in(form, "to")]
+        operator, name = asked_in(form)
+        return [name, moment_in(form, "from"), moment_in(form, "to"), *operator]
+    words = [name_in(form)]
     if call == "archive":
         words += [type_in(form), *sampling_in(form), "0"]
     return words
@@ -207,6 +208,25 @@ def name_in(form):
     if not is_name(name.encode()):
         raise Missing("pv")
     return name
+
+
+# An operator and a name in parentheses: bins of so many seconds, or of 900, one sample of so many, or how many there are.
+BINNED = re.compile(r"(?:(firstSample|lastSample|count)(?:_([0-9]{1,9}))?|(nth)_([0-9]{1,9})|(ncount))\((.*)\)", re.DOTALL)
+
+
+def asked_in(form):
+    """The words of an operator, if one is asked for, and the name."""
+    text = form.get("pv", "")
+    if "(" not in text and ")" not in text:
+        return [], name_in(form)
+    found = BINNED.fullmatch(text)
+    if found is None:
+        raise Missing("pv")
+    bins, width, nth, number, ncount, name = found.groups()
+    number = int(number or width or 900)
+    if number == 0 or not is_name(name.encode()):
+        raise Missing("pv")
+    return [ncount] if ncount else [bins or nth, str(number)], name
 
 
 ISO = re.compile(

@@ -262,6 +262,7 @@ TABLES = {
     "refusals": (reply_rows.of_refusals, True),
     "data of files": (reply_rows.of_data, True),
     "data of a feed": (reply_rows.of_fed_data, False),
+    "bins": (reply_rows.of_bins, False),
     "feeds": (lambda: reply_rows.of_feeds(time.time_ns()), True),
     "moves": (reply_rows.of_moves, False),
     "heads": (reply_rows.of_heads, True),

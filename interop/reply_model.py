@@ -8,9 +8,10 @@ from dataclasses import dataclass
 
 import pb_model
 from http_model import CHUNK, MOST_TAKEN, chunk, head_of, request_of
-from pb_model import SECOND, unescape
-from store_model import AHEAD, STORES, TYPE_NAMES, Archive, Row, chosen, is_name, key_of
+from pb_model import END, FIRST_YEAR, SECOND, escape, unescape, year_start
+from store_model import AHEAD, STORES, TYPE_NAMES, Archive, Row, chosen, is_name, key_of, number_field, raw_text, year_of
 
+START = year_start(FIRST_YEAR) * SECOND
 MOST_ROWS = 65_536
 STRING, SHORT, FLOAT, ENUM, BYTE, INT, DOUBLE = range(7)
 KEPT, HELD, DROPPED = range(3)
@@ -152,16 +153,43 @@ class Site(Archive):
         row.paused = not row.paused
         return 200, '{"status":"ok"}'
 
-    def data(self, version, call, name, first, last):
+    def data(self, version, call, name, first, last, *operator):
         """The reply to a request for data."""
         row = self.find(name.encode())
         if row is None:
             return managed(404, '{"status":"E26"}')
-        if call == "raw":
-            text = self.get(row.name, int(first), int(last)).output
-        else:
-            text = json_text(row, chosen(row.samples, int(first), int(last)))
+        first, last = int(first), int(last)
+        samples = chosen(row.samples, first, last)
+        if operator:
+            samples = binned([(t, line) for t, line in row.samples if first <= t <= last], first, *operator)
+            row = Variable(row.name, INT, None, []) if "count" in operator[0] else row
+        text = raw_text(row, samples, first) if call == "raw" else json_text(row, samples)
         return head_of(200, call == "json", version, None) + (in_chunks(text) if version == 1 else text)
+
+
+# Bins
+
+
+def binned(samples, first, operator, number="1"):
+    """What an operator makes of the samples of an interval that begins at `first`."""
+    number = int(number)
+    if operator == "ncount":
+        return [count_at(min(max(first, START), END - 1), len(samples))]
+    if operator == "nth":
+        return samples[::number]
+    bins = {}
+    for t, line in samples:
+        bins.setdefault(t // SECOND // number, []).append((t, line))
+    if operator == "count":
+        return [count_at(max(one * number * SECOND, START), len(found)) for one, found in bins.items()]
+    return [found[0 if operator == "firstSample" else -1] for found in bins.values()]
+
+
+def count_at(t, count):
+    """A sample of the type SCALAR_INT."""
+    of_year = t - year_start(year_of(t)) * SECOND
+    message = number_field(1, of_year // SECOND) + number_field(2, t % SECOND) + b"\x1d" + min(count, 2**31 - 1).to_bytes(4, "little")
+    return t, escape(message) + b"\n"
 
 
 def in_chunks(text):

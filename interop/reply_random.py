@@ -10,6 +10,8 @@ STRING, SHORT, FLOAT, ENUM, BYTE, INT, DOUBLE = range(7)
 NAMES = [b"A", b"A:B", b"A-B", b"A/B/c", b"x+y", b"T:[1]<2>", b"{#^}", b"q;r.s,t", b"a" * 128]
 # Names that no variable has, or that none can have.
 OTHER_NAMES = [b"NO:SUCH", b"A:", b"A::B", b"A:..", b"", b"B\xff"]
+# What may stand before a name in parentheses, and what may not.
+OPERATORS = [b"firstSample", b"firstSample_3600", b"lastSample_1", b"lastSample_86400", b"count", b"count_60", b"count_999999999", b"nth_1", b"nth_3", b"ncount", b"mean_60", b"nth", b"count_0"]
 TEXTS = [b"", b"a", b"1", b"mm", b"\xc3\xa9", b"\xff", b"\xc3", b"\xe2\x82", b'"\\/', b"\n\r\x1b", b"\x00\x07\x08\x09\x0c\x1f\x7f", b"x" * 300]
 # What is put into a stream's lines, or in their place.
 DAMAGE = [b"\x1b\x04", b"\x08", b"\xff" * 11, b"\x00\x00", b"\x0b", b"\n", b"\x1b", b"\x12\x7f", b"\x18\x00"]
@@ -155,6 +157,8 @@ def data_request(rng, rows):
         moments.sort()
     name = row.name if rng.random() < 0.95 else rng.choice(NAMES + OTHER_NAMES)
     texts = [iso(moment, rng.randint(0, 9), offset_of(rng, moment)) for moment in moments]
+    if rng.random() < 0.3:
+        name = rng.choice(OPERATORS) + b"(" + name + b")"
     pairs = [b"pv=" + escaped(name), *(word + escaped(one.encode()) for word, one in zip((b"from=", b"to="), texts, strict=True))]
     if rng.random() < 0.2:
         rng.shuffle(pairs)

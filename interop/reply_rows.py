@@ -429,6 +429,41 @@ def asked_for_data():
         yield "ask", get(f"/retrieval/data/getData.json?pv=A%3AB&from={first}&to={last}"), None
 
 
+# Operators over the three samples from the first second of 2024 to its twenty-first, and the lines of what they make of these.
+OPERATORS = [
+    ("firstSample_8", [FIRST, NINTH]),
+    ("lastSample_8", [FIFTH, NINTH]),
+    ("nth_2", [FIRST, NINTH]),
+    ("count_8", [b"\x08\x00\x10\x00\x1d\x02\x00\x00\x00\n", b"\x08\x08\x10\x00\x1d\x01\x00\x00\x00\n"]),
+    ("ncount", [b"\x08\x00\x10\x00\x1d\x03\x00\x00\x00\n"]),
+    ("firstSample_1", [FIRST, FIFTH, NINTH]),
+    ("lastSample", [NINTH]),
+    ("nth_1", [FIRST, FIFTH, NINTH]),
+    ("nth_999999999", [FIRST]),
+    # This bin began in 2001.
+    ("count_999999999", None),
+]
+
+
+def of_bins():
+    yield registered()
+    yield "feed", HEADER + FIRST + FIFTH + NINTH, b"ok 3 0 0\ndurable 3\n"
+    for operator, lines in OPERATORS:
+        text = HEADER + b"".join(lines or [])
+        asked_for = f"?pv={operator}(A%3AB)&from=2024-01-01T00:00:00Z&to=2024-01-01T00:00:20Z"
+        whole = data_head("octet-stream", 1) + b"%x\r\n%s\r\n0\r\n\r\n" % (len(text), text)
+        yield "ask", get("/retrieval/data/getData.raw" + asked_for), whole if lines else None
+        yield "ask", get("/retrieval/data/getData.json" + asked_for), None
+    # The sample before the interval isn't used, and of no samples there is one count alone.
+    for operator, _ in OPERATORS:
+        for first, last, _ in INTERVALS:
+            for kind in ("raw", "json"):
+                yield "ask", get(f"/retrieval/data/getData.{kind}?pv={operator}%28A%3AB%29&from={first}&to={last}", 0), None
+    yield "ask", get(f"/retrieval/data/getData.raw?pv=count_8(A%3AC)&{ALL}"), answer("404 Not Found", 17, '{"status":"E26"}')
+    for text in ("mean_8(A%3AB)", "count_0(A%3AB)", "count_8(A%3AB"):
+        yield "ask", get(f"/retrieval/data/getData.raw?pv={text}&{ALL}"), answer("400 Bad Request", 34, '{"status":"E31","parameter":"pv"}')
+
+
 def of_feeds(now):
     for number, (stream, told) in enumerate(feeds(now)):
         name = b"F:%c" % (ord("a") + number)

@@ -252,6 +252,15 @@ def chosen(samples, start, end):
     return earlier[-1:] + [(t, line) for t, line in samples if start <= t <= end]
 
 
+def raw_text(row, samples, start):
+    """Samples of a row by years; without samples the header line of the year of an interval's start."""
+    texts = [chunk.line + b"".join(line for _, line in chunk.samples) for chunk in row.chunks(samples)]
+    if not texts:
+        year = min(max(year_of(start), FIRST_YEAR), LAST_YEAR)
+        texts = [header_line(row.header(year))]
+    return b"\n".join(texts)
+
+
 class Archive:
     """The rows of an archive, in the order in which they were registered."""
 
@@ -319,12 +328,7 @@ class Archive:
         row = self.find(name)
         if row is None:
             return Run(4, b"", complaint("no such variable"))
-        chunks = row.chunks(chosen(row.samples, start, end))
-        texts = [chunk.line + b"".join(line for _, line in chunk.samples) for chunk in chunks]
-        if not texts:
-            year = min(max(year_of(start), FIRST_YEAR), LAST_YEAR)
-            texts = [header_line(row.header(year))]
-        return Run(0, b"\n".join(texts), b"")
+        return Run(0, raw_text(row, chosen(row.samples, start, end), start), b"")
 
     def files(self):
         """The files of all rows, store by store."""

@@ -284,6 +284,12 @@ def words(_, service):
     want("get of an interval", archappl_py("get", *day, "W:A")[0], b"".join(TEXT.splitlines(True)[:3]))
     raw = archappl_py("get", *whole, "--raw", "W:A", "W:B")[0]
     want("get --raw", sorted(run("export", data=raw)[0].splitlines()), sorted(TEXT.splitlines()))
+    lines = TEXT.splitlines(True)
+    counts = lines[0] + b"W:A 2024-01-01T00:00:00.000000000Z 2 0 0\nW:A 2024-01-01T00:00:02.000000000Z 1 0 0\n"
+    want("get --op count_2", archappl_py("get", *whole, "--op", "count_2", "W:A")[0], counts)
+    want("get --op lastSample_2", archappl_py("get", *whole, "--op", "lastSample_2", "W:A")[0], lines[0] + lines[2] + lines[3])
+    told = archappl_py("get", "--op", "mean_2", "W:A", status=1)[1]
+    want("no operator", told.startswith("archappl: W:A: E31: "), True)
     want("details", json.loads(archappl_py("details", "W:B")[0])["accepted"], 2)
     want("status", archappl_py("status", "W:B", "W:C")[0], b"W:B Being archived\nW:C Not being archived\n")
     want("archive", archappl_py("archive", "--type", "SCALAR_INT", "W:C")[0], b"W:C 2\n")

@@ -73,8 +73,8 @@ flushes samples (other ∷ rest) = stops
 
 -- the table of the management calls; a retrieval is none of them
 abbrev pub next : WebCall → List Reply → Next
-next (call.Raw pv query) answers = stops
-next (call.Json pv query) answers = stops
+next (call.Raw pv query op) answers = stops
+next (call.Json pv query op) answers = stops
 next call.AllPvs answers = names_from 0 [] answers
 next (call.PvStatus pv) answers = once (Details pv) (status_told pv) answers
 next (call.PvDetails pv) answers = once (Details pv) details_told answers
@@ -84,6 +84,6 @@ next (call.ResumePv pv) answers = once (Resume pv) set answers
 next call.FlushAll answers = flushes 0 answers
 
 abbrev pub is_management : WebCall → Bool
-is_management (call.Raw pv query) = false
-is_management (call.Json pv query) = false
+is_management (call.Raw pv query op) = false
+is_management (call.Json pv query op) = false
 is_management other = true

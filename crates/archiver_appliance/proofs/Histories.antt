@@ -194,8 +194,8 @@ module _ {A : Type 0} (number : A → ℕ) (between : A → List Entry → A →
 
     call_known : (version : ℕ) (asked : WebCall) (result : Replied R) → RepliesCall number between is_spent (AnswersData number between is_spent stands tells faults rose a w b w') version a asked w result b w'
         → RepliesCall acts_under Learns KnowsMost (AnswersData acts_under Learns KnowsMost (λ k m. m ≡ at) tells faults rose (knows a) w (knows b) w') version (knows a) asked w result (knows b) w'
-    call_known version (call.Raw pv query) result r = ends_known Raw version pv query result r
-    call_known version (call.Json pv query) result r = ends_known Json version pv query result r
+    call_known version (call.Raw pv query op) result r = ends_known (Raw op) version pv query result r
+    call_known version (call.Json pv query op) result r = ends_known (Json op) version pv query result r
     call_known version other result r = (r.0, r.1, serves_known other a r.0 b w w' r.2)
 
     to_known : (request : Result Request HttpErr) (result : Replied R) → RepliesTo number between is_spent rose (AnswersData number between is_spent stands tells faults rose a w b w') a request w result b w'
@@ -259,8 +259,8 @@ module _ {A : Type 0} (number : A → ℕ) (between : A → List Entry → A →
 
   module _ (stands : A → Machine → Type 0) {R : Type 0} (tells : Bool) (faults : R → ℕ) (rose : Type 0) (a : A) (w : Option (List ℕ)) (b : A) (w' : Option (List ℕ)) where
     call_leads : (version : ℕ) (asked : WebCall) (result : Replied R) → RepliesCall number between is_spent (AnswersData number between is_spent stands tells faults rose a w b w') version a asked w result b w' → Leads a b
-    call_leads version (call.Raw pv query) result r = acts_lead tells faults rose a w b w' Raw version pv query r.0 r.2.acts
-    call_leads version (call.Json pv query) result r = acts_lead tells faults rose a w b w' Json version pv query r.0 r.2.acts
+    call_leads version (call.Raw pv query op) result r = acts_lead tells faults rose a w b w' (Raw op) version pv query r.0 r.2.acts
+    call_leads version (call.Json pv query op) result r = acts_lead tells faults rose a w b w' (Json op) version pv query r.0 r.2.acts
     call_leads version other result r = serves_leads other a r.0 b w w' r.2
 
     to_leads : (request : Result Request HttpErr) (result : Replied R) → RepliesTo number between is_spent rose (AnswersData number between is_spent stands tells faults rose a w b w') a request w result b w' → Leads a b

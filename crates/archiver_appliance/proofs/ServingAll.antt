@@ -70,7 +70,7 @@ module _ {S K C D R : Type 0} (src : OfSource S) (snk : OfSink K) (clk : OfClock
             let read = stands tells before after opens in
             let Before : Files → Type 0 = λ image. HoldsEither (stores_of config) before after image in
             let from : ServesFrom Before disk.tells store.config read.held doors (Given told) began told (disk.past first) (disk.past given) =
-            serves_behind Before disk.tells store.config read.held doors (Given told) began told (disk.past first) (disk.past store.disk) (disk.past given) ((reopens tells).either before after opens) (made read.held read.has) in
+            serves_behind Before disk.tells store.config read.held doors (Given told) began told (disk.past first) (disk.past store.disk) (disk.past given) ((opening tells).either before after opens) (made read.held read.has) in
             record {
               first = read.held;
               either = read.either;

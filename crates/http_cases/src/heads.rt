@@ -8,6 +8,7 @@ use crate::words::Words;
 use event_types::Method;
 use http_front::{Head, HttpErr, WebCall, read_request, write_head};
 use pv_name::PvName;
+use sample_bins::Op;
 use series_model::Query;
 use std::alloc::{AllocError, Global};
 use std::fmt::Write as _;
@@ -43,8 +44,8 @@ pub fn add_refusal(text: &mut String, refusal: HttpErr) -> Result<(), AllocError
 
 fn add_call(text: &mut String, call: &WebCall) -> Result<(), AllocError> {
     match call {
-        WebCall::Raw { pv, query } => add_data(text, "raw ", pv, query),
-        WebCall::Json { pv, query } => add_data(text, "json ", pv, query),
+        WebCall::Raw { pv, query, op } => add_data(text, "raw ", pv, query, *op),
+        WebCall::Json { pv, query, op } => add_data(text, "json ", pv, query, *op),
         WebCall::AllPvs => text.push_str("all"),
         WebCall::PvStatus { pv } => add_named(text, "status ", pv),
         WebCall::PvDetails { pv } => add_named(text, "details ", pv),
@@ -72,9 +73,23 @@ fn add_named(text: &mut String, word: &str, pv: &PvName) -> Result<(), AllocErro
     add_text(text, pv.bytes())
 }
 
-fn add_data(text: &mut String, word: &str, pv: &PvName, query: &Query) -> Result<(), AllocError> {
+fn add_data(
+    text: &mut String,
+    word: &str,
+    pv: &PvName,
+    query: &Query,
+    op: Option<Op>,
+) -> Result<(), AllocError> {
     add_named(text, word, pv)?;
-    write!(text, " {} {}", query.from, query.to)
+    write!(text, " {} {}", query.from, query.to)?;
+    match op {
+        None => Ok(()),
+        Some(Op::FirstSample(width)) => write!(text, " firstSample {width}"),
+        Some(Op::LastSample(width)) => write!(text, " lastSample {width}"),
+        Some(Op::Count(width)) => write!(text, " count {width}"),
+        Some(Op::Nth(number)) => write!(text, " nth {number}"),
+        Some(Op::NCount) => text.push_str(" ncount"),
+    }
 }
 
 /// Writes the head of a reply, if the words are one's.

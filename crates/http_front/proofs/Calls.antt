@@ -11,17 +11,20 @@ use Rattle.event_types.specs.declared.about.Method.TheVariants.{Monitor, Scan}
 use Rattle.series_model.specs.declared.sample.Query.{Query}
 use Rattle.arch_time.specs.Iso.{IsIso}
 use Rattle.arch_time.proofs.IsoLemmas.{one_moment}
+use Rattle.sample_bins.specs.declared.op.Op.{Op}
+use Rattle.sample_bins.specs.Words.{Asks as AsksText}
+use Rattle.sample_bins.proofs.Asking.{one_asked}
 use Rattle.http_front.specs.declared.path.Path.{Path}
 use Rattle.http_front.specs.declared.path.Path.TheVariants as served
 use Rattle.http_front.specs.declared.request.Param.{Param}
-use Rattle.http_front.specs.declared.request.Param.TheVariants.{Pv, From, To, SamplingMethod, SamplingPeriod}
+use Rattle.http_front.specs.declared.request.Param.TheVariants.{Pv, PvOrBins, From, To, SamplingMethod, SamplingPeriod}
 use Rattle.http_front.specs.declared.request.WebCall.{WebCall}
 use Rattle.http_front.specs.declared.request.WebCall.TheVariants.{Raw, Json, AllPvs, PvStatus, PvDetails, ArchivePv, PausePv, ResumePv, FlushAll}
 use Rattle.http_front.specs.declared.request.Request.{Request}
 use Rattle.http_front.specs.declared.request.HttpErr.{HttpErr}
 use Rattle.http_front.specs.declared.request.HttpErr.TheVariants.{SourceFault, BadHead, HeadTooLong, BadMethod, BadPath, BadParameter, Memory}
 use Rattle.http_front.specs.Paths as paths
-use Rattle.http_front.specs.Query.{IsNamed, IsMoment, IsInterval, IsType, IsSampling, IsGood, IsFirstBad, period_word}
+use Rattle.http_front.specs.Query.{IsNamed, IsAsked, IsMoment, IsInterval, IsType, IsSampling, IsGood, IsFirstBad, period_word}
 use Rattle.http_front.specs.Calls.{IsAbout, Asks, served_at, IsPathOf, CallOf, Answers, query_in}
 use Rattle.http_front.specs.Laws.{IsAnswer}
 use Rattle.http_front.proofs.Periods.{one_period}
@@ -48,6 +51,11 @@ no_parameter_for_memory which e = cc
 
 one_name : (param : Param) (query a b : List ℕ) → IsNamed param query a → IsNamed param query b → a ≡ b
 one_name param query a b x y = one_some a b (sym x.0 ∙ y.0)
+
+same_asked : (query a b : List ℕ) (p q : Option Op) → IsAsked query p a → IsAsked query q b → (p ≡ q) × (a ≡ b)
+same_asked query a b p q x y =
+    let text : y.0 ≡ x.0 = one_some y.0 x.0 (sym y.1 ∙ x.1) in
+    one_asked x.0 a b p q x.2 (subst (λ (t : List ℕ). AsksText t q b) text y.2)
 
 same_moment : (param : Param) (query : List ℕ) (t u : ℕ) → IsMoment param query t → IsMoment param query u → t ≡ u
 same_moment param query t u x y =
@@ -150,14 +158,14 @@ abbrev number_of : WebCall → ℕ
 number_of call = (paths.row_of (served_at call)).number
 
 one_call : (path : Path) (query : List ℕ) (a b : WebCall) → Asks path query a → Asks path query b → a ≡ b
-one_call path query (Raw pv q) (Raw pv' q') x y =
-    let name = one_name Pv query pv pv' x.1.0 y.1.0 in
+one_call path query (Raw pv q op) (Raw pv' q' op') x y =
+    let asked = same_asked query pv pv' op op' x.1.0 y.1.0 in
     let interval = one_interval query q q' x.1.1 y.1.1 in
-    λ i. Raw (name i) (interval i)
-one_call path query (Json pv q) (Json pv' q') x y =
-    let name = one_name Pv query pv pv' x.1.0 y.1.0 in
+    λ i. Raw (asked.1 i) (interval i) (asked.0 i)
+one_call path query (Json pv q op) (Json pv' q' op') x y =
+    let asked = same_asked query pv pv' op op' x.1.0 y.1.0 in
     let interval = one_interval query q q' x.1.1 y.1.1 in
-    λ i. Json (name i) (interval i)
+    λ i. Json (asked.1 i) (interval i) (asked.0 i)
 one_call path query AllPvs AllPvs x y = refl
 one_call path query (PvStatus pv) (PvStatus pv') x y = ap PvStatus (one_name Pv query pv pv' x.1 y.1)
 one_call path query (PvDetails pv) (PvDetails pv') x y = ap PvDetails (one_name Pv query pv pv' x.1 y.1)
@@ -197,8 +205,8 @@ period_good query Monitor x = λ scan. absurd (words_differ _ x scan)
 period_good query (Scan n) x = λ scan. (n, x.1)
 
 all_good : (path : Path) (query : List ℕ) (call : WebCall) → Asks path query call → AllGood query (paths.row_of path).columns
-all_good path query (Raw pv q) x = rw x.0 ((pv, x.1.0), ((q.from, x.1.1.0), ((q.to, x.1.1.1), tt)))
-all_good path query (Json pv q) x = rw x.0 ((pv, x.1.0), ((q.from, x.1.1.0), ((q.to, x.1.1.1), tt)))
+all_good path query (Raw pv q op) x = rw x.0 ((op, pv, x.1.0), ((q.from, x.1.1.0), ((q.to, x.1.1.1), tt)))
+all_good path query (Json pv q op) x = rw x.0 ((op, pv, x.1.0), ((q.from, x.1.1.0), ((q.to, x.1.1.1), tt)))
 all_good path query AllPvs x = rw x.0 tt
 all_good path query (PvStatus pv) x = rw x.0 ((pv, x.1), tt)
 all_good path query (PvDetails pv) x = rw x.0 ((pv, x.1), tt)

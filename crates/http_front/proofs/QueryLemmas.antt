@@ -1,10 +1,14 @@
 -- The first pair of a name.
-use Rattle.std.proofs.Common.{◌≡◌, ℕ, ◌⊎◌, true, false, List, [], ◌∷◌, Option, Some, None, Ok, Err, refl, sym, ap, ◌∙◌, subst, inl, inr}
+use Rattle.std.proofs.Common.{◌≡◌, ℕ, ◌⊎◌, true, false, List, [], ◌∷◌, Option, Some, None, Ok, Err, refl, sym, ap, ◌∙◌, subst, inl, inr, arith}
 use Rattle.std.specs.Prelude.{bytes_eq, option_map}
 use Rattle.std.proofs.lemmas.Bool.{cond-true, cond-false}
 use Rattle.arch_time.specs.Iso.{IsIso}
+use Rattle.pv_name.specs.Name.{IsName, IsRefusedAt}
+use Rattle.sample_bins.specs.declared.op.Op.{Op}
+use Rattle.sample_bins.specs.Words.{Asks}
+use Rattle.sample_bins.proofs.Asking.{one_asked}
 use Rattle.http_front.specs.declared.request.Param.{Param}
-use Rattle.http_front.specs.declared.request.Param.TheVariants.{From, To}
+use Rattle.http_front.specs.declared.request.Param.TheVariants.{PvOrBins, From, To}
 use Rattle.http_front.specs.Param.{name_of}
 use Rattle.http_front.specs.Query.{text_of, first_of, value_of, IsMoment, IsGood}
 
@@ -40,3 +44,14 @@ no_moment query which text (inl from) found none good =
 no_moment query which text (inr to) found none good =
     let m = subst (λ (w : Param). IsGood query w) to good in
     not_a_moment query To text (subst (λ (w : Param). value_of (name_of w) query ≡ Some text) to found) none m.0 m.1
+
+never_named : (name : List ℕ) (at : ℕ) → IsRefusedAt name at → IsName name → ⊥
+never_named name at (inl long) is = omega (arith, long.0, is.short)
+never_named name at (inr first) is = is.faultless at first.1.here
+
+-- a text that asks for something whose name is refused
+pub not_asked : (query text name : List ℕ) (op : Option Op) (at : ℕ) → value_of (name_of PvOrBins) query ≡ Some text → Asks text op name → IsRefusedAt name at → IsGood query PvOrBins → ⊥
+not_asked query text name op at found asks bad good =
+    let same : good.2.0 ≡ text = one_some good.2.0 text (sym good.2.1 ∙ found) in
+    let one = one_asked text good.1 name good.0 op (subst (λ (t : List ℕ). Asks t good.0 good.1) same good.2.2) asks in
+    never_named name at bad (subst (λ (n : List ℕ). IsName n) one.1 good.2.3)

@@ -1,7 +1,8 @@
 -- The call that a request asks for. A target is a path, or a path, a question mark and a query.
-use Rattle.std.specs.Prelude.{◌≡◌, ◌≢◌, ℕ, List, [], codes, None, Result, Ok, Err, ⊤}
+use Rattle.std.specs.Prelude.{◌≡◌, ◌≢◌, ℕ, List, [], codes, None, IfSome, Result, Ok, Err, ⊤}
 use Rattle.form_urlencoded.specs.Form.{split_once}
 use Rattle.event_types.specs.declared.about.About.{About}
+use Rattle.sample_bins.specs.Bins.{IsInRange}
 use Rattle.http_front.specs.declared.path.Path.{Path}
 use Rattle.http_front.specs.declared.path.Path.TheVariants as served
 use Rattle.http_front.specs.declared.request.WebCall.{WebCall}
@@ -10,7 +11,7 @@ use Rattle.http_front.specs.declared.request.Request.{Request}
 use Rattle.http_front.specs.declared.request.HttpErr.{HttpErr}
 use Rattle.http_front.specs.declared.request.HttpErr.TheVariants.{BadMethod, BadPath, BadParameter, Memory}
 use Rattle.http_front.specs.Paths.{row_of}
-use Rattle.http_front.specs.Query.{IsPv, IsInterval, IsType, IsSampling, IsFirstBad}
+use Rattle.http_front.specs.Query.{IsPv, IsAsked, IsInterval, IsType, IsSampling, IsFirstBad}
 
 abbrev pub question_mark : ℕ
 question_mark = 63
@@ -30,8 +31,8 @@ pub record IsAbout (query : List ℕ) (about : About) : Type 0 where
 
 -- the path at which a call is asked for
 abbrev pub served_at : WebCall → Path
-served_at (Raw pv interval) = served.RawData
-served_at (Json pv interval) = served.JsonData
+served_at (Raw pv interval op) = served.RawData
+served_at (Json pv interval op) = served.JsonData
 served_at AllPvs = served.AllPvs
 served_at (PvStatus pv) = served.PvStatus
 served_at (PvDetails pv) = served.PvDetails
@@ -40,10 +41,16 @@ served_at (PausePv pv) = served.PausePv
 served_at (ResumePv pv) = served.ResumePv
 served_at FlushAll = served.FlushAll
 
+-- the number of its operator, if it has one, is in range
+abbrev pub IsWide : WebCall → Type 0
+IsWide (Raw pv interval op) = IfSome op IsInRange
+IsWide (Json pv interval op) = IfSome op IsInRange
+IsWide other = ⊤
+
 -- the query has what the call holds
 abbrev pub Holds : List ℕ → WebCall → Type 0
-Holds query (Raw pv interval) = IsPv query pv × IsInterval query interval
-Holds query (Json pv interval) = IsPv query pv × IsInterval query interval
+Holds query (Raw pv interval op) = IsAsked query op pv × IsInterval query interval
+Holds query (Json pv interval op) = IsAsked query op pv × IsInterval query interval
 Holds query AllPvs = ⊤
 Holds query (PvStatus pv) = IsPv query pv
 Holds query (PvDetails pv) = IsPv query pv

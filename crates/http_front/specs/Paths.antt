@@ -2,7 +2,7 @@
 -- is told.
 use Rattle.std.specs.Prelude.{ℕ, List, [], ◌∷◌, codes}
 use Rattle.http_front.specs.declared.request.Param.{Param}
-use Rattle.http_front.specs.declared.request.Param.TheVariants.{Pv, From, To, TypeName, SamplingMethod, SamplingPeriod}
+use Rattle.http_front.specs.declared.request.Param.TheVariants.{Pv, PvOrBins, From, To, TypeName, SamplingMethod, SamplingPeriod}
 use Rattle.http_front.specs.declared.path.Path.{Path}
 use Rattle.http_front.specs.declared.path.Path.TheVariants.{RawData, JsonData, AllPvs, PvStatus, PvDetails, ArchivePv, PausePv, ResumePv, FlushAll}
 
@@ -13,8 +13,8 @@ pub record Row : Type 0 where
   pub columns : List Param
 
 abbrev pub row_of : Path → Row
-row_of RawData = record { number = 0; text = codes "/retrieval/data/getData.raw"; columns = Pv ∷ From ∷ To ∷ [] }
-row_of JsonData = record { number = 1; text = codes "/retrieval/data/getData.json"; columns = Pv ∷ From ∷ To ∷ [] }
+row_of RawData = record { number = 0; text = codes "/retrieval/data/getData.raw"; columns = PvOrBins ∷ From ∷ To ∷ [] }
+row_of JsonData = record { number = 1; text = codes "/retrieval/data/getData.json"; columns = PvOrBins ∷ From ∷ To ∷ [] }
 row_of AllPvs = record { number = 2; text = codes "/mgmt/bpl/getAllPVs"; columns = [] }
 row_of PvStatus = record { number = 3; text = codes "/mgmt/bpl/getPVStatus"; columns = Pv ∷ [] }
 row_of PvDetails = record { number = 4; text = codes "/mgmt/bpl/getPVDetails"; columns = Pv ∷ [] }

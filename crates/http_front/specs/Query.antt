@@ -11,8 +11,10 @@ use Rattle.pb_wire.specs.declared.payload.PayloadType.{PayloadType}
 use Rattle.event_types.specs.declared.about.Method.{Method}
 use Rattle.event_types.specs.declared.about.Method.TheVariants.{Monitor, Scan}
 use Rattle.series_model.specs.declared.sample.Query.{Query}
+use Rattle.sample_bins.specs.declared.op.Op.{Op}
+use Rattle.sample_bins.specs.Words.{Asks}
 use Rattle.http_front.specs.declared.request.Param.{Param}
-use Rattle.http_front.specs.declared.request.Param.TheVariants.{Pv, From, To, TypeName, SamplingMethod, SamplingPeriod, NewName}
+use Rattle.http_front.specs.declared.request.Param.TheVariants.{Pv, PvOrBins, From, To, TypeName, SamplingMethod, SamplingPeriod, NewName}
 use Rattle.http_front.specs.declared.request.HttpErr.{HttpErr}
 use Rattle.http_front.specs.declared.request.HttpErr.TheVariants.{BadParameter, Memory}
 use Rattle.http_front.specs.Param.{name_of}
@@ -41,6 +43,10 @@ IsNamed param query name = (value_of (name_of param) query ≡ Some name) × IsN
 abbrev pub IsPv : List ℕ → List ℕ → Type 0
 IsPv query name = IsNamed Pv query name
 
+-- under `pv` stands a name, or an operator of bins and a name in parentheses, and these are they
+abbrev pub IsAsked : List ℕ → Option Op → List ℕ → Type 0
+IsAsked query op name = (text : List ℕ) × (value_of (name_of PvOrBins) query ≡ Some text) × Asks text op name × IsName name
+
 -- under `from` or `to` stands an ISO text of this moment
 abbrev pub IsMoment : Param → List ℕ → ℕ → Type 0
 IsMoment param query t = (text : List ℕ) × (value_of (name_of param) query ≡ Some text) × IsIso text t
@@ -67,6 +73,7 @@ IsSampling query (Scan period) = (method_word query ≡ codes "SCAN") × IsPerio
 -- the parameter is there and of its form, or may be missing
 abbrev pub IsGood : List ℕ → Param → Type 0
 IsGood query Pv = (name : List ℕ) × IsNamed Pv query name
+IsGood query PvOrBins = (op : Option Op) × (name : List ℕ) × IsAsked query op name
 IsGood query From = (t : ℕ) × IsMoment From query t
 IsGood query To = (t : ℕ) × IsMoment To query t
 IsGood query TypeName = (ty : PayloadType) × IsType query ty

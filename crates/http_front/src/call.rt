@@ -2,14 +2,15 @@
 ghost use Rattle.std.specs.Prelude.{◌≡◌, ◌∷◌, [], codes};
 ghost use Rattle.form_urlencoded.specs.Form.{split_once};
 ghost use Rattle.http_front.specs.Paths.{row_of};
-ghost use Rattle.http_front.specs.Query.{Reading, IsPv, IsInterval};
+ghost use Rattle.http_front.specs.Query.{Reading, IsPv, IsAsked, IsInterval};
 ghost use Rattle.http_front.specs.Calls.{IsAbout, Asks, path_in, query_in, CallOf, Answers};
 
 use crate::path::Path;
-use crate::query::{read_interval, read_pv, read_sampling, read_type};
+use crate::query::{read_asked, read_interval, read_pv, read_sampling, read_type};
 use crate::request::{HttpErr, Param, Request, WebCall};
 use event_types::About;
 use pv_name::PvName;
+use sample_bins::Op;
 use series_model::{Pairs, Query};
 use std::alloc::Global;
 
@@ -59,12 +60,12 @@ fn read_call(alloc: Global, path: Path, query: &[u8]) -> Result<WebCall, HttpErr
 {
     match path {
         Path::RawData => {
-            let (pv, query) = read_data(alloc, query)?;
-            Ok(WebCall::Raw { pv, query })
+            let (op, pv, query) = read_data(alloc, query)?;
+            Ok(WebCall::Raw { pv, query, op })
         }
         Path::JsonData => {
-            let (pv, query) = read_data(alloc, query)?;
-            Ok(WebCall::Json { pv, query })
+            let (op, pv, query) = read_data(alloc, query)?;
+            Ok(WebCall::Json { pv, query, op })
         }
         Path::AllPvs => Ok(WebCall::AllPvs),
         Path::PvStatus => Ok(WebCall::PvStatus {
@@ -87,13 +88,14 @@ fn read_call(alloc: Global, path: Path, query: &[u8]) -> Result<WebCall, HttpErr
     }
 }
 
-// The variable and the interval of a retrieval.
-fn read_data(alloc: Global, query: &[u8]) -> Result<(PvName, Query), HttpErr>
-    ensures { Reading query.now (Param.Pv ∷ Param.From ∷ Param.To ∷ []) (λ both. IsPv query.now both.0 × IsInterval query.now both.1) result }
+// The operator of a retrieval, if there is one, the variable and the interval.
+fn read_data(alloc: Global, query: &[u8]) -> Result<(Option<Op>, PvName, Query), HttpErr>
+    ensures { Reading query.now (Param.PvOrBins ∷ Param.From ∷ Param.To ∷ []) (λ asked. IsAsked query.now asked.0 asked.1 × IsInterval query.now asked.2) result }
 {
-    let pv = read_pv(alloc, query)?;
+    let asked = read_asked(alloc, query)?;
     let interval = read_interval(alloc, query)?;
-    Ok((pv, interval))
+    let (op, pv) = asked;
+    Ok((op, pv, interval))
 }
 
 // The variable that is to be archived, and how.

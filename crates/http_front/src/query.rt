@@ -2,7 +2,7 @@
 ghost use Rattle.std.specs.Prelude.{◌≡◌, ◌⊎◌, ◌∷◌, [], IfOk, option_map, codes};
 ghost use Rattle.std.specs.Cow.{cow_str_bytes};
 ghost use Rattle.http_front.specs.Param.{name_of};
-ghost use Rattle.http_front.specs.Query.{value_of, value_or, Reading, IsPv, IsMoment, IsInterval, IsType, IsSampling};
+ghost use Rattle.http_front.specs.Query.{value_of, value_or, Reading, IsPv, IsAsked, IsMoment, IsInterval, IsType, IsSampling};
 
 use crate::period::period_of;
 use crate::request::{HttpErr, Param};
@@ -10,6 +10,7 @@ use arch_time::parse_iso;
 use event_types::{Method, PayloadType};
 use form_urlencoded::{decode, raw_pairs};
 use pv_name::{NameErr, PvName};
+use sample_bins::Op;
 use series_model::Query;
 use std::alloc::{AllocError, Global};
 use std::borrow::CowStr;
@@ -55,6 +56,26 @@ pub fn read_pv(alloc: Global, query: &[u8]) -> Result<PvName, HttpErr>
     };
     match PvName::new(alloc, text.as_str().as_bytes()) {
         Ok(name) => Ok(name),
+        Err(NameErr::BadName { .. }) => Err(bad),
+        Err(NameErr::Memory) => Err(HttpErr::Memory),
+    }
+}
+
+/// The operator under `pv`, if there is one, and the name.
+pub fn read_asked(alloc: Global, query: &[u8]) -> Result<(Option<Op>, PvName), HttpErr>
+    ensures { Reading query.now (Param.PvOrBins ∷ []) (λ asked. IsAsked query.now asked.0 asked.1) result }
+{
+    let bad = HttpErr::BadParameter {
+        which: Param::PvOrBins,
+    };
+    let Some(text) = value_of(alloc, query, Param::PvOrBins.name())? else {
+        return Err(bad);
+    };
+    let Some(asked) = sample_bins::read_pv(text.as_str().as_bytes()) else {
+        return Err(bad);
+    };
+    match PvName::new(alloc, asked.1) {
+        Ok(name) => Ok((asked.0, name)),
         Err(NameErr::BadName { .. }) => Err(bad),
         Err(NameErr::Memory) => Err(HttpErr::Memory),
     }

@@ -5,6 +5,7 @@ ghost use Rattle.http_front.specs.Param.{name_of};
 use edge_io::Failed;
 use event_types::About;
 use pv_name::PvName;
+use sample_bins::Op;
 use series_model::Query;
 use std::alloc::AllocError;
 
@@ -13,6 +14,8 @@ use std::alloc::AllocError;
 pub enum Param {
     /// The name of a process variable.
     Pv,
+    /// The name of a process variable, or an operator of bins and a name in parentheses.
+    PvOrBins,
     /// The first moment that is asked for.
     From,
     /// The last moment that is asked for.
@@ -34,6 +37,7 @@ impl Param {
     {
         match self {
             Param::Pv => "pv",
+            Param::PvOrBins => "pv",
             Param::From => "from",
             Param::To => "to",
             Param::TypeName => "type",
@@ -48,21 +52,40 @@ impl Param {
 #[derive(Debug, Drop)]
 pub enum WebCall {
     /// `/retrieval/data/getData.raw`
-    Raw { pv: PvName, query: Query },
+    Raw {
+        pv: PvName,
+        query: Query,
+        op: Option<Op>,
+    },
     /// `/retrieval/data/getData.json`
-    Json { pv: PvName, query: Query },
+    Json {
+        pv: PvName,
+        query: Query,
+        op: Option<Op>,
+    },
     /// `/mgmt/bpl/getAllPVs`
     AllPvs,
     /// `/mgmt/bpl/getPVStatus`
-    PvStatus { pv: PvName },
+    PvStatus {
+        pv: PvName,
+    },
     /// `/mgmt/bpl/getPVDetails`
-    PvDetails { pv: PvName },
+    PvDetails {
+        pv: PvName,
+    },
     /// `/mgmt/bpl/archivePV`
-    ArchivePv { pv: PvName, about: About },
+    ArchivePv {
+        pv: PvName,
+        about: About,
+    },
     /// `/mgmt/bpl/pauseArchivingPV`
-    PausePv { pv: PvName },
+    PausePv {
+        pv: PvName,
+    },
     /// `/mgmt/bpl/resumeArchivingPV`
-    ResumePv { pv: PvName },
+    ResumePv {
+        pv: PvName,
+    },
     /// `/mgmt/bpl/flush`
     FlushAll,
 }

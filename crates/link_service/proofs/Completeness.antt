@@ -201,8 +201,8 @@ module _ (answers : AnswersAreOfActs) {A : Type 0} (number : A → ℕ) (between
     managed_completes asked (Err admin.Memory) ended s = inr ended
 
     call_completes : (version : ℕ) (asked : WebCall) (end : Replied R) → result ≡ replied_as end → RepliesCall number between is_spent (AnswersData number between is_spent stands tells faults rose old a new b) version old asked a end new b → CompletesCall number between is_spent tells m version old asked a result new b
-    call_completes version (call.Raw pv query) end ended (e, by, d) = λ has. data_completes format.Raw version pv query has e (ended ∙ ap replied_as by) d
-    call_completes version (call.Json pv query) end ended (e, by, d) = λ has. data_completes format.Json version pv query has e (ended ∙ ap replied_as by) d
+    call_completes version (call.Raw pv query op) end ended (e, by, d) = λ has. data_completes (format.Raw op) version pv query has e (ended ∙ ap replied_as by) d
+    call_completes version (call.Json pv query op) end ended (e, by, d) = λ has. data_completes (format.Json op) version pv query has e (ended ∙ ap replied_as by) d
     call_completes version call.AllPvs end ended (e, by, s) = managed_completes call.AllPvs e (ended ∙ ap replied_as by) s
     call_completes version (call.PvStatus pv) end ended (e, by, s) = managed_completes (call.PvStatus pv) e (ended ∙ ap replied_as by) s
     call_completes version (call.PvDetails pv) end ended (e, by, s) = managed_completes (call.PvDetails pv) e (ended ∙ ap replied_as by) s
@@ -213,8 +213,8 @@ module _ (answers : AnswersAreOfActs) {A : Type 0} (number : A → ℕ) (between
 
     -- memory was wanting
     lacks : (version : ℕ) (asked : WebCall) → result ≡ served.Memory → CompletesCall number between is_spent tells m version old asked a result new b
-    lacks version (call.Raw pv query) memory = λ has. inr memory
-    lacks version (call.Json pv query) memory = λ has. inr memory
+    lacks version (call.Raw pv query op) memory = λ has. inr memory
+    lacks version (call.Json pv query op) memory = λ has. inr memory
     lacks version call.AllPvs memory = inr memory
     lacks version (call.PvStatus pv) memory = inr memory
     lacks version (call.PvDetails pv) memory = inr memory

@@ -122,8 +122,8 @@ module _ {A R : Type 0} (number : A → ℕ) (between : A → List Entry → A �
   of_managed end result is = subst (λ (r : Replied R). IsWhy r) (sym is) (managed_why R end)
 
   call_why : (version : ℕ) (asked : WebCall) (result : Replied R) → RepliesCall number between is_spent Data version old asked a result new b → IsWhy result
-  call_why version (call.Raw pv query) result r = of_data r.0 result r.1
-  call_why version (call.Json pv query) result r = of_data r.0 result r.1
+  call_why version (call.Raw pv query op) result r = of_data r.0 result r.1
+  call_why version (call.Json pv query op) result r = of_data r.0 result r.1
   call_why version call.AllPvs result r = of_managed r.0 result r.1
   call_why version (call.PvStatus pv) result r = of_managed r.0 result r.1
   call_why version (call.PvDetails pv) result r = of_managed r.0 result r.1

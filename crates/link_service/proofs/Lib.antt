@@ -1,3 +1,4 @@
+pub mod Binned
 pub mod Answering
 pub mod Bodies
 pub mod Replying

@@ -28,6 +28,7 @@ use Rattle.retrieval_query.specs.declared.retrieved.Retrieved.TheVariants as ret
 use Rattle.retrieval_query.specs.Pinning.{AnswersPinned, ended_by}
 use Rattle.retrieval_query.specs.Retrieving.{ReadsHeaders}
 use Rattle.retrieval_query.proofs.Answered.{whole_answer}
+use Rattle.sample_bins.specs.declared.op.Op.{Op}
 use Rattle.link_service.specs.declared.format.Format.{Format}
 use Rattle.link_service.specs.declared.format.Format.TheVariants as format
 use Rattle.link_service.specs.declared.replied.Replied.{Replied}
@@ -134,8 +135,8 @@ refused_begins (Some refusal) rose why a b result (inr (inr t)) = subst (λ r. B
 -- a management call
 pub manages : {A R : Type 0} (number : A → ℕ) (between : A → List Entry → A → Type 0) (is_spent : A → Type 0) (Data : Format → ℕ → List ℕ → Query → Retrieved R → Type 0) (version : ℕ) (old new : A) (asked : WebCall) (a b : Option (List ℕ)) (result : Replied R) (end : Result (Unit {0}) AdminErr)
     → is_management asked ≡ true → result ≡ managed_by end → Serves number between is_spent asked old end new a b → RepliesCall number between is_spent Data version old asked a result new b
-manages number between is_spent Data version old new (call.Raw pv query) a b result end is ends s = absurd (cc)
-manages number between is_spent Data version old new (call.Json pv query) a b result end is ends s = absurd (cc)
+manages number between is_spent Data version old new (call.Raw pv query op) a b result end is ends s = absurd (cc)
+manages number between is_spent Data version old new (call.Json pv query op) a b result end is ends s = absurd (cc)
 manages number between is_spent Data version old new call.AllPvs a b result end is ends s = (end, ends, s)
 manages number between is_spent Data version old new (call.PvStatus pv) a b result end is ends s = (end, ends, s)
 manages number between is_spent Data version old new (call.PvDetails pv) a b result end is ends s = (end, ends, s)
@@ -145,9 +146,9 @@ manages number between is_spent Data version old new (call.ResumePv pv) a b resu
 manages number between is_spent Data version old new call.FlushAll a b result end is ends s = (end, ends, s)
 
 -- what is neither of the two retrievals
-pub is_managed : (asked : WebCall) → ((pv : List ℕ) (query : Query) → asked ≡ call.Raw pv query → ⊥) → ((pv : List ℕ) (query : Query) → asked ≡ call.Json pv query → ⊥) → is_management asked ≡ true
-is_managed (call.Raw pv query) raw json = absurd (raw pv query refl)
-is_managed (call.Json pv query) raw json = absurd (json pv query refl)
+pub is_managed : (asked : WebCall) → ((pv : List ℕ) (query : Query) (op : Option Op) → asked ≡ call.Raw pv query op → ⊥) → ((pv : List ℕ) (query : Query) (op : Option Op) → asked ≡ call.Json pv query op → ⊥) → is_management asked ≡ true
+is_managed (call.Raw pv query op) raw json = absurd (raw pv query op refl)
+is_managed (call.Json pv query op) raw json = absurd (json pv query op refl)
 is_managed call.AllPvs raw json = refl
 is_managed (call.PvStatus pv) raw json = refl
 is_managed (call.PvDetails pv) raw json = refl
@@ -160,8 +161,8 @@ is_managed call.FlushAll raw json = refl
 module _ {A R : Type 0} (number : A → ℕ) (between : A → List Entry → A → Type 0) (is_spent : A → Type 0) (stands : A → Machine → Type 0) (tells : Bool) (faults : R → ℕ) (rose : Type 0) where
   pub call_acts : (version : ℕ) (old new : A) (asked : WebCall) (a b : Option (List ℕ)) (result : Replied R) → RepliesCall number between is_spent (AnswersData number between is_spent stands tells faults rose old a new b) version old asked a result new b
       → RepliesCall number between is_spent (MakesActs number between is_spent tells faults rose old a new b) version old asked a result new b
-  call_acts version old new (call.Raw pv query) a b result (end, is, d) = (end, is, d.acts)
-  call_acts version old new (call.Json pv query) a b result (end, is, d) = (end, is, d.acts)
+  call_acts version old new (call.Raw pv query op) a b result (end, is, d) = (end, is, d.acts)
+  call_acts version old new (call.Json pv query op) a b result (end, is, d) = (end, is, d.acts)
   call_acts version old new call.AllPvs a b result r = r
   call_acts version old new (call.PvStatus pv) a b result r = r
   call_acts version old new (call.PvDetails pv) a b result r = r
@@ -183,8 +184,8 @@ module _ {A R : Type 0} (number : A → ℕ) (between : A → List Entry → A �
 -- a reply to a call has begun
 pub call_begins : {A R : Type 0} (number : A → ℕ) (between : A → List Entry → A → Type 0) (is_spent : A → Type 0) (tells : Bool) (faults : R → ℕ) (rose : Type 0) (version : ℕ) (old new : A) (asked : WebCall) (a b : Option (List ℕ)) (result : Replied R)
     → RepliesCall number between is_spent (MakesActs number between is_spent tells faults rose old a new b) version old asked a result new b → BeginsReply result a b
-call_begins number between is_spent tells faults rose version old new (call.Raw pv query) a b result (end, is, made) = subst (λ r. BeginsReply r a b) (sym is) (begins_by a b end (data_begins number between is_spent tells faults rose old new a b format.Raw version pv query end made))
-call_begins number between is_spent tells faults rose version old new (call.Json pv query) a b result (end, is, made) = subst (λ r. BeginsReply r a b) (sym is) (begins_by a b end (data_begins number between is_spent tells faults rose old new a b format.Json version pv query end made))
+call_begins number between is_spent tells faults rose version old new (call.Raw pv query op) a b result (end, is, made) = subst (λ r. BeginsReply r a b) (sym is) (begins_by a b end (data_begins number between is_spent tells faults rose old new a b (format.Raw op) version pv query end made))
+call_begins number between is_spent tells faults rose version old new (call.Json pv query op) a b result (end, is, made) = subst (λ r. BeginsReply r a b) (sym is) (begins_by a b end (data_begins number between is_spent tells faults rose old new a b (format.Json op) version pv query end made))
 call_begins number between is_spent tells faults rose version old new call.AllPvs a b result (end, is, s) = subst (λ r. BeginsReply r a b) (sym is) (managed_begins _ number between is_spent call.AllPvs old new a b end s)
 call_begins number between is_spent tells faults rose version old new (call.PvStatus pv) a b result (end, is, s) = subst (λ r. BeginsReply r a b) (sym is) (managed_begins _ number between is_spent (call.PvStatus pv) old new a b end s)
 call_begins number between is_spent tells faults rose version old new (call.PvDetails pv) a b result (end, is, s) = subst (λ r. BeginsReply r a b) (sym is) (managed_begins _ number between is_spent (call.PvDetails pv) old new a b end s)

@@ -118,8 +118,8 @@ flushes_ask samples (answer.DiskFault ∷ seen) act is = absurd (cc)
 flushes_ask samples (other ∷ seen) act is = absurd (cc)
 
 next_asks : (asked : WebCall) (seen : List Reply) → AsksOfLink (next asked seen)
-next_asks (call.Raw pv query) seen act is = absurd (cc)
-next_asks (call.Json pv query) seen act is = absurd (cc)
+next_asks (call.Raw pv query op) seen act is = absurd (cc)
+next_asks (call.Json pv query op) seen act is = absurd (cc)
 next_asks call.AllPvs seen act is = names_ask 0 [] seen act is
 next_asks (call.PvStatus pv) seen act is = once_of_link (Details pv) (status_told pv) refl (status_asks pv) seen act is
 next_asks (call.PvDetails pv) seen act is = once_of_link (Details pv) details_told refl details_asks seen act is
@@ -177,8 +177,8 @@ module _ {A : Type 0} (number : A → ℕ) (between : A → List Entry → A →
 
   call_makes : {R : Type 0} (telling : Bool) (faults : R → ℕ) (rose : Type 0) (version : ℕ) (old new : A) (asked : WebCall) (a b : Option (List ℕ)) (result : Replied R)
       → RepliesCall number between is_spent (MakesActs number between is_spent telling faults rose old a new b) version old asked a result new b → MakesOnly number between is_of_link old new
-  call_makes telling faults rose version old new (call.Raw pv query) a b result (end, is, made) = data_makes telling faults rose old new a b format.Raw version pv query end made
-  call_makes telling faults rose version old new (call.Json pv query) a b result (end, is, made) = data_makes telling faults rose old new a b format.Json version pv query end made
+  call_makes telling faults rose version old new (call.Raw pv query op) a b result (end, is, made) = data_makes telling faults rose old new a b (format.Raw op) version pv query end made
+  call_makes telling faults rose version old new (call.Json pv query op) a b result (end, is, made) = data_makes telling faults rose old new a b (format.Json op) version pv query end made
   call_makes telling faults rose version old new call.AllPvs a b result (end, is, s) = serves_makes call.AllPvs old new end a b s
   call_makes telling faults rose version old new (call.PvStatus pv) a b result (end, is, s) = serves_makes (call.PvStatus pv) old new end a b s
   call_makes telling faults rose version old new (call.PvDetails pv) a b result (end, is, s) = serves_makes (call.PvDetails pv) old new end a b s

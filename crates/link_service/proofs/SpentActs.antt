@@ -104,8 +104,8 @@ module _ {A : Type 0} (number : A → ℕ) (between : A → List Entry → A →
 
   call_spent : {R : Type 0} (telling : Bool) (faults : R → ℕ) (rose : Type 0) (version : ℕ) (old new : A) (asked : WebCall) (a b : Option (List ℕ)) (result : Replied R)
       → RepliesCall number between is_spent (MakesActs number between is_spent telling faults rose old a new b) version old asked a result new b → result ≡ replied.Spent → WasSpent between is_spent new
-  call_spent telling faults rose version old new (call.Raw pv query) a b result (end, is, made) spent = data_spent telling faults rose old new a b format.Raw version pv query end made (retrieved_spent end (sym is ∙ spent))
-  call_spent telling faults rose version old new (call.Json pv query) a b result (end, is, made) spent = data_spent telling faults rose old new a b format.Json version pv query end made (retrieved_spent end (sym is ∙ spent))
+  call_spent telling faults rose version old new (call.Raw pv query op) a b result (end, is, made) spent = data_spent telling faults rose old new a b (format.Raw op) version pv query end made (retrieved_spent end (sym is ∙ spent))
+  call_spent telling faults rose version old new (call.Json pv query op) a b result (end, is, made) spent = data_spent telling faults rose old new a b (format.Json op) version pv query end made (retrieved_spent end (sym is ∙ spent))
   call_spent {R} telling faults rose version old new call.AllPvs a b result (end, is, s) spent = serves_spent R call.AllPvs old new end a b s (sym is ∙ spent)
   call_spent {R} telling faults rose version old new (call.PvStatus pv) a b result (end, is, s) spent = serves_spent R (call.PvStatus pv) old new end a b s (sym is ∙ spent)
   call_spent {R} telling faults rose version old new (call.PvDetails pv) a b result (end, is, s) spent = serves_spent R (call.PvDetails pv) old new end a b s (sym is ∙ spent)

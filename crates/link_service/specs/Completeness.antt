@@ -78,8 +78,8 @@ pub record GivesReply {A : Type 0} (number : A → ℕ) (between : A → List En
 
 -- what becomes of a call
 abbrev pub CompletesCall : {A R : Type 0} → (A → ℕ) → (A → List Entry → A → Type 0) → (A → Type 0) → Bool → Machine → ℕ → A → WebCall → Option (List ℕ) → Served R → A → Option (List ℕ) → Type 0
-CompletesCall {A} {R} number between is_spent tells m version old (call.Raw pv query) a result new b = HasAnswer tells m pv → EndsWell ((result ≡ served.Finished) × GivesAnswer R number between old m Raw version pv query a new b) result
-CompletesCall {A} {R} number between is_spent tells m version old (call.Json pv query) a result new b = HasAnswer tells m pv → EndsWell ((result ≡ served.Finished) × GivesAnswer R number between old m Json version pv query a new b) result
+CompletesCall {A} {R} number between is_spent tells m version old (call.Raw pv query op) a result new b = HasAnswer tells m pv → EndsWell ((result ≡ served.Finished) × GivesAnswer R number between old m (Raw op) version pv query a new b) result
+CompletesCall {A} {R} number between is_spent tells m version old (call.Json pv query op) a result new b = HasAnswer tells m pv → EndsWell ((result ≡ served.Finished) × GivesAnswer R number between old m (Json op) version pv query a new b) result
 CompletesCall {A} {R} number between is_spent tells m version old other a result new b = EndsWell ((result ≡ served.Finished) × GivesReply number between is_spent other old a new b) result
 
 -- the bytes begin with the head of this request, which is served

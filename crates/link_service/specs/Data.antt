@@ -1,5 +1,5 @@
 -- The reply to a request for data: a head, and the text of an answer behind it, to HTTP/1.1 in chunks and to HTTP/1.0 as it is.
-use Rattle.std.specs.Prelude.{◌≡◌, ◌⊎◌, ℕ, ◌==◌, Bool, IsTrue, true, false, List, Option, Some, None, Ok, Err, if◌then◌else◌}
+use Rattle.std.specs.Prelude.{◌≡◌, ◌⊎◌, ℕ, ◌==◌, IfSome, Bool, IsTrue, true, false, List, Option, Some, None, Ok, Err, if◌then◌else◌}
 use Rattle.std.specs.Io.KnownBytes.{Appends}
 use Rattle.edge_io.specs.Stream.{AppendsFront}
 use Rattle.edge_io.specs.declared.stream.Failed.{Failed}
@@ -27,22 +27,42 @@ use Rattle.retrieval_query.specs.declared.retrieved.Retrieved.TheVariants.{Finis
 use Rattle.retrieval_query.specs.Pinning.{FailsToPin, GivesUp, ended_by}
 use Rattle.retrieval_query.specs.Raw.{IsRaw}
 use Rattle.retrieval_query.specs.Retrieving.{IsPinned, ReadsHeaders, WritesAnswer}
+use Rattle.sample_bins.specs.declared.op.Op.{Op}
+use Rattle.sample_bins.specs.Bins.{bins_of, binned_subject, IsInRange}
 use Rattle.link_service.specs.declared.format.Format.{Format}
 use Rattle.link_service.specs.declared.format.Format.TheVariants.{Raw, Json}
 
 -- THE REPLY
 
 abbrev pub is_json : Format → Bool
-is_json Raw = false
-is_json Json = true
+is_json (Raw op) = false
+is_json (Json op) = true
 
 abbrev pub data_head : Format → ℕ → Head
 data_head format version = record { status = 200; json = is_json format; length = None; version = version }
 
+-- the operator that is asked for, if one is
+abbrev pub operator_of : Format → Option Op
+operator_of (Raw op) = op
+operator_of (Json op) = op
+
+-- its number is in range
+abbrev pub IsWide : Format → Type 0
+IsWide format = IfSome (operator_of format) IsInRange
+
+-- what is told: the answer, or BINS in its place
+abbrev pub told_subject : Option Op → Subject → Subject
+told_subject None subject = subject
+told_subject (Some op) subject = binned_subject op subject
+
+abbrev pub told_samples : Option Op → Subject → List Sample → List Sample
+told_samples None subject samples = samples
+told_samples (Some op) subject samples = bins_of op subject.query samples
+
 -- the text of an answer with these samples
 abbrev pub IsText : Format → Subject → List Sample → List ℕ → Type 0
-IsText Raw subject samples text = IsRaw subject samples text
-IsText Json subject samples text = text ≡ json subject.name subject.about samples
+IsText (Raw op) subject samples text = IsRaw (told_subject op subject) (told_samples op subject samples) text
+IsText (Json op) subject samples text = text ≡ json (told_subject op subject).name (told_subject op subject).about (told_samples op subject samples)
 
 -- a text, as it goes out as a body
 abbrev pub body_text : ℕ → List ℕ → List ℕ

@@ -59,8 +59,8 @@ Ends {R} Holds result = (end : Retrieved R) × (result ≡ replied_by end) × Ho
 -- What a call came to: a retrieval, or a management call. `Data` says of a request for data, by its form, its minor version, the name, what
 -- is asked for and how the retrieval ended, what is promised of it.
 abbrev pub RepliesCall : {A R : Type 0} → (A → ℕ) → (A → List Entry → A → Type 0) → (A → Type 0) → (Format → ℕ → List ℕ → Query → Retrieved R → Type 0) → ℕ → A → WebCall → Option (List ℕ) → Replied R → A → Option (List ℕ) → Type 0
-RepliesCall number between is_spent Data version old (call.Raw pv query) a result new b = Ends (Data Raw version pv query) result
-RepliesCall number between is_spent Data version old (call.Json pv query) a result new b = Ends (Data Json version pv query) result
+RepliesCall number between is_spent Data version old (call.Raw pv query op) a result new b = Ends (Data (Raw op) version pv query) result
+RepliesCall number between is_spent Data version old (call.Json pv query op) a result new b = Ends (Data (Json op) version pv query) result
 RepliesCall number between is_spent Data version old other a result new b = (end : Result (Unit {0}) AdminErr) × (result ≡ managed_by end) × Serves number between is_spent other old end new a b
 
 -- what a request came to, or bytes that are none, for which no act is made

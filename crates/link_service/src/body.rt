@@ -3,7 +3,7 @@ ghost use Rattle.std.specs.Prelude.{◌≡◌, ◌≤◌, List, ℕ, Some};
 ghost use Rattle.edge_io.specs.Stream.{Rose};
 ghost use Rattle.act_model.specs.Machine.{Machine};
 ghost use Rattle.retrieval_query.specs.Pinning.{AnswersPinned, IsHeld};
-ghost use Rattle.link_service.specs.Data.{BreaksBody, BreaksText, Closes, FinishesBody, FinishesText};
+ghost use Rattle.link_service.specs.Data.{BreaksBody, BreaksText, Closes, FinishesBody, FinishesText, IsWide};
 
 use crate::format::Format;
 use crate::text::give_text;
@@ -26,6 +26,7 @@ pub(crate) fn give_body<A: Actor, K: Sink>(
     link: &mut K,
 ) -> Retrieved<A::Reader>
     requires held { IsHeld A.number A.stands actor.old variable }
+    requires wide { IsWide format }
     ensures answers { AnswersPinned A.number A.between A.is_spent A.stands A.Reader.tells A.Reader.faults (FinishesBody format version) (BreaksBody format version) (Rose (K.write_faults link.old) (K.write_faults link.new)) actor.old variable query (K.written link.old) result actor.new (K.written link.new) }
     ensures faults { K.write_faults link.old ≤ K.write_faults link.new }
     ensures stands { (n : Machine) × A.stands actor.new n }
@@ -48,6 +49,7 @@ fn give_in_chunks<'a, A: Actor, K: Sink>(
     body: &mut ChunkedSink<'a, K>,
 ) -> Retrieved<A::Reader>
     requires held { IsHeld A.number A.stands actor.old variable }
+    requires wide { IsWide format }
     requires told { (told : List ℕ) × (⟦<ChunkedSink<'a, K> as Sink>⟧.written body.old ≡ Some told) }
     ensures same_reference { body.new.link.ghost_name ≡ body.old.link.ghost_name }
     ensures answers { AnswersPinned A.number A.between A.is_spent A.stands A.Reader.tells A.Reader.faults (FinishesText format) (BreaksText format) (Rose (K.write_faults body.old.link.now) (K.write_faults body.new.link.now)) actor.old variable query (⟦<ChunkedSink<'a, K> as Sink>⟧.written body.old) result actor.new (⟦<ChunkedSink<'a, K> as Sink>⟧.written body.new) }

@@ -4,7 +4,7 @@ ghost use Rattle.edge_io.specs.Stream.{Rose};
 ghost use Rattle.act_model.specs.Machine.{Machine};
 ghost use Rattle.retrieval_query.specs.Pinning.{AnswersPinned, IsHeld, ended_by};
 ghost use Rattle.retrieval_query.specs.Retrieving.{ReadsHeaders};
-ghost use Rattle.link_service.specs.Data.{BreaksBody, FinishesBody, IsWhole, MakesActs, RepliesPinned, Tells, pin_refusal};
+ghost use Rattle.link_service.specs.Data.{BreaksBody, FinishesBody, IsWhole, IsWide, MakesActs, RepliesPinned, Tells, pin_refusal};
 
 use crate::body::give_body;
 use crate::format::Format;
@@ -33,6 +33,7 @@ pub fn reply_with_data<A: Actor, K: Sink>(
     link: &mut K,
 ) -> Retrieved<A::Reader>
     requires stands { (m : Machine) × A.stands actor.old m }
+    requires wide { IsWide format }
     requires version { version ≤ 1 }
     ensures acts { MakesActs A.number A.between A.is_spent A.Reader.tells A.Reader.faults (Rose (K.write_faults link.old) (K.write_faults link.new)) actor.old (K.written link.old) actor.new (K.written link.new) format version name.now query result }
     ensures whole { IsTrue A.Reader.tells → (m : Machine) → A.stands actor.old m → m.told ≡ true → ReadsHeaders m.rule
@@ -57,6 +58,7 @@ fn reply_pinned<A: Actor, K: Sink>(
     link: &mut K,
 ) -> Retrieved<A::Reader>
     requires held { IsHeld A.number A.stands actor.old variable }
+    requires wide { IsWide format }
     requires version { version ≤ 1 }
     ensures replies { RepliesPinned A.number A.between A.is_spent (Rose (K.write_faults link.old) (K.write_faults link.new)) format version actor.old variable (K.written link.old) (λ mid. AnswersPinned A.number A.between A.is_spent A.stands A.Reader.tells A.Reader.faults (FinishesBody format version) (BreaksBody format version) (Rose (K.write_faults link.old) (K.write_faults link.new)) actor.old variable query mid result actor.new (K.written link.new)) result actor.new (K.written link.new) }
     ensures faults { K.write_faults link.old ≤ K.write_faults link.new }

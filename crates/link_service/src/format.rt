@@ -2,13 +2,15 @@
 ghost use Rattle.std.specs.Prelude.{◌≡◌};
 ghost use Rattle.link_service.specs.Data.{is_json};
 
+use sample_bins::Op;
+
 /// In which form an answer is written.
 #[derive(Clone, Copy, Debug, PartialEq, Eq)]
 pub enum Format {
-    /// Lines of the PB file format, by years.
-    Raw,
-    /// A JSON text.
-    Json,
+    /// Lines of the PB file format, by years, of the answer or what an operator makes of it.
+    Raw { op: Option<Op> },
+    /// A JSON text of the same.
+    Json { op: Option<Op> },
 }
 
 impl Format {
@@ -16,8 +18,8 @@ impl Format {
         ensures { result ≡ is_json self }
     {
         match self {
-            Format::Raw => false,
-            Format::Json => true,
+            Format::Raw { .. } => false,
+            Format::Json { .. } => true,
         }
     }
 }

@@ -2,6 +2,7 @@
 ghost use Rattle.std.specs.Prelude.{◌≡◌, ◌⊎◌, ◌≤◌};
 ghost use Rattle.edge_io.specs.Stream.{Rose};
 ghost use Rattle.act_model.specs.Machine.{Machine};
+ghost use Rattle.http_front.specs.Calls.{IsWide};
 ghost use Rattle.admin_commands.specs.Refusals.{refusal_of};
 ghost use Rattle.link_service.specs.Data.{AnswersData, Tells};
 ghost use Rattle.link_service.specs.Requests.{BeginsReply, Replies, RepliesCall, unreplied};
@@ -49,6 +50,7 @@ fn serve<A: Actor, K: Sink>(
 ) -> Replied<A::Reader>
     requires stands { (m : Machine) × A.stands actor.old m }
     requires version { request.now.version ≤ 1 }
+    requires wide { IsWide request.now.call }
     ensures replies { RepliesCall A.number A.between A.is_spent (AnswersData A.number A.between A.is_spent A.stands A.Reader.tells A.Reader.faults (Rose (K.write_faults link.old) (K.write_faults link.new)) actor.old (K.written link.old) actor.new (K.written link.new)) request.now.version actor.old request.now.call (K.written link.old) result actor.new (K.written link.new) }
     ensures peer_fault { result ≡ Replied.PeerFault → Rose (K.write_faults link.old) (K.write_faults link.new) }
     ensures write_faults { K.write_faults link.old ≤ K.write_faults link.new }
@@ -56,21 +58,21 @@ fn serve<A: Actor, K: Sink>(
 {
     let version = request.version;
     match &request.call {
-        WebCall::Raw { pv, query } => Replied::from(reply_with_data(
+        WebCall::Raw { pv, query, op } => Replied::from(reply_with_data(
             alloc,
             actor,
             pv.bytes(),
             *query,
-            Format::Raw,
+            Format::Raw { op: *op },
             version,
             link,
         )),
-        WebCall::Json { pv, query } => Replied::from(reply_with_data(
+        WebCall::Json { pv, query, op } => Replied::from(reply_with_data(
             alloc,
             actor,
             pv.bytes(),
             *query,
-            Format::Json,
+            Format::Json { op: *op },
             version,
             link,
         )),

@@ -66,8 +66,8 @@ returns-in-Ok-serve_archive-clause-unopened g c =
     let new = c.in-Ok-serve_archive.archive in
     served_unopened g.D.Disk c.args.store c.requires.fresh _ c.in-Ok.archive new c.in-Ok.ensures.store c.in-Ok.ensures.opened c.into_store.result c.into_disk.result c.into_store.ensures c.into_disk.ensures _ c.in-Ok-serve_archive.ensures.leaves.0 c.in-Ok-serve_archive.told c.in-Ok-serve_archive.ensures.leaves.1 (λ told. (g.met.D.Disk g.world.𝓛 g.world.𝓜 g.world.𝓡 ((λ s x. x), (λ x. x), (λ x. x), λ x. x)).seen new.store.disk told)
 
-pub returns-in-Err-serve_archive-clause-serves : goal.returns-in-Err-serve_archive-clause-serves
-returns-in-Err-serve_archive-clause-serves g c =
+pub returns-clause-serves : goal.returns-clause-serves
+returns-clause-serves g c =
     let back = c.in-Err-serve_archive.ensures.back in
     let given = c.into_store-in-Err-serve_archive.ensures ∙ (ap (λ a. a.store) back.0 ∙ c.in-Ok.ensures.store) in
     let came = c.out_of_memory-in-Err-serve_archive in
@@ -75,6 +75,6 @@ returns-in-Err-serve_archive-clause-serves g c =
     (serves_nobody _ _ _ _ _ _ came.result.status c.args.posts.now (subst IsUnserved (sym came.ensures.status) tt)
     (record { status_is = came.ensures.status; same = came.ensures.disk ∙ ap (λ s. s.disk) given }, ap g.C.Clock.coming back.2))
 
-pub returns-in-Err-serve_archive-clause-unopened : goal.returns-in-Err-serve_archive-clause-unopened
-returns-in-Err-serve_archive-clause-unopened g c =
+pub returns-clause-unopened : goal.returns-clause-unopened
+returns-clause-unopened g c =
     unopened_back g.D.Disk c.args.store c.into_store-in-Err-serve_archive.result _ c.requires.fresh (c.into_store-in-Err-serve_archive.ensures ∙ (ap (λ a. a.store) c.in-Err-serve_archive.ensures.back.0 ∙ c.in-Ok.ensures.store)) c.out_of_memory-in-Err-serve_archive.ensures.disk (λ told. (g.met.D.Disk g.world.𝓛 g.world.𝓜 g.world.𝓡 ((λ s x. x), (λ x. x), (λ x. x), λ x. x)).seen c.args.store.disk told)

@@ -1,6 +1,7 @@
 use Rattle.std.proofs.Common.{◌≡◌, ◌∙◌, ap, inr, sym, Option, List, ℕ, Err}
 use Rattle.edge_io.specs.Stream.{Direction}
 use Rattle.act_model.proofs.Histories.{made_nothing}
+use Rattle.http_front.proofs.Asked.{request_wide}
 use Rattle.link_service.proofs.Replying.{call_acts, call_begins, refused_begins}
 use Rattle.link_service.proofs.request.reply_to_request.Goals as goal
 
@@ -46,3 +47,8 @@ returns-in-Err-clause-peer_fault g c e =
     let mid = c.read_request.new.source in
     let kept = stays L.Source.beside L.Sink.written L.Sink.write_faults g.met.L.Link.written_stays c.args.link.now mid c.read_request.ensures.beside in
     inr (rw kept.1 at (c.refuse_request.ensures.peer_fault e))
+
+pub serve-requires-clause-wide : goal.serve-requires-clause-wide
+serve-requires-clause-wide g c =
+    let L = g.L in
+    request_wide (L.Source.left c.args.link.now) (L.Source.left c.read_request.new.source) c.in-Ok.request c.in-Ok.ensures.read

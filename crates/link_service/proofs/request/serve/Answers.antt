@@ -37,3 +37,6 @@ returns-in-Ok-clause-replies g c =
     let new = c.admin.new.sink in
     manages A.number A.between A.is_spent (AnswersData A.number A.between A.is_spent A.stands R.tells R.faults (Rose (K.write_faults old) (K.write_faults new)) c.args.actor.now (K.written old) c.admin.new.actor (K.written new))
     c.args.request.now.version c.args.actor.now c.admin.new.actor c.args.request.now.call (K.written old) (K.written new) Finished c.admin.result (is_managed c.args.request.now.call c.in_default.not-Raw c.in_default.not-Json) (rw c.in-Ok.is refl) c.admin.ensures.serves
+
+pub reply_with_data-requires-clause-wide : goal.reply_with_data-requires-clause-wide
+reply_with_data-requires-clause-wide g c = rw c.in-Raw.is at c.requires.wide

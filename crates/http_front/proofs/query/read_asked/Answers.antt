@@ -1,0 +1,18 @@
+use Rattle.std.proofs.Common.{◌≡◌, ℕ, List, Some, refl, sym, ap, ◌∙◌, inl}
+use Rattle.std.specs.Prelude.{option_map}
+use Rattle.std.specs.Cow.{cow_str_bytes}
+use Rattle.pv_name.specs.Name.{IsRefusedAt}
+use Rattle.http_front.specs.declared.request.Param.TheVariants.{PvOrBins}
+use Rattle.http_front.specs.Param.{name_of}
+use Rattle.http_front.specs.Query.{value_of}
+use Rattle.http_front.proofs.QueryLemmas.{not_asked}
+use Rattle.http_front.proofs.query.read_asked.Goals as goal
+
+pub returns-in-Err-BadName : goal.returns-in-Err-BadName
+returns-in-Err-BadName c =
+    let text = c.as_bytes.result.now in
+    let asked = c.in-Some-read_pv.asked in
+    let words : text ≡ cow_str_bytes c.in-Some.text = c.as_bytes.ensures.value ∙ c.as_str.ensures.value in
+    let found : value_of (name_of PvOrBins) c.args.query.now ≡ Some text = ap (λ (n : List ℕ). value_of n c.args.query.now) (sym c.name.ensures) ∙ sym c.in_ok-text.ensures ∙ ap (λ o. option_map cow_str_bytes o) c.in-Some.is ∙ ap Some (sym words) in
+    let bad : IsRefusedAt asked.1.now c.in-Err-BadName.field-0-0 = rw c.in-Err-BadName.field-0-is at c.in-Err-BadName.ensures.err in
+    inl (refl, not_asked c.args.query.now text asked.1.now asked.0 c.in-Err-BadName.field-0-0 found c.in-Some-read_pv.ensures.found bad)
