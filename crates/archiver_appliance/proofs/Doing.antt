@@ -221,6 +221,7 @@ module _ {S K C D R : Type 0} (src : OfSource S) (snk : OfSink K) (clk : OfClock
             session = one.session;
             acts = acts_behind Before disk.tells store.config held one.done (disk.past first) (disk.past store.disk) (disk.past given) (is_opened told before after opens) one.acts;
             durable = subst (λ (m : Machine). LeavesNone one.came m) (same_end Before disk.tells store.config held one.done (disk.past first) (disk.past store.disk) (disk.past given) (is_opened told before after opens) one.acts) one.durable;
+            twice = one.twice;
           } in
           inr (subst (λ (x : ConfigState). IngestsInto Before true x held (src.left s) (clk.coming c) (clk.coming c') (disk.past first) (disk.past given) status) settings
           (subst (λ (t : Bool). IngestsInto Before t store.config held (src.left s) (clk.coming c) (clk.coming c') (disk.past first) (disk.past given) status) told made))

@@ -26,7 +26,8 @@ use Rattle.archiver_appliance.proofs.PinSteps.{first_own}
 
 -- THE LAST ACT
 
-rest_own : (who : ℕ) (e : Entry) (es : List Entry) → own who (e ∷ es) ≡ e ∷ es → own who es ≡ es
+-- all but the first are one's own too
+pub rest_own : (who : ℕ) (e : Entry) (es : List Entry) → own who (e ∷ es) ≡ e ∷ es → own who es ≡ es
 rest_own who e es all = let is = first_own who e es all in let one : e ∷ own who es ≡ e ∷ es = rw is at all in cc (one)
 
 -- behind the last of one's own acts nothing stands, where all are one's own

@@ -20,6 +20,7 @@ pub mod PinSteps
 pub mod Posts
 pub mod Refusals
 pub mod Retrievals
+pub mod Rooms
 pub mod Services
 pub mod ServingAll
 pub mod Sessions

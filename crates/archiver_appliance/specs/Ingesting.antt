@@ -1,5 +1,5 @@
 -- What `ingest` makes of what a disk holds.
-use Rattle.std.specs.Prelude.{◌≡◌, ℕ, List, Bool, true, Option, Some, slice_get}
+use Rattle.std.specs.Prelude.{◌≡◌, ℕ, ◌+◌, ◌≤◌, List, Bool, true, Option, Some, All, length, slice_get}
 use Rattle.disk_model.specs.Files.{Files}
 use Rattle.disk_model.specs.Past.{Past}
 use Rattle.edge_io.specs.Moments.{Moments}
@@ -7,7 +7,9 @@ use Rattle.etl_rules.specs.Config.{ConfigState}
 use Rattle.tier_store.specs.Stores.{Stores}
 use Rattle.act_model.specs.History.{Done}
 use Rattle.act_model.specs.Machine.{Machine}
+use Rattle.act_model.specs.Offer.{room}
 use Rattle.act_model.specs.Rows.{RowState, accepted, durable}
+use Rattle.pb_lines.specs.Stream.{Item, sample}
 use Rattle.feed_session.specs.Session.{Session, Taken}
 use Rattle.feed_session.specs.declared.end.Fed.{Fed}
 use Rattle.feed_session.specs.declared.end.Fed.TheVariants as fed
@@ -34,6 +36,15 @@ LeavesNone (fed.Fed kept held dropped) m = AllIsDurable m
 LeavesNone (fed.Refused line fault) m = AllIsDurable m
 LeavesNone other m = Unit {0}
 
+-- a sample whose line an empty intake has room for
+abbrev pub HasRoom : Item → Type 0
+HasRoom (sample x) = length x.line + 1 ≤ room
+HasRoom other = ⊥
+
+-- Such a sample is offered at most twice, the second time behind a flush: the flush has made room for it.
+abbrev pub IsOfferedTwice : Taken → Type 0
+IsOfferedTwice t = HasRoom t.item → length t.done ≤ 3
+
 -- What an ingest made of what is held: which items of the stream it took, at which moments it offered their samples, and what its acts were
 -- answered. Just the acts that these items ask for were made.
 pub record IngestsInto (Before : Files → Type 0) (tells : Bool) (config : ConfigState) (held : Stores) (source : Option (List ℕ)) (clock clock' : Option Moments) (old new : Past) (status : Status) : Type 0 where
@@ -44,3 +55,4 @@ pub record IngestsInto (Before : Files → Type 0) (tells : Bool) (config : Conf
   pub session : Session true came taken source clock clock' done
   pub acts : ActsFrom Before tells config held done old new
   pub durable : LeavesNone came acts.end
+  pub twice : All IsOfferedTwice taken

@@ -1,10 +1,11 @@
-use Rattle.std.proofs.Common.{◌+◌, inr, true, sym, ◌∙◌, ap, subst}
+use Rattle.std.proofs.Common.{◌+◌, [], None, inr, true, sym, ◌∙◌, ap, subst}
 use Rattle.durable_write.specs.Writing.{LeavesListed}
 use Rattle.durable_write.proofs.KeptBytes.{leaves_none}
 use Rattle.feed_session.specs.Session.{EndsIn}
 use Rattle.archiver_appliance.proofs.Acting.{acts_from, acts_given, begins, count_given, handed, has_not_fallen, has_risen, nested_in, ran, rose_given, stands_at_first, unopened_back, unopened_given}
 use Rattle.archiver_appliance.proofs.Chained.{session_feeding}
 use Rattle.archiver_appliance.proofs.Ingests.{fails_last, leaves_none as leaves_nothing}
+use Rattle.archiver_appliance.proofs.Rooms.{all_twice}
 use Rattle.archiver_appliance.proofs.LeftFiles.{lists_given}
 use Rattle.archiver_appliance.proofs.Outcomes.{ingest_caused, ingest_ends}
 use Rattle.archiver_appliance.proofs.ingesting.ingest_into.Goals as goal
@@ -32,6 +33,7 @@ returns-clause-ingests g c = inr (λ held has.
     let begun = begins disk c.args.store c.requires.fresh old c.in-Ok.ensures.opened held has in
     let from = acts_from disk c.args.store.config held old new session.1 begun session.3 in
     let acts = acts_given disk new c.into_store.result c.into_disk.result c.into_store.ensures c.into_disk.ensures c.args.store.config held session.1 c.args.store old c.in-Ok.ensures.store from.0 in
+    let run = ran disk old new session.1 begun.start begun.stands session.3 in
     record {
       came = c.ingest_alone-fed.result;
       told = c.ingested_status.ensures;
@@ -40,6 +42,7 @@ returns-clause-ingests g c = inr (λ held has.
       session = session.2;
       acts = acts;
       durable = leaves_nothing acts.acts.entries acts.start acts.end session.0 session.2.last session.1 acts.acts.no_others acts.acts.just_these session.2.all acts.acts.runs c.ingest_alone-fed.result session.2.begun session.2.ends;
+      twice = all_twice session.3.entries begun.start run.after begun.stands.sound run.runs session.3.no_others session.1 session.3.just_these [] None session.0 session.2.last session.2.all session.2.items;
     })
 
 pub returns-clause-lists : goal.returns-clause-lists
