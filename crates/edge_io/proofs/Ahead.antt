@@ -1,13 +1,15 @@
 -- What is still to come, over the steps of a reader of lines.
 use Rattle.std.proofs.Common.{◌≡◌, ◌≢◌, ℕ, ◌+◌, ◌-◌, ◌<◌, ◌≤◌, List, [], ◌∷◌, ◌++◌, Option, Some, None, All, length, take, drop, get_or, arith, refl, sym, ◌∙◌, ap, subst, append_assoc, inl, inr, zero, suc}
 use Rattle.std.specs.Prelude.{◌^◌, IfSome, IfNone}
-use Rattle.std.proofs.lemmas.List.{take-append-drop, drop_more, get_or_append_left, get_or-take, length-take-le, length-append, take-take, take_all, take_at, drop_at, take-append-le, append-nil, get_or_default, nil_from_length}
+use Rattle.std.proofs.lemmas.List.{take-append-drop, drop_more, get_or_append_left, get_or-take, length-take-le, length-append, take-take, take_all, take_at, drop_at, take-append-le, drop-append-le, append-nil, get_or_default, nil_from_length}
 use Rattle.std.proofs.Math.Seq.{take-add}
 use Rattle.std.proofs.lemmas.List.Elements.{All-from_get_or}
 use Rattle.std.specs.Io.KnownBytes.{Consumes, Keeps, IsAtEnd, prepend_known}
 use Rattle.edge_io.specs.declared.lines.LineRead.{LineRead}
 use Rattle.edge_io.specs.declared.lines.LineRead.TheVariants.{Line, End, Torn, TooLong, InputTooLong, SourceFault, Memory}
-use Rattle.edge_io.specs.Lines.{Reader, ahead, IsTorn, IsTooLong, IsInputTooLong, NoneBelow, Stays, Reads, HoldsAnswer, AnswersHeld, Wants}
+use Rattle.edge_io.specs.declared.lines.Filled.{Filled}
+use Rattle.edge_io.specs.declared.lines.Filled.TheVariants as filled
+use Rattle.edge_io.specs.Lines.{Reader, ahead, IsTorn, IsTooLong, IsInputTooLong, NoneBelow, Stays, Reads, HoldsAnswer, AnswersHeld, Wants, Fills, ReadsOn}
 
 -- a line went from the reader to the caller
 pub consumes_line : (a : Option (List ℕ)) (held line rest : List ℕ) (left : Option (List ℕ)) → Keeps a (prepend_known held left) → held ≡ line ++ 10 ∷ rest → Consumes a (prepend_known rest left) (line ++ 10 ∷ [])
@@ -52,6 +54,33 @@ pub resized_front : (old zeros : List ℕ) (n count : ℕ) → n ≡ length old 
 resized_front old zeros n count long =
     let whole = take_all (n + count) old (omega arith) in
     rw whole (take_at old zeros n (sym long))
+
+-- what a reader holds grows by what it takes, and what is still to come stays
+takes_more : (a b : Option (List ℕ)) (held more chunk : List ℕ) → more ≡ held ++ chunk → Consumes a b chunk → Keeps (prepend_known held a) (prepend_known more b)
+takes_more None b held more chunk e h = tt
+takes_more (Some xs) None held more chunk e h = absurd h
+takes_more (Some xs) (Some ys) held more chunk e h = ap (λ (v : List ℕ). v ++ ys) e ∙ append_assoc held chunk ys ∙ ap (λ (v : List ℕ). held ++ v) (sym h)
+
+takes_none : (a b : Option (List ℕ)) (held more : List ℕ) → more ≡ held → Keeps a b → Keeps (prepend_known held a) (prepend_known more b)
+takes_none None b held more e h = tt
+takes_none (Some xs) None held more e h = absurd h
+takes_none (Some xs) (Some ys) held more e h = ap (λ (v : List ℕ). v ++ ys) e ∙ ap (λ (v : List ℕ). held ++ v) h
+
+-- a read behind the buffer's bytes fills what is not given of them
+pub read_fills : (old new : List ℕ) (start : ℕ) (a b : Option (List ℕ)) (r : Filled) → start ≤ length old → ReadsOn old new a b r →
+    Fills (drop start old) (drop start new) (prepend_known (drop start old) a) (prepend_known (drop start new) b) r
+read_fills old new start a b filled.More within h =
+    let grown = ap (λ (v : List ℕ). drop start v) h.2 ∙ drop-append-le start old h.0 within in
+    (takes_more a b (drop start old) (drop start new) h.0 grown h.3, (h.0, h.1, grown))
+read_fills old new start a b filled.End within h =
+    let same = ap (λ (v : List ℕ). drop start v) h.0 in
+    (takes_none a b (drop start old) (drop start new) same h.1, same)
+read_fills old new start a b filled.Fault within h =
+    let same = ap (λ (v : List ℕ). drop start v) h.0 in
+    (takes_none a b (drop start old) (drop start new) same h.1, same)
+read_fills old new start a b filled.Memory within h =
+    let same = ap (λ (v : List ℕ). drop start v) h.0 in
+    (takes_none a b (drop start old) (drop start new) same h.1, same)
 
 -- an answer from what the reader holds is the answer to what is still to come
 pub held_answers : (old mid new : Reader) (a left : Option (List ℕ)) (r : LineRead) → Keeps a (ahead mid left) → Stays old mid → AnswersHeld mid new r → Reads old new a (ahead new left) r

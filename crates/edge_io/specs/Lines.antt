@@ -33,6 +33,10 @@ NoneBelow xs n = (k : ℕ) → k < n → slice_index xs k ≢ 10
 abbrev pub IsFirstNewline : List ℕ → Option ℕ → Type 0
 IsFirstNewline xs place = MatchOption place (NoneBelow xs (length xs)) (λ k. (k < length xs) × (slice_index xs k ≡ 10) × NoneBelow xs k)
 
+-- of so many bytes, fewer than 65,536 stand behind the newline at this place
+abbrev pub IsNear : ℕ → Option ℕ → Type 0
+IsNear count place = IfSome place (λ k. count ≤ k + 65536)
+
 -- the line, its number and what was given stay
 pub record Stays (old new : Reader) : Type 0 where
   pub line : new.line ≡ old.line

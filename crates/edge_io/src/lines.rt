@@ -4,7 +4,7 @@ ghost use Rattle.std.specs.List.{slice_range};
 ghost use Rattle.std.specs.Simd.Lanes.{mask_l};
 ghost use Rattle.std.specs.Io.KnownBytes.{IsAtEnd, Keeps};
 ghost use Rattle.edge_io.specs.Stream.{Rose};
-ghost use Rattle.edge_io.specs.Lines.{Reader, NoneBelow, IsFirstNewline, IsStop, Stays, Reads, ReadsOn, Fills, HoldsAnswer, AnswersHeld, Wants, ahead};
+ghost use Rattle.edge_io.specs.Lines.{Reader, NoneBelow, IsFirstNewline, IsNear, IsStop, Stays, Reads, ReadsOn, Fills, HoldsAnswer, AnswersHeld, Wants, ahead};
 
 use crate::Source;
 use memchr::memchr;
@@ -71,13 +71,13 @@ pub struct Lines {
 impl Model for Lines {
     ghost use Rattle.std.specs.Prelude.{◌+◌, ◌-◌, ◌^◌, ◌≤◌, drop, vec_len, IfSome};
     ghost use Rattle.std.specs.List.{slice_range};
-    ghost use Rattle.edge_io.specs.Lines.{Reader, IsFirstNewline, IsStop};
+    ghost use Rattle.edge_io.specs.Lines.{Reader, IsFirstNewline, IsNear, IsStop};
 
     ghost Value = { Reader };
 
     ghost view = { λ r. record { held = drop r.start r.buf.items; passed = r.passed; line = slice_range r.buf.items r.line_at r.line_end; number = r.number; stop = r.stop } };
 
-    ghost invariant = { λ r. (r.line_at ≤ r.line_end) × (r.line_end ≤ r.start) × (r.start ≤ vec_len r.buf) × (r.number ≤ r.passed) × (r.passed + (vec_len r.buf - r.start) ≤ 2 ^ 40) × IsFirstNewline (drop r.start r.buf.items) r.newline × IfSome r.stop IsStop };
+    ghost invariant = { λ r. (r.line_at ≤ r.line_end) × (r.line_end ≤ r.start) × (r.start ≤ vec_len r.buf) × (r.number ≤ r.passed) × (r.passed + (vec_len r.buf - r.start) ≤ 2 ^ 40) × IsFirstNewline (drop r.start r.buf.items) r.newline × IsNear (vec_len r.buf - r.start) r.newline × IfSome r.stop IsStop };
 }
 
 impl Lines {
@@ -125,10 +125,13 @@ impl Lines {
     }
 
     /// Reads the next line. Where it is torn or too long, or the input is, each later call says so.
+    ///
+    /// At a line, fewer than 65,536 bytes were taken of the source behind the line's newline.
     #[inline(always)]
     pub fn next<S: Source>(&mut self, source: &mut S) -> LineRead
         ensures read { IfNone self.old.stop (Reads self.old self.new (ahead self.old (S.left source.old)) (ahead self.new (S.left source.new)) result) }
         ensures stopped { IfSome self.old.stop (λ stop. (result ≡ stop) × (self.new ≡ self.old) × (source.new ≡ source.old)) }
+        ensures ahead { result ≡ LineRead.Line → length self.new.held < 65536 }
         ensures unread { HoldsAnswer self.old → source.new ≡ source.old }
         ensures faults { S.read_faults source.old ≤ S.read_faults source.new }
         ensures failed { result ≡ LineRead.SourceFault → Rose (S.read_faults source.old) (S.read_faults source.new) }
@@ -155,6 +158,7 @@ impl Lines {
     fn answer(&mut self) -> Option<LineRead>
         requires { self.old.stop ≡ None }
         ensures some { IfSome result (AnswersHeld self.old self.new) }
+        ensures ahead { result ≡ Some LineRead.Line → length self.new.held < 65536 }
         ensures none { IfNone result ((self.new ≡ self.old) × Wants self.old) }
     {
         if let Some(len) = self.first_newline() {
@@ -187,6 +191,7 @@ impl Lines {
     #[inline(always)]
     fn first_newline(&self) -> Option<usize>
         ensures place { IsFirstNewline self.now.held result }
+        ensures near { IsNear (length self.now.held) result }
         ensures bound { self.now.passed + length self.now.held ≤ 2 ^ 40 }
     {
         self.newline
@@ -225,6 +230,7 @@ impl Lines {
     fn pass(&mut self, len: usize)
         requires within { len < length self.old.held }
         requires newline { slice_index self.old.held len ≡ 10 }
+        requires near { length self.old.held ≤ len + 65536 }
         ensures line { self.new.line ≡ take len self.old.held }
         ensures held { self.new.held ≡ drop (len + 1) self.old.held }
         ensures number { self.new.number ≡ self.old.number + 1 }
@@ -328,7 +334,8 @@ fn read_on<S: Source>(buf: &mut Vec<u8>, count: usize, source: &mut S) -> Filled
 fn newline_from(bytes: &[u8], searched: usize) -> Option<usize>
     requires within { searched ≤ length bytes.now }
     requires none { NoneBelow bytes.now searched }
-    ensures { IsFirstNewline bytes.now result }
+    ensures place { IsFirstNewline bytes.now result }
+    ensures behind { IfSome result (λ k. searched ≤ k) }
 {
     let (_, rest) = bytes.split_at(searched);
     if let Some(k) = near_newline(rest) {

@@ -4,3 +4,4 @@ pub mod Whole
 pub mod Unique
 pub mod FileLines
 pub mod FileMeaning
+pub mod Final

@@ -1,5 +1,5 @@
 -- A raw stream: lines, which are headers, samples and empty lines that end chunks, up to the first bad line.
-use Rattle.std.specs.Prelude.{◌≡◌, ◌≢◌, ◌⊎◌, ℕ, ◌+◌, ◌^◌, ◌<◌, ◌≤◌, List, [], ◌∷◌, ◌++◌, All, Option, Some, None, Bool, true, false, length, if◌then◌else◌}
+use Rattle.std.specs.Prelude.{◌≡◌, ◌≢◌, ◌⊎◌, ℕ, ◌+◌, ◌^◌, ◌<◌, ◌≤◌, List, [], ◌∷◌, ◌++◌, All, Option, Some, None, Bool, true, false, ◌==◌, length, count_by, if◌then◌else◌}
 use Rattle.series_model.specs.declared.sample.Sample.{Sample}
 use Rattle.payload_info.specs.declared.info.PayloadInfo.{PayloadInfo}
 use Rattle.edge_io.specs.Lines.{IsTorn, IsTooLong, IsInputTooLong}
@@ -101,3 +101,15 @@ pub record IsStream (s : Section) (n p : ℕ) (bytes : List ℕ) (items : List I
 -- a whole stream
 abbrev pub IsWholeStream : List ℕ → List Item → Stop → Type 0
 IsWholeStream bytes items stop = IsStream first_section 0 0 bytes items stop
+
+-- REFUSALS
+
+-- how many newlines stand in the bytes
+abbrev pub newline_count : List ℕ → ℕ
+newline_count bytes = count_by (λ x. x == 10) bytes
+
+-- A refusal that doesn't wait for more bytes: that of a bad line, or of a line or a stream that is too long.
+abbrev pub IsFinal : ChunkFault → Type 0
+IsFinal fault.NoHeader = ⊥
+IsFinal fault.Torn = ⊥
+IsFinal _ = Unit {0}
