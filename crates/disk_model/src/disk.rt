@@ -1,5 +1,5 @@
 // What a disk promises: each call's effect on the files and on what a crash may leave.
-ghost use Rattle.std.specs.Prelude.{◌≡◌, ◌≢◌, ◌⊎◌, ◌≤◌, ◌<◌, ◌+◌, ◌-◌, ◌^◌, List, ℕ, Bool, length, take, drop, min, max, [], Option, None, Some, IfOk, OnOk, OnErr, IsErr, IsErrOf, IsTrue};
+ghost use Rattle.std.specs.Prelude.{◌≡◌, ◌≢◌, ◌⊎◌, ◌≤◌, ◌<◌, ◌+◌, ◌-◌, ◌^◌, List, ℕ, Bool, length, take, drop, min, max, [], Option, None, Some, IfOk, OnOk, OnErr, IsErr, IsErrOf, IsTrue, All};
 ghost use Rattle.disk_model.specs.declared.disk.DiskErr.TheVariants.{Memory};
 ghost use Rattle.disk_model.specs.Files.{Name, Files, Rose, HasFile, Lists, At, Overwritten, Torn, Cut, Frayed, Becomes, KeptOr, size_of};
 ghost use Rattle.disk_model.specs.Past.{Past, MayLeave, Passes, Only};
@@ -12,7 +12,7 @@ use std::alloc::{AllocError, AllocFailed};
 pub enum DiskErr {
     /// The disk failed, or the call can't be done. It is counted.
     Fault,
-    /// Want of memory. `write`, `cut`, `sync` and `remove` never answer it.
+    /// Want of memory. `write`, `cut`, `sync`, `sync_each` and `remove` never answer it.
     Memory,
 }
 
@@ -130,6 +130,23 @@ pub trait Disk: Drop {
         ensures faults { faults self.old ≤ faults self.new }
         ensures cause { IsErr result → Rose (faults self.old) (faults self.new) }
         ensures no_memory { IsErrOf result DiskErr.Memory → ⊥ };
+
+    /// Syncs each of these names, in no order that a crash could tell: as `sync` of each does. After `Fault` none of them
+    /// is known to be synced. A disk may write a body of its own that syncs many of them at once.
+    fn sync_each(&mut self, names: &[FileName]) -> Result<(), DiskErr>
+        ensures durable { IsTrue tells → OnOk result (All (λ name. Only (past self.new) name (files self.old name)) names.now) }
+        ensures same { IsTrue tells → files self.new ≡ files self.old }
+        ensures crash { IsTrue tells → Passes (λ a b. b ≡ a) (past self.old) (past self.new) }
+        ensures opened { IsTrue tells → opened self.new ≡ opened self.old }
+        ensures faults { faults self.old ≤ faults self.new }
+        ensures cause { IsErr result → Rose (faults self.old) (faults self.new) }
+        ensures no_memory { IsErrOf result DiskErr.Memory → ⊥ }
+    {
+        for name in names {
+            self.sync(name)?;
+        }
+        Ok(())
+    }
 
     /// Removes a file, and sets the name's opened length to 0. Until the next sync a crash may undo it. After `Fault` the
     /// file is there or absent. A reader of the file keeps its bytes.
