@@ -209,7 +209,3 @@ acts_alone {D} {R} disk first old new last who done entries just zero alone from
       no_others = subst (λ (n : ℕ). own n entries ≡ entries) zero alone.all_mine;
       chain = subst (λ (b : Archive D R). Linked old b) (sym to) (subst (λ (a : Archive D R). Linked a new) from alone.chain);
     }
-
--- what holds of one holds of its like
-pub of_same : {A : Type 0} (P : A → Type 0) (a b : A) → a ≡ b → P b → P a
-of_same P a b is p = subst P (sym is) p

@@ -1,5 +1,5 @@
 -- What a retrieval wrote, as the answer over what was held as the archive was opened.
-use Rattle.std.proofs.Common.{Result, Ok, Err, ◌≡◌, ◌≢◌, ◌≤◌, ◌⊎◌, inl, inr, Bor, ℕ, List, [], ◌∷◌, Bool, true, Option, Some, None, refl, sym, ◌∙◌, ap, subst, arith}
+use Rattle.std.proofs.Common.{Result, Ok, Err, ◌≡◌, ◌≢◌, ◌≤◌, ◌⊎◌, inl, inr, ℕ, List, [], ◌∷◌, Bool, true, Option, Some, None, refl, sym, ◌∙◌, ap, subst, arith}
 use Rattle.std.specs.Prelude.{slice_get}
 use Rattle.std.specs.Io.KnownBytes.{Appends}
 use Rattle.edge_io.specs.Stream.{AppendsFront}
@@ -29,10 +29,9 @@ use Rattle.event_types.specs.declared.about.About.{About}
 use Rattle.command_words.specs.declared.status.Status.{Status}
 use Rattle.command_words.specs.declared.status.Status.TheVariants.{Done as IsDone, NoSuchVariable, SinkFault, DiskFault, Damaged, OutOfMemory}
 use Rattle.archiver_appliance.specs.Acting.{IsOpenedOn, header_by, rule_of}
-use Rattle.archiver_appliance.specs.Judging.{IsOfOpened, IsOneOf}
+use Rattle.archiver_appliance.specs.Judging.{IsOneOf}
 use Rattle.archiver_appliance.specs.Retrieving.{Answers, EndsBy, Gets, GetsSome, HasAnswer, HasNone, IsPinless, IsRetrieved, WritesAccepted, WritesOfPin, subject_of}
 use Rattle.archiver_appliance.specs.Outside.{IsCausedBy}
-use Rattle.archiver_appliance.specs.Run.{EndsAs}
 use Rattle.command_words.specs.Status.{number_of}
 use Rattle.command_words.specs.declared.command.StoreCommand.TheVariants as command
 use Rattle.archiver_appliance.proofs.PinSteps.{IsPinnedRow, first_step, found_name, held_row, none_has, one_has, pin_named, pin_rows, pin_unknown}
@@ -144,15 +143,6 @@ module _ {R : Type 0} (tells : Bool) (p : Parts) (start : Machine) (stands : Sta
       absurd (none r.i (one_has tells p start name r.i r.row stands r.found r.here).0)
 
 -- STATUSES
-
-pub retrieved_plain : {R : Type 0} (result : Retrieved R) (status : Status) (file : Option R) → IsRetrieved result status file → IsOfOpened status × ((asked : Bor (List ℕ)) (query : Query) (input : Option (List ℕ)) → EndsAs (command.Get asked query) input status)
-retrieved_plain {R} (got.Finished count) status file is = subst (λ (s : Status). IsOfOpened s × ((asked : Bor (List ℕ)) (query : Query) (input : Option (List ℕ)) → EndsAs (command.Get asked query) input s)) (sym is.0) (tt, λ asked query input. tt)
-retrieved_plain {R} got.NoSuchVariable status file is = subst (λ (s : Status). IsOfOpened s × ((asked : Bor (List ℕ)) (query : Query) (input : Option (List ℕ)) → EndsAs (command.Get asked query) input s)) (sym is.0) (tt, λ asked query input. tt)
-retrieved_plain {R} (got.ReadFault failed) status file is = subst (λ (s : Status). IsOfOpened s × ((asked : Bor (List ℕ)) (query : Query) (input : Option (List ℕ)) → EndsAs (command.Get asked query) input s)) (sym is.0) (tt, λ asked query input. tt)
-retrieved_plain {R} (got.Damaged bad at) status file is = subst (λ (s : Status). IsOfOpened s × ((asked : Bor (List ℕ)) (query : Query) (input : Option (List ℕ)) → EndsAs (command.Get asked query) input s)) (sym is.0) (tt, λ asked query input. tt)
-retrieved_plain {R} got.SinkFault status file is = subst (λ (s : Status). IsOfOpened s × ((asked : Bor (List ℕ)) (query : Query) (input : Option (List ℕ)) → EndsAs (command.Get asked query) input s)) (sym is.0) (tt, λ asked query input. tt)
-retrieved_plain {R} got.Spent status file is = absurd is
-retrieved_plain {R} got.Memory status file is = subst (λ (s : Status). IsOfOpened s × ((asked : Bor (List ℕ)) (query : Query) (input : Option (List ℕ)) → EndsAs (command.Get asked query) input s)) (sym is.0) (tt, λ asked query input. tt)
 
 -- that no variable was found is told of nothing else
 pub found_none : {R : Type 0} (result : Retrieved R) (status : Status) (file : Option R) → IsRetrieved result status file → status ≡ NoSuchVariable → result ≡ got.NoSuchVariable

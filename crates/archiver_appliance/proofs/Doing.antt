@@ -1,7 +1,6 @@
 -- What each command makes of a disk, from its opening on.
 use Rattle.std.proofs.lemmas.List.{length-map}
-use Rattle.std.proofs.Common.{◌≡◌, ◌≢◌, ◌⊎◌, inl, inr, Bor, ℕ, ◌+◌, Bool, true, List, [], length, Option, Some, refl, sym, ◌∙◌, ap, subst, arith}
-use Rattle.std.specs.FinMap.{empty}
+use Rattle.std.proofs.Common.{◌≡◌, ◌≢◌, ◌⊎◌, inl, inr, Bor, ℕ, ◌+◌, Bool, true, List, length, Option, Some, refl, sym, ◌∙◌, ap, subst, arith}
 use Rattle.std.specs.Prelude.{IsTrue, slice_get}
 use Rattle.edge_io.specs.declared.stream.Source.{Ghosts as OfSource}
 use Rattle.edge_io.specs.declared.stream.Sink.{Ghosts as OfSink}
@@ -20,7 +19,7 @@ use Rattle.tier_store.specs.Change.{Has}
 use Rattle.tier_store.specs.Seen.{granularities, seen}
 use Rattle.tier_store.specs.Stores.{Stores}
 use Rattle.tier_store.specs.declared.store.TierStore.{TierStore}
-use Rattle.store_reopen.specs.Reopen.{HasRead, HoldsEither, IsReady, OpensEither, lists_of, stores_of}
+use Rattle.store_reopen.specs.Reopen.{HasRead, HoldsEither, OpensEither, lists_of, stores_of}
 use Rattle.store_reopen.specs.Verdict.{AreSaid, IsWhole, Listings}
 use Rattle.store_reports.specs.Status.{status_text}
 use Rattle.store_reopen.proofs.Having.{listed_at}
@@ -29,7 +28,7 @@ use Rattle.command_words.specs.declared.command.Command.TheVariants.{OverStore}
 use Rattle.command_words.specs.declared.command.StoreCommand.TheVariants as command
 use Rattle.command_words.specs.declared.status.Status.{Status}
 use Rattle.command_words.specs.declared.status.Status.TheVariants.{Done, Usage, Refused, NoSuchVariable, SourceFault, SinkFault, DiskFault, Damaged, OutOfMemory, GranularityDiffers, DoorFault, Spent}
-use Rattle.archiver_appliance.specs.Acting.{IsFresh, IsNotMade}
+use Rattle.archiver_appliance.specs.Acting.{IsNotMade}
 use Rattle.act_model.specs.Machine.{Machine}
 use Rattle.archiver_appliance.specs.Ingesting.{IngestsInto, LeavesNone}
 use Rattle.archiver_appliance.specs.Judging.{FindsDamage, IsDamagedFile, IsOfOpened, IsOneOf, IsWholeWith}
@@ -43,16 +42,6 @@ use Rattle.archiver_appliance.proofs.Acting.{acts_behind, same_end}
 use Rattle.archiver_appliance.proofs.Checking.{checks_in, first_in, with_lists}
 use Rattle.archiver_appliance.proofs.Judgements.{OneVerdict, check_judges, etl_judges, exactly, get_judges, ingest_judges, status_judges, whole_with}
 use Rattle.archiver_appliance.proofs.Opening.{first_stands, opened_listed, reads_listed, same_said, then_reads}
-
--- THE STORES THAT WERE OPENED
-
-pub fresh_store : {D R : Type 0} (disk : Ghosts D R) (config : ConfigState) (store : TierStore D R) → ((held : Stores) × Has disk.tells (seen disk store) held) → IsReady (stores_of config) store.catalogue store.manifests.items → (store.limbo.items ≡ []) × (store.pinned ≡ empty) → store.config ≡ config → IsFresh disk store
-fresh_store {D} {R} disk config store has ready fresh settings = record {
-  has = has;
-  ready = subst (λ (c : ConfigState). IsReady (stores_of c) store.catalogue store.manifests.items) (sym settings) ready;
-  limbo = fresh.0;
-  pins = fresh.1;
-}
 
 -- STATUSES
 

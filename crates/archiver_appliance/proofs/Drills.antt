@@ -1,6 +1,5 @@
 -- What is told of the states of a drill's archive, one call after another.
-use Rattle.std.proofs.Common.{◌≡◌, ℕ, ◌+◌, List, [], ◌∷◌, ◌++◌, true, Option, refl, sym, ap, subst, ◌∙◌, append_assoc}
-use Rattle.std.specs.Prelude.{IsTrue}
+use Rattle.std.proofs.Common.{◌≡◌, ℕ, ◌+◌, List, [], ◌∷◌, ◌++◌, Option, refl, sym, ap, subst, ◌∙◌, append_assoc}
 use Rattle.disk_model.specs.declared.disk.Disk.{Ghosts}
 use Rattle.series_model.specs.declared.sample.Query.{Query}
 use Rattle.drill_feed.specs.Report.{tiers_text}
@@ -11,11 +10,9 @@ use Rattle.act_model.specs.History.{Entry, Runs}
 use Rattle.act_model.specs.Machine.{Machine}
 use Rattle.act_model.specs.Rule.{Rule}
 use Rattle.act_model.proofs.Histories.{runs_append, runs_onward}
-use Rattle.archive_core.specs.Parts.{parts}
-use Rattle.archive_core.specs.Stands.{Stands}
 use Rattle.archive_core.specs.declared.archive.Archive.{Archive}
 use Rattle.retrieval_query.specs.Retrieving.{ReadsHeaders}
-use Rattle.archiver_appliance.specs.Drilling.{CameTo, HasFiles, HasTally, IsLine, Led, Tells, TellsOn, TellsVariable, added, query_of, tells_more, tells_none, tiers_of}
+use Rattle.archiver_appliance.specs.Drilling.{CameTo, HasFiles, HasTally, IsLine, Tells, TellsOn, TellsVariable, added, query_of, tells_more, tells_none, tiers_of}
 
 -- STATES OF LONGER RUNS
 
@@ -130,11 +127,3 @@ module _ {D R : Type 0} (disk : Ghosts D R) where
         added_up,
       ))
       first second
-
-  -- a state that a call came to is also one of what was done before it
-  pub told_later : (old mid new : Archive D R) (A C : Machine → List Entry → Type 0) → ((m n : Machine) (es fs : List Entry) → Runs m es n → A n fs → C m (es ++ fs)) → TellsOn disk old mid (λ m es. Unit {0}) → TellsOn disk mid new A → TellsOn disk old new C
-  told_later old mid new A C later first second = goes_on old mid new (λ m es. Unit {0}) A C (λ m n es fs run a b. later m n es fs run b) first second
-
-  pub tells_later : (m n : Machine) (es fs : List Entry) (hours v : ℕ) (text files : List ℕ) → Runs m es n → Tells n fs hours v text files → Tells m (es ++ fs) hours v text files
-  tells_later m n es fs hours v text files run tells_none = tells_none
-  tells_later m n es fs hours v text files run (tells_more {variable = w} {text = front} {files = few} line more before one) = tells_more line more (tells_later m n es fs hours w front few run before) (variable_later m n es fs hours w line more run one)

@@ -18,10 +18,7 @@ use Rattle.feed_session.specs.Asks.{FailsWith, flush_all}
 use Rattle.feed_session.specs.Session.{EndsIn, IsFlushed, Taken, acts_of}
 use Rattle.feed_session.specs.declared.end.Fed.{Fed}
 use Rattle.feed_session.specs.declared.end.Fed.TheVariants as fed
-use Rattle.archiver_appliance.specs.Ingesting.{AllIsDurable, IsIngested, LeavesNone}
-use Rattle.archiver_appliance.specs.Judging.{IsOfOpened}
-use Rattle.archiver_appliance.specs.Run.{NoDamage}
-use Rattle.command_words.specs.declared.status.Status.{Status}
+use Rattle.archiver_appliance.specs.Ingesting.{AllIsDurable, LeavesNone}
 use Rattle.archiver_appliance.proofs.PinSteps.{first_own}
 
 -- THE LAST ACT
@@ -96,13 +93,3 @@ module _ (entries : List Entry) (start end : Machine) (taken : List Taken) (last
 -- the last act of a session that failed
 pub fails_last : (taken : List Taken) (last done : List Done) → done ≡ acts_of taken ++ last → (f : FailsWith answer.DiskFault last) → done ≡ (acts_of taken ++ f.before) ++ record { act = f.act; answer = answer.DiskFault } ∷ []
 fails_last taken last done are f = are ∙ (ap (λ (ds : List Done). acts_of taken ++ ds) f.is ∙ sym (append_assoc (acts_of taken) f.before (record { act = f.act; answer = answer.DiskFault } ∷ [])))
-
--- STATUSES
-
-pub ingested_plain : (came : Fed) (status : Status) → IsIngested came status → IsOfOpened status × NoDamage status
-ingested_plain (fed.Fed kept held dropped) status told = subst (λ (s : Status). IsOfOpened s × NoDamage s) (sym told) (tt, tt)
-ingested_plain (fed.Refused line fault) status told = subst (λ (s : Status). IsOfOpened s × NoDamage s) (sym told) (tt, tt)
-ingested_plain fed.PeerFault status told = subst (λ (s : Status). IsOfOpened s × NoDamage s) (sym told) (tt, tt)
-ingested_plain fed.DiskFault status told = subst (λ (s : Status). IsOfOpened s × NoDamage s) (sym told) (tt, tt)
-ingested_plain fed.Spent status told = absurd told
-ingested_plain fed.Memory status told = subst (λ (s : Status). IsOfOpened s × NoDamage s) (sym told) (tt, tt)

@@ -52,11 +52,8 @@ use Rattle.link_service.specs.declared.service.AllServed.{AllServed}
 use Rattle.archiver_appliance.specs.Acting.{IsFresh, rule_of}
 use Rattle.archiver_appliance.specs.Drilling.{IsBegunWith}
 use Rattle.archiver_appliance.specs.Outside.{HasNotFallen, IsCausedBy}
-use Rattle.archiver_appliance.specs.Judging.{IsOfOpened}
-use Rattle.archiver_appliance.specs.Run.{EndsAs, NoDamage}
 use Rattle.archiver_appliance.specs.Serving.{ArchiveStep, HasFailedFlush, LeavesArchive, LeavesRoom, ServesFrom, first_of, status_of}
 use Rattle.command_words.specs.declared.command.StoreCommand.TheVariants as command
-use Rattle.command_words.specs.declared.service_words.ServeWords.{ServeWords}
 use Rattle.archiver_appliance.proofs.Acting.{both_hold, count_given, handed, opens_again, rose_given, tells_headers, unopened_given}
 use Rattle.archiver_appliance.proofs.Counting.{runs_counts, runs_rose}
 
@@ -192,42 +189,12 @@ leaves_archive {D} {R} disk steps reply room old doors Given began told left is 
 
 -- THE STATUS
 
-first_opened : (door fault memory spent : Bool) → IsOfOpened (first_of door fault memory spent)
-first_opened true fault memory spent = tt
-first_opened false true memory spent = tt
-first_opened false false true spent = tt
-first_opened false false false true = tt
-first_opened false false false false = tt
-
-first_undamaged : (door fault memory spent : Bool) → NoDamage (first_of door fault memory spent)
-first_undamaged true fault memory spent = tt
-first_undamaged false true memory spent = tt
-first_undamaged false false true spent = tt
-first_undamaged false false false true = tt
-first_undamaged false false false false = tt
-
-first_ends : (numbers : ServeWords) (input : Option (List ℕ)) (door fault memory spent : Bool) → EndsAs (command.Serve numbers) input (first_of door fault memory spent)
-first_ends numbers input true fault memory spent = tt
-first_ends numbers input false true memory spent = tt
-first_ends numbers input false false true spent = tt
-first_ends numbers input false false false true = tt
-first_ends numbers input false false false false = tt
-
 first_caused : {R : Type 0} (faults : R → ℕ) (rose : Type 0) (door fault memory spent : Bool) → (fault ≡ true → rose) → IsCausedBy faults ⊥ ⊥ rose (first_of door fault memory spent) None
 first_caused faults rose true fault memory spent cause = tt
 first_caused faults rose false true memory spent cause = cause refl
 first_caused faults rose false false true spent cause = tt
 first_caused faults rose false false false true cause = tt
 first_caused faults rose false false false false cause = tt
-
-pub status_opened : (told : AllServed) → IsOfOpened (status_of told)
-status_opened told = first_opened (nat_lt 0 told.door_faults) told.disk_fault told.memory told.spent
-
-pub status_undamaged : (told : AllServed) → NoDamage (status_of told)
-status_undamaged told = first_undamaged (nat_lt 0 told.door_faults) told.disk_fault told.memory told.spent
-
-pub status_ends : (told : AllServed) (numbers : ServeWords) (input : Option (List ℕ)) → EndsAs (command.Serve numbers) input (status_of told)
-status_ends told numbers input = first_ends numbers input (nat_lt 0 told.door_faults) told.disk_fault told.memory told.spent
 
 pub status_caused : {R : Type 0} (faults : R → ℕ) (rose : Type 0) (told : AllServed) → (told.disk_fault ≡ true → rose) → IsCausedBy faults ⊥ ⊥ rose (status_of told) None
 status_caused {R} faults rose told cause = first_caused faults rose (nat_lt 0 told.door_faults) told.disk_fault told.memory told.spent cause

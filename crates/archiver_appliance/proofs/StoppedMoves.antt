@@ -18,13 +18,11 @@ use Rattle.serving_loops.specs.Moves.{StoppedBy}
 use Rattle.serving_loops.specs.declared.due.DueMoved.{DueMoved}
 use Rattle.serving_loops.specs.declared.moves.MoveErr.{MoveErr}
 use Rattle.serving_loops.specs.declared.moves.MoveErr.TheVariants as err
-use Rattle.archiver_appliance.specs.Judging.{IsOfOpened}
 use Rattle.archiver_appliance.specs.Moving.{TellsMoved}
 use Rattle.archiver_appliance.specs.Outside.{IsCausedBy}
-use Rattle.archiver_appliance.specs.Run.{EndsAs}
 use Rattle.command_words.specs.declared.command.StoreCommand.TheVariants as command
 use Rattle.command_words.specs.declared.status.Status.{Status}
-use Rattle.command_words.specs.declared.status.Status.TheVariants.{Done as IsDone, SinkFault, DiskFault, Damaged, OutOfMemory}
+use Rattle.command_words.specs.declared.status.Status.TheVariants.{SinkFault, DiskFault, Damaged}
 
 -- the last act is answered so
 pub record EndsWith (Such : Reply → Type 0) (ds : List Done) : Type 0 where
@@ -83,24 +81,6 @@ module _ (answers : AnswersAreOfActs) (undamaged : NoneIsDamaged) where
       no_damage cut.entry.who cut.entry.act name at s.at s.after here (subst (λ (r : Reply). Step cut.entry.who cut.entry.act s.at r s.after) reply s.step)
 
 -- STATUSES
-
-abbrev IsPlain : Status → Type 0
-IsPlain s = IsOfOpened s × ((input : Option (List ℕ)) → EndsAs command.Etl input s)
-
-module _ (came : Result DueMoved MoveErr) (a b : Option (List ℕ)) (status : Status) where
-  under : (P : Status → Type 0) (s : Status) → status ≡ s → P s → P status
-  under P s is p = subst P (sym is) p
-
-  pub moved_plain : TellsMoved came a b status → IsOfOpened status × ((input : Option (List ℕ)) → EndsAs command.Etl input status)
-  moved_plain = by came
-    where
-      by : (c : Result DueMoved MoveErr) → TellsMoved c a b status → IsPlain status
-      by (Ok moved) (inl w) = under IsPlain IsDone w.0 (tt, λ input. tt)
-      by (Ok moved) (inr w) = under IsPlain SinkFault w.0 (tt, λ input. tt)
-      by (Err err.DiskFault) w = under IsPlain DiskFault w.0 (tt, λ input. tt)
-      by (Err (err.Damaged name at)) w = under IsPlain (Damaged name at) w.0 (tt, λ input. tt)
-      by (Err err.Spent) w = absurd w
-      by (Err err.Memory) w = under IsPlain OutOfMemory w.0 (tt, λ input. tt)
 
 pub moved_caused : {R : Type 0} (faults : R → ℕ) (written disk : Type 0) (came : Result DueMoved MoveErr) (a b : Option (List ℕ)) (status : Status) → TellsMoved came a b status → (status ≡ SinkFault → written) → (came ≡ Err err.DiskFault → disk) → IsCausedBy faults ⊥ written disk status None
 moved_caused {R} faults written disk came a b status tells sink failed = by came refl tells

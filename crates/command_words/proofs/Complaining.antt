@@ -3,7 +3,6 @@ use Rattle.std.proofs.Common.{◌≡◌, ◌∙◌, ℕ, ◌+◌, ◌<◌, ◌�
 use Rattle.std.specs.Prelude.{codes, decimal}
 use Rattle.std.specs.List.{flat_map}
 use Rattle.std.specs.Io.KnownBytes.{Appends}
-use Rattle.std.proofs.KnownBytes.{Appends-trans}
 use Rattle.std.proofs.lemmas.List.{append-nil}
 use Rattle.std.proofs.lemmas.List.Concat.{flat_map-append}
 use Rattle.std.proofs.lemmas.Grind.{take_at_read}
@@ -26,10 +25,6 @@ next_text pieces i d within =
     let f : Bor (List ℕ) → List ℕ = λ piece. piece.now in
     let read = take_at_read pieces i d within in
     ap (flat_map f) read.1 ∙ flat_map-append f (take i pieces) (get_or pieces i d ∷ []) ∙ ap (λ (t : List ℕ). text_of (take i pieces) ++ t) (append-nil (get_or pieces i d).now)
-
--- one piece more
-pub more_written : (pieces : List (Bor (List ℕ))) (i : ℕ) (d : Bor (List ℕ)) (a b c : Option (List ℕ)) → i < length pieces → Appends a b (text_of (take i pieces)) → Appends b c (get_or pieces i d).now → Appends a c (text_of (take (i + 1) pieces))
-more_written pieces i d a b c within done one = subst (Appends a c) (sym (next_text pieces i d within)) (Appends-trans a b c (text_of (take i pieces)) (get_or pieces i d).now done one)
 
 -- a front of one piece
 pub front_written : (pieces : List (Bor (List ℕ))) (i : ℕ) (d : Bor (List ℕ)) (a b c : Option (List ℕ)) → i < length pieces → Appends a b (text_of (take i pieces)) → AppendsFront b c (get_or pieces i d).now → AppendsFront a c (text_of pieces)

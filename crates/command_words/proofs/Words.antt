@@ -18,18 +18,6 @@ texts words = map (λ w. w.now) words
 
 -- THE NUMBER OF WORDS
 
-pub one_text : (words : List (Bor (List ℕ))) (d : Bor (List ℕ)) → 1 ≤ length words → length words < 2 → texts words ≡ (get_or words 0 d).now ∷ []
-one_text [] d least most = absurd (omega arith)
-one_text (a ∷ []) d least most = refl
-one_text (a ∷ b ∷ words) d least most = absurd (omega arith)
-
-pub three_texts : (words : List (Bor (List ℕ))) (d : Bor (List ℕ)) → 3 ≤ length words → length words < 4 → texts words ≡ (get_or words 0 d).now ∷ (get_or words 1 d).now ∷ (get_or words 2 d).now ∷ []
-three_texts [] d least most = absurd (omega arith)
-three_texts (a ∷ []) d least most = absurd (omega arith)
-three_texts (a ∷ b ∷ []) d least most = absurd (omega arith)
-three_texts (a ∷ b ∷ c ∷ []) d least most = refl
-three_texts (a ∷ b ∷ c ∷ e ∷ words) d least most = absurd (omega arith)
-
 pub four_texts : (words : List (Bor (List ℕ))) (d : Bor (List ℕ)) → 4 ≤ length words → length words < 5 → texts words ≡ (get_or words 0 d).now ∷ (get_or words 1 d).now ∷ (get_or words 2 d).now ∷ (get_or words 3 d).now ∷ []
 four_texts [] d least most = absurd (omega arith)
 four_texts (a ∷ []) d least most = absurd (omega arith)

@@ -57,21 +57,6 @@ keeps_allowed held n at a c allow step =
 abbrev pub AreApart : Shelf → Name → List Filed → Type 0
 AreApart rows n files = All (λ (f : Filed). file_of rows f.entry ≢ n) files
 
--- they stay while that one changes
-pub apart_stay : (held : Held) (n : Name) (R : Content → Content → Type 0) (b c : Files) → AreApart (shelf_of held) n held.files → At n R b c → AreIn held b → AreIn held c
-apart_stay held n R b c apart step was stands k d lt =
-    let f : Filed = get_or held.files k d in
-    subst (Begins (bytes_of f)) (sym (step.elsewhere (file_of (shelf_of held) f.entry) (apart k d lt))) (was stands k d lt)
-
-pub apart_long : (held : Held) (n : Name) (files later : Files) → AreApart (shelf_of held) n held.files → ((m : Name) → m ≢ n → later m ≡ files m) → AreLong held files → AreLong held later
-apart_long held n files later apart same long k d lt =
-    let was = long k d lt in
-    record { bytes = was.bytes; file = same (file_of (shelf_of held) (get_or held.files k d).entry) (apart k d lt) ∙ was.file; holds = was.holds }
-
--- no listed file is of another store
-pub all_apart : (rows : Shelf) (n : Name) (files : List Filed) → n.0 ≢ rows.0 → AreApart rows n files
-all_apart rows n files other k d lt is = other (sym (ap (λ (m : Name). m.0) is))
-
 -- no listed file is a journal's of another store, so they stay while that is changed
 pub own_apart_file : (rows : Shelf) (name : Name) (e : Entry) → name.0 ≢ rows.0 → IsOwn name (file_of rows e) → ⊥
 own_apart_file rows name e other own = other (sym (own_store name (file_of rows e) own))

@@ -86,9 +86,6 @@ module _ (refuse : Machine → Option Reply) (run : Machine → Reply → Machin
     Acts-rose (wants_memory same more) is = absurd cc
     Acts-rose (wants_memory_settled p settles same more) is = absurd cc
 
-not_fault : Reply → Type 0
-not_fault reply = reply ≡ DiskFault → ⊥
-
 -- no refusal is a fault
 NoFault : Option Reply → Type 0
 NoFault o = o ≡ Some DiskFault → ⊥

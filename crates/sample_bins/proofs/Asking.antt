@@ -1,5 +1,5 @@
 -- A text asks for one thing at most.
-use Rattle.std.proofs.Common.{◌≡◌, ◌≢◌, ◌⊎◌, ℕ, ◌+◌, ◌-◌, ◌*◌, ◌^◌, ◌<◌, ◌≤◌, ◌==◌, Bool, true, false, List, [], ◌∷◌, ◌++◌, Option, Some, None, length, refl, sym, ap, ◌∙◌, subst, inl, inr, arith, cond, append-nil}
+use Rattle.std.proofs.Common.{◌≡◌, ◌≢◌, ◌⊎◌, ℕ, ◌+◌, ◌-◌, ◌*◌, ◌^◌, ◌<◌, ◌≤◌, ◌==◌, Bool, true, false, List, [], ◌∷◌, ◌++◌, Option, Some, None, length, refl, sym, ap, ◌∙◌, subst, inl, inr, arith, cond}
 use Rattle.std.specs.Prelude.{All, IfNone, codes, bytes_eq, if◌then◌else◌}
 use Rattle.std.specs.Int.{IsInRange}
 use Rattle.std.proofs.lemmas.Bool.{eqb-false, eq-eqb}
@@ -190,11 +190,6 @@ lacks_both (x ∷ xs) none =
     let rest = lacks_both xs (All-tail P x xs none) in
     (All-cons (λ b. b ≢ 40) x xs head.0 rest.0, All-cons (λ b. b ≢ 41) x xs head.1 rest.1)
 
-pub lacks_each : (xs : List ℕ) → Lacks 40 xs → Lacks 41 xs → All (λ b. (b ≢ 40) × (b ≢ 41)) xs
-lacks_each [] a b = All-nil (λ b. (b ≢ 40) × (b ≢ 41))
-lacks_each (x ∷ xs) a b =
-    All-cons (λ b. (b ≢ 40) × (b ≢ 41)) x xs (All-head (λ b. b ≢ 40) x xs a, All-head (λ b. b ≢ 41) x xs b) (lacks_each xs (All-tail (λ b. b ≢ 40) x xs a) (All-tail (λ b. b ≢ 41) x xs b))
-
 -- a text without an opening parenthesis asks for no operator
 bare : (text name : List ℕ) (op : Op) → Lacks 40 text → Asks text (Some op) name → ⊥
 bare text name op none asks = stands 40 asks.0 (name ++ 41 ∷ []) (subst (λ (l : List ℕ). Lacks 40 l) asks.1 none)
@@ -224,10 +219,6 @@ no_name text front rest cut some none (Some op) name asks = none name (asked_at 
 pub no_operator : (text front rest : List ℕ) → IsCut 40 text front rest → rest ≢ [] → ((op : Op) → IsOperator front op → ⊥) → (op : Option Op) (name : List ℕ) → Asks text op name → ⊥
 no_operator text front rest cut some none None name asks = bare_name text front rest name cut some asks
 no_operator text front rest cut some none (Some op) name asks = none op (asked_at text front rest name op cut asks).0
-
--- a text that is not cut has no such byte
-pub not_cut : (byte : ℕ) (text front : List ℕ) → IsCut byte text front [] → Lacks byte text
-not_cut byte text front cut = subst (λ (l : List ℕ). Lacks byte l) (sym (cut.is ∙ append-nil front)) cut.none_before
 
 -- a text asks for one thing
 pub one_asked : (text n m : List ℕ) (a b : Option Op) → Asks text a n → Asks text b m → (a ≡ b) × (n ≡ m)

@@ -1,9 +1,8 @@
 -- What is handed on, call by call.
 use Rattle.std.proofs.Common.{◌≡◌, ℕ, ◌<◌, ◌≤◌, Bool, true, false, List, [], ◌∷◌, ◌++◌, Option, Some, None, Result, Ok, Err, refl, sym, ap, ◌∙◌, subst, arith, append_assoc, append-nil}
-use Rattle.std.specs.Prelude.{IfSome, OnOk, OnErr, nat_le, ◌&&◌}
+use Rattle.std.specs.Prelude.{IfSome, OnErr, nat_le, ◌&&◌}
 use Rattle.std.proofs.lemmas.Bool.{false≢true}
 use Rattle.std.proofs.lemmas.Bool.Decides.{nat_tests}
-use Rattle.std.proofs.lemmas.List.Elements.{filter-append}
 use Rattle.arch_time.specs.YearTime.{start, end}
 use Rattle.pb_wire.specs.declared.payload.PayloadType.{PayloadType}
 use Rattle.pb_wire.specs.declared.payload.PayloadType.TheVariants.{ScalarInt}
@@ -28,10 +27,6 @@ pub on_err : {A E : Type 0} (r : Result A E) (P : Type 0) → P → OnErr r P
 on_err {A} {E} (Ok a) P p = tt
 on_err {A} {E} (Err e) P p = p
 
-events_more : (ty : PayloadType) (xs : List Sample) (s : Sample) → AreEvents ty xs → IsEvent ty s → AreEvents ty (xs ++ s ∷ [])
-events_more ty [] s all one = (one, tt)
-events_more ty (x ∷ xs) s all one = (all.0, events_more ty xs s all.1 one)
-
 -- WITHIN THE INTERVAL
 
 abbrev inside : Query → Sample → Bool
@@ -40,20 +35,8 @@ inside q s = nat_le q.from s.t && nat_le s.t q.to
 is_inside : (q : Query) (s : Sample) → q.from ≤ s.t → s.t ≤ q.to → inside q s ≡ true
 is_inside q s low high = grind (arith, nat_tests)
 
-before_it : (q : Query) (s : Sample) → s.t < q.from → inside q s ≡ false
-before_it q s low = grind (arith, nat_tests)
-
-behind_it : (q : Query) (s : Sample) → q.to < s.t → inside q s ≡ false
-behind_it q s high = grind (arith, nat_tests)
-
-within_more : (q : Query) (xs more : List Sample) → within q (xs ++ more) ≡ within q xs ++ within q more
-within_more q xs more = filter-append (inside q) xs more
-
 within_first : (q : Query) (s : Sample) (more : List Sample) → inside q s ≡ true → within q (s ∷ more) ≡ s ∷ within q more
 within_first q s more is = rw is refl
-
-within_others : (q : Query) (s : Sample) (more : List Sample) → inside q s ≡ false → within q (s ∷ more) ≡ within q more
-within_others q s more is = rw is refl
 
 -- WHAT IS KEPT
 
@@ -70,20 +53,9 @@ begun_is begun a now subject x y = cc
 module _ {O : Type 0} (gave broke : O → Subject → List Sample → O → Type 0) where
   -- ONE CALL
 
-  pub gives_none : (o : O) → Gives gave o [] o
-  gives_none o = record { all = λ before subject xs h. subst (λ (l : List Sample). gave before subject l o) (sym (append-nil xs)) h }
-
-  pub gives_one : {T E : Type 0} (r : Result T E) (a b : O) (s : Sample) → ((before : O) (subject : Subject) (xs : List Sample) → gave before subject xs a → OnOk r (gave before subject (xs ++ s ∷ []) b)) → OnOk r (Gives gave a (s ∷ []) b)
-  gives_one {T} {E} (Ok x) a b s h = record { all = h }
-  gives_one {T} {E} (Err e) a b s h = tt
-
   pub breaks_one : {T E : Type 0} (r : Result T E) (a b : O) (s : Sample) → ((before : O) (subject : Subject) (xs more : List Sample) → AreEvents subject.about.ty (xs ++ s ∷ more) → gave before subject xs a → OnErr r (broke before subject (xs ++ s ∷ more) b)) → OnErr r (Breaks gave broke a (s ∷ []) b)
   breaks_one {T} {E} (Ok x) a b s h = tt
   breaks_one {T} {E} (Err e) a b s h = record { all = h }
-
-  -- nothing was handed on, for want of memory
-  pub breaks_kept : ((before now : O) (subject : Subject) (xs more : List Sample) → AreEvents subject.about.ty (xs ++ more) → gave before subject xs now → broke before subject (xs ++ more) now) → (o : O) (out : List Sample) → Breaks gave broke o out o
-  breaks_kept front o out = record { all = λ before subject xs more events h. front before o subject xs (out ++ more) events h }
 
   -- WHAT MAY BE HANDED ON
 
@@ -93,17 +65,6 @@ module _ {O : Type 0} (gave broke : O → Subject → List Sample → O → Type
   may_give (Count width) now s is h = absurd (false≢true (sym is))
   may_give (Nth n) now s is h = record { before = h.before; subject = binned_subject (Nth n) h.subject; given = h.given; has_begun = h.has; event = h.event }
   may_give NCount now s is h = absurd (false≢true (sym is))
-
-  pub may_give_held : (op : Op) (now : O) (held : Option Sample) → is_counting op ≡ false → Stands gave op now held → IfSome held (λ s. MayGive gave now s)
-  may_give_held op now None is h = tt
-  may_give_held op now (Some s) is h = may_give op now s is h
-
-  pub counting : (op : Op) (now : O) (s : Option Sample) → is_counting op ≡ true → Stands gave op now s → StandsCounting gave now
-  counting (FirstSample width) now s is h = absurd (false≢true is)
-  counting (LastSample width) now s is h = absurd (false≢true is)
-  counting (Count width) now s is h = record { before = h.before; subject = binned_subject (Count width) h.subject; given = h.given; has = h.has; kind = refl }
-  counting (Nth n) now s is h = absurd (false≢true is)
-  counting NCount now s is h = record { before = h.before; subject = binned_subject NCount h.subject; given = h.given; has = h.has; kind = refl }
 
   pub stands_on : (op : Op) (a b : O) (s : Option Sample) (out : List Sample) → Stands gave op a s → Gives gave a out b → Stands gave op b s
   stands_on op a b s out h gives = record { before = h.before; subject = h.subject; given = h.given ++ out; has = gives.all h.before (binned_subject op h.subject) h.given h.has; event = h.event }
@@ -153,38 +114,9 @@ module _ {O : Type 0} (gave broke : O → Subject → List Sample → O → Type
     abbrev q : Query
     q = subject.query
 
-    -- a sample outside of the interval is passed over
-    passed : (begun : Option Begun) (now : O) → inside q s ≡ false → GivesBins gave op begun kept before subject xs now → GivesBins gave op begun kept before subject (xs ++ s ∷ []) now
-    passed begun now out gives =
-        let same : within q (xs ++ s ∷ []) ≡ within q xs = within_more q xs (s ∷ []) ∙ ap (λ (l : List Sample). within q xs ++ l) (within_others q s [] out) ∙ append-nil (within q xs) in
-        record { asked = gives.asked; events = events_more subject.about.ty xs s gives.events event; given = gives.given; has = gives.has; goes_on = λ more. ap (λ (l : List Sample). binned op q.from (l ++ more)) same ∙ gives.goes_on more }
-
-    pub passed_before : (begun : Option Begun) (now : O) → s.t < q.from → GivesBins gave op begun kept before subject xs now → GivesBins gave op begun kept before subject (xs ++ s ∷ []) now
-    passed_before begun now low gives = passed begun now (before_it q s low) gives
-
-    pub passed_behind : (begun : Option Begun) (now : O) → q.to < s.t → GivesBins gave op begun kept before subject xs now → GivesBins gave op begun kept before subject (xs ++ s ∷ []) now
-    passed_behind begun now high gives = passed begun now (behind_it q s high) gives
-
     module _ (begun : Option Begun) (a b : O) (low : q.from ≤ s.t) (high : s.t ≤ q.to) (gives : GivesBins gave op begun kept before subject xs a) where
       here : inside q s ≡ true
       here = is_inside q s low high
-
-      -- what is due was handed on, and the sample is kept
-      pub gives_more : (kept₂ : Kept) → kept₂ ≡ next op kept s → Gives gave a (due op kept s) b → GivesBins gave op begun kept₂ before subject (xs ++ s ∷ []) b
-      gives_more kept₂ is handed =
-          let same : within q (xs ++ s ∷ []) ≡ within q xs ++ s ∷ [] = within_more q xs (s ∷ []) ∙ ap (λ (l : List Sample). within q xs ++ l) (within_first q s [] here) in
-          record {
-            asked = gives.asked;
-            events = events_more subject.about.ty xs s gives.events event;
-            given = gives.given ++ due op kept s;
-            has = handed.all before (binned_subject op subject) gives.given gives.has;
-            goes_on = λ more.
-                ap (λ (l : List Sample). binned op q.from (l ++ more)) same
-                ∙ ap (binned op q.from) (append_assoc (within q xs) (s ∷ []) more)
-                ∙ gives.goes_on (s ∷ more)
-                ∙ sym (append_assoc gives.given (due op kept s) (coming op q.from (next op kept s) more))
-                ∙ ap (λ (k : Kept). (gives.given ++ due op kept s) ++ coming op q.from k more) (sym is);
-          }
 
       -- what is due, and what comes behind it
       all_comes : (more : List Sample) → bins_of op q (xs ++ s ∷ more) ≡ gives.given ++ (due op kept s ++ coming op q.from (next op kept s) (within q more))

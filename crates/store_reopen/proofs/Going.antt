@@ -1,10 +1,10 @@
 -- Files that go, one after another.
-use Rattle.std.proofs.Common.{◌≡◌, ◌≢◌, inl, inr, ℕ, ◌≤◌, None, refl, sym, ◌∙◌, ap, subst, arith}
+use Rattle.std.proofs.Common.{◌≡◌, ◌≢◌, inl, inr, ℕ, ◌≤◌, None, sym, ◌∙◌, ap, subst, arith}
 use Rattle.std.specs.Prelude.{Result, Ok, Err, OnOk, OnErr}
 use Rattle.disk_model.specs.Files.{Name, Files, At, Becomes, KeptOr}
 use Rattle.disk_model.specs.Past.{Past, Passes, Only}
 use Rattle.disk_model.specs.declared.disk.DiskErr.{DiskErr}
-use Rattle.disk_model.proofs.Passing.{passes_none, passes_then, passes_weaker}
+use Rattle.disk_model.proofs.Passing.{passes_then, passes_weaker}
 use Rattle.durable_write.proofs.Names.{name_cases}
 use Rattle.store_reopen.specs.Strays.{OnlyGo, Removes}
 
@@ -36,9 +36,6 @@ only_goes Goes old new n passes only image left =
     let come = passes.each new.now image passes.later (omega arith) left in none_goes Goes come.0 image n come.2 (only come.0 come.1)
 
 -- RUNS OF CALLS
-
-pub removes_none : (Goes : Name → Type 0) (files : Files) (opened : Name → ℕ) (past : Past) → Removes Goes files files opened opened past past
-removes_none Goes files opened past = record { any_moment = passes_none (OnlyGo Goes) past (λ a left. goes_same Goes a a refl); now = goes_same Goes files files refl; fewer = λ n. omega arith }
 
 pub removes_read : (Goes : Name → Type 0) (files later : Files) (opened after : Name → ℕ) (old new : Past) → later ≡ files → after ≡ opened → Passes (λ a b. b ≡ a) old new → Removes Goes files later opened after old new
 removes_read Goes files later opened after old new same same_opened passes = record {

@@ -7,7 +7,7 @@ use Rattle.disk_model.specs.declared.disk.DiskErr.{DiskErr}
 use Rattle.disk_model.specs.declared.disk.DiskErr.TheVariants.{Fault, Memory}
 use Rattle.disk_model.proofs.Passing.{passes_then, passes_weaker, passes_none}
 use Rattle.partition_names.specs.declared.granularity.Granularity.{Granularity}
-use Rattle.durable_write.specs.Ends.{End, Done, Refused, Failed, Spent, end_of_error, end_of_disk, IsFailed}
+use Rattle.durable_write.specs.Ends.{End, end_of_error, end_of_disk, IsFailed}
 use Rattle.durable_write.proofs.Rises.{rose_after}
 use Rattle.tier_store.specs.Stores.{Stores}
 use Rattle.tier_store.specs.Seen.{Seen, IsSettled, granularities}
@@ -150,19 +150,3 @@ nothing_changes {A} {E} tells call s end ends not_failed = record {
   any_moment = λ told held has. passes_none (HoldsBy (granularities s.manifests) call.by held) s.past (λ image left. inl (has_left tells s held has told image left));
   costs = record { granularity = refl; faults = omega arith; cause = λ failed. absurd (not_failed failed) };
 }
-
--- WHAT A CALL LEAVES
-
-from_open : {A E : Type 0} (tells : Bool) (call : Call A E) (new : Seen) (held : Stores) (end : End A E) → EndsFrom tells call new held end → (before : Stores) × (after : Stores) × IsOpen tells new before after
-from_open {A} {E} tells call new held (Done a) (made, by, says, has) = (made, made, inl has)
-from_open {A} {E} tells call new held (Refused e) (has, refuses) = (held, held, inl has)
-from_open {A} {E} tells call new held Failed (inl has) = (held, held, inl has)
-from_open {A} {E} tells call new held Failed (inr (made, by, doubt)) = (held, made, inr doubt)
-from_open {A} {E} tells call new held Spent has = (held, held, inl has)
-
--- whatever it answers, the next call may be made
-pub still_open : {A E : Type 0} (tells : Bool) (call : Call A E) (old new : Seen) (end : End A E) (before after : Stores) → Acts tells call old new end → IsOpen tells old before after → (x : Stores) × (y : Stores) × IsOpen tells new x y
-still_open {A} {E} tells call old new end before after acts was = elim (acts.ends before after was) [
-  | inl cut ↦ (before, after, cut.1)
-  | inr done ↦ from_open tells call new done.0 end done.2
-]
