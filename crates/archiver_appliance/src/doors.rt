@@ -145,7 +145,7 @@ impl<'a> Doors<'a> {
             kind: Kind::Feed,
             port: words.feed_port,
             listener: feeds.as_ref(),
-            limits: Limits::NONE,
+            limits: Limits::FEED,
         };
         let requests = Side {
             kind: Kind::Http,

@@ -3,3 +3,4 @@ pub mod Lines
 pub mod Memory
 pub mod Moments
 pub mod Doors
+pub mod Paces

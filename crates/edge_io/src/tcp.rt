@@ -1,6 +1,7 @@
 // Links and doors over TCP. They are the trusted edge: no contract can say what a peer sends or gets.
-ghost use Rattle.std.specs.Prelude.{◌≡◌, ◌<◌, ◌≤◌, None, IfSome, length, false};
+ghost use Rattle.std.specs.Prelude.{◌≡◌, ◌<◌, ◌≤◌, None, IfSome, IfOk, length, false};
 ghost use Rattle.std.proofs.Common.{refl};
+ghost use Rattle.std.specs.Duration.{as_nanos};
 ghost use Rattle.std.specs.Io.{ReadsAtMost, WritesAtMost};
 ghost use Rattle.edge_io.specs.Doors.{Listening, Counts, Gives};
 
@@ -28,28 +29,101 @@ const EMFILE: i32 = 24;
 
 const ENFILE: i32 = 23;
 
-/// How many milliseconds a link may take, at least 1. `None` is no limit.
+// A write waits for at most one of so many parts of all that its pace allows, and is then made again: the
+// system wakes it only once much of its buffer is free, but takes what fits at each call.
+const PARTS: u64 = 24;
+
+/// How long the peer of a link may take. `None` is no limit. A call behind its limit fails.
+///
+/// All that is read must be there by a deadline. What is written has a pace: writes may wait so long, and
+/// each byte that is taken lets them wait a little longer again. So a peer that takes nothing is soon gone,
+/// and a reply that is taken quickly enough is never cut, however long it is. The time between two writes
+/// doesn't count.
 #[derive(Clone, Copy, Debug, PartialEq, Eq)]
 pub struct Limits {
-    /// One read or one write.
-    pub call: Option<u64>,
-    /// The whole link, from the moment when the door gives it.
-    pub whole: Option<u64>,
+    /// The deadline of all reads, in milliseconds from the moment when the door gives the link, at least 1.
+    pub reads: Option<u64>,
+    pub writes: Option<Pace>,
+}
+
+/// How slowly what is written may be taken.
+#[derive(Clone, Copy, Debug, PartialEq, Eq)]
+pub struct Pace {
+    /// How many milliseconds longer writes may wait for each byte that was taken, up to `most`.
+    pub byte: u64,
+    /// How many milliseconds they may wait at first, and at most while nothing is taken, at least 1.
+    pub most: u64,
 }
 
 impl Limits {
-    /// Of a link with one request and its reply: a silent peer holds it for a minute, and a slow one
-    /// for five.
+    /// Of a link with one request and its reply. The request must be there within 10 s. The reply may be
+    /// taken at 1,000 bytes a second, in lumps that lie 75 s apart at most.
     pub const REQUEST: Limits = Limits {
-        call: Some(60_000),
-        whole: Some(300_000),
+        reads: Some(10_000),
+        writes: Some(Pace {
+            byte: 1,
+            most: 75_000,
+        }),
     };
 
-    /// Of a link that may stay open for days, silent for as long as there is nothing to send.
-    pub const NONE: Limits = Limits {
-        call: None,
-        whole: None,
+    /// Of a link that may stay open for days, silent for as long as there is nothing to send. Its writes wait
+    /// for 5 minutes while nothing is taken.
+    pub const FEED: Limits = Limits {
+        reads: None,
+        writes: Some(Pace {
+            byte: 300_000,
+            most: 300_000,
+        }),
     };
+}
+
+// How long writes may still wait.
+#[derive(Clone, Copy)]
+struct Patience {
+    pace: Pace,
+    left: Duration,
+}
+
+impl Patience {
+    ghost use Rattle.edge_io.specs.Paces.{IsWhole, Waited, Took};
+
+    fn new(pace: Pace) -> Patience
+        ensures { IsWhole pace result }
+    {
+        Patience {
+            pace,
+            left: Duration::from_millis(pace.most),
+        }
+    }
+
+    // How long the next write may wait at once. Where nothing is left no write is made.
+    fn part(&self) -> io::Result<Duration>
+        ensures least { IfOk result (λ part. 0 < as_nanos part) }
+        ensures bound { IfOk result (λ part. as_nanos part ≤ as_nanos self.now.left) }
+    {
+        let part = Duration::from_millis(self.pace.most / PARTS + 1);
+        let part = self.left.min(part);
+        if part.is_zero() {
+            return Err(io::Error::from(ErrorKind::TimedOut));
+        }
+        Ok(part)
+    }
+
+    // A write waited so long.
+    fn waited(&mut self, time: Duration)
+        ensures { Waited (as_nanos time) self.old self.new }
+    {
+        self.left = self.left.saturating_sub(time);
+    }
+
+    // So many bytes were taken.
+    fn took(&mut self, count: usize)
+        ensures { Took count self.old self.new }
+    {
+        let longer = (count as u64).saturating_mul(self.pace.byte);
+        let left = self.left.saturating_add(Duration::from_millis(longer));
+        self.left = left.min(Duration::from_millis(self.pace.most));
+    }
 }
 
 // A stream whose calls keep limits.
@@ -57,39 +131,33 @@ impl Limits {
 struct Timed<C: time::Clock + Copy + Drop> {
     stream: TcpStream,
     clock: C,
-    call: Option<Duration>,
+    // The moment by which all must have been read.
     deadline: Option<Instant>,
+    patience: Option<Patience>,
 }
 
 impl<C: time::Clock + Copy + Drop> Timed<C> {
     fn new(stream: TcpStream, clock: C, limits: Limits) -> io::Result<Timed<C>> {
-        let call = limits.call.map(Duration::from_millis);
         stream.set_nodelay(true)?;
-        stream.set_read_timeout(call)?;
-        stream.set_write_timeout(call)?;
-        let deadline = match limits.whole {
-            Some(whole) => Instant::now(&clock)?.checked_add(Duration::from_millis(whole)),
+        let deadline = match limits.reads {
+            Some(reads) => Instant::now(&clock)?.checked_add(Duration::from_millis(reads)),
             None => None,
         };
         Ok(Timed {
             stream,
             clock,
-            call,
             deadline,
+            patience: limits.writes.map(Patience::new),
         })
     }
 
-    // How long the next call may take, where there is a deadline: the lesser of what is left until
-    // then and of the limit of a call. Past the deadline no call is made.
+    // How long is left until then. Behind it no call is made.
     fn left(&self, deadline: Instant) -> io::Result<Duration> {
         let left = deadline.duration_since(Instant::now(&self.clock)?);
         if left.is_zero() {
             return Err(io::Error::from(ErrorKind::TimedOut));
         }
-        Ok(match self.call {
-            Some(call) => left.min(call),
-            None => left,
-        })
+        Ok(left)
     }
 
     fn read_once(&mut self, buf: &mut [u8]) -> io::Result<usize>
@@ -105,11 +173,25 @@ impl<C: time::Clock + Copy + Drop> Timed<C> {
     fn write_once(&mut self, bytes: &[u8]) -> io::Result<usize>
         ensures { WritesAtMost result bytes.now }
     {
-        if let Some(deadline) = self.deadline {
-            let left = self.left(deadline)?;
-            self.stream.set_write_timeout(Some(left))?;
+        match self.patience {
+            Some(patience) => self.write_paced(patience, bytes),
+            None => self.stream.write(bytes),
         }
-        self.stream.write(bytes)
+    }
+
+    // A write whose time and bytes are counted.
+    fn write_paced(&mut self, mut patience: Patience, bytes: &[u8]) -> io::Result<usize>
+        ensures { WritesAtMost result bytes.now }
+    {
+        self.stream.set_write_timeout(Some(patience.part()?))?;
+        let begun = Instant::now(&self.clock)?;
+        let outcome = self.stream.write(bytes);
+        patience.waited(begun.elapsed(&self.clock)?);
+        if let Ok(count) = &outcome {
+            patience.took(*count);
+        }
+        self.patience = Some(patience);
+        outcome
     }
 
     // A read that is made again where it was interrupted.
@@ -126,7 +208,7 @@ impl<C: time::Clock + Copy + Drop> Timed<C> {
         None
     }
 
-    // A write of at least one byte, which is made again where it was interrupted.
+    // A write of at least one byte, which is made again where it was interrupted or may still wait.
     fn write(&mut self, bytes: &[u8]) -> Option<usize>
         ensures least { IfSome result (λ n. 0 < n) }
         ensures bound { IfSome result (λ n. n ≤ length bytes.now) }
@@ -135,7 +217,7 @@ impl<C: time::Clock + Copy + Drop> Timed<C> {
             match self.write_once(bytes) {
                 Ok(0) => return None,
                 Ok(count) => return Some(count),
-                Err(error) if is_interrupted(&error) => {}
+                Err(error) if is_interrupted(&error) || is_waiting(&error) => {}
                 Err(_) => return None,
             }
         }
@@ -166,6 +248,11 @@ impl<C: time::Clock + Copy + Drop> Timed<C> {
 // Whether the call may go well when it is made again at once.
 fn is_interrupted(error: &io::Error) -> bool {
     error.kind() == ErrorKind::Interrupted
+}
+
+// Whether the call waited for as long as it was told to, and nothing came of it.
+fn is_waiting(error: &io::Error) -> bool {
+    error.kind() == ErrorKind::WouldBlock
 }
 
 /// A connection. A call that takes longer than its limits allow is a fault, and so is a write of 0
