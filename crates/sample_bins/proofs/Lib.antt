@@ -1,3 +1,5 @@
 pub mod Asking
 pub mod Counting
 pub mod Handing
+pub mod Whole
+pub mod Given

@@ -6,3 +6,4 @@ pub mod Binning
 pub mod CountEvents
 pub mod Binned
 pub mod Events
+pub mod Laws

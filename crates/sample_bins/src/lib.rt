@@ -25,6 +25,7 @@ mod beginning;
 mod count;
 mod giving;
 mod kept;
+pub mod laws;
 mod op;
 mod output;
 mod words;
