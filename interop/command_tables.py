@@ -1,5 +1,6 @@
 """The tables of `command_cases`: lines of streams by their names, rows, and cases of acts with what each must come to."""
 
+import re
 from dataclasses import dataclass, field
 from pathlib import Path
 
@@ -21,11 +22,12 @@ LINES = {name: of_text(text) for name, text, _ in rows("lines.tsv")}
 
 
 def stream(names):
-    """The lines of these names, each as often as it says behind a `*`."""
+    """The lines of these names, each as often as it says behind a `*`, or so many of its first bytes as it says behind a `/`."""
     text = bytearray()
-    for name in names.split():
-        name, _, times = name.partition("*") if len(name) > 1 else (name, "", "")
-        text += LINES[name] * int(times or 1)
+    for word in names.split():
+        name, mark, number = re.fullmatch(r"(.+?)(?:([*/])(\d+))?", word).groups()
+        line = LINES[name]
+        text += line * int(number or 1) if mark != "/" else line[: int(number)]
     return bytes(text)
 
 

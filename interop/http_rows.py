@@ -358,6 +358,12 @@ def of_long_heads():
         yield r"more 1 \n", None
         for piece in (1, 7, 65_536):
             yield f"request {piece} -", f"{wanted}; .."
+    # A target that is no longer than what is taken, with what stands before it, and what ends it stands behind.
+    yield "bytes GET /", None
+    yield "more 16379 a", None
+    yield r"more 1 \x20HTTP/1.1\r\n\r\n", None
+    for piece, reads in ((1, 16_384), (7, 2_341), (65_536, 1)):
+        yield f"request {piece} -", f"E28; {reads} reads, 13 left"
     # A target without end is taken no further.
     yield "bytes GET /", None
     yield "more 20000 a", None

@@ -264,6 +264,7 @@ TABLES = {
     "data of a feed": (reply_rows.of_fed_data, False),
     "bins": (reply_rows.of_bins, False),
     "feeds": (lambda: reply_rows.of_feeds(time.time_ns()), True),
+    "hostile feeds": (reply_rows.of_hostile_feeds, True),
     "moves": (reply_rows.of_moves, False),
     "heads": (reply_rows.of_heads, True),
     "texts": (reply_rows.of_texts, False),
@@ -278,5 +279,6 @@ OTHERS = {
     "a dead disk": dead_disk,
     "broken files": broken_files,
     "a full catalogue": full_catalogue,
+    "an endless line": lambda talk: all_of(talk, reply_rows.of_endless_line()),
     "full intakes": lambda talk: all_of(talk, reply_rows.of_full_intakes()),
 }

@@ -117,6 +117,9 @@ REFUSED = [
         17,
         '{"status":"E28"}',
     ),
+    # A target that is 16,384 bytes long with what stands before it, whatever comes behind.
+    (b"GET /" + b"a" * 16_379, "431 Request Header Fields Too Large", 17, '{"status":"E28"}'),
+    (b"GET /" + b"a" * 16_379 + b" HTTP/1.1\r\n\r\n", "431 Request Header Fields Too Large", 17, '{"status":"E28"}'),
 ]
 
 RAW = "/retrieval/data/getData.raw?pv=A%3AB&from=2024-01-01T00:00:05.000Z&to=2024-01-01T00:00:08.000Z"
@@ -330,6 +333,25 @@ def feeds(now):
     ]
 
 
+# How many of the 21 bytes of a header and a sample come, from and to, and what is told of them.
+FRONTS = [
+    (0, 0, b"refused 1 E13\n"),
+    (1, 10, b"refused 1 E35\n"),
+    (11, 11, b"ok 0 0 0\ndurable 0\n"),
+    (12, 20, b"refused 2 E35\n"),
+    (21, 21, b"ok 1 0 0\ndurable 1\n"),
+]
+
+# What stands behind the header in a line of its own: field 0, a group, and a value of which 4,294,967,295 bytes are to come.
+HOSTILE = [
+    (b"\x00\n", b"refused 2 E2\n"),
+    (b"\x83\x01\n", b"refused 2 E3\n"),
+    (b"\x82\x01\xff\xff\xff\xff\x0f\n", b"refused 2 E4\n"),
+]
+# Seconds in eleven bytes.
+LONG_SECONDS = b"\x08" + b"\xff" * 10 + b"\x01\n"
+
+
 def chunk_at(second):
     """A chunk of `A:B` with a sample at a second since 1970."""
     year = year_of(second * SECOND)
@@ -471,6 +493,41 @@ def of_feeds(now):
         yield "feed", stream.replace(b"A:B", name), told
         yield "ask", get(f"/retrieval/data/getData.raw?pv={name.decode()}&" + ALL), None
         yield "ask", get(f"/mgmt/bpl/getPVDetails?pv={name.decode()}"), None
+
+
+def of_hostile_feeds():
+    """Feeds that break off, and feeds with bad lines: what stands before is kept, and durable."""
+    yield registered()
+    for line, told in HOSTILE:
+        yield "feed", HEADER + line, told
+    for first, last, told in FRONTS:
+        for length in range(first, last + 1):
+            if length == len(HEADER + FIRST):
+                yield details("A:B", 155, 0, 0)
+            yield "feed", (HEADER + FIRST)[:length], told
+    yield details("A:B", 155, 1, 1)
+    yield registered("pv=A%3AC&type=SCALAR_INT", 1)
+    yield "feed", (HEADER + FIRST + LONG_SECONDS).replace(b"A:B", b"A:C"), b"refused 3 E1\n"
+    yield details("A:C", 155, 1, 1)
+    yield "ask", get("/retrieval/data/getData.raw?pv=A%3AC&" + ALL, 0), data_head("octet-stream", 0) + (HEADER + FIRST).replace(b"A:B", b"A:C")
+
+
+def details(name, length, count, files):
+    """The details of a variable of which so many samples are accepted and durable, in so many files."""
+    return asked(
+        "getPVDetails?pv=" + name.replace(":", "%3A"),
+        "200 OK",
+        length,
+        '{"pvName":"%s","type":"SCALAR_INT","status":"Being archived","samplingMethod":"MONITOR","samplingPeriodNanos":0,"accepted":%d,"durable":%d,"files":[%d,0,0]}'
+        % (name, count, count, files),
+    )
+
+
+def of_endless_line():
+    """A line that has a byte too many, and no end."""
+    yield registered()
+    yield "feed", HEADER + b"\x08" * 16_777_217, b"refused 2 E15\n"
+    yield details("A:B", 155, 0, 0)
 
 
 def of_heads():
