@@ -6,7 +6,8 @@ use Rattle.std.proofs.lemmas.List.Elements.{All-map}
 use Rattle.gate_journal.specs.Generations.{IsOwn, AtOwn}
 use Rattle.gate_journal.proofs.Owning.{own_store}
 use Rattle.disk_model.specs.Files.{Name, Content, Files, At, HasFile}
-use Rattle.disk_model.specs.Past.{Past, Passes, Only}
+use Rattle.disk_model.specs.Past.{Past, Passes}
+pub use Rattle.disk_model.proofs.Each.{same_then}
 use Rattle.disk_model.proofs.Passing.{passes_then, passes_weaker, passes_none}
 use Rattle.store_files.specs.Fronts.{Begins, Keeps}
 use Rattle.store_files.proofs.Stays.{keeps_shorter}
@@ -135,11 +136,3 @@ behind_then held old mid new first second = passes_then _ _ _ _ _ first second (
 -- and then calls that leave all images alone
 pub behind_same : (held : Held) (old mid new : Past) → Passes (Behind held) old mid → Passes (λ a b. b ≡ a) mid new → Passes (Behind held) old new
 behind_same held old mid new first second = passes_then _ _ _ _ _ first second (λ a b c was one now same. subst (Behind held a) (sym same) one)
-
--- and calls of which none changes an image
-pub same_then : (old mid new : Past) → Passes (λ a b. b ≡ a) old mid → Passes (λ a b. b ≡ a) mid new → Passes (λ a b. b ≡ a) old new
-same_then old mid new first second = passes_then _ _ _ _ _ first second (λ a b c was one now two. two ∙ one)
-
--- which keep what is on the disk of a name there
-pub only_same : (old new : Past) (name : Name) (content : Content) → Passes (λ a b. b ≡ a) old new → Only old name content → Only new name content
-only_same old new name content passes only image left = let come = passes.each new.now image passes.later (omega arith) left in ap (λ (f : Files). f name) come.2 ∙ only come.0 come.1

@@ -18,7 +18,7 @@ use Rattle.durable_write.specs.Stored.{KeysDiffer, AreHeld, AreLong, AreSafe}
 use Rattle.durable_write.specs.Writing.{Behind, IsSafe, IsWritten, IsSynced}
 use Rattle.durable_write.proofs.Names.{name_cases, same_place, same_file}
 use Rattle.durable_write.proofs.Listed.{before_apart, rise_at, found, listed_at}
-use Rattle.durable_write.proofs.Stays.{having, AllowTo, AreApart, whole_in, step_behind, call_behind, behind_on, behind_then, only_same}
+use Rattle.durable_write.proofs.Stays.{having, AllowTo, AreApart, whole_in, step_behind, call_behind, behind_on, behind_then}
 
 -- THE LISTED FILE OF A PIECE
 
@@ -199,15 +199,6 @@ more_written g held fs i f files later opened after keys listed rise within here
     All-more (IsWritten held later after) fs i f within kept (subst (IsWritten held later after) (sym here) one)
 
 -- FILE AFTER FILE
-
--- one file more is synced, and those before it still are
-pub more_synced : (shelf : Shelf) (ps : List Piece) (i : ℕ) (p : Piece) (was files : Files) (old new : Past) → i < length ps → p ≡ get_or ps i p → files ≡ was → Passes (λ a b. b ≡ a) old new
-    → All (IsSynced shelf was old) (take i ps) → Only new (file_of shelf p.entry) (files (file_of shelf p.entry)) → All (IsSynced shelf was new) (take (i + 1) ps)
-more_synced shelf ps i p was files old new within is same passes before one =
-    let kept : All (IsSynced shelf was new) (take i ps) = λ k d lt.
-    (let name : Name = file_of shelf (get_or (take i ps) k d).entry in only_same old new name (was name) passes (before k d lt)) in
-    let this : IsSynced shelf was new p = subst (λ (f : Files). Only new (file_of shelf p.entry) (f (file_of shelf p.entry))) same one in
-    All-more (IsSynced shelf was new) ps i p within kept (subst (IsSynced shelf was new) is this)
 
 -- the files of all pieces are written and synced, so they are safe
 pub synced_safe : (g : Granularity) (shelf : Shelf) (held : Held) (ps : List Piece) (fs : List Filed) (files : Files) (opened : Name → ℕ) (past : Past) → shelf_of held ≡ shelf → AllZip (Grows g held) ps fs → All (IsWritten held files opened) fs

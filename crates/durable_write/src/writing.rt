@@ -1,6 +1,6 @@
 // Writes what a flush is to list: each file grows behind its listed bytes, or is made anew where nothing is listed. Once all are
 // written, each is synced.
-ghost use Rattle.std.specs.Prelude.{◌≡◌, ◌≢◌, ◌≤◌, ◌<◌, ◌++◌, ℕ, List, All, length, take, OnOk, IsErrOf, IsTrue, Some};
+ghost use Rattle.std.specs.Prelude.{◌≡◌, ◌≢◌, ◌≤◌, ◌<◌, ◌++◌, ℕ, List, All, length, map, take, IfOk, OnOk, IsErrOf, IsTrue, Some};
 ghost use Rattle.disk_model.specs.Files.{Name, Rose, At, HasFile};
 ghost use Rattle.disk_model.specs.Past.{Passes};
 ghost use Rattle.store_files.specs.Fronts.{Keeps};
@@ -121,10 +121,32 @@ fn write_pieces<D: Disk>(
     Ok(())
 }
 
-// Syncs the pieces' files, one after another: each later crash leaves them as reads give them.
+// The names of the pieces' files.
+fn names_of(
+    alloc: Global,
+    store: u8,
+    rows: &[Row],
+    pieces: &[Piece],
+) -> Result<Vec<FileName>, AllocError>
+    requires { All (λ p. p.entry.series < length rows.now) pieces.now }
+    ensures { IfOk result (λ names. names.items ≡ map (λ p. file_of (store, rows.now) p.entry) pieces.now) }
+{
+    let mut names = Vec::new(alloc);
+    for piece in pieces {
+        let mut name = FileName {
+            store,
+            path: Vec::new(alloc),
+        };
+        set_name(&mut name, store, rows, &piece.entry)?;
+        names.push(name)?;
+    }
+    Ok(names)
+}
+
+// Syncs the pieces' files, many at a time where the disk does: each later crash leaves them as reads give them.
 fn sync_files<D: Disk>(
+    alloc: Global,
     disk: &mut D,
-    name: &mut FileName,
     store: u8,
     rows: &[Row],
     pieces: &[Piece],
@@ -137,10 +159,8 @@ fn sync_files<D: Disk>(
     ensures faults { D.faults disk.old ≤ D.faults disk.new }
     ensures cause { IsErrOf result DiskErr.Fault → Rose (D.faults disk.old) (D.faults disk.new) }
 {
-    for piece in pieces {
-        set_name(name, store, rows, &piece.entry)?;
-        disk.sync(name)?;
-    }
+    let names = names_of(alloc, store, rows, pieces)?;
+    disk.sync_each(&names)?;
     Ok(())
 }
 
@@ -178,6 +198,6 @@ pub(crate) fn write_all<D: Disk>(
         path: Vec::new(alloc),
     };
     write_pieces(disk, &mut name, store, rows, pieces)?;
-    sync_files(disk, &mut name, store, rows, pieces)?;
+    sync_files(alloc, disk, store, rows, pieces)?;
     Ok(())
 }
