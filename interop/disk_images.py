@@ -103,6 +103,9 @@ class Script:
             return "".join(self.image(choice) + "|" for choice in range(6))
         if word == "readers":
             return "".join(content[:8].hex() + "|" for content in self.readers)
+        if word == "sync_each":
+            answers = (self.call("sync", tuple(file.split("/", 1)), 0, b"") for file in rest)
+            return next((answer for answer in answers if answer != "done"), "done")
         name = tuple(rest[0].split("/", 1))
         values = rest[1:] + ["0", ""]
         return self.call(word, name, int(values[0]), rest[2].encode() if len(rest) > 2 else b"")

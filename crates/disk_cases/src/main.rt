@@ -2,7 +2,8 @@
 //! `interop/disk_cases` makes the calls and the lines that are wanted, which are compared with this program's.
 //!
 //! `disk STOP CALL ..` begins with an empty disk whose calls of these numbers fail, and all from STOP on, `-` for none. A file is named as
-//! `STORE/PATH`. `images` tells the images of the choices 0 to 5, and `readers` what each opened file reads.
+//! `STORE/PATH`. `images` tells the images of the choices 0 to 5, and `readers` what each opened file reads. `sync_each FILE ..` is of many
+//! files, and each other call of one.
 #![tactic(auto)]
 
 use anyhow::{Context, Result};
@@ -36,6 +37,22 @@ fn main(rt: HostRuntime) -> Result<()> {
 
 fn number(word: &str) -> Result<u64> {
     word.parse::<u64>().ok().context("no number")
+}
+
+fn named(alloc: Global, file: &str) -> Result<FileName> {
+    let (store, path) = file.split_once('/').context("no file")?;
+    Ok(FileName {
+        store: store.parse::<u8>().ok().context("no store")?,
+        path: path.as_bytes().to_vec(alloc)?,
+    })
+}
+
+fn put_answer(told: &mut String, answer: Result<(), DiskErr>) -> Result<()> {
+    match answer {
+        Ok(()) => told.push_str("done")?,
+        Err(_) => told.push_str("fault")?,
+    }
+    Ok(())
 }
 
 fn put_bytes(told: &mut String, bytes: &[u8]) -> Result<()> {
@@ -94,19 +111,19 @@ impl Script {
                     told.push('|')?;
                 }
             }
+            ["sync_each", files @ ..] => {
+                let mut names = Vec::new(alloc);
+                for file in files {
+                    names.push(named(alloc, file)?)?;
+                }
+                put_answer(told, self.disk.sync_each(&names))?;
+            }
             [call, file, values @ ..] => {
-                let (store, path) = file.split_once('/').context("no file")?;
-                let store = store.parse::<u8>().ok().context("no store")?;
-                let name = FileName {
-                    store,
-                    path: path.as_bytes().to_vec(alloc)?,
-                };
+                let name = named(alloc, file)?;
                 let at = number(values.first().copied().unwrap_or("0"))?;
                 let bytes = values.get(1).copied().unwrap_or("").as_bytes();
-                match self.call(call, &name, at, bytes, told)? {
-                    Ok(()) => told.push_str("done")?,
-                    Err(_) => told.push_str("fault")?,
-                }
+                let answer = self.call(call, &name, at, bytes, told)?;
+                put_answer(told, answer)?;
             }
             _ => told.push_str("no case")?,
         }
