@@ -11,6 +11,7 @@ use std::fs::File;
 use std::io;
 use std::rt::Files;
 use std::sync::Arc;
+use std::thread::Threads;
 
 /// A file that a `FolderDisk` opened. It keeps the file open, so that its bytes stay when the name is removed.
 #[derive(Drop)]
@@ -73,7 +74,7 @@ impl ReadAt for FolderFile {
 
 /// Files of the operating system in four folders: the site's for store 0, which has the catalogue and the manifests, and the
 /// short, medium and long term's for the stores 1, 2 and 3. A folder that is absent is made before the first file in it. It keeps
-/// the last used file of each store open, and after a sync that failed it syncs nothing more.
+/// the last used file of each store open, and after a sync that failed it syncs nothing more. Many names at once it syncs in threads.
 ///
 /// Its first call takes the locks of the folders, which it keeps: one program writes and no other reads or writes, or some
 /// read. Where another has a lock, each call is a fault. So it is where two stores have one folder, where a store's folder isn't the
@@ -85,25 +86,29 @@ impl ReadAt for FolderFile {
 /// A disk that only reads makes no folder, and where the site's is absent there are no files. What loading writes into the journals
 /// of the site's folder, to begin them, and what it removes of them, it keeps in memory. Any other change is a fault.
 #[derive(Drop)]
-pub struct FolderDisk<R: Files<File = File> + Drop> {
+pub struct FolderDisk<R: Files<File = File> + Drop, H: Drop> {
     folders: Folders<R>,
+    // By which threads are made.
+    threads: H,
     faults: u64,
     told: Option<Arc<Faults, Global>>,
     trouble: Option<Trouble>,
 }
 
-impl<R: Files<File = File> + Drop> FolderDisk<R> {
+impl<R: Files<File = File> + Drop, H: Drop> FolderDisk<R, H> {
     /// Folders by their paths, in the order of the stores. Nothing is read or made yet.
     pub fn new(
         files: R,
+        threads: H,
         alloc: Global,
         access: Access,
         folders: [&str; 4],
-    ) -> Result<FolderDisk<R>, AllocError>
+    ) -> Result<FolderDisk<R, H>, AllocError>
         ensures { IfOk result (λ disk. disk.faults ≡ 0) }
     {
         Ok(FolderDisk {
             folders: Folders::new(files, alloc, access, folders)?,
+            threads,
             faults: 0,
             told: None,
             trouble: None,
@@ -111,7 +116,7 @@ impl<R: Files<File = File> + Drop> FolderDisk<R> {
     }
 
     /// The same disk, which adds each fault to these as it counts it, also those of the files that it opens.
-    pub fn telling(self, faults: Arc<Faults, Global>) -> FolderDisk<R>
+    pub fn telling(self, faults: Arc<Faults, Global>) -> FolderDisk<R, H>
         ensures { result.faults ≡ self.faults }
     {
         FolderDisk {
@@ -155,7 +160,7 @@ impl<R: Files<File = File> + Drop> FolderDisk<R> {
     }
 }
 
-impl<R: Files<File = File> + Drop> Disk for FolderDisk<R> {
+impl<R: Files<File = File> + Drop, H: Threads + Drop> Disk for FolderDisk<R, H> {
     type Reader = FolderFile;
 
     ghost use Rattle.std.specs.Prelude.{false, None};
@@ -205,6 +210,11 @@ impl<R: Files<File = File> + Drop> Disk for FolderDisk<R> {
     fn sync(&mut self, name: &FileName) -> Result<(), DiskErr> {
         let answer = self.folders.sync(name);
         self.counted(Some(name), answer)
+    }
+
+    fn sync_each(&mut self, names: &[FileName]) -> Result<(), DiskErr> {
+        let answer = self.folders.sync_each(&self.threads, names);
+        self.counted(None, answer)
     }
 
     fn remove(&mut self, name: &FileName) -> Result<(), DiskErr> {

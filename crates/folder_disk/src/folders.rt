@@ -1,4 +1,5 @@
 // The calls of the operating system on the files of four folders.
+mod many;
 mod opening;
 
 ghost use Rattle.std.specs.Prelude.{◌≤◌, ◌<◌, ◌+◌, ◌^◌, IfOk, OnOk, length};

@@ -1,0 +1,232 @@
+// Syncs of many names at once, in threads. A thread is given open files alone: what opens them stays with the caller.
+use super::{Access, Folders, not_a_file};
+use crate::paths::ancestors;
+use disk_model::FileName;
+use std::alloc::Global;
+use std::collections::BTreeSet;
+use std::fs::{self, File, OpenOptions};
+use std::io::{self, ErrorKind};
+use std::rt::Files;
+use std::thread::{self, JoinHandle, Threads};
+
+// So many threads sync at a time.
+const THREADS: usize = 16;
+
+// So many files and folders are open at a time to be synced.
+const OPEN: usize = 128;
+
+// Fewer names are synced in turn, without threads.
+const FEW: usize = 4;
+
+#[derive(Clone, Copy, PartialEq, Eq)]
+enum Kind {
+    File,
+    Folder,
+}
+
+// A path that is to be synced.
+#[derive(Drop)]
+struct Target {
+    path: String,
+    kind: Kind,
+}
+
+// What is open at a path to be synced.
+#[derive(Drop)]
+struct Job {
+    path: String,
+    kind: Kind,
+    file: File,
+    // Why its sync failed, where it did.
+    failed: Option<io::Error>,
+}
+
+impl Job {
+    fn run(&mut self) {
+        let written = match self.kind {
+            Kind::File => self.file.sync_data(),
+            Kind::Folder => self.file.sync_all(),
+        };
+        self.failed = written.err();
+    }
+}
+
+// Syncs one after another, up to the first that fails.
+fn run_share(mut share: Vec<Job>) -> Vec<Job> {
+    for job in share.iter_mut() {
+        job.run();
+        if job.failed.is_some() {
+            break;
+        }
+    }
+    share
+}
+
+// A share of the jobs: in a thread, or done by the caller where no thread could be made.
+#[derive(Drop)]
+enum Share {
+    Running(JoinHandle<Vec<Job>>),
+    Done(Vec<Job>),
+}
+
+impl Share {
+    fn start<H: Threads>(rt: &H, jobs: Vec<Job>) -> Share {
+        match thread::spawn(rt, move || run_share(jobs)) {
+            Ok(running) => Share::Running(running),
+            Err(refused) => Share::Done((refused.value)()),
+        }
+    }
+
+    fn ended<H: Threads>(self, rt: &H) -> Vec<Job> {
+        match self {
+            Share::Running(running) => running.join(rt),
+            Share::Done(jobs) => jobs,
+        }
+    }
+}
+
+fn has_failed(shares: &[Vec<Job>]) -> bool {
+    for share in shares {
+        for job in share {
+            if job.failed.is_some() {
+                return true;
+            }
+        }
+    }
+    false
+}
+
+impl<R: Files<File = File> + Drop> Folders<R> {
+    // Syncs each name, as `sync` does. Of all that failed the path of the first is noted, files before folders.
+    pub fn sync_each<H: Threads>(&mut self, rt: &H, names: &[FileName]) -> io::Result<()> {
+        if names.len() < FEW || self.access == Access::Read || self.failed {
+            return self.sync_in_turn(names);
+        }
+        self.begin()?;
+        self.sync_above_stores(names)?;
+        for batch in self.targets(names)?.chunks(OPEN) {
+            let shares = self.opened_shares(batch)?;
+            self.sync_shares(rt, shares)?;
+        }
+        Ok(())
+    }
+
+    fn sync_in_turn(&mut self, names: &[FileName]) -> io::Result<()> {
+        for name in names {
+            let synced = self.sync(name);
+            if synced.is_err() {
+                self.place = self.place_of(Some(name));
+            }
+            synced?;
+        }
+        Ok(())
+    }
+
+    // Syncs what has the folders of these names' stores.
+    fn sync_above_stores(&mut self, names: &[FileName]) -> io::Result<()> {
+        for store in 0..4u8 {
+            if names.iter().any(|name| name.store == store) {
+                let root = self.root_copy(store)?;
+                self.sync_above(root.as_str())?;
+            }
+        }
+        Ok(())
+    }
+
+    // The names' files, and then the folders that lead to them, each once, of those that aren't known to be synced.
+    fn targets(&self, names: &[FileName]) -> io::Result<Vec<Target>> {
+        let mut targets = Vec::new(self.alloc);
+        let mut folders = BTreeSet::new(self.alloc);
+        for name in names {
+            let path = self.path(name)?;
+            let root = self.root(name.store)?.len();
+            for folder in ancestors(self.alloc, path.as_str(), root)? {
+                if !self.synced.contains(folder) && !folders.contains(folder) {
+                    folders.insert(String::from_str(self.alloc, folder)?)?;
+                }
+            }
+            let kind = Kind::File;
+            targets.push(Target { path, kind })?;
+        }
+        for path in folders {
+            let kind = Kind::Folder;
+            targets.push(Target { path, kind })?;
+        }
+        Ok(targets)
+    }
+
+    // What is there of these paths, open, in as many shares of one size as threads are to sync them.
+    fn opened_shares(&mut self, batch: &[Target]) -> io::Result<Vec<Vec<Job>>> {
+        let mut shares = Vec::new(self.alloc);
+        let size = batch.len().div_ceil(THREADS).max(1);
+        for targets in batch.chunks(size) {
+            let mut share = Vec::new(self.alloc);
+            for target in targets {
+                if let Some(job) = self.opened(target)? {
+                    share.push(job)?;
+                }
+            }
+            shares.push(share)?;
+        }
+        Ok(shares)
+    }
+
+    // Nothing where nothing has the path. A link, a pipe or a folder in a file's place is refused.
+    fn opened(&mut self, target: &Target) -> io::Result<Option<Job>> {
+        let path = target.path.as_str();
+        let opened = match target.kind {
+            Kind::File => self.opened_file(path),
+            Kind::Folder => fs::open(&self.files, path),
+        };
+        match opened {
+            Ok(file) => Ok(Some(Job {
+                path: String::from_str(self.alloc, path)?,
+                kind: target.kind,
+                file,
+                failed: None,
+            })),
+            Err(e) if e.kind() == ErrorKind::NotFound => Ok(None),
+            Err(e) => self.noted(path, Err(e)),
+        }
+    }
+
+    fn opened_file(&self, path: &str) -> io::Result<File> {
+        if self.size_of(path)?.is_none() {
+            return Err(ErrorKind::NotFound.into());
+        }
+        OpenOptions::new()
+            .read(true)
+            .write(true)
+            .open(&self.files, path)
+    }
+
+    // Syncs what is open, each share in a thread. Until all have answered a sync counts as failed, so that no answer is lost.
+    fn sync_shares<H: Threads>(&mut self, rt: &H, shares: Vec<Vec<Job>>) -> io::Result<()> {
+        let mut running = Vec::with_capacity(self.alloc, shares.len())?;
+        let mut ended = Vec::with_capacity(self.alloc, shares.len())?;
+        self.failed = true;
+        for share in shares {
+            running.push(Share::start(rt, share))?;
+        }
+        for share in running {
+            ended.push(share.ended(rt))?;
+        }
+        self.failed = has_failed(&ended);
+        self.answered(ended)
+    }
+
+    // The first error of all. The folders that were synced are remembered.
+    fn answered(&mut self, shares: Vec<Vec<Job>>) -> io::Result<()> {
+        for share in shares {
+            for job in share {
+                if let Some(e) = job.failed {
+                    return self.noted(job.path.as_str(), Err(e));
+                }
+                if job.kind == Kind::Folder {
+                    self.synced.insert(job.path)?;
+                }
+            }
+        }
+        Ok(())
+    }
+}
