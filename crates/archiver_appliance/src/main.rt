@@ -51,7 +51,7 @@ use stopping::{Ports, Stop, watch};
 use telling::{Telling, tell_plain};
 
 fn main(rt: HostRuntime) -> ExitCode {
-    let ended = match prepare(&rt, &rt) {
+    let ended = match prepare(&rt, &rt, &rt) {
         Ok((prepared, watched)) => match watched {
             Some(watched) => {
                 let Watched {
@@ -89,11 +89,11 @@ fn main(rt: HostRuntime) -> ExitCode {
     }
 }
 
-// What a run is made over.
+// What a run is made over. The disk makes its threads by `H`.
 #[derive(Drop)]
-struct Prepared<'a> {
+struct Prepared<'a, H> {
     arguments: Vec<String>,
-    disk: FolderDisk<&'a HostRuntime>,
+    disk: FolderDisk<&'a HostRuntime, &'a H>,
     posts: Vec<Post<ServiceDoor<'a>>>,
     unbound: Option<Unbound>,
     // Nothing where no service is begun.
@@ -110,10 +110,11 @@ struct Watched {
 }
 
 // What the words and the environment ask for: the folders, and the doors of a service. A folder whose name isn't UTF-8 can't be used.
-fn prepare<'a>(
+fn prepare<'a, H>(
     rt: &'a HostRuntime,
+    threads: &'a H,
     net: &impl Net<Listener = TcpListener, Stream = TcpStream>,
-) -> Result<(Prepared<'a>, Option<Watched>), VarError>
+) -> Result<(Prepared<'a, H>, Option<Watched>), VarError>
     ensures { IfOk result (λ r. vec_len r.0.posts ≤ 128) }
 {
     let arguments = arguments(rt)?;
@@ -128,7 +129,7 @@ fn prepare<'a>(
         medium.as_str(),
         long.as_str(),
     ];
-    let disk = FolderDisk::new(rt, rt.alloc(), access(&words), folders)?;
+    let disk = FolderDisk::new(rt, threads, rt.alloc(), access(&words), folders)?;
     let stop = Stop::shared(rt.alloc())?;
     let Doors {
         posts,
@@ -160,7 +161,7 @@ fn prepare<'a>(
 fn run_over<H: Threads + Wait + Sync>(
     rt: &HostRuntime,
     handles: &H,
-    prepared: Prepared<'_>,
+    prepared: Prepared<'_, H>,
 ) -> Result<u8, VarError>
     requires few { vec_len prepared.posts < 2 ^ 32 }
 {
@@ -208,9 +209,9 @@ fn run_over<H: Threads + Wait + Sync>(
 fn counted<'a, H: Threads + Wait + Sync>(
     rt: &HostRuntime,
     handles: &H,
-    disk: FolderDisk<&'a HostRuntime>,
+    disk: FolderDisk<&'a HostRuntime, &'a H>,
     telling: &Telling<'a>,
-) -> FolderDisk<&'a HostRuntime> {
+) -> FolderDisk<&'a HostRuntime, &'a H> {
     let mut contents = Contents::none();
     let mut posts: [Post<ServiceDoor<'a>>; 0] = [];
     let mut ended = run::run(
