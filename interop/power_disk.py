@@ -11,7 +11,11 @@ from dataclasses import dataclass, field
 from pathlib import Path
 
 CALLS = "openat,close,write,pwrite64,writev,pwritev,ftruncate,fsync,fdatasync,mkdir,mkdirat,unlink,unlinkat,rename,renameat,renameat2"
+SYNCS = ("fsync", "fdatasync")
 LINE = re.compile(r"(\w+)\((.*)\) += (-?\d+)")
+THREAD = re.compile(r"(\d+) +(.*)")
+UNFINISHED = " <unfinished ...>"
+RESUMED = re.compile(r"<\.\.\. \w+ resumed>(.*)")
 TEXT = re.compile(r'"((?:\\x[0-9a-f]{2})*)"')
 # How a write since the last sync may be left.
 WHOLE, ABSENT, FRONT, ZEROS, OTHERS = range(5)
@@ -122,9 +126,23 @@ def texts(arguments):
     return [bytes.fromhex(text.replace("\\x", "")) for text in TEXT.findall(arguments)]
 
 
-def calls(record):
-    """The calls of a record that were done: their names, arguments and results."""
+def lines(record):
+    """The lines of a record of all threads, each with its thread, in the order in which the calls ended."""
+    begun = {}
     for line in record.read_text().splitlines():
+        thread, text = THREAD.fullmatch(line).groups()
+        if text.endswith(UNFINISHED):
+            begun[thread] = text.removesuffix(UNFINISHED)
+            continue
+        resumed = RESUMED.match(text)
+        yield thread, begun.pop(thread) + resumed[1] if resumed else text
+    yield from begun.items()
+
+
+def calls(record):
+    """The calls of a record that were done: their names, arguments and results. Those that were made at once stand in the order in
+    which they ended."""
+    for _, line in lines(record):
         found = LINE.match(line)
         if found and int(found[3]) >= 0:
             yield found[1], found[2], int(found[3])
@@ -207,7 +225,7 @@ class Disk:
         node = self.open.get(int(words[0]))
         if node is None:
             return
-        if name in ("fsync", "fdatasync"):
+        if name in SYNCS:
             node.sync()
         elif name == "ftruncate":
             node.cut(int(words[1]))
