@@ -90,13 +90,17 @@ def answers(_, service):
         want("few samples", (status, few["count"]), (200, 11))
         want("their times", few["times"], [1000.0 * (START + at) for at in range(99, 110)])
         want("their values", few["values"], values[99:110])
-        _, many = viewer.asked("/samples", pv="V:A", **{"from": iso(START), "to": iso(START + number)}, columns=200)
-        want("how many there are", many["count"], number)
+        whole = {"pv": "V:A", "from": iso(START), "to": iso(START + number)}
+        _, many = viewer.asked("/samples", columns=200, **whole)
+        want("how many there are", (many["count"], many["width"]), (number, None))
         want("fewer are sent", 400 < len(many["times"]) <= 5 * 201, True)
         found = [value for value in many["values"] if value is not None]
         want("the greatest", max(found), 9.0)
         want("the least", min(found), min(value for value in values if value == value))
         want("the severity", 2 in many["severities"], True)
+        firsts(viewer, values, whole)
+        _, same = viewer.asked("/samples", columns=100, all=1, **whole)
+        want("all are read", (same["count"], same["width"], max(value for value in same["values"] if value is not None)), (number, None, 9.0))
         _, new = viewer.asked("/newest", pv="V:A", since=str((START + number - 3) * SECOND))
         want("new samples", new["values"], values[-2:])
         archappl.archive(service.address, "V:U", "SCALAR_DOUBLE")
@@ -116,6 +120,22 @@ def answers(_, service):
         except urllib.error.HTTPError as error:
             want("another name", error.code, 403)
             error.close()
+
+
+def firsts(viewer, values, whole):
+    """Of far more samples than columns the first one of each column is sent, with the last one before the interval and the interval's last."""
+    late = START + 100
+    _, found = viewer.asked("/samples", columns=100, **(whole | {"from": iso(late)}))
+    width, kept = 399, {}
+    for second in range(late, START + len(values)):
+        kept.setdefault(second // width, second)
+    wanted = [late - 1, *kept.values(), START + len(values) - 1]
+    want("the seconds of a column", found["width"], width)
+    want("the first ones", found["times"], [1000.0 * second for second in wanted])
+    want("their values", found["values"], [values[second - START] for second in wanted])
+    want("what follows them", found["last"], str(wanted[-1] * SECOND))
+    _, short = viewer.asked("/samples", columns=10_000, **(whole | {"to": iso(START + 9_999)}))
+    want("columns of less than a second", (short["count"], short["width"]), (10_000, None))
 
 
 def shown_rows(browser):
@@ -141,6 +161,7 @@ def page(_, service):
         want("it is drawn", colors > 20, True)
         zoomed(browser)
         unknown(browser, viewer, words)
+        left_out(browser, viewer, service)
         followed(browser, viewer, service)
 
 
@@ -173,6 +194,42 @@ def unknown(browser, viewer, words):
     browser.until("nothing is wrong any more", "document.getElementById('told').className === ''")
     want("it is gone", browser.value("document.querySelectorAll('#names .unknown').length"), 0)
     want("the others stay", len(shown_rows(browser)), 4)
+
+
+def left_out(browser, viewer, service):
+    """Of far more samples than columns the first one of each column is shown, which the picture says; the key a shows all."""
+    length, peak, header = 3 * 86_400, 100_001, pb_stream.Header(6, "MANY:A", 2024)
+    samples = [((START + at) * SECOND, 50.0 if at == peak else math.sin(at / 9_000), 0, 0) for at in range(length)]
+    archappl.archive(service.address, "MANY:A", "SCALAR_DOUBLE")
+    archappl.send(service.address, [pb_stream.chunk(header, samples[at : at + 10_000]) for at in range(0, length, 10_000)])
+    words = [("from", iso(START)), ("to", iso(START + length)), ("pv", "MANY:A")]
+    browser.ask("Page.navigate", url=f"{viewer.address}?many#{urlencode(words)}")
+    browser.until("the first ones are shown", "document.querySelectorAll('#legend tr').length === 1 && series.get('MANY:A').width")
+    width = -(-length // browser.value("Math.round(canvas.clientWidth)"))
+    kept = {(START + at) // width: START + at for at in reversed(range(length))}
+    wanted = sorted({*kept.values(), START + length - 1})
+    want("the moments", browser.value("series.get('MANY:A').times"), [1000 * second for second in wanted])
+    want("how many", shown_rows(browser)[0][5], f"{len(wanted):,}, first sample of each {width} s")
+    want("it is said on the picture", f"first sample of each {width} s" in drawn_texts(browser), True)
+    for kind in ("keyDown", "keyUp"):
+        browser.ask("Input.dispatchKeyEvent", type=kind, key="a", text="a" * (kind == "keyDown"))
+    browser.until("all are shown", "series.get('MANY:A').width === null")
+    want("how many there are", shown_rows(browser)[0][5], f"{length:,}, thinned")
+    want("the greatest", browser.value("Math.max(...series.get('MANY:A').values)"), 50)
+    want("nothing is said on the picture", [text for text in drawn_texts(browser) if "first" in text], [])
+    want("a link keeps it", browser.value("new URLSearchParams(location.hash.slice(1)).get('all')"), "1")
+
+
+def drawn_texts(browser):
+    """The texts of the picture."""
+    return browser.value("""(() => {
+        const told = [];
+        paper.fillText = (...words) => { told.push(words[0]); };
+        draw();
+        delete paper.fillText;
+        draw();
+        return told;
+    })()""")
 
 
 def followed(browser, viewer, service):
