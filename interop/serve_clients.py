@@ -11,7 +11,8 @@ import time
 from urllib.parse import quote
 
 from comparing import Difference, agree, shown
-from serve_model import TYPES, Interval, Variable, iso, numbers_of, samples_of_json, samples_of_raw
+from serve_model import (TYPES, Interval, Operator, Reply, Variable, iso, least_binned, numbers_of, samples_of_json,
+                         samples_of_raw)
 
 SECONDS = 30
 ALL = Interval(0, 16_725_225_599 * 1_000_000_000)
@@ -161,30 +162,44 @@ class Reader:
         self.seen = {}
 
     def once(self):
-        """One request."""
+        """One request, some of them with an operator."""
         variable = self.rng.choice(self.life.readable())
         interval = interval_of(self.rng, variable)
+        operator = operator_of(self.rng) if self.rng.random() < 0.3 else None
         path = f"/retrieval/data/getData.{self.rng.choice(('raw', 'json'))}"
         low = max(variable.durable, variable.accepted, self.seen.get(variable.name, 0))
-        query = [("pv", variable.name), ("from", iso(interval.first)), ("to", iso(interval.last))]
+        pv = operator.text(variable.name) if operator else variable.name
+        query = [("pv", pv), ("from", iso(interval.first)), ("to", iso(interval.last))]
         if path.endswith("raw") and self.life.curl and self.rng.random() < 0.1:
             status, is_whole, body = 200, True, by_curl(self.life, path, query)
         else:
             status, is_whole, body = get(self.life, path, query, slow=self.rng.random() < 0.1)
         agree(f"the status of {path} {query}", status, 200)
-        high = variable.offered
-        samples = list(variable.samples)
+        reply = Reply(path.endswith("raw"), is_whole, body, low, variable.offered)
         try:
-            if path.endswith("raw"):
-                found = samples_of_raw(variable, body, interval, is_whole)
-            else:
-                found = samples_of_json(variable, body)
-            if is_whole:
-                least, _ = numbers_of(samples, interval, found, low, high)
-                self.seen[variable.name] = max(low, least)
-                self.life.count("replies")
+            self.looks(variable, interval, operator, reply)
         except Difference as difference:
-            raise Difference(f"{path} {query} ({low} to {high} samples of {variable.name}): {difference}") from None
+            raise Difference(f"{path} {query} ({low} to {reply.high} samples of {variable.name}): {difference}") from None
+
+    def looks(self, variable, interval, operator, reply):
+        """A reply is the answer, or what the operator makes, over a number of samples. Of those with an operator only whole ones are
+        looked at."""
+        samples = list(variable.samples)
+        if operator is None:
+            found = samples_of_raw(variable, reply.body, interval, reply.is_whole) if reply.is_raw else samples_of_json(variable, reply.body)
+        if reply.is_whole:
+            if operator:
+                least = least_binned(variable, samples, interval, operator, reply) or 0
+            else:
+                least, _ = numbers_of(samples, interval, found, reply.low, reply.high)
+            self.seen[variable.name] = max(reply.low, least)
+            self.life.count("binned" if operator else "replies")
+
+
+def operator_of(rng):
+    """An operator: bins that have one sample or many, or positions."""
+    word = rng.choice(("firstSample", "lastSample", "count", "nth", "ncount"))
+    return Operator(word, rng.choice((1, 2, 7, 100) if word == "nth" else (1, 10, 60, 900, 86_400, 999_999_999)))
 
 
 def by_curl(life, path, query):

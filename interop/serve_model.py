@@ -22,6 +22,9 @@ TYPES = [f"{shape}_{kind}" for shape in ("SCALAR", "WAVEFORM")
 STEPS = (SECOND // 10, 5 * SECOND, 120 * SECOND, 1_800 * SECOND)
 # The samples end long before the clock.
 LAST = 1_735_689_600 * SECOND
+# From the first moment at which a sample may stand up to the first one behind the last.
+FIRST, END = 662_688_000 * SECOND, 16_725_225_600 * SECOND
+INT = TYPES.index("SCALAR_INT")
 
 
 # Messages
@@ -221,6 +224,70 @@ def numbers_of(samples, interval, found, low, high):
         told = f"{len(found)} samples up to {found[-1].moment if found else None}"
         raise Difference(f"{told}: no answer over {low} to {high} samples to {interval}")
     return fits[0], high if answer(samples, interval, high) == found else fits[-1]
+
+
+@dataclass(frozen=True)
+class Reply:
+    """The body of a reply as far as it came, and the least and the greatest number of samples that it may be over."""
+
+    is_raw: bool
+    is_whole: bool
+    body: bytes
+    low: int
+    high: int
+
+
+# Operators
+
+
+@dataclass(frozen=True)
+class Operator:
+    """What is made of the samples of an interval: of bins of so many seconds, or of one sample of so many."""
+
+    word: str
+    number: int
+
+    def text(self, name):
+        """What asks for it."""
+        return f"{self.word}({name})" if self.word == "ncount" else f"{self.word}_{self.number}({name})"
+
+    def of(self, samples, interval):
+        """What it makes of these samples of an interval."""
+        if self.word == "nth":
+            return samples[:: self.number]
+        if self.word == "ncount":
+            return [counted(min(max(interval.first, FIRST), END - 1), len(samples))]
+        bins = {}
+        for sample in samples:
+            bins.setdefault(sample.moment // SECOND // self.number, []).append(sample)
+        if self.word == "count":
+            return [counted(max(place * self.number * SECOND, FIRST), len(found)) for place, found in bins.items()]
+        return [found[0 if self.word == "firstSample" else -1] for found in bins.values()]
+
+
+def counted(moment, number):
+    """A number of samples, told as a sample of the type SCALAR_INT."""
+    _, start = year_of(moment)
+    second, nano = divmod(moment - start, SECOND)
+    message = of_number(1, second) + of_number(2, nano) + b"\x1d" + struct.pack("<i", number)
+    members = {"secs": moment // SECOND, "nanos": moment % SECOND, "val": number, "severity": 0, "status": 0}
+    return Sample(moment, escape(message), members)
+
+
+def least_binned(variable, samples, interval, operator, reply):
+    """The least number of samples over which a reply is the text of what an operator makes, of those that the reply may be over; none
+    where the interval has none of these."""
+    begin, end = interval.bounds(samples)
+    about = Variable(variable.name, INT, 0, None) if "count" in operator.word else variable
+    least, most = (min(max(number, begin), end) for number in (reply.low, reply.high))
+    told = None if reply.is_raw else json.loads(reply.body)
+    for number in range(least, most + 1):
+        found = operator.of(samples[begin:number], interval)
+        if reply.is_raw and reply.body == raw_text(about, found, interval):
+            return number if number > begin else None
+        if told == [{"meta": {"name": variable.name}, "data": [sample.shown for sample in found]}]:
+            return number if number > begin else None
+    raise Difference(f"{shown(reply.body)}: not what it makes of {least - begin} to {most - begin} samples of the interval")
 
 
 def raw_text(variable, samples, interval):
