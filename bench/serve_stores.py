@@ -243,6 +243,11 @@ class Archappl(Service):
         first, last = iso(span.moment(span.first + 1), 0), iso(span.moment(span.first + span.count - 1), 0)
         return f"/retrieval/data/getData.{form.lower()}?pv={span.name}&from={first}&to={last}"
 
+    def thinned(self, form, span, width):
+        """What asks for the first sample of each bin of so many seconds of a span."""
+        first, last = iso(span.moment(span.first), 0), iso(span.moment(span.first + span.count - 1), 0)
+        return f"/retrieval/data/getData.{form.lower()}?pv=firstSample_{width}({span.name})&from={first}&to={last}"
+
     def samples(self, form, body):
         """The samples of an answer."""
         if form == "raw":
@@ -391,11 +396,19 @@ class Influx(Service):
         """What asks a question."""
         return f"/query?db=bench&epoch=ms&q={quote(text)}"
 
-    def target(self, form, span):
-        """What asks for a span. Both forms are asked for alike, and told apart by the head."""
+    def of_span(self, what, span, rest=""):
+        """What asks for something of the values of a span. Both forms are asked for alike, and told apart by the head."""
         first, last = span.moment(span.first) // MILLISECOND, span.moment(span.first + span.count - 1) // MILLISECOND
         where = f"\"name\" = '{span.name}' AND time >= {first}ms AND time <= {last}ms"
-        return self.query(f"SELECT \"value\" FROM \"pv\" WHERE {where}") + "&chunked=true"
+        return self.query(f"SELECT {what} FROM \"pv\" WHERE {where}{rest}") + "&chunked=true"
+
+    def target(self, _, span):
+        """What asks for a span."""
+        return self.of_span("\"value\"", span)
+
+    def thinned(self, _, span, width):
+        """What asks for the first sample of each bin of so many seconds of a span. It is told at the bin's start."""
+        return self.of_span("first(\"value\")", span, f" GROUP BY time({width}s) fill(none)")
 
     def samples(self, form, body):
         """The samples of an answer."""

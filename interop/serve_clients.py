@@ -168,7 +168,7 @@ class Reader:
         operator = operator_of(self.rng) if self.rng.random() < 0.3 else None
         path = f"/retrieval/data/getData.{self.rng.choice(('raw', 'json'))}"
         low = max(variable.durable, variable.accepted, self.seen.get(variable.name, 0))
-        pv = operator.text(variable.name) if operator else variable.name
+        pv = f"{operator}({variable.name})" if operator else variable.name
         query = [("pv", pv), ("from", iso(interval.first)), ("to", iso(interval.last))]
         if path.endswith("raw") and self.life.curl and self.rng.random() < 0.1:
             status, is_whole, body = 200, True, by_curl(self.life, path, query)

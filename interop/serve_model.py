@@ -247,9 +247,8 @@ class Operator:
     word: str
     number: int
 
-    def text(self, name):
-        """What asks for it."""
-        return f"{self.word}({name})" if self.word == "ncount" else f"{self.word}_{self.number}({name})"
+    def __str__(self):
+        return self.word if self.word == "ncount" else f"{self.word}_{self.number}"
 
     def of(self, samples, interval):
         """What it makes of these samples of an interval."""

@@ -80,6 +80,12 @@ def fed_and_got(rng, service):
             start = numpy.datetime64(ends[0], "ns") if rng.random() < 0.5 else serve_model.iso(ends[0])
             got = archappl.get(service.address, variable.name, start, ends[1])
             same_samples(f"{type_name} {interval}", got, wanted)
+            begin, end = interval.bounds(variable.samples[:300])
+            for word, number in (("firstSample", 60), ("lastSample", 900), ("count", 3_600), ("nth", 7), ("ncount", 1)):
+                operator = serve_model.Operator(word, number)
+                got = archappl.thinned(service.address, variable.name, start, ends[1], str(operator))
+                want(f"the type of {operator}", got.header.type_name, "SCALAR_INT" if "count" in word else type_name)
+                same_samples(f"{operator} of {type_name} {interval}", got, operator.of(variable.samples[begin:end], interval))
 
 
 def long_answer(_, service):
