@@ -17,6 +17,7 @@ use std::sync::Arc;
 #[derive(Drop)]
 pub struct ServiceDoor<'a> {
     door: TcpDoor<&'a HostRuntime>,
+    kind: Kind,
     port: u16,
     stop: Arc<Stop, Global>,
     // Nothing where the ports couldn't be bound, so that no connections come.
@@ -53,7 +54,10 @@ impl<'a> Door for ServiceDoor<'a> {
             self.closed = true;
             return Next::Closed;
         }
-        match self.door.next() {
+        self.stop.begin_wait(self.kind);
+        let next = self.door.next();
+        self.stop.end_wait(self.kind);
+        match next {
             Next::Link(link) if !self.stop.is_asked() => Next::Link(link),
             Next::Failed => {
                 if let Some(telling) = &self.telling {
@@ -186,14 +190,15 @@ impl<'a> Doors<'a> {
                 Some(telling) => Some(Arc::try_clone(telling)?),
                 None => None,
             };
+            let kind = side.kind;
             let door = ServiceDoor {
                 door: TcpDoor::new(listener, rt, side.limits, links),
+                kind,
                 port: side.port,
                 stop: Arc::try_clone(stop)?,
                 telling,
                 closed: false,
             };
-            let kind = side.kind;
             self.posts.push(Post { kind, door })?;
         }
         Ok(())

@@ -20,6 +20,7 @@ mod ingesting;
 mod moving;
 mod observed;
 mod opened;
+mod queue;
 mod reporting;
 mod retrieving;
 mod run;

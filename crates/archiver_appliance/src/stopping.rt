@@ -1,12 +1,14 @@
 // How a service is told to end: by a file.
+use crate::queue::Queue;
 use crate::service_log::Log;
 use crate::teller::Teller;
 use crate::telling::tell;
+use link_service::Kind;
 use std::alloc::{AllocError, Global};
 use std::fs::{self, Files};
 use std::io::ErrorKind;
 use std::net::{Net, TcpStream, ToSocketAddrs};
-use std::sync::atomic::{AtomicBool, Ordering};
+use std::sync::atomic::{AtomicBool, AtomicU32, Ordering};
 use std::sync::{Arc, Wait};
 use std::thread;
 use std::time::{Clock, Duration};
@@ -17,12 +19,16 @@ const PAUSE: u64 = 100;
 // How many milliseconds a connection that wakes a door may take.
 const WAKING: u64 = 250;
 
-/// How far a service is: whether its archive is open, whether it is to end, and whether it is over.
+/// How far a service is: whether its archive is open, whether it is to end, and whether it is over. And how many of its doors wait for a
+/// connection.
 #[derive(Drop)]
 pub struct Stop {
     serving: AtomicBool,
     asked: AtomicBool,
     over: AtomicBool,
+    // The doors that wait, for feeds and for requests.
+    feeds: AtomicU32,
+    requests: AtomicU32,
 }
 
 impl Stop {
@@ -32,6 +38,8 @@ impl Stop {
             serving: AtomicBool::new(false),
             asked: AtomicBool::new(false),
             over: AtomicBool::new(false),
+            feeds: AtomicU32::new(0),
+            requests: AtomicU32::new(0),
         };
         Ok(Arc::new(alloc, stop)?)
     }
@@ -39,6 +47,11 @@ impl Stop {
     /// Tells that its archive is open, and so that nobody else works in the folders.
     pub fn tell_serving(&self) {
         self.serving.store(true, Ordering::SeqCst);
+    }
+
+    /// Whether its archive is open.
+    pub fn is_serving(&self) -> bool {
+        self.serving.load(Ordering::SeqCst)
     }
 
     /// Whether its doors are to close.
@@ -49,6 +62,28 @@ impl Stop {
     /// Tells that all of it has ended.
     pub fn tell_over(&self) {
         self.over.store(true, Ordering::SeqCst);
+    }
+
+    /// One of the doors begins to wait for a connection.
+    pub fn begin_wait(&self, kind: Kind) {
+        self.doors_of(kind).fetch_add(1, Ordering::SeqCst);
+    }
+
+    /// One of the doors that waited has a connection, or gets none.
+    pub fn end_wait(&self, kind: Kind) {
+        self.doors_of(kind).fetch_sub(1, Ordering::SeqCst);
+    }
+
+    /// How many doors wait for a connection.
+    pub fn waiting(&self, kind: Kind) -> u32 {
+        self.doors_of(kind).load(Ordering::SeqCst)
+    }
+
+    fn doors_of(&self, kind: Kind) -> &AtomicU32 {
+        match kind {
+            Kind::Feed => &self.feeds,
+            Kind::Http => &self.requests,
+        }
     }
 }
 
@@ -62,9 +97,9 @@ pub struct Ports {
     pub doors: u32,
 }
 
-/// Tells what a service hands in to be told, until it is over, and looks for the file. Where that is there the service is to end, and those
-/// doors that wait for a connection find out. A file that was there before asked for the end of an earlier service: it is removed once the
-/// archive is open, and one that can't be removed ends this one too.
+/// Tells what a service hands in to be told and which feeds wait, until it is over, and looks for the file. Where that is there the service
+/// is to end, and those doors that wait for a connection find out. A file that was there before asked for the end of an earlier service: it
+/// is removed once the archive is open, and one that can't be removed ends this one too.
 pub fn watch<R: Files + Net + Clock + Wait>(
     rt: &HostRuntime,
     handles: &R,
@@ -75,22 +110,28 @@ pub fn watch<R: Files + Net + Clock + Wait>(
 ) {
     let mut is_old = is_there(handles, file);
     let mut teller = Teller::new(rt);
+    let mut queue = Queue::new();
+    let mut woken = None;
     for _ in handles.forever() {
         let is_over = stop.over.load(Ordering::SeqCst);
         teller.tell(rt, log, is_over);
         if is_over {
             return;
         }
-        if is_old && stop.serving.load(Ordering::SeqCst) {
+        if is_old && stop.is_serving() {
             is_old = false;
             let _ = fs::remove_file(handles, file);
         }
         if !is_old && !stop.is_asked() && is_there(handles, file) {
             tell(rt, format!(in rt.alloc(); "to end, since {file} is there"));
             stop.asked.store(true, Ordering::SeqCst);
-            for port in [ports.feed_port, ports.http_port] {
-                wake_doors(handles, &ports.address, port, ports.doors);
-            }
+        }
+        let now = teller.seconds(rt);
+        if !stop.is_asked() {
+            queue.tell(rt, stop, ports, now);
+        } else if woken != Some(now) {
+            wake_waiting(handles, stop, ports);
+            woken = Some(now);
         }
         thread::sleep(handles, Duration::from_millis(PAUSE));
     }
@@ -100,7 +141,15 @@ fn is_there(files: &impl Files, file: &str) -> bool {
     matches!(fs::exists(files, file), Ok(true))
 }
 
-// Makes as many connections to a port as it has doors. One that isn't taken in time shows that so many wait at the port already that each
+// Wakes the doors that wait for a connection, those for feeds first. One that began to wait just now, or whose connection is taken by
+// nobody, is woken a second later.
+fn wake_waiting(net: &impl Net, stop: &Stop, ports: &Ports) {
+    let address = ports.address.as_str();
+    wake_doors(net, address, ports.feed_port, stop.waiting(Kind::Feed));
+    wake_doors(net, address, ports.http_port, stop.waiting(Kind::Http));
+}
+
+// Makes as many connections to a port as doors wait there. One that isn't taken in time shows that so many wait at the port already that each
 // door finds one of those.
 fn wake_doors(net: &impl Net, address: &str, port: u16, doors: u32) {
     let limit = Duration::from_millis(WAKING);

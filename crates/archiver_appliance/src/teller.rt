@@ -109,8 +109,8 @@ impl Teller {
         }
     }
 
-    // How many seconds it has been at work.
-    fn seconds(&self, rt: &HostRuntime) -> u64 {
+    /// How many seconds it has been at work. 0 where the clock can't be read.
+    pub fn seconds(&self, rt: &HostRuntime) -> u64 {
         let Some(begun) = self.begun else {
             return 0;
         };
