@@ -1,5 +1,5 @@
 -- What the writing of pieces to their files keeps.
-use Rattle.std.specs.Prelude.{◌≡◌, ◌≢◌, ◌≤◌, ℕ, map, length, Some, IsTrue}
+use Rattle.std.specs.Prelude.{◌≡◌, ◌≢◌, ◌≤◌, ℕ, List, All, map, length, Some, IsTrue}
 use Rattle.partition_names.specs.declared.granularity.Granularity.{Granularity}
 use Rattle.disk_model.specs.Files.{Name, Files, HasFile}
 use Rattle.disk_model.specs.Past.{Past, Passes, Only}
@@ -39,6 +39,10 @@ pub record IsWritten (held : Held) (files : Files) (opened : Name → ℕ) (f : 
 -- a crash now leaves the piece's file just as it is
 abbrev pub IsSynced : Shelf → Files → Past → Piece → Type 0
 IsSynced shelf files past p = Only past (file_of shelf p.entry) (files (file_of shelf p.entry))
+
+-- the name is that of none of the pieces' files
+abbrev pub IsOfNone : Shelf → List Piece → Name → Type 0
+IsOfNone shelf pieces n = All (λ (p : Piece). n ≢ file_of shelf p.entry) pieces
 
 -- the change that lists a piece's file
 abbrev pub set_of : Piece → Change

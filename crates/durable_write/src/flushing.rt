@@ -9,7 +9,7 @@ ghost use Rattle.store_manifest.specs.Entries.{all_changed};
 ghost use Rattle.durable_write.specs.Held.{Filed, Held, listing_of};
 ghost use Rattle.durable_write.specs.Flush.{MakesFiles, with_files};
 ghost use Rattle.durable_write.specs.Stored.{HoldsEither, AreLong};
-ghost use Rattle.durable_write.specs.Writing.{LeavesListed, IsStoredAs, IsDoubtedAs, set_of};
+ghost use Rattle.durable_write.specs.Writing.{LeavesListed, IsStoredAs, IsDoubtedAs, IsOfNone, set_of};
 ghost use Rattle.durable_write.specs.Ahead.{HasCopied};
 ghost use Rattle.durable_write.specs.Three.{Beside};
 
@@ -77,6 +77,7 @@ pub fn flush_pieces<D: Disk>(
         → AreLong ahead (D.files disk.new) }
     ensures listed { IsTrue D.tells → LeavesListed ((store, rows.now), manifest.old.entries) (D.files disk.old) (D.files disk.new) (D.past disk.old) (D.past disk.new) }
     ensures elsewhere { IsTrue D.tells → (n : Name) → n.0 ≢ store → (IsOwn manifest.old.journal.name n → ⊥) → D.files disk.new n ≡ D.files disk.old n }
+    ensures others { IsTrue D.tells → (n : Name) → IsOfNone (store, rows.now) pieces.now n → (IsOwn manifest.old.journal.name n → ⊥) → D.files disk.new n ≡ D.files disk.old n }
     ensures frame { IsTrue D.tells → Passes (Beside store manifest.old.journal.name) (D.past disk.old) (D.past disk.new) }
     ensures no_more { IsTrue D.tells → (n : Name) → D.opened disk.new n ≤ D.opened disk.old n }
     ensures entries { OnOk result (manifest.new.entries ≡ all_changed manifest.old.entries (map set_of pieces.now)) }

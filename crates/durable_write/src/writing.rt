@@ -8,7 +8,7 @@ ghost use Rattle.partition_names.specs.declared.granularity.Granularity.{Granula
 ghost use Rattle.durable_write.specs.Held.{Filed, Held, file_of};
 ghost use Rattle.durable_write.specs.Flush.{Grows, MakesFiles, start_of, with_files};
 ghost use Rattle.durable_write.specs.Stored.{AreLong, AreSafe};
-ghost use Rattle.durable_write.specs.Writing.{Behind, IsSafe, IsWritten, IsSynced};
+ghost use Rattle.durable_write.specs.Writing.{Behind, IsSafe, IsWritten, IsSynced, IsOfNone};
 
 use crate::piece::Piece;
 use disk_model::{Disk, DiskErr, FileName};
@@ -111,6 +111,7 @@ fn write_pieces<D: Disk>(
     ensures written { IsTrue D.tells → (g : Granularity) (held : Held) (fs : List Filed) → IsSafe g (store, rows.now) (D.files disk.old) (D.opened disk.old) (D.past disk.old) held → MakesFiles g held pieces.now fs
         → OnOk result (All (IsWritten held (D.files disk.new) (D.opened disk.new)) fs) }
     ensures elsewhere { IsTrue D.tells → (n : Name) → n.0 ≢ store → D.files disk.new n ≡ D.files disk.old n }
+    ensures others { IsTrue D.tells → (n : Name) → IsOfNone (store, rows.now) pieces.now n → D.files disk.new n ≡ D.files disk.old n }
     ensures no_more { IsTrue D.tells → (n : Name) → D.opened disk.new n ≤ D.opened disk.old n }
     ensures faults { D.faults disk.old ≤ D.faults disk.new }
     ensures cause { IsErrOf result DiskErr.Fault → Rose (D.faults disk.old) (D.faults disk.new) }
@@ -189,6 +190,7 @@ pub(crate) fn write_all<D: Disk>(
         → OnOk result (AreSafe (with_files held fs) (D.files disk.new) (D.opened disk.new) (D.past disk.new)) }
 
     ensures elsewhere { IsTrue D.tells → (n : Name) → n.0 ≢ store → D.files disk.new n ≡ D.files disk.old n }
+    ensures others { IsTrue D.tells → (n : Name) → IsOfNone (store, rows.now) pieces.now n → D.files disk.new n ≡ D.files disk.old n }
     ensures no_more { IsTrue D.tells → (n : Name) → D.opened disk.new n ≤ D.opened disk.old n }
     ensures faults { D.faults disk.old ≤ D.faults disk.new }
     ensures cause { IsErrOf result DiskErr.Fault → Rose (D.faults disk.old) (D.faults disk.new) }

@@ -190,3 +190,11 @@ returns-clause-no_more g c tells n =
     let first = c.write_all.ensures.no_more tells n in
     let second = c.relist.ensures.no_more tells n in
     omega (arith, first, second)
+
+-- THE FILES OF NO PIECE
+
+pub returns-in_err-relist-clause-others : goal.returns-in_err-relist-clause-others
+returns-in_err-relist-clause-others g c tells n apart not_own = c.relist.ensures.elsewhere tells n not_own ∙ c.write_all.ensures.others tells n apart
+
+pub returns-clause-others : goal.returns-clause-others
+returns-clause-others g c tells n apart not_own = c.relist.ensures.elsewhere tells n not_own ∙ c.write_all.ensures.others tells n apart

@@ -21,6 +21,9 @@ returns-in_err-sync_files-clause-still g c tells gr held fs safe makes = subst (
 pub returns-in_err-sync_files-clause-elsewhere : goal.returns-in_err-sync_files-clause-elsewhere
 returns-in_err-sync_files-clause-elsewhere g c tells n other = ap (λ (f : Files). f n) (c.sync_files.ensures.same tells) ∙ c.write_pieces.ensures.elsewhere tells n other
 
+pub returns-in_err-sync_files-clause-others : goal.returns-in_err-sync_files-clause-others
+returns-in_err-sync_files-clause-others g c tells n apart = ap (λ (f : Files). f n) (c.sync_files.ensures.same tells) ∙ c.write_pieces.ensures.others tells n apart
+
 pub returns-in_err-sync_files-clause-no_more : goal.returns-in_err-sync_files-clause-no_more
 returns-in_err-sync_files-clause-no_more g c tells n = subst (λ (o : Name → ℕ). o n ≤ g.D.Disk.opened c.args.disk.now n) (sym (c.sync_files.ensures.opened tells)) (c.write_pieces.ensures.no_more tells n)
 
@@ -36,6 +39,9 @@ returns-clause-still g c tells gr held fs safe makes = subst (AreLong held) (sym
 
 pub returns-clause-elsewhere : goal.returns-clause-elsewhere
 returns-clause-elsewhere g c tells n other = ap (λ (f : Files). f n) (c.sync_files.ensures.same tells) ∙ c.write_pieces.ensures.elsewhere tells n other
+
+pub returns-clause-others : goal.returns-clause-others
+returns-clause-others g c tells n apart = ap (λ (f : Files). f n) (c.sync_files.ensures.same tells) ∙ c.write_pieces.ensures.others tells n apart
 
 pub returns-clause-no_more : goal.returns-clause-no_more
 returns-clause-no_more g c tells n = subst (λ (o : Name → ℕ). o n ≤ g.D.Disk.opened c.args.disk.now n) (sym (c.sync_files.ensures.opened tells)) (c.write_pieces.ensures.no_more tells n)

@@ -1,4 +1,4 @@
-use Rattle.std.proofs.Common.{◌≡◌, ◌<◌, List, length, take, sym, ◌∙◌, subst, arith, All}
+use Rattle.std.proofs.Common.{◌≡◌, ◌≢◌, ◌<◌, List, length, take, sym, ◌∙◌, subst, arith, All}
 use Rattle.std.proofs.lemmas.List.{take_all}
 use Rattle.std.proofs.lemmas.Slice.Zip.{AllZip-long}
 use Rattle.durable_write.specs.declared.piece.Piece.{Piece}
@@ -64,6 +64,9 @@ loop-piece-preserved g c = record {
       safe.valid.keys (all_listed gr held c.args.pieces.now fs makes.each) makes.apart nth.1 nth.2 (c.loop-piece.invariant.written tells gr held fs safe makes) (c.in_ok-write_piece.ensures.written tells gr held nth.0 now nth.3)
       (λ n apart. (c.write_piece.ensures.kept tells).elsewhere n (λ is. apart (is ∙ sym name))) (c.write_piece.ensures.no_more tells);
   elsewhere = λ tells n other. (c.write_piece.ensures.kept tells).elsewhere n (outside (c.args.store, c.args.rows.now) c.piece-item.result.entry n other) ∙ c.loop-piece.invariant.elsewhere tells n other;
+  others = λ tells n apart.
+      let own = subst (λ (p : Piece). n ≢ file_of (c.args.store, c.args.rows.now) p.entry) (sym c.piece-item.is) (apart c.loop-piece.piece-index c.piece-item.result c.loop-piece-test.true) in
+      (c.write_piece.ensures.kept tells).elsewhere n own ∙ c.loop-piece.invariant.others tells n apart;
   no_more = λ tells n. omega (arith, c.write_piece.ensures.no_more tells n, c.loop-piece.invariant.no_more tells n);
   faults = omega (arith, c.write_piece.ensures.faults, c.loop-piece.invariant.faults);
 }
