@@ -60,7 +60,7 @@ all_stay P Q [] all = refl
 all_stay P Q (x ∷ xs) all = inl (xs, All-head P x xs all, refl, all_stay P Q xs (All-tail P x xs all))
 
 -- the file in limbo that has the name
-named_in : (left : List Retired) (n : Name) → Contains (names_in left) n → (r : Retired) × Contains left r × (r.name ≡ n)
+pub named_in : (left : List Retired) (n : Name) → Contains (names_in left) n → (r : Retired) × Contains left r × (r.name ≡ n)
 named_in [] n (k, lt, is) = absurd (omega (arith, lt))
 named_in (r ∷ left) n (zero, lt, is) = (r, (zero, omega arith, refl), is)
 named_in (r ∷ left) n (suc k, lt, is) = let rest = named_in left n (k, omega (arith, lt), is) in (rest.0, (suc rest.1.0, omega (arith, rest.1.1), rest.1.2), rest.2)

@@ -37,6 +37,9 @@ pub read_leaves : (tells : Bool) (old new : SeenAll) → new.limbo ≡ old.limbo
 read_leaves tells old new limbo files opened passes names later = read_names names tells old new limbo files opened passes
 
 -- nothing was done
+pub nothing_names : (names : List Name) (tells : Bool) (all : SeenAll) → LeavesNames names tells all all
+nothing_names names tells all = read_names names tells all all refl (λ told. refl) (λ told. refl) (λ told. passes_none (λ a b. b ≡ a) all.stores.past (λ a left. refl))
+
 pub nothing_leaves : (tells : Bool) (all : SeenAll) → LeavesLater tells all all
 nothing_leaves tells all = read_leaves tells all all refl (λ told. refl) (λ told. refl) (λ told. passes_none (λ a b. b ≡ a) all.stores.past (λ a left. refl))
 

@@ -66,6 +66,7 @@ pub mod Settled
 pub mod Showing
 pub mod Sparing
 pub mod Staying
+pub mod Strays
 pub mod Tallies
 pub mod There
 pub mod Unlisted

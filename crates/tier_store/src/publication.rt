@@ -1,17 +1,18 @@
 // The publication: the next store lists what a running move has copied to it.
-ghost use Rattle.std.specs.Prelude.{◌≡◌, List, OnOk, OnErr};
+ghost use Rattle.std.specs.Prelude.{◌≡◌, List, [], OnOk, OnErr};
 ghost use Rattle.etl_mover.specs.Move.{IsCopied};
 ghost use Rattle.etl_mover.specs.declared.moving.Stage.TheVariants.{Published};
 ghost use Rattle.pv_catalog.specs.Rows.{KeepsRows};
 ghost use Rattle.durable_write.specs.Ends.{end_of_disk};
 ghost use Rattle.durable_write.specs.Held.{Filed};
 ghost use Rattle.tier_store.specs.Stores.{Stores};
-ghost use Rattle.tier_store.specs.Seen.{seen};
+ghost use Rattle.tier_store.specs.Seen.{seen, IsSettled};
 ghost use Rattle.tier_store.specs.Change.{Has, IsOpen};
 ghost use Rattle.tier_store.specs.Given.{ChangesGiven, ActsGiven};
 ghost use Rattle.tier_store.specs.Moving.{RunsBeside, LeavesLater, publishing};
 ghost use Rattle.tier_store.specs.Pinned.{seen_all, KeepsShown};
 ghost use Rattle.tier_store.specs.Revival.{KeepsWhole};
+ghost use Rattle.tier_store.specs.Strays.{MakesNoStray, targets};
 
 use crate::TierStore;
 use disk_model::{Disk, DiskErr};
@@ -27,6 +28,7 @@ impl<D: Disk> TierStore<D> {
         ensures shown { KeepsShown D.tells (seen_all D.Disk self.old) (seen_all D.Disk self.new) }
         ensures leaves { LeavesLater D.tells (seen_all D.Disk self.old) (seen_all D.Disk self.new) }
         ensures whole { KeepsWhole D.tells (seen_all D.Disk self.old) (seen_all D.Disk self.new) }
+        ensures tidy { OnOk result (IsSettled (seen D.Disk self.new) × MakesNoStray D.tells (seen_all D.Disk self.old) (targets moving.old) (seen_all D.Disk self.new) []) }
         ensures same { (self.new.catalogue ≡ self.old.catalogue) × (self.new.pinned ≡ self.old.pinned) × (self.new.limbo ≡ self.old.limbo) }
         ensures published { OnOk result (moving.new ≡ record moving.old { stage = Published }) }
         ensures unpublished { OnErr result (moving.new ≡ moving.old) }
@@ -50,6 +52,7 @@ impl<D: Disk> TierStore<D> {
         ensures shown { KeepsShown D.tells (seen_all D.Disk self.old) (seen_all D.Disk self.new) }
         ensures leaves { LeavesLater D.tells (seen_all D.Disk self.old) (seen_all D.Disk self.new) }
         ensures whole { KeepsWhole D.tells (seen_all D.Disk self.old) (seen_all D.Disk self.new) }
+        ensures tidy { IsSettled (seen D.Disk self.old) → OnOk result (IsSettled (seen D.Disk self.new) × MakesNoStray D.tells (seen_all D.Disk self.old) (targets moving.old) (seen_all D.Disk self.new) []) }
         ensures keeps { KeepsRows self.old.catalogue.rows self.new.catalogue.rows }
         ensures pins { self.new.pinned ≡ self.old.pinned }
         ensures limbo { self.new.limbo ≡ self.old.limbo }

@@ -1,7 +1,7 @@
 // The retirement: the oldest files of a row leave a store's list.
 //
 // They go to limbo first, so that what is pinned is there whatever comes of the commit. Those that no pin names are removed behind it.
-ghost use Rattle.std.specs.Prelude.{◌≡◌, ◌≤◌, ◌<◌, ◌+◌, ℕ, List, All, Ok, Some, None, OnErr, IsErrOf, Contains, length, map, slice_get};
+ghost use Rattle.std.specs.Prelude.{◌≡◌, ◌≤◌, ◌<◌, ◌+◌, ℕ, List, All, Ok, Some, None, IfOk, OnErr, IsErrOf, Contains, length, map, slice_get};
 ghost use Rattle.disk_model.specs.Files.{Name, Rose};
 ghost use Rattle.pv_catalog.specs.Rows.{KeepsRows};
 ghost use Rattle.store_manifest.specs.Manifest.{ManifestState};
@@ -15,6 +15,7 @@ ghost use Rattle.tier_store.specs.Pinned.{seen_all, KeepsShown};
 ghost use Rattle.tier_store.specs.Retiring.{FailsRetired, AreApart, oldest, oldest_entries, drop_entry, retired_of, dropping, retiring, HasGrown, HasNotGrown, Remain, ShowsKept, HandedOver, StayOrEnter};
 ghost use Rattle.tier_store.specs.Moving.{LeavesFiles, LeavesNames};
 ghost use Rattle.tier_store.specs.Revival.{KeepsWholeOf};
+ghost use Rattle.tier_store.specs.Strays.{HasRemoved, LeavesNoStray};
 ghost use Rattle.tier_store.specs.declared.retirement.RetireEnd.TheVariants.{Again, Retired as IsRetired};
 
 use crate::TierStore;
@@ -87,8 +88,9 @@ impl<D: Disk> TierStore<D> {
 
         ensures changes { Changes D.tells (retiring place row published.now (Remain D.tells (seen D.Disk self.new) self.old.pinned self.old.limbo.items self.new.limbo.items)) (seen D.Disk self.old) (seen D.Disk self.new) (end_of_disk result) }
         ensures shown { ShowsKept D.tells self.old.pinned (seen_all D.Disk self.old) (seen_all D.Disk self.new) }
-        ensures leaves { (held : Stores) (names : List Name) → Has D.tells (seen D.Disk self.old) held → All (λ (n : Name). 2 ≤ n.0) names → AreApart place row (length published.now) held names → LeavesNames names D.tells (seen_all D.Disk self.old) (seen_all D.Disk self.new) }
+        ensures leaves { (held : Stores) (names : List Name) → Has D.tells (seen D.Disk self.old) held → All (λ (n : Name). 1 ≤ n.0) names → AreApart place row (length published.now) held names → LeavesNames names D.tells (seen_all D.Disk self.old) (seen_all D.Disk self.new) }
         ensures whole { (held : Stores) → Has D.tells (seen D.Disk self.old) held → KeepsWholeOf D.tells (seen_all D.Disk self.old) (seen_all D.Disk self.new) held }
+        ensures tidy { IfOk result (λ end. IsSettled (seen D.Disk self.new) × (HasRemoved end → LeavesNoStray D.tells (seen_all D.Disk self.old) (seen_all D.Disk self.new))) }
         ensures again { (len copied : ℕ) → result ≡ Ok (Again len copied) → self.new.limbo ≡ self.old.limbo }
         ensures failed { OnErr result (StayOrEnter (seen D.Disk self.new) place row (length published.now) self.old.limbo.items self.new.limbo.items) }
         ensures doubted { (held : Stores) → Has D.tells (seen D.Disk self.old) held → IsErrOf result DiskErr.Fault → FailsRetired place row published.now D.tells (seen D.Disk self.new) held }
@@ -141,6 +143,7 @@ impl<D: Disk> TierStore<D> {
         ensures leaves { (before after : Stores) (names : List Name) → IsOpen D.tells (seen D.Disk self.old) before after → All (λ (n : Name). 2 ≤ n.0) names
             → AreApart place row (length published.now) before names → AreApart place row (length published.now) after names → LeavesNames names D.tells (seen_all D.Disk self.old) (seen_all D.Disk self.new) }
         ensures whole { (before after : Stores) → IsOpen D.tells (seen D.Disk self.old) before after → KeepsWholeOf D.tells (seen_all D.Disk self.old) (seen_all D.Disk self.new) before }
+        ensures tidy { IsSettled (seen D.Disk self.old) → IfOk result (λ end. IsSettled (seen D.Disk self.new) × (HasRemoved end → LeavesNoStray D.tells (seen_all D.Disk self.old) (seen_all D.Disk self.new))) }
         ensures stands { LimboStands (seen D.Disk self.new) self.new.limbo.items }
         ensures keeps { KeepsRows self.old.catalogue.rows self.new.catalogue.rows }
         ensures pins { self.new.pinned ≡ self.old.pinned }

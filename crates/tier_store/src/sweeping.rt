@@ -1,5 +1,5 @@
 // The sweep: retired files that nothing needs any more are removed, and leave limbo.
-ghost use Rattle.std.specs.Prelude.{◌≡◌, ◌≤◌, All, IfOk, OnOk, OnErr, IsErrOf, IsTrue};
+ghost use Rattle.std.specs.Prelude.{◌≡◌, ◌≤◌, All, Ok, IfOk, OnOk, OnErr, IsErrOf, IsTrue};
 ghost use Rattle.disk_model.specs.Files.{Name, Rose};
 ghost use Rattle.pv_catalog.specs.Rows.{KeepsRows};
 ghost use Rattle.durable_write.specs.Ends.{Done, end_of_disk};
@@ -10,6 +10,7 @@ ghost use Rattle.tier_store.specs.Moving.{LeavesLater, LeavesNames};
 ghost use Rattle.tier_store.specs.Pinned.{seen_all, KeepsShown};
 ghost use Rattle.tier_store.specs.Limbo.{LimboStands, IsSwept, AreGone, LeavesKept, LeavesKeptFiles, staying};
 ghost use Rattle.tier_store.specs.Revival.{KeepsWhole};
+ghost use Rattle.tier_store.specs.Strays.{LeavesNoStray};
 
 use crate::TierStore;
 use crate::limbo::leave_listed;
@@ -56,6 +57,7 @@ impl<D: Disk> TierStore<D> {
         ensures leaves { LeavesKeptFiles D.tells self.old.pinned copied.now (seen_all D.Disk self.old) (seen_all D.Disk self.new) }
         ensures kept { IsSettled (seen D.Disk self.old) → LeavesKept D.tells self.old.pinned copied.now (seen_all D.Disk self.old) (seen_all D.Disk self.new) }
         ensures whole { KeepsWhole D.tells (seen_all D.Disk self.old) (seen_all D.Disk self.new) }
+        ensures tidy { IsSettled (seen D.Disk self.old) → IfOk result (λ swept. IsSettled (seen D.Disk self.new) × (swept.removed ≡ Ok tt → LeavesNoStray D.tells (seen_all D.Disk self.old) (seen_all D.Disk self.new))) }
         ensures copied { All (λ (n : Name). 2 ≤ n.0) copied.now → LeavesNames copied.now D.tells (seen_all D.Disk self.old) (seen_all D.Disk self.new) }
         ensures stands { LimboStands (seen D.Disk self.new) self.new.limbo.items }
         ensures keeps { KeepsRows self.old.catalogue.rows self.new.catalogue.rows }

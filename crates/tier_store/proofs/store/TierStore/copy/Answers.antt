@@ -8,7 +8,7 @@ use Rattle.tier_store.specs.Copying.{CopiesAmong}
 use Rattle.tier_store.specs.Limbo.{LimboStands, staying}
 use Rattle.tier_store.specs.Pinned.{beside}
 use Rattle.tier_store.specs.Revival.{AreWhole}
-use Rattle.tier_store.specs.Seen.{seen_on}
+use Rattle.tier_store.specs.Seen.{IsSettled, seen, seen_on}
 use Rattle.tier_store.specs.declared.copying.CopyEnd.{CopyEnd}
 use Rattle.tier_store.specs.declared.limbo.Retired.{Retired}
 use Rattle.tier_store.proofs.Acting.{cut_given, is_one, settled_one, then_given}
@@ -17,6 +17,9 @@ use Rattle.tier_store.proofs.CopyPass.{passes_none}
 use Rattle.tier_store.proofs.CopySteps.{moves_none, on_err, on_err_then, on_ok, others_then}
 use Rattle.tier_store.proofs.RevivalShown.{settled_whole, still_whole}
 use Rattle.tier_store.proofs.Staying.{limbo_kept}
+use Rattle.tier_store.specs.Strays.{MakesNoStray, targets}
+use Rattle.tier_store.specs.Pinned.{seen_all}
+use Rattle.std.specs.Prelude.{OnOk}
 use Rattle.tier_store.proofs.store.TierStore.copy.Goals as goal
 
 pub copy_settled-requires-clause-runs : goal.copy_settled-requires-clause-runs
@@ -139,3 +142,6 @@ returns-clause-whole g c i stands files low whole =
 
 pub returns-clause-settled : goal.returns-clause-settled
 returns-clause-settled g c sound = c.copy_settled.ensures.same.0 ∙ c.review.ensures.rows sound
+
+pub returns-clause-tidy : goal.returns-clause-tidy
+returns-clause-tidy g c settled = subst (λ s. OnOk c.copy_settled.result (IsSettled (seen g.D.Disk c.copy_settled.new.self) × MakesNoStray g.D.Disk.tells (seen_all g.D.Disk s) (targets c.args.moving.now) (seen_all g.D.Disk c.copy_settled.new.self) (targets c.copy_settled.new.moving))) (c.review.ensures.nothing settled).1 c.copy_settled.ensures.tidy

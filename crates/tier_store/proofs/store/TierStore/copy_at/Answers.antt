@@ -9,6 +9,7 @@ use Rattle.tier_store.proofs.CopyParts.{low, q_filed, next_part}
 use Rattle.tier_store.proofs.CopyPass.{says_line}
 use Rattle.tier_store.proofs.CopySteps.{look_then_change, looks_change, looks_done, only_looks_others, others_then}
 use Rattle.tier_store.proofs.WholeCalls.{whole_then}
+use Rattle.tier_store.proofs.Strays.{ok_then, targets_same, targets_then}
 use Rattle.tier_store.proofs.store.TierStore.copy_at.Goals as goal
 
 pub part_lines-requires-clause-runs : goal.part_lines-requires-clause-runs
@@ -99,3 +100,12 @@ returns-in-Damaged-clause-leaves g c = only_looks_others g.D.Disk.tells _ _ c.ar
 
 pub returns-in-Damaged-clause-whole : goal.returns-in-Damaged-clause-whole
 returns-in-Damaged-clause-whole g c = looks_whole g.D.Disk.tells _ _ _ c.requires.runs.2.known.three c.in_ok-part.ensures.looks
+
+pub returns-in-Line-clause-targets : goal.returns-in-Line-clause-targets
+returns-in-Line-clause-targets g c =
+    let files = g.D.Disk.files in
+    let move = c.args.moving.now in
+    ok_then c.copy_lines.result _ _ (λ writes tells. targets_then move move c.copy_lines.new.moving (files c.args.self.now.disk) (files c.part_lines.new.self.disk) (files c.copy_lines.new.self.disk) (targets_same move move _ _ refl (c.in_ok-part.ensures.looks.reads.files tells)) (writes tells)) c.copy_lines.ensures.targets
+
+pub returns-in-Damaged-clause-targets : goal.returns-in-Damaged-clause-targets
+returns-in-Damaged-clause-targets g c tells = targets_same c.args.moving.now c.args.moving.now _ _ refl (c.in_ok-part.ensures.looks.reads.files tells)

@@ -19,6 +19,9 @@ use Rattle.tier_store.proofs.CopyParts.{further, next_entry, next_file, next_par
 use Rattle.tier_store.proofs.CopySteps.{others_then, part_from}
 use Rattle.tier_store.proofs.CopyTurn.{changes_by, goes_behind, turn_back, turn_files, turn_further, turn_later, turn_part}
 use Rattle.tier_store.proofs.LeavingNames.{nothing_leaves}
+use Rattle.tier_store.specs.Strays.{WritesTargets, targets}
+use Rattle.std.specs.Prelude.{IsTrue, OnOk}
+use Rattle.tier_store.proofs.Strays.{targets_same, targets_then}
 use Rattle.tier_store.proofs.store.TierStore.copy_behind.Goals as goal
 
 pub manifest-requires-clause-last : goal.manifest-requires-clause-last
@@ -199,3 +202,11 @@ returns-in-Err-clause-one g c =
     let low = (c.requires.covered own.0 own.1).low in
     let at = ap (λ (x : MoveState). x.at) c.go_back.ensures in
     omega (arith, low, at, c.copied_parts-first.ensures)
+
+pub returns-in-Ok-clause-targets : goal.returns-in-Ok-clause-targets
+returns-in-Ok-clause-targets g c tells =
+    let files = g.D.Disk.files in
+    let move = c.args.moving.now in
+    let mid = c.pass_to.new.moving in
+    let writes = subst (λ (r : Result CopyEnd DiskErr). OnOk r (IsTrue g.D.Disk.tells → WritesTargets mid c.copy_at.new.moving (files c.args.self.now.disk) (files c.copy_at.new.self.disk))) c.in-Ok.is c.copy_at.ensures.targets in
+    targets_then move mid c.copy_at.new.moving _ _ _ (targets_same move mid _ _ (ap targets c.pass_to.ensures.passes.is) refl) (writes tells)

@@ -1,4 +1,4 @@
-use Rattle.std.proofs.Common.{◌≡◌, ℕ, ◌<◌, ◌+◌, length, ◌∙◌, ap, subst, arith}
+use Rattle.std.proofs.Common.{refl, ◌≡◌, ℕ, ◌<◌, ◌+◌, length, ◌∙◌, ap, subst, arith}
 use Rattle.std.specs.Prelude.{IfOk, OnErr, Result, nat_eq}
 use Rattle.disk_model.specs.declared.disk.DiskErr.{DiskErr}
 use Rattle.etl_mover.specs.Move.{of_series}
@@ -13,6 +13,9 @@ use Rattle.tier_store.specs.declared.copying.CopyEnd.{CopyEnd}
 use Rattle.tier_store.specs.declared.copying.CopyEnd.TheVariants as ends
 use Rattle.tier_store.proofs.CopyParts.{further, source}
 use Rattle.tier_store.proofs.CopyUncovered.{covers_all, ends_so, given_done, kept_long, listed_all, moves_ended, moves_twice, none_changes, test_false, test_true}
+use Rattle.tier_store.specs.Strays.{WritesTargets, targets}
+use Rattle.std.specs.Prelude.{IsTrue, OnOk}
+use Rattle.tier_store.proofs.Strays.{targets_ended, targets_same, targets_then}
 use Rattle.tier_store.proofs.store.TierStore.copy_left.Goals as goal
 
 pub first_uncovered-left-requires-clause-listed : goal.first_uncovered-left-requires-clause-listed
@@ -144,3 +147,16 @@ returns-in-Err-clause-changes g c files retired =
     let all = beside (seen_on disk.files disk.opened disk.past disk.faults self.catalogue self.manifests.items self.disk) self.limbo.items in
     let new = seen_on disk.files disk.opened disk.past disk.faults after.catalogue after.manifests.items after.disk in
     subst (λ (r : Result CopyEnd DiskErr). ChangesGiven (CopiesAmong c.args.place disk.tells all retired c.args.moving.now files) disk.tells (staying {A = CopyEnd}) all.stores new (end_of_disk r)) c.in-Err.is (c.copy_uncovered.ensures.changes files retired)
+
+pub returns-then-left-parts-clause-targets : goal.returns-then-left-parts-clause-targets
+returns-then-left-parts-clause-targets g c tells = targets_same c.args.moving.now c.pass_rest.new.moving _ _ (ap targets c.pass_rest.ensures.passes) refl
+
+pub returns-in-Ok-clause-targets : goal.returns-in-Ok-clause-targets
+returns-in-Ok-clause-targets g c tells =
+    let files = g.D.Disk.files in
+    let move = c.args.moving.now in
+    let mid = c.copy_uncovered.new.moving in
+    let end = c.end_of.new.moving in
+    let writes = subst (λ (r : Result CopyEnd DiskErr). OnOk r (IsTrue g.D.Disk.tells → WritesTargets move mid (files c.args.self.now.disk) (files c.copy_uncovered.new.self.disk))) c.in-Ok.is c.copy_uncovered.ensures.targets in
+    targets_then move mid end _ _ _ (writes tells)
+    (targets_same mid end _ _ (targets_ended c.first_uncovered-left.result (nat_eq c.first_uncovered-behind.result (length c.kept-parts.result.now)) mid end c.end_of.result c.in-Ok.end c.end_of.ensures.whole c.end_of.ensures.more c.end_of.ensures.other) refl)

@@ -10,6 +10,10 @@ use Rattle.tier_store.proofs.CopyGoes.{go_all, go_changes, go_changes_ok, go_dam
 use Rattle.tier_store.proofs.CopyLooks.{err_says, fault_was}
 use Rattle.tier_store.proofs.CopyRevived.{can_go, can_revive, copies_it, either_it, leaves_it, nowhere_it, plain}
 use Rattle.tier_store.proofs.Places.{manifest_of}
+use Rattle.tier_store.specs.Seen.{seen_on}
+use Rattle.tier_store.specs.Pinned.{beside}
+use Rattle.tier_store.proofs.CopyParts.{next_part}
+use Rattle.tier_store.proofs.Strays.{step_targets}
 use Rattle.tier_store.proofs.store.TierStore.copy_lines.Goals as goal
 use Rattle.tier_store.proofs.store.TierStore.copy_lines.Goals.{then-not-is_revived-via-then-not-is_revived, then-not-is_revived-via-else-not-is_revived+then-not-is_ahead}
 
@@ -215,3 +219,42 @@ returns-clause-copies g c files held has is line =
           c.requires.runs c.requires.stands c.requires.goes (either_it c.args.moving.now _ c.args.revived c.as_ref.ensures.value c.args.at c.args.len c.copy.ensures.either) (λ told p start goes. leaves_it c.args.moving.now _ c.args.revived c.as_ref.ensures.value (IsTrue disk.tells) _ c.copy.ensures.leaves told p start goes) (λ told never. nowhere_it c.args.moving.now _ c.args.revived c.as_ref.ensures.value (IsTrue disk.tells) _ c.copy.ensures.nowhere told never) 1_048_576 c.copy.new.self (subst (λ (o : Option Entry). Advances c.args.moving.now c.copy.new.self o c.args.len) c.as_ref.ensures.value c.in_ok-copied.ensures.advances) (λ told p start bytes goes file. copies_it c.args.moving.now _ c.args.revived c.as_ref.ensures.value (IsTrue disk.tells) (disk.files self.disk) _ c.in_ok-copied.ensures.copies told p start bytes goes file) files held has is line (c.is_revived.ensures.revived c.if-not-is_revived.false) (omega (arith, before, now, less)) (c.in_ok-copied.ensures.done.0 c.in-Done.is),
       tt,
     )
+
+pub returns-then-not-is_revived-clause-targets : goal.returns-then-not-is_revived-clause-targets
+returns-then-not-is_revived-clause-targets g c tells =
+    let disk = g.D.Disk in
+    let self = c.args.self.now in
+    let move = c.args.moving.now in
+    let runs = c.requires.runs in
+    let all = beside (seen_on disk.files disk.opened disk.past disk.faults self.catalogue self.manifests.items self.disk) self.limbo.items in
+    let part = next_part disk.tells all c.args.place (reviving move c.args.revived) runs.0 runs.1 runs.2 runs.3 in
+    let running = plain runs.3.runs.fine move c.args.revived runs.3.runs.running in
+    let to = manifest_of self.manifests.items (c.args.place + 1) move.granularity runs.3.runs.to_coarse in
+    let can = can_copy disk.files disk.opened disk.past disk.faults disk.tells self.catalogue self.manifests.items self.limbo.items c.args.place to.0 to.1 self.disk (λ told. g.met.D.Disk.seen self.disk told) (reviving move c.args.revived) runs.0 runs.1 runs.2 runs.3 c.args.name c.args.at c.args.len runs.4 tells in
+    step_targets runs.3.runs.fine move c.copy.new.self _ part.0 c.args.at c.args.len _ _ _ _ _ _ running (c.copy.ensures.running runs.3.runs.fine running) c.in_ok-copied.ensures.advances part.1 (c.copy.ensures.either part.0 part.1 runs.4.low) (can.source part.0 part.1) (c.copy.ensures.leaves tells) (c.in_ok-copied.ensures.copies tells) (c.copy.ensures.nowhere tells)
+
+pub returns-in-More-clause-targets : goal.returns-in-More-clause-targets
+returns-in-More-clause-targets g c tells =
+    let disk = g.D.Disk in
+    let self = c.args.self.now in
+    let move = c.args.moving.now in
+    let runs = c.requires.runs in
+    let all = beside (seen_on disk.files disk.opened disk.past disk.faults self.catalogue self.manifests.items self.disk) self.limbo.items in
+    let part = next_part disk.tells all c.args.place (reviving move c.args.revived) runs.0 runs.1 runs.2 runs.3 in
+    let running = plain runs.3.runs.fine move c.args.revived runs.3.runs.running in
+    let to = manifest_of self.manifests.items (c.args.place + 1) move.granularity runs.3.runs.to_coarse in
+    let can = can_copy disk.files disk.opened disk.past disk.faults disk.tells self.catalogue self.manifests.items self.limbo.items c.args.place to.0 to.1 self.disk (λ told. g.met.D.Disk.seen self.disk told) (reviving move c.args.revived) runs.0 runs.1 runs.2 runs.3 c.args.name c.args.at c.args.len runs.4 tells in
+    step_targets runs.3.runs.fine move c.copy.new.self _ part.0 c.args.at c.args.len _ _ _ _ _ _ running (c.copy.ensures.running runs.3.runs.fine running) c.in_ok-copied.ensures.advances part.1 (c.copy.ensures.either part.0 part.1 runs.4.low) (can.source part.0 part.1) (c.copy.ensures.leaves tells) (c.in_ok-copied.ensures.copies tells) (c.copy.ensures.nowhere tells)
+
+pub returns-clause-targets : goal.returns-clause-targets
+returns-clause-targets g c tells =
+    let disk = g.D.Disk in
+    let self = c.args.self.now in
+    let move = c.args.moving.now in
+    let runs = c.requires.runs in
+    let all = beside (seen_on disk.files disk.opened disk.past disk.faults self.catalogue self.manifests.items self.disk) self.limbo.items in
+    let part = next_part disk.tells all c.args.place (reviving move c.args.revived) runs.0 runs.1 runs.2 runs.3 in
+    let running = plain runs.3.runs.fine move c.args.revived runs.3.runs.running in
+    let to = manifest_of self.manifests.items (c.args.place + 1) move.granularity runs.3.runs.to_coarse in
+    let can = can_copy disk.files disk.opened disk.past disk.faults disk.tells self.catalogue self.manifests.items self.limbo.items c.args.place to.0 to.1 self.disk (λ told. g.met.D.Disk.seen self.disk told) (reviving move c.args.revived) runs.0 runs.1 runs.2 runs.3 c.args.name c.args.at c.args.len runs.4 tells in
+    step_targets runs.3.runs.fine move c.copy.new.self _ part.0 c.args.at c.args.len _ _ _ _ _ _ running (c.copy.ensures.running runs.3.runs.fine running) c.in_ok-copied.ensures.advances part.1 (c.copy.ensures.either part.0 part.1 runs.4.low) (can.source part.0 part.1) (c.copy.ensures.leaves tells) (c.in_ok-copied.ensures.copies tells) (c.copy.ensures.nowhere tells)

@@ -15,6 +15,9 @@ use Rattle.tier_store.proofs.CopyLooks.{err_says, looks_err, looks_stands, looks
 use Rattle.tier_store.proofs.CopyPass.{passes_then}
 use Rattle.tier_store.proofs.CopySteps.{damaged_same, look_then_change, looks_change, looks_done, moves_passed, moves_then, on_err, on_err_then, on_ok, only_looks_others, others_then, says_ended, says_from}
 use Rattle.tier_store.proofs.WholeCalls.{whole_then}
+use Rattle.tier_store.specs.Strays.{targets}
+use Rattle.std.specs.Prelude.{IsTrue}
+use Rattle.tier_store.proofs.Strays.{copied_strays, ok_then, targets_same, targets_then}
 use Rattle.tier_store.proofs.store.TierStore.copy_settled.Goals as goal
 
 pub pass_parts-requires-clause-runs : goal.pass_parts-requires-clause-runs
@@ -140,3 +143,42 @@ returns-in-Damaged-clause-moves_on g c = moves_passed c.args.moving.now c.pass_p
 
 pub returns-in-Damaged-clause-whole : goal.returns-in-Damaged-clause-whole
 returns-in-Damaged-clause-whole g c = looks_whole g.D.Disk.tells _ _ _ c.requires.runs.3.known.three c.in_ok-next.ensures.looks
+
+pub returns-in-Line-clause-tidy : goal.returns-in-Line-clause-tidy
+returns-in-Line-clause-tidy g c =
+    let disk = g.D.Disk in
+    let self = c.args.self.now in
+    let move = c.args.moving.now in
+    let mid = c.pass_parts.new.moving in
+    let was = c.requires.runs in
+    let looks = c.in_ok-next.ensures.looks in
+    let now = (returns-in-Line-clause-copies g c was.0 was.1 was.2 was.3 was.4).0 in
+    let limbo = ap (λ v. v.items) (returns-in-Line-clause-same g c).2 in
+    let passed = λ (tells : IsTrue disk.tells). targets_same move mid (disk.files self.disk) (disk.files c.pass_parts.new.self.disk) (ap targets c.in_ok-next.ensures.passes.is) (looks.reads.files tells) in
+    ok_then c.copy_left.result _ _ (λ writes. (now.settled, copied_strays disk.tells _ _ move c.copy_left.new.moving was.2 limbo was.3 now (λ tells. targets_then move mid c.copy_left.new.moving _ _ _ (passed tells) (writes tells)))) c.copy_left.ensures.targets
+
+pub returns-in-End-clause-tidy : goal.returns-in-End-clause-tidy
+returns-in-End-clause-tidy g c =
+    let disk = g.D.Disk in
+    let self = c.args.self.now in
+    let move = c.args.moving.now in
+    let mid = c.pass_parts.new.moving in
+    let was = c.requires.runs in
+    let looks = c.in_ok-next.ensures.looks in
+    let now = (returns-in-End-clause-copies g c was.0 was.1 was.2 was.3 was.4).0 in
+    let limbo = ap (λ v. v.items) (returns-in-End-clause-same g c).2 in
+    let passed = λ (tells : IsTrue disk.tells). targets_same move mid (disk.files self.disk) (disk.files c.pass_parts.new.self.disk) (ap targets c.in_ok-next.ensures.passes.is) (looks.reads.files tells) in
+    (now.settled, copied_strays disk.tells _ _ move mid was.2 limbo was.3 now passed)
+
+pub returns-in-Damaged-clause-tidy : goal.returns-in-Damaged-clause-tidy
+returns-in-Damaged-clause-tidy g c =
+    let disk = g.D.Disk in
+    let self = c.args.self.now in
+    let move = c.args.moving.now in
+    let mid = c.pass_parts.new.moving in
+    let was = c.requires.runs in
+    let looks = c.in_ok-next.ensures.looks in
+    let now = (returns-in-Damaged-clause-copies g c was.0 was.1 was.2 was.3 was.4).0 in
+    let limbo = ap (λ v. v.items) (returns-in-Damaged-clause-same g c).2 in
+    let passed = λ (tells : IsTrue disk.tells). targets_same move mid (disk.files self.disk) (disk.files c.pass_parts.new.self.disk) (ap targets c.in_ok-next.ensures.passes.is) (looks.reads.files tells) in
+    (now.settled, copied_strays disk.tells _ _ move mid was.2 limbo was.3 now passed)

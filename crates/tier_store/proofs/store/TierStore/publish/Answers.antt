@@ -1,5 +1,5 @@
-use Rattle.std.proofs.Common.{Err, Result, List, ◌+◌, ◌≡◌, ℕ, ◌∙◌, ap, arith, refl, subst, sym}
-use Rattle.std.specs.Prelude.{Bool}
+use Rattle.std.proofs.Common.{[], Err, Result, List, ◌+◌, ◌≡◌, ℕ, ◌∙◌, ap, arith, refl, subst, sym}
+use Rattle.std.specs.Prelude.{OnOk, Bool}
 use Rattle.std.proofs.lemmas.Result.{err_from_is_err_and}
 use Rattle.disk_model.specs.declared.disk.DiskErr.{DiskErr}
 use Rattle.etl_mover.specs.Move.{MoveState}
@@ -9,12 +9,14 @@ use Rattle.durable_write.specs.Ends.{end_of_disk}
 use Rattle.durable_write.specs.Held.{Filed}
 use Rattle.tier_store.specs.Moving.{RunsBeside, LeavesLater, names_of, publishing}
 use Rattle.tier_store.specs.Pinned.{SeenAll, beside}
-use Rattle.tier_store.specs.Seen.{granularities, seen_on}
+use Rattle.tier_store.specs.Seen.{IsSettled, seen, granularities, seen_on}
 use Rattle.tier_store.specs.Stores.{Stores}
 use Rattle.tier_store.proofs.Acting.{cut_given, is_one, settled_one, then_given}
 use Rattle.tier_store.proofs.BesideMoves.{beside_itself, runs_still}
 use Rattle.tier_store.proofs.LeavingNames.{later_names, leaves_then}
 use Rattle.tier_store.proofs.WholeCalls.{whole_then}
+use Rattle.tier_store.specs.Strays.{MakesNoStray, targets}
+use Rattle.tier_store.specs.Pinned.{seen_all}
 use Rattle.tier_store.proofs.store.TierStore.publish.Goals as goal
 
 -- the settling leaves what runs
@@ -62,3 +64,6 @@ returns-clause-keeps g c = subst (λ (s : CatalogueState). KeepsRows c.args.self
 
 pub returns-clause-whole : goal.returns-clause-whole
 returns-clause-whole g c = whole_then g.D.Disk.tells _ _ _ c.review.ensures.whole c.publish_settled.ensures.whole
+
+pub returns-clause-tidy : goal.returns-clause-tidy
+returns-clause-tidy g c settled = subst (λ s. OnOk c.publish_settled.result (IsSettled (seen g.D.Disk c.publish_settled.new.self) × MakesNoStray g.D.Disk.tells (seen_all g.D.Disk s) (targets c.args.moving.now) (seen_all g.D.Disk c.publish_settled.new.self) [])) (c.review.ensures.nothing settled).1 c.publish_settled.ensures.tidy

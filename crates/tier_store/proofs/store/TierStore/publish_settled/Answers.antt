@@ -17,6 +17,7 @@ use Rattle.tier_store.proofs.Places.{manifest_here}
 use Rattle.tier_store.proofs.PublishCall.{publish_ends}
 use Rattle.tier_store.proofs.Showing.{ends_held}
 use Rattle.tier_store.proofs.WholeCalls.{call_whole}
+use Rattle.tier_store.proofs.Strays.{file_apart, ok_both, ok_settled, published_strays}
 use Rattle.tier_store.proofs.store.TierStore.publish_settled.Goals as goal
 
 same_opened : {opened after : Name → ℕ} (n : Name) → after ≡ opened → after n ≤ opened n
@@ -111,3 +112,18 @@ returns-clause-whole g c =
     (λ name h. ends_held disk.tells (publishing c.args.place runs.0) all.stores _ runs.1 (end_of_disk c.publish.result) name 0 runs.2 (λ made by. goes_on c.args.place disk.tells all runs.1 runs.0 runs.3.ahead m here runs.2 made by) (change.ends runs.1 runs.2 runs.3) h)
     (keeps_same self.catalogue.rows) change.costs.granularity
     (commit_leaves_files disk.tells all _ m.journal.name Anything refl (λ tells. ap (λ (n : Name). n.0) ((runs.2.disk tells).each c.args.place m here).named) (λ tells n apart. says.elsewhere tells n apart) says.no_more says.frame)
+
+pub returns-clause-tidy : goal.returns-clause-tidy
+returns-clause-tidy g c =
+    let self = c.args.self.now in
+    let disk = g.D.Disk in
+    let runs = c.requires.runs in
+    let m = c.index_mut.result.now in
+    let all = beside (seen_on disk.files disk.opened disk.past disk.faults self.catalogue self.manifests.items self.disk) self.limbo.items in
+    let low = place_low c.args.place disk.tells all c.args.moving.now runs.0 runs.1 runs.3 in
+    let here = manifest_here self.manifests.items c.args.place m c.index_mut.ensures.value low in
+    let ends = (returns-clause-changes g c runs.0).ends runs.1 runs.2 runs.3 in
+    ok_both c.publish.result _ _ (ok_settled disk.tells (publishing c.args.place runs.0) _ runs.1 (λ r. end_of_disk r) c.publish.result (λ a. refl) ends)
+    (published_strays disk.tells all _ c.args.place c.args.moving.now runs.0 runs.1 c.publish.result (let three = runs.2.known.three in omega (arith, low, three)) refl runs.2 runs.3
+    (λ n h. ends_held disk.tells (publishing c.args.place runs.0) all.stores _ runs.1 (end_of_disk c.publish.result) n 0 runs.2 (λ made by. goes_on c.args.place disk.tells all runs.1 runs.0 runs.3.ahead m here runs.2 made by) ends h)
+    (λ tells n own. c.publish.ensures.elsewhere tells n (file_apart m.journal.name n (ap (λ (x : Name). x.0) ((runs.2.disk tells).each c.args.place m here).named) own)) ends)

@@ -1,5 +1,5 @@
 use Rattle.std.proofs.Common.{◌≡◌, inl, Ok, Err, Result, List, length, refl, ◌∙◌, ap, subst, sym}
-use Rattle.std.specs.Prelude.{OnErr}
+use Rattle.std.specs.Prelude.{IfOk, OnErr}
 use Rattle.std.specs.FinMap.{FinMap}
 use Rattle.std.specs.Ordering.{nat_cmp}
 use Rattle.std.proofs.lemmas.Result.{err_from_is_err_and}
@@ -12,7 +12,7 @@ use Rattle.durable_write.proofs.Rises.{rose_after}
 use Rattle.tier_store.specs.Change.{Changes}
 use Rattle.tier_store.specs.Limbo.{LimboStands, IsKeptName}
 use Rattle.tier_store.specs.Retiring.{retiring, HandedOver, Remain, StayOrEnter, names_in}
-use Rattle.tier_store.specs.Seen.{seen_on}
+use Rattle.tier_store.specs.Seen.{IsSettled, seen, seen_on}
 use Rattle.tier_store.specs.declared.limbo.Retired.{Retired}
 use Rattle.tier_store.specs.declared.retirement.RetireEnd.{RetireEnd}
 use Rattle.tier_store.proofs.Acting.{has_one, has_one_given, is_one, settled_one, cut_acts, then_acts}
@@ -21,7 +21,9 @@ use Rattle.tier_store.proofs.Staying.{limbo_kept}
 use Rattle.std.specs.Prelude.{Bool}
 use Rattle.tier_store.specs.Revival.{AreWhole}
 use Rattle.tier_store.specs.Retiring.{AreApart}
-use Rattle.tier_store.proofs.LeavingNames.{names_then}
+use Rattle.tier_store.proofs.LeavingNames.{later_own, names_then}
+use Rattle.tier_store.specs.Strays.{HasRemoved, LeavesNoStray}
+use Rattle.tier_store.specs.Pinned.{seen_all}
 use Rattle.tier_store.proofs.store.TierStore.retire.Goals as goal
 
 pub retire_settled-requires-clause-has : goal.retire_settled-requires-clause-has
@@ -137,4 +139,7 @@ pub returns-clause-leaves : goal.returns-clause-leaves
 returns-clause-leaves g c before after names was later apart apart_too =
     let held = settled_one g.D.Disk.tells _ before after (c.in_ok-review.ensures.settled before after was) in
     names_then names g.D.Disk.tells _ _ _ (c.review.ensures.leaves names later)
-    (c.retire_settled.ensures.leaves held.0 names held.2 later (is_one (λ s. AreApart c.args.place c.args.row (length c.args.published.now) s names) before after held.0 held.1 apart apart_too))
+    (c.retire_settled.ensures.leaves held.0 names held.2 (later_own names later) (is_one (λ s. AreApart c.args.place c.args.row (length c.args.published.now) s names) before after held.0 held.1 apart apart_too))
+
+pub returns-clause-tidy : goal.returns-clause-tidy
+returns-clause-tidy g c settled = subst (λ s. IfOk c.retire_settled.result (λ end. IsSettled (seen g.D.Disk c.retire_settled.new.self) × (HasRemoved end → LeavesNoStray g.D.Disk.tells (seen_all g.D.Disk s) (seen_all g.D.Disk c.retire_settled.new.self)))) (c.review.ensures.nothing settled).1 c.retire_settled.ensures.tidy

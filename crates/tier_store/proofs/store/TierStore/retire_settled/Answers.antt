@@ -31,8 +31,9 @@ use Rattle.tier_store.specs.Pinned.{beside}
 use Rattle.tier_store.proofs.WholeCalls.{handed_whole}
 use Rattle.tier_store.specs.Moving.{LeavesNames}
 use Rattle.tier_store.proofs.Leaving.{entered_from, leaving_apart}
-use Rattle.tier_store.proofs.LeavingNames.{later_own, limbo_leaves, names_then, nothing_leaves}
+use Rattle.tier_store.proofs.LeavingNames.{limbo_leaves, names_then, nothing_names}
 use Rattle.tier_store.proofs.Staying.{stay_from}
+use Rattle.tier_store.proofs.Strays.{no_strays, retired_strays}
 use Rattle.tier_store.proofs.store.TierStore.retire_settled.Goals as goal
 
 pub returns-in-Some-clause-changes : goal.returns-in-Some-clause-changes
@@ -529,7 +530,7 @@ returns-clause-whole g c held has i were low whole =
     c.remove_handed-removed.ensures.whole i held.stands then.0 low then.1
 
 pub returns-in-Some-clause-leaves : goal.returns-in-Some-clause-leaves
-returns-in-Some-clause-leaves g c held names has later apart = nothing_leaves g.D.Disk.tells _ names later
+returns-in-Some-clause-leaves g c held names has later apart = nothing_names names g.D.Disk.tells _
 
 pub returns-in_err-leaving-clause-leaves : goal.returns-in_err-leaving-clause-leaves
 returns-in_err-leaving-clause-leaves g c held names has later apart =
@@ -567,7 +568,7 @@ returns-in_err-drop_oldest-clause-leaves g c held names has later apart =
     let leaves : LeavesFiles disk.tells (beside at hand.limbo.items) (beside at2 dropped.limbo.items) = subst (λ (s : Seen). LeavesFiles disk.tells (beside s hand.limbo.items) (beside at2 dropped.limbo.items)) (sym is1) c.drop_oldest.ensures.leaves in
     let apart_all : All (λ (r : Retired). Contains names r.name → ⊥) files = subst (λ (l : List Retired). All (λ (r : Retired). Contains names r.name → ⊥) l) (sym are) (leaving_apart disk.tells c.args.place c.args.row n at m here held has names apart) in
     let first = subst (λ (s : Seen). LeavesNames names disk.tells (beside at self.limbo.items) (beside s hand.limbo.items)) is1 (limbo_leaves names disk.tells at self.limbo.items hand.limbo.items (entered_from names at self.limbo.items entered.0 files hand.limbo.items entered.1 apart_all entered.2)) in
-    names_then names disk.tells _ _ _ first (c.drop_oldest.ensures.leaves names (later_own names later))
+    names_then names disk.tells _ _ _ first (c.drop_oldest.ensures.leaves names later)
 
 pub returns-clause-leaves : goal.returns-clause-leaves
 returns-clause-leaves g c held names has later apart =
@@ -593,5 +594,18 @@ returns-clause-leaves g c held names has later apart =
     let leaves : LeavesFiles disk.tells (beside at hand.limbo.items) (beside at2 dropped.limbo.items) = subst (λ (s : Seen). LeavesFiles disk.tells (beside s hand.limbo.items) (beside at2 dropped.limbo.items)) (sym is1) c.drop_oldest.ensures.leaves in
     let apart_all : All (λ (r : Retired). Contains names r.name → ⊥) files = subst (λ (l : List Retired). All (λ (r : Retired). Contains names r.name → ⊥) l) (sym are) (leaving_apart disk.tells c.args.place c.args.row n at m here held has names apart) in
     let first = subst (λ (s : Seen). LeavesNames names disk.tells (beside at self.limbo.items) (beside s hand.limbo.items)) is1 (limbo_leaves names disk.tells at self.limbo.items hand.limbo.items (entered_from names at self.limbo.items entered.0 files hand.limbo.items entered.1 apart_all entered.2)) in
-    let second = names_then names disk.tells _ _ _ first (c.drop_oldest.ensures.leaves names (later_own names later)) in
+    let second = names_then names disk.tells _ _ _ first (c.drop_oldest.ensures.leaves names later) in
     names_then names disk.tells _ _ _ second (c.remove_handed-removed.ensures.others names (subst (λ (l : List Retired). All (λ (r : Retired). Contains names r.name → ⊥) l) (sym c.deref-2.ensures.value) apart_all))
+
+pub returns-in-Some-clause-tidy : goal.returns-in-Some-clause-tidy
+returns-in-Some-clause-tidy g c = (c.requires.has.1.settled, λ fine. no_strays g.D.Disk.tells _ [])
+
+pub returns-clause-tidy : goal.returns-clause-tidy
+returns-clause-tidy g c =
+    let held = c.requires.has in
+    let new = c.remove_handed-removed.new.self in
+    let ends = (returns-clause-changes g c).ends held.0 held.1 in (
+      ends.3.settled,
+      λ fine. retired_strays g.D.Disk.tells _ _ c.args.self.now.pinned c.args.place c.args.row c.args.published.now c.remove_handed-removed.result held.0 (let low = c.requires.within in omega (arith, low)) (λ tells. g.met.D.Disk.seen new.disk tells) held.1 fine ends
+          (λ names own apart. returns-clause-leaves g c held.0 names held.1 own apart),
+    )

@@ -1,4 +1,4 @@
-use Rattle.std.proofs.Common.{Err, Result, List, ◌∙◌, ap, subst, sym}
+use Rattle.std.proofs.Common.{◌≡◌, Err, Result, List, true, ◌∙◌, ap, subst, sym}
 use Rattle.std.specs.Prelude.{OnOk}
 use Rattle.std.specs.FinMap.{FinMap}
 use Rattle.std.specs.Ordering.{nat_cmp}
@@ -11,7 +11,8 @@ use Rattle.durable_write.specs.Ends.{end_of_disk}
 use Rattle.durable_write.proofs.Rises.{rose_after}
 use Rattle.tier_store.specs.Limbo.{LimboStands, IsSwept, AreGone, LeavesKept, staying}
 use Rattle.tier_store.specs.Pinned.{beside, seen_all}
-use Rattle.tier_store.specs.Seen.{seen_on}
+use Rattle.tier_store.specs.Seen.{AtEach, seen_on}
+use Rattle.store_manifest.specs.Manifest.{ManifestState}
 use Rattle.tier_store.specs.declared.limbo.Retired.{Retired}
 use Rattle.tier_store.specs.declared.removing.Swept.{Swept}
 use Rattle.tier_store.proofs.Acting.{has_one, cut_acts, then_acts}
@@ -19,6 +20,7 @@ use Rattle.tier_store.proofs.Staying.{limbo_kept}
 use Rattle.tier_store.proofs.Sparing.{settles_leave, settles_then}
 use Rattle.tier_store.proofs.LeavingNames.{names_then}
 use Rattle.tier_store.proofs.WholeCalls.{whole_then}
+use Rattle.tier_store.proofs.Strays.{swept_strays}
 use Rattle.tier_store.proofs.store.TierStore.sweep.Goals as goal
 
 pub sweep_settled-requires-clause-has : goal.sweep_settled-requires-clause-has
@@ -129,3 +131,14 @@ returns-in_err-review-clause-whole g c = c.review.ensures.whole
 
 pub returns-clause-whole : goal.returns-clause-whole
 returns-clause-whole g c = whole_then g.D.Disk.tells _ _ _ c.review.ensures.whole c.sweep_settled.ensures.whole
+
+pub returns-clause-tidy : goal.returns-clause-tidy
+returns-clause-tidy g c settled =
+    let disk = g.D.Disk in
+    let new = c.sweep_settled.new.self in
+    let after = beside (seen_on disk.files disk.opened disk.past disk.faults new.catalogue new.manifests.items new.disk) new.limbo.items in
+    let same = returns-clause-nothing g c settled in (
+      record { catalogue = ap (λ s. s.journal.sound) same.0 ∙ settled.catalogue; manifests = subst (λ (ms : List ManifestState). AtEach ms (λ i m. m.journal.sound ≡ true)) (sym (ap (λ v. v.items) same.1)) settled.manifests },
+      λ fine. swept_strays disk.tells _ after c.args.self.now.pinned c.args.copied.now c.sweep_settled.result.files (λ tells. g.met.D.Disk.seen new.disk tells) same.0 (ap (λ v. v.items) same.1) (returns-clause-swept g c)
+          (λ tells. subst (λ (r : Result (Unit {0}) DiskErr). OnOk r (AreGone after.stores c.args.self.now.pinned c.args.copied.now c.args.self.now.limbo.items)) fine (returns-clause-gone g c tells)) (returns-clause-kept g c settled),
+    )
