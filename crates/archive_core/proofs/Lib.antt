@@ -8,6 +8,7 @@ pub mod Durable
 pub mod PinTies
 pub mod Times
 pub mod Standing
+pub mod Strays
 pub mod Offering
 pub mod Ticking
 pub mod Crashes

@@ -20,5 +20,6 @@ pub mod Growing
 pub mod Moving
 pub mod Taking
 pub mod Stepping
+pub mod Strays
 pub mod Retiring
 pub mod Running

@@ -7,6 +7,7 @@ ghost use Rattle.archive_core.specs.Ends.{Steps};
 ghost use Rattle.archive_core.specs.Leaving.{Leaves};
 ghost use Rattle.archive_core.specs.Parts.{parts};
 ghost use Rattle.archive_core.specs.Stands.{Stands};
+ghost use Rattle.archive_core.specs.Strays.{ActsTidily};
 
 use crate::Archive;
 use crate::widening::{
@@ -20,10 +21,14 @@ use series_model::Sample;
 impl<D: Disk> Archive<D> {
     /// Makes an act, which is asked under a number: that of the owner of pins. What is answered when is said at the method of each act.
     /// `Memory` is answered for no refusal, and for no sample but one that would be kept.
+    ///
+    /// Where nothing stood in doubt and neither `DiskFault`, `Damaged` nor `Memory` is answered, no file of the stores is there then that no list,
+    /// no limbo and no running move knows, but those that were there before, and files whose removal failed.
     pub fn apply(&mut self, who: u64, act: Act) -> Answer<D::Reader>
         requires stands { (m : Machine) × Stands D.tells (parts D.Disk self.old) m }
         requires may_ask { MayAsk act }
         ensures step { Steps D.tells (Step who act) (parts D.Disk self.old) (reply_of D.Reader.tells D.Reader.bytes D.Reader.faults result) (parts D.Disk self.new) }
+        ensures tidy { ActsTidily D.tells (parts D.Disk self.old) act (reply_of D.Reader.tells D.Reader.bytes D.Reader.faults result) (parts D.Disk self.new) }
         ensures leaves { Leaves D.tells (parts D.Disk self.old) (record { who = who; act = act; answer = reply_of D.Reader.tells D.Reader.bytes D.Reader.faults result }) (parts D.Disk self.new) }
     {
         match act {

@@ -46,6 +46,7 @@ impl<D: Disk> Archive<D> {
         ensures spent { OnErr result (self.new ≡ self.old) }
         ensures faults { D.faults self.old.store.disk ≤ D.faults self.new.store.disk }
         ensures reads { ReadsAlone D.tells (parts D.Disk self.old) (parts D.Disk self.new) }
+        ensures moves { self.new.moves ≡ self.old.moves }
     {
         let tail = copied(self.alloc, self.intake.tail(row))?;
         Ok(self.store.details(name, &tail))
@@ -57,6 +58,7 @@ impl<D: Disk> Archive<D> {
         ensures step { Steps D.tells (WithWants (NoneRefuses (refuse_by (DetailsAct name.now))) (DetailsStep name.now)) (parts D.Disk self.old) (reply_of D.Reader.tells D.Reader.bytes D.Reader.faults (answer_of result)) (parts D.Disk self.new) }
         ensures crash { LeavesByAct D.tells (refuse_by (DetailsAct name.now)) (change_by (DetailsAct name.now)) (parts D.Disk self.old) (parts D.Disk self.new) }
         ensures reads { ReadsAlone D.tells (parts D.Disk self.old) (parts D.Disk self.new) }
+        ensures moves { self.new.moves ≡ self.old.moves }
         ensures answers { IsDescribing (answer_of result) }
     {
         let Some(_) = self.store.catalogue().find(name) else {
@@ -79,6 +81,7 @@ impl<D: Disk> Archive<D> {
         ensures step { Steps D.tells (WithWants (NoneRefuses (refuse_by (DetailsAct name.now))) (DetailsStep name.now)) (parts D.Disk self.old) (details_told_reply result) (parts D.Disk self.new) }
         ensures crash { LeavesByAct D.tells (refuse_by (DetailsAct name.now)) (change_by (DetailsAct name.now)) (parts D.Disk self.old) (parts D.Disk self.new) }
         ensures reads { ReadsAlone D.tells (parts D.Disk self.old) (parts D.Disk self.new) }
+        ensures moves { self.new.moves ≡ self.old.moves }
     {
         described(answered(self.describe_named(name)))
     }

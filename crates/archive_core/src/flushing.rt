@@ -1,5 +1,5 @@
 // Flushing: what is accepted becomes durable, and the intake gives it up.
-ghost use Rattle.std.specs.Prelude.{◌≡◌, ◌≤◌, ◌∷◌, ◌↔◌, [], ℕ, length, true, IfOk, IsTrue};
+ghost use Rattle.std.specs.Prelude.{◌≡◌, ◌≤◌, ◌∷◌, ◌↔◌, [], ℕ, length, true, IfOk, IsTrue, Ok, OnOk};
 ghost use Rattle.append_buffer.specs.Tails.{tail_at, batch_of};
 ghost use Rattle.series_model.specs.Series.{end_of, since};
 ghost use Rattle.tier_store.specs.Pinned.{LeavesFronts};
@@ -15,6 +15,8 @@ ghost use Rattle.archive_core.specs.Leaving.{files_of};
 ghost use Rattle.archive_core.specs.Opening.{end_at};
 ghost use Rattle.archive_core.specs.Parts.{parts};
 ghost use Rattle.archive_core.specs.Stands.{Stands, Rests};
+ghost use Rattle.archive_core.specs.Strays.{ActsTidily, Tidies};
+ghost use Rattle.tier_store.specs.Seen.{seen, IsSettled};
 
 use crate::Archive;
 use crate::memory::Doubt;
@@ -92,6 +94,7 @@ impl<D: Disk> Archive<D> {
         ensures changes { (m : Machine) → Rests D.tells (parts D.Disk self.old) m → ChangesTo D.tells (Appends (batch_of limit self.old.intake)) (parts D.Disk self.old) m (parts D.Disk self.new) result }
         ensures count { IfOk result (λ samples. (m : Machine) → Rests D.tells (parts D.Disk self.old) m → m.told ≡ true → samples ≡ count_in (batch_of limit self.old.intake)) }
         ensures fronts { LeavesFronts D.tells (files_of (parts D.Disk self.old)) (files_of (parts D.Disk self.new)) }
+        ensures tidy { OnOk result (Tidies D.tells (parts D.Disk self.old) (parts D.Disk self.new) (Ok tt)) }
     {
         let batch = self.intake.batch(limit)?;
         match self.store.flush(&batch) {
@@ -113,6 +116,7 @@ impl<D: Disk> Archive<D> {
         ensures step { Steps D.tells (FlushStep limit) (parts D.Disk self.old) (flush_reply (parts D.Disk self.new) result) (parts D.Disk self.new) }
         ensures crash { LeavesByAct D.tells (refuse_by (FlushAct limit)) (change_by (FlushAct limit)) (parts D.Disk self.old) (parts D.Disk self.new) }
         ensures fronts { LeavesFronts D.tells (files_of (parts D.Disk self.old)) (files_of (parts D.Disk self.new)) }
+        ensures tidy { IsSettled (seen D.Disk self.old.store) → OnOk result (Tidies D.tells (parts D.Disk self.old) (parts D.Disk self.new) (Ok tt)) }
     {
         self.settle()?;
         self.flush_settled(limit)
@@ -130,6 +134,7 @@ impl<D: Disk> Archive<D> {
         ensures step { Steps D.tells (FlushStep limit) (parts D.Disk self.old) (flushed_reply result) (parts D.Disk self.new) }
         ensures crash { LeavesByAct D.tells (refuse_by (FlushAct limit)) (change_by (FlushAct limit)) (parts D.Disk self.old) (parts D.Disk self.new) }
         ensures fronts { LeavesFronts D.tells (files_of (parts D.Disk self.old)) (files_of (parts D.Disk self.new)) }
+        ensures tidy { ActsTidily D.tells (parts D.Disk self.old) (FlushAct limit) (flushed_reply result) (parts D.Disk self.new) }
     {
         match self.flush_tails(limit) {
             Ok(samples) => Flushed::Flushed {

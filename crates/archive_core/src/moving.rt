@@ -1,5 +1,5 @@
 //! Moves: one begins, of a row's oldest files in store 1 or 2.
-ghost use Rattle.std.specs.Prelude.{◌≡◌, ◌⊎◌, ◌≤◌, ◌-◌, IfOk, IfErr, OnErr, slice_index};
+ghost use Rattle.std.specs.Prelude.{◌≡◌, ◌⊎◌, ◌≤◌, ◌-◌, IfOk, IfErr, OnErr, slice_index, Ok, OnOk};
 ghost use Rattle.disk_model.specs.Files.{Rose};
 ghost use Rattle.disk_model.specs.declared.disk.DiskErr.TheVariants.{Memory};
 ghost use Rattle.tier_store.specs.Seen.{seen, IsSettled};
@@ -13,6 +13,7 @@ ghost use Rattle.archive_core.specs.Leaving.{ReadsAlone};
 ghost use Rattle.archive_core.specs.Moving.{BeginsThere, begun_reply};
 ghost use Rattle.archive_core.specs.Parts.{parts};
 ghost use Rattle.archive_core.specs.Stands.{Stands, Rests};
+ghost use Rattle.archive_core.specs.Strays.{ActsTidily, Tidies};
 
 use crate::Archive;
 use act_model::MoveBegun;
@@ -44,6 +45,7 @@ impl<D: Disk> Archive<D> {
         ensures spent { OnErr result ((m : Machine) → Rests D.tells (parts D.Disk self.old) m → Stands D.tells (parts D.Disk self.new) m) }
         ensures cause { IfErr result (λ e. (e ≡ Memory) ⊎ Rose (D.faults self.old.store.disk) (D.faults self.new.store.disk)) }
         ensures store { self.new.store ≡ self.old.store }
+        ensures tidy { OnOk result (Tidies D.tells (parts D.Disk self.old) (parts D.Disk self.new) (Ok tt)) }
     {
         let running = self.moves.by_series()?;
         let rule = rule_at(&self.config, store, now);
@@ -72,6 +74,7 @@ impl<D: Disk> Archive<D> {
         ensures crash { LeavesByAct D.tells (refuse_by (MoveBeginAct store now)) (change_by (MoveBeginAct store now)) (parts D.Disk self.old) (parts D.Disk self.new) }
         ensures reads { ReadsAlone D.tells (parts D.Disk self.old) (parts D.Disk self.new) }
         ensures quiet { IsSettled (seen D.Disk self.old.store) → self.new.store.disk ≡ self.old.store.disk }
+        ensures tidy { IsSettled (seen D.Disk self.old.store) → OnOk result (Tidies D.tells (parts D.Disk self.old) (parts D.Disk self.new) (Ok tt)) }
     {
         self.settle()?;
         self.begin_chosen(store, now)
@@ -91,6 +94,7 @@ impl<D: Disk> Archive<D> {
         ensures crash { LeavesByAct D.tells (refuse_by (MoveBeginAct store now)) (change_by (MoveBeginAct store now)) (parts D.Disk self.old) (parts D.Disk self.new) }
         ensures reads { ReadsAlone D.tells (parts D.Disk self.old) (parts D.Disk self.new) }
         ensures quiet { IsSettled (seen D.Disk self.old.store) → self.new.store.disk ≡ self.old.store.disk }
+        ensures tidy { ActsTidily D.tells (parts D.Disk self.old) (MoveBeginAct store now) (move_begun_reply result) (parts D.Disk self.new) }
     {
         match self.begin_due(store, now) {
             Ok(begun) => begun,

@@ -25,6 +25,7 @@ impl<D: Disk> Archive<D> {
         requires event { IsEvent ty sample }
         ensures step { EndsNamed D.tells row (λ name. WithWants (WouldKeep name ty sample now) (OfferStep name ty sample now)) (parts D.Disk self.old) (offered_reply result) (parts D.Disk self.new) }
         ensures store { self.new.store ≡ self.old.store }
+        ensures moves { self.new.moves ≡ self.old.moves }
     {
         let at = row as usize;
         match reason_by_row(&self.store.catalogue().rows()[at], ty) {
@@ -40,6 +41,7 @@ impl<D: Disk> Archive<D> {
         requires event { IsEvent ty sample }
         ensures step { Steps D.tells (WithWants (WouldKeep name.now ty sample now) (OfferStep name.now ty sample now)) (parts D.Disk self.old) (offered_reply result) (parts D.Disk self.new) }
         ensures store { self.new.store ≡ self.old.store }
+        ensures moves { self.new.moves ≡ self.old.moves }
     {
         match self.store.catalogue().find(name) {
             None => Offered::Dropped(Reason::Unknown),
@@ -53,6 +55,7 @@ impl<D: Disk> Archive<D> {
         requires stands { (m : Machine) × Stands D.tells (parts D.Disk self.old) m }
         ensures step { Steps D.tells (WithWants (WouldTick row now) (TickStep row now)) (parts D.Disk self.old) (ticked_reply result) (parts D.Disk self.new) }
         ensures store { self.new.store ≡ self.old.store }
+        ensures moves { self.new.moves ≡ self.old.moves }
     {
         let Some(variable) = self.store.catalogue().row(row) else {
             return Ticked::NoRow;

@@ -109,6 +109,7 @@ impl<D: Disk> Archive<D> {
         ensures spent { OnErr result (self.new ≡ self.old) }
         ensures faults { D.faults self.old.store.disk ≤ D.faults self.new.store.disk }
         ensures reads { ReadsAlone D.tells (parts D.Disk self.old) (parts D.Disk self.new) }
+        ensures moves { self.new.moves ≡ self.old.moves }
         ensures made { IfOk result (λ answer. LeavesPins D.tells (parts D.Disk self.old) (PinAct name.now query) (reply_of D.Reader.tells D.Reader.bytes D.Reader.faults answer) (parts D.Disk self.new)) }
     {
         let tail = copied(self.alloc, self.intake.tail(row))?;
@@ -126,6 +127,7 @@ impl<D: Disk> Archive<D> {
         ensures step { Steps D.tells (WithWants (NoneRefuses (refuse_by (PinAct name.now query))) (PinStep who name.now query)) (parts D.Disk self.old) (reply_of D.Reader.tells D.Reader.bytes D.Reader.faults (answer_of result)) (parts D.Disk self.new) }
         ensures crash { LeavesByAct D.tells (refuse_by (PinAct name.now query)) (change_by (PinAct name.now query)) (parts D.Disk self.old) (parts D.Disk self.new) }
         ensures reads { ReadsAlone D.tells (parts D.Disk self.old) (parts D.Disk self.new) }
+        ensures moves { self.new.moves ≡ self.old.moves }
         ensures pins { LeavesPins D.tells (parts D.Disk self.old) (PinAct name.now query) (reply_of D.Reader.tells D.Reader.bytes D.Reader.faults (answer_of result)) (parts D.Disk self.new) }
         ensures answers { IsPinning (answer_of result) }
     {
@@ -149,6 +151,7 @@ impl<D: Disk> Archive<D> {
         ensures step { Steps D.tells (WithWants (NoneRefuses (refuse_by (PinAct name.now query))) (PinStep who name.now query)) (parts D.Disk self.old) (pinned_reply result) (parts D.Disk self.new) }
         ensures crash { LeavesByAct D.tells (refuse_by (PinAct name.now query)) (change_by (PinAct name.now query)) (parts D.Disk self.old) (parts D.Disk self.new) }
         ensures reads { ReadsAlone D.tells (parts D.Disk self.old) (parts D.Disk self.new) }
+        ensures moves { self.new.moves ≡ self.old.moves }
         ensures pins { LeavesPins D.tells (parts D.Disk self.old) (PinAct name.now query) (pinned_reply result) (parts D.Disk self.new) }
     {
         pinned(answered(self.pin_named(who, name, query)))
@@ -161,6 +164,7 @@ impl<D: Disk> Archive<D> {
         ensures step { Steps D.tells (WithWants (OwnsPiece who pin i) (Opens who pin i)) (parts D.Disk self.old) (piece_opened_reply D.Reader.tells D.Reader.bytes D.Reader.faults result) (parts D.Disk self.new) }
         ensures crash { LeavesByAct D.tells (refuse_by (OpenPieceAct pin i)) (change_by (OpenPieceAct pin i)) (parts D.Disk self.old) (parts D.Disk self.new) }
         ensures reads { ReadsAlone D.tells (parts D.Disk self.old) (parts D.Disk self.new) }
+        ensures moves { self.new.moves ≡ self.old.moves }
         ensures pins { LeavesPins D.tells (parts D.Disk self.old) (OpenPieceAct pin i) (piece_opened_reply D.Reader.tells D.Reader.bytes D.Reader.faults result) (parts D.Disk self.new) }
     {
         opened(self.store.open_piece(who, pin, i))
@@ -171,6 +175,7 @@ impl<D: Disk> Archive<D> {
         requires stands { (m : Machine) × Stands D.tells (parts D.Disk self.old) m }
         ensures step { Steps D.tells (Unpins who pin) (parts D.Disk self.old) (unpinned_reply result) (parts D.Disk self.new) }
         ensures same { (self.new.store.catalogue ≡ self.old.store.catalogue) × (self.new.store.manifests ≡ self.old.store.manifests) × (self.new.store.disk ≡ self.old.store.disk) × (self.new.store.limbo ≡ self.old.store.limbo) }
+        ensures moves { self.new.moves ≡ self.old.moves }
     {
         unpinned(self.store.unpin(who, pin))
     }

@@ -1,5 +1,5 @@
 // Registering: a variable gets a row.
-ghost use Rattle.std.specs.Prelude.{◌≡◌, ◌≤◌, ◌++◌, ◌∷◌, [], ℕ, length, take, IfOk, IfErr, OnOk, OnErr, Some};
+ghost use Rattle.std.specs.Prelude.{◌≡◌, ◌≤◌, ◌++◌, ◌∷◌, [], ℕ, length, take, IfOk, IfErr, OnOk, OnErr, Some, Ok};
 ghost use Rattle.pv_catalog.specs.Catalogue.{Refuses};
 ghost use Rattle.pv_catalog.specs.declared.error.RegisterErr.{RegisterErr};
 ghost use Rattle.tier_store.specs.Pinned.{LeavesFronts};
@@ -14,6 +14,7 @@ ghost use Rattle.archive_core.specs.Memory.{fresh_memory};
 ghost use Rattle.archive_core.specs.Parts.{parts};
 ghost use Rattle.archive_core.specs.Stands.{Stands, Rests};
 ghost use Rattle.archive_core.specs.Wanting.{NoneRefuses, WithWants};
+ghost use Rattle.archive_core.specs.Strays.{ActsTidily, Tidies};
 
 use crate::Archive;
 use crate::memory::{Doubt, RowMemory};
@@ -60,6 +61,7 @@ impl<D: Disk> Archive<D> {
         ensures changes { (m : Machine) → Rests D.tells (parts D.Disk self.old) m → ChangesTo D.tells (AddsRow name.now about.now) (parts D.Disk self.old) m (parts D.Disk self.new) result }
         ensures number { IfOk result (λ row. row ≡ length self.old.store.catalogue.rows) }
         ensures fronts { LeavesFronts D.tells (files_of (parts D.Disk self.old)) (files_of (parts D.Disk self.new)) }
+        ensures tidy { OnOk result (Tidies D.tells (parts D.Disk self.old) (parts D.Disk self.new) (Ok tt)) }
     {
         let count = self.store.catalogue().rows().len();
         add_memory(&mut self.rows, count, about)?;
@@ -81,6 +83,7 @@ impl<D: Disk> Archive<D> {
         ensures step { Steps D.tells (WithWants (NoneRefuses (register_refused name.now)) (RegisterStep name.now about.now)) (parts D.Disk self.old) (register_reply result) (parts D.Disk self.new) }
         ensures crash { LeavesByAct D.tells (register_refused name.now) (λ m. Some (AddsRow name.now about.now)) (parts D.Disk self.old) (parts D.Disk self.new) }
         ensures fronts { LeavesFronts D.tells (files_of (parts D.Disk self.old)) (files_of (parts D.Disk self.new)) }
+        ensures tidy { ActsTidily D.tells (parts D.Disk self.old) (RegisterAct name.now about.now) (register_reply result) (parts D.Disk self.new) }
     {
         refuse_taken(self.store.catalogue(), name)?;
         self.settle()?;
@@ -95,6 +98,7 @@ impl<D: Disk> Archive<D> {
         ensures step { Steps D.tells (WithWants (NoneRefuses (refuse_by (RegisterAct name.now about.now))) (RegisterStep name.now about.now)) (parts D.Disk self.old) (registered_reply result) (parts D.Disk self.new) }
         ensures crash { LeavesByAct D.tells (refuse_by (RegisterAct name.now about.now)) (change_by (RegisterAct name.now about.now)) (parts D.Disk self.old) (parts D.Disk self.new) }
         ensures fronts { LeavesFronts D.tells (files_of (parts D.Disk self.old)) (files_of (parts D.Disk self.new)) }
+        ensures tidy { ActsTidily D.tells (parts D.Disk self.old) (RegisterAct name.now about.now) (registered_reply result) (parts D.Disk self.new) }
     {
         match self.register_name(name, about) {
             Ok(row) => Registered::Registered { row },

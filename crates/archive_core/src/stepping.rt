@@ -14,6 +14,7 @@ ghost use Rattle.archive_core.specs.Retiring.{lengths_of};
 ghost use Rattle.archive_core.specs.Stands.{Stands};
 ghost use Rattle.archive_core.specs.Stepping.{GoesOnWith, HasTaken, stepped_reply};
 ghost use Rattle.archive_core.specs.Wanting.{NoneRefuses, WithWants};
+ghost use Rattle.archive_core.specs.Strays.{ActsTidily, GoesOnTidily};
 
 use crate::Archive;
 use crate::memory::Doubt;
@@ -44,6 +45,7 @@ impl<D: Disk> Archive<D> {
         requires left { running.moving.at ≢ length running.moving.parts }
         requires room { number < length self.old.moves.slots.items }
         ensures on { GoesOnWith D.tells number running (parts D.Disk self.old) (parts D.Disk self.new) result }
+        ensures tidy { GoesOnTidily D.tells number running (parts D.Disk self.old) (parts D.Disk self.new) (stepped_reply result) }
     {
         let place = usize::from(running.store) - 1;
         match self.store.copy(place, &mut running.moving) {
@@ -75,6 +77,7 @@ impl<D: Disk> Archive<D> {
         requires copied { IsCopied running.moving }
         requires room { number < length self.old.moves.slots.items }
         ensures on { GoesOnWith D.tells number running (parts D.Disk self.old) (parts D.Disk self.new) result }
+        ensures tidy { GoesOnTidily D.tells number running (parts D.Disk self.old) (parts D.Disk self.new) (stepped_reply result) }
     {
         match self
             .store
@@ -103,6 +106,7 @@ impl<D: Disk> Archive<D> {
         requires published { running.moving.stage ≡ IsPublished }
         requires room { number < length self.old.moves.slots.items }
         ensures on { GoesOnWith D.tells number running (parts D.Disk self.old) (parts D.Disk self.new) result }
+        ensures tidy { GoesOnTidily D.tells number running (parts D.Disk self.old) (parts D.Disk self.new) (stepped_reply result) }
     {
         let Ok(lengths) = published_lengths(self.alloc, &running.moving) else {
             self.moves.put_back(number, running);
@@ -129,6 +133,7 @@ impl<D: Disk> Archive<D> {
         requires taken { HasTaken D.tells number running (parts D.Disk self.old) }
         requires room { number < length self.old.moves.slots.items }
         ensures on { GoesOnWith D.tells number running (parts D.Disk self.old) (parts D.Disk self.new) result }
+        ensures tidy { GoesOnTidily D.tells number running (parts D.Disk self.old) (parts D.Disk self.new) (stepped_reply result) }
     {
         match running.moving.stage() {
             Stage::Published => self.retire_taken(number, running),
@@ -142,6 +147,7 @@ impl<D: Disk> Archive<D> {
         ensures step { Steps D.tells (WithWants (NoneRefuses (refuse_by (MoveStepAct number))) (MoveStepStep number)) (parts D.Disk self.old) (stepped_reply result) (parts D.Disk self.new) }
         ensures crash { LeavesByAct D.tells (refuse_by (MoveStepAct number)) (change_by (MoveStepAct number)) (parts D.Disk self.old) (parts D.Disk self.new) }
         ensures moves { LeavesMove (parts D.Disk self.old) (MoveStepAct number) (stepped_reply result) (parts D.Disk self.new) }
+        ensures tidy { ActsTidily D.tells (parts D.Disk self.old) (MoveStepAct number) (stepped_reply result) (parts D.Disk self.new) }
     {
         if !self.moves.runs(number) {
             return Ok(MoveStepped::NoMove);
@@ -173,6 +179,7 @@ impl<D: Disk> Archive<D> {
         ensures step { Steps D.tells (WithWants (NoneRefuses (refuse_by (MoveStepAct number))) (MoveStepStep number)) (parts D.Disk self.old) (move_stepped_reply result) (parts D.Disk self.new) }
         ensures crash { LeavesByAct D.tells (refuse_by (MoveStepAct number)) (change_by (MoveStepAct number)) (parts D.Disk self.old) (parts D.Disk self.new) }
         ensures moves { LeavesMove (parts D.Disk self.old) (MoveStepAct number) (move_stepped_reply result) (parts D.Disk self.new) }
+        ensures tidy { ActsTidily D.tells (parts D.Disk self.old) (MoveStepAct number) (move_stepped_reply result) (parts D.Disk self.new) }
     {
         match self.step_move(number) {
             Ok(stepped) => stepped,

@@ -10,6 +10,8 @@ ghost use Rattle.archive_core.specs.Parts.{parts};
 ghost use Rattle.archive_core.specs.Stands.{Stands, Rests};
 ghost use Rattle.archive_core.specs.Sweeping.{sweep_reply};
 ghost use Rattle.archive_core.specs.Written.{AreWritten};
+ghost use Rattle.archive_core.specs.Strays.{ActsTidily, Tidies};
+ghost use Rattle.tier_store.specs.Seen.{seen, IsSettled};
 
 use crate::Archive;
 use crate::written::written_names;
@@ -46,6 +48,7 @@ impl<D: Disk> Archive<D> {
         requires stands { (m : Machine) × Stands D.tells (parts D.Disk self.old) m }
         ensures step { Steps D.tells SweepStep (parts D.Disk self.old) (sweep_reply result) (parts D.Disk self.new) }
         ensures crash { LeavesByAct D.tells (refuse_by SweepAct) (change_by SweepAct) (parts D.Disk self.old) (parts D.Disk self.new) }
+        ensures tidy { IsSettled (seen D.Disk self.old.store) → IfOk result (λ swept. Tidies D.tells (parts D.Disk self.old) (parts D.Disk self.new) swept.removed) }
     {
         self.settle()?;
         let written = self.written_names()?;
@@ -60,6 +63,7 @@ impl<D: Disk> Archive<D> {
         requires stands { (m : Machine) × Stands D.tells (parts D.Disk self.old) m }
         ensures step { Steps D.tells SweepStep (parts D.Disk self.old) (swept_reply result) (parts D.Disk self.new) }
         ensures crash { LeavesByAct D.tells (refuse_by SweepAct) (change_by SweepAct) (parts D.Disk self.old) (parts D.Disk self.new) }
+        ensures tidy { ActsTidily D.tells (parts D.Disk self.old) (SweepAct) (swept_reply result) (parts D.Disk self.new) }
     {
         swept(self.sweep_stores())
     }

@@ -1,5 +1,5 @@
 // Pausing and resuming: a row's state is set, and what a sampled row holds is given up.
-ghost use Rattle.std.specs.Prelude.{◌≡◌, ◌<◌, ℕ, length, IfOk, IfErr, Some};
+ghost use Rattle.std.specs.Prelude.{◌≡◌, ◌<◌, ℕ, length, IfOk, IfErr, Some, Ok, OnOk};
 ghost use Rattle.event_types.specs.declared.about.State.{State};
 ghost use Rattle.pv_catalog.specs.Catalogue.{HasState};
 ghost use Rattle.durable_write.specs.Ends.{end_of_switch};
@@ -7,7 +7,7 @@ ghost use Rattle.tier_store.specs.Change.{Has, Acts};
 ghost use Rattle.tier_store.specs.Moving.{LeavesLater};
 ghost use Rattle.tier_store.specs.Pinned.{seen_all, KeepsShown, LeavesFronts};
 ghost use Rattle.tier_store.specs.Revival.{KeepsWhole};
-ghost use Rattle.tier_store.specs.Seen.{seen};
+ghost use Rattle.tier_store.specs.Seen.{seen, IsSettled};
 ghost use Rattle.tier_store.specs.Stores.{Stores};
 ghost use Rattle.act_model.specs.Asks.{paused_reply, resumed_reply};
 ghost use Rattle.act_model.specs.Machine.{Machine, SetsState, find_row};
@@ -22,6 +22,8 @@ ghost use Rattle.archive_core.specs.Stands.{Stands, Rests};
 ghost use Rattle.archive_core.specs.Switching.{IsFound, IsUnset, from_of, to_of, wrong_of, switching, switch_reply};
 ghost use Rattle.archive_core.specs.declared.switching.Unset.TheVariants.{Disk as UnsetDisk};
 ghost use Rattle.archive_core.specs.Wanting.{NoneRefuses, WithWants};
+ghost use Rattle.archive_core.specs.Strays.{ActsTidily, IsWell, Tidies};
+ghost use Rattle.tier_store.specs.Strays.{LeavesTidy};
 
 use crate::Archive;
 use crate::memory::Doubt;
@@ -103,6 +105,7 @@ fn switch_in<D: Disk>(store: &mut TierStore<D>, row: u32, switch: Switch) -> Res
     ensures fronts { LeavesFronts D.tells (seen_all D.Disk store.old) (seen_all D.Disk store.new) }
     ensures whole { KeepsWhole D.tells (seen_all D.Disk store.old) (seen_all D.Disk store.new) }
     ensures leaves { LeavesLater D.tells (seen_all D.Disk store.old) (seen_all D.Disk store.new) }
+    ensures tidy { IsSettled (seen D.Disk store.old) → OnOk result (LeavesTidy D.tells (seen_all D.Disk store.old) (seen_all D.Disk store.new)) }
 {
     match switch {
         Switch::Pause => store.pause(row),
@@ -117,6 +120,7 @@ impl<D: Disk> Archive<D> {
         requires state { HasState self.old.store.catalogue.rows row (from_of switch) }
         ensures changes { (m : Machine) → Rests D.tells (parts D.Disk self.old) m → ChangesTo D.tells (SetsState row (to_of switch)) (parts D.Disk self.old) m (parts D.Disk self.new) result }
         ensures fronts { LeavesFronts D.tells (files_of (parts D.Disk self.old)) (files_of (parts D.Disk self.new)) }
+        ensures tidy { OnOk result (Tidies D.tells (parts D.Disk self.old) (parts D.Disk self.new) (Ok tt)) }
     {
         match switch_in(&mut self.store, row, switch) {
             Ok(()) => {
@@ -139,6 +143,7 @@ impl<D: Disk> Archive<D> {
         ensures step { Steps D.tells (WithWants (NoneRefuses (state_refused (wrong_of switch) name.now)) (StateStep (wrong_of switch) (to_of switch) name.now)) (parts D.Disk self.old) (switch_reply switch result) (parts D.Disk self.new) }
         ensures crash { LeavesByAct D.tells (state_refused (wrong_of switch) name.now) (λ m. sets_of (to_of switch) (find_row m name.now)) (parts D.Disk self.old) (parts D.Disk self.new) }
         ensures fronts { LeavesFronts D.tells (files_of (parts D.Disk self.old)) (files_of (parts D.Disk self.new)) }
+        ensures tidy { IsSettled (seen D.Disk self.old.store) → IsWell (switch_reply switch result) → Tidies D.tells (parts D.Disk self.old) (parts D.Disk self.new) (Ok tt) }
     {
         row_to_switch(self.store.catalogue(), name, switch)?;
         self.settle()?;
@@ -154,6 +159,7 @@ impl<D: Disk> Archive<D> {
         ensures step { Steps D.tells (WithWants (NoneRefuses (refuse_by (PauseAct name.now))) (PauseStep name.now)) (parts D.Disk self.old) (paused_reply result) (parts D.Disk self.new) }
         ensures crash { LeavesByAct D.tells (refuse_by (PauseAct name.now)) (change_by (PauseAct name.now)) (parts D.Disk self.old) (parts D.Disk self.new) }
         ensures fronts { LeavesFronts D.tells (files_of (parts D.Disk self.old)) (files_of (parts D.Disk self.new)) }
+        ensures tidy { ActsTidily D.tells (parts D.Disk self.old) (PauseAct name.now) (paused_reply result) (parts D.Disk self.new) }
     {
         match self.set_state(name, Switch::Pause) {
             Ok(()) => Paused::Done,
@@ -171,6 +177,7 @@ impl<D: Disk> Archive<D> {
         ensures step { Steps D.tells (WithWants (NoneRefuses (refuse_by (ResumeAct name.now))) (ResumeStep name.now)) (parts D.Disk self.old) (resumed_reply result) (parts D.Disk self.new) }
         ensures crash { LeavesByAct D.tells (refuse_by (ResumeAct name.now)) (change_by (ResumeAct name.now)) (parts D.Disk self.old) (parts D.Disk self.new) }
         ensures fronts { LeavesFronts D.tells (files_of (parts D.Disk self.old)) (files_of (parts D.Disk self.new)) }
+        ensures tidy { ActsTidily D.tells (parts D.Disk self.old) (ResumeAct name.now) (resumed_reply result) (parts D.Disk self.new) }
     {
         match self.set_state(name, Switch::Resume) {
             Ok(()) => Resumed::Done,

@@ -54,6 +54,7 @@ impl<D: Disk> Archive<D> {
     pub fn door_done(&mut self) -> DoorsLeft
         ensures step { Steps D.tells DoorDoneStep (parts D.Disk self.old) (doors_left_reply result) (parts D.Disk self.new) }
         ensures store { self.new.store ≡ self.old.store }
+        ensures moves { self.new.moves ≡ self.old.moves }
     {
         self.doors = self.doors.saturating_sub(1);
         DoorsLeft { doors: self.doors }

@@ -1,3 +1,4 @@
+use Rattle.std.specs.Prelude.{OnOk}
 use Rattle.std.proofs.Common.{refl, ◌≡◌, ℕ, Bool, List, [], ◌∷◌, ◌++◌, length, take, Some, Result, Ok, Err, sym, ◌∙◌, ap, subst}
 use Rattle.std.proofs.lemmas.Result.{err_from_is_err_and}
 use Rattle.disk_model.specs.declared.disk.DiskErr.{DiskErr}
@@ -19,6 +20,10 @@ use Rattle.archive_core.specs.Memory.{fresh_memory}
 use Rattle.archive_core.specs.Parts.{parts}
 use Rattle.archive_core.proofs.Changing.{keeps_pins, with_pins}
 use Rattle.archive_core.proofs.Registered.{row_done, row_failed, row_spent, row_unkept, row_unrefused}
+use Rattle.tier_store.specs.Pinned.{seen_all}
+use Rattle.tier_store.specs.Strays.{LeavesTidy}
+use Rattle.archive_core.proofs.Strays.{tidy_stores}
+use Rattle.archive_core.proofs.Settled.{rests_has}
 use Rattle.archive_core.proofs.archive.Archive.add_row.Goals as goal
 
 -- what the stores' call did, by what it answered
@@ -107,3 +112,10 @@ returns-in-Err-Disk-Memory-clause-changes g c m r =
 
 pub returns-in_err-add_memory-clause-fronts : goal.returns-in_err-add_memory-clause-fronts
 returns-in_err-add_memory-clause-fronts g c = nothing_fronts g.D.Disk.tells (files_of (parts g.D.Disk c.args.self.now))
+
+pub returns-in-Ok-clause-tidy : goal.returns-in-Ok-clause-tidy
+returns-in-Ok-clause-tidy g c =
+    let p = parts g.D.Disk c.args.self.now in
+    let settled = (rests_has g.D.Disk.tells p c.requires.rests.0 c.requires.rests.1).settled in
+    let tidy = subst (λ (r : Result ℕ RegisterErr). OnOk r (LeavesTidy g.D.Disk.tells (seen_all g.D.Disk c.args.self.now.store) (seen_all g.D.Disk c.register.new.self))) c.in-Ok.is (c.register.ensures.tidy settled) in
+    tidy_stores g.D.Disk.tells p _ refl tidy.0 tidy.1

@@ -1,4 +1,4 @@
-use Rattle.std.proofs.Common.{◌≡◌, ◌⊎◌, ◌-◌, ℕ, Err, Ok, Result, ap, sym, subst, ◌∙◌}
+use Rattle.std.proofs.Common.{refl, ◌≡◌, ◌⊎◌, ◌-◌, ℕ, Err, Ok, Result, ap, sym, subst, ◌∙◌}
 use Rattle.std.specs.BTreeMap.{get}
 use Rattle.std.specs.Ordering.{nat_cmp}
 use Rattle.std.specs.Prelude.{IfErr}
@@ -14,6 +14,9 @@ use Rattle.act_model.specs.Step.{store_of}
 use Rattle.act_model.specs.declared.answers.MoveBegun.{MoveBegun}
 use Rattle.archive_core.specs.Parts.{parts}
 use Rattle.archive_core.proofs.MoveAct.{all_there, begun_there, cut_by, none_there, not_long, place_is, place_next, rule_is, says_there, slots_stand}
+use Rattle.archive_core.proofs.Settled.{rests_has}
+use Rattle.tier_store.specs.Pinned.{seen_all}
+use Rattle.archive_core.proofs.Strays.{tidy_begun, tidy_none}
 use Rattle.archive_core.proofs.Settled.{rests_has}
 use Rattle.archive_core.proofs.archive.Archive.begin_chosen.Goals as goal
 
@@ -62,3 +65,21 @@ returns-clause-begins g c = λ m r.
     let by = get nat_cmp c.in_ok-running.running in
     let said = says_there g.D.Disk.tells p m r (c.from.result - 1) (index_of store) c.rule_at-rule.result by (seen g.D.Disk c.begin_move.new.self) c.begin_move.result begun.Nothing (c.in_ok-begun.was ∙ ap (λ (b : own.MoveBegun). Ok b) c.in-Nothing.is) (ap (seen g.D.Disk) same) place c.begin_move.ensures.settles in
     rw same (none_there g.D.Disk.tells p m r store (not_long c.args.store) c.args.now c.rule_at-rule.result rule by c.in_ok-running.ensures.runs c.in_ok-running.ensures.all said)
+
+pub returns-in-Begun-clause-tidy : goal.returns-in-Begun-clause-tidy
+returns-in-Begun-clause-tidy g c =
+    let p = parts g.D.Disk c.args.self.now in
+    let settled = (rests_has g.D.Disk.tells p c.requires.rests.0 c.requires.rests.1).settled in
+    tidy_begun g.D.Disk.tells p _ c.in_ok-m-in-Begun.m _ (ap (seen_all g.D.Disk) (c.begin_move.ensures.nothing settled)) c.in_ok-m-in-Begun.ensures.free c.in_ok-m-in-Begun.ensures.begun settled
+
+pub returns-in-Running-clause-tidy : goal.returns-in-Running-clause-tidy
+returns-in-Running-clause-tidy g c =
+    let p = parts g.D.Disk c.args.self.now in
+    let settled = (rests_has g.D.Disk.tells p c.requires.rests.0 c.requires.rests.1).settled in
+    tidy_none g.D.Disk.tells p _ (ap (seen_all g.D.Disk) (c.begin_move.ensures.nothing settled)) refl settled
+
+pub returns-clause-tidy : goal.returns-clause-tidy
+returns-clause-tidy g c =
+    let p = parts g.D.Disk c.args.self.now in
+    let settled = (rests_has g.D.Disk.tells p c.requires.rests.0 c.requires.rests.1).settled in
+    tidy_none g.D.Disk.tells p _ (ap (seen_all g.D.Disk) (c.begin_move.ensures.nothing settled)) refl settled

@@ -1,4 +1,4 @@
-use Rattle.std.proofs.Common.{Err, None, Result, ap, refl, sym, subst, ◌∙◌}
+use Rattle.std.proofs.Common.{Ok, Err, None, Result, ap, refl, sym, subst, ◌∙◌}
 use Rattle.std.proofs.lemmas.Result.{err_from_is_err_and}
 use Rattle.disk_model.specs.declared.disk.DiskErr.{DiskErr}
 use Rattle.durable_write.specs.Ends.{IsFailed, end_of_disk}
@@ -15,6 +15,9 @@ use Rattle.archive_core.specs.Wanting.{NoneRefuses}
 use Rattle.archive_core.proofs.Acting.{asked_ends, crash_settling, cut_ends, step_alone}
 use Rattle.archive_core.proofs.MoveAct.{begins_goes, begins_tell, begun_ends}
 use Rattle.archive_core.proofs.ReadingAlone.{reads_none, reads_settling, reads_then}
+use Rattle.tier_store.specs.Pinned.{SeenAll, seen_all}
+use Rattle.tier_store.proofs.Strays.{ok_then}
+use Rattle.archive_core.proofs.Strays.{tidy_then}
 use Rattle.archive_core.proofs.archive.Archive.begin_due.Goals as goal
 
 pub returns-in_err-settle-clause-step : goal.returns-in_err-settle-clause-step
@@ -63,3 +66,11 @@ returns-in_err-settle-clause-quiet g c = λ settled. ap (λ store. store.disk) (
 
 pub returns-clause-quiet : goal.returns-clause-quiet
 returns-clause-quiet g c = λ settled. ap (λ store. store.disk) (c.begin_chosen.ensures.store ∙ c.settle.ensures.quiet settled)
+
+pub returns-clause-tidy : goal.returns-clause-tidy
+returns-clause-tidy g c settled =
+    let p = parts g.D.Disk c.args.self.now in
+    let q = parts g.D.Disk c.settle.new.self in
+    let same = ap (seen_all g.D.Disk) (c.settle.ensures.quiet settled) in
+    let slots = ap (λ t. t.slots.items) c.settle.ensures.moves in
+    ok_then c.begin_chosen.result _ _ (λ tidy. tidy_then g.D.Disk.tells p q (parts g.D.Disk c.begin_chosen.new.self) (Ok tt) same slots (ap (λ (all : SeenAll). all.stores.faults) same) tidy) c.begin_chosen.ensures.tidy

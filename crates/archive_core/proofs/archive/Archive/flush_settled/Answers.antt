@@ -1,3 +1,4 @@
+use Rattle.std.specs.Prelude.{OnOk}
 use Rattle.std.proofs.Common.{inl, refl, ℕ, List, Ok, Err, Some, Result, sym, ◌∙◌, ap, subst}
 use Rattle.std.proofs.lemmas.Result.{err_from_is_err_and}
 use Rattle.append_buffer.specs.Tails.{batch_of}
@@ -15,6 +16,10 @@ use Rattle.archive_core.specs.Leaving.{files_of}
 use Rattle.archive_core.specs.Parts.{parts}
 use Rattle.archive_core.proofs.Changing.{keeps_pins, with_pins}
 use Rattle.archive_core.proofs.Flushed.{first_low, flush_as, can, flush_done, flush_counts, flush_failed, flush_spent, flush_unmade}
+use Rattle.archive_core.proofs.Settled.{rests_has}
+use Rattle.tier_store.specs.Pinned.{seen_all}
+use Rattle.tier_store.specs.Strays.{LeavesTidy}
+use Rattle.archive_core.proofs.Strays.{tidy_stores}
 use Rattle.archive_core.proofs.Settled.{rests_has}
 use Rattle.archive_core.proofs.archive.Archive.flush_settled.Goals as goal
 
@@ -73,3 +78,10 @@ returns-in-Err-Memory-clause-changes g c = λ m r.
 
 pub returns-in_err-batch-clause-fronts : goal.returns-in_err-batch-clause-fronts
 returns-in_err-batch-clause-fronts g c = nothing_fronts g.D.Disk.tells (files_of (parts g.D.Disk c.args.self.now))
+
+pub returns-in-Ok-clause-tidy : goal.returns-in-Ok-clause-tidy
+returns-in-Ok-clause-tidy g c =
+    let p = parts g.D.Disk c.args.self.now in
+    let settled = (rests_has g.D.Disk.tells p c.requires.rests.0 c.requires.rests.1).settled in
+    let tidy = subst (λ (r : Result ℕ DiskErr). OnOk r (LeavesTidy g.D.Disk.tells (seen_all g.D.Disk c.args.self.now.store) (seen_all g.D.Disk c.flush.new.self))) c.in-Ok.is (c.flush.ensures.tidy settled) in
+    tidy_stores g.D.Disk.tells p _ refl tidy.0 tidy.1

@@ -1,4 +1,4 @@
-use Rattle.std.proofs.Common.{◌≡◌, ℕ, true, Result, Err, IfOk, sym, ◌∙◌, ap, subst}
+use Rattle.std.proofs.Common.{Ok, ◌≡◌, ℕ, true, Result, Err, IfOk, sym, ◌∙◌, ap, subst}
 use Rattle.std.proofs.lemmas.Result.{err_from_is_err_and}
 use Rattle.disk_model.specs.declared.disk.DiskErr.{DiskErr}
 use Rattle.append_buffer.specs.Tails.{batch_of}
@@ -9,6 +9,9 @@ use Rattle.archive_core.specs.Leaving.{files_of}
 use Rattle.archive_core.specs.Parts.{parts}
 use Rattle.archive_core.specs.Stands.{Rests}
 use Rattle.archive_core.proofs.FlushAct.{flush_told, flush_cut, flush_ends, crash_flush, crash_flush_cut}
+use Rattle.tier_store.specs.Pinned.{SeenAll, seen_all}
+use Rattle.tier_store.proofs.Strays.{ok_then}
+use Rattle.archive_core.proofs.Strays.{tidy_then}
 use Rattle.archive_core.proofs.archive.Archive.flush_tails.Goals as goal
 
 pub returns-in_err-settle-clause-step : goal.returns-in_err-settle-clause-step
@@ -37,3 +40,11 @@ returns-clause-crash g c = crash_flush g.D.Disk.tells c.args.limit c.requires.li
 
 pub returns-clause-fronts : goal.returns-clause-fronts
 returns-clause-fronts g c = fronts_on g.D.Disk.tells (files_of (parts g.D.Disk c.args.self.now)) (files_of (parts g.D.Disk c.settle.new.self)) (files_of (parts g.D.Disk c.flush_settled.new.self)) c.settle.ensures.fronts c.flush_settled.ensures.fronts
+
+pub returns-clause-tidy : goal.returns-clause-tidy
+returns-clause-tidy g c settled =
+    let p = parts g.D.Disk c.args.self.now in
+    let q = parts g.D.Disk c.settle.new.self in
+    let same = ap (seen_all g.D.Disk) (c.settle.ensures.quiet settled) in
+    let slots = ap (λ t. t.slots.items) c.settle.ensures.moves in
+    ok_then c.flush_settled.result _ _ (λ tidy. tidy_then g.D.Disk.tells p q (parts g.D.Disk c.flush_settled.new.self) (Ok tt) same slots (ap (λ (all : SeenAll). all.stores.faults) same) tidy) c.flush_settled.ensures.tidy

@@ -8,6 +8,7 @@ use Rattle.archive_core.specs.Ends.{Steps}
 use Rattle.archive_core.specs.Parts.{parts}
 use Rattle.archive_core.specs.Stepping.{stepped_reply}
 use Rattle.archive_core.specs.Wanting.{NoneRefuses, WithWants}
+use Rattle.archive_core.specs.Strays.{ActsTidily}
 use Rattle.archive_core.proofs.archive.Archive.move_step.Goals as goal
 
 pub returns-in-Err-Fault-clause-step : goal.returns-in-Err-Fault-clause-step
@@ -21,3 +22,12 @@ returns-in-Err-Fault-clause-moves g c = λ name place told. absurd (cc (told))
 
 pub returns-in-Err-Memory-clause-moves : goal.returns-in-Err-Memory-clause-moves
 returns-in-Err-Memory-clause-moves g c = λ name place told. absurd (cc (told))
+
+pub returns-in-Ok-clause-tidy : goal.returns-in-Ok-clause-tidy
+returns-in-Ok-clause-tidy g c = subst (λ (r : Result MoveStepped DiskErr). ActsTidily g.D.Disk.tells (parts g.D.Disk c.args.self.now) (MoveStep c.args.number) (stepped_reply r) (parts g.D.Disk c.step_move.new.self)) c.in-Ok.is c.step_move.ensures.tidy
+
+pub returns-in-Err-Fault-clause-tidy : goal.returns-in-Err-Fault-clause-tidy
+returns-in-Err-Fault-clause-tidy g c settled well = absurd well
+
+pub returns-in-Err-Memory-clause-tidy : goal.returns-in-Err-Memory-clause-tidy
+returns-in-Err-Memory-clause-tidy g c settled well = absurd well

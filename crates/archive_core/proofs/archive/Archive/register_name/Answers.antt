@@ -1,4 +1,4 @@
-use Rattle.std.proofs.Common.{ℕ, Result, Err, sym, ◌∙◌, ap, subst}
+use Rattle.std.proofs.Common.{refl, Ok, ℕ, Result, Err, sym, ◌∙◌, ap, subst}
 use Rattle.std.proofs.lemmas.Result.{err_from_is_err_and}
 use Rattle.disk_model.specs.declared.disk.DiskErr.{DiskErr}
 use Rattle.pv_catalog.specs.Catalogue.{CatalogueState, Refuses}
@@ -9,6 +9,10 @@ use Rattle.archive_core.specs.Ends.{ChangesTo, register_reply}
 use Rattle.archive_core.specs.Leaving.{files_of}
 use Rattle.archive_core.specs.Parts.{parts}
 use Rattle.archive_core.proofs.Entering.{RegisterEnds, register_refused_first, register_cut, register_refused_then, register_done, register_failed, crash_register, crash_register_refused, crash_register_cut}
+use Rattle.tier_store.specs.Pinned.{SeenAll, seen_all}
+use Rattle.archive_core.specs.Strays.{IsWell}
+use Rattle.archive_core.specs.Ends.{register_reply}
+use Rattle.archive_core.proofs.Strays.{disk_not_well, tidy_none, tidy_then}
 use Rattle.archive_core.proofs.archive.Archive.register_name.Goals as goal
 
 pub returns-in_err-refuse_taken-clause-step : goal.returns-in_err-refuse_taken-clause-step
@@ -71,3 +75,35 @@ returns-in_err-add_row-clause-fronts g c = fronts_on g.D.Disk.tells (files_of (p
 
 pub returns-clause-fronts : goal.returns-clause-fronts
 returns-clause-fronts g c = fronts_on g.D.Disk.tells (files_of (parts g.D.Disk c.args.self.now)) (files_of (parts g.D.Disk c.settle.new.self)) (files_of (parts g.D.Disk c.add_row.new.self)) c.settle.ensures.fronts c.add_row.ensures.fronts
+
+pub returns-in_err-refuse_taken-clause-tidy : goal.returns-in_err-refuse_taken-clause-tidy
+returns-in_err-refuse_taken-clause-tidy g c settled well = tidy_none g.D.Disk.tells (parts g.D.Disk c.args.self.now) (parts g.D.Disk c.args.self.now) refl refl settled
+
+pub returns-in_err-settle-clause-tidy : goal.returns-in_err-settle-clause-tidy
+returns-in_err-settle-clause-tidy g c settled well =
+    let p = parts g.D.Disk c.args.self.now in
+    let q = parts g.D.Disk c.settle.new.self in
+    let same = ap (seen_all g.D.Disk) (c.settle.ensures.quiet settled) in
+    let slots = ap (λ t. t.slots.items) c.settle.ensures.moves in
+    tidy_none g.D.Disk.tells p q same slots settled
+
+pub returns-in_err-refuse_taken-2-clause-tidy : goal.returns-in_err-refuse_taken-2-clause-tidy
+returns-in_err-refuse_taken-2-clause-tidy g c settled well =
+    let p = parts g.D.Disk c.args.self.now in
+    let q = parts g.D.Disk c.settle.new.self in
+    let same = ap (seen_all g.D.Disk) (c.settle.ensures.quiet settled) in
+    let slots = ap (λ t. t.slots.items) c.settle.ensures.moves in
+    tidy_none g.D.Disk.tells p q same slots settled
+
+pub returns-in_err-add_row-clause-tidy : goal.returns-in_err-add_row-clause-tidy
+returns-in_err-add_row-clause-tidy g c settled well =
+    let e = err_from_is_err_and c.from_residual-in_err-add_row.result c.from_residual-in_err-add_row.ensures.1 in
+    absurd (disk_not_well c.in_err-add_row.field-0.0 (subst (λ (r : Result ℕ RegisterErr). IsWell (register_reply r)) (e.1 ∙ ap (λ (x : RegisterErr). Err x) e.2) well))
+
+pub returns-clause-tidy : goal.returns-clause-tidy
+returns-clause-tidy g c settled well =
+    let p = parts g.D.Disk c.args.self.now in
+    let q = parts g.D.Disk c.settle.new.self in
+    let same = ap (seen_all g.D.Disk) (c.settle.ensures.quiet settled) in
+    let slots = ap (λ t. t.slots.items) c.settle.ensures.moves in
+    tidy_then g.D.Disk.tells p q (parts g.D.Disk c.add_row.new.self) (Ok tt) same slots (ap (λ (all : SeenAll). all.stores.faults) same) c.in_ok-add_row.ensures.tidy

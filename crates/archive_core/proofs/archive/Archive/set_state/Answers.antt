@@ -1,4 +1,4 @@
-use Rattle.std.proofs.Common.{Some, Result, Err, sym, ◌∙◌, ap, subst}
+use Rattle.std.proofs.Common.{refl, Ok, Some, Result, Err, sym, ◌∙◌, ap, subst}
 use Rattle.std.proofs.lemmas.Result.{err_from_is_err_and}
 use Rattle.disk_model.specs.declared.disk.DiskErr.{DiskErr}
 use Rattle.pv_catalog.specs.Catalogue.{CatalogueState, HasState}
@@ -10,6 +10,10 @@ use Rattle.archive_core.specs.Leaving.{files_of}
 use Rattle.archive_core.specs.Parts.{parts}
 use Rattle.archive_core.specs.Switching.{IsFound, IsUnset, from_of, to_of, switch_reply}
 use Rattle.archive_core.proofs.Setting.{SetEnds, set_refused, set_cut, set_refused_then, set_done, set_failed, crash_set, crash_refused, crash_cut}
+use Rattle.tier_store.specs.Pinned.{SeenAll, seen_all}
+use Rattle.archive_core.specs.Strays.{IsWell}
+use Rattle.archive_core.specs.Switching.{switch_reply}
+use Rattle.archive_core.proofs.Strays.{disk_not_well, tidy_none, tidy_then}
 use Rattle.archive_core.proofs.archive.Archive.set_state.Goals as goal
 
 pub returns-in_err-row_to_switch-clause-step : goal.returns-in_err-row_to_switch-clause-step
@@ -85,3 +89,35 @@ returns-in_err-switch-clause-fronts g c = fronts_on g.D.Disk.tells (files_of (pa
 
 pub returns-clause-fronts : goal.returns-clause-fronts
 returns-clause-fronts g c = fronts_on g.D.Disk.tells (files_of (parts g.D.Disk c.args.self.now)) (files_of (parts g.D.Disk c.settle.new.self)) (files_of (parts g.D.Disk c.switch.new.self)) c.settle.ensures.fronts c.switch.ensures.fronts
+
+pub returns-in_err-row_to_switch-clause-tidy : goal.returns-in_err-row_to_switch-clause-tidy
+returns-in_err-row_to_switch-clause-tidy g c settled well = tidy_none g.D.Disk.tells (parts g.D.Disk c.args.self.now) (parts g.D.Disk c.args.self.now) refl refl settled
+
+pub returns-in_err-settle-clause-tidy : goal.returns-in_err-settle-clause-tidy
+returns-in_err-settle-clause-tidy g c settled well =
+    let p = parts g.D.Disk c.args.self.now in
+    let q = parts g.D.Disk c.settle.new.self in
+    let same = ap (seen_all g.D.Disk) (c.settle.ensures.quiet settled) in
+    let slots = ap (λ t. t.slots.items) c.settle.ensures.moves in
+    tidy_none g.D.Disk.tells p q same slots settled
+
+pub returns-in_err-row-clause-tidy : goal.returns-in_err-row-clause-tidy
+returns-in_err-row-clause-tidy g c settled well =
+    let p = parts g.D.Disk c.args.self.now in
+    let q = parts g.D.Disk c.settle.new.self in
+    let same = ap (seen_all g.D.Disk) (c.settle.ensures.quiet settled) in
+    let slots = ap (λ t. t.slots.items) c.settle.ensures.moves in
+    tidy_none g.D.Disk.tells p q same slots settled
+
+pub returns-in_err-switch-clause-tidy : goal.returns-in_err-switch-clause-tidy
+returns-in_err-switch-clause-tidy g c settled well =
+    let e = err_from_is_err_and c.from_residual-in_err-switch.result c.from_residual-in_err-switch.ensures.1 in
+    absurd (disk_not_well c.in_err-switch.field-0.0 (subst (λ (r : Result (Unit {0}) Unset). IsWell (switch_reply c.args.switch r)) (e.1 ∙ ap (λ (x : Unset). Err x) e.2) well))
+
+pub returns-clause-tidy : goal.returns-clause-tidy
+returns-clause-tidy g c settled well =
+    let p = parts g.D.Disk c.args.self.now in
+    let q = parts g.D.Disk c.settle.new.self in
+    let same = ap (seen_all g.D.Disk) (c.settle.ensures.quiet settled) in
+    let slots = ap (λ t. t.slots.items) c.settle.ensures.moves in
+    tidy_then g.D.Disk.tells p q (parts g.D.Disk c.switch.new.self) (Ok tt) same slots (ap (λ (all : SeenAll). all.stores.faults) same) c.in_ok-switch.ensures.tidy

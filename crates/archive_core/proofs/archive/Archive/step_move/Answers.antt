@@ -1,4 +1,4 @@
-use Rattle.std.proofs.Common.{Err, ap, refl, sym, subst, ◌∙◌}
+use Rattle.std.proofs.Common.{Ok, Err, ap, refl, sym, subst, ◌∙◌}
 use Rattle.disk_model.specs.declared.disk.DiskErr.{DiskErr}
 use Rattle.std.specs.Prelude.{IsSome}
 use Rattle.durable_write.specs.Ends.{IsFailed, end_of_disk}
@@ -6,6 +6,9 @@ use Rattle.tier_store.specs.Seen.{seen}
 use Rattle.archive_core.specs.Parts.{parts}
 use Rattle.archive_core.specs.Stepping.{TakesMove, stepped_reply}
 use Rattle.archive_core.proofs.MoveStepping.{crash_cut, crash_not_running, crash_went, cut_by_fault, cut_by_memory, gone_then, not_running, tells_went, went}
+use Rattle.tier_store.specs.Pinned.{SeenAll, seen_all}
+use Rattle.running_moves.specs.Table.{at}
+use Rattle.archive_core.proofs.Strays.{none_taken, tidy_none, tidy_slots, tidy_then}
 use Rattle.archive_core.proofs.archive.Archive.step_move.Goals as goal
 
 pub returns-then-not-runs-clause-step : goal.returns-then-not-runs-clause-step
@@ -70,3 +73,31 @@ returns-clause-moves g c =
     let was = c.requires.stands in
     tells_went g.D.Disk.tells c.args.number (parts g.D.Disk c.args.self.now) (sym c.runs.ensures ∙ c.if-not-runs.false) (parts g.D.Disk c.settle.new.self) c.in-Ok.ensures.settled c.settle.ensures.settles.faults c.in-Some.running takes.ran (parts g.D.Disk c.go_on.new.self) (stepped_reply c.go_on.result)
     (λ m r. c.go_on.ensures.on c.settle.new.self.moves.slots.items m takes r) (ap (λ t. t.slots.items) c.settle.ensures.moves) (λ settled. ap (seen g.D.Disk) (c.settle.ensures.quiet settled)) was.0 was.1
+
+pub returns-then-not-runs-clause-tidy : goal.returns-then-not-runs-clause-tidy
+returns-then-not-runs-clause-tidy g c settled well = let p = parts g.D.Disk c.args.self.now in (Ok tt, refl, tidy_none g.D.Disk.tells p p refl refl settled)
+
+pub returns-in-Err-Fault-clause-tidy : goal.returns-in-Err-Fault-clause-tidy
+returns-in-Err-Fault-clause-tidy g c settled well = absurd well
+
+pub returns-in-Err-Memory-clause-tidy : goal.returns-in-Err-Memory-clause-tidy
+returns-in-Err-Memory-clause-tidy g c settled well = absurd well
+
+pub returns-in_default-clause-tidy : goal.returns-in_default-clause-tidy
+returns-in_default-clause-tidy g c settled well =
+    let p = parts g.D.Disk c.args.self.now in
+    let q = parts g.D.Disk c.settle.new.self in
+    let same = ap (seen_all g.D.Disk) (c.settle.ensures.quiet settled) in
+    let slots = ap (λ t. t.slots.items) c.settle.ensures.moves in
+    let none = sym c.take-2.ensures.taken ∙ c.in_default.is in
+    (Ok tt, refl, tidy_slots g.D.Disk.tells p _ same (λ k. none_taken c.args.number q.slots c.take-2.new.self.slots.items none c.take-2.ensures.others k ∙ ap (λ l. at l k) slots) settled)
+
+pub returns-clause-tidy : goal.returns-clause-tidy
+returns-clause-tidy g c settled well =
+    let p = parts g.D.Disk c.args.self.now in
+    let q = parts g.D.Disk c.settle.new.self in
+    let same = ap (seen_all g.D.Disk) (c.settle.ensures.quiet settled) in
+    let slots = ap (λ t. t.slots.items) c.settle.ensures.moves in
+    let takes : TakesMove c.args.number c.in-Some.running q.slots c.take-2.new.self.slots.items = record { ran = sym c.take-2.ensures.taken ∙ c.in-Some.is; others = c.take-2.ensures.others } in
+    let done = c.go_on.ensures.tidy q.slots takes well in
+    (done.0, done.1, tidy_then g.D.Disk.tells p q (parts g.D.Disk c.go_on.new.self) done.0 same slots (ap (λ (all : SeenAll). all.stores.faults) same) done.2)

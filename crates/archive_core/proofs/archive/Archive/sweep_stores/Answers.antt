@@ -3,7 +3,7 @@ use Rattle.std.proofs.lemmas.Result.{err_from_is_err_and}
 use Rattle.disk_model.specs.declared.disk.DiskErr.{DiskErr}
 use Rattle.tier_store.specs.Moving.{LeavesLater}
 use Rattle.tier_store.specs.Pinned.{beside, Shows}
-use Rattle.tier_store.specs.Seen.{seen}
+use Rattle.tier_store.specs.Seen.{IsSettled, seen}
 use Rattle.tier_store.specs.declared.limbo.Retired.{Retired}
 use Rattle.tier_store.specs.declared.removing.Swept.{Swept}
 use Rattle.tier_store.proofs.Removals.{on_err}
@@ -15,6 +15,8 @@ use Rattle.act_model.specs.Sweep.{SweepStep}
 use Rattle.archive_core.proofs.Settled.{begun}
 use Rattle.archive_core.proofs.SweepAct.{sweep_cut, sweep_ends, sweep_unnamed, crash_sweep, crash_sweep_cut}
 use Rattle.archive_core.proofs.SweptMoves.{names_later}
+use Rattle.tier_store.specs.Pinned.{SeenAll, seen_all}
+use Rattle.archive_core.proofs.Strays.{swept_by}
 use Rattle.archive_core.proofs.archive.Archive.sweep_stores.Goals as goal
 
 pub returns-in_err-settle-clause-step : goal.returns-in_err-settle-clause-step
@@ -80,3 +82,12 @@ returns-clause-crash g c =
     crash_sweep g.D.Disk.tells (parts g.D.Disk c.args.self.now) q c.in_ok-settle.ensures.settled c.settle.ensures.settles.faults new c.deref.result.now refl written c.sweep.result
     (record { acts = call.acts; swept = call.swept; failed = on_err c.sweep.result _ _ (λ stay. (ap (λ l. l.items) stay.0, λ name bytes shown. subst (λ (l : List Retired). Shows g.D.Disk.tells (beside new.at l) name bytes) (ap (λ l. l.items) stay.0) (stay.1 name bytes shown), subst (λ (l : List Retired). LeavesLater g.D.Disk.tells (beside q.at q.limbo) (beside new.at l)) (ap (λ l. l.items) stay.0) stay.2)) call.failed; left = call.copied later; leaves = call.leaves; whole = call.whole; stands = call.stands; pins = call.pins; nothing = λ settled. (let same = call.nothing settled in (same.0, ap (λ l. l.items) same.1)) })
     c.settle.ensures.settles.any_moment c.settle.ensures.granularity
+
+pub returns-clause-tidy : goal.returns-clause-tidy
+returns-clause-tidy g c settled =
+    let p = parts g.D.Disk c.args.self.now in
+    let q = parts g.D.Disk c.settle.new.self in
+    let same = ap (seen_all g.D.Disk) (c.settle.ensures.quiet settled) in
+    let slots = ap (λ t. t.slots.items) c.settle.ensures.moves in
+    let rests = subst (λ (all : SeenAll). IsSettled all.stores) (sym same) settled in
+    swept_by g.D.Disk.tells p q _ c.sweep.result same slots (ap (λ (all : SeenAll). all.stores.faults) same) refl (c.sweep.ensures.tidy rests) c.sweep.ensures.cause

@@ -1,6 +1,6 @@
 use Rattle.std.proofs.Common.{refl, rules, ◌<◌, Some, length, Result, Ok, Err, sym, ◌∙◌, ap, subst}
 use Rattle.std.proofs.lemmas.Option.{slice_get_within}
-use Rattle.std.specs.Prelude.{slice_set}
+use Rattle.std.specs.Prelude.{OnOk, slice_set}
 use Rattle.disk_model.specs.declared.disk.DiskErr.{DiskErr}
 use Rattle.disk_model.specs.declared.disk.DiskErr.TheVariants.{Fault, Memory}
 use Rattle.event_types.specs.declared.about.State.{State}
@@ -20,6 +20,10 @@ use Rattle.archive_core.proofs.Changing.{keeps_pins, with_pins}
 use Rattle.archive_core.proofs.KeptRows.{memory_there}
 use Rattle.archive_core.proofs.Lists.{read_at}
 use Rattle.archive_core.proofs.Switched.{switch_done, switch_failed, switch_spent, switch_unrefused}
+use Rattle.tier_store.specs.Pinned.{seen_all}
+use Rattle.tier_store.specs.Strays.{LeavesTidy}
+use Rattle.archive_core.proofs.Strays.{tidy_stores}
+use Rattle.archive_core.proofs.Settled.{rests_has}
 use Rattle.archive_core.proofs.archive.Archive.switch.Goals as goal
 
 pub index_mut-requires : goal.index_mut-requires
@@ -70,3 +74,10 @@ returns-in-Err-Disk-Memory-clause-changes g c = λ m r.
     let acts = subst (λ (x : Result (Unit {0}) StateErr). Acts g.D.Disk.tells (switching c.args.switch c.args.row) (seen g.D.Disk c.args.self.now.store) new (end_of_switch x)) (c.in-Err-Disk-Memory.is ∙ ap (λ (e : StateErr). Err e) (c.in-Err-Disk-Memory.field-0-is ∙ ap (λ (e : DiskErr). Disk e) c.in-Err-Disk-Memory.field-0-0-is)) c.switch_in.ensures.acts in
     with_pins g.D.Disk.tells (SetsState c.args.row (to_of c.args.switch)) p m (record p { at = new }) new c.switch_in.new.store.limbo.items c.switch_in.new.store.pinned (Err Memory) keeps refl refl
     (switch_spent g.D.Disk.tells p m r c.args.row c.args.switch c.requires.state new keeps.shown acts)
+
+pub returns-in-Ok-clause-tidy : goal.returns-in-Ok-clause-tidy
+returns-in-Ok-clause-tidy g c =
+    let p = parts g.D.Disk c.args.self.now in
+    let settled = (rests_has g.D.Disk.tells p c.requires.rests.0 c.requires.rests.1).settled in
+    let tidy = subst (λ (r : Result (Unit {0}) StateErr). OnOk r (LeavesTidy g.D.Disk.tells (seen_all g.D.Disk c.args.self.now.store) (seen_all g.D.Disk c.switch_in.new.store))) c.in-Ok.is (c.switch_in.ensures.tidy settled) in
+    tidy_stores g.D.Disk.tells p _ refl tidy.0 tidy.1
