@@ -79,7 +79,7 @@ def samples_of_raw(text):
     """The samples of a raw text of one chunk."""
     found = []
     for line in text.rstrip(b"\n").split(b"\n")[1:]:
-        parts = {number: value for number, _, value in fields(unescape(line))}
+        parts = {number: value for number, _, value, _ in fields(unescape(line))}
         found.append((START + parts[1] * SECOND + parts[2], struct.unpack("<d", parts[3])[0]))
     return found
 

@@ -8,6 +8,7 @@ import os
 import signal
 import subprocess
 import sys
+import tempfile
 import time
 from pathlib import Path
 
@@ -76,14 +77,13 @@ def used(process):
         return None
 
 
-def told_by(process, data=None):
+def told_by(process):
     """What a process writes until it ends, which it has to while it gets on."""
     limit = Limit(lambda: used(process))
     while True:
         try:
-            return process.communicate(data, timeout=1)
+            return process.communicate(timeout=1)
         except subprocess.TimeoutExpired:
-            data = None  # it has it
             if limit.is_over():
                 process.kill()
                 raise Failed(f"{process.args} doesn't end: {process.communicate()}") from None
@@ -98,8 +98,12 @@ def status_of(process):
 def ran(words, data=b"", status=0, **how):
     """What a program writes, and what it complains of."""
     pipe = subprocess.PIPE
-    with started(words, stdin=pipe, stdout=pipe, stderr=pipe, **how) as process:
-        wrote, complained = told_by(process, data)
+    # A file and no pipe: behind its first limit of time `communicate` sends no more of what it was given.
+    with tempfile.TemporaryFile() as given:
+        given.write(data)
+        given.seek(0)
+        with started(words, stdin=given, stdout=pipe, stderr=pipe, **how) as process:
+            wrote, complained = told_by(process)
     want(f"the status of {words} ({complained.decode()!r})", process.returncode, status)
     return wrote, complained.decode()
 
