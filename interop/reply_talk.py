@@ -1,5 +1,6 @@
 """A service over an archive that is asked one thing after another, and the comparison of what it tells with a model."""
 
+import errno
 import http.client
 import io
 import itertools
@@ -128,8 +129,10 @@ def sent(port, data, way):
                 link.sendall(data[at : at + PIECES.get(way, len(data))])
             if way not in (LEFT_OPEN, MORE_BEHIND):
                 link.shutdown(socket.SHUT_WR)
-        except ConnectionError:
-            pass  # it was answered before it had all
+        except OSError as error:
+            # It was answered before it had all.
+            if not isinstance(error, ConnectionError) and error.errno != errno.ENOTCONN:
+                raise
         return rest_of(link)
 
 
