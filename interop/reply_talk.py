@@ -185,7 +185,7 @@ def read_reply(request, reply):
     response = http.client.HTTPResponse(Received(reply), method="GET")
     response.begin()
     body = response.read()
-    if response.status == 200 and b"/getData.json?" in request.split(b"\n")[0]:
+    if response.status == 200 and request.split(b"\n")[0].partition(b"?")[0].endswith(b"/getData.json"):
         try:
             return json_texts.check_text(body.decode())
         except (AssertionError, ValueError, TypeError, IndexError) as error:
