@@ -31,6 +31,9 @@ pub trait ReadAt: Drop {
     /// How often it failed. The count stays at the last number of a `u64`.
     ghost faults: { Self → ℕ };
 
+    /// What reads leave of it, from before them to behind them. It is of the kind of file.
+    ghost leaves: { Self → Self → Type 0 };
+
     /// Reads from place `at`, which isn't past the end, all bytes that fit into `buf`, and answers how many. It takes no
     /// memory.
     fn read_at(&mut self, at: u64, buf: &mut [u8]) -> Result<usize, ReadFailed>
@@ -39,8 +42,15 @@ pub trait ReadAt: Drop {
         ensures front { IsTrue tells → IfOk result (λ n. take n buf.new ≡ take n (drop at (bytes self.old))) }
         ensures fits { IfOk result (λ n. n ≤ length buf.old) }
         ensures same { IsTrue tells → bytes self.new ≡ bytes self.old }
+        ensures leaves { leaves self.old self.new }
         ensures faults { faults self.old ≤ faults self.new }
         ensures cause { IsErr result → Rose (faults self.old) (faults self.new) };
+
+    /// No read leaves it so.
+    ghost leaves_none: { (file : Self) → leaves file file };
+
+    /// Reads leave it so, one after another.
+    ghost leaves_then: { (a b c : Self) → leaves a b → leaves b c → leaves a c };
 }
 
 /// Files by name. A crash may come at any moment, and undo, tear or mix what was not synced.

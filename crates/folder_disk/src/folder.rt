@@ -55,6 +55,8 @@ impl ReadAt for FolderFile {
 
     ghost faults = { λ f. f.faults };
 
+    ghost leaves = { λ old new. Unit {0} };
+
     fn read_at(&mut self, at: u64, buf: &mut [u8]) -> Result<usize, ReadFailed> {
         match self.read_whole(at, buf) {
             Ok(n) => Ok(n),
@@ -70,6 +72,10 @@ impl ReadAt for FolderFile {
             }
         }
     }
+
+    ghost leaves_none = { λ file. tt };
+
+    ghost leaves_then = { λ a b c first second. tt };
 }
 
 /// Files of the operating system in four folders: the site's for store 0, which has the catalogue and the manifests, and the

@@ -23,6 +23,14 @@ pub enum Access {
     Read,
     /// Read and write, and nobody else meanwhile.
     Write,
+    /// As `Write`, where the site may be new to stores that have files and no mark: they become its own.
+    Adopt,
+}
+
+impl Access {
+    fn may_write(self) -> bool {
+        self != Access::Read
+    }
 }
 
 // The file of the site's folder that is locked. No file of a store has its name.
@@ -217,7 +225,7 @@ impl<R: Files<File = File> + Drop> Folders<R> {
             }
             let file = OpenOptions::new()
                 .read(true)
-                .write(self.access == Access::Write)
+                .write(self.access.may_write())
                 .open(&self.files, path.as_str())?;
             self.keep(name, file)?;
         }
@@ -234,7 +242,7 @@ impl<R: Files<File = File> + Drop> Folders<R> {
 
     pub fn create(&mut self, name: &FileName) -> io::Result<()> {
         self.begin_change(name.store)?;
-        if self.access == Access::Read {
+        if !self.access.may_write() {
             self.may_draft(name)?;
             self.drafts.put(name, &[])?;
             return Ok(());
@@ -309,13 +317,11 @@ impl<R: Files<File = File> + Drop> Folders<R> {
             return Err(ErrorKind::InvalidInput.into());
         }
         self.begin_change(name.store)?;
-        match self.access {
-            Access::Write => self.file(name)?.write_all_at(bytes, at),
-            Access::Read => {
-                self.may_draft(name)?;
-                self.draft(name, at, bytes)
-            }
+        if !self.access.may_write() {
+            self.may_draft(name)?;
+            return self.draft(name, at, bytes);
         }
+        self.file(name)?.write_all_at(bytes, at)
     }
 
     // Where one only reads, loading may begin the journals of the site's folder and remove files of them that no longer count, which is
@@ -372,7 +378,7 @@ impl<R: Files<File = File> + Drop> Folders<R> {
 
     pub fn cut(&mut self, name: &FileName, len: u64) -> io::Result<()> {
         self.begin_change(name.store)?;
-        if self.access == Access::Read {
+        if !self.access.may_write() {
             return Err(only_reads());
         }
         let file = self.file(name)?;
@@ -410,7 +416,7 @@ impl<R: Files<File = File> + Drop> Folders<R> {
     fn synced_well(&mut self, written: io::Result<()>) -> io::Result<()> {
         match written {
             Err(e)
-                if self.access == Access::Read
+                if !self.access.may_write()
                     && matches!(
                         e.kind(),
                         ErrorKind::InvalidInput | ErrorKind::ReadOnlyFilesystem
@@ -465,7 +471,7 @@ impl<R: Files<File = File> + Drop> Folders<R> {
 
     pub fn remove(&mut self, name: &FileName) -> io::Result<()> {
         self.begin_change(name.store)?;
-        if self.access == Access::Read {
+        if !self.access.may_write() {
             self.may_draft(name)?;
             if self.size(name)?.is_none() {
                 return Err(ErrorKind::NotFound.into());

@@ -7,3 +7,4 @@ pub mod Starts
 pub mod Reading
 pub mod Verdicts
 pub mod OneStep
+pub mod Fronts

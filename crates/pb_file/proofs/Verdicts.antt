@@ -33,13 +33,26 @@ pub record Checked (part : Part) (w : Walk) (file : List ℕ) (tally : Tally) : 
   pub number : tally.count ≡ length (samples_of front)
   pub span : 0 < tally.count → Spans (samples_of front) tally.first tally.last
 
-spans_more : (xs : List Sample) (s : Sample) (old new : Tally) → old.count ≡ length xs → (0 < old.count → Spans xs old.first old.last) → (old.count ≡ 0 → new.first ≡ s.t) → (0 < old.count → new.first ≡ old.first) → new.last ≡ s.t → Spans (xs ++ s ∷ []) new.first new.last
+pub spans_more : (xs : List Sample) (s : Sample) (old new : Tally) → old.count ≡ length xs → (0 < old.count → Spans xs old.first old.last) → (old.count ≡ 0 → new.first ≡ s.t) → (0 < old.count → new.first ≡ old.first) → new.last ≡ s.t → Spans (xs ++ s ∷ []) new.first new.last
 spans_more [] s old new number span begins goes_on ends = record { begins = (s, [], refl, begins number); ends = ([], s, refl, ends) }
 spans_more (x ∷ xs) s old new number span begins goes_on ends =
     let some : 0 < old.count = omega (arith, number) in
     let first = (span some).begins in
     let same = ap (λ (l : List Sample). l ++ s ∷ []) first.2 in
     record { begins = (first.0, first.1 ++ s ∷ [], same, goes_on some ∙ first.3); ends = (x ∷ xs, s, refl, ends) }
+
+-- the file of this front and one more sample in the partition is good
+abbrev pub checked_with : (part : Part) (new : Walk) (file line : List ℕ) (t : ℕ) (tally more : Tally) (f : Front) → HasWalked new file (Some (with_sample f t line)) → AllInside part f.samples → tally.count ≡ length f.samples → (0 < tally.count → Spans f.samples tally.first tally.last) → HoldsMoment part t
+    → more.count ≡ tally.count + 1 → (tally.count ≡ 0 → more.first ≡ t) → (0 < tally.count → more.first ≡ tally.first) → more.last ≡ t → Checked part new file more
+checked_with part new file line t tally more f walked all number span inside count begins goes_on ends =
+    let s : Sample = record { t = t; line = line } in
+    record {
+      front = Some (with_sample f t line);
+      walked = walked;
+      inside = all-append (λ (x : Sample). HoldsMoment part x.t) f.samples (s ∷ []) all (inside, tt);
+      number = omega (arith, count, number, length-append f.samples (s ∷ []));
+      span = λ some. spans_more f.samples s tally more number span begins goes_on ends;
+    }
 
 -- a sample in the partition was read
 pub checked_sample : (part : Part) (old new : Walk) (file line : List ℕ) (t : ℕ) (tally more : Tally) (h : Checked part old file tally) → Walks h.front file line (walked.Sample t) new → HoldsMoment part t
@@ -48,15 +61,7 @@ checked_sample part old new file line t tally more h walks inside count begins g
   where
     by_front : (front : Option Front) → AllInside part (samples_of front) → tally.count ≡ length (samples_of front) → (0 < tally.count → Spans (samples_of front) tally.first tally.last) → Walks front file line (walked.Sample t) new → Checked part new file more
     by_front None all number span walks = absurd walks
-    by_front (Some f) all number span walks =
-        let s : Sample = record { t = t; line = line } in
-        record {
-          front = Some (with_sample f t line);
-          walked = walks;
-          inside = all-append (λ (x : Sample). HoldsMoment part x.t) f.samples (s ∷ []) all (inside, tt);
-          number = omega (arith, count, number, length-append f.samples (s ∷ []));
-          span = λ some. spans_more f.samples s tally more number span begins goes_on ends;
-        }
+    by_front (Some f) all number span walks = checked_with part new file line t tally more f walks all number span inside count begins goes_on ends
 
 -- THE VERDICTS
 
@@ -141,7 +146,7 @@ end_says part w new file line tally verdict h long len walks none some = by_fron
 
 -- ONE VERDICT
 
-one_span : (xs : List Sample) (a b c d : ℕ) → Spans xs a b → Spans xs c d → (a ≡ c) × (b ≡ d)
+pub one_span : (xs : List Sample) (a b c d : ℕ) → Spans xs a b → Spans xs c d → (a ≡ c) × (b ≡ d)
 one_span xs a b c d h k =
     let first = one_first h.begins.0 k.begins.0 h.begins.1 k.begins.1 (sym h.begins.2 ∙ k.begins.2) in
     let last = ap end_of (sym h.ends.2 ∙ k.ends.2) in

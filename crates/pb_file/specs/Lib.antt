@@ -5,3 +5,4 @@ pub mod Skip
 pub mod Search
 pub mod Parting
 pub mod Verdict
+pub mod GoodFront

@@ -64,6 +64,7 @@ impl Block {
         ensures room { result ≡ LineRead.Line → at + length line.new.items + 1 ≤ self.old.len }
         ensures len { self.new.len ≡ self.old.len }
         ensures same { IsTrue H.tells → H.bytes file.new ≡ H.bytes file.old }
+        ensures leaves { H.leaves file.old file.new }
         ensures faults { H.faults file.old ≤ H.faults file.new }
         ensures cause { result ≡ LineRead.ReadFault → Rose (H.faults file.old) (H.faults file.new) }
         ensures step { steps.new ≡ steps.old + 1 }
@@ -97,6 +98,7 @@ impl Block {
         ensures piece { IsTrue H.tells → IsPieceOf (piece_of self.old) (H.bytes file.old) → IsPieceOf (piece_of self.new) (H.bytes file.old) }
         ensures len { self.new.len ≡ self.old.len }
         ensures same { IsTrue H.tells → H.bytes file.new ≡ H.bytes file.old }
+        ensures leaves { H.leaves file.old file.new }
         ensures faults { H.faults file.old ≤ H.faults file.new }
         ensures cause { result ≡ Filled.Fault → Rose (H.faults file.old) (H.faults file.new) }
     {
@@ -116,6 +118,7 @@ impl Block {
         ensures piece { IsTrue H.tells → IsPieceOf (piece_of self.old) (H.bytes file.old) → IsPieceOf (piece_of self.new) (H.bytes file.old) }
         ensures len { self.new.len ≡ self.old.len }
         ensures same { IsTrue H.tells → H.bytes file.new ≡ H.bytes file.old }
+        ensures leaves { H.leaves file.old file.new }
         ensures faults { H.faults file.old ≤ H.faults file.new }
         ensures cause { result ≡ Filled.Fault → Rose (H.faults file.old) (H.faults file.new) }
     {
@@ -161,6 +164,7 @@ fn read_from<H: ReadAt>(file: &mut H, place: u64, want: usize, bytes: &mut Vec<u
     ensures piece { IsTrue H.tells → (result ≡ Filled.Memory → ⊥) → bytes.new.items ≡ take (vec_len bytes.new) (drop place (H.bytes file.old)) }
     ensures fits { (result ≡ Filled.Memory → ⊥) → vec_len bytes.new ≤ want }
     ensures same { IsTrue H.tells → H.bytes file.new ≡ H.bytes file.old }
+    ensures leaves { H.leaves file.old file.new }
     ensures faults { H.faults file.old ≤ H.faults file.new }
     ensures cause { result ≡ Filled.Fault → Rose (H.faults file.old) (H.faults file.new) }
 {

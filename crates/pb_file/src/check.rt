@@ -27,10 +27,10 @@ pub enum Verdict {
 
 // The samples so far: how many, and the first and the last moment, which count only where there are some.
 #[derive(Clone, Copy)]
-struct Tally {
-    count: u64,
-    first: u64,
-    last: u64,
+pub struct Tally {
+    pub count: u64,
+    pub first: u64,
+    pub last: u64,
 }
 
 /// Checks the first `len` bytes of a partition's file, line by line.
@@ -88,13 +88,13 @@ fn check_lines<H: ReadAt, L: Ledger>(
     }
 }
 
-fn is_inside(part: &Part, t: u64) -> bool
+pub fn is_inside(part: &Part, t: u64) -> bool
     ensures { IsTrue result ↔ HoldsMoment part.now t }
 {
     part.start <= t && t < part.end
 }
 
-fn with_moment(tally: Tally, t: u64) -> Tally
+pub fn with_moment(tally: Tally, t: u64) -> Tally
     requires { tally.count < 2 ^ 64 - 1 }
     ensures count { result.count ≡ tally.count + 1 }
     ensures begins { tally.count ≡ 0 → result.first ≡ t }

@@ -1,5 +1,5 @@
 //! Laws of files, over bytes alone.
-ghost use Rattle.std.specs.Prelude.{◌≡◌, ◌≤◌, ◌⊎◌, ℕ, List, [], ◌∷◌, ◌++◌, Option, length};
+ghost use Rattle.std.specs.Prelude.{◌≡◌, ◌≤◌, ◌<◌, ◌^◌, ◌⊎◌, ℕ, List, [], ◌∷◌, ◌++◌, Option, length};
 ghost use Rattle.line_escape.specs.Escaping.{escaped};
 ghost use Rattle.line_escape.specs.Unescaping.{HasNoNewline};
 ghost use Rattle.series_model.specs.declared.sample.Sample.{Sample};
@@ -9,10 +9,12 @@ ghost use Rattle.payload_info.specs.Spelling.{info_text, FitsInfo};
 ghost use Rattle.pb_lines.specs.Header.{IsHeaderLine};
 ghost use Rattle.partition_names.specs.declared.part.Part.{Part};
 ghost use Rattle.pb_file.specs.declared.check.Verdict.{Verdict};
+ghost use Rattle.pb_file.specs.declared.good.Front.{Front as GoodFront};
 ghost use Rattle.pb_file.specs.declared.walk.Walked.{Walked};
 ghost use Rattle.pb_lines.specs.File.{IsFile, IsBadAt, AreSamples, lines_of};
 ghost use Rattle.pb_file.specs.Walk.{Front, Walk, HasWalked, Reads, IsAnswer};
 ghost use Rattle.pb_file.specs.Verdict.{Says, IsDecided};
+ghost use Rattle.pb_file.specs.GoodFront.{IsGoodFront, HasNoFront};
 
 /// Bytes are one file at most: their header and their samples are determined.
 pub fn one_file()
@@ -53,6 +55,12 @@ pub fn a_file_is_cut()
 /// Bytes have one verdict for a partition at most, but for failed reads and want of memory.
 pub fn one_verdict()
     ensures { (part : Part) (bytes : List ℕ) (a b : Verdict) → IsDecided a → IsDecided b → Says part bytes a → Says part bytes b → a ≡ b }
+{}
+
+/// Bytes have one good front for a partition at most. Where there is one whose header's line isn't too long, the bytes don't have none.
+pub fn one_front()
+    ensures one { (part : Part) (bytes : List ℕ) (a b : GoodFront) → IsGoodFront part bytes a → IsGoodFront part bytes b → a ≡ b }
+    ensures excluded { (part : Part) (bytes : List ℕ) (front : GoodFront) → IsGoodFront part bytes front → front.head_len < 2 ^ 32 → HasNoFront part bytes → ⊥ }
 {}
 
 /// A walk has one answer at most to a call, but for failed reads and want of memory.

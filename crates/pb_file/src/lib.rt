@@ -13,7 +13,8 @@
 //!
 //! `FileWalk::new(alloc, len)`, then `next` up to `End` or `Damaged`, reads the first `len` bytes of
 //! an opened file line by line, in reads of 512 bytes that grow to 16,384. `check_file` walks over a partition's
-//! file and tells its samples' number, first and last moment, or the first line that fails.
+//! file and tells its samples' number, first and last moment, or the first line that fails. `good_front` gives the part
+//! of such a file before that line.
 //!
 //! Caveats: each call of `next` is given the same file. Of a file that doesn't tell its bytes, as a
 //! real one, the contracts say that what is given is a header's line and then later and later
@@ -22,6 +23,7 @@
 
 mod block;
 mod check;
+mod good;
 pub mod laws;
 mod line;
 mod search;
@@ -29,6 +31,7 @@ mod steps;
 mod walk;
 
 pub use check::{Verdict, check_file};
+pub use good::{Front, FrontErr, good_front};
 pub use search::{SearchErr, first_after, last_before};
 pub use steps::Steps;
 pub use walk::{FileWalk, Walked};

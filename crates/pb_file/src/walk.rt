@@ -102,6 +102,17 @@ impl FileWalk {
         }
     }
 
+    /// The header, if it was read. The walk ends.
+    pub fn into_info(self) -> Option<PayloadInfo>
+        ensures { result ≡ self.info }
+    {
+        let FileWalk { header, .. } = self;
+        match header {
+            Some(header) => Some(header.info),
+            None => None,
+        }
+    }
+
     // How many bytes count.
     pub(crate) fn len(&self) -> u64
         ensures { result ≡ self.now.len }
@@ -134,6 +145,7 @@ impl FileWalk {
         ensures stopped { IfSome self.old.stop (λ stop. (result ≡ stop) × (self.new ≡ self.old) × (line.new ≡ line.old) × (file.new ≡ file.old)) }
         ensures within { self.new.place ≤ self.new.len }
         ensures same { IsTrue H.tells → H.bytes file.new ≡ H.bytes file.old }
+        ensures leaves { H.leaves file.old file.new }
         ensures faults { H.faults file.old ≤ H.faults file.new }
         ensures cause { result ≡ Walked.ReadFault → Rose (H.faults file.old) (H.faults file.new) }
         ensures first_step { steps.old ≤ steps.new }

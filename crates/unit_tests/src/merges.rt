@@ -50,6 +50,8 @@ impl ReadAt for ListReader {
 
     ghost faults = { λ f. f.faults };
 
+    ghost leaves = { λ old new. Unit {0} };
+
     fn read_at(&mut self, at: u64, buf: &mut [u8]) -> Result<usize, ReadFailed> {
         let at = self.bytes.len().min(at as usize);
         let count = buf.len().min(self.bytes.len() - at);
@@ -61,6 +63,10 @@ impl ReadAt for ListReader {
         buf[..count].copy_from_slice(&self.bytes[at..at + count]);
         Ok(count)
     }
+
+    ghost leaves_none = { λ file. tt };
+
+    ghost leaves_then = { λ a b c first second. tt };
 }
 
 /// Pieces in memory, opened one by one. Of each so many bytes may be read; the piece whose name has the store `failing` fails when it is

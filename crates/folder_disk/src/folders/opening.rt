@@ -29,10 +29,16 @@ impl<R: Files<File = File> + Drop> Folders<R> {
     }
 
     // Before a change of a name's file: no file of a store is changed before the folders have their marks. By then whoever changes it has
-    // found in the stores what the site lists.
+    // found in the stores what the site lists. Whoever adopts stores changes none of their files: it marks them before it changes one of
+    // the site's.
     pub(super) fn begin_change(&mut self, store: u8) -> io::Result<()> {
         self.begin()?;
-        if store != 0 && self.access == Access::Write && !self.is_marked {
+        let needs_marks = match self.access {
+            Access::Read => false,
+            Access::Write => store != 0,
+            Access::Adopt => true,
+        };
+        if needs_marks && !self.is_marked {
             self.put_marks()?;
             self.is_marked = true;
         }
@@ -43,15 +49,12 @@ impl<R: Files<File = File> + Drop> Folders<R> {
     fn take_turn(&mut self) -> io::Result<Turn> {
         let mut locks = Vec::new(self.alloc);
         let root = self.root_copy(0)?;
-        match self.access {
-            Access::Write => {
-                self.make_folder(root.as_str(), root.len())?;
-            }
-            Access::Read => {
-                let found = fs::exists(&self.files, root.as_str());
-                if !self.noted(root.as_str(), found)? {
-                    return Ok(Turn::Empty);
-                }
+        if self.access.may_write() {
+            self.make_folder(root.as_str(), root.len())?;
+        } else {
+            let found = fs::exists(&self.files, root.as_str());
+            if !self.noted(root.as_str(), found)? {
+                return Ok(Turn::Empty);
             }
         }
         if let Some(lock) = self.take_lock(0, LOCK, true)? {
@@ -60,7 +63,7 @@ impl<R: Files<File = File> + Drop> Folders<R> {
         let site = self.mark(0)?;
         self.check_site(site.as_ref())?;
         let is_marked = matches!(&site, Some(mark) if mark.is_done);
-        let may_make = self.access == Access::Write && !is_marked;
+        let may_make = self.access.may_write() && !is_marked;
         if may_make {
             self.make_stores()?;
         }
@@ -118,9 +121,10 @@ impl<R: Files<File = File> + Drop> Folders<R> {
         let Some(file) = self.open_lock(path, may_make)? else {
             return Ok(None);
         };
-        let taken = match self.access {
-            Access::Read => file.try_lock_shared(),
-            Access::Write => file.try_lock(),
+        let taken = if self.access.may_write() {
+            file.try_lock()
+        } else {
+            file.try_lock_shared()
         };
         match taken {
             Ok(()) => Ok(Some(file)),
@@ -146,7 +150,7 @@ impl<R: Files<File = File> + Drop> Folders<R> {
         match made {
             Ok(file) => Ok(Some(file)),
             Err(e) if is_closed(e.kind()) && is_there => Ok(Some(fs::open(&self.files, path)?)),
-            Err(e) if is_closed(e.kind()) && self.access == Access::Read => Ok(None),
+            Err(e) if is_closed(e.kind()) && !self.access.may_write() => Ok(None),
             Err(e) => Err(e),
         }
     }

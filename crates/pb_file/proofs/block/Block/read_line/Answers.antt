@@ -38,6 +38,7 @@ pieces-preserved g c =
           let all : c.have.new.self.start + c.len.result ≡ c.have.new.self.start + length c.have.new.self.bytes.items = omega (arith, c.len.ensures) in
           (ap (λ (n : ℕ). take n file) all ∙ ends, held);
       same = λ tells. c.in-More.ensures.same tells ∙ c.pieces.invariant.same tells;
+      leaves = g.met.H.ReadAt.leaves_then c.args.file.now c.pieces.file c.have.new.file c.pieces.invariant.leaves c.in-More.ensures.leaves;
       faults = omega (arith, c.in-More.ensures.faults, c.pieces.invariant.faults);
       len = c.in-More.ensures.len ∙ c.pieces.invariant.len;
     }

@@ -12,6 +12,7 @@ invariant-pieces g l =
       whole : HasNoNewline l.line.items;
       told : IsTrue g.H.ReadAt.tells → IsPieceOf (piece_of l.initial.self) (bytes l.initial.file) → (take l.place (bytes l.initial.file) ≡ take l.at (bytes l.initial.file) ++ l.line.items) × IsPieceOf (piece_of l.self) (bytes l.initial.file);
       same : IsTrue g.H.ReadAt.tells → bytes l.file ≡ bytes l.initial.file;
+      leaves : g.H.ReadAt.leaves l.initial.file l.file;
       faults : g.H.ReadAt.faults l.initial.file ≤ g.H.ReadAt.faults l.file;
       len : l.self.len ≡ l.initial.self.len;
     }
