@@ -20,7 +20,7 @@ use Rattle.act_model.specs.Reply.{Reply}
 use Rattle.act_model.specs.Answers.{is_answer_to}
 use Rattle.act_model.specs.Rows.{RowState, number_of, standing, period_of, is_running}
 use Rattle.act_model.specs.Machine.{Machine, MoveState, PinState, Change, find_row, with_key, held_bytes}
-use Rattle.act_model.specs.Outcome.{Outcome, Ends, Acts, refused_at_once, refused, runs, faults_first, faults_between, faults_within, wants_memory, wants_memory_settled}
+use Rattle.act_model.specs.Outcome.{Outcome, Ends, Acts, refused_at_once, refused, runs, faults_first, faults_between, faults_within, faults_removing, wants_memory, wants_memory_settled}
 use Rattle.act_model.specs.Register.{register_refused}
 use Rattle.act_model.specs.Pause.{state_refused, not_running}
 use Rattle.act_model.specs.Resume.{not_paused}
@@ -49,6 +49,7 @@ module _ (act : Act) (refuse : Machine → Option Reply) (run : Machine → Repl
   Acts-answers (faults_first p same q) = fails
   Acts-answers (faults_between p settles same q) = fails
   Acts-answers (faults_within doubted p settles q r same t) = fails
+  Acts-answers (faults_removing done gone p settles q ran t) = fails
   Acts-answers (wants_memory same q) = wants
   Acts-answers (wants_memory_settled p settles same q) = wants
 

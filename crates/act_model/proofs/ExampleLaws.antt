@@ -16,7 +16,7 @@ use Rattle.event_types.specs.declared.about.State.{State}
 use Rattle.event_types.specs.declared.about.State.TheVariants.{Running, Paused}
 use Rattle.act_model.specs.Machine.{Machine, MoveState, PinState, Change, Appends, SetsState, held_bytes}
 use Rattle.act_model.specs.Changes.{made, Settles, no_doubt, as_not_made, as_made}
-use Rattle.act_model.specs.Outcome.{Outcome, Ends, Acts, refused_at_once, refused, runs, faults_first, faults_between, faults_within, wants_memory, wants_memory_settled}
+use Rattle.act_model.specs.Outcome.{Outcome, Ends, Acts, refused_at_once, refused, runs, faults_first, faults_between, faults_within, faults_removing, wants_memory, wants_memory_settled}
 use Rattle.act_model.specs.Offer.{offered, room}
 use Rattle.act_model.specs.Tick.{ticked}
 use Rattle.act_model.specs.Pause.{Sets}
@@ -42,6 +42,7 @@ module _ (refuse : Machine → Option Reply) (run : Machine → Reply → Machin
   refused_only said is (faults_first p same q) = inr (inr refl)
   refused_only said is (faults_between p settles same q) = inr (inr refl)
   refused_only said is (faults_within doubted p settles q r same t) = inr (inr refl)
+  refused_only said is (faults_removing done gone p settles q ran t) = inr (inr refl)
   refused_only said is (wants_memory same q) = inr (inl refl)
   refused_only said is (wants_memory_settled p settles same q) = inr (inl refl)
 
@@ -60,6 +61,7 @@ module _ (refuse : Machine → Option Reply) (run : Machine → Reply → Machin
   runs_only said free none says (faults_first p same q) = inr (inr refl)
   runs_only said free none says (faults_between p settles same q) = inr (inr refl)
   runs_only said free none says (faults_within doubted p settles q r same t) = inr (inr refl)
+  runs_only said free none says (faults_removing done gone p settles q ran t) = inr (inr refl)
   runs_only said free none says (wants_memory same q) = inr (inl refl)
   runs_only said free none says (wants_memory_settled p settles same q) = inr (inl refl)
 

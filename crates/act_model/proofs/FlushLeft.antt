@@ -9,7 +9,7 @@ use Rattle.act_model.specs.Reply.{Reply}
 use Rattle.act_model.specs.Rows.{RowState, size_of, is_empty, durable}
 use Rattle.act_model.specs.Machine.{Machine, Appends, held_bytes}
 use Rattle.act_model.specs.Changes.{made, each, changed, of_row}
-use Rattle.act_model.specs.Outcome.{refused_at_once, refused, runs, faults_first, faults_between, faults_within, wants_memory, wants_memory_settled}
+use Rattle.act_model.specs.Outcome.{refused_at_once, refused, runs, faults_first, faults_between, faults_within, faults_removing, wants_memory, wants_memory_settled}
 use Rattle.act_model.specs.Flush.{FlushStep, batch_of, batch_from}
 use Rattle.act_model.specs.Sound.{IsSound}
 use Rattle.act_model.proofs.RowLaws.{since_front}
@@ -94,5 +94,6 @@ flush_leaves_none limit old new answer samples left doors s high (refused a p se
 flush_leaves_none limit old new answer samples left doors s high (faults_first p same q) is = absurd cc
 flush_leaves_none limit old new answer samples left doors s high (faults_between p settles same q) is = absurd cc
 flush_leaves_none limit old new answer samples left doors s high (faults_within doubted p settles q r same t) is = absurd cc
+flush_leaves_none limit old new answer samples left doors s high (faults_removing done gone p settles q ran t) is = absurd cc
 flush_leaves_none limit old new answer samples left doors s high (wants_memory same q) is = absurd cc
 flush_leaves_none limit old new answer samples left doors s high (wants_memory_settled p settles same q) is = absurd cc

@@ -10,7 +10,7 @@ use Rattle.act_model.specs.Reply.{Reply}
 use Rattle.act_model.specs.Rows.{RowState, durable, accepted}
 use Rattle.act_model.specs.Machine.{Machine, MoveState, Change}
 use Rattle.act_model.specs.Changes.{made, changed, changed_rows, added, each, Settles, no_doubt, as_not_made, as_made}
-use Rattle.act_model.specs.Outcome.{Same, Acts, refused_at_once, refused, runs, faults_first, faults_between, faults_within, wants_memory, wants_memory_settled}
+use Rattle.act_model.specs.Outcome.{Same, Acts, refused_at_once, refused, runs, faults_first, faults_between, faults_within, faults_removing, wants_memory, wants_memory_settled}
 use Rattle.act_model.specs.Sound.{MayMake, IsSound}
 use Rattle.act_model.specs.Crash.{LeftBetween, as_it_is, with_doubt, LeftWithin, before_it, settled_there, with_change, Between, of_row_there, of_no_row}
 use Rattle.act_model.specs.Growth.{RowOn, RowsOn, Onward}
@@ -96,6 +96,7 @@ module _ (refuse : Machine → Option Reply) (run : Machine → Reply → Machin
   Acts-onward {old} {new} s (faults_first p same q) = onward_same old new (ap (λ (m : Machine). m.told) same) (ap (λ (m : Machine). m.rule) same) (ap (λ (m : Machine). m.rows) same)
   Acts-onward {old} {new} s (faults_between {mid = mid} p settles same q) = onward_trans old mid new (onward_settled s settles) (onward_same mid new (ap (λ (m : Machine). m.told) same) (ap (λ (m : Machine). m.rule) same) (ap (λ (m : Machine). m.rows) same))
   Acts-onward {old} {new} s (faults_within {mid = mid} doubted p settles q r same t) = onward_trans old mid new (onward_settled s settles) (onward_same mid new (ap (λ (m : Machine). m.told) same) (ap (λ (m : Machine). m.rule) same) (ap (λ (m : Machine). m.rows) same))
+  Acts-onward {old} {new} s (faults_removing {mid = mid} done gone p settles q ran t) = onward_trans old mid new (onward_settled s settles) (run_on mid done new (settled_sound settles s) q ran)
   Acts-onward {old} {new} s (wants_memory same q) = onward_counts old new same
   Acts-onward {old} {new} s (wants_memory_settled {mid = mid} p settles same q) = onward_trans old mid new (onward_settled s settles) (onward_counts mid new same)
 

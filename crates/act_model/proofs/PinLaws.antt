@@ -18,7 +18,7 @@ use Rattle.act_model.specs.declared.acts.Answer.TheVariants.{Piece, Pinned, NotY
 use Rattle.act_model.specs.Reply.{Reply, Opened}
 use Rattle.act_model.specs.Machine.{Machine, PinState, MoveState, Change, find_row, place, same_bytes}
 use Rattle.act_model.specs.Changes.{Settles, no_doubt, as_not_made, as_made}
-use Rattle.act_model.specs.Outcome.{Outcome, Ends, Same, Acts, all_go, refused_at_once, refused, runs, faults_first, faults_between, faults_within, wants_memory, wants_memory_settled}
+use Rattle.act_model.specs.Outcome.{Outcome, Ends, Same, Acts, all_go, refused_at_once, refused, runs, faults_first, faults_between, faults_within, faults_removing, wants_memory, wants_memory_settled}
 use Rattle.act_model.specs.Register.{register_refused, Registers}
 use Rattle.act_model.specs.Pause.{Sets}
 use Rattle.act_model.specs.Flush.{Flushes}
@@ -64,6 +64,7 @@ module _ (refuse : Machine → Option Reply) (run : Machine → Reply → Machin
   Acts-pins {old} {new} (faults_first p same q) = of_alike old new (ap (λ (m : Machine). m.pins) same)
   Acts-pins {old} {new} (faults_between {mid = mid} p settles same q) = of_alike old new (ap (λ (m : Machine). m.pins) same ∙ settled_pins settles)
   Acts-pins {old} {new} (faults_within {mid = mid} doubted p settles q r same t) = of_alike old new (ap (λ (m : Machine). m.pins) same ∙ settled_pins settles)
+  Acts-pins {old} {new} (faults_removing {mid = mid} done gone p settles q ran t) = later old mid new (settled_pins settles) (run_pins mid done new ran)
   Acts-pins {old} {new} (wants_memory same q) = of_alike old new (alike_same old new same)
   Acts-pins {old} {new} (wants_memory_settled {mid = mid} p settles same q) = of_alike old new (alike_same mid new same ∙ settled_pins settles)
 
@@ -270,6 +271,7 @@ pin_answers who n count name nm query about tail old new step = by_act step refl
     by_act (faults_first p same q) is = absurd cc
     by_act (faults_between p settles same q) is = absurd cc
     by_act (faults_within doubted p settles q r same t) is = absurd cc
+    by_act (faults_removing done gone p settles q ran t) is = absurd cc
     by_act (wants_memory same q) is = absurd cc
     by_act (wants_memory_settled p settles same q) is = absurd cc
 

@@ -8,7 +8,7 @@ use Rattle.act_model.specs.Rule.{Rule}
 use Rattle.act_model.specs.Limbo.{FileState}
 use Rattle.act_model.specs.Machine.{Machine, PinState, MoveState, Change, AddsRow, SetsState, Appends, Publishes, Unlists}
 use Rattle.act_model.specs.Changes.{made, Retires, Settles, no_doubt, as_not_made, as_made}
-use Rattle.act_model.specs.Outcome.{Outcome, Ends, Same, Acts, stops, refused_at_once, refused, runs, faults_first, faults_between, faults_within, wants_memory, wants_memory_settled}
+use Rattle.act_model.specs.Outcome.{Outcome, Ends, Same, Acts, stops, refused_at_once, refused, runs, faults_first, faults_between, faults_within, faults_removing, wants_memory, wants_memory_settled}
 use Rattle.act_model.specs.Sound.{MayMake, EndedMove, IsSoundOf, IsSound}
 use Rattle.act_model.proofs.MadeSound.{made_sound}
 
@@ -82,6 +82,7 @@ module _ (refuse : Machine → Option Reply) (run : Machine → Reply → Machin
       let sound : IsSound mid = settled_sound settles s in
       let own = may mid doubted sound (settled_none settles) q r in
       same_sound (record (stops stopped mid) { doubt = Some doubted }) new same (with_doubt mid.rule mid.told mid.rows mid.limbo mid.pins (stopped mid.moves) mid.doubt doubted (stopped_sound mid sound) own)
+  Acts-sound {old} {new} s (faults_removing {mid = mid} done gone p settles q ran t) = run_keeps mid done new (settled_sound settles s) (settled_none settles) q ran
   Acts-sound {old} {new} s (wants_memory same q) = same_sound old new same s
   Acts-sound {old} {new} s (wants_memory_settled {mid = mid} p settles same q) = same_sound mid new same (settled_sound settles s)
 

@@ -12,7 +12,7 @@ use Rattle.act_model.specs.Reply.{Reply}
 use Rattle.act_model.specs.Rows.{RowState, durable, accepted}
 use Rattle.act_model.specs.Machine.{Machine, MoveState, Change, AddsRow, SetsState, Appends, Publishes, Unlists, find_row}
 use Rattle.act_model.specs.Changes.{made, each, at, Settles}
-use Rattle.act_model.specs.Outcome.{Outcome, Ends, Same, Acts, stops, all_go, refused_at_once, refused, runs, faults_first, faults_between, faults_within, wants_memory, wants_memory_settled}
+use Rattle.act_model.specs.Outcome.{Outcome, Ends, Same, Acts, stops, all_go, refused_at_once, refused, runs, faults_first, faults_between, faults_within, faults_removing, wants_memory, wants_memory_settled}
 use Rattle.act_model.specs.Register.{register_refused, Registers}
 use Rattle.act_model.specs.Pause.{state_refused, Sets, sets_of, not_running}
 use Rattle.act_model.specs.Resume.{not_paused}
@@ -90,6 +90,7 @@ module _ (act : Act) (refuse : Machine → Option Reply) (run : Machine → Repl
   Acts-left {old} {new} (faults_first p same q) = as_before act old new (same_kept (stops stopped old) new same)
   Acts-left {old} {new} (faults_between {mid = mid} p settles same q) = settled_left new settles (same_kept (stops stopped mid) new same)
   Acts-left {old} {new} (faults_within {mid = mid} doubted p settles q r same t) = settled_left new settles (same_kept (record (stops stopped mid) { doubt = Some doubted }) new same)
+  Acts-left {old} {new} (faults_removing {mid = mid} done gone p settles q did t) = run_left settles (ran mid done new q did)
   Acts-left {old} {new} (wants_memory same q) = as_before act old new (same_kept old new same)
   Acts-left {old} {new} (wants_memory_settled {mid = mid} p settles same q) = settled_left new settles (same_kept mid new same)
 
@@ -181,5 +182,6 @@ details_of_row name details old new answer told (runs {mid = mid} a p settles q 
 details_of_row name details old new answer told (faults_first p same q) is = absurd cc
 details_of_row name details old new answer told (faults_between p settles same q) is = absurd cc
 details_of_row name details old new answer told (faults_within doubted p settles q r same t) is = absurd cc
+details_of_row name details old new answer told (faults_removing done gone p settles q ran t) is = absurd cc
 details_of_row name details old new answer told (wants_memory same q) is = absurd cc
 details_of_row name details old new answer told (wants_memory_settled p settles same q) is = absurd cc

@@ -10,7 +10,7 @@ use Rattle.act_model.specs.Reply.{Reply}
 use Rattle.act_model.specs.Rows.{Store}
 use Rattle.act_model.specs.Machine.{Machine, PinState, MoveState}
 use Rattle.act_model.specs.Changes.{Settles, no_doubt, as_not_made, as_made}
-use Rattle.act_model.specs.Outcome.{refused_at_once, refused, runs, faults_first, faults_between, faults_within, wants_memory, wants_memory_settled}
+use Rattle.act_model.specs.Outcome.{refused_at_once, refused, runs, faults_first, faults_between, faults_within, faults_removing, wants_memory, wants_memory_settled}
 use Rattle.act_model.specs.MoveBegin.{MoveBeginStep, Begins, new_move, begins, all_run, none_to_make}
 use Rattle.act_model.specs.MoveStep.{MoveStepStep, GoesOn, copies, has_copied, publishes, retires, again, damaged, no_move}
 use Rattle.act_model.specs.OpenPiece.{Opens, refused_open, no_piece, opens, faults_opening, wants_memory_opening}
@@ -62,6 +62,7 @@ begun_new store now n row parts old new answer (refused a p settles q same r) is
 begun_new store now n row parts old new answer (faults_first p same q) is = absurd cc
 begun_new store now n row parts old new answer (faults_between p settles same q) is = absurd cc
 begun_new store now n row parts old new answer (faults_within doubted p settles q r same t) is = absurd cc
+begun_new store now n row parts old new answer (faults_removing done gone p settles q ran t) is = absurd cc
 begun_new store now n row parts old new answer (wants_memory same q) is = absurd cc
 begun_new store now n row parts old new answer (wants_memory_settled p settles same q) is = absurd cc
 
@@ -96,6 +97,7 @@ retired_whole n parts old new answer (refused {mid = mid} a p settles q same r) 
 retired_whole n parts old new answer (faults_first p same q) is = absurd cc
 retired_whole n parts old new answer (faults_between p settles same q) is = absurd cc
 retired_whole n parts old new answer (faults_within doubted p settles q r same t) is = absurd cc
+retired_whole n parts old new answer (faults_removing done gone p settles q ran t) is = absurd cc
 retired_whole n parts old new answer (wants_memory same q) is = absurd cc
 retired_whole n parts old new answer (wants_memory_settled p settles same q) is = absurd cc
 
@@ -114,6 +116,7 @@ none_damaged n place name old new answer told (refused {mid = mid} a p settles q
 none_damaged n place name old new answer told (faults_first p same q) is = absurd cc
 none_damaged n place name old new answer told (faults_between p settles same q) is = absurd cc
 none_damaged n place name old new answer told (faults_within doubted p settles q r same t) is = absurd cc
+none_damaged n place name old new answer told (faults_removing done gone p settles q ran t) is = absurd cc
 none_damaged n place name old new answer told (wants_memory same q) is = absurd cc
 none_damaged n place name old new answer told (wants_memory_settled p settles same q) is = absurd cc
 

@@ -1,14 +1,14 @@
 -- How an act ends. One that touches no file has one end, or wants memory (`Ends`). One that does touch files settles a doubt first, and
--- is then refused, done, failed or short of memory (`Acts`): a failure leaves the doubt that was there, none, or the act's own change in
--- doubt, and never takes back what was accepted.
+-- is then refused, done, failed or short of memory (`Acts`): a failure leaves the doubt that was there, none, the act's own change in
+-- doubt, or all of it done but for files that were to be removed, and never takes back what was accepted.
 use Rattle.std.specs.FinMap.{FinMap}
 use Rattle.std.specs.Ordering.{nat_cmp}
-use Rattle.std.specs.Prelude.{◌≡◌, ◌≤◌, ◌⊎◌, Option, Some, None, []}
+use Rattle.std.specs.Prelude.{◌≡◌, ◌≤◌, ◌⊎◌, Option, Some, None, [], Bool, true, false}
 use Rattle.disk_model.specs.Files.{Rose}
 use Rattle.act_model.specs.Changes.{Settles, made}
 use Rattle.act_model.specs.Machine.{Machine, MoveState, Change}
 use Rattle.act_model.specs.Reply.{Reply}
-use Rattle.act_model.specs.declared.acts.Answer.TheVariants.{DiskFault, Memory}
+use Rattle.act_model.specs.declared.acts.Answer.TheVariants.{Retired, Swept, DiskFault, Memory}
 
 -- an answer, and the state after it
 pub record Outcome : Type 0 where
@@ -31,6 +31,12 @@ stops stopped m = record m { moves = stopped m.moves }
 abbrev pub all_go : FinMap nat_cmp MoveState → FinMap nat_cmp MoveState
 all_go moves = moves
 
+-- the answers of acts that remove files when all else is done
+abbrev pub removes_files : Reply → Bool
+removes_files (Retired parts) = true
+removes_files (Swept files) = true
+removes_files other = false
+
 -- An act that settles a doubt first. `refuse` has the refusals that stand before DiskFault, `run` what follows them, `change` the one
 -- durable change that the act may make there, and `stopped` what a fault does to the moves.
 pub data Acts (refuse : Machine → Option Reply) (run : Machine → Reply → Machine → Type 0) (change : Machine → Option Change) (stopped : FinMap nat_cmp MoveState → FinMap nat_cmp MoveState) : Machine → Reply → Machine → Type 0 where
@@ -52,6 +58,9 @@ pub data Acts (refuse : Machine → Option Reply) (run : Machine → Reply → M
   faults_within : {old mid new : Machine} (doubted : Change) → refuse old ≡ None → Settles old mid → refuse mid ≡ None
       → change mid ≡ Some doubted → Same (record (stops stopped mid) { doubt = Some doubted }) new → Rose old.faults new.faults
       → Acts refuse run change stopped old DiskFault new
+  -- all is done as for this answer, but a file of it couldn't be removed
+  faults_removing : {old mid new : Machine} (answer : Reply) → removes_files answer ≡ true → refuse old ≡ None → Settles old mid → refuse mid ≡ None
+      → run mid answer new → Rose old.faults new.faults → Acts refuse run change stopped old DiskFault new
   -- no memory, before a doubt was settled or after it
   wants_memory : {old new : Machine} → Same old new → old.faults ≤ new.faults → Acts refuse run change stopped old Memory new
   wants_memory_settled : {old mid new : Machine} → refuse old ≡ None → Settles old mid → Same mid new → old.faults ≤ new.faults

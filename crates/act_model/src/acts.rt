@@ -210,6 +210,7 @@ pub enum Answer<R: Drop> {
         doors: u64,
     },
     /// The disk failed, which it has counted. The act's change was made or not; the next act that touches the disk's journals finds out.
+    /// Where only the removal of a file failed, a MoveStep or a Sweep has done all else.
     DiskFault,
     /// Memory ran out. Nothing was changed.
     Memory,
