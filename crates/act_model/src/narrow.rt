@@ -45,7 +45,11 @@ impl<R: ReadAt> OwnAnswer<R> for Registered {
         requires { answers_register (reply_of R.tells R.bytes R.faults answer) ≡ true }
         ensures { registered_reply result ≡ reply_of R.tells R.bytes R.faults answer }
     {
-        narrow!(answer, Registered: NameTaken { row }, KeyTaken { row }, CatalogueFull, DiskFault, Registered { row }, Memory)
+        narrow!(
+            answer, Registered:
+            NameTaken { row }, KeyTaken { row }, CatalogueFull, DiskFault, Registered { row },
+            Memory
+        )
     }
 }
 
@@ -97,7 +101,11 @@ impl<R: ReadAt> OwnAnswer<R> for Ticked {
         requires { answers_tick (reply_of R.tells R.bytes R.faults answer) ≡ true }
         ensures { ticked_reply result ≡ reply_of R.tells R.bytes R.faults answer }
     {
-        narrow!(answer, Ticked: NoRow, TickNone, NotDue { due }, Dropped(reason), IntakeFull { held }, TickKept { t }, Memory)
+        narrow!(
+            answer, Ticked:
+            NoRow, TickNone, NotDue { due }, Dropped(reason), IntakeFull { held },
+            TickKept { t }, Memory
+        )
     }
 }
 
@@ -123,7 +131,10 @@ impl<R: ReadAt> OwnAnswer<R> for MoveBegun {
         requires { answers_move_begin (reply_of R.tells R.bytes R.faults answer) ≡ true }
         ensures { move_begun_reply result ≡ reply_of R.tells R.bytes R.faults answer }
     {
-        narrow!(answer, MoveBegun: DiskFault, Begun { m, row, parts }, Busy { m }, Nothing { doors }, Memory)
+        narrow!(
+            answer, MoveBegun:
+            DiskFault, Begun { m, row, parts }, Busy { m }, Nothing { doors }, Memory
+        )
     }
 }
 
@@ -136,7 +147,11 @@ impl<R: ReadAt> OwnAnswer<R> for MoveStepped {
         requires { answers_move_step (reply_of R.tells R.bytes R.faults answer) ≡ true }
         ensures { move_stepped_reply result ≡ reply_of R.tells R.bytes R.faults answer }
     {
-        narrow!(answer, MoveStepped: NoMove, DiskFault, Damaged { name, at }, Copying, Copied, Published, Retired { parts }, Again { len, copied }, Memory)
+        narrow!(
+            answer, MoveStepped:
+            NoMove, DiskFault, Damaged { name, at }, Copying, Copied, Published,
+            Retired { parts }, Again { len, copied }, Memory
+        )
     }
 }
 
@@ -162,7 +177,10 @@ impl<R: ReadAt> OwnAnswer<R> for Pinned {
         requires { answers_pin (reply_of R.tells R.bytes R.faults answer) ≡ true }
         ensures { pinned_reply result ≡ reply_of R.tells R.bytes R.faults answer }
     {
-        narrow!(answer, Pinned: NoSuchVariable, DiskFault, Pinned { pin, name, about, pieces, tail }, Memory)
+        narrow!(
+            answer, Pinned:
+            NoSuchVariable, DiskFault, Pinned { pin, name, about, pieces, tail }, Memory
+        )
     }
 }
 
@@ -175,7 +193,11 @@ impl<R: ReadAt> OwnAnswer<R> for PieceOpened<R> {
         requires { answers_open_piece (reply_of R.tells R.bytes R.faults answer) ≡ true }
         ensures { piece_opened_reply R.tells R.bytes R.faults result ≡ reply_of R.tells R.bytes R.faults answer }
     {
-        narrow!(answer, PieceOpened: NoPin, NotYours { owner }, NoPiece { pieces }, DiskFault, Piece { reader, name, head_len, len }, Memory)
+        narrow!(
+            answer, PieceOpened:
+            NoPin, NotYours { owner }, NoPiece { pieces }, DiskFault,
+            Piece { reader, name, head_len, len }, Memory
+        )
     }
 }
 
