@@ -1,5 +1,5 @@
 -- What a walk has read of a file, from line to line.
-use Rattle.std.proofs.Common.{◌≡◌, ◌≢◌, ℕ, ◌+◌, ◌≤◌, inl, inr, List, [], ◌∷◌, ◌++◌, Option, Some, None, length, take, drop, arith, refl, sym, ap, ◌∙◌, subst, append_assoc}
+use Rattle.std.proofs.Common.{◌≡◌, ◌≢◌, ℕ, ◌+◌, ◌≤◌, inl, inr, List, [], ◌∷◌, ◌++◌, Option, Some, None, length, take, drop, arith, refl, sym, ap, ◌∙◌, subst, append_assoc, append-nil, ◌-◌}
 use Rattle.std.specs.Prelude.{IsSome, is_some}
 use Rattle.std.proofs.lemmas.List.{length-take-le, length-drop, take-append-drop, take-take, drop_at}
 use Rattle.line_escape.specs.Unescaping.{HasNoNewline}
@@ -12,9 +12,10 @@ use Rattle.pb_file.specs.declared.walk.Walked.{Walked}
 use Rattle.pb_file.specs.declared.walk.Walked.TheVariants as walked
 use Rattle.pb_lines.specs.File.{IsFile, IsBadAt, IsSample, HasNoHeader, HasNoSample}
 use Rattle.pb_file.specs.Block.{Piece, IsPieceOf}
-use Rattle.pb_file.specs.Walk.{Walk, Front, HasWalked, Walks, IsRefused, Takes, with_sample}
+use Rattle.pb_file.specs.Walk.{Walk, Front, HasWalked, HoldsSample, Walks, IsRefused, Takes, with_sample}
 use Rattle.pb_lines.proofs.FileLines.{torn_head, bad_head, torn_sample, bad_sample}
 use Rattle.pb_lines.proofs.FileMeaning.{begins, grows}
+use Rattle.pb_file.proofs.Blocks.{line_ends}
 
 -- WHAT A LINE COMES TO
 
@@ -186,3 +187,18 @@ line_walks w new file line front walked.Memory whole r h k =
 -- the walk once a line was read: but for its piece it is as before
 pub read_on : (old w : Walk) (file : List ℕ) (front : Option Front) → w ≡ record old { piece = w.piece } → HasWalked old file front → (IsPieceOf old.piece file → IsPieceOf w.piece file) → HasWalked w file front
 read_on old w file front same h piece = let P : Walk → Type 0 = λ v. HasWalked v file front in subst P (sym same) (stays old w.piece file front h (piece h.piece))
+
+-- A sample in memory is read from there.
+pub held_line : (w : Walk) (file line : List ℕ) (t : ℕ) → HoldsSample w t line → w.len ≤ length file → IsPieceOf w.piece file → ReadLine w file line
+held_line w file line t h long is =
+    let at = h.held in
+    record {
+      long = long;
+      room = h.room;
+      text = line_ends w.piece file [] line at.text.0 line (drop (w.place - w.piece.start) w.piece.bytes) w.place w.place is at.from at.within (omega arith) (sym (append-nil (take w.place file))) refl at.text.1 refl;
+      piece = is;
+    }
+
+-- The walk that passes it takes its line.
+pub held_takes : (w new : Walk) (line : List ℕ) (t : ℕ) → HoldsSample w t line → new ≡ record w { place = w.place + length line + 1; earliest = t + 1 } → Takes w line (walked.Sample t) new
+held_takes w new line t h is = ((h.info, h.header, h.sample, h.later, is ∙ ap (λ (p : Piece). record w { place = w.place + length line + 1; earliest = t + 1; piece = p }) (sym (ap (λ (v : Walk). v.piece) is))), ap (λ (v : Walk). v.piece) is)

@@ -1,8 +1,9 @@
 -- A block of a file in memory, and what a read of a line through it gives.
-use Rattle.std.specs.Prelude.{◌≡◌, ℕ, ◌+◌, List, [], ◌∷◌, ◌++◌, length, take, drop}
+use Rattle.std.specs.Prelude.{◌≡◌, ℕ, ◌+◌, ◌-◌, ◌<◌, ◌≤◌, List, [], ◌∷◌, ◌++◌, length, take, drop}
 use Rattle.pb_file.specs.declared.block.Block.{Block}
 use Rattle.pb_file.specs.declared.block.LineRead.{LineRead}
 use Rattle.pb_file.specs.declared.block.LineRead.TheVariants.{Line, Torn}
+use Rattle.pb_file.specs.Line.{BeginsWithLine}
 
 -- the bytes that a block has in memory, and where they stand in the file
 pub record Piece : Type 0 where
@@ -16,6 +17,12 @@ piece_of block = record { start = block.start; bytes = block.bytes.items }
 -- the file has these bytes there
 abbrev pub IsPieceOf : Piece → List ℕ → Type 0
 IsPieceOf piece file = piece.bytes ≡ take (length piece.bytes) (drop piece.start file)
+
+-- the piece has the line at this place, and the newline behind it
+pub record HoldsLine (piece : Piece) (at : ℕ) (line : List ℕ) : Type 0 where
+  pub from : piece.start ≤ at
+  pub within : at < piece.start + length piece.bytes
+  pub text : BeginsWithLine (drop (at - piece.start) piece.bytes) line
 
 -- what of the file a read of the line at a place gave, up to `len`
 abbrev pub GivesLine : List ℕ → ℕ → ℕ → List ℕ → LineRead → Type 0

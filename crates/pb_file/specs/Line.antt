@@ -4,6 +4,10 @@ use Rattle.line_escape.specs.Unescaping.{HasNoNewline}
 use Rattle.pb_file.specs.declared.line.Taken.{Taken}
 use Rattle.pb_file.specs.declared.line.Taken.TheVariants.{Whole, Part, Memory}
 
+-- the bytes begin with this line and a newline
+abbrev pub BeginsWithLine : List ℕ → List ℕ → Type 0
+BeginsWithLine bytes line = (rest : List ℕ) × (bytes ≡ line ++ 10 ∷ rest) × HasNoNewline line
+
 -- The line gained the bytes up to their first newline, or all of them where there is none.
 abbrev pub Appends : List ℕ → List ℕ → List ℕ → Taken → Type 0
 Appends bytes old new Whole = (part rest : List ℕ) × (bytes ≡ part ++ 10 ∷ rest) × HasNoNewline part × (new ≡ old ++ part)

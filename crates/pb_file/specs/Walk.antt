@@ -8,7 +8,7 @@ use Rattle.pb_lines.specs.Header.{IsHeaderLine}
 use Rattle.pb_lines.specs.Sample.{IsSampleLine}
 use Rattle.pb_file.specs.declared.walk.Walked.{Walked}
 use Rattle.pb_file.specs.declared.walk.Walked.TheVariants as walked
-use Rattle.pb_file.specs.Block.{Piece, IsPieceOf}
+use Rattle.pb_file.specs.Block.{Piece, IsPieceOf, HoldsLine}
 use Rattle.pb_lines.specs.File.{IsFile, IsBadAt, IsSample}
 
 -- A walk over the first `len` bytes of a file: where the next line begins, the header once it was read, the earliest moment that
@@ -113,3 +113,19 @@ Takes old line walked.End new = ⊥
 Takes old line walked.ReadFault new = ⊥
 Takes old line (walked.Damaged at) new = Gives old line (walked.Damaged at) new × IsRefused old line × (new.piece ≡ old.piece)
 Takes old line result new = Gives old line result new × (new.piece ≡ old.piece)
+
+-- IN MEMORY
+
+-- the sample comes next, and its line is in memory with its newline
+pub record HoldsSample (w : Walk) (t : ℕ) (line : List ℕ) : Type 0 where
+  pub going : w.stop ≡ None
+  pub info : PayloadInfo
+  pub header : w.info ≡ Some info
+  pub sample : IsSample info.ty info.year (record { t = t; line = line })
+  pub later : w.earliest ≤ t
+  pub held : HoldsLine w.piece w.place line
+  pub room : w.place + length line + 1 ≤ w.len
+
+-- so it is, and the line has this length
+abbrev pub HoldsLong : Walk → ℕ → ℕ → Type 0
+HoldsLong w t len = (line : List ℕ) × HoldsSample w t line × (len ≡ length line)

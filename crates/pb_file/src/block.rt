@@ -2,7 +2,7 @@
 ghost use Rattle.std.specs.Prelude.{◌≡◌, ◌≤◌, ◌<◌, ◌+◌, IsTrue, take, drop, length, vec_len};
 ghost use Rattle.disk_model.specs.Files.{Rose};
 
-use crate::line::{Taken, take_line};
+use crate::line::{Taken, front_line, take_line};
 use crate::steps::Steps;
 use disk_model::ReadAt;
 use std::sync::ledger::Ledger;
@@ -43,10 +43,10 @@ pub struct Block {
 }
 
 impl Block {
-    ghost use Rattle.std.specs.Prelude.{◌≡◌, ◌≤◌, ◌<◌, ◌+◌, ◌-◌, IsTrue, length, drop, vec_len};
+    ghost use Rattle.std.specs.Prelude.{◌≡◌, ◌≤◌, ◌<◌, ◌+◌, ◌-◌, IfSome, IsTrue, length, drop, vec_len};
     ghost use Rattle.line_escape.specs.Unescaping.{HasNoNewline};
     ghost use Rattle.disk_model.specs.Files.{Rose};
-    ghost use Rattle.pb_file.specs.Block.{piece_of, IsPieceOf, GivesLine};
+    ghost use Rattle.pb_file.specs.Block.{piece_of, IsPieceOf, HoldsLine, GivesLine};
 
     // Reads the line at a place, without its newline, into `line`, whose bytes before are lost. It is the one step that is counted.
     pub fn read_line<H: ReadAt, L: Ledger>(
@@ -86,6 +86,17 @@ impl Block {
             }
         }
         LineRead::Torn
+    }
+
+    // The line at a place, without its newline, where all of it and the newline are in memory.
+    #[inline(always)]
+    pub fn held_line(&self, at: u64) -> Option<&[u8]>
+        ensures { IfSome result (λ line. HoldsLine (piece_of self.now) at line.now) }
+    {
+        if at < self.start || at - self.start >= self.bytes.len() as u64 {
+            return None;
+        }
+        front_line(self.from(at))
     }
 
     // Has the byte at a place in memory. It is read with those behind it, unless it is there.

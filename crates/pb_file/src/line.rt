@@ -1,7 +1,7 @@
 // The line at the front of bytes.
-ghost use Rattle.std.specs.Prelude.{◌≡◌, ◌≤◌, ◌<◌, length, take, slice_index};
+ghost use Rattle.std.specs.Prelude.{◌≡◌, ◌≤◌, ◌<◌, IfSome, length, take, slice_index};
 ghost use Rattle.line_escape.specs.Unescaping.{HasNoNewline};
-ghost use Rattle.pb_file.specs.Line.{Appends};
+ghost use Rattle.pb_file.specs.Line.{Appends, BeginsWithLine};
 
 use memchr::memchr;
 
@@ -29,6 +29,16 @@ pub fn take_line(bytes: &[u8], line: &mut Vec<u8>) -> Taken
     } else {
         Taken::Part
     }
+}
+
+// The bytes before the first newline, where there is one.
+#[inline(always)]
+pub fn front_line(bytes: &[u8]) -> Option<&[u8]>
+    ensures { IfSome result (λ line. BeginsWithLine bytes.now line.now) }
+{
+    let len = line_len(bytes);
+    let (line, _) = bytes.split_at(len);
+    if len < bytes.len() { Some(line) } else { None }
 }
 
 // How many bytes stand before the first newline.

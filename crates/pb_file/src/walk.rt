@@ -5,7 +5,7 @@ ghost use Rattle.line_escape.specs.Unescaping.{HasNoNewline};
 ghost use Rattle.disk_model.specs.Files.{Rose};
 ghost use Rattle.payload_info.specs.declared.info.PayloadInfo.{PayloadInfo as InfoValue};
 ghost use Rattle.pb_file.specs.Block.{IsPieceOf};
-ghost use Rattle.pb_file.specs.Walk.{Front, HasWalked, Gives, Walks, Takes, fresh, behind};
+ghost use Rattle.pb_file.specs.Walk.{Front, HasWalked, HoldsSample, HoldsLong, Gives, Walks, Takes, fresh, behind};
 ghost use Rattle.pb_file.specs.Skip.{HasHeader, HasSkipped, GoesOnFrom, BeginsBehind};
 ghost use Rattle.pb_file.specs.declared.search.SearchErr.TheVariants.{ReadFault, Damaged};
 
@@ -165,6 +165,44 @@ impl FileWalk {
             LineRead::ReadFault => Walked::ReadFault,
             LineRead::Memory => Walked::Memory,
         }
+    }
+
+    /// The next sample's moment and its line, without its newline, where the line is in memory whole and good, and the moment is from `from`
+    /// to `to`, both included. `pass` goes on behind it.
+    ///
+    /// `work` is scratch space: what it held is lost.
+    #[inline(always)]
+    pub fn held<'a>(&'a self, from: u64, to: u64, work: &mut Vec<u8>) -> Option<(u64, &'a [u8])>
+        ensures held { IfSome result (λ found. HoldsSample self.now found.0 found.1.now) }
+        ensures within { IfSome result (λ found. (from ≤ found.0) × (found.0 ≤ to)) }
+    {
+        if self.stop.is_some() {
+            return None;
+        }
+        let Some(header) = &self.header else {
+            return None;
+        };
+        let line = self.block.held_line(self.place)?;
+        let Ok(t) = moment_of_line(header.info.ty, &header.year, line, work) else {
+            return None;
+        };
+        if t < from || t > to || !is_behind(self.last, t) {
+            return None;
+        }
+        Some((t, line))
+    }
+
+    /// Goes on behind the sample that `held` gives, whose line has `len` bytes: `next` would have given it.
+    #[inline(always)]
+    pub fn pass<L: Ledger>(&mut self, t: u64, len: usize, steps: &mut Steps<L>)
+        requires held { HoldsLong self.old t len }
+        ensures passed { self.new ≡ record self.old { place = self.old.place + len + 1; earliest = t + 1 } }
+        ensures step { steps.new ≡ steps.old + 1 }
+    {
+        steps.tick();
+        let end = self.place + len as u64;
+        self.place = end + 1;
+        self.last = Some(t);
     }
 
     /// Goes on at a later place, without reading what stands before it: `next` answers from then on as over the header's line and the
