@@ -2,8 +2,10 @@ mod Answering
 mod Leaving
 mod Starting
 pub mod Reading
+mod SoFar
 mod Pulling
 mod Coming
 mod Giving
 pub mod Went
 mod Later
+mod Answered

@@ -4,3 +4,4 @@ pub mod Over
 pub mod Beginning
 pub mod Source
 pub mod Merging
+pub mod Reads

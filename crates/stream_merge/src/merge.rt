@@ -9,6 +9,7 @@ ghost use Rattle.stream_merge.specs.Reading.{IsSampleOf, AreSamplesOf, AreReadAs
 ghost use Rattle.pb_file.specs.Walk.{behind};
 ghost use Rattle.stream_merge.specs.Over.{over_all};
 ghost use Rattle.stream_merge.specs.Source.{open_pieces, HasFailed, OpensOn, IsGiven, Went, TakesFew};
+ghost use Rattle.stream_merge.specs.Reads.{GivesNext, HasGiven};
 ghost use Rattle.stream_merge.specs.Merging.{IsGoing, IsDue, IsEarly, Rest, Answers, Gives, kept_of, line_from, remaining};
 
 use crate::pieces::{Merged, Pieces};
@@ -40,6 +41,7 @@ impl<R: ReadAt> Merge<R> {
         ensures going { IsGoing R.tells R.bytes result }
         ensures ty { result.source.ty ≡ ty }
         ensures whole { (ps : List NamedBytes) (lists : List (List SampleValue)) → AreReadAs ty ps lists → IsRising tail → Rest R.bytes result ps (answer (over_all lists tail) query) }
+        ensures nothing { (left : ℕ) → HasGiven R.bytes result left [] [] }
         ensures none_open { result.source.piece ≡ None }
         ensures first { line_from result ≡ 0 }
     {
@@ -68,6 +70,7 @@ impl<R: ReadAt> Merge<R> {
         ensures going { (t : ℕ) → result ≡ Merged.Line t → IsGoing R.tells R.bytes self.new }
         ensures ty { self.new.source.ty ≡ self.old.source.ty }
         ensures lines { IsTrue R.tells → (ps : List NamedBytes) (xs : List SampleValue) → P.left pieces.old ps → Rest R.bytes self.old ps xs → Answers R.bytes (P.left pieces.new) self.new xs line.new.items result }
+        ensures reads { IsTrue R.tells → (ps : List NamedBytes) (given : List SampleValue) → HasGiven R.bytes self.old (P.count pieces.old) ps given → GivesNext R.bytes P.opened pieces.old ps pieces.new (P.count pieces.new) self.old.source.ty self.old.query self.old.source.tail.items given self.new line.new.items result }
         ensures event { (t : ℕ) → result ≡ Merged.Line t → IsSampleOf self.old.source.ty (record { t = t; line = line.new.items }) }
         ensures later { (t : ℕ) → result ≡ Merged.Line t → (line_from self.old ≤ t) × (t < line_from self.new) }
         ensures opens { IsTrue R.tells → (ps : List NamedBytes) → P.left pieces.old ps → OpensOn R.bytes (P.left pieces.new) self.old.source.piece self.new.source.piece ps result }

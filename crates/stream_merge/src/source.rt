@@ -9,6 +9,7 @@ ghost use Rattle.stream_merge.specs.Reading.{IsSampleOf, AreSamplesOf, IsBadFor,
 ghost use Rattle.stream_merge.specs.Source.{IsReady, IsOpenAs, open_pieces, HasFailed, HasFailedNow, HasRisen, Grew, Coming, ReadsOpen, Pulls, OpensOn, Went, unread, unread_in, IsStop, ClosesAs, IsFailure, IsGiven, IsOfTail};
 ghost use Rattle.stream_merge.specs.Source.{BeginsAs};
 ghost use Rattle.stream_merge.specs.Beginning.{early_count, IsPlaced, IsAtLine, TellsAs};
+ghost use Rattle.stream_merge.specs.Reads.{HasRead, HasReadOpen, PullsNext, ReadsNext};
 ghost use Rattle.pb_file.specs.Walk.{behind};
 
 use crate::beginning::skip;
@@ -69,6 +70,7 @@ impl<R: ReadAt> Source<R> {
         ensures same { (self.new.ty ≡ self.old.ty) × (self.new.tail ≡ self.old.tail) }
         ensures lines { IsTrue R.tells → (ps : List NamedBytes) (xs : List SampleValue) → P.left pieces.old ps → (c : Coming R.bytes self.old ps xs) → IsPlaced (behind last) query.from c.here
             → Pulls R.bytes (P.left pieces.new) (behind last) query ps xs (steps.old + early_count query.from c.here) self.new line.new.items steps.new result }
+        ensures reads { IsTrue R.tells → (ps : List NamedBytes) (read : List SampleValue) → HasRead R.bytes self.old (P.count pieces.old) ps read → PullsNext R.bytes P.opened pieces.old ps pieces.new (P.count pieces.new) read self.new line.new.items result }
         ensures event { (t : ℕ) → result ≡ Merged.Line t → IsSampleOf self.old.ty (record { t = t; line = line.new.items }) }
         ensures opens { IsTrue R.tells → (ps : List NamedBytes) → P.left pieces.old ps → OpensOn R.bytes (P.left pieces.new) self.old.piece self.new.piece ps result }
         ensures damaged { IsTrue R.tells → (ps : List NamedBytes) → P.left pieces.old ps → (name : Name) (at : ℕ) → result ≡ Merged.Damaged name at → IsDamaged self.old.ty (open_pieces R.bytes self.old.piece ++ ps) name at }
@@ -111,8 +113,10 @@ impl<R: ReadAt> Source<R> {
         requires ready { IsReady R.tells R.bytes self.old.ty self.old.piece }
         ensures ready { (t : ℕ) → result ≡ Merged.Line t → IsReady R.tells R.bytes self.new.ty self.new.piece }
         ensures closed { result ≡ Merged.End → self.new.piece ≡ None }
+        ensures ends { self.old.piece ≡ None → result ≡ Merged.End }
         ensures same { self.new ≡ record self.old { piece = self.new.piece } }
         ensures lines { IsTrue R.tells → (xs : List SampleValue) → IsOpenAs R.bytes self.old.piece xs → ReadsOpen R.bytes self.new.piece xs line.new.items result }
+        ensures reads { IsTrue R.tells → (read : List SampleValue) → HasReadOpen R.bytes self.old.ty self.old.piece read → ReadsNext R.bytes self.old.ty self.old.piece self.new.piece read line.new.items result }
         ensures event { (t : ℕ) → result ≡ Merged.Line t → IsSampleOf self.old.ty (record { t = t; line = line.new.items }) }
         ensures stays { IsTrue R.tells → (t : ℕ) → result ≡ Merged.Line t → open_pieces R.bytes self.new.piece ≡ open_pieces R.bytes self.old.piece }
         ensures damaged { IsTrue R.tells → (name : Name) (at : ℕ) → result ≡ Merged.Damaged name at → IsDamaged self.old.ty (open_pieces R.bytes self.old.piece) name at }
@@ -175,6 +179,7 @@ fn open_at<R: ReadAt, L: Ledger>(
     ensures ready { IfOk result (λ p. IsReady R.tells R.bytes ty (Some p)) }
     ensures pieces { IsTrue R.tells → IfOk result (λ p. open_pieces R.bytes (Some p) ≡ record { name = name; bytes = take len (R.bytes reader) } ∷ []) }
     ensures lines { IsTrue R.tells → (xs : List SampleValue) → IsReadAs ty (take len (R.bytes reader)) xs → IfOk result (λ p. BeginsAs R.bytes (behind last) query p xs) }
+    ensures unread { IsTrue R.tells → IfOk result (λ p. HasReadOpen R.bytes ty (Some p) []) }
     ensures small { IfOk result (λ p. unread_in (Some p) < 2 ^ 64) }
     ensures damaged { IsTrue R.tells → (found : Name) (at : ℕ) → result ≡ Err (merged.Damaged found at) → (found ≡ name) × IsBadFor ty (take len (R.bytes reader)) at }
     ensures failed { (failed : Option R) → result ≡ Err (merged.ReadFault failed) → HasFailedNow R.faults failed }

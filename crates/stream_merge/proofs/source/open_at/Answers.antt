@@ -7,6 +7,7 @@ use Rattle.stream_merge.specs.declared.pieces.Merged.TheVariants as merged
 use Rattle.stream_merge.specs.Reading.{IsReadAs, IsBadFor}
 use Rattle.stream_merge.specs.Beginning.{IsAtLine, BeginsWell}
 use Rattle.stream_merge.proofs.Pulling.{begun_there, begins_as, head_place, search_bad, told_damaged, err_same}
+use Rattle.stream_merge.proofs.SoFar.{unread_at}
 use Rattle.stream_merge.proofs.source.open_at.Goals as goal
 
 pub returns-in_err-piece-clause-damaged : goal.returns-in_err-piece-clause-damaged
@@ -21,6 +22,17 @@ returns-in-Ok-clause-ready g c =
     let b = c.in_ok-piece.ensures in
     begun_there R.tells R.bytes c.args.ty p c.skip.new.file c.skip.new.walk p.walk.place b.ready c.skip.ensures.moves c.skip.ensures.same
     (λ tells. let L : List ℕ → Type 0 = λ l. IsAtLine p.walk.place p.walk l in c.skip.ensures.at_line tells (subst L (sym (b.bytes tells)) (b.begun tells)))
+
+pub returns-in-Ok-clause-unread : goal.returns-in-Ok-clause-unread
+returns-in-Ok-clause-unread g c tells =
+    let R = g.R.ReadAt in
+    let p = c.in_ok-piece.piece in
+    let b = c.in_ok-piece.ensures in
+    let L : List ℕ → Type 0 = λ l. IsAtLine p.walk.place p.walk l in
+    let N : List ℕ → Type 0 = λ l. IsAtLine p.walk.place c.skip.new.walk l in
+    let there = c.skip.ensures.at_line tells (subst L (sym (b.bytes tells)) (b.begun tells)) in
+    let ready = begun_there R.tells R.bytes c.args.ty p c.skip.new.file c.skip.new.walk p.walk.place b.ready c.skip.ensures.moves c.skip.ensures.same (λ told. there) in
+    unread_at R.tells R.bytes c.args.ty (record { reader = c.skip.new.file; name = p.name; walk = c.skip.new.walk }) p.walk.place tells ready (subst N (sym (c.skip.ensures.same tells)) there)
 
 pub returns-in-Ok-clause-lines : goal.returns-in-Ok-clause-lines
 returns-in-Ok-clause-lines g c tells xs read =

@@ -1,4 +1,5 @@
-use Rattle.std.proofs.Common.{◌+◌, ◌<◌, ◌⊎◌, ◌++◌, ◌∷◌, [], Some, inl, inr, refl, sym, ap, ◌∙◌, subst, arith}
+use Rattle.std.proofs.Common.{◌+◌, ◌<◌, ◌⊎◌, ◌++◌, ◌∷◌, [], List, Some, inl, inr, refl, sym, ap, ◌∙◌, subst, arith, append_assoc, append-nil}
+use Rattle.stream_merge.specs.Pieces.{NamedBytes}
 use Rattle.std.proofs.lemmas.Bool.{cases_lt}
 use Rattle.series_model.specs.declared.sample.Sample.{Sample}
 use Rattle.series_model.specs.declared.sample.Query.{Query}
@@ -14,6 +15,8 @@ use Rattle.stream_merge.proofs.Coming.{opens_any}
 use Rattle.stream_merge.proofs.Giving.{gives_first, gives_at, left_out, few_none, few_on, few_pulled, taken_on, due_answers, last_answers, gives_answers, gives_event, going_at, kept_now, none_is_kept, passes_join, passes_at, damaged_back, failed_since, since_through, since_more, answers_none, opens_none, step_skip, step_keep, early_at, rose_lower, count_le, due_count, kept_length, gives_count}
 use Rattle.stream_merge.proofs.Went.{goes_nowhere, goes_still, goes_joined, went_given, went_joined, gives_given, grew_same}
 use Rattle.stream_merge.proofs.Later.{given_later, next_low, kept_low, gives_later}
+use Rattle.stream_merge.specs.Reads.{HasRead, HasGiven, GivesNext}
+use Rattle.stream_merge.proofs.Answered.{is_not_read, given_skips, given_keeps, due_next, last_next, give_next, gives_none}
 use Rattle.stream_merge.proofs.merge.Merge.next.Goals as goal
 
 pub returns-then-is_due-clause-lines : goal.returns-then-is_due-clause-lines
@@ -21,6 +24,57 @@ returns-then-is_due-clause-lines g c tells ps xs is rest =
     let m = c.args.self.now in
     let e = c.give_due.ensures in
     due_answers g.R.ReadAt.bytes (g.P.Pieces.left c.args.pieces.now) m c.give_due.new.self m.source.ty ps xs c.give_due.new.line.items c.give_due.result is rest e.rest.1 e.rest.0 e.rest.2 e.none (c.is_due.ensures.due c.if-is_due.true) c.requires.going.kept e.line e.end e.whole
+
+pub returns-then-is_due-clause-reads : goal.returns-then-is_due-clause-reads
+returns-then-is_due-clause-reads g c tells ps given has =
+    let R = g.R.ReadAt in
+    let P = g.P.Pieces in
+    let m = c.args.self.now in
+    let e = c.give_due.ensures in
+    due_next R.bytes P.opened c.args.pieces.now ps g.met.P.Pieces.none_opened m c.give_due.new.self (P.count c.args.pieces.now) m.source.ty given c.give_due.new.line.items c.give_due.result e.rest.1 e.rest.0 e.rest.2 e.none (c.is_due.ensures.due c.if-is_due.true) c.requires.going.kept e.line e.end e.whole has
+
+pub returns-in-End-clause-reads : goal.returns-in-End-clause-reads
+returns-in-End-clause-reads g c tells ps given has =
+    let R = g.R.ReadAt in
+    let P = g.P.Pieces in
+    let inv = c.samples.invariant in
+    let m = c.samples.self in
+    let s = c.pull.new.self in
+    let e = c.give_kept.ensures in
+    let on = inv.reads tells ps given has in
+    let k = P.count c.samples.pieces in
+    let now = P.count c.pull.new.pieces in
+    let pulled = c.in-End.ensures.reads tells (ps ++ on.more) on.has.read on.has.has in
+    let all = on.more ++ pulled.0.more in
+    let H : List NamedBytes → Type 0 = λ l. HasRead R.bytes s now l on.has.read in
+    let N : Query → Type 0 = λ q. GivesNext R.bytes P.opened c.args.pieces.now ps c.pull.new.pieces now c.args.self.now.source.ty q c.args.self.now.source.tail.items given c.give_kept.new.self c.give_kept.new.line.items c.give_kept.result in
+    let T : _ → Type 0 = λ v. GivesNext R.bytes P.opened c.args.pieces.now ps c.pull.new.pieces now c.args.self.now.source.ty m.query v.items given c.give_kept.new.self c.give_kept.new.line.items c.give_kept.result in
+    subst N inv.same.0 (subst T (c.in-End.ensures.same.1 ∙ inv.tail)
+    (last_next R.bytes P.opened c.args.pieces.now ps c.pull.new.pieces all m c.give_kept.new.self s k now (ps ++ on.more) c.args.self.now.source.ty given c.give_kept.new.line.items c.give_kept.result (g.met.P.Pieces.opened_on c.args.pieces.now c.samples.pieces c.pull.new.pieces on.more pulled.0.more on.were pulled.0.were)
+    e.rest.1 e.rest.0 e.rest.2 e.none (c.in-End.ensures.same.0 ∙ inv.same.1) inv.early e.line e.end e.whole on.has (subst H (append_assoc ps on.more pulled.0.more) pulled.0.has) pulled.1))
+
+pub returns-then-t-self-clause-reads : goal.returns-then-t-self-clause-reads
+returns-then-t-self-clause-reads g c tells ps given has =
+    let R = g.R.ReadAt in
+    let P = g.P.Pieces in
+    let inv = c.samples.invariant in
+    let m = c.samples.self in
+    let s = c.pull.new.self in
+    let e = c.give.ensures in
+    let p = c.in-Line.ensures in
+    let t = c.in-Line.t in
+    let on = inv.reads tells ps given has in
+    let k = P.count c.samples.pieces in
+    let now = P.count c.pull.new.pieces in
+    let own = c.pull.new.line.items in
+    let pulled = p.reads tells (ps ++ on.more) on.has.read on.has.has in
+    let all = on.more ++ pulled.more in
+    let H : List NamedBytes → Type 0 = λ l. HasRead R.bytes s now l (on.has.read ++ record { t = t; line = own } ∷ []) in
+    let N : Query → Type 0 = λ q. GivesNext R.bytes P.opened c.args.pieces.now ps c.pull.new.pieces now c.args.self.now.source.ty q c.args.self.now.source.tail.items given c.give.new.self c.give.new.line.items c.give.result in
+    let T : _ → Type 0 = λ v. GivesNext R.bytes P.opened c.args.pieces.now ps c.pull.new.pieces now c.args.self.now.source.ty m.query v.items given c.give.new.self c.give.new.line.items c.give.result in
+    subst N inv.same.0 (subst T (p.same.1 ∙ inv.tail)
+    (give_next R.bytes P.opened c.args.pieces.now ps c.pull.new.pieces all m c.give.new.self s k now (ps ++ on.more) c.args.self.now.source.ty given t own c.give.new.line.items c.give.result (g.met.P.Pieces.opened_on c.args.pieces.now c.samples.pieces c.pull.new.pieces on.more pulled.more on.were pulled.were)
+    e.rest.1 e.rest.0 e.rest.2 (p.same.0 ∙ inv.same.1) (c.is_later.ensures.0 c.if-not-is_later.false) c.if-t-self.true inv.early e.gives e.swapped e.stays on.has (subst H (append_assoc ps on.more pulled.more) pulled.has) (is_not_read R.bytes m.source k (unread now s) (p.smaller t refl))))
 
 pub returns-in-End-clause-going : goal.returns-in-End-clause-going
 returns-in-End-clause-going g c t is =
@@ -67,6 +121,7 @@ returns-in_default g c =
       going = λ t is. absurd (none t is);
       ty = e.same.0 ∙ inv.same.1;
       lines = λ tells ps xs is rest. answers_none R.bytes (P.left c.pull.new.pieces) _ xs c.pull.new.line.items r none more;
+      reads = λ tells ps given has. gives_none R.bytes P.opened c.args.pieces.now ps c.pull.new.pieces (P.count c.pull.new.pieces) _ c.args.self.now.source.ty c.args.self.now.query c.args.self.now.source.tail.items given c.pull.new.line.items r none more;
       event = λ t is. absurd (none t is);
       opens = λ tells ps is. opens_none R.bytes (P.left c.pull.new.pieces) first c.pull.new.self.piece ps r none more;
       damaged = λ tells ps is name at bad.
@@ -106,6 +161,23 @@ samples-preserved-then-not-is_later g c =
       going = going_at R.tells R.bytes m (record m { source = s }) s refl e.same.0 e.same.1 (e.ready tt) inv.going (subst K (sym e.same.0) inv.going.kept);
       early = inv.early;
       same = (inv.same.0, e.same.0 ∙ inv.same.1);
+      tail = e.same.1 ∙ inv.tail;
+      reads = λ tells ps given has.
+          let on = inv.reads tells ps given has in
+          let k = P.count c.samples.pieces in
+          let now = P.count c.pull.new.pieces in
+          let pulled = e.reads tells (ps ++ on.more) on.has.read on.has.has in
+          let x : Sample = record { t = t; line = c.pull.new.line.items } in
+          let H : List NamedBytes → Type 0 = λ l. HasRead R.bytes s now l (on.has.read ++ x ∷ []) in
+          let low : t < behind m.last = elim (cases_lt t (behind m.last)) [
+            | inl lt ↦ lt
+            | inr ge ↦ absurd (let later = c.is_later.ensures.1 ge in let not = c.if-not-is_later.true in cc)
+          ] in
+          record {
+            more = on.more ++ pulled.more;
+            were = g.met.P.Pieces.opened_on c.args.pieces.now c.samples.pieces c.pull.new.pieces on.more pulled.more on.were pulled.were;
+            has = given_skips R.bytes m s k now (ps ++ on.more) (ps ++ (on.more ++ pulled.more)) given x low on.has (subst H (append_assoc ps on.more pulled.more) pulled.has) (is_not_read R.bytes m.source k (unread now s) (e.smaller t refl));
+          };
       lines = λ tells ps xs is rest.
           let on = inv.lines tells ps xs is rest in
           let still = on.still in
@@ -187,6 +259,18 @@ samples-preserved g c =
       going = going_at R.tells R.bytes m m₂ s k.rest.1 e.same.0 e.same.1 (e.ready tt) inv.going (kept_now s.ty m₂.last m₂.kept m₂.kept_line.items t c.pull.new.line.items k.some k.rest.2 k.kept (subst T (sym e.same.0) (e.event t refl)));
       early = early_at m₂.kept t m.query.from m₂.query.from k.some (ap (λ (v : Query). v.from) k.rest.0) c.if-t-self.false;
       same = (k.rest.0 ∙ inv.same.0, ap (λ (v : Source g.row.R.Denot). v.ty) k.rest.1 ∙ e.same.0 ∙ inv.same.1);
+      tail = ap (λ (v : Source g.row.R.Denot). v.tail) k.rest.1 ∙ e.same.1 ∙ inv.tail;
+      reads = λ tells ps given has.
+          let on = inv.reads tells ps given has in
+          let n = P.count c.samples.pieces in
+          let now = P.count c.pull.new.pieces in
+          let pulled = e.reads tells (ps ++ on.more) on.has.read on.has.has in
+          let H : List NamedBytes → Type 0 = λ l. HasRead R.bytes s now l (on.has.read ++ x ∷ []) in
+          record {
+            more = on.more ++ pulled.more;
+            were = g.met.P.Pieces.opened_on c.args.pieces.now c.samples.pieces c.pull.new.pieces on.more pulled.more on.were pulled.were;
+            has = given_keeps R.bytes m m₂ s n now (ps ++ on.more) (ps ++ (on.more ++ pulled.more)) given s.ty x k.rest.1 k.rest.0 k.rest.2 k.some k.kept (c.is_later.ensures.0 c.if-not-is_later.false) c.if-t-self.false inv.early on.has (subst H (append_assoc ps on.more pulled.more) pulled.has) (is_not_read R.bytes m.source n (unread now s) (e.smaller t refl));
+          };
       lines = λ tells ps xs is rest.
           let on = inv.lines tells ps xs is rest in
           let still = on.still in
@@ -236,6 +320,10 @@ samples-init g c =
       early = c.is_due.ensures.early (λ is. absurd (let no = c.if-is_due.false in cc));
       same = (refl, refl);
       lines = λ tells ps xs is rest. gives_first R.bytes (g.P.Pieces.left c.args.pieces.now) ps c.args.self.now xs c.args.steps.now is rest;
+      tail = refl;
+      reads = λ tells ps given has.
+          let Q : List NamedBytes → Type 0 = λ l. HasGiven R.bytes c.args.self.now (g.P.Pieces.count c.args.pieces.now) l given in
+          record { more = []; were = g.met.P.Pieces.none_opened c.args.pieces.now; has = subst Q (sym (append-nil ps)) has };
       opens = λ tells ps is. record { passed = []; rest = ps; left_is = is; are = refl };
       since = inr (grew_same R.faults first);
       faults = omega arith;

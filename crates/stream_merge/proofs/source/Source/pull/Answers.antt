@@ -1,4 +1,4 @@
-use Rattle.std.proofs.Common.{◌≡◌, ◌+◌, ◌++◌, ◌∷◌, [], List, Some, None, inl, inr, refl, sym, ap, ◌∙◌, subst, take, arith}
+use Rattle.std.proofs.Common.{◌≡◌, ◌+◌, ◌++◌, ◌∷◌, [], List, Some, None, inl, inr, refl, sym, ap, ◌∙◌, subst, take, arith, append-nil}
 use Rattle.std.proofs.lemmas.List.{length-take-le}
 use Rattle.series_model.specs.declared.sample.Sample.{Sample}
 use Rattle.pb_file.specs.Walk.{behind}
@@ -10,6 +10,8 @@ use Rattle.stream_merge.specs.Source.{open_pieces, IsReady, Pulls}
 use Rattle.stream_merge.specs.Beginning.{early_count}
 use Rattle.stream_merge.proofs.Coming.{proceeds_first, proceeds_at, proceeds_ended, proceeds_opened, fails_opened, fails_there, pulls_failed, pulls_tail, pulls_open, passes_end, passes_opened, passes_none, passed_all, damaged_in, damaged_one, failed_open, failed_first, grew_since, opens_open, opens_any, given_ready, less_open, less_opened, tail_event, none_left, err_is}
 use Rattle.stream_merge.proofs.Went.{goes_nowhere, goes_opened, goes_none, went_open, went_begun, went_tail, failure_of}
+use Rattle.stream_merge.specs.Reads.{HasRead, HasReadOpen, PullsNext}
+use Rattle.stream_merge.proofs.SoFar.{read_ended, read_opened, read_same, reads_first, reads_then, pulls_more, pulls_of_tail, pulls_none}
 use Rattle.stream_merge.proofs.source.Source.pull.Goals as goal
 
 pub returns-in_default : goal.returns-in_default
@@ -33,6 +35,9 @@ returns-in_default g c =
           let line = c.read_open.new.line.items in
           let N : Source g.row.R.Denot → Type 0 = λ x. Pulls R.bytes left n q ps xs room x line c.read_open.new.steps r in
           subst N (sym e.same) (pulls_open R.bytes left n q ps xs room s new.piece c.pieces.steps c.read_open.new.steps line r (inv.lines tells ps xs is coming placed) (e.lines tells) e.one_step c.in_default.not-End);
+      reads = λ tells ps read has.
+          let N : Source g.row.R.Denot → Type 0 = λ x. PullsNext R.bytes P.opened c.args.pieces.now ps c.pieces.pieces (P.count c.pieces.pieces) read x c.read_open.new.line.items r in
+          subst N (sym e.same) (pulls_more R.bytes P.opened c.args.pieces.now c.pieces.pieces ps (P.count c.pieces.pieces) s new.piece read c.read_open.new.line.items r (e.stays tells) e.ends (e.reads tells) c.in_default.not-End (inv.reads tells ps read has));
       event = λ t is. let Q : PayloadType → Type 0 = λ ty. IsSampleOf ty (record { t = t; line = c.read_open.new.line.items }) in subst Q inv.same.0 (e.event t is);
       opens = λ tells ps is. opens_open R.bytes left first s.piece new.piece ps r (e.stays tells) c.in_default.not-End (inv.opens tells ps is);
       damaged = λ tells ps is name at bad.
@@ -73,6 +78,18 @@ pieces-preserved g c =
           let a = proceeds_at R.bytes left k q ps xs room (record s { piece = new.piece }) new c.read_open.new.steps e.same (proceeds_ended R.bytes left k q ps xs room s new.piece c.pieces.steps c.read_open.new.steps none (e.lines tells) (e.no_step refl) (inv.lines tells ps xs is coming placed)) in
           let over = o.opens tells a.still.pieces a.still.left_is in
           proceeds_opened R.bytes left (P.left c.open_next.new.self) k q ps xs room new p n over.rest c.in-Piece.len c.read_open.new.steps c.open_at.new.steps none a over.first over.others (c.in-Ok.ensures.lines tells) (length-take-le c.in-Piece.len (R.bytes c.in-Piece.reader) (o.bytes tells)) c.in-Ok.ensures.steps;
+      reads = λ tells ps read has.
+          let on = inv.reads tells ps read has in
+          let k = P.count c.pieces.pieces in
+          let gone = record s { piece = new.piece } in
+          let back = ap (λ (x : Source g.row.R.Denot). record x { piece = Some p }) e.same in
+          let fresh : HasReadOpen R.bytes s.ty (Some p) [] = (
+          let Q : PayloadType → Type 0 = λ ty. HasReadOpen R.bytes ty (Some p) [] in
+          subst Q (ap (λ (x : Source g.row.R.Denot). x.ty) e.same) (c.in-Ok.ensures.unread tells)
+          ) in
+          reads_then R.bytes P.opened g.met.P.Pieces.opened_on c.args.pieces.now c.pieces.pieces c.open_next.new.self ps (n ∷ []) k (P.count c.open_next.new.self) s (record new { piece = Some p }) read read o.leads on
+          (λ h. read_same R.bytes (record gone { piece = Some p }) (record new { piece = Some p }) (P.count c.open_next.new.self) (P.count c.open_next.new.self) ((ps ++ on.more) ++ n ∷ []) read back refl
+          (read_opened R.bytes gone p n k (P.count c.open_next.new.self) (ps ++ on.more) read none o.count (c.in-Ok.ensures.pieces tells) fresh (read_ended R.bytes s new.piece k (ps ++ on.more) read none (e.reads tells) h)));
       opens = λ tells ps is.
           let all = open_pieces R.bytes c.args.self.now.piece ++ ps in
           let passed = passes_end R.bytes (P.left c.pieces.pieces) all s.piece new.piece none (inv.opens tells ps is) in
@@ -185,6 +202,29 @@ returns-in-Memory-clause-lines g c tells ps xs is coming placed =
     let a = proceeds_at R.bytes left k q ps xs room (record s { piece = new.piece }) new c.read_open.new.steps e.same (proceeds_ended R.bytes left k q ps xs room s new.piece c.pieces.steps c.read_open.new.steps (e.closed refl) (e.lines tells) (e.no_step refl) (c.pieces.invariant.lines tells ps xs is coming placed)) in
     fails_there R.bytes left (P.left c.open_next.new.self) k q ps xs room new c.read_open.new.steps a (c.in-Memory.ensures.opens tells a.still.pieces a.still.left_is)
 
+pub returns-in-NoMore-clause-reads : goal.returns-in-NoMore-clause-reads
+returns-in-NoMore-clause-reads g c tells ps read has =
+    let R = g.R.ReadAt in
+    let P = g.P.Pieces in
+    let e = c.in-End.ensures in
+    let o = c.in-NoMore.ensures in
+    let s = c.pieces.self in
+    let new = c.read_open.new.self in
+    let k = P.count c.pieces.pieces in
+    let now = P.count c.open_next.new.self in
+    let none : new.piece ≡ None = e.closed refl in
+    let on = c.pieces.invariant.reads tells ps read has in
+    let over = reads_then R.bytes P.opened g.met.P.Pieces.opened_on c.args.pieces.now c.pieces.pieces c.open_next.new.self ps [] k now s new read read o.leads on
+    (λ h. let Q : List NamedBytes → Type 0 = λ l. HasRead R.bytes new now l read in
+    subst Q (sym (append-nil (ps ++ on.more))) (read_same R.bytes (record s { piece = new.piece }) new k now (ps ++ on.more) read e.same (sym o.count) (read_ended R.bytes s new.piece k (ps ++ on.more) read none (e.reads tells) h))) in
+    pulls_of_tail R.bytes P.opened c.args.pieces.now c.open_next.new.self ps now new c.read_tail.new.self read c.read_tail.new.line.items c.read_tail.result c.read_tail.ensures.same none (omega (arith, o.count, o.none.0 refl)) c.read_tail.ensures.line c.read_tail.ensures.end over
+
+pub returns-in-Err-clause-reads : goal.returns-in-Err-clause-reads
+returns-in-Err-clause-reads g c tells ps read has =
+    let R = g.R.ReadAt in
+    let P = g.P.Pieces in
+    pulls_none R.bytes P.opened c.args.pieces.now c.open_next.new.self ps (P.count c.open_next.new.self) c.read_open.new.self read c.open_at.new.line.items c.in-Err.merged (failure_of c.open_at.result c.in-Err.merged c.in-Err.is c.open_at.ensures.failure)
+
 pub returns-in-NoMore-clause-event : goal.returns-in-NoMore-clause-event
 returns-in-NoMore-clause-event g c t is =
     let new = c.read_open.new.self in
@@ -225,6 +265,7 @@ pieces-init g c =
       ready = c.requires.ready;
       same = (refl, refl, refl);
       lines = λ tells ps xs is coming placed. proceeds_first R.bytes (P.left c.args.pieces.now) (behind c.args.last) c.args.query ps xs c.args.self.now c.args.steps.now is coming placed;
+      reads = λ tells ps read has. reads_first R.bytes P.opened g.met.P.Pieces.none_opened c.args.pieces.now ps (P.count c.args.pieces.now) c.args.self.now read has;
       opens = λ tells ps is. record { passed = []; rest = ps; left_is = is; are = refl };
       since = inr refl;
       faults = omega arith;

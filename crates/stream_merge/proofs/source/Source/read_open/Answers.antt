@@ -1,11 +1,12 @@
-use Rattle.std.proofs.Common.{◌≡◌, Some, refl, sym, ap, ◌∙◌, subst}
+use Rattle.std.proofs.Common.{◌≡◌, ℕ, Some, refl, sym, ap, ◌∙◌, subst}
 use Rattle.std.proofs.lemmas.Option.{same_Some}
 use Rattle.pb_file.specs.declared.walk.Walked.{Walked}
 use Rattle.pb_file.specs.declared.walk.Walked.TheVariants as walked
-use Rattle.pb_file.specs.Walk.{Gives}
-use Rattle.pb_file.specs.Skip.{GoesOnFrom}
+use Rattle.pb_file.specs.Walk.{Front, Gives}
+use Rattle.pb_file.specs.Skip.{HasSkipped, GoesOnFrom}
 use Rattle.stream_merge.specs.declared.source.OpenPiece.{OpenPiece}
 use Rattle.stream_merge.proofs.Pulling.{begun, goes_on, same_len, begun_on, line_read, closed_line, closed_spent, closed_end, closed_fault, closed_damaged, no_line_left, read_bad, gives_now, reads_open, has_risen, open_damaged}
+use Rattle.stream_merge.proofs.SoFar.{none_open, read_of, one_read, end_is_read, next_none, end_of_open}
 use Rattle.stream_merge.proofs.source.Source.read_open.Goals as goal
 
 pub returns-in-Sample-clause-ready : goal.returns-in-Sample-clause-ready
@@ -16,6 +17,9 @@ returns-in-Sample-clause-ready g c t is =
     let e = c.in-Sample.ensures in
     begun_on R.tells R.bytes c.args.self.now.ty p c.next-walked.new.file c.next-walked.new.self c.next-walked.new.line.items c.in-Sample.t b (gives_now p.walk.stop _ b.going e.gives) e.within e.same e.skipped
 
+pub returns-in-Sample-clause-ends : goal.returns-in-Sample-clause-ends
+returns-in-Sample-clause-ends g c is = absurd (none_open c.args.self.now.piece c.in-Some.piece c.in-Some.is is)
+
 pub returns-in-Sample-clause-lines : goal.returns-in-Sample-clause-lines
 returns-in-Sample-clause-lines g c tells xs now =
     let R = g.R.ReadAt in
@@ -24,6 +28,15 @@ returns-in-Sample-clause-lines g c tells xs now =
     let b = begun R.tells R.bytes ty c.args.self.now.piece p c.in-Some.is c.requires.ready in
     let e = c.in-Sample.ensures in
     line_read R.bytes p c.next-walked.new.file c.next-walked.new.self c.next-walked.new.line.items c.in-Sample.t xs (goes_on R.bytes c.args.self.now.piece p xs c.in-Some.is now) (same_len p.walk c.next-walked.new.self c.next-walked.new.line.items (walked.Sample c.in-Sample.t) (gives_now p.walk.stop _ b.going e.gives)) (b.bytes_are tells) (e.same tells) (e.skipped tells)
+
+pub returns-in-Sample-clause-reads : goal.returns-in-Sample-clause-reads
+returns-in-Sample-clause-reads g c tells read now =
+    let R = g.R.ReadAt in
+    let p = c.in-Some.piece in
+    let ty = c.args.self.now.ty in
+    let b = begun R.tells R.bytes ty c.args.self.now.piece p c.in-Some.is c.requires.ready in
+    let e = c.in-Sample.ensures in
+    one_read R.bytes ty p c.next-walked.new.file c.next-walked.new.self c.next-walked.new.line.items c.in-Sample.t read (same_len p.walk c.next-walked.new.self c.next-walked.new.line.items (walked.Sample c.in-Sample.t) (gives_now p.walk.stop _ b.going e.gives)) (e.same tells) (e.skipped tells) (read_of R.bytes ty c.args.self.now.piece p read c.in-Some.is now)
 
 pub returns : goal.returns
 returns g c =
@@ -42,12 +55,17 @@ returns g c =
     record {
       ready = λ t is. absurd (closed_line q w r t c.close.ensures is);
       closed = λ is. c.take.ensures.after;
+      ends = λ is. absurd (none_open o p c.in-Some.is is);
       same = refl;
       lines = λ tells xs now. reads_open R.bytes c.take.new.self xs line r (λ t is. closed_line q w r t c.close.ensures is)
           (λ is.
           let at = goes_on R.bytes o p xs c.in-Some.is now in
           let W : Walked → Type 0 = λ k. GoesOnFrom at.at at.front (R.bytes p.reader) line k c.next-walked.new.self in
           no_line_left R.bytes p c.next-walked.new.self line xs at (same_len p.walk c.next-walked.new.self line w gives) (subst W (closed_end q w r c.close.ensures is) (e.skipped tells at.at at.front at.skipped)));
+      reads = λ tells read now. next_none R.bytes ty o c.take.new.self read line r (λ t is. closed_line q w r t c.close.ensures is)
+          (λ is.
+          let W : Walked → Type 0 = λ k. (at : ℕ) (front : Front) → HasSkipped p.walk (R.bytes p.reader) at front → GoesOnFrom at front (R.bytes p.reader) line k c.next-walked.new.self in
+          end_of_open R.bytes ty o p read c.in-Some.is (end_is_read R.bytes ty p c.next-walked.new.self line read (same_len p.walk c.next-walked.new.self line w gives) (subst W (closed_end q w r c.close.ensures is) (e.skipped tells)) (read_of R.bytes ty o p read c.in-Some.is now)));
       event = λ t is. absurd (closed_line q w r t c.close.ensures is);
       stays = λ tells t is. absurd (closed_line q w r t c.close.ensures is);
       damaged = λ tells name at is.
