@@ -9,3 +9,4 @@ mod Giving
 pub mod Went
 mod Later
 mod Answered
+pub mod Holding

@@ -1,5 +1,5 @@
 -- What a merge has yet to give.
-use Rattle.std.specs.Prelude.{◌≡◌, ℕ, ◌+◌, ◌<◌, ◌≤◌, Bool, List, [], ◌∷◌, ◌++◌, Option, None, Some}
+use Rattle.std.specs.Prelude.{◌≡◌, ℕ, ◌+◌, ◌<◌, ◌≤◌, Bool, IsTrue, List, [], ◌∷◌, ◌++◌, length, Option, None, Some}
 use Rattle.series_model.specs.declared.sample.Sample.{Sample}
 use Rattle.series_model.specs.Series.{taken_from}
 use Rattle.series_model.specs.Retrieval.{answer}
@@ -10,7 +10,7 @@ use Rattle.stream_merge.specs.declared.pieces.Merged.TheVariants.{Line, End}
 use Rattle.stream_merge.specs.declared.merge.Merge.{Merge}
 use Rattle.stream_merge.specs.Pieces.{NamedBytes}
 use Rattle.stream_merge.specs.Reading.{IsSampleOf, AreSamplesOf}
-use Rattle.stream_merge.specs.Source.{IsReady, Coming, unread}
+use Rattle.stream_merge.specs.Source.{IsReady, Coming, HoldsIn, passed, unread}
 use Rattle.stream_merge.specs.Beginning.{IsPlaced}
 
 -- a sample that is kept, if one is
@@ -80,3 +80,26 @@ Answers {R} bytes left m xs line _ = Unit {0}
 abbrev pub Gives : {R : Type 0} → ℕ → Option ℕ → ℕ → Option ℕ → Merged R → Type 0
 Gives {R} to (Some before) t kept r = (kept ≡ Some t) × (r ≡ Line before)
 Gives {R} to None t kept r = (kept ≡ None) × (t ≤ to → r ≡ Line t) × (to < t → r ≡ End)
+
+-- IN MEMORY
+
+-- nothing is kept, and the next sample is in memory, which stands in the interval
+pub record HoldsNext {R : Type 0} (m : Merge R) (t : ℕ) (line : List ℕ) : Type 0 where
+  pub none_kept : m.kept ≡ None
+  pub held : HoldsIn m.source.piece t line
+  pub later : behind m.last ≤ t
+  pub from : m.query.from ≤ t
+  pub to : t ≤ m.query.to
+
+-- so it is, and the line has this length
+abbrev pub HoldsNextLong : {R : Type 0} → Merge R → ℕ → ℕ → Type 0
+HoldsNextLong {R} m t len = (line : List ℕ) × HoldsNext m t line × (len ≡ length line)
+
+-- The sample was the next one of the answer. The merge goes on behind it, over the same pieces.
+pub record GoesBehind {R : Type 0} (tells : Bool) (bytes : R → List ℕ) (old : Merge R) (t : ℕ) (line : List ℕ) (new : Merge R) : Type 0 where
+  pub going : IsGoing tells bytes new
+  pub same : new ≡ record old { last = Some t; source = record old.source { piece = passed old.source.piece t (length line) } }
+  pub event : IsSampleOf old.source.ty (record { t = t; line = line })
+  pub later : (line_from old ≤ t) × (t < line_from new)
+  pub gives : IsTrue tells → (left : List NamedBytes) (xs : List Sample) → Rest bytes old left xs → (rest : List Sample) × (xs ≡ record { t = t; line = line } ∷ rest) × Rest bytes new left rest
+  pub smaller : (count : ℕ) → remaining count new < remaining count old

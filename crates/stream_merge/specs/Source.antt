@@ -11,7 +11,7 @@ use Rattle.payload_info.specs.declared.info.PayloadInfo.{PayloadInfo}
 use Rattle.pb_file.specs.declared.walk.Walked.{Walked}
 use Rattle.pb_file.specs.declared.walk.Walked.TheVariants as walked
 use Rattle.pb_lines.specs.File.{IsFile}
-use Rattle.pb_file.specs.Walk.{Walk, Front}
+use Rattle.pb_file.specs.Walk.{Walk, Front, HoldsSample}
 use Rattle.pb_file.specs.Search.{IsLineStart}
 use Rattle.pb_file.specs.Skip.{HasSkipped, from_place}
 use Rattle.stream_merge.specs.declared.pieces.Merged.{Merged}
@@ -71,6 +71,16 @@ abbrev pub ReadsOpen : {R : Type 0} → (R → List ℕ) → Option (OpenPiece R
 ReadsOpen {R} bytes piece xs line (Line t) = (rest : List Sample) × (xs ≡ record { t = t; line = line } ∷ rest) × IsOpenAs bytes piece rest
 ReadsOpen {R} bytes piece xs line End = xs ≡ []
 ReadsOpen {R} bytes piece xs line _ = Unit {0}
+
+-- the walk of the open piece has this sample in memory, which comes next
+abbrev pub HoldsIn : {R : Type 0} → Option (OpenPiece R) → ℕ → List ℕ → Type 0
+HoldsIn {R} None t line = ⊥
+HoldsIn {R} (Some p) t line = HoldsSample p.walk t line
+
+-- the open piece, whose walk went on behind a sample at this moment, of a line of this length
+abbrev pub passed : {R : Type 0} → Option (OpenPiece R) → ℕ → ℕ → Option (OpenPiece R)
+passed {R} None t len = None
+passed {R} (Some p) t len = Some (record p { walk = record p.walk { place = p.walk.place + len + 1; earliest = t + 1 } })
 
 -- ALL THAT IS TO COME
 

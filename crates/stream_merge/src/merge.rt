@@ -1,5 +1,5 @@
 //! The merge of pieces and a tail.
-ghost use Rattle.std.specs.Prelude.{◌≡◌, ◌≤◌, ◌<◌, ◌+◌, ◌↔◌, ◌∷◌, ◌++◌, [], ℕ, List, Option, Some, None, IsSome, IsTrue};
+ghost use Rattle.std.specs.Prelude.{◌≡◌, ◌≤◌, ◌<◌, ◌+◌, ◌↔◌, ◌∷◌, ◌++◌, [], ℕ, List, Option, Some, None, IfSome, IsSome, IsTrue, length};
 ghost use Rattle.disk_model.specs.Files.{Name, Rose};
 ghost use Rattle.series_model.specs.declared.sample.Sample.{Sample as SampleValue};
 ghost use Rattle.series_model.specs.Series.{IsRising};
@@ -10,7 +10,7 @@ ghost use Rattle.pb_file.specs.Walk.{behind};
 ghost use Rattle.stream_merge.specs.Over.{over_all};
 ghost use Rattle.stream_merge.specs.Source.{open_pieces, HasFailed, OpensOn, IsGiven, Went, TakesFew};
 ghost use Rattle.stream_merge.specs.Reads.{GivesNext, HasGiven};
-ghost use Rattle.stream_merge.specs.Merging.{IsGoing, IsDue, IsEarly, Rest, Answers, Gives, kept_of, line_from, remaining};
+ghost use Rattle.stream_merge.specs.Merging.{IsGoing, IsDue, IsEarly, Rest, HoldsNext, HoldsNextLong, GoesBehind, Answers, Gives, kept_of, line_from, remaining};
 
 use crate::pieces::{Merged, Pieces};
 use crate::source::Source;
@@ -100,6 +100,44 @@ impl<R: ReadAt> Merge<R> {
                 return self.give(t, line);
             }
             self.keep(t, line);
+        }
+    }
+
+    /// The next line of the answer and its moment, where both are in memory and nothing is held back. `pass` goes on behind it.
+    ///
+    /// `work` is scratch space: what it held is lost.
+    #[inline(always)]
+    pub fn held<'a>(&'a self, work: &mut Vec<u8>) -> Option<(u64, &'a [u8])>
+        ensures { IfSome result (λ found. HoldsNext self.now found.0 found.1.now) }
+    {
+        if self.kept.is_some() {
+            return None;
+        }
+        self.source.held(self.next_from()?, self.query.to, work)
+    }
+
+    /// Goes on behind the line that `held` gives, which has `len` bytes: `next` would have given it.
+    #[inline(always)]
+    pub fn pass<L: Ledger>(&mut self, t: u64, len: usize, steps: &mut Steps<L>)
+        requires going { IsGoing R.tells R.bytes self.old }
+        requires next { HoldsNextLong self.old t len }
+        ensures behind { (line : List ℕ) → HoldsNext self.old t line → len ≡ length line → GoesBehind R.tells R.bytes self.old t line self.new }
+        ensures reads { IsTrue R.tells → (line : List ℕ) → HoldsNext self.old t line → len ≡ length line → (left : ℕ) (ps : List NamedBytes) (given : List SampleValue) → HasGiven R.bytes self.old left ps given
+            → HasGiven R.bytes self.new left ps (given ++ record { t = t; line = line } ∷ []) }
+        ensures step { steps.new ≡ steps.old + 1 }
+    {
+        self.source.pass(t, len, steps);
+        self.last = Some(t);
+    }
+
+    // The first moment of the interval that is later than the last sample that was taken.
+    #[inline(always)]
+    fn next_from(&self) -> Option<u64>
+        ensures { IfSome result (λ n. (behind self.now.last ≤ n) × (self.now.query.from ≤ n)) }
+    {
+        match self.last {
+            Some(last) if last >= self.query.from => last.checked_add(1),
+            _ => Some(self.query.from),
         }
     }
 

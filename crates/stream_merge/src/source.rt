@@ -1,12 +1,12 @@
 //! The samples of pieces and of a tail, one after another.
-ghost use Rattle.std.specs.Prelude.{◌≡◌, ◌≢◌, ◌≤◌, ◌<◌, ◌+◌, ◌*◌, ◌^◌, ◌↔◌, ◌⊎◌, ◌∷◌, ◌++◌, [], ℕ, List, Option, Some, None, IsSome, IsTrue, IfOk, IfErr, Err, length, take, drop};
+ghost use Rattle.std.specs.Prelude.{◌≡◌, ◌≢◌, ◌≤◌, ◌<◌, ◌+◌, ◌*◌, ◌^◌, ◌↔◌, ◌⊎◌, ◌∷◌, ◌++◌, [], ℕ, List, Option, Some, None, IfSome, IsSome, IsTrue, IfOk, IfErr, Err, length, take, drop};
 ghost use Rattle.disk_model.specs.Files.{Name, Rose};
 ghost use Rattle.series_model.specs.declared.sample.Sample.{Sample as SampleValue};
 ghost use Rattle.payload_info.specs.declared.info.PayloadInfo.{PayloadInfo as Info};
 ghost use Rattle.stream_merge.specs.declared.pieces.Merged.TheVariants as merged;
 ghost use Rattle.stream_merge.specs.Pieces.{NamedBytes};
 ghost use Rattle.stream_merge.specs.Reading.{IsSampleOf, AreSamplesOf, IsBadFor, IsReadAs, IsDamaged};
-ghost use Rattle.stream_merge.specs.Source.{IsReady, IsOpenAs, open_pieces, HasFailed, HasFailedNow, HasRisen, Grew, Coming, ReadsOpen, Pulls, OpensOn, Went, unread, unread_in, IsStop, ClosesAs, IsFailure, IsGiven, IsOfTail};
+ghost use Rattle.stream_merge.specs.Source.{IsReady, IsOpenAs, open_pieces, HasFailed, HasFailedNow, HasRisen, Grew, Coming, ReadsOpen, Pulls, OpensOn, Went, unread, unread_in, IsStop, ClosesAs, IsFailure, IsGiven, IsOfTail, HoldsIn, passed};
 ghost use Rattle.stream_merge.specs.Source.{BeginsAs};
 ghost use Rattle.stream_merge.specs.Beginning.{early_count, IsPlaced, IsAtLine, TellsAs};
 ghost use Rattle.stream_merge.specs.Reads.{HasRead, HasReadOpen, PullsNext, ReadsNext};
@@ -105,6 +105,36 @@ impl<R: ReadAt> Source<R> {
                 Opened::Spent => return Merged::Spent,
                 Opened::Memory => return Merged::Memory,
             }
+        }
+    }
+
+    // The next sample of the open piece and its line, where they are in memory and the moment is from `from` to `to`.
+    #[inline(always)]
+    pub(crate) fn held<'a>(
+        &'a self,
+        from: u64,
+        to: u64,
+        work: &mut Vec<u8>,
+    ) -> Option<(u64, &'a [u8])>
+        ensures held { IfSome result (λ found. HoldsIn self.now.piece found.0 found.1.now) }
+        ensures within { IfSome result (λ found. (from ≤ found.0) × (found.0 ≤ to)) }
+    {
+        match &self.piece {
+            Some(piece) => piece.walk.held(from, to, work),
+            None => None,
+        }
+    }
+
+    // Goes on behind that sample, whose line has `len` bytes.
+    #[inline(always)]
+    pub(crate) fn pass<L: Ledger>(&mut self, t: u64, len: usize, steps: &mut Steps<L>)
+        requires { (line : List ℕ) × HoldsIn self.old.piece t line × (len ≡ length line) }
+        ensures passed { self.new ≡ record self.old { piece = passed self.old.piece t len } }
+        ensures step { steps.new ≡ steps.old + 1 }
+    {
+        match &mut self.piece {
+            Some(piece) => piece.walk.pass(t, len, steps),
+            None => {}
         }
     }
 
