@@ -1,12 +1,12 @@
 -- What a flush makes of the files of a row: they stay, or the last of them goes on, and others stand behind them.
 use Rattle.std.proofs.Common.{◌≡◌, ◌⊎◌, inl, inr, ℕ, zero, suc, ◌<◌, ◌≤◌, Bool, true, false, cond, List, [], ◌∷◌, ◌++◌, length, get_or, refl, sym, ◌∙◌, ap, subst, arith, append-nil, append_assoc, Some}
-use Rattle.std.specs.Prelude.{nat_eq, nat_lt, All, Contains, IsTrue}
+use Rattle.std.specs.Prelude.{nat_eq, All, Contains, IsTrue}
 use Rattle.std.specs.List.{AllByRecursion}
 use Rattle.std.proofs.lemmas.Bool.{cases_lt}
 use Rattle.std.proofs.lemmas.Bool.Decides.{nat_tests}
 use Rattle.std.proofs.lemmas.List.{append_cancel_left, length-append}
 use Rattle.std.proofs.lemmas.List.Concat.{flat_map-append}
-use Rattle.std.proofs.lemmas.List.Elements.{All-contains, All-filter, All-from_recursion, All-head, All-tail, Contains-append_right, Contains-get_or, filter_passes}
+use Rattle.std.proofs.lemmas.List.Elements.{All-contains, All-filter, All-from_recursion, Contains-append_right, Contains-get_or, filter_passes}
 use Rattle.partition_names.specs.declared.granularity.Granularity.{Granularity}
 use Rattle.partition_names.proofs.PartLemmas.{one_part, within}
 use Rattle.pb_lines.specs.File.{lines_of}
@@ -15,124 +15,17 @@ use Rattle.pv_catalog.specs.declared.row.Row.{Row}
 use Rattle.series_model.specs.Series.{RisesFrom}
 use Rattle.series_model.specs.declared.sample.Sample.{Sample}
 use Rattle.series_model.proofs.RisingLists.{RisesFrom-front}
-use Rattle.store_manifest.specs.Entries.{Place, comes_before, put}
+use Rattle.store_manifest.specs.Entries.{Place}
 use Rattle.durable_write.specs.Flush.{EndsRow, PlacesRise, file_at, put_all}
 use Rattle.durable_write.specs.Held.{Filed, IsFiled, IsListed, filed_at, samples_of}
 use Rattle.durable_write.specs.Plan.{of_row}
 use Rattle.durable_write.specs.Revival.{AreUnlisted}
-use Rattle.durable_write.proofs.Listed.{all_put, found, rise_filter, rise_put_all}
-use Rattle.durable_write.proofs.PutFile.{later, put_other, put_own, sooner}
+use Rattle.durable_write.proofs.Listed.{found, rise_filter, rise_put_all}
+use Rattle.durable_write.proofs.PutFile.{later, sooner}
 use Rattle.durable_write.proofs.Revival.{listed_stays, one_of_place}
 use Rattle.durable_write.proofs.Steps.{of_files}
+use Rattle.tier_store.proofs.Revived.{row_within, row_put_all, split, cut}
 use Rattle.archive_core.specs.Growing.{FilesGoOn, HasMore}
-
-abbrev Comes : Filed → Filed → Type 0
-Comes f h = IsTrue (comes_before (filed_at f) (filed_at h))
-
--- THE FILES OF A ROW
-
--- those before the first of others
-abbrev cut : List Filed → List Filed → List Filed
-cut [] xs = xs
-cut (f ∷ fs) xs = sooner f.entry.part.start xs
-
-sooner_same : (n : ℕ) (xs : List Filed) → AllByRecursion (λ (k : Filed). k.entry.part.start < n) xs → sooner n xs ≡ xs
-sooner_same n [] all = refl
-sooner_same n (x ∷ xs) all =
-    let lt : x.entry.part.start < n = all.0 in
-    let test : nat_lt x.entry.part.start n ≡ true = grind (arith, nat_tests, lt) in
-    rw test (ap (λ (l : List Filed). x ∷ l) (sooner_same n xs all.1))
-
-later_none : (n : ℕ) (xs : List Filed) → AllByRecursion (λ (k : Filed). k.entry.part.start ≤ n) xs → later n xs ≡ []
-later_none n [] all = refl
-later_none n (x ∷ xs) all =
-    let le : x.entry.part.start ≤ n = all.0 in
-    let test : nat_lt n x.entry.part.start ≡ false = grind (arith, nat_tests, le) in
-    rw test (later_none n xs all.1)
-
--- files that start before n, and another that does, all start before any m behind
-sooner_all : (n m : ℕ) (xs : List Filed) (w : Filed) → w.entry.part.start ≡ n → n < m → AllByRecursion (λ (k : Filed). k.entry.part.start < m) (sooner n xs ++ w ∷ [])
-sooner_all n m [] w start lt = (omega (arith, start, lt), tt)
-sooner_all n m (x ∷ xs) w start lt = by_test (nat_lt x.entry.part.start n) refl (sooner_all n m xs w start lt)
-  where
-    by_test : (b : Bool) → nat_lt x.entry.part.start n ≡ b → AllByRecursion (λ (k : Filed). k.entry.part.start < m) (sooner n xs ++ w ∷ []) → AllByRecursion (λ (k : Filed). k.entry.part.start < m) (cond b (x ∷ sooner n xs) (sooner n xs) ++ w ∷ [])
-    by_test true is rest = (let less : x.entry.part.start < n = grind (arith, nat_tests, is) in omega (arith, less, lt), rest)
-    by_test false is rest = rest
-
--- of the row all start no later than n, where all of the row do
-row_within : (row n : ℕ) (xs : List Filed) → All (λ (k : Filed). k.entry.series ≡ row → k.entry.part.start ≤ n) xs → AllByRecursion (λ (k : Filed). k.entry.part.start ≤ n) (of_row row xs)
-row_within row n [] all = tt
-row_within row n (x ∷ xs) all = by_test (nat_eq x.entry.series row) refl (row_within row n xs (All-tail (λ (k : Filed). k.entry.series ≡ row → k.entry.part.start ≤ n) x xs all))
-  where
-    first : x.entry.series ≡ row → x.entry.part.start ≤ n
-    first = All-head (λ (k : Filed). k.entry.series ≡ row → k.entry.part.start ≤ n) x xs all
-
-    by_test : (b : Bool) → nat_eq x.entry.series row ≡ b → AllByRecursion (λ (k : Filed). k.entry.part.start ≤ n) (of_row row xs) → AllByRecursion (λ (k : Filed). k.entry.part.start ≤ n) (cond b (x ∷ of_row row xs) (of_row row xs))
-    by_test true is rest = (first (grind (arith, nat_tests, is)), rest)
-    by_test false is rest = rest
-
--- files of one row, of which the first is behind w
-cut_behind : (row : ℕ) (w : Filed) (fs xs : List Filed) → w.entry.series ≡ row → All (Comes w) fs → cut (of_row row fs) (sooner w.entry.part.start xs ++ w ∷ []) ≡ sooner w.entry.part.start xs ++ w ∷ []
-cut_behind row w [] xs own before = refl
-cut_behind row w (f ∷ fs) xs own before = by_test (nat_eq f.entry.series row) refl (cut_behind row w fs xs own (All-tail (Comes w) f fs before))
-  where
-    first : Comes w f
-    first = All-head (Comes w) f fs before
-
-    by_test : (b : Bool) → nat_eq f.entry.series row ≡ b → cut (of_row row fs) (sooner w.entry.part.start xs ++ w ∷ []) ≡ sooner w.entry.part.start xs ++ w ∷ [] → cut (cond b (f ∷ of_row row fs) (of_row row fs)) (sooner w.entry.part.start xs ++ w ∷ []) ≡ sooner w.entry.part.start xs ++ w ∷ []
-    by_test true is rest =
-        let lt : w.entry.part.start < f.entry.part.start = grind (arith, nat_tests, is, own, first) in
-        sooner_same f.entry.part.start (sooner w.entry.part.start xs ++ w ∷ []) (sooner_all w.entry.part.start f.entry.part.start xs w refl lt)
-    by_test false is rest = rest
-
--- files that end their rows stand behind those before them
-row_put_all : (row : ℕ) (fs xs : List Filed) → PlacesRise fs → All (EndsRow xs) fs → of_row row (put_all xs fs) ≡ cut (of_row row fs) (of_row row xs) ++ of_row row fs
-row_put_all row [] xs rise ends = sym (append-nil (of_row row xs))
-row_put_all row (w ∷ fs) xs rise ends = by_test (nat_eq w.entry.series row) refl (row_put_all row fs (put filed_at w xs) rise.1 ends_then)
-  where
-    ends_then : All (EndsRow (put filed_at w xs)) fs
-    ends_then k d lt =
-        let v : Filed = get_or fs k d in
-        let before : Comes w v = rise.0 k d lt in
-        all_put (λ (k : Filed). k.entry.series ≡ v.entry.series → k.entry.part.start ≤ v.entry.part.start) filed_at w xs (All-tail (EndsRow xs) w fs ends k d lt) (λ same. grind (arith, nat_tests, before, same))
-
-    by_test : (b : Bool) → nat_eq w.entry.series row ≡ b → of_row row (put_all (put filed_at w xs) fs) ≡ cut (of_row row fs) (of_row row (put filed_at w xs)) ++ of_row row fs
-        → of_row row (put_all (put filed_at w xs) fs) ≡ cut (cond b (w ∷ of_row row fs) (of_row row fs)) (of_row row xs) ++ cond b (w ∷ of_row row fs) (of_row row fs)
-    by_test true is rest =
-        let own : w.entry.series ≡ row = grind (arith, nat_tests, is) in
-        let all : All (λ (k : Filed). k.entry.series ≡ row → k.entry.part.start ≤ w.entry.part.start) xs = subst (λ (r : ℕ). All (λ (k : Filed). k.entry.series ≡ r → k.entry.part.start ≤ w.entry.part.start) xs) own (All-head (EndsRow xs) w fs ends) in
-        let now : of_row row (put filed_at w xs) ≡ sooner w.entry.part.start (of_row row xs) ++ w ∷ [] = put_own row w xs own ∙ ap (λ (l : List Filed). sooner w.entry.part.start (of_row row xs) ++ (w ∷ l)) (later_none w.entry.part.start (of_row row xs) (row_within row w.entry.part.start xs all)) in
-        rest
-        ∙ (ap (λ (l : List Filed). cut (of_row row fs) l ++ of_row row fs) now
-        ∙ (ap (λ (l : List Filed). l ++ of_row row fs) (cut_behind row w fs (of_row row xs) own rise.0) ∙ append_assoc (sooner w.entry.part.start (of_row row xs)) (w ∷ []) (of_row row fs)))
-    by_test false is rest = rest ∙ ap (λ (l : List Filed). cut (of_row row fs) l ++ of_row row fs) (put_other row w xs (λ same. absurd (let test : nat_eq w.entry.series row ≡ true = grind (arith, nat_tests, same) in cc (test, is))))
-
--- of rising files of one row that start no later than n, all start before it, or the last alone starts there
-split : (row n : ℕ) (ys : List Filed) → PlacesRise ys → All (λ (k : Filed). nat_eq k.entry.series row ≡ true) ys → AllByRecursion (λ (k : Filed). k.entry.part.start ≤ n) ys
-    → ((sooner n ys ≡ ys) × AllByRecursion (λ (k : Filed). k.entry.part.start < n) ys) ⊎ ((x : Filed) × (x.entry.part.start ≡ n) × Contains ys x × (ys ≡ sooner n ys ++ x ∷ []))
-split row n [] rise own all = inl (refl, tt)
-split row n (y ∷ ys) rise own all = by_test (nat_lt y.entry.part.start n) refl (split row n ys rise.1 (All-tail (λ (k : Filed). nat_eq k.entry.series row ≡ true) y ys own) all.1)
-  where
-    -- nothing stands behind one that starts at n
-    alone : (zs : List Filed) → n ≤ y.entry.part.start → All (Comes y) zs → All (λ (k : Filed). nat_eq k.entry.series row ≡ true) zs → AllByRecursion (λ (k : Filed). k.entry.part.start ≤ n) zs → zs ≡ []
-    alone [] ge before own all = refl
-    alone (z ∷ zs) ge before own_zs all_zs =
-        let first : Comes y z = All-head (Comes y) z zs before in
-        let mine : nat_eq y.entry.series row ≡ true = All-head (λ (k : Filed). nat_eq k.entry.series row ≡ true) y ys own in
-        let its : nat_eq z.entry.series row ≡ true = All-head (λ (k : Filed). nat_eq k.entry.series row ≡ true) z zs own_zs in
-        let lt : y.entry.part.start < z.entry.part.start = grind (arith, nat_tests, first, mine, its) in
-        let le = all_zs.0 in
-        absurd (omega (arith, lt, le, ge))
-
-    by_test : (b : Bool) → nat_lt y.entry.part.start n ≡ b → ((sooner n ys ≡ ys) × AllByRecursion (λ (k : Filed). k.entry.part.start < n) ys) ⊎ ((x : Filed) × (x.entry.part.start ≡ n) × Contains ys x × (ys ≡ sooner n ys ++ x ∷ []))
-        → ((cond b (y ∷ sooner n ys) (sooner n ys) ≡ y ∷ ys) × AllByRecursion (λ (k : Filed). k.entry.part.start < n) (y ∷ ys)) ⊎ ((x : Filed) × (x.entry.part.start ≡ n) × Contains (y ∷ ys) x × (y ∷ ys ≡ cond b (y ∷ sooner n ys) (sooner n ys) ++ x ∷ []))
-    by_test true is (inl rest) = inl (ap (λ (l : List Filed). y ∷ l) rest.0, (grind (arith, nat_tests, is), rest.1))
-    by_test true is (inr (x, start, (k, low, at), are)) = inr (x, start, (suc k, omega (arith, low), at), ap (λ (l : List Filed). y ∷ l) are)
-    by_test false is rest =
-        let ge : n ≤ y.entry.part.start = grind (arith, nat_tests, is) in
-        let le = all.0 in
-        let none : ys ≡ [] = alone ys ge rise.0 (All-tail (λ (k : Filed). nat_eq k.entry.series row ≡ true) y ys own) all.1 in
-        inr (y, omega (arith, ge, le), (0, omega arith, refl), ap (λ (l : List Filed). y ∷ l) none ∙ ap (λ (l : List Filed). sooner n l ++ y ∷ []) (sym none))
 
 -- a file of the row is among the row's files
 passes_in : (row : ℕ) (xs : List Filed) (f : Filed) → nat_eq f.entry.series row ≡ true → Contains xs f → Contains (of_row row xs) f

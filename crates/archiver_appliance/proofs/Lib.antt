@@ -3,7 +3,6 @@ pub mod Answering
 pub mod Chained
 pub mod Checking
 pub mod Completeness
-pub mod Counting
 pub mod Damages
 pub mod Doing
 pub mod DrillReads

@@ -55,7 +55,7 @@ use Rattle.archiver_appliance.specs.Outside.{HasNotFallen, IsCausedBy}
 use Rattle.archiver_appliance.specs.Serving.{ArchiveStep, HasFailedFlush, LeavesArchive, LeavesRoom, ServesFrom, first_of, status_of}
 use Rattle.command_words.specs.declared.command.StoreCommand.TheVariants as command
 use Rattle.archiver_appliance.proofs.Acting.{both_hold, count_given, handed, opens_again, rose_given, tells_headers, unopened_given}
-use Rattle.archiver_appliance.proofs.Counting.{runs_counts, runs_rose}
+use Rattle.link_service.proofs.Counting.{runs_counts, runs_rose}
 
 -- a clock that isn't read gives nothing
 pub gives_nothing : (a : Option Moments) → Gives a a []

@@ -43,7 +43,7 @@ Comes f h = IsTrue (comes_before (filed_at f) (filed_at h))
 -- THE FILES OF A ROW
 
 -- those before the first of others
-abbrev cut : List Filed → List Filed → List Filed
+abbrev pub cut : List Filed → List Filed → List Filed
 cut [] xs = xs
 cut (f ∷ fs) xs = sooner f.entry.part.start xs
 
@@ -71,7 +71,7 @@ sooner_all n m (x ∷ xs) w start lt = by_test (nat_lt x.entry.part.start n) ref
     by_test false is rest = rest
 
 -- of the row all start no later than n, where all of the row do
-row_within : (row n : ℕ) (xs : List Filed) → All (λ (k : Filed). k.entry.series ≡ row → k.entry.part.start ≤ n) xs → AllByRecursion (λ (k : Filed). k.entry.part.start ≤ n) (of_row row xs)
+pub row_within : (row n : ℕ) (xs : List Filed) → All (λ (k : Filed). k.entry.series ≡ row → k.entry.part.start ≤ n) xs → AllByRecursion (λ (k : Filed). k.entry.part.start ≤ n) (of_row row xs)
 row_within row n [] all = tt
 row_within row n (x ∷ xs) all = by_test (nat_eq x.entry.series row) refl (row_within row n xs (All-tail (λ (k : Filed). k.entry.series ≡ row → k.entry.part.start ≤ n) x xs all))
   where
@@ -97,7 +97,7 @@ cut_behind row w (f ∷ fs) xs own before = by_test (nat_eq f.entry.series row) 
     by_test false is rest = rest
 
 -- files that end their rows stand behind those before them
-row_put_all : (row : ℕ) (fs xs : List Filed) → PlacesRise fs → All (EndsRow xs) fs → of_row row (put_all xs fs) ≡ cut (of_row row fs) (of_row row xs) ++ of_row row fs
+pub row_put_all : (row : ℕ) (fs xs : List Filed) → PlacesRise fs → All (EndsRow xs) fs → of_row row (put_all xs fs) ≡ cut (of_row row fs) (of_row row xs) ++ of_row row fs
 row_put_all row [] xs rise ends = sym (append-nil (of_row row xs))
 row_put_all row (w ∷ fs) xs rise ends = by_test (nat_eq w.entry.series row) refl (row_put_all row fs (put filed_at w xs) rise.1 ends_then)
   where
@@ -119,7 +119,7 @@ row_put_all row (w ∷ fs) xs rise ends = by_test (nat_eq w.entry.series row) re
     by_test false is rest = rest ∙ ap (λ (l : List Filed). cut (of_row row fs) l ++ of_row row fs) (put_other row w xs (λ same. absurd (let test : nat_eq w.entry.series row ≡ true = grind (arith, nat_tests, same) in cc (test, is))))
 
 -- of rising files of one row that start no later than n, all start before it, or the last alone starts there
-split : (row n : ℕ) (ys : List Filed) → PlacesRise ys → All (λ (k : Filed). nat_eq k.entry.series row ≡ true) ys → AllByRecursion (λ (k : Filed). k.entry.part.start ≤ n) ys
+pub split : (row n : ℕ) (ys : List Filed) → PlacesRise ys → All (λ (k : Filed). nat_eq k.entry.series row ≡ true) ys → AllByRecursion (λ (k : Filed). k.entry.part.start ≤ n) ys
     → ((sooner n ys ≡ ys) × AllByRecursion (λ (k : Filed). k.entry.part.start < n) ys) ⊎ ((x : Filed) × (x.entry.part.start ≡ n) × Contains ys x × (ys ≡ sooner n ys ++ x ∷ []))
 split row n [] rise own all = inl (refl, tt)
 split row n (y ∷ ys) rise own all = by_test (nat_lt y.entry.part.start n) refl (split row n ys rise.1 (All-tail (λ (k : Filed). nat_eq k.entry.series row ≡ true) y ys own) all.1)
