@@ -1,36 +1,32 @@
 -- A checkpoint: the next generation's file counts once the file that tells the generation tells it.
-use Rattle.std.proofs.Common.{◌≡◌, ◌≢◌, ◌⊎◌, inl, inr, ℕ, ◌+◌, ◌/◌, ◌<◌, ◌^◌, List, [], ◌∷◌, ◌++◌, length, true, Some, sym, ◌∙◌, ap, subst, arith, length-append}
-use Rattle.std.proofs.lemmas.Bool.{cases_eq}
+use Rattle.std.proofs.Common.{◌≡◌, ◌≢◌, ◌⊎◌, inl, inr, ℕ, ◌+◌, ◌/◌, ◌<◌, ◌≤◌, ◌^◌, List, [], ◌∷◌, ◌++◌, length, true, None, Some, Result, Err, OnOk, OnErr, IsErrOf, refl, sym, ◌∙◌, ap, subst, arith, length-append}
+use Rattle.std.proofs.lemmas.Result.{on_ok_weaker, IfErr-at_err}
 use Rattle.std.specs.Int.{to_le_bytes, w64}
-use Rattle.disk_model.specs.Files.{Name, Content, Files}
+use Rattle.disk_model.specs.declared.disk.DiskErr.{DiskErr}
+use Rattle.disk_model.specs.declared.disk.DiskErr.TheVariants.{Fault, Memory}
+use Rattle.disk_model.specs.Files.{Name, Content, Files, HasFile}
 use Rattle.disk_model.specs.Past.{Past, MayLeave, Passes, Only}
-use Rattle.disk_model.proofs.Passing.{passes_then, passes_weaker}
+use Rattle.disk_model.proofs.Passing.{passes_none, passes_then, passes_weaker}
 use Rattle.gate_journal.specs.Batches.{open_gates, framed_bytes, Reads, HasBatches}
+use Rattle.gate_journal.specs.Commits.{Standing, CommitsBatches, GoesOver}
 use Rattle.gate_journal.specs.Journal.{JournalState, state_of, IsThere, IsSettledWith, IsUndecided, Switches, IsLeft, IsTold, OnlyGoesOn, OnlyMakes}
 use Rattle.gate_journal.specs.declared.journal.Pending.{Pending}
-use Rattle.gate_journal.specs.declared.journal.Pending.TheVariants.{Switch}
+use Rattle.gate_journal.specs.declared.journal.Pending.TheVariants.{Nothing, Switch, Removal}
 use Rattle.gate_journal.specs.Generations.{generation_name, IsOwn, AtOwn, HasOneOf, generation_batches}
 use Rattle.gate_journal.specs.Plain.{PlainState, IsSettled, IsInDoubt}
 use Rattle.gate_journal.proofs.Bytes.{one, length-framed_bytes}
 use Rattle.gate_journal.proofs.Elsewhere.{settled_stays}
-use Rattle.gate_journal.proofs.FileNames.{at_apart, one_generation}
+use Rattle.gate_journal.proofs.FileNames.{at_apart, one_generation, is_next}
 use Rattle.gate_journal.proofs.Files.{Anyhow}
 use Rattle.gate_journal.proofs.Holding.{holds_at, settled_seen, same_left, names_apart, at_is_own, current_is_own, not_short, holds_left}
 use Rattle.gate_journal.proofs.Begin.{journal_has}
 use Rattle.gate_journal.proofs.Owned.{own_none, own_first}
+use Rattle.gate_journal.proofs.Removing.{removed, removal_passes}
 use Rattle.gate_journal.proofs.Telling.{next_told, length_told}
 
 -- the place of the gate that isn't open tells the generation
 pub told_by_length : (at : PlainState) (files : Files) (opened : Name → ℕ) (past : Past) (g n : ℕ) → IsSettled at files opened past (generation_batches g) → n ≡ at.place + 1 → n / 13 + 1 ≡ g + 1
 told_by_length at files opened past g n settled is = let place = settled.place in omega (arith, is, place, length_told g)
-
--- a name of the journal's is the next file's or it isn't
-pub is_next : (name n : Name) (g : ℕ) → g < 2 ^ 64 → IsOwn name n → (n ≡ generation_name name g) ⊎ (n ≢ generation_name name g)
-is_next name n g small (inl at) = inr (λ is. at_apart name g small (sym is ∙ at))
-is_next name n g small (inr (h, small_h, is)) = elim (cases_eq h g) [
-  | inl same ↦ inl (is ∙ ap (λ (k : ℕ). generation_name name k) same)
-  | inr other ↦ inr (λ too. other (one_generation name h g small_h small (sym is ∙ too)))
-]
 
 -- a file of one batch
 pub first_settled : (next : PlainState) (files : Files) (opened : Name → ℕ) (past : Past) (batch bytes : List ℕ) → length batch < 2 ^ 32 → bytes ≡ open_gates (batch ∷ []) ++ 0 ∷ [] → next.place ≡ length batch + 5 → files next.name ≡ Some bytes
@@ -82,11 +78,35 @@ module _ (journal : JournalState) (files : Files) (opened : Name → ℕ) (past 
     pub only_makes : (mid : Past) → Passes (Anyhow next) past mid → Passes (OnlyMakes journal.name k) past mid
     only_makes mid passes = passes_weaker (Anyhow next) (OnlyMakes journal.name k) past mid passes (λ a c was step. makes a c step.elsewhere)
 
-  module _ (batch bytes : List ℕ) (short : length batch < 2 ^ 32) (is_file : bytes ≡ open_gates (batch ∷ []) ++ 0 ∷ []) (later : Files) (opened_later : Name → ℕ) (new : Past)
+  module _ (batch bytes : List ℕ) (long : length batch ≤ 1073741824) (is_file : bytes ≡ open_gates (batch ∷ []) ++ 0 ∷ []) (later : Files) (opened_later : Name → ℕ) (new : Past)
       (passes : Passes (Switches journal.at.name next (generation_batches s.generation) (to_le_bytes w64 n) bytes) past new)
-      (current_same : later journal.current.name ≡ files journal.current.name) (others_opened : (m : Name) → m ≢ next → opened_later m ≡ opened m) (next_unopened : opened_later next ≡ 0) where
+      (elsewhere : (m : Name) → m ≢ journal.at.name → m ≢ next → later m ≡ files m) (others_opened : (m : Name) → m ≢ next → opened_later m ≡ opened m) (next_unopened : opened_later next ≡ 0) where
+    short : length batch < 2 ^ 32
+    short = omega (arith, long)
+
     abbrev S : Files → Files → Type 0
     S = Switches journal.at.name next (generation_batches s.generation) (to_le_bytes w64 n) bytes
+
+    current_same : later journal.current.name ≡ files journal.current.name
+    current_same = elsewhere journal.current.name (λ is. names_apart journal files opened past bs s (sym is)) current_not_next
+
+    abbrev was : Standing
+    was = record { files = files; opened = opened; past = past }
+
+    abbrev now : Standing
+    now = record { files = later; opened = opened_later; past = new }
+
+    not_at : (m : Name) → (IsOwn journal.name m → ⊥) → m ≢ journal.at.name
+    not_at m other is = other (subst (IsOwn journal.name) (sym is) (at_is_own journal files opened past bs s))
+
+    not_current : (m : Name) → (IsOwn journal.name m → ⊥) → m ≢ journal.current.name
+    not_current m other is = other (subst (IsOwn journal.name) (sym is) (current_is_own journal files opened past bs s))
+
+    not_the_next : (m : Name) → (IsOwn journal.name m → ⊥) → m ≢ next
+    not_the_next m other is = other (subst (IsOwn journal.name) (sym is) next_is_own)
+
+    pub current_file : HasFile later journal.current.name (λ b. Unit {0})
+    current_file = record { bytes = s.current.bytes; file = current_same ∙ s.current.file; holds = tt }
 
     current_stays : (a c : Files) → S a c → c journal.current.name ≡ a journal.current.name
     current_stays a c step = step.elsewhere journal.current.name (λ is. names_apart journal files opened past bs s (sym is)) current_not_next
@@ -125,17 +145,24 @@ module _ (journal : JournalState) (files : Files) (opened : Name → ℕ) (past 
     pub switch_passes_own : Passes (AtOwn journal.name (HasOneOf journal.name bs (batch ∷ []))) past new
     switch_passes_own =
         own_first journal.name (HasOneOf journal.name bs (batch ∷ [])) S past new passes here_after
-        (λ b c step m other. step.elsewhere m (λ is. other (subst (IsOwn journal.name) (sym is) (at_is_own journal files opened past bs s))) (λ is. other (subst (IsOwn journal.name) (sym is) next_is_own)))
+        (λ b c step m other. step.elsewhere m (not_at m other) (not_the_next m other))
 
     -- at Memory it is as it was
-    pub left_settled : (at : PlainState) (after : JournalState) → after ≡ journal → IsLeft journal.at at later opened_later new (generation_batches s.generation) → IsSettledWith after later opened_later new bs
-    left_settled at after same left = subst (λ (j : JournalState). IsSettledWith j later opened_later new bs) (sym same) (record {
-      generation = s.generation;
-      named = record { small = s.named.small; at = s.named.at; current = s.named.current; unopened = all_unopened };
-      at = subst (λ (j : PlainState). IsSettled j later opened_later new (generation_batches s.generation)) left.same left.settled;
-      current = current_settled;
-      there = current_there;
-    })
+    pub left_commits : (at : PlainState) (after : JournalState) → after ≡ journal → IsLeft journal.at at later opened_later new (generation_batches s.generation) → CommitsBatches bs (batch ∷ []) (Err Memory) journal after was now
+    left_commits at after same left = record {
+      made = tt;
+      doubt = λ failed. absurd (cc failed);
+      unchanged = λ failed. subst (λ (j : JournalState). IsSettledWith j later opened_later new bs) (sym same) (record {
+        generation = s.generation;
+        named = record { small = s.named.small; at = s.named.at; current = s.named.current; unopened = all_unopened };
+        at = subst (λ (j : PlainState). IsSettled j later opened_later new (generation_batches s.generation)) left.same left.settled;
+        current = current_settled;
+        there = current_there;
+      });
+      any_moment = switch_passes_own;
+      elsewhere = λ m other. elsewhere m (not_at m other) (not_the_next m other);
+      opened = λ m other. others_opened m (not_the_next m other);
+    }
 
     module _ (at first : PlainState) (at_same_name : at.name ≡ journal.at.name) (first_name : first.name ≡ next) (first_place : first.place ≡ length batch + 5) where
       pub next_settled : later next ≡ Some bytes → Only new next (Some bytes) → IsSettled first later opened_later new (batch ∷ [])
@@ -154,7 +181,7 @@ module _ (journal : JournalState) (files : Files) (opened : Name → ℕ) (past 
       }
 
       -- it isn't known which it tells
-      pub switch_open : IsLeft journal.at at later opened_later new (generation_batches s.generation) ⊎ IsTold at next later opened_later new (generation_batches s.generation) (to_le_bytes w64 n) bytes
+      switch_open : IsLeft journal.at at later opened_later new (generation_batches s.generation) ⊎ IsTold at next later opened_later new (generation_batches s.generation) (to_le_bytes w64 n) bytes
           → journal.at.sound ≡ true → IsUndecided (state_of journal.name at journal.current (Switch first)) later opened_later new bs (batch ∷ [])
       switch_open failed was_sound = record {
         generation = s.generation;
@@ -174,6 +201,88 @@ module _ (journal : JournalState) (files : Files) (opened : Name → ℕ) (past 
         ];
       }
 
--- nothing is written
-pub settled_none : (journal : JournalState) (files : Files) (opened : Name → ℕ) (past : Past) (bs cs : List (List ℕ)) → IsSettledWith journal files opened past bs → Passes (AtOwn journal.name (HasOneOf journal.name bs cs)) past past
-settled_none journal files opened past bs cs s = own_none journal.name (HasOneOf journal.name bs cs) past (λ a was. inl (holds_left journal files opened past bs s a was))
+      pub open_commits : IsLeft journal.at at later opened_later new (generation_batches s.generation) ⊎ IsTold at next later opened_later new (generation_batches s.generation) (to_le_bytes w64 n) bytes
+          → journal.at.sound ≡ true → CommitsBatches bs (batch ∷ []) (Err Fault) journal (state_of journal.name at journal.current (Switch first)) was now
+      open_commits failed was_sound = record {
+        made = tt;
+        doubt = λ fault. switch_open failed was_sound;
+        unchanged = λ failed. absurd (cc failed);
+        any_moment = switch_passes_own;
+        elsewhere = λ m other. elsewhere m (not_at m other) (not_the_next m other);
+        opened = λ m other. others_opened m (not_the_next m other);
+      }
+
+      -- and then the old file is removed
+      module _ (told : IsSettled at later opened_later new (generation_batches s.generation ++ to_le_bytes w64 n ∷ [])) (made : later next ≡ Some bytes) (durable : Only new next (Some bytes))
+          (last : Files) (opened_last : Name → ℕ) (end : Past) (removal : Passes (Anyhow journal.current.name) new end) (only_it : (m : Name) → m ≢ journal.current.name → last m ≡ later m)
+          (only_opened : (m : Name) → m ≢ journal.current.name → opened_last m ≡ opened_later m) (none_opened : opened_last journal.current.name ≡ 0) where
+        abbrev over : Pending → JournalState
+        over pending = state_of journal.name at first pending
+
+        abbrev behind : (pending : Pending) → IsSettledWith (over pending) last opened_last end (batch ∷ [])
+        behind pending = removed (over pending) later opened_later new (batch ∷ []) (gone_over pending told made durable) s.generation (sym counted) journal.current.name s.named.current last opened_last end removal only_it only_opened none_opened
+
+        pub gone_commits : (result : Result (Unit {0}) DiskErr) (after : JournalState) → OnOk result (after ≡ over Nothing) → OnErr result (after ≡ over (Removal journal.current)) → (IsErrOf result Memory → ⊥)
+            → CommitsBatches bs (batch ∷ []) result journal after was (record { files = last; opened = opened_last; past = end })
+        gone_commits result after is_over is_left no_memory = record {
+          made = on_ok_weaker result (λ is. subst (λ (j : JournalState). IsSettledWith j last opened_last end (batch ∷ [])) (sym is) (behind Nothing)) is_over;
+          doubt = λ failed.
+              subst (λ (j : JournalState). IsUndecided j last opened_last end bs (batch ∷ [])) (sym (IfErr-at_err (λ (e : DiskErr). after ≡ over (Removal journal.current)) failed is_left))
+              (record { settled = behind (Removal journal.current); generation = s.generation; before = sym counted; named = s.named.current });
+          unchanged = λ failed. absurd (no_memory failed);
+          any_moment =
+              removal_passes (over Nothing) later opened_later new (batch ∷ []) (gone_over Nothing told made durable) s.generation (sym counted) journal.current.name s.named.current (HasOneOf journal.name bs (batch ∷ [])) past end switch_passes_own removal
+              (λ a b d so_far was has. inr has);
+          elsewhere = λ m other. only_it m (not_current m other) ∙ elsewhere m (not_at m other) (not_the_next m other);
+          opened = λ m other. only_opened m (not_current m other) ∙ others_opened m (not_the_next m other);
+        }
+
+        pub gone_over_goes : (k : ℕ) (small_k : k < 2 ^ 64) (current : journal.current.name ≡ generation_name journal.name k) (result : Result (Unit {0}) DiskErr) (after : JournalState) → OnOk result (after ≡ over Nothing) → (IsErrOf result Memory → ⊥)
+            → OnOk result ((last journal.current.name ≡ None) × Only end journal.current.name None) → GoesOver k result journal after was (record { files = last; opened = opened_last; past = end })
+        gone_over_goes k small_k current result after is_over no_memory gone = record {
+          next = on_ok_weaker result (λ is. ap (λ (j : JournalState). j.current.name) is ∙ first_name ∙ next_behind k small_k current) is_over;
+          gone = gone;
+          files = goes_on k small_k current files last (λ m other_at other_current other_next. only_it m other_current ∙ elsewhere m other_at other_next);
+          any_moment = removal_goes_on k small_k current new end (switch_goes_on k small_k current (generation_batches s.generation) (to_le_bytes w64 n) bytes new passes) removal;
+          untold = λ failed. absurd (no_memory failed);
+        }
+
+    -- of the files by their generations
+    pub left_goes : (k : ℕ) (small_k : k < 2 ^ 64) (current : journal.current.name ≡ generation_name journal.name k) (after : JournalState) → ((m : Name) → m ≢ next → later m ≡ files m) → Passes (Anyhow next) past new → GoesOver k (Err Memory) journal after was now
+    left_goes k small_k current after same made = record {
+      next = tt;
+      gone = tt;
+      files = goes_on k small_k current files later (λ m other_at other_current other_next. elsewhere m other_at other_next);
+      any_moment = switch_goes_on k small_k current (generation_batches s.generation) (to_le_bytes w64 n) bytes new passes;
+      untold = λ failed. (makes k small_k current files later same, only_makes k small_k current new made);
+    }
+
+    pub open_goes : (k : ℕ) (small_k : k < 2 ^ 64) (current : journal.current.name ≡ generation_name journal.name k) (after : JournalState) → GoesOver k (Err Fault) journal after was now
+    open_goes k small_k current after = record {
+      next = tt;
+      gone = tt;
+      files = goes_on k small_k current files later (λ m other_at other_current other_next. elsewhere m other_at other_next);
+      any_moment = switch_goes_on k small_k current (generation_batches s.generation) (to_le_bytes w64 n) bytes new passes;
+      untold = λ failed. absurd (cc failed);
+    }
+
+-- NOTHING IS WRITTEN
+
+pub nothing_commits : (journal : JournalState) (at : Standing) (bs cs : List (List ℕ)) (result : Result (Unit {0}) DiskErr) → IsErrOf result Memory → IsSettledWith journal at.files at.opened at.past bs → CommitsBatches bs cs result journal journal at at
+nothing_commits journal at bs cs result failed s = rw failed (record {
+  made = tt;
+  doubt = λ fault. absurd (cc fault);
+  unchanged = λ memory. s;
+  any_moment = own_none journal.name (HasOneOf journal.name bs cs) at.past (λ a was. inl (holds_left journal at.files at.opened at.past bs s a was));
+  elsewhere = λ n other. refl;
+  opened = λ n other. refl;
+})
+
+pub nothing_goes : (k : ℕ) (journal : JournalState) (at : Standing) (result : Result (Unit {0}) DiskErr) → IsErrOf result Memory → GoesOver k result journal journal at at
+nothing_goes k journal at result failed = rw failed (record {
+  next = tt;
+  gone = tt;
+  files = λ m other_at other_current other_next. refl;
+  any_moment = passes_none (OnlyGoesOn journal.name k) at.past (λ a was m other_at other_current other_next. refl);
+  untold = λ memory. (λ m other. refl, passes_none (OnlyMakes journal.name k) at.past (λ a was m other. refl));
+})

@@ -102,3 +102,9 @@ module _ (journal : JournalState) (files : Files) (opened : Name → ℕ) (past 
           there_left = left;
         } in
         subst (λ (p : Pending). IsOpen p after later opened_later new bs (bs ++ batch ∷ [])) (sym nothing) is
+
+-- a call that did nothing
+pub settled_same : {D : Type 0} (files : D → Files) (opened : D → Name → ℕ) (past : D → Past) (old new : D) (journal after : JournalState) (bs : List (List ℕ)) → after ≡ journal → new ≡ old
+    → IsSettledWith journal (files old) (opened old) (past old) bs → IsSettledWith after (files new) (opened new) (past new) bs
+settled_same {D} files opened past old new journal after bs same_state same settled =
+    subst (λ (d : D). IsSettledWith after (files d) (opened d) (past d) bs) (sym same) (subst (λ (j : JournalState). IsSettledWith j (files old) (opened old) (past old) bs) (sym same_state) settled)

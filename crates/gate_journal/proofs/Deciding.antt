@@ -1,18 +1,23 @@
 -- What a crash may leave of a journal in doubt, and what a review finds.
-use Rattle.std.proofs.Common.{◌≡◌, ◌⊎◌, inl, inr, ℕ, ◌+◌, List, [], ◌∷◌, ◌++◌, true, false, refl, sym, ◌∙◌, ap, subst, arith}
+use Rattle.std.proofs.Common.{◌≡◌, ◌≢◌, ◌⊎◌, inl, inr, ℕ, ◌+◌, List, [], ◌∷◌, ◌++◌, Bool, IsTrue, true, false, Result, Ok, Err, IfOk, OnErr, refl, sym, ◌∙◌, ap, subst, arith}
+use Rattle.std.proofs.lemmas.Result.{on_err_weaker}
 use Rattle.std.specs.Int.{to_le_bytes, w64}
+use Rattle.disk_model.specs.declared.disk.DiskErr.{DiskErr}
 use Rattle.disk_model.specs.Files.{Name, Files}
 use Rattle.disk_model.specs.Past.{Past, MayLeave, Passes}
 use Rattle.gate_journal.specs.Batches.{HasBatches, IsShort}
+use Rattle.gate_journal.specs.Commits.{Standing, Reviews}
 use Rattle.gate_journal.specs.Journal.{JournalState, state_of, IsThere, IsSettledWith, IsUncommitted, IsHalfSwitched, IsSwitching, IsRemoving, IsOpen, IsUndecided}
 use Rattle.gate_journal.specs.declared.journal.Pending.{Pending}
 use Rattle.gate_journal.specs.declared.journal.Pending.TheVariants.{Nothing, Switch, Removal}
 use Rattle.gate_journal.specs.Generations.{IsOwn, AtOwn, HasOneOf, HasBatchesOf, generation_batches}
 use Rattle.gate_journal.specs.Plain.{PlainState, IsSettled, IsInDoubt}
 use Rattle.gate_journal.proofs.Elsewhere.{settled_stays, journal_left}
-use Rattle.gate_journal.proofs.Holding.{holds_at, same_left, holds_left}
+use Rattle.gate_journal.proofs.Files.{Anyhow}
+use Rattle.gate_journal.proofs.Holding.{holds_at, same_left, holds_left, settled_as}
 use Rattle.gate_journal.proofs.Begin.{journal_has}
 use Rattle.gate_journal.proofs.Owned.{own_none, own_first, leaves_all, left_now}
+use Rattle.gate_journal.proofs.Removing.{removed, removal_passes, old_is_own}
 use Rattle.gate_journal.proofs.Telling.{next_told}
 
 abbrev Same : Files → Files → Type 0
@@ -24,7 +29,14 @@ stays_same n a c same = ap (λ (f : Files). f n) same
 pub open_as : (pending other : Pending) (journal : JournalState) (files : Files) (opened : Name → ℕ) (past : Past) (before after : List (List ℕ)) → pending ≡ other → IsOpen pending journal files opened past before after → IsOpen other journal files opened past before after
 open_as pending other journal files opened past before after is = subst (λ (p : Pending). IsOpen p journal files opened past before after) is
 
+if_ok : {T E : Type 0} {P Q : T → Type 0} (r : Result T E) → ((x : T) → P x → Q x) → IfOk r P → IfOk r Q
+if_ok {T} {E} {P} {Q} (Ok x) f is = f x is
+if_ok {T} {E} {P} {Q} (Err e) f is = tt
+
 module _ (journal : JournalState) (files : Files) (opened : Name → ℕ) (past : Past) (before after : List (List ℕ)) where
+  abbrev was : Standing
+  was = record { files = files; opened = opened; past = past }
+
   pub uncommitted_left : IsUncommitted journal files opened past before after → (image : Files) → MayLeave past image → HasBatchesOf journal.name image before ⊎ HasBatchesOf journal.name image after
   uncommitted_left u image left =
       let holds = λ (cs : List (List ℕ)) (has : HasBatches (image journal.current.name) cs).
@@ -86,7 +98,7 @@ module _ (journal : JournalState) (files : Files) (opened : Name → ℕ) (past 
     there : IsThere u.generation (later current.name)
     there = subst (IsThere u.generation) (sym (ap later same_name ∙ ap (λ (f : Files). f journal.current.name) same)) u.there
 
-    pub reviewed_settled : (cs : List (List ℕ)) → IsSettled current later opened_later new cs → IsSettledWith reviewed later opened_later new cs
+    reviewed_settled : (cs : List (List ℕ)) → IsSettled current later opened_later new cs → IsSettledWith reviewed later opened_later new cs
     reviewed_settled cs settled = record {
       generation = u.generation;
       named = record { small = u.named.small; at = u.named.at; current = same_name ∙ u.named.current; unopened = unopened };
@@ -95,10 +107,10 @@ module _ (journal : JournalState) (files : Files) (opened : Name → ℕ) (past 
       there = there;
     }
 
-    pub reviewed_made : IsSettled current later opened_later new (before ++ u.batch ∷ []) → IsSettledWith reviewed later opened_later new after
+    reviewed_made : IsSettled current later opened_later new (before ++ u.batch ∷ []) → IsSettledWith reviewed later opened_later new after
     reviewed_made settled = subst (λ (cs : List (List ℕ)). IsSettledWith reviewed later opened_later new cs) (sym u.more) (reviewed_settled (before ++ u.batch ∷ []) settled)
 
-    pub reviewed_doubtful : pending ≡ Nothing → IsInDoubt current later opened_later new before u.batch → IsUndecided reviewed later opened_later new before after
+    reviewed_doubtful : pending ≡ Nothing → IsInDoubt current later opened_later new before u.batch → IsUndecided reviewed later opened_later new before after
     reviewed_doubtful nothing doubt =
         let is : IsUncommitted reviewed later opened_later new before after = record {
           generation = u.generation;
@@ -114,40 +126,75 @@ module _ (journal : JournalState) (files : Files) (opened : Name → ℕ) (past 
         } in
         subst (λ (p : Pending). IsOpen p reviewed later opened_later new before after) (sym nothing) is
 
+    pub current_reviews : (result : Result Bool DiskErr) → pending ≡ Nothing → IsUndecided journal files opened past before after → IfOk result (λ found. IsTrue found → IsSettled current later opened_later new (before ++ u.batch ∷ []))
+        → IfOk result (λ found. found ≡ false → IsSettled current later opened_later new before) → OnErr result (IsInDoubt current later opened_later new before u.batch)
+        → Reviews before after result journal reviewed was (record { files = later; opened = opened_later; past = new })
+    current_reviews result nothing doubt made unmade doubtful = record {
+      made = if_ok result (λ found so yes. reviewed_made (so yes)) made;
+      unmade = if_ok result (λ found so no. reviewed_settled before (so no)) unmade;
+      doubtful = on_err_weaker result (reviewed_doubtful nothing) doubtful;
+      any_moment = undecided_passes new doubt passes;
+      elsewhere = λ n other. ap (λ (f : Files). f n) same;
+      opened = λ n other. ap (λ (f : Name → ℕ). f n) same_opened;
+    }
+
   -- the file that tells the generation was reviewed
   module _ (next : PlainState) (w : IsSwitching journal next files opened past before after) where
     pub half_switched : journal.at.sound ≡ false → IsHalfSwitched journal next files opened past w.generation after
     half_switched unsound = elim w.switch [ inl un ↦ let wrong : true ≡ false = sym un.sound ∙ unsound in absurd (cc wrong) | inr half ↦ half ]
 
+    open_switch : journal.pending ≡ Switch next → IsUndecided journal files opened past before after
+    open_switch is = open_as (Switch next) journal.pending journal files opened past before after (sym is) w
+
     -- it was never written
-    pub unswitched : (pending : Pending) → journal.at.sound ≡ true → IsSettledWith (state_of journal.name journal.at journal.current pending) files opened past before
+    unswitched : (pending : Pending) → journal.at.sound ≡ true → IsSettledWith (state_of journal.name journal.at journal.current pending) files opened past before
     unswitched pending sound = elim w.switch [
       | inl un ↦ record { generation = w.generation; named = record { small = w.named.small; at = w.named.at; current = w.named.current; unopened = w.named.unopened }; at = un.at; current = w.current; there = w.there }
       | inr half ↦ let wrong : true ≡ false = sym sound ∙ half.unsound in absurd (cc wrong)
     ]
 
-    module _ (half : IsHalfSwitched journal next files opened past w.generation after) (at : PlainState) (pending : Pending) (later : Files) (opened_later : Name → ℕ) (new : Past) (same_name : at.name ≡ journal.at.name) (same : later ≡ files) (same_opened : opened_later ≡ opened) (passes : Passes Same past new) where
-      pub unopened_still : (n : Name) → IsOwn journal.name n → opened_later n ≡ 0
+    pub unswitched_reviews : (pending : Pending) → journal.pending ≡ Switch next → journal.at.sound ≡ true → Reviews before after (Ok false) journal (state_of journal.name journal.at journal.current pending) was was
+    unswitched_reviews pending is sound = record {
+      made = λ told. absurd (cc told);
+      unmade = λ untold. unswitched pending sound;
+      doubtful = tt;
+      any_moment = undecided_none (open_switch is);
+      elsewhere = λ n other. refl;
+      opened = λ n other. refl;
+    }
+
+    module _ (is : journal.pending ≡ Switch next) (half : IsHalfSwitched journal next files opened past w.generation after) (at : PlainState) (later : Files) (opened_later : Name → ℕ) (new : Past) (same_name : at.name ≡ journal.at.name) (same : later ≡ files) (same_opened : opened_later ≡ opened) (passes : Passes Same past new) where
+      abbrev now : Standing
+      now = record { files = later; opened = opened_later; past = new }
+
+      unopened_still : (n : Name) → IsOwn journal.name n → opened_later n ≡ 0
       unopened_still n own = ap (λ (f : Name → ℕ). f n) same_opened ∙ w.named.unopened n own
 
-      pub stays : (j : PlainState) (cs : List (List ℕ)) → IsSettled j files opened past cs → IsSettled j later opened_later new cs
+      stays : (j : PlainState) (cs : List (List ℕ)) → IsSettled j files opened past cs → IsSettled j later opened_later new cs
       stays j cs settled =
           settled_stays j files later opened opened_later past new cs Same settled passes (stays_same j.name) (ap (λ (f : Files). f j.name) same)
           (let fewer = ap (λ (f : Name → ℕ). f j.name) same_opened in omega (arith, fewer))
 
       -- it tells the old generation
-      pub not_switched : IsSettled at later opened_later new (generation_batches w.generation) → IsSettledWith (state_of journal.name at journal.current pending) later opened_later new before
-      not_switched told = record {
-        generation = w.generation;
-        named = record { small = w.named.small; at = same_name ∙ w.named.at; current = w.named.current; unopened = unopened_still };
-        at = told;
-        current = stays journal.current before w.current;
-        there = subst (IsThere w.generation) (sym (ap (λ (f : Files). f journal.current.name) same)) w.there;
+      pub not_switched : (pending : Pending) → IsSettled at later opened_later new (generation_batches w.generation) → Reviews before after (Ok false) journal (state_of journal.name at journal.current pending) was now
+      not_switched pending told = record {
+        made = λ yes. absurd (cc yes);
+        unmade = λ no. record {
+          generation = w.generation;
+          named = record { small = w.named.small; at = same_name ∙ w.named.at; current = w.named.current; unopened = unopened_still };
+          at = told;
+          current = stays journal.current before w.current;
+          there = subst (IsThere w.generation) (sym (ap (λ (f : Files). f journal.current.name) same)) w.there;
+        };
+        doubtful = tt;
+        any_moment = undecided_passes new (open_switch is) passes;
+        elsewhere = λ n other. ap (λ (f : Files). f n) same;
+        opened = λ n other. ap (λ (f : Name → ℕ). f n) same_opened;
       }
 
       -- it tells the next one
-      abbrev pub is_switched : IsSettled at later opened_later new (generation_batches w.generation ++ to_le_bytes w64 (w.generation + 1) ∷ []) → IsSettledWith (state_of journal.name at next pending) later opened_later new after
-      is_switched told = record {
+      abbrev is_switched : (pending : Pending) → IsSettled at later opened_later new (generation_batches w.generation ++ to_le_bytes w64 (w.generation + 1) ∷ []) → IsSettledWith (state_of journal.name at next pending) later opened_later new after
+      is_switched pending told = record {
         generation = w.generation + 1;
         named = record { small = half.small; at = same_name ∙ w.named.at; current = half.named; unopened = unopened_still };
         at = subst (λ (cs : List (List ℕ)). IsSettled at later opened_later new cs) (sym (next_told w.generation (w.generation + 1) refl)) told;
@@ -156,11 +203,11 @@ module _ (journal : JournalState) (files : Files) (opened : Name → ℕ) (past 
       }
 
       -- it wasn't told
-      pub still_switching : at ≡ journal.at → pending ≡ Switch next → IsInDoubt at later opened_later new (generation_batches w.generation) (to_le_bytes w64 (w.generation + 1))
+      still_switching : (pending : Pending) → at ≡ journal.at → pending ≡ Switch next → IsInDoubt at later opened_later new (generation_batches w.generation) (to_le_bytes w64 (w.generation + 1))
           → IsUndecided (state_of journal.name at journal.current pending) later opened_later new before after
-      still_switching is_at is_pending doubt =
+      still_switching pending is_at is_pending doubt =
           let state : JournalState = state_of journal.name at journal.current pending in
-          let is : IsSwitching state next later opened_later new before after = record {
+          let so : IsSwitching state next later opened_later new before after = record {
             generation = w.generation;
             named = record { small = w.named.small; at = same_name ∙ w.named.at; current = w.named.current; unopened = unopened_still };
             current = stays journal.current before w.current;
@@ -174,4 +221,89 @@ module _ (journal : JournalState) (files : Files) (opened : Name → ℕ) (past 
               there = λ few. half.there (subst IsShort (ap (λ (f : Files). f next.name) same) few);
             });
           } in
-          subst (λ (p : Pending). IsOpen p state later opened_later new before after) (sym is_pending) is
+          subst (λ (p : Pending). IsOpen p state later opened_later new before after) (sym is_pending) so
+
+      pub still_reviews : (pending : Pending) (result : Result Bool DiskErr) (e : DiskErr) → result ≡ Err e → at ≡ journal.at → pending ≡ Switch next
+          → IsInDoubt at later opened_later new (generation_batches w.generation) (to_le_bytes w64 (w.generation + 1)) → Reviews before after result journal (state_of journal.name at journal.current pending) was now
+      still_reviews pending result e failed is_at is_pending doubt = rw failed (record {
+        made = tt;
+        unmade = tt;
+        doubtful = still_switching pending is_at is_pending doubt;
+        any_moment = undecided_passes new (open_switch is) passes;
+        elsewhere = λ n other. ap (λ (f : Files). f n) same;
+        opened = λ n other. ap (λ (f : Name → ℕ). f n) same_opened;
+      })
+
+      -- and then the old file is removed
+      module _ (told : IsSettled at later opened_later new (generation_batches w.generation ++ to_le_bytes w64 (w.generation + 1) ∷ []))
+          (last : Files) (opened_last : Name → ℕ) (end : Past) (removal : Passes (Anyhow journal.current.name) new end) (only_it : (m : Name) → m ≢ journal.current.name → last m ≡ later m)
+          (only_opened : (m : Name) → m ≢ journal.current.name → opened_last m ≡ opened_later m) (none_opened : opened_last journal.current.name ≡ 0) where
+        abbrev over : Pending → JournalState
+        over pending = state_of journal.name at next pending
+
+        abbrev behind : (pending : Pending) → IsSettledWith (over pending) last opened_last end after
+        behind pending = removed (over pending) later opened_later new after (is_switched pending told) w.generation refl journal.current.name w.named.current last opened_last end removal only_it only_opened none_opened
+
+        over_passes : Passes (AtOwn journal.name (HasOneOf journal.name before after)) past end
+        over_passes =
+            removal_passes (over Nothing) later opened_later new after (is_switched Nothing told) w.generation refl journal.current.name w.named.current (HasOneOf journal.name before after) past end (undecided_passes new (open_switch is) passes) removal
+            (λ a b e so_far was has. inr has)
+
+        not_current : (m : Name) → (IsOwn journal.name m → ⊥) → m ≢ journal.current.name
+        not_current m other here = other (inr (w.generation, w.named.small, here ∙ w.named.current))
+
+        pub over_reviews : (final : JournalState) → final ≡ over Nothing → Reviews before after (Ok true) journal final was (record { files = last; opened = opened_last; past = end })
+        over_reviews final is_over = record {
+          made = λ yes. subst (λ (j : JournalState). IsSettledWith j last opened_last end after) (sym is_over) (behind Nothing);
+          unmade = λ no. absurd (cc no);
+          doubtful = tt;
+          any_moment = over_passes;
+          elsewhere = λ m other. only_it m (not_current m other) ∙ ap (λ (f : Files). f m) same;
+          opened = λ m other. only_opened m (not_current m other) ∙ ap (λ (f : Name → ℕ). f m) same_opened;
+        }
+
+        pub half_over_reviews : (final : JournalState) (result : Result Bool DiskErr) (e : DiskErr) → result ≡ Err e → final ≡ over (Removal journal.current) → Reviews before after result journal final was (record { files = last; opened = opened_last; past = end })
+        half_over_reviews final result e failed is_left = rw failed (record {
+          made = tt;
+          unmade = tt;
+          doubtful =
+              subst (λ (j : JournalState). IsUndecided j last opened_last end before after) (sym is_left) (record { settled = behind (Removal journal.current); generation = w.generation; before = refl; named = w.named.current });
+          any_moment = over_passes;
+          elsewhere = λ m other. only_it m (not_current m other) ∙ ap (λ (f : Files). f m) same;
+          opened = λ m other. only_opened m (not_current m other) ∙ ap (λ (f : Name → ℕ). f m) same_opened;
+        })
+
+  -- the file of the generation before is removed once more
+  module _ (old : PlainState) (r : IsRemoving journal old files opened past after) (file : Name) (is_file : file ≡ old.name) (later : Files) (opened_later : Name → ℕ) (new : Past) (doubt : IsUndecided journal files opened past before after)
+      (removal : Passes (Anyhow file) past new) (only_it : (n : Name) → n ≢ file → later n ≡ files n) (only_opened : (n : Name) → n ≢ file → opened_later n ≡ opened n) (none_opened : opened_later file ≡ 0) where
+    abbrev removed_still : IsSettledWith journal later opened_later new after
+    removed_still = removed journal files opened past after r.settled r.generation r.before file (is_file ∙ r.named) later opened_later new removal only_it only_opened none_opened
+
+    removing_passes : Passes (AtOwn journal.name (HasOneOf journal.name before after)) past new
+    removing_passes =
+        removal_passes journal files opened past after r.settled r.generation r.before file (is_file ∙ r.named) (HasOneOf journal.name before after) past new (undecided_none doubt) removal
+        (λ a b e so_far was has. inr has)
+
+    not_file : (n : Name) → (IsOwn journal.name n → ⊥) → n ≢ file
+    not_file n other here = other (subst (IsOwn journal.name) (sym here) (old_is_own journal files opened past after r.settled r.generation r.before file (is_file ∙ r.named)))
+
+    pub removed_reviews : (final : JournalState) → final.name ≡ journal.name → final.at ≡ journal.at → final.current ≡ journal.current → Reviews before after (Ok true) journal final was (record { files = later; opened = opened_later; past = new })
+    removed_reviews final same_name same_at same_current = record {
+      made = λ yes. settled_as journal final later opened_later new after same_name same_at same_current removed_still;
+      unmade = λ no. absurd (cc no);
+      doubtful = tt;
+      any_moment = removing_passes;
+      elsewhere = λ n other. only_it n (not_file n other);
+      opened = λ n other. only_opened n (not_file n other);
+    }
+
+    pub removing_reviews : (result : Result Bool DiskErr) (e : DiskErr) → result ≡ Err e → journal.pending ≡ Removal old → Reviews before after result journal journal was (record { files = later; opened = opened_later; past = new })
+    removing_reviews result e failed is = rw failed (record {
+      made = tt;
+      unmade = tt;
+      doubtful =
+          subst (λ (p : Pending). IsOpen p journal later opened_later new before after) (sym is) (record { settled = removed_still; generation = r.generation; before = r.before; named = r.named });
+      any_moment = removing_passes;
+      elsewhere = λ n other. only_it n (not_file n other);
+      opened = λ n other. only_opened n (not_file n other);
+    })

@@ -1,5 +1,6 @@
 -- The files of a journal have different names.
-use Rattle.std.proofs.Common.{◌≡◌, ◌≢◌, inl, inr, ℕ, zero, suc, ◌<◌, ◌^◌, List, [], ◌∷◌, ◌++◌, length, get_or, refl, sym, ◌∙◌, ap, arith, append_assoc, length-append}
+use Rattle.std.proofs.Common.{◌≡◌, ◌≢◌, ◌⊎◌, inl, inr, ℕ, zero, suc, ◌<◌, ◌^◌, List, [], ◌∷◌, ◌++◌, length, get_or, refl, sym, ◌∙◌, ap, arith, append_assoc, length-append}
+use Rattle.std.proofs.lemmas.Bool.{cases_eq}
 use Rattle.std.proofs.lemmas.Fmt.{decimal_injective, decimal_is_IsNumeral}
 use Rattle.std.proofs.lemmas.List.{append-nil, append_cancel_left, places}
 use Rattle.std.proofs.lemmas.Str.Parse.{digit_at}
@@ -76,3 +77,11 @@ own_apart name other n apart own too =
 
 pub named_so : (name : Name) (g : ℕ) (more : List ℕ) → 0 < g → more ≡ 46 ∷ decimal g → ◌≡◌ {A = Name} (name.0, name.1 ++ more) (generation_name name g)
 named_so name g more some is = ap (λ (l : List ℕ). (name.0, name.1 ++ l)) is ∙ sym (later_generation name g some)
+
+-- a name of the journal's is the next file's or it isn't
+pub is_next : (name n : Name) (g : ℕ) → g < 2 ^ 64 → IsOwn name n → (n ≡ generation_name name g) ⊎ (n ≢ generation_name name g)
+is_next name n g small (inl at) = inr (λ is. at_apart name g small (sym is ∙ at))
+is_next name n g small (inr (h, small_h, is)) = elim (cases_eq h g) [
+  | inl same ↦ inl (is ∙ ap (λ (k : ℕ). generation_name name k) same)
+  | inr other ↦ inr (λ too. other (one_generation name h g small_h small (sym is ∙ too)))
+]

@@ -9,9 +9,8 @@ use Rattle.gate_journal.specs.declared.journal.Pending.{Pending}
 use Rattle.gate_journal.specs.Generations.{at_name, generation_name, generation_batches, IsOwn, HasBatchesOf, IsBadOf, AtOwn, KeepsBatches, IsBefore}
 use Rattle.gate_journal.specs.Load.{StaysOrShort}
 use Rattle.gate_journal.specs.Plain.{PlainState, IsSettled}
-use Rattle.gate_journal.proofs.Checkpoints.{is_next}
 use Rattle.gate_journal.proofs.Elsewhere.{settled_stays, journal_left}
-use Rattle.gate_journal.proofs.FileNames.{at_apart, one_generation}
+use Rattle.gate_journal.proofs.FileNames.{at_apart, one_generation, is_next}
 use Rattle.gate_journal.proofs.Files.{Anyhow}
 use Rattle.gate_journal.proofs.Holding.{settled_seen}
 use Rattle.gate_journal.proofs.Owned.{own_none, own_first, leaves_at}

@@ -4,8 +4,7 @@ use Rattle.disk_model.specs.Files.{Name, Files}
 use Rattle.disk_model.specs.Past.{Past, MayLeave, Passes, Only}
 use Rattle.gate_journal.specs.Journal.{JournalState, IsSettledWith, HasNoneBefore}
 use Rattle.gate_journal.specs.Generations.{generation_name, IsOwn, AtOwn, HasBatchesOf}
-use Rattle.gate_journal.proofs.Checkpoints.{is_next}
-use Rattle.gate_journal.proofs.FileNames.{at_apart, one_generation}
+use Rattle.gate_journal.proofs.FileNames.{at_apart, one_generation, is_next}
 use Rattle.gate_journal.proofs.Files.{Anyhow}
 use Rattle.gate_journal.proofs.Holding.{holds_behind, settled_with_stays}
 use Rattle.gate_journal.proofs.Owned.{own_then, leaves_at}

@@ -8,8 +8,7 @@ use Rattle.gate_journal.specs.Journal.{IsThere}
 use Rattle.gate_journal.specs.Generations.{at_name, generation_name, generation_batches, IsOwn, HasBatchesOf, AtOwn, KeepsBatches}
 use Rattle.gate_journal.specs.Load.{StaysOrShort}
 use Rattle.gate_journal.proofs.Begin.{stays_has}
-use Rattle.gate_journal.proofs.Checkpoints.{is_next}
-use Rattle.gate_journal.proofs.FileNames.{at_apart}
+use Rattle.gate_journal.proofs.FileNames.{at_apart, is_next}
 use Rattle.gate_journal.proofs.Owned.{leaves_at}
 
 -- a name of the journal's is this file's or it isn't

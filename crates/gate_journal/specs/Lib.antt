@@ -1,4 +1,5 @@
 pub mod Batches
+pub mod Commits
 pub mod Journal
 pub mod FirstBad
 pub mod Generations

@@ -1,0 +1,59 @@
+-- What a call does that commits, and what a review of it does, said once for all that is kept in journals.
+use Rattle.std.specs.Prelude.{◌≡◌, ◌≢◌, ◌+◌, ℕ, Bool, Result, IsTrue, OnOk, OnErr, IfOk, IsErrOf, false, List, None}
+use Rattle.disk_model.specs.declared.disk.Disk.{Ghosts}
+use Rattle.disk_model.specs.declared.disk.DiskErr.{DiskErr}
+use Rattle.disk_model.specs.declared.disk.DiskErr.TheVariants.{Fault, Memory}
+use Rattle.disk_model.specs.Files.{Name, Content, Files, At}
+use Rattle.disk_model.specs.Past.{Past, Passes, Only}
+use Rattle.gate_journal.specs.Generations.{generation_name, IsOwn, AtOwn, HasOneOf}
+use Rattle.gate_journal.specs.Journal.{JournalState, IsSettledWith, IsUndecided, OnlyGoesOn, OnlyMakes}
+
+-- what reads of a disk give, how far each name was opened, and what crashes leave
+pub record Standing : Type 1 where
+  pub files : Files
+  pub opened : Name → ℕ
+  pub past : Past
+
+-- a disk, by the members of its type
+abbrev pub standing : {D R : Type 0} → Ghosts D R → D → Standing
+standing {D} {R} disk d = record { files = disk.files d; opened = disk.opened d; past = disk.past d }
+
+-- A call that commits to the journal of this name: what is so after Ok, after Fault and at want of memory, what each crash leaves on the
+-- way, and that names that aren't the journal's stay as they are.
+pub record Commits (name : Name) (Either : Files → Files → Type 0) (OnMade : Type 0 → Type 0) (IsFault IsMemory Made InDoubt Unmade : Type 0) (old new : Standing) : Type 0 where
+  pub made : OnMade Made
+  pub doubt : IsFault → InDoubt
+  pub unchanged : IsMemory → Unmade
+  pub any_moment : Passes (AtOwn name Either) old.past new.past
+  pub elsewhere : (n : Name) → (IsOwn name n → ⊥) → new.files n ≡ old.files n
+  pub opened : (n : Name) → (IsOwn name n → ⊥) → new.opened n ≡ old.opened n
+
+-- of a journal: these batches go over to those
+abbrev pub CommitsBatches : List (List ℕ) → List (List ℕ) → Result (Unit {0}) DiskErr → JournalState → JournalState → Standing → Standing → Type 0
+CommitsBatches before after result was now old new =
+    Commits was.name (HasOneOf was.name before after) (OnOk result) (IsErrOf result Fault) (IsErrOf result Memory) (IsSettledWith now new.files new.opened new.past after)
+    (IsUndecided now new.files new.opened new.past before after) (IsSettledWith now new.files new.opened new.past before) old new
+
+-- A review of these batches or those: which they are, or that it isn't known still.
+pub record Reviews (before after : List (List ℕ)) (result : Result Bool DiskErr) (was now : JournalState) (old new : Standing) : Type 0 where
+  pub made : IfOk result (λ found. IsTrue found → IsSettledWith now new.files new.opened new.past after)
+  pub unmade : IfOk result (λ found. found ≡ false → IsSettledWith now new.files new.opened new.past before)
+  pub doubtful : OnErr result (IsUndecided now new.files new.opened new.past before after)
+  pub any_moment : Passes (AtOwn was.name (HasOneOf was.name before after)) old.past new.past
+  pub elsewhere : (n : Name) → (IsOwn was.name n → ⊥) → new.files n ≡ old.files n
+  pub opened : (n : Name) → (IsOwn was.name n → ⊥) → new.opened n ≡ old.opened n
+
+-- one file alone changes, by R at each moment, and none is opened
+pub record ChangesOne (name : Name) (R : Content → Content → Type 0) (old new : Standing) : Type 0 where
+  pub files : (n : Name) → n ≢ name → new.files n ≡ old.files n
+  pub any_moment : Passes (At name R) old.past new.past
+  pub opened : new.opened ≡ old.opened
+
+-- A checkpoint of a journal whose current generation is this one: the next one's file is the current one then, and the old one is gone.
+-- Of its own files too it changes only three, and at want of memory only the next generation's.
+pub record GoesOver (generation : ℕ) (result : Result (Unit {0}) DiskErr) (was now : JournalState) (old new : Standing) : Type 0 where
+  pub next : OnOk result (now.current.name ≡ generation_name was.name (generation + 1))
+  pub gone : OnOk result ((new.files was.current.name ≡ None) × Only new.past was.current.name None)
+  pub files : OnlyGoesOn was.name generation old.files new.files
+  pub any_moment : Passes (OnlyGoesOn was.name generation) old.past new.past
+  pub untold : IsErrOf result Memory → OnlyMakes was.name generation old.files new.files × Passes (OnlyMakes was.name generation) old.past new.past
