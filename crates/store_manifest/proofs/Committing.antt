@@ -1,14 +1,17 @@
 -- A commit of changes, a checkpoint before it, and what a load finds.
-use Rattle.std.proofs.Common.{◌≡◌, ◌≢◌, ◌⊎◌, inl, inr, ℕ, ◌+◌, ◌<◌, ◌≤◌, ◌==◌, Bool, true, false, IsTrue, cond, List, [], ◌∷◌, ◌++◌, length, All, Result, Ok, Err, IfOk, OnOk, IsErrOf, refl, sym, ◌∙◌, ap, subst, arith}
+use Rattle.std.proofs.Common.{◌≡◌, ◌≢◌, ◌⊎◌, inl, inr, ℕ, ◌+◌, ◌<◌, ◌≤◌, ◌==◌, Bool, true, false, IsTrue, cond, List, [], ◌∷◌, ◌++◌, length, All, Result, Ok, Err, IfOk, OnOk, OnErr, IsErrOf, refl, sym, ◌∙◌, ap, subst, arith}
 use Rattle.std.proofs.lemmas.Bool.{cases_lt}
+use Rattle.std.proofs.lemmas.Result.{on_ok_weaker, IfErr-at_err}
 use Rattle.disk_model.specs.Files.{Name, Files}
 use Rattle.disk_model.specs.Past.{Past, Passes, MayLeave}
 use Rattle.disk_model.specs.declared.disk.DiskErr.{DiskErr}
-use Rattle.disk_model.specs.declared.disk.DiskErr.TheVariants.{Fault, Memory}
+use Rattle.disk_model.specs.declared.disk.DiskErr.TheVariants.{Fault}
 use Rattle.disk_model.proofs.Passing.{passes_none, passes_then, passes_weaker}
+use Rattle.gate_journal.specs.Commits.{Standing, CommitsBatches}
 use Rattle.gate_journal.specs.Generations.{IsOwn, HasBatchesOf, AtOwn, HasOneOf, KeepsBatches}
-use Rattle.gate_journal.specs.Journal.{JournalState, IsSettledWith, IsUndecided, is_of_commit}
-use Rattle.gate_journal.specs.Kept.{Says, SaysEither, IsKept, IsUnsure}
+use Rattle.gate_journal.specs.Journal.{JournalState, IsSettledWith, is_of_commit}
+use Rattle.gate_journal.specs.Kept as of_batches
+use Rattle.gate_journal.specs.Kept.{Says, SaysEither}
 use Rattle.gate_journal.proofs.Keeping.{change_says, kept_left, one_value}
 use Rattle.gate_journal.proofs.Holding.{holds_left}
 use Rattle.partition_names.specs.declared.granularity.Granularity.{Granularity}
@@ -21,7 +24,7 @@ use Rattle.store_manifest.specs.declared.folding.Folded.TheVariants.{Nothing, Go
 use Rattle.store_manifest.specs.declared.lists.SeriesLists.{SeriesLists}
 use Rattle.store_manifest.specs.Folded.{IsFolded}
 use Rattle.store_manifest.specs.Listing.{entries_of, AreLists}
-use Rattle.store_manifest.specs.Manifest.{Lists, ManifestState, StaysOrBegins, IsLong, limit_of}
+use Rattle.store_manifest.specs.Manifest.{Lists, ManifestState, CommitsEntries, IsKept, StaysOrBegins, IsLong, limit_of}
 use Rattle.store_manifest.specs.Numbers.{HasSizes}
 use Rattle.store_manifest.proofs.Meaning.{some_bytes, written_batch, begun_empty, configured_more, configured_folds, one_fold, one_granularity}
 use Rattle.store_manifest.proofs.Order.{folds_entries, folds_sized}
@@ -41,6 +44,14 @@ some_from_test (c ∷ cs) test = λ none. let wrong : c ∷ cs ≡ [] = none in 
 pub folds_says : (g : Granularity) (es : List Entry) (name : Name) (image : Files) → Says (Configured g) es name image → Says (Folds g) es name image
 folds_says g es name image says = record { batches = says.batches; has = says.has; means = configured_folds g says.batches es says.means }
 
+on_ok_always : {T E P : Type 0} (r : Result T E) → P → OnOk r P
+on_ok_always (Ok x) p = p
+on_ok_always (Err e) p = tt
+
+on_ok_both : {T E P Q S : Type 0} (r : Result T E) → (P → Q → S) → OnOk r P → OnOk r Q → OnOk r S
+on_ok_both (Ok x) both p q = both p q
+on_ok_both (Err e) both p q = tt
+
 either_folds : (g : Granularity) (one other : List Entry) (name : Name) (old new : Files) → SaysEither (Configured g) one other name old new → SaysEither (Folds g) one other name old new
 either_folds g one other name old new (inl says) = inl (folds_says g one name new says)
 either_folds g one other name old new (inr says) = inr (folds_says g other name new says)
@@ -52,22 +63,30 @@ module _ (g : Granularity) (bs : List (List ℕ)) (entries : List Entry) (change
   pub commit_means : Configured g (bs ++ batch ∷ []) (all_changed entries changes)
   commit_means = configured_more g bs entries (all_changed entries changes) batch means (written_batch g entries changes batch is some sizes follow)
 
-  pub commit_moment : (name : Name) (next : List Entry) (old new : Past) → next ≡ all_changed entries changes → Passes (AtOwn name (HasOneOf name bs (bs ++ batch ∷ []))) old new → Passes (AtOwn name (SaysEither (Configured g) entries next name)) old new
-  commit_moment name next old new is_next passes =
-      let P : List Entry → Type 0 = λ l. Configured g (bs ++ batch ∷ []) l in
-      change_says (Configured g) bs (bs ++ batch ∷ []) entries next name old new means (subst P (sym is_next) commit_means) passes
-
-  pub commit_unsure : (journal : JournalState) (files : Files) (opened : Name → ℕ) (past : Past) (next : List Entry) → is_of_commit journal.pending ≡ true → next ≡ all_changed entries changes → IsUndecided journal files opened past bs (bs ++ batch ∷ [])
-      → IsUnsure (Configured g) journal files opened past entries next
-  commit_unsure journal files opened past next of_commit is_next undecided =
-      let P : Bool → Type 0 = λ b. Configured g (bs ++ batch ∷ []) (cond b next entries) in
-      let Q : List Entry → Type 0 = λ l. Configured g (bs ++ batch ∷ []) l in
+  pub add_commits : (journal now : JournalState) (listed later next : List Entry) (result : Result (Unit {0}) DiskErr) (old new : Standing) → next ≡ all_changed entries changes → is_of_commit now.pending ≡ true → OnOk result (listed ≡ next)
+      → OnErr result ((listed ≡ entries) × (later ≡ next)) → CommitsBatches bs (bs ++ batch ∷ []) result journal now old new
+      → CommitsEntries Configured next result (record { journal = journal; granularity = g; entries = entries; next = next }) (record { journal = now; granularity = g; entries = listed; next = later }) old new
+  add_commits journal now listed later next result old new is_next of_commit done failed commits =
+      let Lists : List Entry → Type 0 = λ l. Configured g (bs ++ batch ∷ []) l in
+      let OfCommit : Bool → Type 0 = λ b. Configured g (bs ++ batch ∷ []) (cond b later listed) in
+      let after = subst Lists (sym is_next) commit_means in
       record {
-        before = bs;
-        after = bs ++ batch ∷ [];
-        undecided = undecided;
-        means = means;
-        means_after = subst P (sym of_commit) (subst Q (sym is_next) commit_means);
+        made = on_ok_both result (λ is settled. record { batches = bs ++ batch ∷ []; settled = settled; means = subst Lists (sym is) after }) done commits.made;
+        doubt = λ fault.
+            let still = IfErr-at_err (λ (e : DiskErr). (listed ≡ entries) × (later ≡ next)) fault failed in
+            record {
+              before = bs;
+              after = bs ++ batch ∷ [];
+              undecided = commits.doubt fault;
+              means = subst (Configured g bs) (sym still.0) means;
+              means_after = subst OfCommit (sym of_commit) (subst Lists (sym still.1) after);
+            };
+        unchanged = λ memory.
+            let still = IfErr-at_err (λ (e : DiskErr). (listed ≡ entries) × (later ≡ next)) memory failed in
+            record { batches = bs; settled = commits.unchanged memory; means = subst (Configured g bs) (sym still.0) means };
+        any_moment = change_says (Configured g) bs (bs ++ batch ∷ []) entries next journal.name old.past new.past means after commits.any_moment;
+        elsewhere = commits.elsewhere;
+        opened = commits.opened;
       }
 
 -- A CHECKPOINT
@@ -77,64 +96,91 @@ whole_means g bs entries batch is means =
     let folds = configured_folds g bs entries means in
     let P : List ℕ → Type 0 = λ b. Configured g (b ∷ []) entries in subst P (sym is) (whole_lists g entries (folds_entries g bs entries folds) (folds_sized g bs entries folds))
 
-module _ (g : Granularity) (bs : List (List ℕ)) (entries : List Entry) (batch : List ℕ) (is : batch ≡ whole g entries) (means : Configured g bs entries) where
-  -- what an image says all along
-  pub whole_moment : (name : Name) (old new : Past) → Passes (AtOwn name (HasOneOf name bs (batch ∷ []))) old new → Passes (AtOwn name (λ a b. Says (Configured g) entries name b)) old new
-  whole_moment name old new passes =
-      passes_weaker (AtOwn name (HasOneOf name bs (batch ∷ []))) (AtOwn name (λ a b. Says (Configured g) entries name b)) old new passes (λ a c was step. record {
-        here = elim step.here [
-          | inl has ↦ record { batches = bs; has = has; means = means }
-          | inr has ↦ record { batches = batch ∷ []; has = has; means = whole_means g bs entries batch is means }
-        ];
-        elsewhere = step.elsewhere;
-      })
-
-  pub whole_unsure : (journal : JournalState) (files : Files) (opened : Name → ℕ) (past : Past) (next : List Entry) → is_of_commit journal.pending ≡ false → IsUndecided journal files opened past bs (batch ∷ []) → IsUnsure (Configured g) journal files opened past entries next
-  whole_unsure journal files opened past next of_checkpoint undecided =
-      let P : Bool → Type 0 = λ b. Configured g (batch ∷ []) (cond b next entries) in record {
-        before = bs;
-        after = batch ∷ [];
-        undecided = undecided;
-        means = means;
-        means_after = subst P (sym of_checkpoint) (whole_means g bs entries batch is means);
-      }
-
-  -- at `Memory` the batches are the old ones
-  pub whole_kept : (journal : JournalState) (files : Files) (opened : Name → ℕ) (past : Past) (r : Result (Unit {0}) DiskErr) → OnOk r (IsSettledWith journal files opened past (batch ∷ []))
-      → (IsErrOf r Memory → IsSettledWith journal files opened past bs) → (IsErrOf r Fault → ⊥) → IsKept (Configured g) journal files opened past entries
-  whole_kept journal files opened past (Ok x) begun unchanged no_fault = record { batches = batch ∷ []; settled = begun; means = whole_means g bs entries batch is means }
-  whole_kept journal files opened past (Err Memory) begun unchanged no_fault = record { batches = bs; settled = unchanged refl; means = means }
-  whole_kept journal files opened past (Err Fault) begun unchanged no_fault = absurd (no_fault refl)
-
--- nothing is written
-pub said_none : (g : Granularity) (journal : JournalState) (files : Files) (opened : Name → ℕ) (past : Past) (entries : List Entry) → IsKept (Configured g) journal files opened past entries
-    → Passes (AtOwn journal.name (λ a b. Says (Configured g) entries journal.name b)) past past
-said_none g journal files opened past entries kept =
-    passes_none (AtOwn journal.name (λ a b. Says (Configured g) entries journal.name b)) past (λ a was. record { here = kept_left (Configured g) journal files opened past entries kept a was; elsewhere = λ n other. refl })
+pub whole_commits : (g : Granularity) (bs : List (List ℕ)) (entries next : List Entry) (batch : List ℕ) → batch ≡ whole g entries → Configured g bs entries → (journal now : JournalState) (result : Result (Unit {0}) DiskErr) (old new : Standing)
+    → (IsErrOf result Fault → is_of_commit now.pending ≡ false) → CommitsBatches bs (batch ∷ []) result journal now old new
+    → CommitsEntries Configured entries result (record { journal = journal; granularity = g; entries = entries; next = next }) (record { journal = now; granularity = g; entries = entries; next = next }) old new
+whole_commits g bs entries next batch is means journal now result old new of_checkpoint commits =
+    let after = whole_means g bs entries batch is means in
+    let OfCommit : Bool → Type 0 = λ b. Configured g (batch ∷ []) (cond b next entries) in
+    record {
+      made = on_ok_weaker result (λ settled. record { batches = batch ∷ []; settled = settled; means = after }) commits.made;
+      doubt = λ fault. record { before = bs; after = batch ∷ []; undecided = commits.doubt fault; means = means; means_after = subst OfCommit (sym (of_checkpoint fault)) after };
+      unchanged = λ memory. record { batches = bs; settled = commits.unchanged memory; means = means };
+      any_moment = change_says (Configured g) bs (batch ∷ []) entries entries journal.name old.past new.past means after commits.any_moment;
+      elsewhere = commits.elsewhere;
+      opened = commits.opened;
+    }
 
 -- THE WHOLE OF A COMMIT
 
--- what the journal says while it begins anew is what it said
-pub shorten_moment : (g : Granularity) (entries next : List Entry) (name : Name) (old mid : Past) → Passes (AtOwn name (λ a b. Says (Configured g) entries name b)) old mid → Passes (AtOwn name (SaysEither (Folds g) entries next name)) old mid
-shorten_moment g entries next name old mid first =
-    passes_weaker (AtOwn name (λ a b. Says (Configured g) entries name b)) (AtOwn name (SaysEither (Folds g) entries next name)) old mid first (λ a c was step. record { here = inl (folds_says g entries name c step.here); elsewhere = step.elsewhere })
+-- nothing is written
+module _ (g : Granularity) (journal : JournalState) (entries : List Entry) (now : ManifestState) (next : List Entry) (result : Result (Unit {0}) DiskErr) where
+  abbrev was : ManifestState
+  was = record { journal = journal; granularity = g; entries = entries; next = entries }
 
--- a claim of the manifest after that, said of the manifest before it
-pub add_moment : (g h : Granularity) (entries listed next later : List Entry) (name own : Name) (mid new : Past) → h ≡ g → own ≡ name → listed ≡ entries → later ≡ next → Passes (AtOwn own (SaysEither (Configured h) listed later own)) mid new
-    → Passes (AtOwn name (SaysEither (Configured g) entries next name)) mid new
-add_moment g h entries listed next later name own mid new same_g same_name same_entries same_next passes =
-    let P : Granularity → Type 0 = λ k. Passes (AtOwn own (SaysEither (Configured k) listed later own)) mid new in
-    let Q : Name → Type 0 = λ n. Passes (AtOwn n (SaysEither (Configured g) listed later n)) mid new in
-    let R : List Entry → Type 0 = λ l. Passes (AtOwn name (SaysEither (Configured g) l later name)) mid new in
-    let S : List Entry → Type 0 = λ l. Passes (AtOwn name (SaysEither (Configured g) entries l name)) mid new in subst S same_next (subst R same_entries (subst Q same_name (subst P same_g passes)))
+  pub nothing_configured : (at : Standing) → of_batches.IsKept (Configured g) journal at.files at.opened at.past entries → IsKept now at.files at.opened at.past → (IsErrOf result Fault → ⊥) → CommitsEntries Configured next result was now at at
+  nothing_configured at kept still no_fault = record {
+    made = on_ok_always result still;
+    doubt = λ fault. absurd (no_fault fault);
+    unchanged = λ memory. still;
+    any_moment = passes_none (AtOwn journal.name (SaysEither (Configured g) entries next journal.name)) at.past (λ a left. record { here = inl (kept_left (Configured g) journal at.files at.opened at.past entries kept a left); elsewhere = λ n other. refl });
+    elsewhere = λ n other. refl;
+    opened = λ n other. refl;
+  }
 
-pub both_moment : (g : Granularity) (entries next : List Entry) (name : Name) (old mid new : Past) → Passes (AtOwn name (λ a b. Says (Configured g) entries name b)) old mid → Passes (AtOwn name (SaysEither (Configured g) entries next name)) mid new
-    → Passes (AtOwn name (SaysEither (Folds g) entries next name)) old new
-both_moment g entries next name old mid new first second =
-    passes_then (AtOwn name (SaysEither (Folds g) entries next name)) (AtOwn name (SaysEither (Configured g) entries next name)) old mid new (shorten_moment g entries next name old mid first) second (λ a b c was before now step. record {
-      here = either_folds g entries next name b c step.here;
-      elsewhere = λ n other. step.elsewhere n other ∙ before.elsewhere n other;
-    })
+  pub commits_folds : (old new : Standing) → CommitsEntries Configured next result was now old new → CommitsEntries Folds next result was now old new
+  commits_folds old new commits = record {
+    made = commits.made;
+    doubt = commits.doubt;
+    unchanged = commits.unchanged;
+    any_moment =
+        passes_weaker (AtOwn journal.name (SaysEither (Configured g) entries next journal.name)) (AtOwn journal.name (SaysEither (Folds g) entries next journal.name)) old.past new.past commits.any_moment
+        (λ a c left step. record { here = either_folds g entries next journal.name a c step.here; elsewhere = step.elsewhere });
+    elsewhere = commits.elsewhere;
+    opened = commits.opened;
+  }
+
+-- entries that go over to themselves are among any others
+once : (g : Granularity) (entries next : List Entry) (name : Name) (old new : Files) → SaysEither (Configured g) entries entries name old new → SaysEither (Configured g) entries next name old new
+once g entries next name old new (inl says) = inl says
+once g entries next name old new (inr says) = inl says
+
+module _ (was : ManifestState) (next later : List Entry) (short : ManifestState) (old mid : Standing) (failed : Result (Unit {0}) DiskErr)
+    (first : CommitsEntries Configured was.entries failed (record { journal = was.journal; granularity = was.granularity; entries = was.entries; next = later }) short old mid) where
+  short_moment : Passes (AtOwn was.journal.name (SaysEither (Configured was.granularity) was.entries next was.journal.name)) old.past mid.past
+  short_moment =
+      passes_weaker (AtOwn was.journal.name (SaysEither (Configured was.granularity) was.entries was.entries was.journal.name)) (AtOwn was.journal.name (SaysEither (Configured was.granularity) was.entries next was.journal.name)) old.past mid.past
+      first.any_moment (λ a c left step. record { here = once was.granularity was.entries next was.journal.name a c step.here; elsewhere = step.elsewhere })
+
+  -- the journal could not begin anew
+  pub short_commits : (result : Result (Unit {0}) DiskErr) (e : DiskErr) → result ≡ Err e → failed ≡ Err e → CommitsEntries Configured next result was short old mid
+  short_commits result e is was_failed = rw is (record {
+    made = tt;
+    doubt = λ fault. first.doubt (was_failed ∙ fault);
+    unchanged = λ memory. first.unchanged (was_failed ∙ memory);
+    any_moment = short_moment;
+    elsewhere = first.elsewhere;
+    opened = first.opened;
+  })
+
+  -- and then the changes are added
+  pub both_commits : (result : Result (Unit {0}) DiskErr) (now : ManifestState) (new : Standing) → short.granularity ≡ was.granularity → short.journal.name ≡ was.journal.name → short.entries ≡ was.entries → short.next ≡ next
+      → CommitsEntries Configured short.next result short now mid new → CommitsEntries Configured next result was now old new
+  both_commits result now new same_g same_name same_entries same_next second = record {
+    made = second.made;
+    doubt = second.doubt;
+    unchanged = λ memory. second.unchanged memory;
+    any_moment =
+        let P : Granularity → Type 0 = λ k. Passes (AtOwn short.journal.name (SaysEither (Configured k) short.entries short.next short.journal.name)) mid.past new.past in
+        let Q : Name → Type 0 = λ n. Passes (AtOwn n (SaysEither (Configured was.granularity) short.entries short.next n)) mid.past new.past in
+        let R : List Entry → Type 0 = λ l. Passes (AtOwn was.journal.name (SaysEither (Configured was.granularity) l short.next was.journal.name)) mid.past new.past in
+        let S : List Entry → Type 0 = λ l. Passes (AtOwn was.journal.name (SaysEither (Configured was.granularity) was.entries l was.journal.name)) mid.past new.past in
+        let E : Files → Files → Type 0 = AtOwn was.journal.name (SaysEither (Configured was.granularity) was.entries next was.journal.name) in
+        passes_then E E old.past mid.past new.past short_moment (subst S same_next (subst R same_entries (subst Q same_name (subst P same_g second.any_moment))))
+        (λ a b c left before now_left step. record { here = step.here; elsewhere = λ n other. step.elsewhere n other ∙ before.elsewhere n other });
+    elsewhere = λ n other. second.elsewhere n (λ own. other (subst (λ (m : Name). IsOwn m n) same_name own)) ∙ first.elsewhere n other;
+    opened = λ n other. second.opened n (λ own. other (subst (λ (m : Name). IsOwn m n) same_name own)) ∙ first.opened n other;
+  }
 
 -- A REVIEW
 
@@ -155,7 +201,7 @@ review_moment g false before after entries next name old new means means_after p
 
 -- a review that makes no changes in memory: the batches list the entries from before
 pub review_kept : (g : Granularity) (of_commit made : Bool) (journal : JournalState) (files : Files) (opened : Name → ℕ) (past : Past) (before after : List (List ℕ)) (entries next : List Entry) → Configured g before entries → Configured g after (cond of_commit next entries)
-    → (IsTrue made → IsSettledWith journal files opened past after) → (made ≡ false → IsSettledWith journal files opened past before) → ((made ≡ true) × (of_commit ≡ false)) ⊎ (made ≡ false) → IsKept (Configured g) journal files opened past entries
+    → (IsTrue made → IsSettledWith journal files opened past after) → (made ≡ false → IsSettledWith journal files opened past before) → ((made ≡ true) × (of_commit ≡ false)) ⊎ (made ≡ false) → of_batches.IsKept (Configured g) journal files opened past entries
 review_kept g of_commit made journal files opened past before after entries next means means_after taken left which = elim which [
   | inl both ↦ record { batches = after; settled = taken both.0; means = sure_means g of_commit after entries next both.1 means_after }
   | inr unmade ↦ record { batches = before; settled = left unmade; means = means }
@@ -197,7 +243,7 @@ load_means g k h bs es entries same_k same_h same means =
     let Q : List Entry → Type 0 = λ l. Configured h bs l in subst Q (sym same) (subst P (same_k ∙ sym same_h) means)
 
 pub load_kept : (m : ManifestState) (g k : Granularity) (journal : JournalState) (files : Files) (opened : Name → ℕ) (past : Past) (bs : List (List ℕ)) (es : List Entry) → m.journal ≡ journal → m.granularity ≡ g → k ≡ g → m.entries ≡ es
-    → IsSettledWith journal files opened past bs → Configured k bs es → IsKept (Configured m.granularity) m.journal files opened past m.entries
+    → IsSettledWith journal files opened past bs → Configured k bs es → of_batches.IsKept (Configured m.granularity) m.journal files opened past m.entries
 load_kept m g k journal files opened past bs es same_journal same_m same_k same settled means =
     let P : JournalState → Type 0 = λ j. IsSettledWith j files opened past bs in record { batches = bs; settled = subst P (sym same_journal) settled; means = load_means g k m.granularity bs es m.entries same_k same_m same means }
 

@@ -1,8 +1,11 @@
 -- What contracts see of a manifest, and how its files and what a crash may leave of them agree with that.
-use Rattle.std.specs.Prelude.{◌⊎◌, ◌≤◌, ◌*◌, ℕ, ◌+◌, List, [], ◌∷◌, ◌++◌, codes, max}
+use Rattle.std.specs.Prelude.{◌⊎◌, ◌≤◌, ◌*◌, ℕ, ◌+◌, List, [], ◌∷◌, ◌++◌, codes, max, Result, OnOk, IsErrOf}
 use Rattle.disk_model.specs.Files.{Name, Files}
 use Rattle.disk_model.specs.Past.{Past}
+use Rattle.disk_model.specs.declared.disk.DiskErr.{DiskErr}
+use Rattle.disk_model.specs.declared.disk.DiskErr.TheVariants.{Fault, Memory}
 use Rattle.gate_journal.specs.Generations.{HasBatchesOf, KeepsBatches}
+use Rattle.gate_journal.specs.Commits.{Standing, Commits}
 use Rattle.gate_journal.specs.Journal.{JournalState}
 use Rattle.gate_journal.specs.Kept as journal
 use Rattle.partition_names.specs.declared.granularity.Granularity.{Granularity}
@@ -35,6 +38,12 @@ IsKept m files opened past = journal.IsKept (Configured m.granularity) m.journal
 -- After a commit that failed: the batches list the entries from before it or those that it was to make.
 abbrev pub IsUnsure : ManifestState → Files → (Name → ℕ) → Past → Type 0
 IsUnsure m files opened past = journal.IsUnsure (Configured m.granularity) m.journal files opened past m.entries m.next
+
+-- A call that commits to a manifest: its entries go over to the next ones. Means tells what batches list.
+abbrev pub CommitsEntries : (Granularity → List (List ℕ) → List Entry → Type 0) → List Entry → Result (Unit {0}) DiskErr → ManifestState → ManifestState → Standing → Standing → Type 0
+CommitsEntries Means next result was now old new =
+    Commits was.journal.name (journal.SaysEither (Means was.granularity) was.entries next was.journal.name) (OnOk result) (IsErrOf result Fault) (IsErrOf result Memory) (IsKept now new.files new.opened new.past)
+    (IsUnsure now new.files new.opened new.past) (IsKept now new.files new.opened new.past) old new
 
 -- at how many bytes a journal is long for entries that a batch of this size lists
 abbrev pub limit_of : ℕ → ℕ

@@ -4,6 +4,7 @@ ghost use Rattle.std.specs.Int.{IsInRange};
 ghost use Rattle.disk_model.specs.Files.{Name, Rose};
 ghost use Rattle.disk_model.specs.Past.{Passes};
 ghost use Rattle.disk_model.specs.declared.disk.DiskErr.TheVariants.{Fault};
+ghost use Rattle.gate_journal.specs.Commits.{standing};
 ghost use Rattle.gate_journal.specs.Generations.{IsOwn, AtOwn, HasBatchesOf, HasOneOf, IsBadOf};
 ghost use Rattle.gate_journal.specs.Journal.{IsSettledWith, is_of_commit, OnlyRemoves};
 ghost use Rattle.gate_journal.specs.Kept.{Says, SaysEither};
@@ -13,7 +14,7 @@ ghost use Rattle.store_manifest.specs.declared.error.ManifestErr.TheVariants.{Di
 ghost use Rattle.store_manifest.specs.Batches.{config, batch_of, whole, Configured, Folds, IsBadBatch};
 ghost use Rattle.store_manifest.specs.Entries.{all_changed, AllCanFollow, AreEntries};
 ghost use Rattle.store_manifest.specs.Listing.{entries_of, AreLists};
-ghost use Rattle.store_manifest.specs.Manifest.{manifest_name, IsKept, IsUnsure, IsLong, Lists, StaysOrBegins, limit_of};
+ghost use Rattle.store_manifest.specs.Manifest.{manifest_name, CommitsEntries, IsKept, IsUnsure, IsLong, Lists, StaysOrBegins, limit_of};
 
 use crate::folding::{Folded, Folding};
 use crate::listing::Listing;
@@ -141,7 +142,8 @@ impl Manifest {
         requires few { length (batch_of changes.now) ≤ GREATEST_BATCH }
         requires kept { IsTrue D.tells → IsKept self.old (D.files disk.old) (D.opened disk.old) (D.past disk.old) }
 
-        ensures made { IsTrue D.tells → OnOk result (IsKept self.new (D.files disk.new) (D.opened disk.new) (D.past disk.new)) }
+        // A crash at any moment leaves the entries from before it or those with all the changes, and of every name that isn't the manifest's what it might have left before.
+        ensures commits { IsTrue D.tells → CommitsEntries Folds (all_changed self.old.entries changes.now) result self.old self.new (standing D.Disk disk.old) (standing D.Disk disk.new) }
         ensures entries { OnOk result (self.new.entries ≡ all_changed self.old.entries changes.now) }
         ensures state { (self.new.granularity ≡ self.old.granularity) × (self.new.journal.name ≡ self.old.journal.name) }
         ensures nothing { changes.now ≡ [] → (result ≡ Ok tt) × (disk.new ≡ disk.old) }
@@ -154,17 +156,10 @@ impl Manifest {
         ensures short { let size = length (whole self.old.granularity self.old.entries) in changes.now ≢ [] → size ≤ GREATEST_BATCH
             → OnOk result (self.new.journal.current.place + 1 < limit_of size + length (batch_of changes.now) + 5) }
 
-        // A crash at any moment leaves the entries from before it or those with all the changes, and of every name that isn't the manifest's what it might have left before.
-        ensures any_moment { IsTrue D.tells → Passes (AtOwn self.old.journal.name (SaysEither (Folds self.old.granularity) self.old.entries (all_changed self.old.entries changes.now) self.old.journal.name)) (D.past disk.old) (D.past disk.new) }
-        ensures elsewhere { IsTrue D.tells → (n : Name) → (IsOwn self.old.journal.name n → ⊥) → D.files disk.new n ≡ D.files disk.old n }
-        ensures opened { IsTrue D.tells → (n : Name) → (IsOwn self.old.journal.name n → ⊥) → D.opened disk.new n ≡ D.opened disk.old n }
-
         ensures sound { OnOk result (self.new.journal.sound ≡ true) }
-        ensures doubt { IsTrue D.tells → IsErrOf result DiskErr.Fault → IsUnsure self.new (D.files disk.new) (D.opened disk.new) (D.past disk.new) }
         ensures doubtful { IsErrOf result DiskErr.Fault → (self.new.entries ≡ self.old.entries) × (self.new.next ≡ all_changed self.old.entries changes.now) }
         ensures fault { IsErrOf result DiskErr.Fault → (self.new.journal.sound ≡ false) × Rose (D.faults disk.old) (D.faults disk.new) }
         ensures memory { IsErrOf result DiskErr.Memory → (self.new.journal.sound ≡ true) × (self.new.entries ≡ self.old.entries) }
-        ensures unchanged { IsTrue D.tells → IsErrOf result DiskErr.Memory → IsKept self.new (D.files disk.new) (D.opened disk.new) (D.past disk.new) }
         ensures untouched { let size = length (whole self.old.granularity self.old.entries) in IsErrOf result DiskErr.Memory → (IsLong (self.old.journal.current.place + 1) size → ⊥)
             → (self.new.journal ≡ self.old.journal) × (disk.new ≡ disk.old) }
         ensures faults { D.faults disk.old ≤ D.faults disk.new }
@@ -215,17 +210,13 @@ impl Manifest {
     fn shorten<D: Disk>(&mut self, disk: &mut D) -> Result<(), DiskErr>
         requires sound { IsTrue self.old.journal.sound }
         requires kept { IsTrue D.tells → IsKept self.old (D.files disk.old) (D.opened disk.old) (D.past disk.old) }
-        ensures kept { IsTrue D.tells → (IsErrOf result DiskErr.Fault → ⊥) → IsKept self.new (D.files disk.new) (D.opened disk.new) (D.past disk.new) }
+        ensures commits { IsTrue D.tells → CommitsEntries Configured self.old.entries result self.old self.new (standing D.Disk disk.old) (standing D.Disk disk.new) }
         ensures state { (self.new.granularity ≡ self.old.granularity) × (self.new.journal.name ≡ self.old.journal.name) × (self.new.entries ≡ self.old.entries) × (self.new.next ≡ self.old.next) }
         ensures begun { let size = length (whole self.old.granularity self.old.entries) in IsLong (self.old.journal.current.place + 1) size → OnOk result (self.new.journal.current.place ≡ size + 5) }
         ensures grown { let size = length (whole self.old.granularity self.old.entries) in (IsLong (self.old.journal.current.place + 1) size → ⊥) → OnOk result (self.new.journal.current.place ≡ self.old.journal.current.place) }
         ensures untouched { let size = length (whole self.old.granularity self.old.entries) in (IsLong (self.old.journal.current.place + 1) size → ⊥)
             → (result ≡ Ok tt) × (self.new.journal ≡ self.old.journal) × (disk.new ≡ disk.old) }
-        ensures any_moment { IsTrue D.tells → Passes (AtOwn self.old.journal.name (λ a b. Says (Configured self.old.granularity) self.old.entries self.old.journal.name b)) (D.past disk.old) (D.past disk.new) }
-        ensures elsewhere { IsTrue D.tells → (n : Name) → (IsOwn self.old.journal.name n → ⊥) → D.files disk.new n ≡ D.files disk.old n }
-        ensures opened { IsTrue D.tells → (n : Name) → (IsOwn self.old.journal.name n → ⊥) → D.opened disk.new n ≡ D.opened disk.old n }
         ensures sound { (IsErrOf result DiskErr.Fault → ⊥) → self.new.journal.sound ≡ true }
-        ensures doubt { IsTrue D.tells → IsErrOf result DiskErr.Fault → IsUnsure self.new (D.files disk.new) (D.opened disk.new) (D.past disk.new) }
         ensures fault { IsErrOf result DiskErr.Fault → (self.new.journal.sound ≡ false) × Rose (D.faults disk.old) (D.faults disk.new) }
         ensures faults { D.faults disk.old ≤ D.faults disk.new }
     {
@@ -244,15 +235,11 @@ impl Manifest {
         requires follow { AllCanFollow self.old.granularity self.old.entries changes.now }
         requires few { length (batch_of changes.now) ≤ GREATEST_BATCH }
         requires kept { IsTrue D.tells → IsKept self.old (D.files disk.old) (D.opened disk.old) (D.past disk.old) }
-        ensures made { IsTrue D.tells → OnOk result (IsKept self.new (D.files disk.new) (D.opened disk.new) (D.past disk.new)) }
+        ensures commits { IsTrue D.tells → CommitsEntries Configured self.old.next result self.old self.new (standing D.Disk disk.old) (standing D.Disk disk.new) }
         ensures entries { OnOk result (self.new.entries ≡ self.old.next) }
         ensures state { (self.new.granularity ≡ self.old.granularity) × (self.new.journal.name ≡ self.old.journal.name) }
         ensures placed { OnOk result (self.new.journal.current.place ≡ self.old.journal.current.place + (5 + length (batch_of changes.now))) }
-        ensures any_moment { IsTrue D.tells → Passes (AtOwn self.old.journal.name (SaysEither (Configured self.old.granularity) self.old.entries self.old.next self.old.journal.name)) (D.past disk.old) (D.past disk.new) }
-        ensures elsewhere { IsTrue D.tells → (n : Name) → (IsOwn self.old.journal.name n → ⊥) → D.files disk.new n ≡ D.files disk.old n }
-        ensures opened { IsTrue D.tells → D.opened disk.new ≡ D.opened disk.old }
         ensures sound { OnOk result (self.new.journal.sound ≡ true) }
-        ensures doubt { IsTrue D.tells → IsErrOf result DiskErr.Fault → IsUnsure self.new (D.files disk.new) (D.opened disk.new) (D.past disk.new) }
         ensures doubtful { OnErr result ((self.new.entries ≡ self.old.entries) × (self.new.next ≡ self.old.next)) }
         ensures fault { IsErrOf result DiskErr.Fault → (self.new.journal.sound ≡ false) × Rose (D.faults disk.old) (D.faults disk.new) }
         ensures memory { IsErrOf result DiskErr.Memory → (self.new.journal ≡ self.old.journal) × (disk.new ≡ disk.old) }

@@ -1,16 +1,14 @@
-use Rattle.std.proofs.Common.{◌≡◌, ℕ, ◌+◌, sym, ◌∙◌, ap, subst, List, length, Ok}
+use Rattle.std.proofs.Common.{◌≡◌, ℕ, ◌+◌, sym, ◌∙◌, ap, subst, List, length, Ok, Err}
 use Rattle.std.proofs.lemmas.Result.{on_ok_weaker, err_from_is_err_and}
-use Rattle.disk_model.specs.Files.{Name}
-use Rattle.disk_model.specs.Past.{Passes}
-use Rattle.disk_model.specs.declared.disk.DiskErr.TheVariants.{Memory}
-use Rattle.gate_journal.specs.Generations.{IsOwn, AtOwn}
+use Rattle.disk_model.specs.declared.disk.DiskErr.{DiskErr}
+use Rattle.gate_journal.specs.Commits.{standing}
 use Rattle.gate_journal.specs.Kept as journal
 use Rattle.store_manifest.specs.declared.entry.Entry.{Entry}
 use Rattle.store_manifest.specs.Batches.{batch_of, whole, Configured}
 use Rattle.store_manifest.specs.Entries.{all_changed}
-use Rattle.store_manifest.specs.Listing.{entries_of}
-use Rattle.store_manifest.specs.Manifest.{IsLong}
-use Rattle.store_manifest.proofs.Committing.{add_moment, shorten_moment, both_moment, stays_short, some_from_test}
+use Rattle.store_manifest.specs.Listing.{entries_of, next_of}
+use Rattle.store_manifest.specs.Manifest.{IsLong, CommitsEntries}
+use Rattle.store_manifest.proofs.Committing.{nothing_configured, commits_folds, short_commits, both_commits, stays_short, some_from_test}
 use Rattle.store_manifest.proofs.manifest.Manifest.commit.Goals as goal
 
 pub shorten-requires-clause-kept : goal.shorten-requires-clause-kept
@@ -30,7 +28,7 @@ add-requires-clause-prepared g c =
     c.shorten.ensures.state.3 ∙ c.in_ok-prepare.ensures.next ∙ ap (λ (l : List Entry). all_changed l c.args.changes.now) (sym (c.shorten.ensures.state.2 ∙ c.in_ok-prepare.ensures.entries))
 
 pub add-requires-clause-kept : goal.add-requires-clause-kept
-add-requires-clause-kept g c tells = c.in_ok-shorten.ensures.kept tells (λ failed. cc failed)
+add-requires-clause-kept g c tells = (c.in_ok-shorten.ensures.commits tells).made
 
 pub returns-clause-short : goal.returns-clause-short
 returns-clause-short g c =
@@ -44,47 +42,44 @@ returns-clause-short g c =
     stays_short c.self.inside.journal.current.place c.add.new.self.journal.current.place (length (whole c.self.inside.granularity (entries_of c.self.inside.listing.lists.listed.entries))) (length (batch_of c.args.changes.now)) small (λ long. placed ∙ ap (λ (n : ℕ). n + (5 + length (batch_of c.args.changes.now))) (begun long))
     (λ not_long. placed ∙ ap (λ (n : ℕ). n + (5 + length (batch_of c.args.changes.now))) (grown not_long))) c.add.ensures.placed)
 
-pub returns-in_err-shorten-clause-any_moment : goal.returns-in_err-shorten-clause-any_moment
-returns-in_err-shorten-clause-any_moment g c =
-    rw (← c.self.view_is) (λ tells.
-    let P : List Entry → Type 0 = λ l. Passes (AtOwn c.self.inside.journal.name (λ a b. journal.Says (Configured c.self.inside.granularity) l c.self.inside.journal.name b)) (g.D.Disk.past c.args.disk.now) (g.D.Disk.past c.shorten.new.disk) in
-    shorten_moment c.self.inside.granularity (entries_of c.self.inside.listing.lists.listed.entries) (all_changed (entries_of c.self.inside.listing.lists.listed.entries) c.args.changes.now) c.self.inside.journal.name (g.D.Disk.past c.args.disk.now) (g.D.Disk.past c.shorten.new.disk) (subst P c.in_ok-prepare.ensures.entries (c.shorten.ensures.any_moment tells)))
+pub returns-then-is_empty-clause-commits : goal.returns-then-is_empty-clause-commits
+returns-then-is_empty-clause-commits g c tells =
+    let was = c.args.self.now in
+    let at = standing g.D.Disk c.args.disk.now in
+    commits_folds was.granularity was.journal was.entries was _ (Ok tt) at at (nothing_configured was.granularity was.journal was.entries was _ (Ok tt) at (c.requires.kept tells) (c.requires.kept tells) (λ fault. cc fault))
 
-pub returns-clause-any_moment : goal.returns-clause-any_moment
-returns-clause-any_moment g c =
-    rw (← c.self.view_is) (λ tells.
-    let P : List Entry → Type 0 = λ l. Passes (AtOwn c.self.inside.journal.name (λ a b. journal.Says (Configured c.self.inside.granularity) l c.self.inside.journal.name b)) (g.D.Disk.past c.args.disk.now) (g.D.Disk.past c.shorten.new.disk) in
-    let state = c.shorten.ensures.state in
-    both_moment c.self.inside.granularity (entries_of c.self.inside.listing.lists.listed.entries) (all_changed (entries_of c.self.inside.listing.lists.listed.entries) c.args.changes.now) c.self.inside.journal.name (g.D.Disk.past c.args.disk.now) (g.D.Disk.past c.shorten.new.disk) (g.D.Disk.past c.add.new.disk) (subst P c.in_ok-prepare.ensures.entries (c.shorten.ensures.any_moment tells))
-    (add_moment c.self.inside.granularity c.shorten.new.self.granularity (entries_of c.self.inside.listing.lists.listed.entries) c.shorten.new.self.entries (all_changed (entries_of c.self.inside.listing.lists.listed.entries) c.args.changes.now) c.shorten.new.self.next c.self.inside.journal.name c.shorten.new.self.journal.name (g.D.Disk.past c.shorten.new.disk) (g.D.Disk.past c.add.new.disk)
-    state.0 state.1 (state.2 ∙ c.in_ok-prepare.ensures.entries) (state.3 ∙ c.in_ok-prepare.ensures.next) (c.add.ensures.any_moment tells)))
+pub returns-in_err-prepare-clause-commits : goal.returns-in_err-prepare-clause-commits
+returns-in_err-prepare-clause-commits g c =
+    let kept = rw (← c.self.view_is) at c.requires.kept in
+    let p = err_from_is_err_and c.from_residual.result c.from_residual.ensures.1 in
+    let Kept : List Entry → Type 0 = λ l. journal.IsKept (Configured c.self.inside.granularity) c.self.inside.journal (g.D.Disk.files c.args.disk.now) (g.D.Disk.opened c.args.disk.now) (g.D.Disk.past c.args.disk.now) l in
+    let at = standing g.D.Disk c.args.disk.now in
+    rw (← c.self.view_is) (λ tells. commits_folds c.self.inside.granularity c.self.inside.journal _ _ _ c.from_residual.result at at
+    (nothing_configured c.self.inside.granularity c.self.inside.journal _ _ _ c.from_residual.result at (kept tells) (subst Kept (sym c.prepare.ensures.entries) (kept tells)) (λ fault. cc (p.1, p.2, fault))))
 
-pub returns-in_err-shorten-clause-elsewhere : goal.returns-in_err-shorten-clause-elsewhere
-returns-in_err-shorten-clause-elsewhere g c = rw (← c.self.view_is) (λ tells n other. c.shorten.ensures.elsewhere tells n other)
-
-pub returns-in_err-shorten-clause-opened : goal.returns-in_err-shorten-clause-opened
-returns-in_err-shorten-clause-opened g c = rw (← c.self.view_is) (λ tells n other. c.shorten.ensures.opened tells n other)
-
-pub returns-clause-elsewhere : goal.returns-clause-elsewhere
-returns-clause-elsewhere g c =
-    rw (← c.self.view_is) (λ tells n other.
-    let P : Name → Type 0 = λ m. IsOwn m n in
-    c.add.ensures.elsewhere tells n (λ own. other (subst P c.shorten.ensures.state.1 own)) ∙ c.shorten.ensures.elsewhere tells n other)
-
-pub returns-clause-opened : goal.returns-clause-opened
-returns-clause-opened g c = rw (← c.self.view_is) (λ tells n other. ap (λ (f : Name → ℕ). f n) (c.add.ensures.opened tells) ∙ c.shorten.ensures.opened tells n other)
-
-pub returns-in_err-shorten-clause-unchanged : goal.returns-in_err-shorten-clause-unchanged
-returns-in_err-shorten-clause-unchanged g c tells memory =
+pub returns-in_err-shorten-clause-commits : goal.returns-in_err-shorten-clause-commits
+returns-in_err-shorten-clause-commits g c =
     let p = err_from_is_err_and c.from_residual-in_err-shorten.result c.from_residual-in_err-shorten.ensures.1 in
-    let same : c.in_err-shorten.field-0.0 ≡ Memory = cc (memory, p.1, p.2) in
-    let failed = c.in_err-shorten.was in c.shorten.ensures.kept tells (λ fault. cc (fault, failed, same))
+    let Entries : List Entry → Type 0 =
+    λ l. CommitsEntries Configured l c.shorten.result (record { journal = c.self.inside.journal; granularity = c.self.inside.granularity; entries = l; next = next_of c.prepare.new.self })
+    c.shorten.new.self (standing g.D.Disk c.args.disk.now) (standing g.D.Disk c.shorten.new.disk) in
+    rw (← c.self.view_is) (λ tells. commits_folds c.self.inside.granularity c.self.inside.journal _ _ _ c.from_residual-in_err-shorten.result (standing g.D.Disk c.args.disk.now) (standing g.D.Disk c.shorten.new.disk)
+    (short_commits (record { journal = c.self.inside.journal; granularity = c.self.inside.granularity; entries = entries_of c.self.inside.listing.lists.listed.entries; next = next_of c.self.inside.listing })
+    (all_changed (entries_of c.self.inside.listing.lists.listed.entries) c.args.changes.now) (next_of c.prepare.new.self) c.shorten.new.self (standing g.D.Disk c.args.disk.now) (standing g.D.Disk c.shorten.new.disk) c.shorten.result
+    (subst Entries c.in_ok-prepare.ensures.entries (c.shorten.ensures.commits tells))
+    c.from_residual-in_err-shorten.result _ p.1 (c.in_err-shorten.was ∙ ap (λ (e : DiskErr). Err e) (sym p.2))))
 
-pub returns-clause-unchanged : goal.returns-clause-unchanged
-returns-clause-unchanged g c tells memory =
-    let left = c.add.ensures.memory memory in
-    let still = rw memory at c.add.ensures.doubtful in
-    rw (left.0, left.1, still.0, c.add.ensures.state.0) (c.in_ok-shorten.ensures.kept tells (λ failed. cc failed))
+pub returns-clause-commits : goal.returns-clause-commits
+returns-clause-commits g c =
+    let state = c.shorten.ensures.state in
+    let Entries : List Entry → Type 0 =
+    λ l. CommitsEntries Configured l c.shorten.result (record { journal = c.self.inside.journal; granularity = c.self.inside.granularity; entries = l; next = next_of c.prepare.new.self })
+    c.shorten.new.self (standing g.D.Disk c.args.disk.now) (standing g.D.Disk c.shorten.new.disk) in
+    rw (← c.self.view_is) (λ tells. commits_folds c.self.inside.granularity c.self.inside.journal _ _ _ c.add.result (standing g.D.Disk c.args.disk.now) (standing g.D.Disk c.add.new.disk)
+    (both_commits (record { journal = c.self.inside.journal; granularity = c.self.inside.granularity; entries = entries_of c.self.inside.listing.lists.listed.entries; next = next_of c.self.inside.listing })
+    (all_changed (entries_of c.self.inside.listing.lists.listed.entries) c.args.changes.now) (next_of c.prepare.new.self) c.shorten.new.self (standing g.D.Disk c.args.disk.now) (standing g.D.Disk c.shorten.new.disk) c.shorten.result
+    (subst Entries c.in_ok-prepare.ensures.entries (c.shorten.ensures.commits tells))
+    c.add.result c.add.new.self (standing g.D.Disk c.add.new.disk) state.0 state.1 (state.2 ∙ c.in_ok-prepare.ensures.entries) (state.3 ∙ c.in_ok-prepare.ensures.next) (c.add.ensures.commits tells)))
 
 pub returns-in_err-shorten-clause-untouched : goal.returns-in_err-shorten-clause-untouched
 returns-in_err-shorten-clause-untouched g c =

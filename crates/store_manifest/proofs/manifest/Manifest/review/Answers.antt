@@ -12,7 +12,7 @@ review-requires-clause-in_doubt g c tells = let u = rw (← c.self.view_is) at (
 pub returns-in_err-review-clause-any_moment : goal.returns-in_err-review-clause-any_moment
 returns-in_err-review-clause-any_moment g c = rw (← c.self.view_is) (λ tells.
     let u = rw (← c.self.view_is) at (c.requires.doubt tells) in
-    review_moment _ _ u.before u.after _ _ _ _ _ u.means u.means_after (c.review.ensures.any_moment tells u.before u.after u.undecided))
+    review_moment _ _ u.before u.after _ _ _ _ _ u.means u.means_after (c.review.ensures.reviews tells u.before u.after u.undecided).any_moment)
 
 pub returns-else-branch-clause-kept : goal.returns-else-branch-clause-kept
 returns-else-branch-clause-kept g c tells =
@@ -23,40 +23,42 @@ returns-else-branch-clause-kept g c tells =
     let Q : Bool → Type 0 = λ b. Configured after.granularity u.after (cond b after.next after.entries) in
     let R : ManifestState → Type 0 = λ m. IsKept m (g.D.Disk.files c.review.new.disk) (g.D.Disk.opened c.review.new.disk) (g.D.Disk.past c.review.new.disk) in
     subst R (sym is) (review_kept after.granularity c.is_commit_open-of_commit.result c.in_ok-review.field-0 after.journal (g.D.Disk.files c.review.new.disk) (g.D.Disk.opened c.review.new.disk) (g.D.Disk.past c.review.new.disk) u.before u.after after.entries after.next u.means
-    (subst Q (sym c.is_commit_open-of_commit.ensures) u.means_after) (c.in_ok-review.ensures.made tells u.before u.after u.undecided) (c.in_ok-review.ensures.unmade tells u.before u.after u.undecided) which)
+    (subst Q (sym c.is_commit_open-of_commit.ensures) u.means_after) (c.in_ok-review.ensures.reviews tells u.before u.after u.undecided).made (c.in_ok-review.ensures.reviews tells u.before u.after u.undecided).unmade which)
 
 pub returns-else-branch-clause-any_moment : goal.returns-else-branch-clause-any_moment
 returns-else-branch-clause-any_moment g c =
     rw (← c.self.view_is) (λ tells.
     let u = rw (← c.self.view_is) at (c.requires.doubt tells) in
-    review_moment _ _ u.before u.after _ _ _ _ _ u.means u.means_after (c.review.ensures.any_moment tells u.before u.after u.undecided))
+    review_moment _ _ u.before u.after _ _ _ _ _ u.means u.means_after (c.review.ensures.reviews tells u.before u.after u.undecided).any_moment)
 
 pub returns-then-of_commit-clause-any_moment : goal.returns-then-of_commit-clause-any_moment
 returns-then-of_commit-clause-any_moment g c =
     rw (← c.self.view_is) (λ tells.
     let u = rw (← c.self.view_is) at (c.requires.doubt tells) in
-    review_moment _ _ u.before u.after _ _ _ _ _ u.means u.means_after (c.review.ensures.any_moment tells u.before u.after u.undecided))
+    review_moment _ _ u.before u.after _ _ _ _ _ u.means u.means_after (c.review.ensures.reviews tells u.before u.after u.undecided).any_moment)
 
 pub returns-else-branch-clause-elsewhere : goal.returns-else-branch-clause-elsewhere
-returns-else-branch-clause-elsewhere g c = rw (← c.self.view_is) (λ tells n other. c.review.ensures.elsewhere tells n other)
+returns-else-branch-clause-elsewhere g c = rw (← c.self.view_is) (λ tells.
+    let u = rw (← c.self.view_is) at (c.requires.doubt tells) in (c.review.ensures.reviews tells u.before u.after u.undecided).elsewhere)
 
 pub returns-else-branch-clause-opened : goal.returns-else-branch-clause-opened
-returns-else-branch-clause-opened g c = rw (← c.self.view_is) (λ tells n other. c.review.ensures.opened tells n other)
+returns-else-branch-clause-opened g c = rw (← c.self.view_is) (λ tells.
+    let u = rw (← c.self.view_is) at (c.requires.doubt tells) in (c.review.ensures.reviews tells u.before u.after u.undecided).opened)
 
 pub returns-in_err-review-clause-one_file : goal.returns-in_err-review-clause-one_file
-returns-in_err-review-clause-one_file g c = rw (← c.self.view_is) (λ tells. (c.review.ensures.one_file tells, c.review.ensures.one_file_moment tells))
+returns-in_err-review-clause-one_file g c = rw (← c.self.view_is) (λ tells. c.review.ensures.one_file tells)
 
 pub returns-in_err-review-clause-quiet : goal.returns-in_err-review-clause-quiet
 returns-in_err-review-clause-quiet g c = rw (← c.self.view_is) c.review.ensures.quiet
 
 pub returns-else-branch-clause-one_file : goal.returns-else-branch-clause-one_file
-returns-else-branch-clause-one_file g c = rw (← c.self.view_is) (λ tells. (c.review.ensures.one_file tells, c.review.ensures.one_file_moment tells))
+returns-else-branch-clause-one_file g c = rw (← c.self.view_is) (λ tells. c.review.ensures.one_file tells)
 
 pub returns-else-branch-clause-quiet : goal.returns-else-branch-clause-quiet
 returns-else-branch-clause-quiet g c = rw (← c.self.view_is) c.review.ensures.quiet
 
 pub returns-then-of_commit-clause-one_file : goal.returns-then-of_commit-clause-one_file
-returns-then-of_commit-clause-one_file g c = rw (← c.self.view_is) (λ tells. (c.review.ensures.one_file tells, c.review.ensures.one_file_moment tells))
+returns-then-of_commit-clause-one_file g c = rw (← c.self.view_is) (λ tells. c.review.ensures.one_file tells)
 
 pub returns-then-of_commit-clause-quiet : goal.returns-then-of_commit-clause-quiet
 returns-then-of_commit-clause-quiet g c = rw (← c.self.view_is) c.review.ensures.quiet
