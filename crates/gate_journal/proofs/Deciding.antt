@@ -12,6 +12,7 @@ use Rattle.gate_journal.specs.declared.journal.Pending.{Pending}
 use Rattle.gate_journal.specs.declared.journal.Pending.TheVariants.{Nothing, Switch, Removal}
 use Rattle.gate_journal.specs.Generations.{IsOwn, AtOwn, HasOneOf, HasBatchesOf, generation_batches}
 use Rattle.gate_journal.specs.Plain.{PlainState, IsSettled, IsInDoubt}
+use Rattle.gate_journal.proofs.Results.{if_ok}
 use Rattle.gate_journal.proofs.Elsewhere.{settled_stays, journal_left}
 use Rattle.gate_journal.proofs.Files.{Anyhow}
 use Rattle.gate_journal.proofs.Holding.{holds_at, same_left, holds_left, settled_as}
@@ -28,10 +29,6 @@ stays_same n a c same = ap (λ (f : Files). f n) same
 
 pub open_as : (pending other : Pending) (journal : JournalState) (files : Files) (opened : Name → ℕ) (past : Past) (before after : List (List ℕ)) → pending ≡ other → IsOpen pending journal files opened past before after → IsOpen other journal files opened past before after
 open_as pending other journal files opened past before after is = subst (λ (p : Pending). IsOpen p journal files opened past before after) is
-
-if_ok : {T E : Type 0} {P Q : T → Type 0} (r : Result T E) → ((x : T) → P x → Q x) → IfOk r P → IfOk r Q
-if_ok {T} {E} {P} {Q} (Ok x) f is = f x is
-if_ok {T} {E} {P} {Q} (Err e) f is = tt
 
 module _ (journal : JournalState) (files : Files) (opened : Name → ℕ) (past : Past) (before after : List (List ℕ)) where
   abbrev was : Standing

@@ -1,5 +1,5 @@
 -- One name's file goes over to any content while the others stay.
-use Rattle.std.proofs.Common.{◌≡◌, inl, inr, ℕ, ◌+◌, List, [], ◌++◌, length, Some, None, Result, Ok, Err, OnOk, refl, sym, ◌∙◌, ap, subst, arith}
+use Rattle.std.proofs.Common.{◌≡◌, inl, inr, ℕ, ◌+◌, List, [], ◌++◌, length, Some, None, refl, sym, ◌∙◌, ap, subst, arith}
 use Rattle.std.proofs.lemmas.Bool.{cases_lt}
 use Rattle.std.proofs.lemmas.List.{drop_all, append-nil}
 use Rattle.disk_model.specs.Files.{Name, Content, Files, At, HasFile, KeptOr, Overwritten, overwritten, size_of}
@@ -33,10 +33,6 @@ pub written_whole : (name : Name) (bytes : List ℕ) (mid new : Files) → mid n
 written_whole name bytes mid new empty step =
     let file = from_file (λ (b c : List ℕ). c ≡ overwritten 0 bytes b) [] (mid name) (new name) empty step.here in
     file.1 ∙ ap (λ (l : List ℕ). Some l) (file.2 ∙ ap (λ (l : List ℕ). bytes ++ l) (drop_all (0 + length bytes) [] (omega arith)) ∙ append-nil bytes)
-
-pub on_ok_both : {T E P Q S : Type 0} (r : Result T E) → (P → Q → S) → OnOk r P → OnOk r Q → OnOk r S
-on_ok_both (Ok x) both p q = both p q
-on_ok_both (Err e) both p q = tt
 
 pub has_file : (files later : Files) (name : Name) (n : ℕ) → later ≡ files → size_of (files name) ≡ Some n → HasFile later name (λ b. Unit {0})
 has_file files later name n same size = go (files name) refl size

@@ -20,6 +20,7 @@ mod Owned
 pub mod Owning
 mod Pieces
 mod Removing
+pub mod Results
 mod Reviewing
 mod Steps
 mod Switching

@@ -1,5 +1,5 @@
 -- The next generation's file is made, and then the file that tells the generation tells it.
-use Rattle.std.proofs.Common.{◌≡◌, ◌≢◌, inl, inr, ℕ, List, Some, Result, Ok, Err, OnOk, sym, ◌∙◌, ap, subst, arith}
+use Rattle.std.proofs.Common.{◌≡◌, ◌≢◌, inl, inr, ℕ, List, Some, sym, ◌∙◌, ap, subst, arith}
 use Rattle.disk_model.specs.Files.{Name, Files, At}
 use Rattle.disk_model.specs.Past.{Past, MayLeave, Passes, Only}
 use Rattle.disk_model.proofs.Passing.{passes_then, passes_weaker, only_elsewhere}
@@ -7,10 +7,6 @@ use Rattle.gate_journal.specs.Journal.{Switches, IsLeft}
 use Rattle.gate_journal.specs.Plain.{PlainState, IsJournal, BeforeOrAfter, IsSettled}
 use Rattle.gate_journal.proofs.Elsewhere.{settled_stays}
 use Rattle.gate_journal.proofs.Files.{Anyhow}
-
-pub on_ok_always : {T E P : Type 0} (r : Result T E) → P → OnOk r P
-on_ok_always (Ok x) p = p
-on_ok_always (Err e) p = tt
 
 pub settled_journal : (journal : PlainState) (files : Files) (opened : Name → ℕ) (past : Past) (bs : List (List ℕ)) → IsSettled journal files opened past bs → (image : Files) → MayLeave past image → IsJournal bs (image journal.name)
 settled_journal journal files opened past bs settled image left = subst (IsJournal bs) (sym (settled.durable image left)) settled.reads

@@ -1,18 +1,19 @@
 -- A commit of changes, a checkpoint before it, and what a load finds.
-use Rattle.std.proofs.Common.{◌≡◌, ◌≢◌, ◌⊎◌, inl, inr, ℕ, ◌+◌, ◌<◌, ◌≤◌, ◌==◌, Bool, true, false, IsTrue, cond, List, [], ◌∷◌, ◌++◌, length, All, Result, Ok, Err, IfOk, OnOk, OnErr, IsErrOf, refl, sym, ◌∙◌, ap, subst, arith}
+use Rattle.std.proofs.Common.{◌≡◌, ◌≢◌, ◌⊎◌, inl, inr, ℕ, ◌+◌, ◌<◌, ◌≤◌, ◌==◌, Bool, true, false, IsTrue, cond, List, [], ◌∷◌, ◌++◌, length, All, Result, Err, OnOk, OnErr, IsErrOf, refl, sym, ◌∙◌, ap, subst, arith}
 use Rattle.std.proofs.lemmas.Bool.{cases_lt}
-use Rattle.std.proofs.lemmas.Result.{on_ok_weaker, IfErr-at_err}
+use Rattle.std.proofs.lemmas.Result.{on_err_weaker, IfErr-at_err}
 use Rattle.disk_model.specs.Files.{Name, Files}
 use Rattle.disk_model.specs.Past.{Past, Passes, MayLeave}
 use Rattle.disk_model.specs.declared.disk.DiskErr.{DiskErr}
-use Rattle.disk_model.specs.declared.disk.DiskErr.TheVariants.{Fault}
-use Rattle.disk_model.proofs.Passing.{passes_none, passes_then, passes_weaker}
+use Rattle.disk_model.specs.declared.disk.DiskErr.TheVariants.{Fault, Memory}
+use Rattle.disk_model.proofs.Passing.{passes_then, passes_weaker}
 use Rattle.gate_journal.specs.Commits.{Standing, CommitsBatches}
 use Rattle.gate_journal.specs.Generations.{IsOwn, HasBatchesOf, AtOwn, HasOneOf, KeepsBatches}
 use Rattle.gate_journal.specs.Journal.{JournalState, IsSettledWith, is_of_commit}
 use Rattle.gate_journal.specs.Kept as of_batches
-use Rattle.gate_journal.specs.Kept.{Says, SaysEither}
-use Rattle.gate_journal.proofs.Keeping.{change_says, kept_left, one_value}
+use Rattle.gate_journal.specs.Kept.{Says, SaysEither, CommitsValue}
+use Rattle.gate_journal.proofs.Keeping.{commits_mean, change_says, nothing_said, one_value}
+use Rattle.gate_journal.proofs.Results.{on_ok_always, on_err_always}
 use Rattle.gate_journal.proofs.Holding.{holds_left}
 use Rattle.partition_names.specs.declared.granularity.Granularity.{Granularity}
 use Rattle.store_manifest.specs.declared.entry.Entry.{Entry}
@@ -44,14 +45,6 @@ some_from_test (c ∷ cs) test = λ none. let wrong : c ∷ cs ≡ [] = none in 
 pub folds_says : (g : Granularity) (es : List Entry) (name : Name) (image : Files) → Says (Configured g) es name image → Says (Folds g) es name image
 folds_says g es name image says = record { batches = says.batches; has = says.has; means = configured_folds g says.batches es says.means }
 
-on_ok_always : {T E P : Type 0} (r : Result T E) → P → OnOk r P
-on_ok_always (Ok x) p = p
-on_ok_always (Err e) p = tt
-
-on_ok_both : {T E P Q S : Type 0} (r : Result T E) → (P → Q → S) → OnOk r P → OnOk r Q → OnOk r S
-on_ok_both (Ok x) both p q = both p q
-on_ok_both (Err e) both p q = tt
-
 either_folds : (g : Granularity) (one other : List Entry) (name : Name) (old new : Files) → SaysEither (Configured g) one other name old new → SaysEither (Folds g) one other name old new
 either_folds g one other name old new (inl says) = inl (folds_says g one name new says)
 either_folds g one other name old new (inr says) = inr (folds_says g other name new says)
@@ -65,29 +58,13 @@ module _ (g : Granularity) (bs : List (List ℕ)) (entries : List Entry) (change
 
   pub add_commits : (journal now : JournalState) (listed later next : List Entry) (result : Result (Unit {0}) DiskErr) (old new : Standing) → next ≡ all_changed entries changes → is_of_commit now.pending ≡ true → OnOk result (listed ≡ next)
       → OnErr result ((listed ≡ entries) × (later ≡ next)) → CommitsBatches bs (bs ++ batch ∷ []) result journal now old new
-      → CommitsEntries Configured next result (record { journal = journal; granularity = g; entries = entries; next = next }) (record { journal = now; granularity = g; entries = listed; next = later }) old new
+      → CommitsValue (Configured g) entries next listed later (OnOk result) (IsErrOf result Fault) (IsErrOf result Memory) journal now old new
   add_commits journal now listed later next result old new is_next of_commit done failed commits =
       let Lists : List Entry → Type 0 = λ l. Configured g (bs ++ batch ∷ []) l in
       let OfCommit : Bool → Type 0 = λ b. Configured g (bs ++ batch ∷ []) (cond b later listed) in
       let after = subst Lists (sym is_next) commit_means in
-      record {
-        made = on_ok_both result (λ is settled. record { batches = bs ++ batch ∷ []; settled = settled; means = subst Lists (sym is) after }) done commits.made;
-        doubt = λ fault.
-            let still = IfErr-at_err (λ (e : DiskErr). (listed ≡ entries) × (later ≡ next)) fault failed in
-            record {
-              before = bs;
-              after = bs ++ batch ∷ [];
-              undecided = commits.doubt fault;
-              means = subst (Configured g bs) (sym still.0) means;
-              means_after = subst OfCommit (sym of_commit) (subst Lists (sym still.1) after);
-            };
-        unchanged = λ memory.
-            let still = IfErr-at_err (λ (e : DiskErr). (listed ≡ entries) × (later ≡ next)) memory failed in
-            record { batches = bs; settled = commits.unchanged memory; means = subst (Configured g bs) (sym still.0) means };
-        any_moment = change_says (Configured g) bs (bs ++ batch ∷ []) entries next journal.name old.past new.past means after commits.any_moment;
-        elsewhere = commits.elsewhere;
-        opened = commits.opened;
-      }
+      commits_mean (Configured g) entries next listed later journal now bs (bs ++ batch ∷ []) result old new means after done (on_err_weaker result (λ still. still.0) failed)
+      (λ fault. subst OfCommit (sym of_commit) (subst Lists (sym (IfErr-at_err (λ (e : DiskErr). (listed ≡ entries) × (later ≡ next)) fault failed).1) after)) commits
 
 -- A CHECKPOINT
 
@@ -98,32 +75,25 @@ whole_means g bs entries batch is means =
 
 pub whole_commits : (g : Granularity) (bs : List (List ℕ)) (entries next : List Entry) (batch : List ℕ) → batch ≡ whole g entries → Configured g bs entries → (journal now : JournalState) (result : Result (Unit {0}) DiskErr) (old new : Standing)
     → (IsErrOf result Fault → is_of_commit now.pending ≡ false) → CommitsBatches bs (batch ∷ []) result journal now old new
-    → CommitsEntries Configured entries result (record { journal = journal; granularity = g; entries = entries; next = next }) (record { journal = now; granularity = g; entries = entries; next = next }) old new
+    → CommitsValue (Configured g) entries entries entries next (OnOk result) (IsErrOf result Fault) (IsErrOf result Memory) journal now old new
 whole_commits g bs entries next batch is means journal now result old new of_checkpoint commits =
-    let after = whole_means g bs entries batch is means in
     let OfCommit : Bool → Type 0 = λ b. Configured g (batch ∷ []) (cond b next entries) in
-    record {
-      made = on_ok_weaker result (λ settled. record { batches = batch ∷ []; settled = settled; means = after }) commits.made;
-      doubt = λ fault. record { before = bs; after = batch ∷ []; undecided = commits.doubt fault; means = means; means_after = subst OfCommit (sym (of_checkpoint fault)) after };
-      unchanged = λ memory. record { batches = bs; settled = commits.unchanged memory; means = means };
-      any_moment = change_says (Configured g) bs (batch ∷ []) entries entries journal.name old.past new.past means after commits.any_moment;
-      elsewhere = commits.elsewhere;
-      opened = commits.opened;
-    }
+    let after = whole_means g bs entries batch is means in
+    commits_mean (Configured g) entries entries entries next journal now bs (batch ∷ []) result old new means after (on_ok_always result refl) (on_err_always result refl) (λ fault. subst OfCommit (sym (of_checkpoint fault)) after) commits
 
 -- THE WHOLE OF A COMMIT
 
--- nothing is written
 module _ (g : Granularity) (journal : JournalState) (entries : List Entry) (now : ManifestState) (next : List Entry) (result : Result (Unit {0}) DiskErr) where
   abbrev was : ManifestState
   was = record { journal = journal; granularity = g; entries = entries; next = entries }
 
+  -- the disk was left alone
   pub nothing_configured : (at : Standing) → of_batches.IsKept (Configured g) journal at.files at.opened at.past entries → IsKept now at.files at.opened at.past → (IsErrOf result Fault → ⊥) → CommitsEntries Configured next result was now at at
   nothing_configured at kept still no_fault = record {
     made = on_ok_always result still;
     doubt = λ fault. absurd (no_fault fault);
     unchanged = λ memory. still;
-    any_moment = passes_none (AtOwn journal.name (SaysEither (Configured g) entries next journal.name)) at.past (λ a left. record { here = inl (kept_left (Configured g) journal at.files at.opened at.past entries kept a left); elsewhere = λ n other. refl });
+    any_moment = nothing_said (Configured g) entries next journal at kept;
     elsewhere = λ n other. refl;
     opened = λ n other. refl;
   }
@@ -215,10 +185,6 @@ stays_short place last size batch small begun grown = elim (cases_lt (place + 1)
 ]
 
 -- A LOAD
-
-pub if_ok : {T E : Type 0} {P Q : T → Type 0} (r : Result T E) → ((x : T) → P x → Q x) → IfOk r P → IfOk r Q
-if_ok {T} {E} {P} {Q} (Ok x) f is = f x is
-if_ok {T} {E} {P} {Q} (Err e) f is = tt
 
 pub one_listing : (g h : Granularity) (name : Name) (image : Files) (x y : List Entry) → Says (Folds g) x name image → Says (Folds h) y name image → x ≡ y
 one_listing g h name image x y one two =

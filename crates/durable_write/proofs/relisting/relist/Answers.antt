@@ -66,3 +66,9 @@ returns-clause-frame g c tells = passes_weaker _ _ _ _ (c.commit.ensures.commits
 
 pub returns-in_err-commit-clause-frame : goal.returns-in_err-commit-clause-frame
 returns-in_err-commit-clause-frame g c tells = passes_weaker _ _ _ _ (c.commit.ensures.commits tells).any_moment (λ a b was step. record { here = tt; elsewhere = step.elsewhere })
+
+pub returns-clause-elsewhere : goal.returns-clause-elsewhere
+returns-clause-elsewhere g c tells = (c.commit.ensures.commits tells).elsewhere
+
+pub returns-clause-opened : goal.returns-clause-opened
+returns-clause-opened g c tells = (c.commit.ensures.commits tells).opened

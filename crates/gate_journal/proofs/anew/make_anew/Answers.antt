@@ -2,7 +2,8 @@ use Rattle.std.proofs.Common.{subst}
 use Rattle.std.proofs.lemmas.Result.{on_ok_weaker}
 use Rattle.disk_model.specs.Files.{Content}
 use Rattle.disk_model.specs.Past.{Only}
-use Rattle.gate_journal.proofs.Files.{then_loosely, written_whole, on_ok_both}
+use Rattle.gate_journal.proofs.Results.{on_ok_both}
+use Rattle.gate_journal.proofs.Files.{then_loosely, written_whole}
 use Rattle.gate_journal.proofs.anew.make_anew.Goals as goal
 
 pub returns-clause-made : goal.returns-clause-made

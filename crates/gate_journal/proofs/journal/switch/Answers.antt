@@ -4,8 +4,9 @@ use Rattle.disk_model.specs.Files.{Name}
 use Rattle.disk_model.specs.Past.{Passes}
 use Rattle.gate_journal.specs.Journal.{Switches}
 use Rattle.gate_journal.specs.Plain.{IsSettled, IsInDoubt}
+use Rattle.gate_journal.proofs.Results.{on_ok_always}
 use Rattle.gate_journal.proofs.Files.{Anyhow}
-use Rattle.gate_journal.proofs.Switching.{on_ok_always, making_passes, made_settled, making_left, switch_passes, still_durable, left_same, files_same, passes_same}
+use Rattle.gate_journal.proofs.Switching.{making_passes, made_settled, making_left, switch_passes, still_durable, left_same, files_same, passes_same}
 use Rattle.gate_journal.proofs.journal.switch.Goals as goal
 
 pub commit-requires-clause-settled : goal.commit-requires-clause-settled

@@ -1,4 +1,4 @@
-use Rattle.std.proofs.Common.{ℕ, ◌+◌, Result, Ok, Err, OnErr, sym, ◌∙◌, ap, subst}
+use Rattle.std.proofs.Common.{ℕ, ◌+◌, sym, ◌∙◌, ap, subst}
 use Rattle.std.proofs.lemmas.Result.{err_from_is_err_and}
 use Rattle.std.specs.Int.{to_le_bytes, w64}
 use Rattle.disk_model.specs.Files.{Files, Name}
@@ -7,14 +7,11 @@ use Rattle.gate_journal.specs.Journal.{JournalState, state_of, is_of_commit, is_
 use Rattle.gate_journal.specs.declared.journal.Pending.{Pending}
 use Rattle.gate_journal.specs.declared.journal.Pending.TheVariants.{Nothing}
 use Rattle.gate_journal.specs.Generations.{generation_batches}
+use Rattle.gate_journal.proofs.Results.{on_err_always}
 use Rattle.gate_journal.proofs.Deciding.{half_switched, unswitched_reviews, still_reviews, not_switched, over_reviews, half_over_reviews}
 use Rattle.gate_journal.proofs.Removing.{none_before}
 use Rattle.gate_journal.proofs.Files.{anyhow_none, unmoved, then_loosely}
 use Rattle.gate_journal.proofs.journal.Journal.review_switch.Goals as goal
-
-on_err_always : {T E P : Type 0} (r : Result T E) → P → OnErr r P
-on_err_always (Ok x) p = tt
-on_err_always (Err e) p = p
 
 pub review-requires-clause-unsound : goal.review-requires-clause-unsound
 review-requires-clause-unsound g c = (sym c.is_sound.ensures ∙ c.if-is_sound.false)

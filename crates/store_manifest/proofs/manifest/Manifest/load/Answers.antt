@@ -3,10 +3,11 @@ use Rattle.disk_model.specs.Files.{Name}
 use Rattle.gate_journal.specs.Generations.{HasBatchesOf}
 use Rattle.partition_names.specs.declared.granularity.Granularity.{Granularity}
 use Rattle.store_manifest.specs.declared.entry.Entry.{Entry}
+use Rattle.gate_journal.proofs.Results.{if_ok}
 use Rattle.store_manifest.specs.Batches.{Configured}
 use Rattle.store_manifest.specs.Listing.{entries_of}
 use Rattle.store_manifest.specs.Manifest.{manifest_name}
-use Rattle.store_manifest.proofs.Committing.{load_moment, load_reads, load_opened, load_unopened, load_means, load_kept, first_moment, first_reads, if_ok, nothing_folded, good_folded}
+use Rattle.store_manifest.proofs.Committing.{load_moment, load_reads, load_opened, load_unopened, load_means, load_kept, first_moment, first_reads, nothing_folded, good_folded}
 use Rattle.store_manifest.proofs.Meaning.{configured_folds}
 use Rattle.store_manifest.proofs.Order.{configured_entries}
 use Rattle.store_manifest.proofs.manifest.Manifest.load.Goals as goal
