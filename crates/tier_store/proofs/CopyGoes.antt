@@ -82,7 +82,7 @@ module _ {S : Type 0} (files_of : S → Files) (opened_of : S → Name → ℕ) 
         held = begun.1
 
         of : IsOfPlace old.stores r
-        of = All-contains (IsOfPlace old.stores) limbo r stand within
+        of = All-contains (IsOfPlace old.stores) limbo r stand.0 within
 
         place : of.place ≡ from + 1
         place = let one = ap (λ (n : Name). n.0) of.named in let two = ap (λ (n : Name). n.0) named in omega (arith, one, two)

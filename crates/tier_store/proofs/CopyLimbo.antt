@@ -71,7 +71,7 @@ module _ (tells : Bool) (all : SeenAll) (from : ℕ) (move : MoveState) (files :
   back_of = free_of ahead retired
 
   of_place : (r : Retired) → Contains all.limbo r → IsOfPlace all.stores r
-  of_place r within = All-contains (IsOfPlace all.stores) all.limbo r stand within
+  of_place r within = All-contains (IsOfPlace all.stores) all.limbo r stand.0 within
 
   -- what is listed in a place is ahead there
   listed_ahead : (h : Filed) (p : Place) → Contains (list_at (from + 1) held) h → filed_at h ≡ p → file_at p ahead ≡ None → ⊥

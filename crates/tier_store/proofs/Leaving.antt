@@ -1,7 +1,7 @@
 -- A retirement: what its files are in limbo, and what comes of the stores.
-use Rattle.std.proofs.Common.{◌≡◌, ◌≢◌, ◌⊎◌, inl, inr, Bool, ℕ, zero, suc, ◌<◌, ◌+◌, ◌++◌, List, [], ◌∷◌, length, map, filter, get_or, Some, refl, sym, ◌∙◌, ap, subst, arith}
-use Rattle.std.specs.Prelude.{All, Contains, IsTrue, Result, slice_get}
-use Rattle.std.proofs.lemmas.List.Elements.{All-append, All-contains, Contains-append_cases, Contains-append_right, Contains-get_or, filter_passes}
+use Rattle.std.proofs.Common.{◌≡◌, ◌≢◌, ◌⊎◌, inl, inr, Bool, ℕ, zero, suc, ◌<◌, ◌≤◌, ◌+◌, ◌++◌, List, [], ◌∷◌, length, map, filter, get_or, Some, refl, sym, ◌∙◌, ap, subst, arith}
+use Rattle.std.specs.Prelude.{All, Contains, IsTrue, Result, nat_eq, slice_get}
+use Rattle.std.proofs.lemmas.List.Elements.{All-append, All-contains, All-filter, All-take, Contains-append_cases, Contains-append_right, Contains-get_or, filter_passes}
 use Rattle.disk_model.specs.Files.{Name, Files}
 use Rattle.disk_model.specs.Past.{Passes}
 use Rattle.disk_model.specs.declared.disk.DiskErr.{DiskErr}
@@ -18,13 +18,14 @@ use Rattle.store_manifest.specs.declared.entry.Entry.{Entry}
 use Rattle.durable_write.specs.Ahead.{without_all}
 use Rattle.durable_write.specs.Ends.{End, Done, Spent, end_of_error}
 use Rattle.durable_write.specs.Held.{Filed, IsListed, entry_of, file_of, filed_at}
-use Rattle.durable_write.proofs.Listed.{before_apart}
+use Rattle.durable_write.specs.Plan.{of_row}
+use Rattle.durable_write.proofs.Listed.{before_apart, rise_filter}
 use Rattle.durable_write.proofs.Names.{same_place}
 use Rattle.durable_write.proofs.Retiring.{all_without_all}
 use Rattle.durable_write.proofs.There.{contains_map}
 use Rattle.durable_write.proofs.Three.{same_cases}
 use Rattle.tier_store.specs.Change.{IsKnown, Has, Call, HoldsBy, Changes}
-use Rattle.tier_store.specs.Limbo.{IsOfPlace, LimboStands, IsListedName, StayUnlisted, LeaveListed, staying}
+use Rattle.tier_store.specs.Limbo.{IsOfPlace, LimboStands, NamesDiffer, IsListedName, StayUnlisted, LeaveListed, staying}
 use Rattle.tier_store.specs.Retiring.{FailsRetired, AreApart, oldest, oldest_entries, without_oldest, retired_of, Leaves, Enter, HandedOver, HasGrown, HasNotGrown, Retires, SaysRetired, retiring, dropping}
 use Rattle.tier_store.specs.Seen.{Seen, granularities}
 use Rattle.tier_store.specs.Stored.{HoldsAll}
@@ -32,6 +33,7 @@ use Rattle.tier_store.specs.Stores.{Stores, list_at}
 use Rattle.tier_store.specs.declared.limbo.Retired.{Retired}
 use Rattle.tier_store.specs.declared.retirement.RetireEnd.{RetireEnd}
 use Rattle.tier_store.proofs.Acting.{nothing_changes}
+use Rattle.tier_store.proofs.Differing.{names_apart, pairs_both, rise_take, stay_differ}
 use Rattle.tier_store.proofs.Dropped.{entry_in, from_oldest, same_entries, stays_or}
 use Rattle.tier_store.proofs.Places.{granularity_at, list_other, list_set, manifest_at, within_three}
 use Rattle.tier_store.proofs.Sparing.{listed_name}
@@ -58,6 +60,11 @@ apart_from f files =
     All-append (λ (h : Filed). filed_at h ≢ filed_at f) (filter (λ y. comes_before (filed_at y) (filed_at f)) files) (filter (λ y. comes_before (filed_at f) (filed_at y)) files)
     (λ k d lt. before_apart (filed_at (get_or (filter (λ y. comes_before (filed_at y) (filed_at f)) files) k d)) (filed_at f) (filter_passes (λ y. comes_before (filed_at y) (filed_at f)) files k d lt))
     (λ k d lt is. before_apart (filed_at f) (filed_at (get_or (filter (λ y. comes_before (filed_at f) (filed_at y)) files) k d)) (filter_passes (λ y. comes_before (filed_at f) (filed_at y)) files k d lt) (sym is))
+
+-- each of a row's oldest files is among those that leave
+pub entries_leave : (place row n : ℕ) (rows : List Row) (m : ManifestState) (held : Stores) → m.entries ≡ map entry_of (list_at place held) → (f : Filed) → Contains (oldest place row n held) f → Contains (map (retired_of (place + 1, rows)) (oldest_entries row n m.entries)) (retired_of (place + 1, rows) f.entry)
+entries_leave place row n rows m held are f within =
+    map_in (retired_of (place + 1, rows)) (oldest_entries row n m.entries) f.entry (subst (λ (l : List Entry). Contains l f.entry) (sym (same_entries place row n held m.entries are)) (entry_in (oldest place row n held) f within))
 
 -- no file that is left has the place of a part
 apart_all : (fs files : List Filed) (f : Filed) → Contains fs f → All (λ (h : Filed). filed_at h ≢ filed_at f) (without_all files fs)
@@ -120,11 +127,30 @@ module _ (tells : Bool) (i row n : ℕ) (at : Seen) (m : ManifestState) (here : 
       (stay_from (λ x. IsListedName at x.name → ⊥) (λ x. IsListedName at x.name) limbo kept r stay there).1 (subst (IsListedName at) same (leaving_listed file (subst (λ (l : List Retired). Contains l file) are within)))
 
   -- they are named as they were listed
-  pub leaving_stands : LimboStands at leaving
-  leaving_stands k d lt =
+  leaving_placed : All (IsOfPlace at) leaving
+  leaving_placed k d lt =
       let f = part_of (get_or leaving k d) (Contains-get_or leaving k d lt) in
       let is = All-contains (IsListed m.granularity held.rows) (list_at i held) f.0 (has.known.each i m here).valid.filed.listed (from_oldest i row n held f.0 f.1) in
       subst (IsOfPlace at) f.2 (record { place = i; granularity = m.granularity; here = granularity_at at.manifests i m here; row = is.row; stands = ap (λ (x : List Row). slice_get x f.0.entry.series) has.known.rows ∙ is.stands; part = is.part; named = refl })
+
+  -- and no two of them have one name
+  pub leaving_differ : NamesDiffer leaving
+  leaving_differ =
+      let valid = (has.known.each i m here).valid in
+      let own = of_row row (list_at i held) in
+      let test : Filed → Bool = λ f. nat_eq f.entry.series row in
+      subst NamesDiffer (sym leaving_is)
+      (names_apart m.granularity (i + 1) held.rows parts valid.keys (All-take (IsListed m.granularity held.rows) n own (All-filter test (IsListed m.granularity held.rows) (list_at i held) valid.filed.listed)) (rise_take n own (rise_filter test (list_at i held) valid.apart)))
+
+  pub leaving_stands : LimboStands at leaving
+  leaving_stands = (leaving_placed, leaving_differ)
+
+  -- they are files of the stores
+  pub leaving_numbered : All (λ (r : Retired). 1 ≤ r.name.0) leaving
+  leaving_numbered k d lt =
+      let of = leaving_placed k d lt in
+      let number : of.place + 1 ≡ (get_or leaving k d).name.0 = ap (λ (x : Name). x.0) of.named in
+      omega (arith, number)
 
   less_in : (k : ℕ) → k < 3 → (f : Filed) → Contains (list_at k less) f → Contains (list_at k held) f
   less_in k lo f within = elim (same_cases k i) [
@@ -196,9 +222,9 @@ module _ (tells : Bool) (i row : ℕ) (published : List ℕ) (Limbo : Result (Un
   holds_then held has a c (inl holds) = inl holds
   holds_then held has a c (inr made) = inr (made.0, inr (record { none_grown = grown held has; same = made.1 }), made.2)
 
-  pub retired_done : {B : Type 0} (new : Seen) (end : RetireEnd) (b : B) → Changes tells (dropping i row (length published)) at mid (Done tt) → Changes tells (staying {A = B}) mid new (Done b)
+  pub retired_done : {A B : Type 0} (new : Seen) (end : RetireEnd) (a : A) (b : B) → Changes tells (dropping i row (length published)) at mid (Done a) → Changes tells (staying {A = B}) mid new (Done b)
       → ((held made : Stores) → Has tells at held → Retires i row published held made → SaysRetired i row published Limbo end held made) → Changes tells (retiring i row published Limbo) at new (Done end)
-  retired_done {B} new end b drop rest says = record {
+  retired_done {A} {B} new end a b drop rest says = record {
     ends = λ held has.
         let d = drop.ends held has in
         let r = rest.ends d.0 d.3 in
@@ -208,20 +234,20 @@ module _ (tells : Bool) (i row : ℕ) (published : List ℕ) (Limbo : Result (Un
         passes_then (HoldsBy (granularities at.manifests) By held) (HoldsBy (granularities mid.manifests) (λ old made. made ≡ old) d.0) at.past mid.past new.past
         (passes_weaker (HoldsBy (granularities at.manifests) (λ old made. made ≡ without_oldest i row (length published) old) held) (HoldsBy (granularities at.manifests) By held) at.past mid.past (drop.any_moment told held has) (λ a c left step. holds_then held has a c step))
         (rest.any_moment told d.0 d.3) (λ a b c was one left two. go held has d.0 d.1 c two);
-    costs = record { granularity = rest.costs.granularity ∙ drop.costs.granularity; faults = let a = drop.costs.faults in let b = rest.costs.faults in omega (arith, a, b); cause = λ failed. absurd failed };
+    costs = record { granularity = rest.costs.granularity ∙ drop.costs.granularity; faults = let one = drop.costs.faults in let two = rest.costs.faults in omega (arith, one, two); cause = λ failed. absurd failed };
   }
     where
       go : (held : Stores) → Has tells at held → (made : Stores) → made ≡ without_oldest i row (length published) held → (c : Files) → HoldsAll (granularities mid.manifests) c made ⊎ ((s : Stores) × (s ≡ made) × HoldsAll (granularities mid.manifests) c s) → HoldsAll (granularities at.manifests) c held ⊎ ((s : Stores) × By held s × HoldsAll (granularities at.manifests) c s)
       go held has made is c (inl holds) = inr (made, inr (record { none_grown = grown held has; same = is }), subst (λ (gs : List Granularity). HoldsAll gs c made) drop.costs.granularity holds)
       go held has made is c (inr s) = inr (s.0, inr (record { none_grown = grown held has; same = s.1 ∙ is }), subst (λ (gs : List Granularity). HoldsAll gs c s.0) drop.costs.granularity s.2)
 
-  pub retired_cut : (e : DiskErr) (end : End (Unit {0}) ⊥) (last : End RetireEnd ⊥) → end ≡ end_of_error e → last ≡ end_of_error e → Changes tells (dropping i row (length published)) at mid end → Changes tells (retiring i row published Limbo) at mid last
-  retired_cut e end last is is_too drop = subst (λ (x : End RetireEnd ⊥). Changes tells (retiring i row published Limbo) at mid x) (sym is_too) (go e (subst (λ (x : End (Unit {0}) ⊥). Changes tells (dropping i row (length published)) at mid x) is drop))
+  pub retired_cut : {A : Type 0} (e : DiskErr) (end : End A ⊥) (last : End RetireEnd ⊥) → end ≡ end_of_error e → last ≡ end_of_error e → Changes tells (dropping i row (length published)) at mid end → Changes tells (retiring i row published Limbo) at mid last
+  retired_cut {A} e end last is is_too drop = subst (λ (x : End RetireEnd ⊥). Changes tells (retiring i row published Limbo) at mid x) (sym is_too) (go e (subst (λ (x : End A ⊥). Changes tells (dropping i row (length published)) at mid x) is drop))
     where
-      moment : {x : End (Unit {0}) ⊥} → Changes tells (dropping i row (length published)) at mid x → IsTrue tells → (held : Stores) → Has tells at held → Passes (HoldsBy (granularities at.manifests) By held) at.past mid.past
+      moment : {x : End A ⊥} → Changes tells (dropping i row (length published)) at mid x → IsTrue tells → (held : Stores) → Has tells at held → Passes (HoldsBy (granularities at.manifests) By held) at.past mid.past
       moment {x} d told held has = passes_weaker (HoldsBy (granularities at.manifests) (λ old made. made ≡ without_oldest i row (length published) old) held) (HoldsBy (granularities at.manifests) By held) at.past mid.past (d.any_moment told held has) (λ a c left step. holds_then held has a c step)
 
-      go : (e : DiskErr) → Changes tells (dropping i row (length published)) at mid (end_of_error e) → Changes tells (retiring i row published Limbo) at mid (end_of_error e)
+      go : (e : DiskErr) → Changes tells (dropping {A = A} i row (length published)) at mid (end_of_error e) → Changes tells (retiring i row published Limbo) at mid (end_of_error e)
       go Fault d = record {
         ends = λ held has. elim (d.ends held has) [
           | inl still ↦ inl still
@@ -237,9 +263,9 @@ module _ (tells : Bool) (i row : ℕ) (published : List ℕ) (Limbo : Result (Un
       }
 
   -- and after a fault all is as it was, or the files may be listed no more
-  pub retired_doubt : (e : DiskErr) (end : End (Unit {0}) ⊥) → end ≡ end_of_error e → e ≡ Fault → Changes tells (dropping i row (length published)) at mid end → (held : Stores) → Has tells at held → FailsRetired i row published tells mid held
-  retired_doubt e end is fault drop held has =
-      let ends = (subst (λ (x : End (Unit {0}) ⊥). Changes tells (dropping i row (length published)) at mid x) (is ∙ ap end_of_error fault) drop).ends held has in
+  pub retired_doubt : {A : Type 0} (e : DiskErr) (end : End A ⊥) → end ≡ end_of_error e → e ≡ Fault → Changes tells (dropping i row (length published)) at mid end → (held : Stores) → Has tells at held → FailsRetired i row published tells mid held
+  retired_doubt {A} e end is fault drop held has =
+      let ends = (subst (λ (x : End A ⊥). Changes tells (dropping i row (length published)) at mid x) (is ∙ ap end_of_error fault) drop).ends held has in
       elim ends [
         | inl still ↦ inl still
         | inr made ↦ inr (made.0, record { none_grown = grown held has; same = made.1 }, made.2)
@@ -251,9 +277,14 @@ module _ (tells : Bool) (i row : ℕ) (published : List ℕ) (Limbo : Result (Un
 pub stands_then : (tells : Bool) (i row n : ℕ) (at mid : Seen) (m : ManifestState) (here : slice_get at.manifests i ≡ Some m) (held : Stores) (has : Has tells at held) (limbo kept files : List Retired) → LimboStands at limbo → StayUnlisted at limbo kept → files ≡ map (retired_of (i + 1, at.catalogue.rows)) (oldest_entries row n m.entries)
     → mid.catalogue ≡ at.catalogue → granularities mid.manifests ≡ granularities at.manifests → LimboStands mid (kept ++ files)
 stands_then tells i row n at mid m here held has limbo kept files stands stay are rows same =
-    limbo_kept at mid (kept ++ files) (subst (λ (c : CatalogueState). KeepsRows at.catalogue.rows c.rows) (sym rows) (keeps_same at.catalogue.rows)) same
-    (All-append (IsOfPlace at) kept files (λ k d lt. All-contains (IsOfPlace at) limbo (get_or kept k d) stands (stay_from (λ x. IsListedName at x.name → ⊥) (λ x. IsListedName at x.name) limbo kept (get_or kept k d) stay (Contains-get_or kept k d lt)).0)
-    (subst (LimboStands at) (sym are) (leaving_stands tells i row n at m here held has)))
+    limbo_kept at mid (kept ++ files) (subst (λ (c : CatalogueState). KeepsRows at.catalogue.rows c.rows) (sym rows) (keeps_same at.catalogue.rows)) same (
+      All-append (IsOfPlace at) kept files (λ k d lt. All-contains (IsOfPlace at) limbo (get_or kept k d) stands.0 (stay_from (λ x. IsListedName at x.name → ⊥) (λ x. IsListedName at x.name) limbo kept (get_or kept k d) stay (Contains-get_or kept k d lt)).0) leave.0,
+      pairs_both (λ (a b : Retired). a.name ≢ b.name) kept files (stay_differ (λ x. IsListedName at x.name → ⊥) (λ x. IsListedName at x.name) limbo kept stay stands.1) leave.1
+          (λ x y in_x in_y same. kept_apart tells i row n at m here held has limbo kept files stay are x in_x (y, in_y, sym same)),
+    )
+  where
+    leave : LimboStands at files
+    leave = subst (LimboStands at) (sym are) (leaving_stands tells i row n at m here held has)
 
 -- no store lists what is in it
 pub unlisted_then : (tells : Bool) (i row n : ℕ) (at mid : Seen) (m : ManifestState) (here : slice_get at.manifests i ≡ Some m) (held : Stores) (has : Has tells at held) (now : Has tells mid (without_oldest i row n held)) (limbo kept files : List Retired) → StayUnlisted at limbo kept
@@ -266,8 +297,8 @@ unlisted_then tells i row n at mid m here held has now limbo kept files stay are
 pub among_then : (kept files : List Retired) → All (Contains (kept ++ files)) files
 among_then kept files k d lt = Contains-append_right kept files (get_or files k d) (Contains-get_or files k d lt)
 
-pub has_then : (tells : Bool) (i row n : ℕ) (at mid : Seen) (held : Stores) → Has tells at held → Changes tells (dropping i row n) at mid (Done tt) → Has tells mid (without_oldest i row n held)
-has_then tells i row n at mid held has drop = let d = drop.ends held has in subst (Has tells mid) d.1 d.3
+pub has_then : {A : Type 0} (tells : Bool) (i row n : ℕ) (at mid : Seen) (held : Stores) (a : A) → Has tells at held → Changes tells (dropping i row n) at mid (Done a) → Has tells mid (without_oldest i row n held)
+has_then {A} tells i row n at mid held a has drop = let d = drop.ends held has in subst (Has tells mid) d.1 d.3
 
 -- WHAT LIMBO IS THEN
 
@@ -294,7 +325,10 @@ pub has_grown : (tells : Bool) (i row : ℕ) (published : List ℕ) (at : Seen) 
 has_grown tells i row published at m es len copied here are grown held has = subst (λ (l : List Entry). HasGrown published l len copied) (are ∙ same_entries i row (length published) held m.entries (has.known.each i m here).entries) grown
 
 pub fewer_stand : (at : Seen) (limbo left : List Retired) → LimboStands at limbo → LeaveListed at limbo left → LimboStands at left
-fewer_stand at limbo left stands stay k d lt = All-contains (IsOfPlace at) limbo (get_or left k d) stands (stay_from (λ x. Unit {0}) (λ x. IsListedName at x.name) limbo left (get_or left k d) stay (Contains-get_or left k d lt)).0
+fewer_stand at limbo left stands stay = (
+  λ k d lt. All-contains (IsOfPlace at) limbo (get_or left k d) stands.0 (stay_from (λ x. Unit {0}) (λ x. IsListedName at x.name) limbo left (get_or left k d) stay (Contains-get_or left k d lt)).0,
+  stay_differ (λ x. Unit {0}) (λ x. IsListedName at x.name) limbo left stay stands.1,
+)
 
 -- nothing was done
 pub nothing_retired : (tells : Bool) (call : Call RetireEnd ⊥) (at new : Seen) (end : End RetireEnd ⊥) → at ≡ new → end ≡ Spent → Changes tells call at new end
@@ -315,15 +349,15 @@ known_listed at new held name known later l =
     let named : file_of (l.place + 1, held.rows) f.0.entry ≡ name = ap (λ (e : Entry). file_of (l.place + 1, held.rows) e) f.2 ∙ ap (λ (r : List Row). file_of (l.place + 1, r) l.entry) (sym known.rows) ∙ l.named in
     subst (IsListedName new) named (listed_name new held l.place there.0 f.0 later there.1 f.1)
 
-cut_known : (tells : Bool) (i row n : ℕ) (at new : Seen) (held : Stores) (e : DiskErr) → Has tells at held → Changes tells (dropping i row n) at new (end_of_error e) → IsKnown new.catalogue new.manifests held
-cut_known tells i row n at new held Fault has drop = elim (drop.ends held has) [ inl now ↦ now.known | inr made ↦ made.2.known ]
-cut_known tells i row n at new held Memory has drop = (drop.ends held has).known
+cut_known : {A : Type 0} (tells : Bool) (i row n : ℕ) (at new : Seen) (held : Stores) (e : DiskErr) → Has tells at held → Changes tells (dropping {A = A} i row n) at new (end_of_error e) → IsKnown new.catalogue new.manifests held
+cut_known {A} tells i row n at new held Fault has drop = elim (drop.ends held has) [ inl now ↦ now.known | inr made ↦ made.2.known ]
+cut_known {A} tells i row n at new held Memory has drop = (drop.ends held has).known
 
 -- what was in limbo and isn't listed is in it still, and the files that were to leave
-pub cut_handed : (tells : Bool) (i row n : ℕ) (at new : Seen) (m : ManifestState) (here : slice_get at.manifests i ≡ Some m) (held : Stores) (e : DiskErr) (end : End (Unit {0}) ⊥) → end ≡ end_of_error e → Has tells at held → Changes tells (dropping i row n) at new end → (limbo kept files left : List Retired) → StayUnlisted at limbo kept
+pub cut_handed : {A : Type 0} (tells : Bool) (i row n : ℕ) (at new : Seen) (m : ManifestState) (here : slice_get at.manifests i ≡ Some m) (held : Stores) (e : DiskErr) (end : End A ⊥) → end ≡ end_of_error e → Has tells at held → Changes tells (dropping i row n) at new end → (limbo kept files left : List Retired) → StayUnlisted at limbo kept
     → files ≡ map (retired_of (i + 1, at.catalogue.rows)) (oldest_entries row n m.entries) → left ≡ kept ++ files → HandedOver new i row n limbo left
-cut_handed tells i row n at new m here held e end is has drop limbo kept files left stay are left_is =
-    let known : IsKnown new.catalogue new.manifests held = cut_known tells i row n at new held e has (subst (λ (x : End (Unit {0}) ⊥). Changes tells (dropping i row n) at new x) is drop) in
+cut_handed {A} tells i row n at new m here held e end is has drop limbo kept files left stay are left_is =
+    let known : IsKnown new.catalogue new.manifests held = cut_known {A = A} tells i row n at new held e has (subst (λ (x : End A ⊥). Changes tells (dropping i row n) at new x) is drop) in
     let low = within_three at.manifests i m has.known.three here in
     let there = manifest_at new.manifests i (let three = known.three in omega (arith, low, three)) in
     let same_rows : at.catalogue.rows ≡ new.catalogue.rows = has.known.rows ∙ sym known.rows in

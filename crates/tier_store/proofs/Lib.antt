@@ -1,4 +1,5 @@
 pub mod Acting
+pub mod Asked
 pub mod Beginning
 pub mod Beside
 pub mod BesideMoves
@@ -30,6 +31,7 @@ pub mod CopyWhole
 pub mod CountingLines
 pub mod CountingPieces
 pub mod Doubting
+pub mod Differing
 pub mod Dropped
 pub mod Drops
 pub mod FewFiles
@@ -54,6 +56,7 @@ pub mod Places
 pub mod PublishCall
 pub mod ReadsThen
 pub mod RelistCall
+pub mod Removable
 pub mod Removals
 pub mod RevivalCall
 pub mod RevivalShown

@@ -100,7 +100,7 @@ module _ (tells : Bool) (at : Seen) (limbo : List Retired) (stands : LimboStands
   each_known k d lt =
       let from = listed.from k d lt in
       let r = from.file in
-      let of = All-contains (IsOfPlace at) limbo r stands from.within in
+      let of = All-contains (IsOfPlace at) limbo r stands.0 from.within in
       let there : Contains (map entry_of files) r.entry = elim (All-contains (IsAmong 0 at files) limbo r whole.each from.within from.unlisted.0) [
         | inl h ↦ absurd (from.unlisted.1 (listed_place at held r has.known of (listed_by at r.name 0 h)))
         | inr there ↦ there

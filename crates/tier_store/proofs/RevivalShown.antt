@@ -86,7 +86,7 @@ own_place i at r of number = let own : of.place + 1 ≡ r.name.0 = ap (λ (n : N
 -- a file in limbo is named as that of its store, row and partition
 pub limbo_name : (i : ℕ) (at : Seen) (limbo : List Retired) → LimboStands at limbo → (r : Retired) → Contains limbo r → r.name.0 ≡ i + 1 → file_of (i + 1, at.catalogue.rows) r.entry ≡ r.name
 limbo_name i at limbo stands r within number =
-    let of = All-contains (IsOfPlace at) limbo r stands within in
+    let of = All-contains (IsOfPlace at) limbo r stands.0 within in
     ap (λ (k : ℕ). file_of (k + 1, at.catalogue.rows) r.entry) (sym (own_place i at r of number)) ∙ of.named
 
 own_name : (i : ℕ) (tells : Bool) (at : Seen) (limbo : List Retired) (held : Stores) → LimboStands at limbo → Has tells at held → (r : Retired) → Contains limbo r → r.name.0 ≡ i + 1 → file_of (i + 1, held.rows) r.entry ≡ r.name
@@ -95,7 +95,7 @@ own_name i tells at limbo held stands has r within number = ap (λ (rows : List 
 -- and so is what is listed of these
 pub place_named : (i : ℕ) (tells : Bool) (at : Seen) (limbo : List Retired) (held : Stores) (m : ManifestState) → slice_get at.manifests i ≡ Some m → LimboStands at limbo → (has : Has tells at held) → (r : Retired) → Contains limbo r → r.name.0 ≡ i + 1 → (h : Filed) → Contains (list_at i held) h → filed_at h ≡ place r.entry → file_of (i + 1, held.rows) h.entry ≡ r.name
 place_named i tells at limbo held m here stands has r within number h there same =
-    let of = All-contains (IsOfPlace at) limbo r stands within in
+    let of = All-contains (IsOfPlace at) limbo r stands.0 within in
     let own = own_place i at r of number in
     let h_is : IsListed m.granularity held.rows h = All-contains (IsListed m.granularity held.rows) (list_at i held) h (has.known.each i m here).valid.filed.listed there in
     let r_is : IsListed m.granularity held.rows (as_filed r) = subst (λ (rows : List Row). IsListed m.granularity rows (as_filed r)) has.known.rows (retired_listed at r of m (ap (slice_get at.manifests) own ∙ here)) in

@@ -34,7 +34,7 @@ use Rattle.tier_store.specs.declared.store.TierStore.{TierStore}
 use Rattle.disk_model.specs.declared.disk.Disk.{Ghosts}
 use Rattle.tier_store.specs.Change.{IsKnown, Has, HoldsBy, SameFiles, EndsFrom, Changes}
 use Rattle.tier_store.specs.Pinned.{SeenAll, beside, IsHeldTo, IsNoShorter, IsThereTo, KeepsShown, PinsStand}
-use Rattle.tier_store.specs.Limbo.{IsOfPlace, LimboStands, IsListedName, IsPinnedFile, IsNeeded, IsKeptName, IsSwept, StayUnlisted, StayNeeded, AreGone, AreFree, Spares, SparesKept, SparesFiles, LeavesKept, LeavesKeptFiles, staying}
+use Rattle.tier_store.specs.Limbo.{IsOfPlace, LimboStands, NamesDiffer, IsListedName, IsPinnedFile, IsNeeded, IsKeptName, IsSwept, StayUnlisted, StayNeeded, AreGone, AreFree, Spares, SparesKept, SparesFiles, LeavesKept, LeavesKeptFiles, staying}
 use Rattle.tier_store.specs.declared.limbo.Retired.{Retired}
 use Rattle.tier_store.proofs.Left.{has_left}
 use Rattle.tier_store.proofs.Showing.{shown, fronts_same}
@@ -142,7 +142,7 @@ module _ (tells : Bool) (at : Seen) (pins : FinMap nat_cmp PinOf) (copied : List
 
   journals : (n : Name) → n.0 ≡ 0 → Spared n
   journals n zero_store r within is =
-      let of = All-contains (IsOfPlace at) limbo r stands (stay_from (λ x. IsListedName at x.name → ⊥) (λ x. IsListedName at x.name) limbo retired r unlisted within).0 in
+      let of = All-contains (IsOfPlace at) limbo r stands.0 (stay_from (λ x. IsListedName at x.name → ⊥) (λ x. IsListedName at x.name) limbo retired r unlisted within).0 in
       let number : of.place + 1 ≡ r.name.0 = ap (λ (x : Name). x.0) of.named in
       let here : r.name.0 ≡ n.0 = ap (λ (x : Name). x.0) is in absurd (omega (arith, number, here, zero_store))
 
@@ -265,11 +265,14 @@ module _ (tells : Bool) (at : Seen) (pins : FinMap nat_cmp PinOf) (copied : List
         | inr listed ↦ absurd (unneeded.0 (listed_now r.name listed))
       ]
 
-  pub still_stands : (left : List Retired) → ((r : Retired) → Contains left r → Contains retired r) → LimboStands swept left
-  still_stands left among k d lt =
-      let r : Retired = get_or left k d in
-      let of = All-contains (IsOfPlace at) limbo r stands (stay_from Unlisted Listed limbo retired r unlisted (among r (Contains-get_or left k d lt))).0 in
-      record { place = of.place; granularity = of.granularity; here = of.here; row = of.row; stands = of.stands; part = of.part; named = of.named }
+  pub still_stands : (left : List Retired) → ((r : Retired) → Contains left r → Contains retired r) → NamesDiffer left → LimboStands swept left
+  still_stands left among differ = (
+    λ k d lt.
+        let r : Retired = get_or left k d in
+        let of = All-contains (IsOfPlace at) limbo r stands.0 (stay_from Unlisted Listed limbo retired r unlisted (among r (Contains-get_or left k d lt))).0 in
+        record { place = of.place; granularity = of.granularity; here = of.here; row = of.row; stands = of.stands; part = of.part; named = of.named },
+    differ,
+  )
 
 -- what is pinned is kept
 slice_contains : (xs : List PinnedFile) (i : ℕ) (x : PinnedFile) → slice_get xs i ≡ Some x → Contains (map piece_file xs) x.name

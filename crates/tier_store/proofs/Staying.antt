@@ -139,7 +139,7 @@ listed_place at s r known of lists =
 pub stay_unlisted : (at : Seen) (s : Stores) (xs ys : List Retired) → IsKnown at.catalogue at.manifests s → LimboStands at xs → Stay (λ r. ListsPlace at.manifests r → ⊥) (ListsPlace at.manifests) xs ys → StayUnlisted at xs ys
 stay_unlisted at s xs ys known stands =
     stay_by (λ r. ListsPlace at.manifests r → ⊥) (ListsPlace at.manifests) (λ r. IsListedName at r.name → ⊥) (λ r. IsListedName at r.name) (IsOfPlace at)
-    (λ r of unlisted listed. unlisted (listed_place at s r known of listed)) (λ r of listed. place_listed at s r known of listed) xs ys stands
+    (λ r of unlisted listed. unlisted (listed_place at s r known of listed)) (λ r of listed. place_listed at s r known of listed) xs ys stands.0
 
 -- one of the filtered entries passes the test
 any_from : (P test : Entry → Bool) (es : List Entry) → list_any test (filter P es) ≡ true → (e : Entry) × Contains es e × (P e ≡ true) × (test e ≡ true)
@@ -212,7 +212,7 @@ one_spared pins copied limbo r a b within free elsewhere n other = elsewhere n (
 -- LIMBO STANDS
 
 pub limbo_kept : (old new : Seen) (limbo : List Retired) → KeepsRows old.catalogue.rows new.catalogue.rows → granularities new.manifests ≡ granularities old.manifests → LimboStands old limbo → LimboStands new limbo
-limbo_kept old new limbo keeps same stands j r lt = of_place (get_or limbo j r) (stands j r lt)
+limbo_kept old new limbo keeps same stands = (λ j r lt. of_place (get_or limbo j r) (stands.0 j r lt), stands.1)
   where
     of_place : (r : Retired) → IsOfPlace old r → IsOfPlace new r
     of_place r of =

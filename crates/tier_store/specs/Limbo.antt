@@ -1,7 +1,8 @@
 -- Files in limbo, and which of them a sweep removes.
 use Rattle.std.specs.FinMap.{FinMap, get}
 use Rattle.std.specs.Ordering.{nat_cmp}
-use Rattle.std.specs.Prelude.{◌≡◌, ◌≢◌, ◌⊎◌, ◌≤◌, ◌+◌, ℕ, Bool, List, [], ◌∷◌, All, Contains, IsTrue, length, map, None, Some, slice_get}
+use Rattle.std.specs.List.{AllPairs}
+use Rattle.std.specs.Prelude.{◌≡◌, ◌≢◌, ◌⊎◌, ◌≤◌, ◌+◌, ℕ, Bool, List, [], ◌∷◌, All, Contains, IsSome, IsTrue, length, map, None, Some, slice_get}
 use Rattle.disk_model.specs.Files.{Name, Files}
 use Rattle.disk_model.specs.Past.{Past, Passes, Only}
 use Rattle.partition_names.specs.declared.granularity.Granularity.{Granularity}
@@ -27,8 +28,13 @@ pub record IsOfPlace (at : Seen) (r : Retired) : Type 0 where
   pub part : IsPart granularity r.entry.part
   pub named : file_of (place + 1, at.catalogue.rows) r.entry ≡ r.name
 
+-- no two files have one name
+abbrev pub NamesDiffer : List Retired → Type 0
+NamesDiffer = AllPairs (λ (a b : Retired). a.name ≢ b.name)
+
+-- each file in limbo is its store's of its row and partition, and stands there once
 abbrev pub LimboStands : Seen → List Retired → Type 0
-LimboStands at limbo = All (IsOfPlace at) limbo
+LimboStands at limbo = All (IsOfPlace at) limbo × NamesDiffer limbo
 
 -- a store lists a file of this name
 pub record IsListedName (at : Seen) (name : Name) : Type 0 where
@@ -120,6 +126,21 @@ pub record LeavesKeptFiles (tells : Bool) (pins : FinMap nat_cmp PinOf) (copied 
 
 -- THE REMOVAL
 
+-- Just the names of those of the files that go and that are there, each once.
+pub record AreRemovable (Goes : Retired → Type 0) (limbo : List Retired) (files : Files) (names : List Name) : Type 0 where
+  pub once : AllPairs (λ (a b : Name). a ≢ b) names
+  pub there : All (λ (n : Name). IsSome (files n)) names
+  pub own : All (λ (n : Name). (r : Retired) × Contains limbo r × (r.name ≡ n) × Goes r) names
+  pub each : All (λ (r : Retired). Goes r → Contains names r.name ⊎ (files r.name ≡ None)) limbo
+
+-- nothing needs the file
+abbrev pub IsUseless : FinMap nat_cmp PinOf → List Name → Retired → Type 0
+IsUseless pins copied r = IsNeeded pins copied r.name → ⊥
+
+-- no store lists a file of its row and partition, and nothing needs it
+abbrev pub IsLeftOver : List ManifestState → FinMap nat_cmp PinOf → List Name → Retired → Type 0
+IsLeftOver manifests pins copied r = (ListsPlace manifests r → ⊥) × IsUseless pins copied r
+
 -- every other name is as it was
 abbrev pub Elsewhere : Name → Files → Files → Type 0
 Elsewhere name old new = (n : Name) → n ≢ name → new n ≡ old n
@@ -132,6 +153,16 @@ Spares pins copied limbo old new = (n : Name) → ((r : Retired) → Contains li
 pub record Removes (pins : FinMap nat_cmp PinOf) (copied : List Name) (limbo : List Retired) (files later : Files) (opened after : Name → ℕ) (old new : Past) : Type 0 where
   pub any_moment : Passes (Spares pins copied limbo) old new
   pub spares : Spares pins copied limbo files later
+  pub fewer : (n : Name) → after n ≤ opened n
+
+-- all but these names has what it had
+abbrev pub SparesNames : List Name → Files → Files → Type 0
+SparesNames names old new = (n : Name) → (Contains names n → ⊥) → new n ≡ old n
+
+-- Reads and a crash at any moment spare all but these names, and no name is opened further.
+pub record RemovesNames (names : List Name) (files later : Files) (opened after : Name → ℕ) (old new : Past) : Type 0 where
+  pub any_moment : Passes (SparesNames names) old new
+  pub spares : SparesNames names files later
   pub fewer : (n : Name) → after n ≤ opened n
 
 -- of the files this is true of the name of each that isn't needed

@@ -143,5 +143,5 @@ abbrev pub FailsRetired : ℕ → ℕ → List ℕ → Bool → Seen → Stores 
 FailsRetired i row published tells new held = Has tells new held ⊎ ((made : Stores) × Retires i row published held made × Doubts tells new held made)
 
 -- the commit alone
-abbrev pub dropping : ℕ → ℕ → ℕ → Call (Unit {0}) ⊥
-dropping i row n = record { by = λ old new. new ≡ without_oldest i row n old; says = λ a old new. Unit {0}; refuses = λ e rows. ⊥ }
+abbrev pub dropping : {A : Type 0} → ℕ → ℕ → ℕ → Call A ⊥
+dropping {A} i row n = record { by = λ old new. new ≡ without_oldest i row n old; says = λ a old new. Unit {0}; refuses = λ e rows. ⊥ }

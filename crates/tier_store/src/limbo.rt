@@ -99,7 +99,7 @@ fn begins_behind(last: &Option<Entry>, start: u64) -> bool
 }
 
 // Whether the manifest of a file's store lists none of its row and partition.
-fn is_unlisted(manifests: &[Manifest], file: &Retired) -> bool
+pub(crate) fn is_unlisted(manifests: &[Manifest], file: &Retired) -> bool
     ensures unlisted { AtEach manifests.now (λ i m. InOrder m.entries) → result ≡ true → ListsPlace manifests.now file.now → ⊥ }
     ensures listed { AtEach manifests.now (λ i m. InOrder m.entries) → result ≡ false → ListsPlace manifests.now file.now }
 {

@@ -1,7 +1,7 @@
 // The retirement: the oldest files of a row leave a store's list.
 //
 // They go to limbo first, so that what is pinned is there whatever comes of the commit. Those that no pin names are removed behind it.
-ghost use Rattle.std.specs.Prelude.{◌≡◌, ◌≤◌, ◌<◌, ◌+◌, ℕ, List, All, Ok, Some, None, IfOk, OnErr, IsErrOf, Contains, length, map, slice_get};
+ghost use Rattle.std.specs.Prelude.{◌≡◌, ◌≤◌, ◌<◌, ◌+◌, ℕ, List, All, Ok, Some, None, IfOk, OnErr, IsErr, IsErrOf, IsTrue, Contains, [], length, map, slice_get};
 ghost use Rattle.disk_model.specs.Files.{Name, Rose};
 ghost use Rattle.pv_catalog.specs.Rows.{KeepsRows};
 ghost use Rattle.store_manifest.specs.Manifest.{ManifestState};
@@ -9,18 +9,19 @@ ghost use Rattle.durable_write.specs.Ends.{end_of_disk};
 ghost use Rattle.durable_write.specs.Held.{Filed};
 ghost use Rattle.tier_store.specs.Stores.{Stores};
 ghost use Rattle.tier_store.specs.Seen.{seen, IsSettled};
-ghost use Rattle.tier_store.specs.Change.{Has, IsOpen, Changes, Acts};
-ghost use Rattle.tier_store.specs.Limbo.{LimboStands};
+ghost use Rattle.tier_store.specs.Change.{Has, IsKnown, IsOpen, Changes, Acts};
+ghost use Rattle.tier_store.specs.Limbo.{LimboStands, AreRemovable, IsUseless, NamesDiffer};
 ghost use Rattle.tier_store.specs.Pinned.{seen_all, KeepsShown};
 ghost use Rattle.tier_store.specs.Retiring.{FailsRetired, AreApart, oldest, oldest_entries, drop_entry, retired_of, dropping, retiring, HasGrown, HasNotGrown, Remain, ShowsKept, HandedOver, StayOrEnter};
 ghost use Rattle.tier_store.specs.Moving.{LeavesFiles, LeavesNames};
 ghost use Rattle.tier_store.specs.Revival.{KeepsWholeOf};
 ghost use Rattle.tier_store.specs.Strays.{HasRemoved, LeavesNoStray};
+ghost use Rattle.tier_store.specs.declared.limbo.Retired.{Retired as RetiredValue};
 ghost use Rattle.tier_store.specs.declared.retirement.RetireEnd.TheVariants.{Again, Retired as IsRetired};
 
 use crate::TierStore;
-use crate::retiring::oldest;
-use disk_model::{Disk, DiskErr};
+use crate::retiring::{Leaving, oldest};
+use disk_model::{Disk, DiskErr, FileName};
 use durable_write::relist;
 use store_manifest::{Change, Entry};
 
@@ -28,7 +29,7 @@ use store_manifest::{Change, Entry};
 #[derive(Clone, Copy, Debug, PartialEq, Eq)]
 pub enum RetireEnd {
     /// The store lists the files no more. Those that a pin names are in limbo. `removed` says whether the others are removed from the disk
-    /// for good: else the last failure, after which some may be there still.
+    /// for good: else `Fault`, and some may be there still.
     Retired { removed: Result<(), DiskErr> },
     /// A file is listed at `len` bytes, longer than the `copied` bytes up to which it was copied. Nothing has changed.
     Again { len: u64, copied: u64 },
@@ -61,7 +62,7 @@ impl<D: Disk> TierStore<D> {
         requires few { length drops.now ≤ 65_536 }
         requires has { (held : Stores) × Has D.tells (seen D.Disk self.old) held }
         requires drops { (m : ManifestState) → slice_get self.old.manifests.items place ≡ Some m → drops.now ≡ map drop_entry (oldest_entries row n m.entries) }
-        requires handed { (held : Stores) (f : Filed) → Has D.tells (seen D.Disk self.old) held → Contains (oldest place row n held) f → Contains self.old.limbo.items (retired_of (place + 1, self.old.catalogue.rows) f.entry) }
+        requires handed { (held : Stores) (f : Filed) → IsKnown self.old.catalogue self.old.manifests.items held → Contains (oldest place row n held) f → Contains self.old.limbo.items (retired_of (place + 1, self.old.catalogue.rows) f.entry) }
 
         ensures changes { Changes D.tells (dropping place row n) (seen D.Disk self.old) (seen D.Disk self.new) (end_of_disk result) }
         ensures shown { KeepsShown D.tells (seen_all D.Disk self.old) (seen_all D.Disk self.new) }
@@ -72,6 +73,35 @@ impl<D: Disk> TierStore<D> {
     {
         relist(&mut self.disk, &mut self.manifests[place], drops)?;
         Ok(())
+    }
+
+    // Asks which of the files that are to leave no pin names and are there, and then drops these from their list.
+    fn drop_asked(
+        &mut self,
+        place: usize,
+        row: u32,
+        n: usize,
+        leaving: &Leaving,
+    ) -> Result<Vec<FileName>, DiskErr>
+        requires within { place < length self.old.manifests.items }
+        requires few { length leaving.now.drops.items ≤ 65_536 }
+        requires has { (held : Stores) × Has D.tells (seen D.Disk self.old) held }
+        requires drops { (m : ManifestState) → slice_get self.old.manifests.items place ≡ Some m → leaving.now.drops.items ≡ map drop_entry (oldest_entries row n m.entries) }
+        requires handed { (held : Stores) (f : Filed) → IsKnown self.old.catalogue self.old.manifests.items held → Contains (oldest place row n held) f → Contains self.old.limbo.items (retired_of (place + 1, self.old.catalogue.rows) f.entry) }
+        requires differ { NamesDiffer leaving.now.files.items }
+        requires numbered { All (λ (r : RetiredValue). 1 ≤ r.name.0) leaving.now.files.items }
+
+        ensures removable { IsTrue D.tells → IfOk result (λ names. AreRemovable (IsUseless self.old.pinned []) leaving.now.files.items (D.files self.new.disk) names.items) }
+        ensures changes { Changes D.tells (dropping place row n) (seen D.Disk self.old) (seen D.Disk self.new) (end_of_disk result) }
+        ensures shown { KeepsShown D.tells (seen_all D.Disk self.old) (seen_all D.Disk self.new) }
+        ensures leaves { LeavesFiles D.tells (seen_all D.Disk self.old) (seen_all D.Disk self.new) }
+        ensures catalogue { self.new.catalogue ≡ self.old.catalogue }
+        ensures pins { self.new.pinned ≡ self.old.pinned }
+        ensures limbo { self.new.limbo ≡ self.old.limbo }
+    {
+        let removable = self.find_leaving(&leaving.files)?;
+        self.drop_oldest(place, row, n, &leaving.drops)?;
+        Ok(removable)
     }
 
     // Retires where no change stands in doubt.
@@ -95,7 +125,7 @@ impl<D: Disk> TierStore<D> {
         ensures failed { OnErr result (StayOrEnter (seen D.Disk self.new) place row (length published.now) self.old.limbo.items self.new.limbo.items) }
         ensures doubted { (held : Stores) → Has D.tells (seen D.Disk self.old) held → IsErrOf result DiskErr.Fault → FailsRetired place row published.now D.tells (seen D.Disk self.new) held }
         ensures handed { IsErrOf result DiskErr.Fault → HandedOver (seen D.Disk self.new) place row (length published.now) self.old.limbo.items self.new.limbo.items }
-        ensures cause { (removed : _) → result ≡ Ok (IsRetired removed) → IsErrOf removed DiskErr.Fault → Rose (D.faults self.old.disk) (D.faults self.new.disk) }
+        ensures cause { (removed : _) → result ≡ Ok (IsRetired removed) → IsErr removed → Rose (D.faults self.old.disk) (D.faults self.new.disk) }
         ensures stands { LimboStands (seen D.Disk self.new) self.new.limbo.items }
         ensures same { (self.new.catalogue ≡ self.old.catalogue) × (self.new.pinned ≡ self.old.pinned) }
     {
@@ -105,8 +135,8 @@ impl<D: Disk> TierStore<D> {
             return Ok(RetireEnd::Again { len, copied });
         }
         let leaving = self.hand_over(place, row, n)?;
-        self.drop_oldest(place, row, n, &leaving.drops)?;
-        let removed = self.remove_handed(&leaving.files);
+        let removable = self.drop_asked(place, row, n, &leaving)?;
+        let removed = self.remove_handed(&leaving.files, &removable);
         Ok(RetireEnd::Retired { removed })
     }
 
@@ -117,7 +147,8 @@ impl<D: Disk> TierStore<D> {
     ///
     /// Else the files go to limbo, one commit drops them from the list, and those that no pin names leave limbo and are removed. A crash at
     /// any moment leaves what was held, or that without the files. What is pinned stays as it is, whatever is answered, and so do all
-    /// names of stores 2 and 3 but those of the files. A removal that fails is no failure of the retirement; it is told.
+    /// names of stores 2 and 3 but those of the files. Which of the files are there is asked before the commit. A removal that fails is no
+    /// failure of the retirement; it is told, as `Fault` alone.
     ///
     /// After `Fault`, which comes only where the disk's count of faults rose in the call, it may not be known whether the commit was
     /// made; the next call that changes the stores finds out. The files are in limbo till then, and count for nothing while they are listed.
@@ -138,7 +169,7 @@ impl<D: Disk> TierStore<D> {
         ensures failed { OnErr result (StayOrEnter (seen D.Disk self.new) place row (length published.now) self.old.limbo.items self.new.limbo.items) }
         ensures doubted { (held : Stores) → Has D.tells (seen D.Disk self.old) held → IsErrOf result DiskErr.Fault → FailsRetired place row published.now D.tells (seen D.Disk self.new) held }
         ensures handed { IsSettled (seen D.Disk self.old) → IsErrOf result DiskErr.Fault → HandedOver (seen D.Disk self.new) place row (length published.now) self.old.limbo.items self.new.limbo.items }
-        ensures cause { (removed : _) → result ≡ Ok (IsRetired removed) → IsErrOf removed DiskErr.Fault → Rose (D.faults self.old.disk) (D.faults self.new.disk) }
+        ensures cause { (removed : _) → result ≡ Ok (IsRetired removed) → IsErr removed → Rose (D.faults self.old.disk) (D.faults self.new.disk) }
         ensures shown { ShowsKept D.tells self.old.pinned (seen_all D.Disk self.old) (seen_all D.Disk self.new) }
         ensures leaves { (before after : Stores) (names : List Name) → IsOpen D.tells (seen D.Disk self.old) before after → All (λ (n : Name). 2 ≤ n.0) names
             → AreApart place row (length published.now) before names → AreApart place row (length published.now) after names → LeavesNames names D.tells (seen_all D.Disk self.old) (seen_all D.Disk self.new) }

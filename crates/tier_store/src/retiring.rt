@@ -2,27 +2,28 @@
 //
 // They go there before its commit, so that pinned pieces are there whatever comes of it: made, not made or in doubt. While a store lists
 // them they count for nothing.
-ghost use Rattle.std.specs.Prelude.{◌≡◌, ◌<◌, ◌+◌, ◌++◌, [], List, All, Contains, IfOk, OnOk, OnErr, IsErrOf, IsTrue, None, Some, true, false, length, map, slice_get, take};
+ghost use Rattle.std.specs.Prelude.{◌≡◌, ◌<◌, ◌+◌, ◌++◌, [], List, All, Contains, IfOk, OnOk, OnErr, IsErr, IsTrue, None, Some, true, false, length, map, slice_get, take};
 ghost use Rattle.std.specs.List.{list_any};
 ghost use Rattle.disk_model.specs.Files.{Name, Rose};
 ghost use Rattle.disk_model.specs.Past.{Only};
 ghost use Rattle.disk_model.specs.Record.{is_same};
 ghost use Rattle.store_manifest.specs.Manifest.{ManifestState};
 ghost use Rattle.store_manifest.specs.declared.entry.Entry.{Entry as EntryValue};
-ghost use Rattle.durable_write.specs.Ends.{Done};
+ghost use Rattle.durable_write.specs.Ends.{Done, end_of_disk};
 ghost use Rattle.tier_store.specs.Stores.{Stores};
 ghost use Rattle.tier_store.specs.Seen.{seen};
 ghost use Rattle.tier_store.specs.Change.{Has, Changes};
 ghost use Rattle.tier_store.specs.Pinned.{seen_all, KeepsShown};
-ghost use Rattle.tier_store.specs.Limbo.{LimboStands, IsListedName, Stay, StayUnlisted, LeaveListed, LeavesKept, AreFree, staying};
-ghost use Rattle.tier_store.specs.Moving.{LeavesNames};
+ghost use Rattle.tier_store.specs.Limbo.{LimboStands, AreRemovable, IsUseless, NamesDiffer, IsListedName, Stay, StayUnlisted, LeaveListed, LeavesKept, AreFree, staying};
+ghost use Rattle.tier_store.specs.Copying.{OnlyLooks};
+ghost use Rattle.tier_store.specs.Moving.{LeavesFiles, LeavesNames};
 ghost use Rattle.tier_store.specs.Retiring.{IsFree, Stays, names_in, oldest_entries, drop_entry, retired_of};
 ghost use Rattle.tier_store.specs.Revival.{KeepsWhole};
 ghost use Rattle.tier_store.specs.declared.limbo.Retired.{Retired as RetiredValue};
 
 use crate::TierStore;
 use crate::limbo::{Retired, leave_listed};
-use crate::removing::{is_needed, remove_for_good};
+use crate::removing::{find_removable, is_needed, remove_for_good};
 use disk_model::{Disk, DiskErr, FileName};
 use durable_write::file_name;
 use pinned_pieces::PinnedPieces;
@@ -133,12 +134,31 @@ impl<D: Disk> TierStore<D> {
         Ok(Leaving { files, drops })
     }
 
-    // Takes from limbo files that have left their list, but for those that a pin names, and removes them from the disk.
-    pub(crate) fn remove_handed(&mut self, files: &[Retired]) -> Result<(), DiskErr>
+    // Asks which of the files no pin names and are there, whether a store lists them or not.
+    pub(crate) fn find_leaving(&mut self, files: &[Retired]) -> Result<Vec<FileName>, DiskErr>
+        requires has { (held : Stores) × Has D.tells (seen D.Disk self.old) held }
+        requires differ { NamesDiffer files.now }
+
+        ensures found { IsTrue D.tells → IfOk result (λ names. AreRemovable (IsUseless self.new.pinned []) files.now (D.files self.new.disk) names.items) }
+        ensures looks { OnlyLooks D.tells (seen_all D.Disk self.old) (seen_all D.Disk self.new) (end_of_disk result) }
+        ensures later { LeavesFiles D.tells (seen_all D.Disk self.old) (seen_all D.Disk self.new) }
+        ensures same { (self.new.catalogue ≡ self.old.catalogue) × (self.new.manifests ≡ self.old.manifests) × (self.new.pinned ≡ self.old.pinned) × (self.new.limbo ≡ self.old.limbo) }
+    {
+        find_removable(self.alloc, &mut self.disk, &[], files, &self.pinned, &[])
+    }
+
+    // Takes from limbo files that have left their list, but for those that a pin names, and removes them from the disk, where just these names
+    // have a file.
+    pub(crate) fn remove_handed(
+        &mut self,
+        files: &[Retired],
+        removable: &[FileName],
+    ) -> Result<(), DiskErr>
         requires has { (held : Stores) × Has D.tells (seen D.Disk self.old) held }
         requires stands { LimboStands (seen D.Disk self.old) self.old.limbo.items }
         requires unlisted { All (λ (r : RetiredValue). IsListedName (seen D.Disk self.old) r.name → ⊥) self.old.limbo.items }
         requires among { All (Contains self.old.limbo.items) files.now }
+        requires removable { IsTrue D.tells → AreRemovable (IsUseless self.old.pinned []) files.now (D.files self.old.disk) removable.now }
 
         ensures changes { Changes D.tells staying (seen D.Disk self.old) (seen D.Disk self.new) (Done result) }
         ensures leaves { LeavesKept D.tells self.old.pinned (names_in self.new.limbo.items) (seen_all D.Disk self.old) (seen_all D.Disk self.new) }
@@ -147,11 +167,11 @@ impl<D: Disk> TierStore<D> {
         ensures stands { LimboStands (seen D.Disk self.new) self.new.limbo.items }
         ensures left { Stay (λ r. Stays self.old.pinned files.now r.name) (λ r. IsFree self.old.pinned files.now r.name) self.old.limbo.items self.new.limbo.items }
         ensures gone { IsTrue D.tells → OnOk result (AreFree self.old.pinned [] (λ n. Only (D.past self.new.disk) n None) files.now) }
-        ensures cause { IsErrOf result DiskErr.Fault → Rose (D.faults self.old.disk) (D.faults self.new.disk) }
+        ensures cause { IsErr result → Rose (D.faults self.old.disk) (D.faults self.new.disk) }
         ensures same { (self.new.catalogue ≡ self.old.catalogue) × (self.new.manifests ≡ self.old.manifests) × (self.new.pinned ≡ self.old.pinned) }
     {
         let pinned = &self.pinned;
-        let removed = remove_for_good(&mut self.disk, files, pinned, &[]);
+        let removed = remove_for_good(&mut self.disk, files, removable, pinned, &[]);
         self.limbo.retain(|file| remains(files, pinned, &file.name));
         removed
     }

@@ -1,9 +1,13 @@
-use Rattle.std.proofs.Common.{List, None, subst}
+use Rattle.std.proofs.Common.{List, None, subst, sym}
 use Rattle.std.specs.Prelude.{OnOk}
 use Rattle.disk_model.specs.Past.{Only}
-use Rattle.tier_store.specs.Limbo.{Removes, AreFree}
+use Rattle.tier_store.specs.Limbo.{Removes, AreFree, AreRemovable, IsUseless}
 use Rattle.tier_store.specs.declared.limbo.Retired.{Retired}
 use Rattle.tier_store.proofs.removing.clear_limbo.Goals as goal
+
+pub remove_for_good-removed-requires : goal.remove_for_good-removed-requires
+remove_for_good-removed-requires g c tells =
+    subst (λ (rs : List Retired). AreRemovable (IsUseless c.args.pinned.now c.args.copied.now) rs (g.D.Disk.files c.args.disk.now) c.args.removable.now) (sym c.as_slice.ensures.value) (c.requires tells)
 
 pub returns-clause-removes : goal.returns-clause-removes
 returns-clause-removes g c tells =

@@ -1,5 +1,5 @@
-use Rattle.std.proofs.Common.{◌≡◌, ◌+◌, ◌∙◌, List, take, refl, subst, sym, ap, arith}
-use Rattle.std.specs.Prelude.{OnOk, Result}
+use Rattle.std.proofs.Common.{◌≡◌, ◌+◌, ◌∙◌, List, take, subst, sym, ap, arith}
+use Rattle.std.specs.Prelude.{IsErr, OnOk, Result}
 use Rattle.std.proofs.lemmas.List.{take_all}
 use Rattle.disk_model.specs.Files.{Content, Files, Rose}
 use Rattle.disk_model.specs.Past.{Only}
@@ -8,7 +8,8 @@ use Rattle.durable_write.proofs.Rises.{rose_after}
 use Rattle.durable_write.proofs.Stays.{same_then}
 use Rattle.tier_store.specs.Limbo.{AreFree}
 use Rattle.tier_store.specs.declared.limbo.Retired.{Retired}
-use Rattle.tier_store.proofs.Removals.{on_ok, both_done, both_cause, rose_until}
+use Rattle.tier_store.proofs.Removable.{both_err}
+use Rattle.tier_store.proofs.Removals.{on_ok, both_done, rose_until}
 use Rattle.tier_store.proofs.Staying.{free_needed, free_more, only_read}
 use Rattle.tier_store.proofs.removing.sync_unneeded.Goals as goal
 
@@ -45,8 +46,8 @@ loop-file-preserved g c =
       opened = λ tells. says.opened tells ∙ so_far.opened tells;
       faults = omega (arith, says.faults, so_far.faults);
       cause = λ is.
-          both_cause synced done (Rose (g.D.Disk.faults c.args.disk.now) (g.D.Disk.faults new)) (λ failed. rose_after (g.D.Disk.faults c.args.disk.now) (g.D.Disk.faults mid) (g.D.Disk.faults new) so_far.faults (says.cause (rw failed refl)))
-          (λ failed. rose_until (g.D.Disk.faults c.args.disk.now) (g.D.Disk.faults mid) (g.D.Disk.faults new) says.faults (so_far.cause failed)) (sym c.and-done.ensures ∙ is);
+          both_err synced done (Rose (g.D.Disk.faults c.args.disk.now) (g.D.Disk.faults new)) (λ failed. rose_after (g.D.Disk.faults c.args.disk.now) (g.D.Disk.faults mid) (g.D.Disk.faults new) so_far.faults (says.cause failed))
+          (λ failed. rose_until (g.D.Disk.faults c.args.disk.now) (g.D.Disk.faults mid) (g.D.Disk.faults new) says.faults (so_far.cause failed)) (subst (λ (x : Result (Unit {0}) DiskErr). IsErr x) c.and-done.ensures is);
     }
 
 pub returns-clause-durable : goal.returns-clause-durable

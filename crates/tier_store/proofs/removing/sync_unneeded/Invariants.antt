@@ -1,7 +1,6 @@
 use Rattle.std.proofs.Common.{◌≡◌, ◌≤◌, take}
-use Rattle.std.specs.Prelude.{IsErrOf, IsTrue, OnOk}
+use Rattle.std.specs.Prelude.{IsErr, IsTrue, OnOk}
 use Rattle.disk_model.specs.Files.{Rose}
-use Rattle.disk_model.specs.declared.disk.DiskErr.TheVariants.{Fault}
 use Rattle.disk_model.specs.Past.{Passes, Only}
 use Rattle.tier_store.specs.Limbo.{AreFree}
 use Rattle.tier_store.proofs.removing.sync_unneeded.Given as goal
@@ -14,5 +13,5 @@ invariant-loop-file g l = record {
   crash : IsTrue g.D.Disk.tells → Passes (λ a b. b ≡ a) (g.D.Disk.past l.fn.disk) (g.D.Disk.past l.disk);
   opened : IsTrue g.D.Disk.tells → g.D.Disk.opened l.disk ≡ g.D.Disk.opened l.fn.disk;
   faults : g.D.Disk.faults l.fn.disk ≤ g.D.Disk.faults l.disk;
-  cause : IsErrOf l.done Fault → Rose (g.D.Disk.faults l.fn.disk) (g.D.Disk.faults l.disk);
+  cause : IsErr l.done → Rose (g.D.Disk.faults l.fn.disk) (g.D.Disk.faults l.disk);
 }

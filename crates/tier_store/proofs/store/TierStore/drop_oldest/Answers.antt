@@ -86,7 +86,7 @@ returns-clause-shown g c =
     let was = c.requires.has in
     let m = c.index_mut.result.now in
     let here = manifest_here self.manifests.items c.args.place m c.index_mut.ensures.value c.requires.within in
-    dropped_shown g.D.Disk.tells c.args.place c.args.row c.args.n _ _ was.0 was.1 (within_three self.manifests.items c.args.place m was.1.known.three here) _ (returns-clause-changes g c) refl (λ f part. c.requires.handed was.0 f was.1 part)
+    dropped_shown g.D.Disk.tells c.args.place c.args.row c.args.n _ _ was.0 was.1 (within_three self.manifests.items c.args.place m was.1.known.three here) _ (returns-clause-changes g c) refl (λ f part. c.requires.handed was.0 f was.1.known part)
     m here (λ tells. c.relist.ensures.elsewhere tells)
 
 pub returns-in_err-relist-clause-shown : goal.returns-in_err-relist-clause-shown
@@ -95,7 +95,7 @@ returns-in_err-relist-clause-shown g c =
     let was = c.requires.has in
     let m = c.index_mut.result.now in
     let here = manifest_here self.manifests.items c.args.place m c.index_mut.ensures.value c.requires.within in
-    dropped_shown g.D.Disk.tells c.args.place c.args.row c.args.n _ _ was.0 was.1 (within_three self.manifests.items c.args.place m was.1.known.three here) (end_of_disk c.from_residual.result) (returns-in_err-relist-clause-changes g c) refl (λ f part. c.requires.handed was.0 f was.1 part)
+    dropped_shown g.D.Disk.tells c.args.place c.args.row c.args.n _ _ was.0 was.1 (within_three self.manifests.items c.args.place m was.1.known.three here) (end_of_disk c.from_residual.result) (returns-in_err-relist-clause-changes g c) refl (λ f part. c.requires.handed was.0 f was.1.known part)
     m here (λ tells. c.relist.ensures.elsewhere tells)
 
 pub returns-clause-leaves : goal.returns-clause-leaves

@@ -5,6 +5,7 @@ use Rattle.durable_write.specs.Ends.{Done}
 use Rattle.tier_store.specs.Limbo.{IsListedName, Removes}
 use Rattle.tier_store.specs.Retiring.{IsFree, Stays, names_in}
 use Rattle.tier_store.specs.Seen.{seen_on}
+use Rattle.tier_store.proofs.Differing.{stay_differ}
 use Rattle.tier_store.proofs.Handing.{all_stay, removes_left, left_stays, name_left, none_more}
 use Rattle.tier_store.proofs.Removals.{retained}
 use Rattle.tier_store.proofs.Sparing.{swept_changes, swept_leaves, still_stands}
@@ -56,6 +57,7 @@ returns-clause-stands g c =
     let stay = retained _ (λ r. Stays self.pinned files r.name) (λ r. IsFree self.pinned files r.name) _ (λ r b f k. search rules) limbo left c.retain.ensures.filtered in
     let removes : IsTrue disk.tells → Removes self.pinned (names_in left) limbo (disk.files self.disk) (disk.files new) (disk.opened self.disk) (disk.opened new) (disk.past self.disk) (disk.past new) = λ told. removes_left self.pinned files limbo left stay c.requires.among (disk.files self.disk) (disk.files new) (disk.opened self.disk) (disk.opened new) (disk.past self.disk) (disk.past new) (c.remove_for_good-removed.ensures.removes told) in
     still_stands disk.tells at self.pinned (names_in left) limbo limbo c.requires.stands unlisted (disk.files new) (disk.opened new) (disk.past new) (disk.faults new) (λ told. (removes told).any_moment) (λ told. (removes told).spares) (λ told. (removes told).fewer) left (none_more self.pinned files limbo left stay)
+    (stay_differ (λ r. Stays self.pinned files r.name) (λ r. IsFree self.pinned files r.name) limbo left stay c.requires.stands.1)
 
 pub returns-clause-left : goal.returns-clause-left
 returns-clause-left g c = retained _ (λ r. Stays c.args.self.now.pinned c.args.files.now r.name) (λ r. IsFree c.args.self.now.pinned c.args.files.now r.name) _ (λ r b f k. search rules) _ _ c.retain.ensures.filtered

@@ -1,8 +1,10 @@
-use Rattle.std.proofs.Common.{◌≡◌, Err, Result, List, true, ◌∙◌, ap, subst, sym}
-use Rattle.std.specs.Prelude.{OnOk}
+use Rattle.std.proofs.Common.{◌≡◌, Bool, Err, Ok, Result, List, true, ◌∙◌, ap, subst, sym}
+use Rattle.std.specs.Prelude.{IfOk, IsErr, IsTrue, OnOk}
 use Rattle.std.specs.FinMap.{FinMap}
 use Rattle.std.specs.Ordering.{nat_cmp}
 use Rattle.std.proofs.lemmas.Result.{err_from_is_err_and}
+use Rattle.disk_model.specs.Files.{Name, Rose}
+use Rattle.disk_model.specs.Past.{MayLeave}
 use Rattle.disk_model.specs.declared.disk.DiskErr.{DiskErr}
 use Rattle.pinned_pieces.specs.Pieces.{PinOf}
 use Rattle.pv_catalog.specs.Catalogue.{CatalogueState}
@@ -10,15 +12,18 @@ use Rattle.pv_catalog.specs.Rows.{KeepsRows}
 use Rattle.durable_write.specs.Ends.{end_of_disk}
 use Rattle.durable_write.proofs.Rises.{rose_after}
 use Rattle.tier_store.specs.Limbo.{LimboStands, IsSwept, AreGone, LeavesKept, staying}
-use Rattle.tier_store.specs.Pinned.{beside, seen_all}
-use Rattle.tier_store.specs.Seen.{AtEach, seen_on}
+use Rattle.tier_store.specs.Pinned.{SeenAll, beside, seen_all}
+use Rattle.tier_store.specs.Seen.{AtEach, IsSettled, seen_on}
 use Rattle.store_manifest.specs.Manifest.{ManifestState}
+use Rattle.tier_store.specs.Strays.{LeavesNoStray}
 use Rattle.tier_store.specs.declared.limbo.Retired.{Retired}
 use Rattle.tier_store.specs.declared.removing.Swept.{Swept}
 use Rattle.tier_store.proofs.Acting.{has_one, cut_acts, then_acts}
 use Rattle.tier_store.proofs.Staying.{limbo_kept}
 use Rattle.tier_store.proofs.Sparing.{settles_leave, settles_then}
-use Rattle.tier_store.proofs.LeavingNames.{names_then}
+use Rattle.tier_store.proofs.Asked.{if_ok_to}
+use Rattle.tier_store.proofs.LeavingNames.{leaves_then, names_then}
+use Rattle.tier_store.proofs.Removals.{on_err}
 use Rattle.tier_store.proofs.WholeCalls.{whole_then}
 use Rattle.tier_store.proofs.Strays.{swept_strays}
 use Rattle.tier_store.proofs.store.TierStore.sweep.Goals as goal
@@ -59,31 +64,6 @@ returns-in_err-review-clause-stands g c =
 
 pub returns-clause-acts : goal.returns-clause-acts
 returns-clause-acts g c = then_acts g.D.Disk.tells staying _ _ _ (end_of_disk c.review.result) _ c.in_ok-review.ensures.settled (λ held has. rw (c.review.ensures.nothing has.settled).1 has) c.review.ensures.granularity c.review.ensures.settles c.sweep_settled.ensures.changes
-
-pub returns-clause-swept : goal.returns-clause-swept
-returns-clause-swept g c =
-    let disk = g.D.Disk in
-    let mid = c.review.new.self in
-    let new = c.sweep_settled.new.self in
-    let files = c.sweep_settled.result.files in
-    let after = seen_on disk.files disk.opened disk.past disk.faults new.catalogue new.manifests.items new.disk in
-    subst (λ (l : List Retired). IsSwept after c.args.self.now.pinned c.args.copied.now l new.limbo.items files) (ap (λ l. l.items) c.review.ensures.limbo)
-    (subst (λ (p : FinMap nat_cmp PinOf). IsSwept after p c.args.copied.now mid.limbo.items new.limbo.items files) c.review.ensures.pins c.sweep_settled.ensures.swept)
-
-pub returns-clause-gone : goal.returns-clause-gone
-returns-clause-gone g c tells =
-    let disk = g.D.Disk in
-    let mid = c.review.new.self in
-    let new = c.sweep_settled.new.self in
-    let removed = c.sweep_settled.result.removed in
-    let after = seen_on disk.files disk.opened disk.past disk.faults new.catalogue new.manifests.items new.disk in
-    subst (λ (l : List Retired). OnOk removed (AreGone after c.args.self.now.pinned c.args.copied.now l)) (ap (λ l. l.items) c.review.ensures.limbo)
-    (subst (λ (p : FinMap nat_cmp PinOf). OnOk removed (AreGone after p c.args.copied.now mid.limbo.items)) c.review.ensures.pins (c.sweep_settled.ensures.gone tells))
-
-pub returns-clause-cause : goal.returns-clause-cause
-returns-clause-cause g c failed =
-    let faults = g.D.Disk.faults in
-    rose_after (faults c.args.self.now.disk) (faults c.review.new.self.disk) (faults c.sweep_settled.new.self.disk) c.review.ensures.settles.faults (c.sweep_settled.ensures.cause failed)
 
 pub returns-clause-leaves : goal.returns-clause-leaves
 returns-clause-leaves g c =
@@ -132,13 +112,55 @@ returns-in_err-review-clause-whole g c = c.review.ensures.whole
 pub returns-clause-whole : goal.returns-clause-whole
 returns-clause-whole g c = whole_then g.D.Disk.tells _ _ _ c.review.ensures.whole c.sweep_settled.ensures.whole
 
+pub returns-clause-swept : goal.returns-clause-swept
+returns-clause-swept g c =
+    let disk = g.D.Disk in
+    let mid = c.review.new.self in
+    let new = c.sweep_settled.new.self in
+    let r = c.sweep_settled.result in
+    let after = seen_on disk.files disk.opened disk.past disk.faults new.catalogue new.manifests.items new.disk in
+    subst (λ (l : List Retired). IfOk r (λ swept. IsSwept after c.args.self.now.pinned c.args.copied.now l new.limbo.items swept.files)) (ap (λ l. l.items) c.review.ensures.limbo)
+    (subst (λ (p : FinMap nat_cmp PinOf). IfOk r (λ swept. IsSwept after p c.args.copied.now mid.limbo.items new.limbo.items swept.files)) c.review.ensures.pins c.sweep_settled.ensures.swept)
+
+pub returns-clause-gone : goal.returns-clause-gone
+returns-clause-gone g c tells =
+    let disk = g.D.Disk in
+    let mid = c.review.new.self in
+    let new = c.sweep_settled.new.self in
+    let r = c.sweep_settled.result in
+    let after = seen_on disk.files disk.opened disk.past disk.faults new.catalogue new.manifests.items new.disk in
+    subst (λ (l : List Retired). IfOk r (λ swept. OnOk swept.removed (AreGone after c.args.self.now.pinned c.args.copied.now l))) (ap (λ l. l.items) c.review.ensures.limbo)
+    (subst (λ (p : FinMap nat_cmp PinOf). IfOk r (λ swept. OnOk swept.removed (AreGone after p c.args.copied.now mid.limbo.items))) c.review.ensures.pins (c.sweep_settled.ensures.gone tells))
+
+pub returns-clause-cause : goal.returns-clause-cause
+returns-clause-cause g c =
+    let faults = g.D.Disk.faults in
+    let first = faults c.args.self.now.disk in
+    let mid = faults c.review.new.self.disk in
+    let last = faults c.sweep_settled.new.self.disk in
+    if_ok_to c.sweep_settled.result (λ swept. IsErr swept.removed → Rose mid last) (λ swept. IsErr swept.removed → Rose first last) (λ swept cause failed. rose_after first mid last c.review.ensures.settles.faults (cause failed)) c.sweep_settled.ensures.cause
+
+pub returns-clause-failed : goal.returns-clause-failed
+returns-clause-failed g c =
+    on_err c.sweep_settled.result _ _
+    (λ was. (was.0 ∙ c.review.ensures.limbo, λ name bytes shows. was.1 name bytes (c.review.ensures.shown name bytes shows), leaves_then g.D.Disk.tells _ _ _ c.review.ensures.leaves was.2)) c.sweep_settled.ensures.failed
+
+-- where nothing stood in doubt
+tidy_of : (tells : Bool) (old new : SeenAll) (pins : FinMap nat_cmp PinOf) (copied : List Name) (r : Result Swept DiskErr) → (IsTrue tells → MayLeave new.stores.past new.stores.files) → IsSettled new.stores → new.stores.catalogue ≡ old.stores.catalogue → new.stores.manifests ≡ old.stores.manifests
+    → IfOk r (λ swept. IsSwept new.stores pins copied old.limbo new.limbo swept.files) → (IsTrue tells → IfOk r (λ swept. OnOk swept.removed (AreGone new.stores pins copied old.limbo))) → LeavesKept tells pins copied old new
+    → IfOk r (λ swept. IsSettled new.stores × (swept.removed ≡ Ok tt → LeavesNoStray tells old new))
+tidy_of tells old new pins copied (Ok swept) seen_it settled rows lists is gone kept = (
+  settled,
+  λ fine. swept_strays tells old new pins copied swept.files seen_it rows lists is (λ told. subst (λ (r : Result (Unit {0}) DiskErr). OnOk r (AreGone new.stores pins copied old.limbo)) fine (gone told)) kept,
+)
+tidy_of tells old new pins copied (Err e) seen_it settled rows lists is gone kept = tt
+
 pub returns-clause-tidy : goal.returns-clause-tidy
 returns-clause-tidy g c settled =
     let disk = g.D.Disk in
     let new = c.sweep_settled.new.self in
+    let before = seen_all disk c.args.self.now in
     let after = beside (seen_on disk.files disk.opened disk.past disk.faults new.catalogue new.manifests.items new.disk) new.limbo.items in
-    let same = returns-clause-nothing g c settled in (
-      record { catalogue = ap (λ s. s.journal.sound) same.0 ∙ settled.catalogue; manifests = subst (λ (ms : List ManifestState). AtEach ms (λ i m. m.journal.sound ≡ true)) (sym (ap (λ v. v.items) same.1)) settled.manifests },
-      λ fine. swept_strays disk.tells _ after c.args.self.now.pinned c.args.copied.now c.sweep_settled.result.files (λ tells. g.met.D.Disk.seen new.disk tells) same.0 (ap (λ v. v.items) same.1) (returns-clause-swept g c)
-          (λ tells. subst (λ (r : Result (Unit {0}) DiskErr). OnOk r (AreGone after.stores c.args.self.now.pinned c.args.copied.now c.args.self.now.limbo.items)) fine (returns-clause-gone g c tells)) (returns-clause-kept g c settled),
-    )
+    let same = returns-clause-nothing g c settled in
+    let then : IsSettled after.stores = record { catalogue = ap (λ s. s.journal.sound) same.0 ∙ settled.catalogue; manifests = subst (λ (ms : List ManifestState). AtEach ms (λ i m. m.journal.sound ≡ true)) (sym (ap (λ v. v.items) same.1)) settled.manifests } in
+    tidy_of disk.tells before after c.args.self.now.pinned c.args.copied.now c.sweep_settled.result (λ tells. g.met.D.Disk.seen new.disk tells) then same.0 (ap (λ v. v.items) same.1) (returns-clause-swept g c) (returns-clause-gone g c) (returns-clause-kept g c settled)

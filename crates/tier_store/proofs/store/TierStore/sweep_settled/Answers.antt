@@ -1,109 +1,109 @@
-use Rattle.std.proofs.Common.{List, refl, subst}
-use Rattle.pv_catalog.proofs.Standing.{keeps_same}
-use Rattle.store_manifest.specs.Entries.{InOrder}
-use Rattle.store_manifest.specs.Manifest.{ManifestState}
-use Rattle.durable_write.specs.Ends.{Done}
-use Rattle.tier_store.specs.Seen.{AtEach, seen_on}
-use Rattle.tier_store.specs.Limbo.{IsNeeded, ListsPlace, Stay}
-use Rattle.tier_store.proofs.Staying.{stay_from, stay_unlisted}
-use Rattle.tier_store.proofs.Sparing.{swept_changes, swept_leaves, swept_files, are_gone, still_stands}
-use Rattle.tier_store.proofs.Removals.{lists_in_order, on_ok, needed_stays, none_came}
-use Rattle.tier_store.proofs.LeavingNames.{removal_leaves}
-use Rattle.tier_store.proofs.WholeCalls.{swept_whole}
+use Rattle.std.proofs.Common.{Err, List, Result, ◌∙◌, ap, subst, sym}
+use Rattle.std.specs.FinMap.{FinMap}
+use Rattle.std.specs.Ordering.{nat_cmp}
+use Rattle.std.specs.Prelude.{OnOk}
+use Rattle.std.proofs.lemmas.Result.{err_from_is_err_and}
+use Rattle.disk_model.specs.Files.{Name}
+use Rattle.disk_model.specs.declared.disk.DiskErr.{DiskErr}
+use Rattle.pinned_pieces.specs.Pieces.{PinOf}
+use Rattle.durable_write.specs.Ends.{Done, end_of_disk}
+use Rattle.durable_write.proofs.Rises.{rose_after}
+use Rattle.tier_store.specs.Limbo.{AreGone, AreRemovable, IsLeftOver, IsSwept, LeavesKept, staying}
+use Rattle.tier_store.specs.Pinned.{seen_all}
+use Rattle.tier_store.specs.Seen.{seen}
+use Rattle.tier_store.specs.declared.limbo.Retired.{Retired}
+use Rattle.tier_store.specs.declared.removing.Swept.{Swept}
+use Rattle.tier_store.proofs.Acting.{changes_given}
+use Rattle.tier_store.proofs.Asked.{given_changes, look_leaves, look_then_leaves}
+use Rattle.tier_store.proofs.CopyLooks.{looks_err, looks_stands, looks_whole}
+use Rattle.tier_store.proofs.CopySteps.{look_then_change, looks_change}
+use Rattle.tier_store.proofs.LeavingNames.{names_then, read_names}
+use Rattle.tier_store.proofs.WholeCalls.{whole_then}
 use Rattle.tier_store.proofs.store.TierStore.sweep_settled.Goals as goal
+
+-- AFTER AN ERROR
+
+pub returns-in_err-removable-clause-changes : goal.returns-in_err-removable-clause-changes
+returns-in_err-removable-clause-changes g c =
+    let p = err_from_is_err_and c.from_residual.result c.from_residual.ensures.1 in
+    given_changes g.D.Disk.tells staying _ _ _ (looks_change g.D.Disk.tells _ _ _ c.from_residual.result (looks_err g.D.Disk.tells _ _ c.find_swept.result c.from_residual.result _ (c.in_err-removable.was ∙ ap (λ (x : DiskErr). Err x) (sym p.2)) p.1 c.find_swept.ensures.looks))
+
+pub returns-in_err-removable-clause-failed : goal.returns-in_err-removable-clause-failed
+returns-in_err-removable-clause-failed g c =
+    let p = err_from_is_err_and c.from_residual.result c.from_residual.ensures.1 in
+    rw p.1 (c.find_swept.ensures.same.3, c.find_swept.ensures.looks.shown, c.find_swept.ensures.looks.leaves)
+
+pub returns-in_err-removable-clause-leaves : goal.returns-in_err-removable-clause-leaves
+returns-in_err-removable-clause-leaves g c = look_leaves g.D.Disk.tells c.args.self.now.pinned c.args.copied.now _ _ _ c.find_swept.ensures.looks
+
+pub returns-in_err-removable-clause-whole : goal.returns-in_err-removable-clause-whole
+returns-in_err-removable-clause-whole g c = looks_whole g.D.Disk.tells _ _ _ c.requires.has.1.known.three c.find_swept.ensures.looks
+
+pub returns-in_err-removable-clause-copied : goal.returns-in_err-removable-clause-copied
+returns-in_err-removable-clause-copied g c =
+    let looks = c.find_swept.ensures.looks in
+    read_names c.args.copied.now g.D.Disk.tells _ _ looks.limbo looks.reads.files looks.opened looks.reads.any_moment
+
+pub returns-in_err-removable-clause-stands : goal.returns-in_err-removable-clause-stands
+returns-in_err-removable-clause-stands g c = looks_stands g.D.Disk.tells _ _ _ c.find_swept.ensures.looks c.requires.stands
+
+-- THE SWEEP
+
+pub sweep_names-requires-clause-has : goal.sweep_names-requires-clause-has
+sweep_names-requires-clause-has g c = (c.requires.has.0, c.in_ok-removable.ensures.looks.kept c.requires.has.0 c.requires.has.1)
+
+pub sweep_names-requires-clause-stands : goal.sweep_names-requires-clause-stands
+sweep_names-requires-clause-stands g c = looks_stands g.D.Disk.tells _ _ _ c.in_ok-removable.ensures.looks c.requires.stands
+
+pub sweep_names-requires-clause-removable : goal.sweep_names-requires-clause-removable
+sweep_names-requires-clause-removable g c tells =
+    let mid = c.find_swept.new.self in
+    subst (λ (ns : List Name). AreRemovable (IsLeftOver mid.manifests.items mid.pinned c.args.copied.now) mid.limbo.items (g.D.Disk.files mid.disk) ns) (sym c.deref.ensures.value) (c.in_ok-removable.ensures.found tells)
 
 pub returns-clause-changes : goal.returns-clause-changes
 returns-clause-changes g c =
-    let self = c.args.self.now in
-    let disk = g.D.Disk in
-    let at = seen_on disk.files disk.opened disk.past disk.faults self.catalogue self.manifests.items self.disk in
-    let held = c.requires.has in
-    let retired = c.leave_listed.new.limbo.items in
-    let new = c.clear_limbo.new.disk in
-    let known = subst (λ (ms : List ManifestState). AtEach ms (λ i m. InOrder m.entries) → Stay (λ r. ListsPlace ms r → ⊥) (ListsPlace ms) self.limbo.items retired) c.deref.ensures.value c.leave_listed.ensures in
-    let unlisted = stay_unlisted at held.0 self.limbo.items retired held.1.known c.requires.stands (known (lists_in_order self.catalogue self.manifests.items held.0 held.1.known)) in
-    swept_changes disk.tells at self.pinned c.args.copied.now self.limbo.items retired c.requires.stands unlisted (disk.files new) (disk.opened new) (disk.past new) (disk.faults new) (λ tells. (c.clear_limbo.ensures.removes tells).any_moment) (λ tells. (c.clear_limbo.ensures.removes tells).spares) (λ tells. (c.clear_limbo.ensures.removes tells).fewer)
-    (Done c.clear_limbo.result) c.clear_limbo.ensures.faults (λ failed. absurd failed)
+    given_changes g.D.Disk.tells staying _ _ _
+    (look_then_change g.D.Disk.tells (λ s. Unit {0}) (λ s. Unit {0}) _ _ _ _ (Done c.sweep_names.result) c.in_ok-removable.ensures.looks (λ held has given. given) (changes_given (λ s. Unit {0}) g.D.Disk.tells staying _ _ (Done c.sweep_names.result) c.sweep_names.ensures.changes))
 
 pub returns-clause-swept : goal.returns-clause-swept
 returns-clause-swept g c =
-    let self = c.args.self.now in
-    let disk = g.D.Disk in
-    let at = seen_on disk.files disk.opened disk.past disk.faults self.catalogue self.manifests.items self.disk in
-    let held = c.requires.has in
-    let retired = c.leave_listed.new.limbo.items in
-    let left = c.clear_limbo.new.limbo.items in
-    let new = c.clear_limbo.new.disk in
-    let known = subst (λ (ms : List ManifestState). AtEach ms (λ i m. InOrder m.entries) → Stay (λ r. ListsPlace ms r → ⊥) (ListsPlace ms) self.limbo.items retired) c.deref.ensures.value c.leave_listed.ensures in
-    let unlisted = stay_unlisted at held.0 self.limbo.items retired held.1.known c.requires.stands (known (lists_in_order self.catalogue self.manifests.items held.0 held.1.known)) in
-    swept_files disk.tells at self.pinned c.args.copied.now self.limbo.items retired c.requires.stands unlisted (disk.files new) (disk.opened new) (disk.past new) (disk.faults new) (λ tells. (c.clear_limbo.ensures.removes tells).any_moment) (λ tells. (c.clear_limbo.ensures.removes tells).spares) (λ tells. (c.clear_limbo.ensures.removes tells).fewer)
-    left c.clear_limbo.result.files c.clear_limbo.ensures.needed c.clear_limbo.ensures.count
+    let mid = c.find_swept.new.self in
+    let new = c.sweep_names.new.self in
+    let same = c.find_swept.ensures.same in
+    subst (λ (l : List Retired). IsSwept (seen g.D.Disk new) c.args.self.now.pinned c.args.copied.now l new.limbo.items c.sweep_names.result.files) (ap (λ v. v.items) same.3)
+    (subst (λ (p : FinMap nat_cmp PinOf). IsSwept (seen g.D.Disk new) p c.args.copied.now mid.limbo.items new.limbo.items c.sweep_names.result.files) same.2 c.sweep_names.ensures.swept)
 
 pub returns-clause-gone : goal.returns-clause-gone
-returns-clause-gone g c told =
-    let self = c.args.self.now in
-    let disk = g.D.Disk in
-    let at = seen_on disk.files disk.opened disk.past disk.faults self.catalogue self.manifests.items self.disk in
-    let held = c.requires.has in
-    let retired = c.leave_listed.new.limbo.items in
-    let left = c.clear_limbo.new.limbo.items in
-    let new = c.clear_limbo.new.disk in
-    let known = subst (λ (ms : List ManifestState). AtEach ms (λ i m. InOrder m.entries) → Stay (λ r. ListsPlace ms r → ⊥) (ListsPlace ms) self.limbo.items retired) c.deref.ensures.value c.leave_listed.ensures in
-    let unlisted = stay_unlisted at held.0 self.limbo.items retired held.1.known c.requires.stands (known (lists_in_order self.catalogue self.manifests.items held.0 held.1.known)) in
-    on_ok c.clear_limbo.result.removed _ _ (are_gone disk.tells at self.pinned c.args.copied.now self.limbo.items retired c.requires.stands unlisted (disk.files new) (disk.opened new) (disk.past new) (disk.faults new) (λ tells. (c.clear_limbo.ensures.removes tells).any_moment) (λ tells. (c.clear_limbo.ensures.removes tells).spares) (λ tells. (c.clear_limbo.ensures.removes tells).fewer)) (c.clear_limbo.ensures.gone told)
+returns-clause-gone g c tells =
+    let mid = c.find_swept.new.self in
+    let new = c.sweep_names.new.self in
+    let same = c.find_swept.ensures.same in
+    let removed = c.sweep_names.result.removed in
+    subst (λ (l : List Retired). OnOk removed (AreGone (seen g.D.Disk new) c.args.self.now.pinned c.args.copied.now l)) (ap (λ v. v.items) same.3)
+    (subst (λ (p : FinMap nat_cmp PinOf). OnOk removed (AreGone (seen g.D.Disk new) p c.args.copied.now mid.limbo.items)) same.2 (c.sweep_names.ensures.gone tells))
+
+pub returns-clause-cause : goal.returns-clause-cause
+returns-clause-cause g c failed =
+    let faults = g.D.Disk.faults in
+    rose_after (faults c.args.self.now.disk) (faults c.find_swept.new.self.disk) (faults c.sweep_names.new.self.disk) c.find_swept.ensures.looks.reads.faults (c.sweep_names.ensures.cause failed)
 
 pub returns-clause-leaves : goal.returns-clause-leaves
 returns-clause-leaves g c =
-    let self = c.args.self.now in
-    let disk = g.D.Disk in
-    let at = seen_on disk.files disk.opened disk.past disk.faults self.catalogue self.manifests.items self.disk in
-    let held = c.requires.has in
-    let retired = c.leave_listed.new.limbo.items in
-    let left = c.clear_limbo.new.limbo.items in
-    let new = c.clear_limbo.new.disk in
-    let known = subst (λ (ms : List ManifestState). AtEach ms (λ i m. InOrder m.entries) → Stay (λ r. ListsPlace ms r → ⊥) (ListsPlace ms) self.limbo.items retired) c.deref.ensures.value c.leave_listed.ensures in
-    let unlisted = stay_unlisted at held.0 self.limbo.items retired held.1.known c.requires.stands (known (lists_in_order self.catalogue self.manifests.items held.0 held.1.known)) in
-    swept_leaves disk.tells at self.pinned c.args.copied.now self.limbo.items retired c.requires.stands unlisted (disk.files new) (disk.opened new) (disk.past new) (disk.faults new) (λ tells. (c.clear_limbo.ensures.removes tells).any_moment) (λ tells. (c.clear_limbo.ensures.removes tells).spares) (λ tells. (c.clear_limbo.ensures.removes tells).fewer)
-    held.0 left held.1 (needed_stays self.pinned c.args.copied.now retired left c.clear_limbo.ensures.needed)
+    let mid = seen_all g.D.Disk c.find_swept.new.self in
+    let new = seen_all g.D.Disk c.sweep_names.new.self in
+    look_then_leaves g.D.Disk.tells c.args.self.now.pinned c.args.copied.now _ mid new _ c.find_swept.ensures.looks
+    (subst (λ (p : FinMap nat_cmp PinOf). LeavesKept g.D.Disk.tells p c.args.copied.now mid new) c.find_swept.ensures.same.2 c.sweep_names.ensures.leaves)
 
-pub returns-clause-stands : goal.returns-clause-stands
-returns-clause-stands g c =
-    let self = c.args.self.now in
-    let disk = g.D.Disk in
-    let at = seen_on disk.files disk.opened disk.past disk.faults self.catalogue self.manifests.items self.disk in
-    let held = c.requires.has in
-    let retired = c.leave_listed.new.limbo.items in
-    let left = c.clear_limbo.new.limbo.items in
-    let new = c.clear_limbo.new.disk in
-    let known = subst (λ (ms : List ManifestState). AtEach ms (λ i m. InOrder m.entries) → Stay (λ r. ListsPlace ms r → ⊥) (ListsPlace ms) self.limbo.items retired) c.deref.ensures.value c.leave_listed.ensures in
-    let unlisted = stay_unlisted at held.0 self.limbo.items retired held.1.known c.requires.stands (known (lists_in_order self.catalogue self.manifests.items held.0 held.1.known)) in
-    still_stands disk.tells at self.pinned c.args.copied.now self.limbo.items retired c.requires.stands unlisted (disk.files new) (disk.opened new) (disk.past new) (disk.faults new) (λ tells. (c.clear_limbo.ensures.removes tells).any_moment) (λ tells. (c.clear_limbo.ensures.removes tells).spares) (λ tells. (c.clear_limbo.ensures.removes tells).fewer)
-    left (none_came self.pinned c.args.copied.now retired left c.clear_limbo.ensures.needed)
+pub returns-clause-whole : goal.returns-clause-whole
+returns-clause-whole g c = whole_then g.D.Disk.tells _ _ _ (looks_whole g.D.Disk.tells _ _ _ c.requires.has.1.known.three c.in_ok-removable.ensures.looks) c.sweep_names.ensures.whole
 
 pub returns-clause-copied : goal.returns-clause-copied
 returns-clause-copied g c =
-    let self = c.args.self.now in
-    let disk = g.D.Disk in
-    let at = seen_on disk.files disk.opened disk.past disk.faults self.catalogue self.manifests.items self.disk in
-    let held = c.requires.has in
-    let retired = c.leave_listed.new.limbo.items in
-    let left = c.clear_limbo.new.limbo.items in
-    let known = subst (λ (ms : List ManifestState). AtEach ms (λ i m. InOrder m.entries) → Stay (λ r. ListsPlace ms r → ⊥) (ListsPlace ms) self.limbo.items retired) c.deref.ensures.value c.leave_listed.ensures in
-    let stay = known (lists_in_order self.catalogue self.manifests.items held.0 held.1.known) in
-    removal_leaves disk.tells _ _ self.pinned c.args.copied.now retired
-    (λ r there. (stay_from (λ x. ListsPlace self.manifests.items x → ⊥) (ListsPlace self.manifests.items) self.limbo.items retired r stay (none_came self.pinned c.args.copied.now retired left c.clear_limbo.ensures.needed r there)).0)
-    c.clear_limbo.ensures.removes
+    let looks = c.find_swept.ensures.looks in
+    names_then c.args.copied.now g.D.Disk.tells _ _ _ (read_names c.args.copied.now g.D.Disk.tells _ _ looks.limbo looks.reads.files looks.opened looks.reads.any_moment) c.sweep_names.ensures.copied
 
-pub returns-clause-whole : goal.returns-clause-whole
-returns-clause-whole g c =
-    let self = c.args.self.now in
-    let disk = g.D.Disk in
-    let at = seen_on disk.files disk.opened disk.past disk.faults self.catalogue self.manifests.items self.disk in
-    let held = c.requires.has in
-    let retired = c.leave_listed.new.limbo.items in
-    let left = c.clear_limbo.new.limbo.items in
-    let known = subst (λ (ms : List ManifestState). AtEach ms (λ i m. InOrder m.entries) → Stay (λ r. ListsPlace ms r → ⊥) (ListsPlace ms) self.limbo.items retired) c.deref.ensures.value c.leave_listed.ensures in
-    let unlisted = stay_unlisted at held.0 self.limbo.items retired held.1.known c.requires.stands (known (lists_in_order self.catalogue self.manifests.items held.0 held.1.known)) in
-    swept_whole disk.tells _ _ self.pinned c.args.copied.now retired c.requires.stands unlisted
-    (λ r there. stay_from (λ x. IsNeeded self.pinned c.args.copied.now x.name) (λ x. IsNeeded self.pinned c.args.copied.now x.name → ⊥) retired left r c.clear_limbo.ensures.needed there)
-    held.1.known.three (keeps_same self.catalogue.rows) refl c.clear_limbo.ensures.removes
+pub returns-clause-same : goal.returns-clause-same
+returns-clause-same g c =
+    let one = c.find_swept.ensures.same in
+    let two = c.sweep_names.ensures.same in
+    (two.0 ∙ one.0, two.1 ∙ one.1, two.2 ∙ one.2)
