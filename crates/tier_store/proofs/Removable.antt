@@ -1,5 +1,5 @@
 -- The files that are to be removed and are there: how they are found, and what is left once they are removed.
-use Rattle.std.proofs.Common.{◌≡◌, ◌≢◌, ◌⊎◌, inl, inr, ℕ, zero, suc, ◌≤◌, ◌<◌, ◌+◌, ◌++◌, List, [], ◌∷◌, length, take, get_or, None, Some, Ok, Err, Result, refl, sym, ◌∙◌, ap, subst, arith}
+use Rattle.std.proofs.Common.{◌≡◌, ◌≢◌, ◌⊎◌, inl, inr, ℕ, zero, suc, ◌≤◌, ◌<◌, ◌+◌, ◌++◌, List, [], ◌∷◌, length, take, get_or, None, Some, Ok, Err, Result, refl, sym, ◌∙◌, subst, arith}
 use Rattle.std.specs.FinMap.{FinMap}
 use Rattle.std.specs.List.{AllPairs}
 use Rattle.std.specs.Ordering.{nat_cmp}
@@ -14,7 +14,6 @@ use Rattle.disk_model.specs.declared.disk.DiskErr.{DiskErr}
 use Rattle.disk_model.proofs.Passing.{passes_none, passes_then, passes_weaker}
 use Rattle.pinned_pieces.specs.Pieces.{PinOf}
 use Rattle.store_manifest.specs.Manifest.{ManifestState}
-use Rattle.durable_write.proofs.Names.{name_cases}
 use Rattle.tier_store.specs.Limbo.{IsNeeded, AreFree, AreRemovable, Elsewhere, IsLeftOver, IsUseless, ListsPlace, NamesDiffer, Removes, RemovesNames, Spares, SparesNames, Stay}
 use Rattle.tier_store.specs.declared.limbo.Retired.{Retired}
 use Rattle.tier_store.proofs.Differing.{named_once, pairs_none}

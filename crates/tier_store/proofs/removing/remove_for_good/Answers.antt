@@ -1,4 +1,4 @@
-use Rattle.std.proofs.Common.{◌∙◌, subst, sym, None}
+use Rattle.std.proofs.Common.{subst, sym, None}
 use Rattle.std.specs.Prelude.{OnOk, Result, IsErr}
 use Rattle.disk_model.specs.Files.{Rose}
 use Rattle.disk_model.specs.Past.{Only}

@@ -12,7 +12,7 @@ use Rattle.pinned_pieces.specs.Pieces.{PinOf}
 use Rattle.store_manifest.specs.declared.entry.Entry.{Entry}
 use Rattle.durable_write.specs.Ends.{Done, end_of_disk}
 use Rattle.durable_write.proofs.Rises.{rose_after}
-use Rattle.tier_store.specs.Change.{Has, Changes}
+use Rattle.tier_store.specs.Change.{Changes}
 use Rattle.tier_store.specs.Limbo.{LimboStands, NamesDiffer, AreRemovable, IsUseless, IsListedName, IsKeptName, LeaveListed, Stay, AreFree}
 use Rattle.disk_model.specs.Past.{Only}
 use Rattle.tier_store.specs.Retiring.{oldest_entries, drop_entry, retired_of, dropping, without_oldest, Remain, Stays, IsFree, names_in}

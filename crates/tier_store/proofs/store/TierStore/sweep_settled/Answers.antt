@@ -1,4 +1,4 @@
-use Rattle.std.proofs.Common.{Err, List, Result, ◌∙◌, ap, subst, sym}
+use Rattle.std.proofs.Common.{Err, List, ◌∙◌, ap, subst, sym}
 use Rattle.std.specs.FinMap.{FinMap}
 use Rattle.std.specs.Ordering.{nat_cmp}
 use Rattle.std.specs.Prelude.{OnOk}
@@ -6,13 +6,12 @@ use Rattle.std.proofs.lemmas.Result.{err_from_is_err_and}
 use Rattle.disk_model.specs.Files.{Name}
 use Rattle.disk_model.specs.declared.disk.DiskErr.{DiskErr}
 use Rattle.pinned_pieces.specs.Pieces.{PinOf}
-use Rattle.durable_write.specs.Ends.{Done, end_of_disk}
+use Rattle.durable_write.specs.Ends.{Done}
 use Rattle.durable_write.proofs.Rises.{rose_after}
 use Rattle.tier_store.specs.Limbo.{AreGone, AreRemovable, IsLeftOver, IsSwept, LeavesKept, staying}
 use Rattle.tier_store.specs.Pinned.{seen_all}
 use Rattle.tier_store.specs.Seen.{seen}
 use Rattle.tier_store.specs.declared.limbo.Retired.{Retired}
-use Rattle.tier_store.specs.declared.removing.Swept.{Swept}
 use Rattle.tier_store.proofs.Acting.{changes_given}
 use Rattle.tier_store.proofs.Asked.{given_changes, look_leaves, look_then_leaves}
 use Rattle.tier_store.proofs.CopyLooks.{looks_err, looks_stands, looks_whole}
