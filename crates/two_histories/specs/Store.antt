@@ -1,0 +1,89 @@
+-- The store half. Of its tiers only what they make durable stands here: moves, sweeps and files change nothing of it.
+use Rattle.std.specs.Prelude.{◌≡◌, ℕ, List, Option, Some, None, ◌==◌, nat_lt, if◌then◌else◌}
+use Rattle.series_model.specs.declared.sample.Sample.{Sample}
+use Rattle.series_model.specs.Series.{over, since, end_of}
+use Rattle.two_histories.specs.Histories.{Entry}
+
+-- samples by row
+abbrev pub Lists : Type 0
+Lists = ℕ → List Sample
+
+-- change numbers by row; a row that isn't there has none
+abbrev pub Numbers : Type 0
+Numbers = ℕ → Option ℕ
+
+-- what a failed write may have done: appended a batch, or added or altered a row
+pub data Change : Type 0 where
+  Appends : (batch : Lists) → Change
+  Alters : (row : ℕ) → Change
+
+-- what is durable of each row, its change number, and the change in doubt
+pub record StoreHalf : Type 0 where
+  pub durable : Lists
+  pub changed : Numbers
+  pub doubt : Option Change
+
+-- Flush carries the batch and the number that a Look told, Alter is Register, Pause and Resume, and Pin and Details carry a Look's tail
+pub data StorePart : Type 0 where
+  Flush : (batch : Lists) → (upto : ℕ) → StorePart
+  Alter : (row : ℕ) → StorePart
+  Pin : (row : ℕ) → (tail : List Sample) → StorePart
+  Rest : StorePart
+
+-- a flush tells the end of each row, the rows changed since, and its own length; a pin what it shows
+pub data StoreAnswer : Type 0 where
+  Flushed : (ends : ℕ → ℕ) → (rows : Numbers) → (len : ℕ) → StoreAnswer
+  Altered : StoreAnswer
+  Pinned : (samples : List Sample) → StoreAnswer
+  Rested : StoreAnswer
+  Refused : StoreAnswer
+
+abbrev pub StoreEntry : Type 0
+StoreEntry = Entry StorePart StoreAnswer StoreHalf
+
+-- the row has this number
+abbrev pub with_number : ℕ → ℕ → Numbers → Numbers
+with_number row n numbers r = if r == row then Some n else numbers r
+
+-- the half with the change made, by the entry with which its history has this length
+abbrev pub made : ℕ → Change → StoreHalf → StoreHalf
+made n (Appends batch) m = record m { durable = λ r. over (m.durable r) (batch r) }
+made n (Alters row) m = record m { changed = with_number row n m.changed }
+
+-- a doubt is settled, as not made or as made
+pub data Settles (n : ℕ) : StoreHalf → StoreHalf → Type 0 where
+  no_doubt : {m : StoreHalf} → m.doubt ≡ None → Settles n m m
+  as_not_made : {m : StoreHalf} (change : Change) → m.doubt ≡ Some change → Settles n m (record m { doubt = None })
+  as_made : {m : StoreHalf} (change : Change) → m.doubt ≡ Some change → Settles n m (record (made n change m) { doubt = None })
+
+-- the change that a part makes
+abbrev pub change_by : StorePart → Option Change
+change_by (Flush batch upto) = Some (Appends batch)
+change_by (Alter row) = Some (Alters row)
+change_by (Pin row tail) = None
+change_by Rest = None
+
+-- what is written of a change: of a batch, the samples later than each row's last
+abbrev pub written : Change → StoreHalf → Change
+written (Appends batch) m = Appends (λ r. since (end_of (m.durable r)) (batch r))
+written (Alters row) m = Alters row
+
+abbrev pub ends_of : StoreHalf → ℕ → ℕ
+ends_of m r = end_of (m.durable r)
+
+-- the number, where it is greater
+abbrev pub newer : ℕ → Option ℕ → Option ℕ
+newer upto None = None
+newer upto (Some n) = if nat_lt upto n then Some n else None
+
+-- one step; a part that is refused, fails or lacks memory may have settled a doubt, and one that fails may leave its own
+pub data StoreStep (n : ℕ) : StoreHalf → StorePart → StoreAnswer → StoreHalf → Type 0 where
+  stays : {old : StoreHalf} {part : StorePart} → StoreStep n old part Refused old
+  settles : {old mid : StoreHalf} {part : StorePart} → Settles n old mid → StoreStep n old part Refused mid
+  fails : {old mid : StoreHalf} {part : StorePart} (change : Change) → change_by part ≡ Some change → Settles n old mid
+      → StoreStep n old part Refused (record mid { doubt = Some (written change mid) })
+  flushes : {old mid : StoreHalf} (batch : Lists) (upto : ℕ) → Settles n old mid
+      → StoreStep n old (Flush batch upto) (Flushed (ends_of (made n (Appends batch) mid)) (λ r. newer upto (mid.changed r)) n) (made n (Appends batch) mid)
+  alters : {old mid : StoreHalf} (row : ℕ) → Settles n old mid → StoreStep n old (Alter row) Altered (made n (Alters row) mid)
+  pins : {old mid : StoreHalf} (row : ℕ) (tail : List Sample) → Settles n old mid → StoreStep n old (Pin row tail) (Pinned (over (mid.durable row) tail)) mid
+  rests : {old mid : StoreHalf} → Settles n old mid → StoreStep n old Rest Rested mid
