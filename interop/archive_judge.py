@@ -86,6 +86,9 @@ def outcomes_of_begin(old, who, act, values, may_fail):
         if may_fail:
             found.append((FAULT, mid.copy()))
         found.append((getattr(mid, act)(who, *values), mid))
+        if may_fail and act == "sweep":
+            # A file that was to be removed is there still, and nothing else.
+            found.append((FAULT, mid))
     return found
 
 
@@ -140,7 +143,11 @@ def outcomes_of_step(old, number, may_fail):
             change = mid.step_change(mid.moves[number])
             if change:
                 found.append((FAULT, stopped(mid, number).in_doubt(change)))
-        found += step_ends(mid, number)
+        ends = step_ends(mid, number)
+        found += ends
+        if may_fail:
+            # The parts are listed no more, and a file of them that was to be removed is there still.
+            found += [(FAULT, done) for answer, done in ends if answer.startswith("retired")]
     return found
 
 

@@ -30,7 +30,7 @@ use Rattle.archive_core.proofs.PinTies.{KeepsNames, names_stay}
 -- where the machine has none, the stores may have none
 pub empty_limbo : (tells : Bool) (at : Seen) (told : Bool) (rows : List RowState) → (told ≡ false → AreBare rows) → IsLimboOf tells (beside at []) told rows []
 empty_limbo tells at told rows bare = record {
-  stands = λ k d low. absurd (omega (arith, low));
+  stands = (λ k d low. absurd (omega (arith, low)), λ i j d less low. absurd (omega (arith, low)));
   differ = tt;
   retired = λ on. record { each = λ f there. absurd (omega (arith, there.1)); others = λ file there none. absurd (omega (arith, there.1)) };
   unlisted = λ on f row there here listed. absurd (omega (arith, there.1));

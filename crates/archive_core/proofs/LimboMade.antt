@@ -62,7 +62,7 @@ module _ (tells : Bool) (all : SeenAll) (m : Machine) (held : Stores) (has : Has
   unlisted_ties files limbo ties = (record { each = λ f there. ties.each f (from_filter (is_gone m.rows) files f there).0; others = others }, none_listed)
     where
       of : (file : Retired) → Contains all.limbo file → IsOfPlace all.stores file
-      of file there = All-contains (IsOfPlace all.stores) all.limbo file limbo there
+      of file there = All-contains (IsOfPlace all.stores) all.limbo file limbo.0 there
 
       others : (file : Retired) → Contains all.limbo file → (IsListedName all.stores file.name → ⊥) → IsOneOf tells all m.rows (unlisted m.rows files) file
       others file there free =

@@ -173,22 +173,22 @@ module _ (tells : Bool) (at : Seen) (limbo : List Retired) (m : Machine) (held :
 
   -- THEIR NAMES
 
-  place_is : (file : Retired) → (within : Contains limbo file) → file.name.0 ≡ i + 1 → (All-contains (IsOfPlace at) limbo file have.tie.stands within).place ≡ i
+  place_is : (file : Retired) → (within : Contains limbo file) → file.name.0 ≡ i + 1 → (All-contains (IsOfPlace at) limbo file have.tie.stands.0 within).place ≡ i
   place_is file there number =
-      let of : IsOfPlace at file = All-contains (IsOfPlace at) limbo file have.tie.stands there in
+      let of : IsOfPlace at file = All-contains (IsOfPlace at) limbo file have.tie.stands.0 there in
       let own_number : of.place + 1 ≡ file.name.0 = ap (λ (n : Name). n.0) of.named in
       omega (arith, own_number, number)
 
   -- a retired file of the store is named by its entry
   named_by : (file : Retired) → Contains limbo file → file.name.0 ≡ i + 1 → file_of (i + 1, at.catalogue.rows) file.entry ≡ file.name
   named_by file there number =
-      let of : IsOfPlace at file = All-contains (IsOfPlace at) limbo file have.tie.stands there in
+      let of : IsOfPlace at file = All-contains (IsOfPlace at) limbo file have.tie.stands.0 there in
       subst (λ (k : ℕ). file_of (k + 1, at.catalogue.rows) file.entry ≡ file.name) (place_is file there number) of.named
 
   -- and so is what may be listed in its place
   placed_named : (file : Retired) → Contains limbo file → file.name.0 ≡ i + 1 → (h : Filed) → IsListed unit held.rows h → filed_at h ≡ place file.entry → file_of (i + 1, held.rows) h.entry ≡ file.name
   placed_named file there number h h_is same =
-      let of : IsOfPlace at file = All-contains (IsOfPlace at) limbo file have.tie.stands there in
+      let of : IsOfPlace at file = All-contains (IsOfPlace at) limbo file have.tie.stands.0 there in
       let file_is : IsListed unit held.rows (as_filed file) = subst (λ (rows : List Row). IsListed unit rows (as_filed file)) have.has.known.rows (retired_listed at file of n (ap (slice_get at.manifests) (place_is file there number) ∙ managed)) in
       same_file unit (i + 1) held.rows h (as_filed file) h_is file_is same ∙ (ap (λ (rows : List Row). file_of (i + 1, rows) file.entry) (sym have.has.known.rows) ∙ named_by file there number)
 
@@ -211,7 +211,7 @@ module _ (tells : Bool) (at : Seen) (limbo : List Retired) (m : Machine) (held :
   not_listed : (file : Retired) → Contains limbo file → file.name.0 ≡ i + 1 → file_at (place file.entry) (list_at (index_of store) held) ≡ None → IsListedName at file.name → ⊥
   not_listed file there number none listed =
       let known = have.has.known.each (index_of store) n managed in
-      let lists : ListsPlace at.manifests file = listed_place at held file have.has.known (All-contains (IsOfPlace at) limbo file have.tie.stands there) listed in
+      let lists : ListsPlace at.manifests file = listed_place at held file have.has.known (All-contains (IsOfPlace at) limbo file have.tie.stands.0 there) listed in
       let is : lists.place ≡ index_of store = (let number_too = lists.store in omega (arith, number_too, number)) in
       let same : lists.manifest ≡ n = one_manifest at.manifests (index_of store) lists.place n lists.manifest is managed lists.here in
       let there_listed : Contains (map entry_of (list_at (index_of store) held)) lists.entry = subst (λ (es : List Entry). Contains es lists.entry) known.entries (subst (λ (x : ManifestState). Contains x.entries lists.entry) same lists.within) in

@@ -25,7 +25,7 @@ use Rattle.act_model.specs.Crash.{settled_there, with_change}
 use Rattle.act_model.specs.Limbo.{FileState}
 use Rattle.act_model.specs.Machine.{Machine, MoveState, Change, AddsRow, SetsState, Appends, Publishes, Unlists}
 use Rattle.act_model.specs.MoveStep.{GoesOn, MoveStepStep, change_of, copies, has_copied, publishes, retires, again, damaged, no_move, without_move}
-use Rattle.act_model.specs.Outcome.{faults_first, faults_between, faults_within, refused, refused_at_once, runs, wants_memory, wants_memory_settled}
+use Rattle.act_model.specs.Outcome.{faults_first, faults_between, faults_within, faults_removing, refused, refused_at_once, runs, wants_memory, wants_memory_settled}
 use Rattle.act_model.specs.Reply.{Reply}
 use Rattle.act_model.specs.Rows.{RowState}
 use Rattle.act_model.specs.Sound.{IsSound}
@@ -40,7 +40,7 @@ use Rattle.archive_core.specs.Leaving.{LeavesMove}
 use Rattle.archive_core.specs.MoveTies.{AreMovesOf, HasMoveOf}
 use Rattle.archive_core.specs.Parts.{Parts}
 use Rattle.archive_core.specs.Stands.{IsReady, Stands, Rests, InDoubt}
-use Rattle.archive_core.specs.Stepping.{HoldsStep, StepEnds, StepsOn, with_slots, is_doubted, has_failed, was_spent, went_on}
+use Rattle.archive_core.specs.Stepping.{HoldsStep, StepEnds, StepsOn, with_slots, is_doubted, has_failed, not_removed, was_spent, went_on}
 use Rattle.archive_core.specs.Wanting.{NoneRefuses, WithWants, before_settling, behind_settling}
 use Rattle.archive_core.proofs.Crashes.{HoldsDoubted}
 use Rattle.archive_core.proofs.Acting.{crash_none, crash_settling}
@@ -240,6 +240,10 @@ module _ (tells : Bool) (n : ℕ) (p : Parts) where
             by_end m s mid settled free _ later cause (is_doubted c own stands) =
                 let rises : Rose m.faults new.at.faults = rw s.faults (rose_after p.at.faults q.at.faults new.at.faults more (cause refl)) in
                 (record (without_move n mid) { doubt = Some c; faults = new.at.faults }, (faults_within c (passed m s) settled free own refl rises, λ told. absurd (cc (told))), stands)
+            by_end m s mid settled free _ later cause (not_removed r next gone goes stands) =
+                let rises : Rose m.faults new.at.faults = rw s.faults (rose_after p.at.faults q.at.faults new.at.faults more (cause refl)) in
+                let now : next.faults ≡ new.at.faults = stands.faults in
+                (next, (faults_removing r gone (passed m s) settled free (step_goes n mid q.at.faults r next goes) (subst (λ (k : ℕ). Rose m.faults k) (sym now) rises), λ told. absurd (cc (told))), stands)
             by_end m s mid settled free r later cause (went_on next goes stands) =
                 let was : m.faults ≡ p.at.faults = s.faults in
                 let now : next.faults ≡ new.at.faults = stands.faults in

@@ -5,6 +5,7 @@ use Rattle.std.specs.Ordering.{nat_cmp}
 use Rattle.std.specs.Prelude.{◌==◌, IsTrue, slice_get}
 use Rattle.std.proofs.lemmas.Bool.Decides.{nat_tests}
 use Rattle.std.proofs.lemmas.List.{length-map, length-take-le}
+use Rattle.disk_model.specs.Files.{Rose}
 use Rattle.disk_model.specs.Past.{MayLeave}
 use Rattle.disk_model.proofs.Passing.{passes_none}
 use Rattle.disk_model.specs.declared.disk.DiskErr.{DiskErr}
@@ -39,7 +40,7 @@ use Rattle.archive_core.specs.MoveTies.{AreMovesOf, HasListed, IsAtStage, IsCopi
 use Rattle.archive_core.specs.Parts.{Parts}
 use Rattle.archive_core.specs.Retiring.{IsToRetire, lengths_of}
 use Rattle.archive_core.specs.Stands.{Rests, Stands}
-use Rattle.archive_core.specs.Stepping.{HoldsStep, StepsOn, TakesMove, has_failed, is_doubted, stepped_reply, was_spent, went_on, with_slots}
+use Rattle.archive_core.specs.Stepping.{HoldsStep, StepsOn, TakesMove, has_failed, is_doubted, not_removed, stepped_reply, was_spent, went_on, with_slots}
 use Rattle.archive_core.proofs.Batches.{told_stands}
 use Rattle.archive_core.proofs.MoveAct.{slots_stand}
 use Rattle.archive_core.proofs.MoveBegun.{moves_at}
@@ -196,6 +197,21 @@ module _ (tells : Bool) (q : Parts) (n : ℕ) (running : Running Moving) (slots 
           cause = λ same. absurd (cc (same));
           moves = λ name place is. absurd (cc (is));
         })
+
+    -- a file of them couldn't be removed behind it
+    pub on_unremoved : (e : DiskErr) → result ≡ Ok (ends.Retired (Err e)) → Rose q.at.faults new.faults → Says q.slots → StepsOn tells n (with_slots slots q) m (then q.slots) (stepped_reply (Err Fault))
+    on_unremoved e ok rose says =
+        let s = said q.slots says in
+        let p = with_slots slots q in
+        record {
+          ends = not_removed (answer.Retired move.parts) (retired_machine tells p (then q.slots) m r seen_now n move moving.parts to_retire lengths are result s refl (Err e) ok) refl
+              (retired_step tells p (then q.slots) m r seen_now n move moving.parts to_retire lengths are result s refl (Err e) ok)
+              (retired_stands tells p (then q.slots) m r seen_now n move moving.parts to_retire lengths are result s refl (Err e) ok (moves_out tells q n running slots m takes r));
+          any_moment = retire_passes tells p (then q.slots) m r seen_now n move moving.parts to_retire lengths are result s refl;
+          faults = s.acts.costs.faults;
+          cause = λ same. rose;
+          moves = λ name place is. absurd (cc (is));
+        }
 
     pub on_again : (len copied : ℕ) → result ≡ Ok (ends.Again len copied) → Says q.slots → StepsOn tells n (with_slots slots q) m (then q.slots) (stepped_reply (Ok (step.Again len copied)))
     on_again len copied ok says =

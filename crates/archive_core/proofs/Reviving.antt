@@ -179,7 +179,7 @@ module _ (tells : Bool) (at : Seen) (limbo : List Retired) (m : Machine) (held :
   -- a retired file of store 1 is named by its entry
   named_by : (file : Retired) → Contains limbo file → file.name.0 ≡ 1 → file_of (1, at.catalogue.rows) file.entry ≡ file.name
   named_by file there number =
-      let of : IsOfPlace at file = All-contains (IsOfPlace at) limbo file tie.stands there in
+      let of : IsOfPlace at file = All-contains (IsOfPlace at) limbo file tie.stands.0 there in
       let store : of.place + 1 ≡ file.name.0 = ap (λ (n : Name). n.0) of.named in
       let at_first : of.place ≡ 0 = omega (arith, store, number) in
       subst (λ (k : ℕ). file_of (k + 1, at.catalogue.rows) file.entry ≡ file.name) at_first of.named
@@ -251,7 +251,7 @@ module _ (tells : Bool) (at : Seen) (limbo : List Retired) (m : Machine) (held :
       let none : file_at (filed_at h) held.short ≡ None = All-contains (λ (x : Filed). file_at (filed_at x) held.short ≡ None) by.back h by.in_limbo.unlisted within in
       let none_of : file_at (place of.file.entry) held.short ≡ None = ap (λ (e : Entry). file_at (place e) held.short) of.is ∙ none in
       let known = has.known.each 0 first.0 first.1 in
-      let place_of : IsOfPlace at of.file = All-contains (IsOfPlace at) limbo of.file tie.stands of.within in
+      let place_of : IsOfPlace at of.file = All-contains (IsOfPlace at) limbo of.file tie.stands.0 of.within in
       let free : IsListedName at of.file.name → ⊥ = λ listed. listed_there at.manifests first.0 held.short of.file first.1 known.entries known.valid.apart of.store none_of (listed_place at held of.file has.known place_of listed) in
       let one = (tie.retired told).others of.file of.within free in
       let row : one.f.row ≡ i = sym one.is.series ∙ (ap (λ (e : Entry). e.series) of.is ∙ series) in

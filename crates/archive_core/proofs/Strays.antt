@@ -3,7 +3,7 @@ use Rattle.std.proofs.Common.{◌≡◌, ◌≢◌, ◌⊎◌, inl, inr, Bool, t
 use Rattle.std.specs.Prelude.{◌==◌, Contains, IfOk, if◌then◌else◌}
 use Rattle.std.proofs.lemmas.Bool.Decides.{nat_tests}
 use Rattle.std.proofs.lemmas.Option.{same_Some}
-use Rattle.disk_model.specs.Files.{Name, Files, Rose}
+use Rattle.disk_model.specs.Files.{Name, Files}
 use Rattle.disk_model.specs.declared.disk.DiskErr.{DiskErr}
 use Rattle.disk_model.specs.declared.disk.DiskErr.TheVariants.{Fault, Memory}
 use Rattle.etl_mover.specs.Move.{MoveState as Moving}
@@ -17,13 +17,11 @@ use Rattle.tier_store.specs.Strays.{IsKnownName, IsStray, LeavesNoStray, MakesNo
 use Rattle.tier_store.specs.declared.removing.Swept.{Swept}
 use Rattle.tier_store.proofs.Strays.{fronts_strays, no_strays}
 use Rattle.act_model.specs.Reply.{Reply}
-use Rattle.act_model.specs.declared.acts.Act.{Act}
-use Rattle.act_model.specs.declared.acts.Act.TheVariants.{Sweep}
 use Rattle.archive_core.specs.Ends.{disk_reply}
 use Rattle.archive_core.specs.Leaving.{ReadsAlone, files_of}
 use Rattle.archive_core.specs.Parts.{Parts}
-use Rattle.archive_core.specs.Strays.{ActsTidily, IsStrayOf, IsTarget, IsWell, Tidies}
-use Rattle.archive_core.specs.Sweeping.{sweep_reply}
+use Rattle.archive_core.specs.Strays.{ActsTidily, IsStrayIn, IsTarget, IsWell, Tidies}
+use Rattle.archive_core.specs.Sweeping.{removal_reply, sweep_reply}
 
 -- WITH THE FILES OF MOVES
 
@@ -32,20 +30,19 @@ no_names n (k, lt, is) = omega (arith, lt)
 
 -- Beside what moves have written: what the stores' call says, where what is written then is a move's to list, and what moves were to list
 -- before is what the call began with, or is so still.
-pub tidy_moves : (tells : Bool) (p q : Parts) (gone come : List Name) (removed : Result (Unit {0}) DiskErr) → IsSettled q.at → (removed ≡ Ok tt → MakesNoStray tells (files_of p) gone (files_of q) come) → (removed ≡ Err Fault → Rose p.at.faults q.at.faults)
-    → ((n : Name) → Contains come n → IsTarget q.slots n) → ((n : Name) → IsTarget p.slots n → Contains gone n ⊎ IsTarget q.slots n) → Tidies tells p q removed
-tidy_moves tells p q gone come removed settled strays cause comes goes = record {
+pub tidy_moves : (tells : Bool) (p q : Parts) (gone come : List Name) → IsSettled q.at → MakesNoStray tells (files_of p) gone (files_of q) come
+    → ((n : Name) → Contains come n → IsTarget q.slots n) → ((n : Name) → IsTarget p.slots n → Contains gone n ⊎ IsTarget q.slots n) → Tidies tells p q
+tidy_moves tells p q gone come settled strays comes goes = record {
   settled = settled;
-  strays = λ fine told n s.
-      let was = strays fine told n (record { numbered = s.stray.numbered; file = s.stray.file; unknown = unknown n s }) in
+  strays = λ told n s.
+      let was = strays told n (record { numbered = s.stray.numbered; file = s.stray.file; unknown = unknown n s }) in
       record {
         stray = record { numbered = was.numbered; file = was.file; unknown = known n was };
         unwritten = λ t. elim (goes n t) [ inl there ↦ was.unknown (inr (inr there)) | inr still ↦ s.unwritten still ];
       };
-  cause = cause;
 }
   where
-    unknown : (n : Name) → IsStrayOf q n → IsKnownName (files_of q) come n → ⊥
+    unknown : (n : Name) → IsStrayIn q n → IsKnownName (files_of q) come n → ⊥
     unknown n s (inl l) = s.stray.unknown (inl l)
     unknown n s (inr (inl c)) = s.stray.unknown (inr (inl c))
     unknown n s (inr (inr t)) = s.unwritten (comes n t)
@@ -56,45 +53,39 @@ tidy_moves tells p q gone come removed settled strays cause comes goes = record 
     known n was (inr (inr t)) = no_names n t
 
 -- beside the same moves
-pub tidy_stores : (tells : Bool) (p q : Parts) → q.slots ≡ p.slots → IsSettled q.at → LeavesNoStray tells (files_of p) (files_of q) → Tidies tells p q (Ok tt)
+pub tidy_stores : (tells : Bool) (p q : Parts) → q.slots ≡ p.slots → IsSettled q.at → LeavesNoStray tells (files_of p) (files_of q) → Tidies tells p q
 tidy_stores tells p q slots settled strays =
-    tidy_moves tells p q [] [] (Ok tt) settled (λ fine. strays) (λ is. absurd (cc (is))) (λ n c. absurd (no_names n c)) (λ n t. inr (subst (λ (l : List (Option (Running Moving))). IsTarget l n) (sym slots) t))
+    tidy_moves tells p q [] [] settled strays (λ n c. absurd (no_names n c)) (λ n t. inr (subst (λ (l : List (Option (Running Moving))). IsTarget l n) (sym slots) t))
 
 -- nothing was done
-pub tidy_none : (tells : Bool) (p q : Parts) → files_of q ≡ files_of p → q.slots ≡ p.slots → IsSettled p.at → Tidies tells p q (Ok tt)
+pub tidy_none : (tells : Bool) (p q : Parts) → files_of q ≡ files_of p → q.slots ≡ p.slots → IsSettled p.at → Tidies tells p q
 tidy_none tells p q same slots settled =
     tidy_stores tells p q slots (subst (λ (all : SeenAll). IsSettled all.stores) (sym same) settled) (subst (LeavesNoStray tells (files_of p)) (sym same) (no_strays tells (files_of p) []))
 
 -- the disk was only read
-pub tidy_reads : (tells : Bool) (p q : Parts) → ReadsAlone tells p q → q.slots ≡ p.slots → IsSettled p.at → Tidies tells p q (Ok tt)
+pub tidy_reads : (tells : Bool) (p q : Parts) → ReadsAlone tells p q → q.slots ≡ p.slots → IsSettled p.at → Tidies tells p q
 tidy_reads tells p q reads slots settled =
     let now = reads.quiet settled in
     tidy_stores tells p q slots now.0 (fronts_strays tells (files_of p) (files_of q) settled (λ n was. reads.fronts.there n 0 was) (λ told n own unlisted. ap (λ (f : Files). f n) (now.1 told).0))
 
 -- one after another, where nothing was done first
-pub tidy_then : (tells : Bool) (p q r : Parts) (removed : Result (Unit {0}) DiskErr) → files_of q ≡ files_of p → q.slots ≡ p.slots → q.at.faults ≡ p.at.faults → Tidies tells q r removed → Tidies tells p r removed
-tidy_then tells p q r removed same slots faults tidy = record {
+pub tidy_then : (tells : Bool) (p q r : Parts) → files_of q ≡ files_of p → q.slots ≡ p.slots → Tidies tells q r → Tidies tells p r
+tidy_then tells p q r same slots tidy = record {
   settled = tidy.settled;
-  strays = λ fine told n s. let was = tidy.strays fine told n s in record {
+  strays = λ told n s. let was = tidy.strays told n s in record {
     stray = subst (λ (all : SeenAll). IsStray all [] n) same was.stray;
     unwritten = λ t. was.unwritten (subst (λ (l : List (Option (Running Moving))). IsTarget l n) (sym slots) t);
   };
-  cause = λ is. subst (λ (k : ℕ). Rose k r.at.faults) faults (tidy.cause is);
 }
 
--- what an act asks for, and what it is answered
-pub tidy_as : (tells : Bool) (p : Parts) (act mine : Act) (answer given : Reply) (q : Parts) → act ≡ mine → answer ≡ given → ActsTidily tells p mine given q → ActsTidily tells p act answer q
-tidy_as tells p act mine answer given q asked answered tidy =
-    subst (λ (a : Act). ActsTidily tells p a answer q) (sym asked) (subst (λ (r : Reply). ActsTidily tells p mine r q) (sym answered) tidy)
+-- what an act is answered
+pub tidy_as : (tells : Bool) (p : Parts) (answer given : Reply) (q : Parts) → answer ≡ given → ActsTidily tells p given q → ActsTidily tells p answer q
+tidy_as tells p answer given q answered tidy = subst (λ (r : Reply). ActsTidily tells p r q) (sym answered) tidy
 
 -- after a fault and for want of memory nothing is said
 pub disk_not_well : (e : DiskErr) → IsWell (disk_reply e) → ⊥
 disk_not_well Fault well = well
 disk_not_well Memory well = well
-
-pub swept_tidily : (tells : Bool) (p q : Parts) (r : Result Swept DiskErr) → (IsSettled p.at → IfOk r (λ (s : Swept). Tidies tells p q s.removed)) → ActsTidily tells p Sweep (sweep_reply r) q
-swept_tidily tells p q (Ok s) tidy = λ settled well. (s.removed, tidy settled)
-swept_tidily tells p q (Err e) tidy = λ settled well. absurd (disk_not_well e well)
 
 -- THE TABLE OF MOVES
 
@@ -105,22 +96,22 @@ if_other : {A : Type 0} (k n : ℕ) (a b : A) → k ≢ n → (if k == n then a 
 if_other {A} k n a b apart = let test : (k == n) ≡ false = grind (arith, nat_tests, apart) in ap (λ (t : Bool). if t then a else b) test
 
 -- the same moves run
-pub tidy_slots : (tells : Bool) (p q : Parts) → files_of q ≡ files_of p → ((k : ℕ) → move_at q.slots k ≡ move_at p.slots k) → IsSettled p.at → Tidies tells p q (Ok tt)
+pub tidy_slots : (tells : Bool) (p q : Parts) → files_of q ≡ files_of p → ((k : ℕ) → move_at q.slots k ≡ move_at p.slots k) → IsSettled p.at → Tidies tells p q
 tidy_slots tells p q same slots settled =
-    tidy_moves tells p q [] [] (Ok tt) (subst (λ (all : SeenAll). IsSettled all.stores) (sym same) settled) (λ fine. subst (LeavesNoStray tells (files_of p)) (sym same) (no_strays tells (files_of p) [])) (λ is. absurd (cc (is))) (λ n c. absurd (no_names n c))
+    tidy_moves tells p q [] [] (subst (λ (all : SeenAll). IsSettled all.stores) (sym same) settled) (subst (LeavesNoStray tells (files_of p)) (sym same) (no_strays tells (files_of p) [])) (λ n c. absurd (no_names n c))
     (λ n t. inr (record { number = t.number; running = t.running; runs = slots t.number ∙ t.runs; stage = t.stage; target = t.target }))
 
 -- a move begins under a free number
-pub tidy_begun : (tells : Bool) (p q : Parts) (m : ℕ) (running : Running Moving) → files_of q ≡ files_of p → move_at p.slots m ≡ None → ((k : ℕ) → move_at q.slots k ≡ (if k == m then Some running else move_at p.slots k)) → IsSettled p.at → Tidies tells p q (Ok tt)
+pub tidy_begun : (tells : Bool) (p q : Parts) (m : ℕ) (running : Running Moving) → files_of q ≡ files_of p → move_at p.slots m ≡ None → ((k : ℕ) → move_at q.slots k ≡ (if k == m then Some running else move_at p.slots k)) → IsSettled p.at → Tidies tells p q
 tidy_begun tells p q m running same free begun settled =
-    tidy_moves tells p q [] [] (Ok tt) (subst (λ (all : SeenAll). IsSettled all.stores) (sym same) settled) (λ fine. subst (LeavesNoStray tells (files_of p)) (sym same) (no_strays tells (files_of p) [])) (λ is. absurd (cc (is))) (λ n c. absurd (no_names n c))
+    tidy_moves tells p q [] [] (subst (λ (all : SeenAll). IsSettled all.stores) (sym same) settled) (subst (LeavesNoStray tells (files_of p)) (sym same) (no_strays tells (files_of p) [])) (λ n c. absurd (no_names n c))
     (λ n t. inr (record { number = t.number; running = t.running; runs = begun t.number ∙ (if_other t.number m (Some running) (move_at p.slots t.number) (λ is. let none : move_at p.slots t.number ≡ None = ap (move_at p.slots) is ∙ free in let some = t.runs in cc (none, some)) ∙ t.runs); stage = t.stage; target = t.target }))
 
 -- A step of a move that was taken out of the table: it is put back as another, or not at all. `come` are the files that it is to list then.
-pub tidy_step : (tells : Bool) (p q : Parts) (number : ℕ) (running : Running Moving) (back : Option (Running Moving)) (gone come : List Name) (removed : Result (Unit {0}) DiskErr) → move_at p.slots number ≡ Some running → ((k : ℕ) → move_at q.slots k ≡ (if k == number then back else move_at p.slots k)) → IsSettled q.at
-    → (removed ≡ Ok tt → MakesNoStray tells (files_of p) gone (files_of q) come) → (removed ≡ Err Fault → Rose p.at.faults q.at.faults) → (running.moving.stage ≡ Copying → (n : Name) → Contains (targets running.moving) n → Contains gone n)
-    → ((n : Name) → Contains come n → (moved : Running Moving) × (back ≡ Some moved) × (moved.moving.stage ≡ Copying) × Contains (targets moved.moving) n) → Tidies tells p q removed
-tidy_step tells p q number running back gone come removed ran slots settled strays cause mine comes = tidy_moves tells p q gone come removed settled strays cause
+pub tidy_step : (tells : Bool) (p q : Parts) (number : ℕ) (running : Running Moving) (back : Option (Running Moving)) (gone come : List Name) → move_at p.slots number ≡ Some running → ((k : ℕ) → move_at q.slots k ≡ (if k == number then back else move_at p.slots k)) → IsSettled q.at
+    → MakesNoStray tells (files_of p) gone (files_of q) come → (running.moving.stage ≡ Copying → (n : Name) → Contains (targets running.moving) n → Contains gone n)
+    → ((n : Name) → Contains come n → (moved : Running Moving) × (back ≡ Some moved) × (moved.moving.stage ≡ Copying) × Contains (targets moved.moving) n) → Tidies tells p q
+tidy_step tells p q number running back gone come ran slots settled strays mine comes = tidy_moves tells p q gone come settled strays
     (λ n c. let t = comes n c in record { number = number; running = t.0; runs = slots number ∙ (if_same number number back (move_at p.slots number) refl ∙ t.1); stage = t.2; target = t.3 })
     (λ n t. elim (same_cases t.number number) [
       | inl is ↦
@@ -143,9 +134,11 @@ none_taken number slots left none taken k = elim (same_cases k number) [
   | inr apart ↦ taken k ∙ if_other k number None (move_at slots k) apart
 ]
 
--- the stores' sweep, once a doubt is settled
-pub swept_by : (tells : Bool) (p q new : Parts) (r : Result Swept DiskErr) → files_of q ≡ files_of p → q.slots ≡ p.slots → q.at.faults ≡ p.at.faults → new.slots ≡ q.slots → IfOk r (λ (s : Swept). IsSettled new.at × (s.removed ≡ Ok tt → LeavesNoStray tells (files_of q) (files_of new))) → IfOk r (λ (s : Swept). s.removed ≡ Err Fault → Rose q.at.faults new.at.faults)
-    → IfOk r (λ (s : Swept). Tidies tells p new s.removed)
-swept_by tells p q new (Ok s) same slots faults still one two =
-    tidy_then tells p q new s.removed same slots faults (tidy_moves tells q new [] [] s.removed one.0 one.1 two (λ n c. absurd (no_names n c)) (λ n t. inr (subst (λ (l : List (Option (Running Moving))). IsTarget l n) (sym still) t)))
-swept_by tells p q new (Err e) same slots faults still one two = tt
+-- the stores' sweep, once a doubt is settled, of which all is removed
+pub swept_by : (tells : Bool) (p q new : Parts) (r : Result Swept DiskErr) → files_of q ≡ files_of p → q.slots ≡ p.slots → new.slots ≡ q.slots → IfOk r (λ (s : Swept). IsSettled new.at × (s.removed ≡ Ok tt → LeavesNoStray tells (files_of q) (files_of new))) → IsWell (sweep_reply r) → Tidies tells p new
+swept_by tells p q new (Ok s) same slots still tidy well = tidy_then tells p q new same slots (by_removal s.removed refl well)
+  where
+    by_removal : (removed : Result (Unit {0}) DiskErr) → s.removed ≡ removed → IsWell (removal_reply s.files removed) → Tidies tells q new
+    by_removal (Ok done) is well = tidy_stores tells q new still tidy.0 (tidy.1 is)
+    by_removal (Err e) is well = absurd well
+swept_by tells p q new (Err e) same slots still tidy well = absurd (disk_not_well e well)

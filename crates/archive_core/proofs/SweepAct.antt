@@ -2,7 +2,7 @@
 use Rattle.std.proofs.Common.{◌≡◌, ◌⊎◌, inl, inr, ℕ, ◌≤◌, List, [], ◌∷◌, length, Bool, true, false, Some, None, Result, Ok, Err, refl, sym, ◌∙◌, ap, subst, arith}
 use Rattle.std.specs.FinMap.{FinMap}
 use Rattle.std.specs.Ordering.{nat_cmp}
-use Rattle.std.specs.Prelude.{◌↔◌, Contains, IfOk, IsTrue, OnErr, filter, not, slice_get}
+use Rattle.std.specs.Prelude.{◌↔◌, Contains, IfOk, IsErr, IsTrue, OnErr, filter, not, slice_get}
 use Rattle.disk_model.specs.Files.{Name, Rose}
 use Rattle.disk_model.specs.Past.{Passes}
 use Rattle.disk_model.specs.declared.disk.DiskErr.{DiskErr}
@@ -24,12 +24,12 @@ use Rattle.tier_store.specs.Stored.{HoldsAll}
 use Rattle.tier_store.specs.Stores.{Stores}
 use Rattle.tier_store.specs.declared.limbo.Retired.{Retired}
 use Rattle.tier_store.specs.declared.removing.Swept.{Swept}
-use Rattle.act_model.specs.Changes.{no_doubt}
+use Rattle.act_model.specs.Changes.{Settles, no_doubt}
 use Rattle.act_model.specs.Crash.{settled_there}
 use Rattle.act_model.specs.Limbo.{FileState}
 use Rattle.act_model.specs.Machine.{Machine}
 use Rattle.act_model.specs.OpenPiece.{name_of}
-use Rattle.act_model.specs.Outcome.{runs, faults_first, faults_between, wants_memory, wants_memory_settled}
+use Rattle.act_model.specs.Outcome.{runs, faults_first, faults_between, faults_removing, wants_memory, wants_memory_settled}
 use Rattle.act_model.specs.Reply.{Reply}
 use Rattle.act_model.specs.Rows.{RowState}
 use Rattle.act_model.specs.Sweep.{IsPinned, IsCopiedInto, IsSwept, Sweeps, SweepStep}
@@ -42,7 +42,7 @@ use Rattle.archive_core.specs.MoveTies.{AreMovesOf}
 use Rattle.archive_core.specs.Parts.{Parts}
 use Rattle.archive_core.specs.Pins.{ArePinsOf}
 use Rattle.archive_core.specs.Stands.{Stands, Rests}
-use Rattle.archive_core.specs.Sweeping.{sweep_reply}
+use Rattle.archive_core.specs.Sweeping.{removal_reply, sweep_reply}
 use Rattle.archive_core.specs.Written.{AreWritten}
 use Rattle.archive_core.proofs.Crashes.{HoldsDoubted}
 use Rattle.archive_core.proofs.Acting.{crash_settling}
@@ -71,6 +71,7 @@ pub record StoresSwept (tells : Bool) (copied : List Name) (q new : Parts) (resu
   pub stands : LimboStands new.at new.limbo
   pub pins : new.pinned ≡ q.pinned
   pub nothing : IsSettled q.at → (new.at.catalogue ≡ q.at.catalogue) × (new.at.manifests ≡ q.at.manifests)
+  pub cause : IfOk result (λ (s : Swept). IsErr s.removed → Rose q.at.faults new.at.faults)
 
 -- these are just the files that running moves have copied into
 abbrev pub AreCopied : List Name → Machine → Type 0
@@ -295,12 +296,21 @@ module _ (tells : Bool) (p : Parts) where
     sweep_ends (Ok said) swept = λ m s.
         let mid = settles m s in
         let n : Machine = record mid.0 { faults = q.at.faults } in
-        let was : m.faults ≡ p.at.faults = s.faults in
-        let later = swept.acts.costs.faults in
         let own = left tells copied q new said swept same n mid.2 written in
         let after = swept_machine tells copied q new said swept same n mid.2 written in
         let ran : Sweeps mid.0 (answer.Swept said.files) after = record { stays = own.stays; just = swept_goes mid.0 q.at.faults own.stays mid.0.limbo own.just; files = said.files; number = own.number; answered = refl; same = refl } in
-        (after, runs (answer.Swept said.files) refl mid.1 refl ran (omega (arith, was, more, later)), swept_stands tells copied q new said swept same n mid.2 written)
+        by_removal m s said.removed mid.1 ran (swept_stands tells copied q new said swept same n mid.2 written) swept.acts.costs.faults swept.cause
+      where
+        by_removal : (m : Machine) (s : Stands tells p m) (removed : Result (Unit {0}) DiskErr) {mid after : Machine} → Settles m mid → Sweeps mid (answer.Swept said.files) after → Stands tells new after → q.at.faults ≤ new.at.faults → (IsErr removed → Rose q.at.faults new.at.faults)
+            → (next : Machine) × SweepStep m (removal_reply said.files removed) next × Stands tells new next
+        by_removal m s (Ok done) {mid} {after} settled ran stands later cause =
+            let was : m.faults ≡ p.at.faults = s.faults in
+            let now : after.faults ≡ new.at.faults = stands.faults in
+            (after, runs (answer.Swept said.files) refl settled refl ran (omega (arith, was, now, more, later)), stands)
+        by_removal m s (Err e) {mid} {after} settled ran stands later cause =
+            let rises : Rose m.faults new.at.faults = rw s.faults (rose_after p.at.faults q.at.faults new.at.faults more (cause refl)) in
+            let now : after.faults ≡ new.at.faults = stands.faults in
+            (after, faults_removing (answer.Swept said.files) refl refl settled refl ran (subst (λ (k : ℕ). Rose m.faults k) (sym now) rises), stands)
     sweep_ends (Err Fault) swept = λ m s.
         let mid = settles m s in
         let n : Machine = record mid.0 { faults = q.at.faults } in

@@ -1,6 +1,6 @@
 -- How a move of an archive goes on, and what a crash within that leaves.
 use Rattle.std.specs.FinMap.{get}
-use Rattle.std.specs.Prelude.{◌≡◌, ◌⊎◌, ◌≤◌, ◌==◌, ℕ, List, [], Bool, Option, Some, None, Result, Ok, Err, IsTrue, if◌then◌else◌}
+use Rattle.std.specs.Prelude.{◌≡◌, ◌⊎◌, ◌≤◌, ◌==◌, ℕ, List, [], Bool, true, Option, Some, None, Result, Ok, Err, IsTrue, if◌then◌else◌}
 use Rattle.disk_model.specs.Files.{Files, Rose}
 use Rattle.disk_model.specs.Past.{Passes}
 use Rattle.disk_model.specs.declared.disk.DiskErr.{DiskErr}
@@ -13,6 +13,7 @@ use Rattle.act_model.specs.Asks.{move_stepped_reply}
 use Rattle.act_model.specs.Changes.{made}
 use Rattle.act_model.specs.Machine.{Machine, Change}
 use Rattle.act_model.specs.MoveStep.{GoesOn, change_of, without_move}
+use Rattle.act_model.specs.Outcome.{removes_files}
 use Rattle.act_model.specs.Reply.{Reply}
 use Rattle.act_model.specs.declared.acts.Act.TheVariants.{MoveStep}
 use Rattle.act_model.specs.declared.acts.Answer.TheVariants as answer
@@ -37,11 +38,12 @@ abbrev pub with_slots : List (Option (Running MoveState)) → Parts → Parts
 with_slots slots p = record p { slots = slots }
 
 -- How the step ends where nothing stands in doubt: memory was wanting, and the move runs as it did; the disk failed, and the move has ended,
--- with its change in doubt or without; or it is answered as the machine answers.
+-- with its change in doubt or without, or made but for the removal of files; or it is answered as the machine answers.
 pub data StepEnds (tells : Bool) (n : ℕ) (m : Machine) (new : Parts) : Reply → Type 0 where
   was_spent : Stands tells new (record m { faults = new.at.faults }) → StepEnds tells n m new answer.Memory
   has_failed : Stands tells new (record (without_move n m) { faults = new.at.faults }) → StepEnds tells n m new answer.DiskFault
   is_doubted : (change : Change) → change_of m (get m.moves n) ≡ Some change → Stands tells new (record (without_move n m) { doubt = Some change; faults = new.at.faults }) → StepEnds tells n m new answer.DiskFault
+  not_removed : (reply : Reply) (next : Machine) → removes_files reply ≡ true → GoesOn n m reply next → Stands tells new next → StepEnds tells n m new answer.DiskFault
   went_on : {reply : Reply} (next : Machine) → GoesOn n m reply next → Stands tells new next → StepEnds tells n m new reply
 
 -- the image holds what is durable of the machine, or of that with the change that the move may make

@@ -94,7 +94,7 @@ impl<D: Disk> Archive<D> {
         ensures changes { (m : Machine) → Rests D.tells (parts D.Disk self.old) m → ChangesTo D.tells (Appends (batch_of limit self.old.intake)) (parts D.Disk self.old) m (parts D.Disk self.new) result }
         ensures count { IfOk result (λ samples. (m : Machine) → Rests D.tells (parts D.Disk self.old) m → m.told ≡ true → samples ≡ count_in (batch_of limit self.old.intake)) }
         ensures fronts { LeavesFronts D.tells (files_of (parts D.Disk self.old)) (files_of (parts D.Disk self.new)) }
-        ensures tidy { OnOk result (Tidies D.tells (parts D.Disk self.old) (parts D.Disk self.new) (Ok tt)) }
+        ensures tidy { OnOk result (Tidies D.tells (parts D.Disk self.old) (parts D.Disk self.new)) }
     {
         let batch = self.intake.batch(limit)?;
         match self.store.flush(&batch) {
@@ -116,7 +116,7 @@ impl<D: Disk> Archive<D> {
         ensures step { Steps D.tells (FlushStep limit) (parts D.Disk self.old) (flush_reply (parts D.Disk self.new) result) (parts D.Disk self.new) }
         ensures crash { LeavesByAct D.tells (refuse_by (FlushAct limit)) (change_by (FlushAct limit)) (parts D.Disk self.old) (parts D.Disk self.new) }
         ensures fronts { LeavesFronts D.tells (files_of (parts D.Disk self.old)) (files_of (parts D.Disk self.new)) }
-        ensures tidy { IsSettled (seen D.Disk self.old.store) → OnOk result (Tidies D.tells (parts D.Disk self.old) (parts D.Disk self.new) (Ok tt)) }
+        ensures tidy { IsSettled (seen D.Disk self.old.store) → OnOk result (Tidies D.tells (parts D.Disk self.old) (parts D.Disk self.new)) }
     {
         self.settle()?;
         self.flush_settled(limit)
@@ -134,7 +134,7 @@ impl<D: Disk> Archive<D> {
         ensures step { Steps D.tells (FlushStep limit) (parts D.Disk self.old) (flushed_reply result) (parts D.Disk self.new) }
         ensures crash { LeavesByAct D.tells (refuse_by (FlushAct limit)) (change_by (FlushAct limit)) (parts D.Disk self.old) (parts D.Disk self.new) }
         ensures fronts { LeavesFronts D.tells (files_of (parts D.Disk self.old)) (files_of (parts D.Disk self.new)) }
-        ensures tidy { ActsTidily D.tells (parts D.Disk self.old) (FlushAct limit) (flushed_reply result) (parts D.Disk self.new) }
+        ensures tidy { ActsTidily D.tells (parts D.Disk self.old) (flushed_reply result) (parts D.Disk self.new) }
     {
         match self.flush_tails(limit) {
             Ok(samples) => Flushed::Flushed {

@@ -45,7 +45,7 @@ impl<D: Disk> Archive<D> {
         ensures spent { OnErr result ((m : Machine) → Rests D.tells (parts D.Disk self.old) m → Stands D.tells (parts D.Disk self.new) m) }
         ensures cause { IfErr result (λ e. (e ≡ Memory) ⊎ Rose (D.faults self.old.store.disk) (D.faults self.new.store.disk)) }
         ensures store { self.new.store ≡ self.old.store }
-        ensures tidy { OnOk result (Tidies D.tells (parts D.Disk self.old) (parts D.Disk self.new) (Ok tt)) }
+        ensures tidy { OnOk result (Tidies D.tells (parts D.Disk self.old) (parts D.Disk self.new)) }
     {
         let running = self.moves.by_series()?;
         let rule = rule_at(&self.config, store, now);
@@ -74,7 +74,7 @@ impl<D: Disk> Archive<D> {
         ensures crash { LeavesByAct D.tells (refuse_by (MoveBeginAct store now)) (change_by (MoveBeginAct store now)) (parts D.Disk self.old) (parts D.Disk self.new) }
         ensures reads { ReadsAlone D.tells (parts D.Disk self.old) (parts D.Disk self.new) }
         ensures quiet { IsSettled (seen D.Disk self.old.store) → self.new.store.disk ≡ self.old.store.disk }
-        ensures tidy { IsSettled (seen D.Disk self.old.store) → OnOk result (Tidies D.tells (parts D.Disk self.old) (parts D.Disk self.new) (Ok tt)) }
+        ensures tidy { IsSettled (seen D.Disk self.old.store) → OnOk result (Tidies D.tells (parts D.Disk self.old) (parts D.Disk self.new)) }
     {
         self.settle()?;
         self.begin_chosen(store, now)
@@ -94,7 +94,7 @@ impl<D: Disk> Archive<D> {
         ensures crash { LeavesByAct D.tells (refuse_by (MoveBeginAct store now)) (change_by (MoveBeginAct store now)) (parts D.Disk self.old) (parts D.Disk self.new) }
         ensures reads { ReadsAlone D.tells (parts D.Disk self.old) (parts D.Disk self.new) }
         ensures quiet { IsSettled (seen D.Disk self.old.store) → self.new.store.disk ≡ self.old.store.disk }
-        ensures tidy { ActsTidily D.tells (parts D.Disk self.old) (MoveBeginAct store now) (move_begun_reply result) (parts D.Disk self.new) }
+        ensures tidy { ActsTidily D.tells (parts D.Disk self.old) (move_begun_reply result) (parts D.Disk self.new) }
     {
         match self.begin_due(store, now) {
             Ok(begun) => begun,

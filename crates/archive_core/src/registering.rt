@@ -61,7 +61,7 @@ impl<D: Disk> Archive<D> {
         ensures changes { (m : Machine) → Rests D.tells (parts D.Disk self.old) m → ChangesTo D.tells (AddsRow name.now about.now) (parts D.Disk self.old) m (parts D.Disk self.new) result }
         ensures number { IfOk result (λ row. row ≡ length self.old.store.catalogue.rows) }
         ensures fronts { LeavesFronts D.tells (files_of (parts D.Disk self.old)) (files_of (parts D.Disk self.new)) }
-        ensures tidy { OnOk result (Tidies D.tells (parts D.Disk self.old) (parts D.Disk self.new) (Ok tt)) }
+        ensures tidy { OnOk result (Tidies D.tells (parts D.Disk self.old) (parts D.Disk self.new)) }
     {
         let count = self.store.catalogue().rows().len();
         add_memory(&mut self.rows, count, about)?;
@@ -83,7 +83,7 @@ impl<D: Disk> Archive<D> {
         ensures step { Steps D.tells (WithWants (NoneRefuses (register_refused name.now)) (RegisterStep name.now about.now)) (parts D.Disk self.old) (register_reply result) (parts D.Disk self.new) }
         ensures crash { LeavesByAct D.tells (register_refused name.now) (λ m. Some (AddsRow name.now about.now)) (parts D.Disk self.old) (parts D.Disk self.new) }
         ensures fronts { LeavesFronts D.tells (files_of (parts D.Disk self.old)) (files_of (parts D.Disk self.new)) }
-        ensures tidy { ActsTidily D.tells (parts D.Disk self.old) (RegisterAct name.now about.now) (register_reply result) (parts D.Disk self.new) }
+        ensures tidy { ActsTidily D.tells (parts D.Disk self.old) (register_reply result) (parts D.Disk self.new) }
     {
         refuse_taken(self.store.catalogue(), name)?;
         self.settle()?;
@@ -98,7 +98,7 @@ impl<D: Disk> Archive<D> {
         ensures step { Steps D.tells (WithWants (NoneRefuses (refuse_by (RegisterAct name.now about.now))) (RegisterStep name.now about.now)) (parts D.Disk self.old) (registered_reply result) (parts D.Disk self.new) }
         ensures crash { LeavesByAct D.tells (refuse_by (RegisterAct name.now about.now)) (change_by (RegisterAct name.now about.now)) (parts D.Disk self.old) (parts D.Disk self.new) }
         ensures fronts { LeavesFronts D.tells (files_of (parts D.Disk self.old)) (files_of (parts D.Disk self.new)) }
-        ensures tidy { ActsTidily D.tells (parts D.Disk self.old) (RegisterAct name.now about.now) (registered_reply result) (parts D.Disk self.new) }
+        ensures tidy { ActsTidily D.tells (parts D.Disk self.old) (registered_reply result) (parts D.Disk self.new) }
     {
         match self.register_name(name, about) {
             Ok(row) => Registered::Registered { row },

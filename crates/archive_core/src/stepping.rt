@@ -99,8 +99,8 @@ impl<D: Disk> Archive<D> {
     }
 
     // Retires the parts of a move that was taken out of the table and whose copies are listed, where nothing stands in doubt. The move has
-    // ended then, whether its parts have left their store or one of them has grown, and after a fault. Where memory was wanting it is put
-    // back. Of a doubted retirement nothing is kept: all that it changes in memory is the stores'.
+    // ended then, whether its parts have left their store or one of them has grown, and after a fault, be it that of a removal behind the
+    // commit. Where memory was wanting it is put back. Of a doubted retirement nothing is kept: all that it changes in memory is the stores'.
     fn retire_taken(&mut self, number: u32, running: Running<Move>) -> Result<MoveStepped, DiskErr>
         requires taken { HasTaken D.tells number running (parts D.Disk self.old) }
         requires published { running.moving.stage ≡ IsPublished }
@@ -116,9 +116,10 @@ impl<D: Disk> Archive<D> {
             .store
             .retire(usize::from(running.store) - 1, running.series, &lengths)
         {
-            Ok(RetireEnd::Retired { .. }) => Ok(MoveStepped::Retired {
+            Ok(RetireEnd::Retired { removed: Ok(()) }) => Ok(MoveStepped::Retired {
                 parts: lengths.len() as u64,
             }),
+            Ok(RetireEnd::Retired { removed: Err(_) }) => Err(DiskErr::Fault),
             Ok(RetireEnd::Again { len, copied }) => Ok(MoveStepped::Again { len, copied }),
             Err(DiskErr::Fault) => Err(DiskErr::Fault),
             Err(DiskErr::Memory) => {
@@ -147,7 +148,7 @@ impl<D: Disk> Archive<D> {
         ensures step { Steps D.tells (WithWants (NoneRefuses (refuse_by (MoveStepAct number))) (MoveStepStep number)) (parts D.Disk self.old) (stepped_reply result) (parts D.Disk self.new) }
         ensures crash { LeavesByAct D.tells (refuse_by (MoveStepAct number)) (change_by (MoveStepAct number)) (parts D.Disk self.old) (parts D.Disk self.new) }
         ensures moves { LeavesMove (parts D.Disk self.old) (MoveStepAct number) (stepped_reply result) (parts D.Disk self.new) }
-        ensures tidy { ActsTidily D.tells (parts D.Disk self.old) (MoveStepAct number) (stepped_reply result) (parts D.Disk self.new) }
+        ensures tidy { ActsTidily D.tells (parts D.Disk self.old) (stepped_reply result) (parts D.Disk self.new) }
     {
         if !self.moves.runs(number) {
             return Ok(MoveStepped::NoMove);
@@ -173,13 +174,13 @@ impl<D: Disk> Archive<D> {
     /// within the length that is listed of it; the move has ended then too.
     ///
     /// A change that stands in doubt is settled first. `DiskFault` comes only where the disk's count of faults rose in the call; the move
-    /// has ended then. `Memory` leaves it as it was.
+    /// has ended then. Where only the removal of a part failed, all parts have left their store. `Memory` leaves it as it was.
     pub fn move_step(&mut self, number: u32) -> MoveStepped
         requires stands { (m : Machine) × Stands D.tells (parts D.Disk self.old) m }
         ensures step { Steps D.tells (WithWants (NoneRefuses (refuse_by (MoveStepAct number))) (MoveStepStep number)) (parts D.Disk self.old) (move_stepped_reply result) (parts D.Disk self.new) }
         ensures crash { LeavesByAct D.tells (refuse_by (MoveStepAct number)) (change_by (MoveStepAct number)) (parts D.Disk self.old) (parts D.Disk self.new) }
         ensures moves { LeavesMove (parts D.Disk self.old) (MoveStepAct number) (move_stepped_reply result) (parts D.Disk self.new) }
-        ensures tidy { ActsTidily D.tells (parts D.Disk self.old) (MoveStepAct number) (move_stepped_reply result) (parts D.Disk self.new) }
+        ensures tidy { ActsTidily D.tells (parts D.Disk self.old) (move_stepped_reply result) (parts D.Disk self.new) }
     {
         match self.step_move(number) {
             Ok(stepped) => stepped,

@@ -10,8 +10,7 @@ ghost use Rattle.archive_core.specs.Parts.{parts};
 ghost use Rattle.archive_core.specs.Stands.{Stands, Rests};
 ghost use Rattle.archive_core.specs.Sweeping.{sweep_reply};
 ghost use Rattle.archive_core.specs.Written.{AreWritten};
-ghost use Rattle.archive_core.specs.Strays.{ActsTidily, Tidies};
-ghost use Rattle.tier_store.specs.Seen.{seen, IsSettled};
+ghost use Rattle.archive_core.specs.Strays.{ActsTidily};
 
 use crate::Archive;
 use crate::written::written_names;
@@ -24,8 +23,13 @@ fn swept(done: Result<tier_store::Swept, DiskErr>) -> Swept
     ensures { swept_reply result ≡ sweep_reply done }
 {
     match done {
-        Ok(swept) => Swept::Swept { files: swept.files },
-        Err(DiskErr::Fault) => Swept::DiskFault,
+        Ok(
+            tier_store::Swept {
+                files,
+                removed: Ok(()),
+            },
+        ) => Swept::Swept { files },
+        Ok(_) | Err(DiskErr::Fault) => Swept::DiskFault,
         Err(DiskErr::Memory) => Swept::Memory,
     }
 }
@@ -48,7 +52,7 @@ impl<D: Disk> Archive<D> {
         requires stands { (m : Machine) × Stands D.tells (parts D.Disk self.old) m }
         ensures step { Steps D.tells SweepStep (parts D.Disk self.old) (sweep_reply result) (parts D.Disk self.new) }
         ensures crash { LeavesByAct D.tells (refuse_by SweepAct) (change_by SweepAct) (parts D.Disk self.old) (parts D.Disk self.new) }
-        ensures tidy { IsSettled (seen D.Disk self.old.store) → IfOk result (λ swept. Tidies D.tells (parts D.Disk self.old) (parts D.Disk self.new) swept.removed) }
+        ensures tidy { ActsTidily D.tells (parts D.Disk self.old) (sweep_reply result) (parts D.Disk self.new) }
     {
         self.settle()?;
         let written = self.written_names()?;
@@ -57,13 +61,13 @@ impl<D: Disk> Archive<D> {
 
     /// Removes the files that were retired and that nothing needs any more, and answers how many these are: those that no pin names, and
     /// into which no running move has copied. A change that stands in doubt is settled first. `DiskFault` comes only where the disk's count
-    /// of faults rose in the call, and only from the settling. A removal that fails is no failure of the act, and the answer doesn't
-    /// tell of it: the file counts for nothing any more.
+    /// of faults rose in the call: from the settling, or where a removal failed. Then the act has done all else, and the file counts for
+    /// nothing any more. `Memory` leaves all as it was, but for a doubt that is settled.
     pub fn sweep(&mut self) -> Swept
         requires stands { (m : Machine) × Stands D.tells (parts D.Disk self.old) m }
         ensures step { Steps D.tells SweepStep (parts D.Disk self.old) (swept_reply result) (parts D.Disk self.new) }
         ensures crash { LeavesByAct D.tells (refuse_by SweepAct) (change_by SweepAct) (parts D.Disk self.old) (parts D.Disk self.new) }
-        ensures tidy { ActsTidily D.tells (parts D.Disk self.old) (SweepAct) (swept_reply result) (parts D.Disk self.new) }
+        ensures tidy { ActsTidily D.tells (parts D.Disk self.old) (swept_reply result) (parts D.Disk self.new) }
     {
         swept(self.sweep_stores())
     }

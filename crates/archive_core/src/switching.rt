@@ -120,7 +120,7 @@ impl<D: Disk> Archive<D> {
         requires state { HasState self.old.store.catalogue.rows row (from_of switch) }
         ensures changes { (m : Machine) → Rests D.tells (parts D.Disk self.old) m → ChangesTo D.tells (SetsState row (to_of switch)) (parts D.Disk self.old) m (parts D.Disk self.new) result }
         ensures fronts { LeavesFronts D.tells (files_of (parts D.Disk self.old)) (files_of (parts D.Disk self.new)) }
-        ensures tidy { OnOk result (Tidies D.tells (parts D.Disk self.old) (parts D.Disk self.new) (Ok tt)) }
+        ensures tidy { OnOk result (Tidies D.tells (parts D.Disk self.old) (parts D.Disk self.new)) }
     {
         match switch_in(&mut self.store, row, switch) {
             Ok(()) => {
@@ -143,7 +143,7 @@ impl<D: Disk> Archive<D> {
         ensures step { Steps D.tells (WithWants (NoneRefuses (state_refused (wrong_of switch) name.now)) (StateStep (wrong_of switch) (to_of switch) name.now)) (parts D.Disk self.old) (switch_reply switch result) (parts D.Disk self.new) }
         ensures crash { LeavesByAct D.tells (state_refused (wrong_of switch) name.now) (λ m. sets_of (to_of switch) (find_row m name.now)) (parts D.Disk self.old) (parts D.Disk self.new) }
         ensures fronts { LeavesFronts D.tells (files_of (parts D.Disk self.old)) (files_of (parts D.Disk self.new)) }
-        ensures tidy { IsSettled (seen D.Disk self.old.store) → IsWell (switch_reply switch result) → Tidies D.tells (parts D.Disk self.old) (parts D.Disk self.new) (Ok tt) }
+        ensures tidy { IsSettled (seen D.Disk self.old.store) → IsWell (switch_reply switch result) → Tidies D.tells (parts D.Disk self.old) (parts D.Disk self.new) }
     {
         row_to_switch(self.store.catalogue(), name, switch)?;
         self.settle()?;
@@ -159,7 +159,7 @@ impl<D: Disk> Archive<D> {
         ensures step { Steps D.tells (WithWants (NoneRefuses (refuse_by (PauseAct name.now))) (PauseStep name.now)) (parts D.Disk self.old) (paused_reply result) (parts D.Disk self.new) }
         ensures crash { LeavesByAct D.tells (refuse_by (PauseAct name.now)) (change_by (PauseAct name.now)) (parts D.Disk self.old) (parts D.Disk self.new) }
         ensures fronts { LeavesFronts D.tells (files_of (parts D.Disk self.old)) (files_of (parts D.Disk self.new)) }
-        ensures tidy { ActsTidily D.tells (parts D.Disk self.old) (PauseAct name.now) (paused_reply result) (parts D.Disk self.new) }
+        ensures tidy { ActsTidily D.tells (parts D.Disk self.old) (paused_reply result) (parts D.Disk self.new) }
     {
         match self.set_state(name, Switch::Pause) {
             Ok(()) => Paused::Done,
@@ -177,7 +177,7 @@ impl<D: Disk> Archive<D> {
         ensures step { Steps D.tells (WithWants (NoneRefuses (refuse_by (ResumeAct name.now))) (ResumeStep name.now)) (parts D.Disk self.old) (resumed_reply result) (parts D.Disk self.new) }
         ensures crash { LeavesByAct D.tells (refuse_by (ResumeAct name.now)) (change_by (ResumeAct name.now)) (parts D.Disk self.old) (parts D.Disk self.new) }
         ensures fronts { LeavesFronts D.tells (files_of (parts D.Disk self.old)) (files_of (parts D.Disk self.new)) }
-        ensures tidy { ActsTidily D.tells (parts D.Disk self.old) (ResumeAct name.now) (resumed_reply result) (parts D.Disk self.new) }
+        ensures tidy { ActsTidily D.tells (parts D.Disk self.old) (resumed_reply result) (parts D.Disk self.new) }
     {
         match self.set_state(name, Switch::Resume) {
             Ok(()) => Resumed::Done,

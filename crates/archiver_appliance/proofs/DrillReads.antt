@@ -19,7 +19,7 @@ use Rattle.act_model.specs.Growth.{Onward}
 use Rattle.act_model.specs.History.{Done, Entry, Made, Runs, done_of, mine, own}
 use Rattle.act_model.specs.Machine.{Machine, find_row}
 use Rattle.act_model.specs.Out.{Subject}
-use Rattle.act_model.specs.Outcome.{refused_at_once, refused, runs, faults_first, faults_between, faults_within, wants_memory, wants_memory_settled}
+use Rattle.act_model.specs.Outcome.{refused_at_once, refused, runs, faults_first, faults_between, faults_within, faults_removing, wants_memory, wants_memory_settled}
 use Rattle.act_model.specs.Reply.{Reply}
 use Rattle.act_model.specs.Step.{Step}
 use Rattle.act_model.proofs.ActsAlone.{alone_joined}
@@ -115,6 +115,7 @@ step_files name d {new = new} (runs {mid = mid} reply p settles q ran more) is t
 step_files name d (faults_first p same rose) is told = absurd (cc (is))
 step_files name d (faults_between p settles same rose) is told = absurd (cc (is))
 step_files name d (faults_within doubted p settles q r same rose) is told = absurd (cc (is))
+step_files name d (faults_removing done gone p settles q ran rose) is told = absurd (cc (is))
 step_files name d (wants_memory same more) is told = absurd (cc (is))
 step_files name d (wants_memory_settled p settles same more) is told = absurd (cc (is))
 

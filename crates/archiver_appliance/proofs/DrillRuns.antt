@@ -30,7 +30,7 @@ use Rattle.act_model.specs.Changes.{Settles, as_made, as_not_made, made, no_doub
 use Rattle.act_model.specs.Growth.{Onward}
 use Rattle.act_model.specs.History.{Done, Entry, Runs, mine, own}
 use Rattle.act_model.specs.Machine.{Change, Machine}
-use Rattle.act_model.specs.Outcome.{refused_at_once, refused, runs, faults_first, faults_between, faults_within, wants_memory, wants_memory_settled}
+use Rattle.act_model.specs.Outcome.{refused_at_once, refused, runs, faults_first, faults_between, faults_within, faults_removing, wants_memory, wants_memory_settled}
 use Rattle.act_model.specs.Register.{RegisterStep}
 use Rattle.act_model.specs.Reply.{Reply}
 use Rattle.act_model.specs.Rule.{Rule}
@@ -147,6 +147,7 @@ register_doors name about (runs reply p settles q ran r) = same_doors ran.1 ∙ 
 register_doors name about (faults_first p same q) = same_doors same
 register_doors name about (faults_between p settles same q) = same_doors same ∙ settled_doors settles
 register_doors name about (faults_within doubted p settles q r same t) = same_doors same ∙ settled_doors settles
+register_doors name about (faults_removing done gone p settles q ran t) = same_doors ran.1 ∙ settled_doors settles
 register_doors name about (wants_memory same q) = same_doors same
 register_doors name about (wants_memory_settled p settles same q) = same_doors same ∙ settled_doors settles
 

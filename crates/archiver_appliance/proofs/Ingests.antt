@@ -8,7 +8,7 @@ use Rattle.act_model.specs.declared.acts.Answer.TheVariants as answer
 use Rattle.act_model.specs.Flush.{FlushStep}
 use Rattle.act_model.specs.History.{Done, Entry, Runs, mine, own}
 use Rattle.act_model.specs.Machine.{Machine, held_bytes}
-use Rattle.act_model.specs.Outcome.{refused_at_once, refused, runs, faults_first, faults_between, faults_within, wants_memory, wants_memory_settled}
+use Rattle.act_model.specs.Outcome.{refused_at_once, refused, runs, faults_first, faults_between, faults_within, faults_removing, wants_memory, wants_memory_settled}
 use Rattle.act_model.specs.Reply.{Reply}
 use Rattle.act_model.specs.Rows.{RowState, accepted, durable, size_of}
 use Rattle.act_model.specs.Step.{Step}
@@ -71,6 +71,7 @@ flush_all_durable limit samples doors {new = new} (runs reply p settles q ran mo
 flush_all_durable limit samples doors (faults_first p same rose) is = absurd (cc (is))
 flush_all_durable limit samples doors (faults_between p settles same rose) is = absurd (cc (is))
 flush_all_durable limit samples doors (faults_within doubted p settles q r same rose) is = absurd (cc (is))
+flush_all_durable limit samples doors (faults_removing done gone p settles q ran rose) is = absurd (cc (is))
 flush_all_durable limit samples doors (wants_memory same more) is = absurd (cc (is))
 flush_all_durable limit samples doors (wants_memory_settled p settles same more) is = absurd (cc (is))
 

@@ -19,7 +19,7 @@ use Rattle.act_model.specs.Details.{details_refused}
 use Rattle.act_model.specs.History.{Done, Entry, Runs, done_of, mine, own}
 use Rattle.act_model.specs.Machine.{Machine, find_row, same_bytes}
 use Rattle.act_model.specs.NextLife.{opened, opened_row}
-use Rattle.act_model.specs.Outcome.{refused_at_once, refused, runs, faults_first, faults_between, faults_within, wants_memory, wants_memory_settled}
+use Rattle.act_model.specs.Outcome.{refused_at_once, refused, runs, faults_first, faults_between, faults_within, faults_removing, wants_memory, wants_memory_settled}
 use Rattle.act_model.specs.Pin.{PinStep, Pins, pins}
 use Rattle.act_model.specs.Reply.{Reply}
 use Rattle.act_model.specs.Rows.{RowState, accepted}
@@ -88,6 +88,7 @@ pin_rows who name query {new = new} none (runs {mid = mid} answer p settles q ra
 pin_rows who name query none (faults_first p same rose) = rows_of same
 pin_rows who name query none (faults_between p settles same rose) = rows_of same ∙ rows_of (settles_same settles none)
 pin_rows who name query none (faults_within doubted p settles q r same rose) = absurd (cc (r))
+pin_rows who name query {new = new} none (faults_removing {mid = mid} done gone p settles q ran rose) = pinned_rows mid new done ran ∙ rows_of (settles_same settles none)
 pin_rows who name query none (wants_memory same more) = rows_of same
 pin_rows who name query none (wants_memory_settled p settles same more) = rows_of same ∙ rows_of (settles_same settles none)
 
@@ -118,6 +119,7 @@ pin_named who name query {new = new} none (runs {mid = mid} reply p settles q ra
 pin_named who name query none (faults_first p same rose) pin told_name about pieces tail is = absurd (cc (is))
 pin_named who name query none (faults_between p settles same rose) pin told_name about pieces tail is = absurd (cc (is))
 pin_named who name query none (faults_within doubted p settles q r same rose) pin told_name about pieces tail is = absurd (cc (is))
+pin_named who name query none (faults_removing done gone p settles q ran rose) pin told_name about pieces tail is = absurd (cc (is))
 pin_named who name query none (wants_memory same more) pin told_name about pieces tail is = absurd (cc (is))
 pin_named who name query none (wants_memory_settled p settles same more) pin told_name about pieces tail is = absurd (cc (is))
 
@@ -139,6 +141,7 @@ pin_unknown who name query {new = new} none (runs {mid = mid} reply p settles q 
 pin_unknown who name query none (faults_first p same rose) is = absurd (cc (is))
 pin_unknown who name query none (faults_between p settles same rose) is = absurd (cc (is))
 pin_unknown who name query none (faults_within doubted p settles q r same rose) is = absurd (cc (is))
+pin_unknown who name query none (faults_removing done gone p settles q ran rose) is = absurd (cc (is))
 pin_unknown who name query none (wants_memory same more) is = absurd (cc (is))
 pin_unknown who name query none (wants_memory_settled p settles same more) is = absurd (cc (is))
 

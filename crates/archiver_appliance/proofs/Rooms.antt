@@ -19,7 +19,7 @@ use Rattle.act_model.specs.Flush.{FlushStep}
 use Rattle.act_model.specs.History.{Done, Entry, Runs, mine, own}
 use Rattle.act_model.specs.Machine.{Machine, find_row, held_bytes}
 use Rattle.act_model.specs.Offer.{OfferStep, offered, offered_to, room, tried}
-use Rattle.act_model.specs.Outcome.{Outcome, refused_at_once, refused, runs, faults_first, faults_between, faults_within, wants_memory, wants_memory_settled}
+use Rattle.act_model.specs.Outcome.{Outcome, refused_at_once, refused, runs, faults_first, faults_between, faults_within, faults_removing, wants_memory, wants_memory_settled}
 use Rattle.act_model.specs.Reply.{Reply}
 use Rattle.act_model.specs.Rows.{RowState, number_of, standing}
 use Rattle.act_model.specs.Sound.{IsSound}
@@ -91,6 +91,7 @@ flush_empties old new reply sound step well = by_step step refl
     by_step (faults_first p alike rose) same = absurd (false≢true (sym well ∙ sym same))
     by_step (faults_between p settles alike rose) same = absurd (false≢true (sym well ∙ sym same))
     by_step (faults_within doubted p settles q r alike rose) same = absurd (false≢true (sym well ∙ sym same))
+    by_step (faults_removing done gone p settles q ran rose) same = absurd (false≢true (sym well ∙ sym same))
     by_step (wants_memory alike more) same = absurd (false≢true (sym well ∙ sym same))
     by_step (wants_memory_settled p settles alike more) same = absurd (false≢true (sym well ∙ sym same))
 
@@ -102,6 +103,7 @@ flush_finds held {new = new} (runs reply p settles q ran more) is = let bad : an
 flush_finds held (faults_first p same rose) is = absurd (cc (is))
 flush_finds held (faults_between p settles same rose) is = absurd (cc (is))
 flush_finds held (faults_within doubted p settles q r same rose) is = absurd (cc (is))
+flush_finds held (faults_removing done gone p settles q ran rose) is = absurd (cc (is))
 flush_finds held (wants_memory same more) is = absurd (cc (is))
 flush_finds held (wants_memory_settled p settles same more) is = absurd (cc (is))
 

@@ -21,7 +21,7 @@ use Rattle.act_model.specs.Growth.{Onward}
 use Rattle.act_model.specs.History.{CutAt, Done, Entry, Goes, Runs, mine}
 use Rattle.act_model.specs.Machine.{Machine, find_row, held_bytes, place, same_bytes}
 use Rattle.act_model.specs.Offer.{OfferStep, gains, offered, offered_to}
-use Rattle.act_model.specs.Outcome.{Outcome, refused_at_once, refused, runs, faults_first, faults_between, faults_within, wants_memory, wants_memory_settled}
+use Rattle.act_model.specs.Outcome.{Outcome, refused_at_once, refused, runs, faults_first, faults_between, faults_within, faults_removing, wants_memory, wants_memory_settled}
 use Rattle.act_model.specs.Reply.{Reply}
 use Rattle.act_model.specs.Rows.{RowState, accepted, durable, number_of, size_of, standing}
 use Rattle.act_model.specs.Sound.{IsSound}
@@ -165,6 +165,7 @@ flush_tells limit old new reply samples left doors (refused a p settles q same r
 flush_tells limit old new reply samples left doors (faults_first p same q) is = absurd cc
 flush_tells limit old new reply samples left doors (faults_between p settles same q) is = absurd cc
 flush_tells limit old new reply samples left doors (faults_within doubted p settles q r same t) is = absurd cc
+flush_tells limit old new reply samples left doors (faults_removing done gone p settles q ran t) is = absurd cc
 flush_tells limit old new reply samples left doors (wants_memory same q) is = absurd cc
 flush_tells limit old new reply samples left doors (wants_memory_settled p settles same q) is = absurd cc
 

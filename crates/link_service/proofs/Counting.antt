@@ -21,7 +21,7 @@ use Rattle.act_model.specs.Machine.{Machine, MoveState, PinState, Change, AddsRo
 use Rattle.act_model.specs.MoveBegin.{Begins, begins, all_run, none_to_make}
 use Rattle.act_model.specs.MoveStep.{GoesOn, copies, has_copied, publishes, retires, again, damaged, no_move, change_of, ends_move}
 use Rattle.act_model.specs.OpenPiece.{Opens, refused_open, no_piece, opens, faults_opening, wants_memory_opening}
-use Rattle.act_model.specs.Outcome.{Acts, Ends, Outcome, all_go, refused_at_once, refused, runs, faults_first, faults_between, faults_within, wants_memory, wants_memory_settled}
+use Rattle.act_model.specs.Outcome.{Acts, Ends, Outcome, all_go, refused_at_once, refused, runs, faults_first, faults_between, faults_within, faults_removing, wants_memory, wants_memory_settled}
 use Rattle.act_model.specs.Pause.{Sets, sets_of, state_refused, not_running}
 use Rattle.act_model.specs.Pin.{Pins, pins}
 use Rattle.act_model.specs.Register.{Registers, register_refused}
@@ -71,6 +71,7 @@ module _ (refuse : Machine → Option Reply) (run : Machine → Reply → Machin
   Acts-counts {old} {new} (faults_first p same rose) = counts_rose old.faults new.faults rose
   Acts-counts {old} {new} (faults_between p settles same rose) = counts_rose old.faults new.faults rose
   Acts-counts {old} {new} (faults_within doubted p settles q r same rose) = counts_rose old.faults new.faults rose
+  Acts-counts {old} {new} (faults_removing done gone p settles q ran rose) = counts_rose old.faults new.faults rose
   Acts-counts {old} {new} (wants_memory same more) = counts_more old.faults new.faults more
   Acts-counts {old} {new} (wants_memory_settled p settles same more) = counts_more old.faults new.faults more
 
@@ -83,6 +84,7 @@ module _ (refuse : Machine → Option Reply) (run : Machine → Reply → Machin
     Acts-rose (faults_first p same rose) is = rose
     Acts-rose (faults_between p settles same rose) is = rose
     Acts-rose (faults_within doubted p settles q r same rose) is = rose
+    Acts-rose (faults_removing done gone p settles q ran rose) is = rose
     Acts-rose (wants_memory same more) is = absurd cc
     Acts-rose (wants_memory_settled p settles same more) is = absurd cc
 

@@ -16,7 +16,7 @@ use Rattle.act_model.specs.History.{Done, Entry, Goes, Made, MadeOne, Runs}
 use Rattle.act_model.specs.Limbo.{FileState}
 use Rattle.act_model.specs.Machine.{Machine, find_row, place, same_bytes}
 use Rattle.act_model.specs.OpenPiece.{bytes_of}
-use Rattle.act_model.specs.Outcome.{Acts, all_go, refused_at_once, refused, runs, faults_first, faults_between, faults_within, wants_memory, wants_memory_settled}
+use Rattle.act_model.specs.Outcome.{Acts, all_go, refused_at_once, refused, runs, faults_first, faults_between, faults_within, faults_removing, wants_memory, wants_memory_settled}
 use Rattle.act_model.specs.Pin.{Pins, pins}
 use Rattle.act_model.specs.Pinned.{AllKeep, IsOpenedAs}
 use Rattle.act_model.specs.Reply.{Reply}
@@ -94,6 +94,7 @@ pin_unknown who name query (runs answer p settles q (pins i row pin pieces found
 pin_unknown who name query (faults_first p same rose) is = absurd cc
 pin_unknown who name query (faults_between p settles same rose) is = absurd cc
 pin_unknown who name query (faults_within doubted p settles q r same rose) is = absurd cc
+pin_unknown who name query (faults_removing done gone p settles q ran rose) is = absurd cc
 pin_unknown who name query (wants_memory same more) is = absurd cc
 pin_unknown who name query (wants_memory_settled p settles same more) is = absurd cc
 

@@ -10,7 +10,7 @@ use Rattle.act_model.specs.Reply.{Reply}
 use Rattle.act_model.specs.Machine.{Machine, MoveState, Change, AddsRow, SetsState, Appends, Publishes, Unlists, find_row}
 use Rattle.act_model.specs.Changes.{made, changed, added, each, at, Settles, no_doubt, as_not_made, as_made}
 use Rattle.act_model.specs.Limbo.{FileState}
-use Rattle.act_model.specs.Outcome.{Outcome, Ends, Same, Acts, refused_at_once, refused, runs, faults_first, faults_between, faults_within, wants_memory, wants_memory_settled, all_go}
+use Rattle.act_model.specs.Outcome.{Outcome, Ends, Same, Acts, refused_at_once, refused, runs, faults_first, faults_between, faults_within, faults_removing, wants_memory, wants_memory_settled, all_go}
 use Rattle.act_model.specs.Register.{register_refused, Registers}
 use Rattle.act_model.specs.Pause.{state_refused, Sets, sets_of}
 use Rattle.act_model.specs.Flush.{Flushes, batch_of}
@@ -71,6 +71,7 @@ module _ (refuse : Machine → Option Reply) (run : Machine → Reply → Machin
   Acts-keeps {old} {new} (faults_first p same q) = keeps_same old new (ap (λ (m : Machine). m.rows) same) (ap (λ (m : Machine). m.doors) same)
   Acts-keeps {old} {new} (faults_between {mid = mid} p settles same q) = keeps_trans old mid new (keeps_settled settles) (keeps_same mid new (ap (λ (m : Machine). m.rows) same) (ap (λ (m : Machine). m.doors) same))
   Acts-keeps {old} {new} (faults_within {mid = mid} doubted p settles q r same t) = keeps_trans old mid new (keeps_settled settles) (keeps_same mid new (ap (λ (m : Machine). m.rows) same) (ap (λ (m : Machine). m.doors) same))
+  Acts-keeps {old} {new} (faults_removing {mid = mid} done gone p settles q ran t) = keeps_trans old mid new (keeps_settled settles) (run_keeps mid done new ran)
   Acts-keeps {old} {new} (wants_memory same q) = keeps_counts old new same
   Acts-keeps {old} {new} (wants_memory_settled {mid = mid} p settles same q) = keeps_trans old mid new (keeps_settled settles) (keeps_counts mid new same)
 

@@ -16,7 +16,7 @@ use Rattle.act_model.specs.Rows.{RowState, Store, Short, Medium, Long, durable, 
 use Rattle.act_model.specs.Limbo.{FileState, files_of, put}
 use Rattle.act_model.specs.Machine.{Machine, MoveState, Change, AddsRow, SetsState, Appends, Publishes, Unlists, held_bytes}
 use Rattle.act_model.specs.Changes.{made, changed, at, of_row, published, retired, without_held, Settles, no_doubt, as_not_made, as_made}
-use Rattle.act_model.specs.Outcome.{Outcome, Acts, refused_at_once, refused, runs, faults_first, faults_between, faults_within, wants_memory, wants_memory_settled, all_go}
+use Rattle.act_model.specs.Outcome.{Outcome, Acts, refused_at_once, refused, runs, faults_first, faults_between, faults_within, faults_removing, wants_memory, wants_memory_settled, all_go}
 use Rattle.act_model.specs.Flush.{FlushStep}
 use Rattle.act_model.specs.Tick.{TickStep, ticked, ticked_row, ticked_due}
 use Rattle.act_model.specs.Offer.{room}
@@ -91,6 +91,7 @@ module _ (refuse : Machine → Option Reply) (run : Machine → Reply → Machin
   Acts-drained {old} {new} (faults_first p same q) d = drained_same old new (ap (λ (m : Machine). m.rows) same) d
   Acts-drained {old} {new} (faults_between {mid = mid} p settles same q) d = drained_same mid new (ap (λ (m : Machine). m.rows) same) (drained_settled settles d)
   Acts-drained {old} {new} (faults_within {mid = mid} doubted p settles q r same t) d = drained_same mid new (ap (λ (m : Machine). m.rows) same) (drained_settled settles d)
+  Acts-drained {old} {new} (faults_removing {mid = mid} done gone p settles q ran t) d = run_drained mid done new ran (drained_settled settles d)
   Acts-drained {old} {new} (wants_memory same q) d = drained_same old new (ap (λ (m : Machine). m.rows) same) d
   Acts-drained {old} {new} (wants_memory_settled {mid = mid} p settles same q) d = drained_same mid new (ap (λ (m : Machine). m.rows) same) (drained_settled settles d)
 
@@ -145,6 +146,7 @@ flush_drains limit old new answer samples doors (runs {mid = mid} answer' p sett
 flush_drains limit old new answer samples doors (faults_first p same q) is = absurd cc
 flush_drains limit old new answer samples doors (faults_between p settles same q) is = absurd cc
 flush_drains limit old new answer samples doors (faults_within doubted p settles q r same t) is = absurd cc
+flush_drains limit old new answer samples doors (faults_removing done gone p settles q ran t) is = absurd cc
 flush_drains limit old new answer samples doors (wants_memory same q) is = absurd cc
 flush_drains limit old new answer samples doors (wants_memory_settled p settles same q) is = absurd cc
 

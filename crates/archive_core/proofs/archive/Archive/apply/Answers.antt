@@ -108,49 +108,49 @@ pub returns-in-DoorDone-clause-leaves : goal.returns-in-DoorDone-clause-leaves
 returns-in-DoorDone-clause-leaves g c = as_left g.D.Disk.tells c.args.who c.args.act (DoorDone) (parts g.D.Disk c.args.self.now) (parts g.D.Disk c.door_done.new.self) _ _ c.in-DoorDone.is c.doors_left-in-DoorDone.ensures (no_call g.D.Disk.tells (DoorDone) (parts g.D.Disk c.args.self.now) (parts g.D.Disk c.door_done.new.self) (λ m f. refl) (λ m f. refl) (ap (seen_all g.D.Disk) c.door_done.ensures.store)) (reads_none g.D.Disk.tells (parts g.D.Disk c.args.self.now) (parts g.D.Disk c.door_done.new.self) (ap (seen_all g.D.Disk) c.door_done.ensures.store)) tt tt (wants_any g.D.Disk.tells c.args.who (DoorDone) (parts g.D.Disk c.args.self.now) (parts g.D.Disk c.door_done.new.self) _ (λ m n. tt) c.door_done.ensures.step)
 
 pub returns-in-Register-clause-tidy : goal.returns-in-Register-clause-tidy
-returns-in-Register-clause-tidy g c = tidy_as g.D.Disk.tells (parts g.D.Disk c.args.self.now) c.args.act (Register c.in-Register.name c.in-Register.about) _ _ (parts g.D.Disk c.register.new.self) c.in-Register.is c.registered.ensures c.register.ensures.tidy
+returns-in-Register-clause-tidy g c = tidy_as g.D.Disk.tells (parts g.D.Disk c.args.self.now) _ _ (parts g.D.Disk c.register.new.self) c.registered.ensures c.register.ensures.tidy
 
 pub returns-in-Pause-clause-tidy : goal.returns-in-Pause-clause-tidy
-returns-in-Pause-clause-tidy g c = tidy_as g.D.Disk.tells (parts g.D.Disk c.args.self.now) c.args.act (Pause c.bytes.result.now) _ _ (parts g.D.Disk c.pause.new.self) (c.in-Pause.is ∙ ap (λ (n : List ℕ). Pause n) (sym c.bytes.ensures)) c.paused.ensures c.pause.ensures.tidy
+returns-in-Pause-clause-tidy g c = tidy_as g.D.Disk.tells (parts g.D.Disk c.args.self.now) _ _ (parts g.D.Disk c.pause.new.self) c.paused.ensures c.pause.ensures.tidy
 
 pub returns-in-Resume-clause-tidy : goal.returns-in-Resume-clause-tidy
-returns-in-Resume-clause-tidy g c = tidy_as g.D.Disk.tells (parts g.D.Disk c.args.self.now) c.args.act (Resume c.bytes-in-Resume.result.now) _ _ (parts g.D.Disk c.resume.new.self) (c.in-Resume.is ∙ ap (λ (n : List ℕ). Resume n) (sym c.bytes-in-Resume.ensures)) c.resumed.ensures c.resume.ensures.tidy
+returns-in-Resume-clause-tidy g c = tidy_as g.D.Disk.tells (parts g.D.Disk c.args.self.now) _ _ (parts g.D.Disk c.resume.new.self) c.resumed.ensures c.resume.ensures.tidy
 
 pub returns-in-Offer-clause-tidy : goal.returns-in-Offer-clause-tidy
-returns-in-Offer-clause-tidy g c = tidy_as g.D.Disk.tells (parts g.D.Disk c.args.self.now) c.args.act (Offer c.bytes-in-Offer.result.now c.in-Offer.ty c.in-Offer.t c.in-Offer.line c.in-Offer.now) _ _ (parts g.D.Disk c.offer.new.self) (c.in-Offer.is ∙ ap (λ (n : List ℕ). Offer n c.in-Offer.ty c.in-Offer.t c.in-Offer.line c.in-Offer.now) (sym c.bytes-in-Offer.ensures)) c.offered.ensures (λ settled well. tidy_none g.D.Disk.tells (parts g.D.Disk c.args.self.now) (parts g.D.Disk c.offer.new.self) (ap (seen_all g.D.Disk) c.offer.ensures.store) (ap (λ t. t.slots.items) c.offer.ensures.moves) settled)
+returns-in-Offer-clause-tidy g c = tidy_as g.D.Disk.tells (parts g.D.Disk c.args.self.now) _ _ (parts g.D.Disk c.offer.new.self) c.offered.ensures (λ settled well. tidy_none g.D.Disk.tells (parts g.D.Disk c.args.self.now) (parts g.D.Disk c.offer.new.self) (ap (seen_all g.D.Disk) c.offer.ensures.store) (ap (λ t. t.slots.items) c.offer.ensures.moves) settled)
 
 pub returns-in-Tick-clause-tidy : goal.returns-in-Tick-clause-tidy
-returns-in-Tick-clause-tidy g c = tidy_as g.D.Disk.tells (parts g.D.Disk c.args.self.now) c.args.act (Tick c.in-Tick.row c.in-Tick.now) _ _ (parts g.D.Disk c.tick.new.self) c.in-Tick.is c.ticked.ensures (λ settled well. tidy_none g.D.Disk.tells (parts g.D.Disk c.args.self.now) (parts g.D.Disk c.tick.new.self) (ap (seen_all g.D.Disk) c.tick.ensures.store) (ap (λ t. t.slots.items) c.tick.ensures.moves) settled)
+returns-in-Tick-clause-tidy g c = tidy_as g.D.Disk.tells (parts g.D.Disk c.args.self.now) _ _ (parts g.D.Disk c.tick.new.self) c.ticked.ensures (λ settled well. tidy_none g.D.Disk.tells (parts g.D.Disk c.args.self.now) (parts g.D.Disk c.tick.new.self) (ap (seen_all g.D.Disk) c.tick.ensures.store) (ap (λ t. t.slots.items) c.tick.ensures.moves) settled)
 
 pub returns-in-Flush-clause-tidy : goal.returns-in-Flush-clause-tidy
-returns-in-Flush-clause-tidy g c = tidy_as g.D.Disk.tells (parts g.D.Disk c.args.self.now) c.args.act (Flush c.in-Flush.limit) _ _ (parts g.D.Disk c.flush.new.self) c.in-Flush.is c.flushed.ensures c.flush.ensures.tidy
+returns-in-Flush-clause-tidy g c = tidy_as g.D.Disk.tells (parts g.D.Disk c.args.self.now) _ _ (parts g.D.Disk c.flush.new.self) c.flushed.ensures c.flush.ensures.tidy
 
 pub returns-in-MoveBegin-clause-tidy : goal.returns-in-MoveBegin-clause-tidy
-returns-in-MoveBegin-clause-tidy g c = tidy_as g.D.Disk.tells (parts g.D.Disk c.args.self.now) c.args.act (MoveBegin c.in-MoveBegin.store c.in-MoveBegin.now) _ _ (parts g.D.Disk c.begin_move.new.self) c.in-MoveBegin.is c.move_begun.ensures c.begin_move.ensures.tidy
+returns-in-MoveBegin-clause-tidy g c = tidy_as g.D.Disk.tells (parts g.D.Disk c.args.self.now) _ _ (parts g.D.Disk c.begin_move.new.self) c.move_begun.ensures c.begin_move.ensures.tidy
 
 pub returns-in-MoveStep-clause-tidy : goal.returns-in-MoveStep-clause-tidy
-returns-in-MoveStep-clause-tidy g c = tidy_as g.D.Disk.tells (parts g.D.Disk c.args.self.now) c.args.act (MoveStep c.in-MoveStep.m) _ _ (parts g.D.Disk c.move_step.new.self) c.in-MoveStep.is c.move_stepped.ensures c.move_step.ensures.tidy
+returns-in-MoveStep-clause-tidy g c = tidy_as g.D.Disk.tells (parts g.D.Disk c.args.self.now) _ _ (parts g.D.Disk c.move_step.new.self) c.move_stepped.ensures c.move_step.ensures.tidy
 
 pub returns-in-Sweep-clause-tidy : goal.returns-in-Sweep-clause-tidy
-returns-in-Sweep-clause-tidy g c = tidy_as g.D.Disk.tells (parts g.D.Disk c.args.self.now) c.args.act (Sweep) _ _ (parts g.D.Disk c.sweep.new.self) c.in-Sweep.is c.swept.ensures c.sweep.ensures.tidy
+returns-in-Sweep-clause-tidy g c = tidy_as g.D.Disk.tells (parts g.D.Disk c.args.self.now) _ _ (parts g.D.Disk c.sweep.new.self) c.swept.ensures c.sweep.ensures.tidy
 
 pub returns-in-Pin-clause-tidy : goal.returns-in-Pin-clause-tidy
-returns-in-Pin-clause-tidy g c = tidy_as g.D.Disk.tells (parts g.D.Disk c.args.self.now) c.args.act (Pin c.bytes-in-Pin.result.now c.in-Pin.query) _ _ (parts g.D.Disk c.pin.new.self) (c.in-Pin.is ∙ ap (λ (n : List ℕ). Pin n c.in-Pin.query) (sym c.bytes-in-Pin.ensures)) c.pinned.ensures (λ settled well. tidy_reads g.D.Disk.tells (parts g.D.Disk c.args.self.now) (parts g.D.Disk c.pin.new.self) c.pin.ensures.reads (ap (λ t. t.slots.items) c.pin.ensures.moves) settled)
+returns-in-Pin-clause-tidy g c = tidy_as g.D.Disk.tells (parts g.D.Disk c.args.self.now) _ _ (parts g.D.Disk c.pin.new.self) c.pinned.ensures (λ settled well. tidy_reads g.D.Disk.tells (parts g.D.Disk c.args.self.now) (parts g.D.Disk c.pin.new.self) c.pin.ensures.reads (ap (λ t. t.slots.items) c.pin.ensures.moves) settled)
 
 pub returns-in-OpenPiece-clause-tidy : goal.returns-in-OpenPiece-clause-tidy
-returns-in-OpenPiece-clause-tidy g c = tidy_as g.D.Disk.tells (parts g.D.Disk c.args.self.now) c.args.act (OpenPiece c.in-OpenPiece.pin c.in-OpenPiece.i) _ _ (parts g.D.Disk c.open_piece.new.self) c.in-OpenPiece.is c.piece_opened.ensures (λ settled well. tidy_reads g.D.Disk.tells (parts g.D.Disk c.args.self.now) (parts g.D.Disk c.open_piece.new.self) c.open_piece.ensures.reads (ap (λ t. t.slots.items) c.open_piece.ensures.moves) settled)
+returns-in-OpenPiece-clause-tidy g c = tidy_as g.D.Disk.tells (parts g.D.Disk c.args.self.now) _ _ (parts g.D.Disk c.open_piece.new.self) c.piece_opened.ensures (λ settled well. tidy_reads g.D.Disk.tells (parts g.D.Disk c.args.self.now) (parts g.D.Disk c.open_piece.new.self) c.open_piece.ensures.reads (ap (λ t. t.slots.items) c.open_piece.ensures.moves) settled)
 
 pub returns-in-Unpin-clause-tidy : goal.returns-in-Unpin-clause-tidy
-returns-in-Unpin-clause-tidy g c = tidy_as g.D.Disk.tells (parts g.D.Disk c.args.self.now) c.args.act (Unpin c.in-Unpin.pin) _ _ (parts g.D.Disk c.unpin.new.self) c.in-Unpin.is c.unpinned.ensures (λ settled well. let same = c.unpin.ensures.same in tidy_none g.D.Disk.tells (parts g.D.Disk c.args.self.now) (parts g.D.Disk c.unpin.new.self) (rw (same.0, same.1, same.2, same.3) refl) (ap (λ t. t.slots.items) c.unpin.ensures.moves) settled)
+returns-in-Unpin-clause-tidy g c = tidy_as g.D.Disk.tells (parts g.D.Disk c.args.self.now) _ _ (parts g.D.Disk c.unpin.new.self) c.unpinned.ensures (λ settled well. let same = c.unpin.ensures.same in tidy_none g.D.Disk.tells (parts g.D.Disk c.args.self.now) (parts g.D.Disk c.unpin.new.self) (rw (same.0, same.1, same.2, same.3) refl) (ap (λ t. t.slots.items) c.unpin.ensures.moves) settled)
 
 pub returns-in-Names-clause-tidy : goal.returns-in-Names-clause-tidy
-returns-in-Names-clause-tidy g c = tidy_as g.D.Disk.tells (parts g.D.Disk c.args.self.now) c.args.act (Names c.in-Names.from c.in-Names.most) _ _ (parts g.D.Disk c.args.self.now) c.in-Names.is c.names_told.ensures (λ settled well. tidy_none g.D.Disk.tells (parts g.D.Disk c.args.self.now) (parts g.D.Disk c.args.self.now) refl refl settled)
+returns-in-Names-clause-tidy g c = tidy_as g.D.Disk.tells (parts g.D.Disk c.args.self.now) _ _ (parts g.D.Disk c.args.self.now) c.names_told.ensures (λ settled well. tidy_none g.D.Disk.tells (parts g.D.Disk c.args.self.now) (parts g.D.Disk c.args.self.now) refl refl settled)
 
 pub returns-in-Details-clause-tidy : goal.returns-in-Details-clause-tidy
-returns-in-Details-clause-tidy g c = tidy_as g.D.Disk.tells (parts g.D.Disk c.args.self.now) c.args.act (Details c.bytes-in-Details.result.now) _ _ (parts g.D.Disk c.details.new.self) (c.in-Details.is ∙ ap (λ (n : List ℕ). Details n) (sym c.bytes-in-Details.ensures)) c.details_told.ensures (λ settled well. tidy_reads g.D.Disk.tells (parts g.D.Disk c.args.self.now) (parts g.D.Disk c.details.new.self) c.details.ensures.reads (ap (λ t. t.slots.items) c.details.ensures.moves) settled)
+returns-in-Details-clause-tidy g c = tidy_as g.D.Disk.tells (parts g.D.Disk c.args.self.now) _ _ (parts g.D.Disk c.details.new.self) c.details_told.ensures (λ settled well. tidy_reads g.D.Disk.tells (parts g.D.Disk c.args.self.now) (parts g.D.Disk c.details.new.self) c.details.ensures.reads (ap (λ t. t.slots.items) c.details.ensures.moves) settled)
 
 pub returns-in-Doors-clause-tidy : goal.returns-in-Doors-clause-tidy
-returns-in-Doors-clause-tidy g c = tidy_as g.D.Disk.tells (parts g.D.Disk c.args.self.now) c.args.act (Doors) _ _ (parts g.D.Disk c.args.self.now) c.in-Doors.is c.doors_left.ensures (λ settled well. tidy_none g.D.Disk.tells (parts g.D.Disk c.args.self.now) (parts g.D.Disk c.args.self.now) refl refl settled)
+returns-in-Doors-clause-tidy g c = tidy_as g.D.Disk.tells (parts g.D.Disk c.args.self.now) _ _ (parts g.D.Disk c.args.self.now) c.doors_left.ensures (λ settled well. tidy_none g.D.Disk.tells (parts g.D.Disk c.args.self.now) (parts g.D.Disk c.args.self.now) refl refl settled)
 
 pub returns-in-DoorDone-clause-tidy : goal.returns-in-DoorDone-clause-tidy
-returns-in-DoorDone-clause-tidy g c = tidy_as g.D.Disk.tells (parts g.D.Disk c.args.self.now) c.args.act (DoorDone) _ _ (parts g.D.Disk c.door_done.new.self) c.in-DoorDone.is c.doors_left-in-DoorDone.ensures (λ settled well. tidy_none g.D.Disk.tells (parts g.D.Disk c.args.self.now) (parts g.D.Disk c.door_done.new.self) (ap (seen_all g.D.Disk) c.door_done.ensures.store) (ap (λ t. t.slots.items) c.door_done.ensures.moves) settled)
+returns-in-DoorDone-clause-tidy g c = tidy_as g.D.Disk.tells (parts g.D.Disk c.args.self.now) _ _ (parts g.D.Disk c.door_done.new.self) c.doors_left-in-DoorDone.ensures (λ settled well. tidy_none g.D.Disk.tells (parts g.D.Disk c.args.self.now) (parts g.D.Disk c.door_done.new.self) (ap (seen_all g.D.Disk) c.door_done.ensures.store) (ap (λ t. t.slots.items) c.door_done.ensures.moves) settled)

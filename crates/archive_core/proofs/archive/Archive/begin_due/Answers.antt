@@ -73,4 +73,4 @@ returns-clause-tidy g c settled =
     let q = parts g.D.Disk c.settle.new.self in
     let same = ap (seen_all g.D.Disk) (c.settle.ensures.quiet settled) in
     let slots = ap (λ t. t.slots.items) c.settle.ensures.moves in
-    ok_then c.begin_chosen.result _ _ (λ tidy. tidy_then g.D.Disk.tells p q (parts g.D.Disk c.begin_chosen.new.self) (Ok tt) same slots (ap (λ (all : SeenAll). all.stores.faults) same) tidy) c.begin_chosen.ensures.tidy
+    ok_then c.begin_chosen.result _ _ (λ tidy. tidy_then g.D.Disk.tells p q (parts g.D.Disk c.begin_chosen.new.self) same slots tidy) c.begin_chosen.ensures.tidy

@@ -17,7 +17,7 @@ pub returns-in-Err-Memory-clause-step : goal.returns-in-Err-Memory-clause-step
 returns-in-Err-Memory-clause-step g c = subst (λ (r : Result MoveBegun DiskErr). Steps g.D.Disk.tells (MoveBeginStep (store_of c.args.store) c.args.now) (parts g.D.Disk c.args.self.now) (begun_reply r) (parts g.D.Disk c.begin_due.new.self)) (c.in-Err-Memory.is ∙ ap (λ (e : DiskErr). Err e) c.in-Err-Memory.field-0-is) c.begin_due.ensures.step
 
 pub returns-in-Ok-clause-tidy : goal.returns-in-Ok-clause-tidy
-returns-in-Ok-clause-tidy g c settled well = subst (λ (r : Result MoveBegun DiskErr). OnOk r (Tidies g.D.Disk.tells (parts g.D.Disk c.args.self.now) (parts g.D.Disk c.begin_due.new.self) (Ok tt))) c.in-Ok.is (c.begin_due.ensures.tidy settled)
+returns-in-Ok-clause-tidy g c settled well = subst (λ (r : Result MoveBegun DiskErr). OnOk r (Tidies g.D.Disk.tells (parts g.D.Disk c.args.self.now) (parts g.D.Disk c.begin_due.new.self))) c.in-Ok.is (c.begin_due.ensures.tidy settled)
 
 pub returns-in-Err-Fault-clause-tidy : goal.returns-in-Err-Fault-clause-tidy
 returns-in-Err-Fault-clause-tidy g c settled well = absurd well

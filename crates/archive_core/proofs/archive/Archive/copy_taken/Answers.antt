@@ -77,7 +77,7 @@ returns-in-Ok-More-clause-tidy g c slots takes well =
     let moved = c.copy.new.moving in
     let tidy = subst (λ (r : Result CopyEnd DiskErr). OnOk r (IsSettled (seen g.D.Disk c.copy.new.self) × MakesNoStray g.D.Disk.tells (seen_all g.D.Disk c.args.self.now.store) (targets c.args.running.moving) (seen_all g.D.Disk c.copy.new.self) (targets moved))) c.in-Ok-More.is (c.copy.ensures.tidy settled) in
     let stage = ap (λ (m : Moving). m.stage) c.copy.ensures.moves_on.is ∙ c.requires.copies in
-    (Ok tt, refl, tidy_step g.D.Disk.tells (with_slots slots p) _ c.args.number c.args.running (Some (record c.args.running { moving = moved })) (targets c.args.running.moving) (targets moved) (Ok tt) takes.ran (put_after c.args.number _ slots _ _ c.put_back.ensures takes.others) tidy.0 (λ fine. tidy.1) (λ is. absurd (cc (is))) (λ copying n t. t) (λ n t. (_, refl, stage, t)))
+    tidy_step g.D.Disk.tells (with_slots slots p) _ c.args.number c.args.running (Some (record c.args.running { moving = moved })) (targets c.args.running.moving) (targets moved) takes.ran (put_after c.args.number _ slots _ _ c.put_back.ensures takes.others) tidy.0 tidy.1 (λ copying n t. t) (λ n t. (_, refl, stage, t))
 
 pub returns-in-Ok-Copied-clause-tidy : goal.returns-in-Ok-Copied-clause-tidy
 returns-in-Ok-Copied-clause-tidy g c slots takes well =
@@ -87,7 +87,7 @@ returns-in-Ok-Copied-clause-tidy g c slots takes well =
     let moved = c.copy.new.moving in
     let tidy = subst (λ (r : Result CopyEnd DiskErr). OnOk r (IsSettled (seen g.D.Disk c.copy.new.self) × MakesNoStray g.D.Disk.tells (seen_all g.D.Disk c.args.self.now.store) (targets c.args.running.moving) (seen_all g.D.Disk c.copy.new.self) (targets moved))) c.in-Ok-Copied.is (c.copy.ensures.tidy settled) in
     let stage = ap (λ (m : Moving). m.stage) c.copy.ensures.moves_on.is ∙ c.requires.copies in
-    (Ok tt, refl, tidy_step g.D.Disk.tells (with_slots slots p) _ c.args.number c.args.running (Some (record c.args.running { moving = moved })) (targets c.args.running.moving) (targets moved) (Ok tt) takes.ran (put_after c.args.number _ slots _ _ c.put_back-in-Ok-Copied.ensures takes.others) tidy.0 (λ fine. tidy.1) (λ is. absurd (cc (is))) (λ copying n t. t) (λ n t. (_, refl, stage, t)))
+    tidy_step g.D.Disk.tells (with_slots slots p) _ c.args.number c.args.running (Some (record c.args.running { moving = moved })) (targets c.args.running.moving) (targets moved) takes.ran (put_after c.args.number _ slots _ _ c.put_back-in-Ok-Copied.ensures takes.others) tidy.0 tidy.1 (λ copying n t. t) (λ n t. (_, refl, stage, t))
 
 pub returns-in-Ok-Damaged-clause-tidy : goal.returns-in-Ok-Damaged-clause-tidy
 returns-in-Ok-Damaged-clause-tidy g c slots takes well = absurd well

@@ -24,7 +24,7 @@ pub returns-in-Err-Memory-clause-step : goal.returns-in-Err-Memory-clause-step
 returns-in-Err-Memory-clause-step g c = flush_told g.D.Disk.tells c.args.limit (parts g.D.Disk c.args.self.now) (parts g.D.Disk c.flush_tails.new.self) c.flush_tails.result (Err Memory) (c.in-Err-Memory.is ∙ ap (λ (e : DiskErr). Err e) c.in-Err-Memory.field-0-is) c.flush_tails.ensures.step
 
 pub returns-in-Ok-clause-tidy : goal.returns-in-Ok-clause-tidy
-returns-in-Ok-clause-tidy g c settled well = subst (λ (r : Result ℕ DiskErr). OnOk r (Tidies g.D.Disk.tells (parts g.D.Disk c.args.self.now) (parts g.D.Disk c.flush_tails.new.self) (Ok tt))) c.in-Ok.is (c.flush_tails.ensures.tidy settled)
+returns-in-Ok-clause-tidy g c settled well = subst (λ (r : Result ℕ DiskErr). OnOk r (Tidies g.D.Disk.tells (parts g.D.Disk c.args.self.now) (parts g.D.Disk c.flush_tails.new.self))) c.in-Ok.is (c.flush_tails.ensures.tidy settled)
 
 pub returns-in-Err-Fault-clause-tidy : goal.returns-in-Err-Fault-clause-tidy
 returns-in-Err-Fault-clause-tidy g c settled well = absurd well

@@ -47,4 +47,4 @@ returns-clause-tidy g c settled =
     let q = parts g.D.Disk c.settle.new.self in
     let same = ap (seen_all g.D.Disk) (c.settle.ensures.quiet settled) in
     let slots = ap (λ t. t.slots.items) c.settle.ensures.moves in
-    ok_then c.flush_settled.result _ _ (λ tidy. tidy_then g.D.Disk.tells p q (parts g.D.Disk c.flush_settled.new.self) (Ok tt) same slots (ap (λ (all : SeenAll). all.stores.faults) same) tidy) c.flush_settled.ensures.tidy
+    ok_then c.flush_settled.result _ _ (λ tidy. tidy_then g.D.Disk.tells p q (parts g.D.Disk c.flush_settled.new.self) same slots tidy) c.flush_settled.ensures.tidy

@@ -24,7 +24,7 @@ pub returns-in-Err-Memory-clause-moves : goal.returns-in-Err-Memory-clause-moves
 returns-in-Err-Memory-clause-moves g c = λ name place told. absurd (cc (told))
 
 pub returns-in-Ok-clause-tidy : goal.returns-in-Ok-clause-tidy
-returns-in-Ok-clause-tidy g c = subst (λ (r : Result MoveStepped DiskErr). ActsTidily g.D.Disk.tells (parts g.D.Disk c.args.self.now) (MoveStep c.args.number) (stepped_reply r) (parts g.D.Disk c.step_move.new.self)) c.in-Ok.is c.step_move.ensures.tidy
+returns-in-Ok-clause-tidy g c = subst (λ (r : Result MoveStepped DiskErr). ActsTidily g.D.Disk.tells (parts g.D.Disk c.args.self.now) (stepped_reply r) (parts g.D.Disk c.step_move.new.self)) c.in-Ok.is c.step_move.ensures.tidy
 
 pub returns-in-Err-Fault-clause-tidy : goal.returns-in-Err-Fault-clause-tidy
 returns-in-Err-Fault-clause-tidy g c settled well = absurd well

@@ -27,13 +27,13 @@ pub returns-in-Err-Disk-Memory-clause-step : goal.returns-in-Err-Disk-Memory-cla
 returns-in-Err-Disk-Memory-clause-step g c = set_told g.D.Disk.tells Pause c.args.name.now (parts g.D.Disk c.args.self.now) (parts g.D.Disk c.set_state.new.self) c.set_state.result (Err (unset.Disk Memory)) (c.in-Err-Disk-Memory.is ∙ ap (λ (e : Unset). Err e) (c.in-Err-Disk-Memory.field-0-is ∙ ap (λ (d : DiskErr). unset.Disk d) c.in-Err-Disk-Memory.field-0-0-is)) c.set_state.ensures.step
 
 pub returns-in-Ok-clause-tidy : goal.returns-in-Ok-clause-tidy
-returns-in-Ok-clause-tidy g c = subst (λ (r : Result (Unit {0}) Unset). IsSettled (parts g.D.Disk c.args.self.now).at → IsWell (switch_reply Pause r) → Tidies g.D.Disk.tells (parts g.D.Disk c.args.self.now) (parts g.D.Disk c.set_state.new.self) (Ok tt)) (c.in-Ok.is) c.set_state.ensures.tidy
+returns-in-Ok-clause-tidy g c = subst (λ (r : Result (Unit {0}) Unset). IsSettled (parts g.D.Disk c.args.self.now).at → IsWell (switch_reply Pause r) → Tidies g.D.Disk.tells (parts g.D.Disk c.args.self.now) (parts g.D.Disk c.set_state.new.self)) (c.in-Ok.is) c.set_state.ensures.tidy
 
 pub returns-in-Err-NoSuchVariable-clause-tidy : goal.returns-in-Err-NoSuchVariable-clause-tidy
-returns-in-Err-NoSuchVariable-clause-tidy g c = subst (λ (r : Result (Unit {0}) Unset). IsSettled (parts g.D.Disk c.args.self.now).at → IsWell (switch_reply Pause r) → Tidies g.D.Disk.tells (parts g.D.Disk c.args.self.now) (parts g.D.Disk c.set_state.new.self) (Ok tt)) (c.in-Err-NoSuchVariable.is ∙ ap (λ (e : Unset). Err e) c.in-Err-NoSuchVariable.field-0-is) c.set_state.ensures.tidy
+returns-in-Err-NoSuchVariable-clause-tidy g c = subst (λ (r : Result (Unit {0}) Unset). IsSettled (parts g.D.Disk c.args.self.now).at → IsWell (switch_reply Pause r) → Tidies g.D.Disk.tells (parts g.D.Disk c.args.self.now) (parts g.D.Disk c.set_state.new.self)) (c.in-Err-NoSuchVariable.is ∙ ap (λ (e : Unset). Err e) c.in-Err-NoSuchVariable.field-0-is) c.set_state.ensures.tidy
 
 pub returns-in-Err-WrongState-clause-tidy : goal.returns-in-Err-WrongState-clause-tidy
-returns-in-Err-WrongState-clause-tidy g c = subst (λ (r : Result (Unit {0}) Unset). IsSettled (parts g.D.Disk c.args.self.now).at → IsWell (switch_reply Pause r) → Tidies g.D.Disk.tells (parts g.D.Disk c.args.self.now) (parts g.D.Disk c.set_state.new.self) (Ok tt)) (c.in-Err-WrongState.is ∙ ap (λ (e : Unset). Err e) c.in-Err-WrongState.field-0-is) c.set_state.ensures.tidy
+returns-in-Err-WrongState-clause-tidy g c = subst (λ (r : Result (Unit {0}) Unset). IsSettled (parts g.D.Disk c.args.self.now).at → IsWell (switch_reply Pause r) → Tidies g.D.Disk.tells (parts g.D.Disk c.args.self.now) (parts g.D.Disk c.set_state.new.self)) (c.in-Err-WrongState.is ∙ ap (λ (e : Unset). Err e) c.in-Err-WrongState.field-0-is) c.set_state.ensures.tidy
 
 pub returns-in-Err-Disk-Fault-clause-tidy : goal.returns-in-Err-Disk-Fault-clause-tidy
 returns-in-Err-Disk-Fault-clause-tidy g c settled well = absurd well

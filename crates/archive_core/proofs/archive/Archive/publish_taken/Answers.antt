@@ -41,7 +41,7 @@ returns-in-Ok-clause-tidy g c slots takes well =
     let taken = c.requires.taken in
     let settled = (rests_has g.D.Disk.tells (with_slots taken.0 p) taken.1 taken.3).settled in
     let tidy = subst (λ (r : Result (Unit {0}) DiskErr). OnOk r (IsSettled (seen g.D.Disk c.publish.new.self) × MakesNoStray g.D.Disk.tells (seen_all g.D.Disk c.args.self.now.store) (targets c.args.running.moving) (seen_all g.D.Disk c.publish.new.self) [])) c.in-Ok.is (c.publish.ensures.tidy settled) in
-    (Ok tt, refl, tidy_step g.D.Disk.tells (with_slots slots p) _ c.args.number c.args.running (Some (record c.args.running { moving = c.publish.new.moving })) (targets c.args.running.moving) [] (Ok tt) takes.ran (put_after c.args.number _ slots _ _ c.put_back.ensures takes.others) tidy.0 (λ fine. tidy.1) (λ is. absurd (cc (is))) (λ copying n t. t) (λ n t. absurd (no_names n t)))
+    tidy_step g.D.Disk.tells (with_slots slots p) _ c.args.number c.args.running (Some (record c.args.running { moving = c.publish.new.moving })) (targets c.args.running.moving) [] takes.ran (put_after c.args.number _ slots _ _ c.put_back.ensures takes.others) tidy.0 tidy.1 (λ copying n t. t) (λ n t. absurd (no_names n t))
 
 pub returns-in-Err-Fault-clause-tidy : goal.returns-in-Err-Fault-clause-tidy
 returns-in-Err-Fault-clause-tidy g c slots takes well = absurd well

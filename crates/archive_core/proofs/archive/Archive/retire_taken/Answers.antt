@@ -1,15 +1,16 @@
 use Rattle.disk_model.specs.declared.disk.DiskErr.{DiskErr}
-use Rattle.std.specs.Prelude.{IfOk}
+use Rattle.std.specs.Prelude.{IfOk, IsErr}
 use Rattle.std.proofs.Common.{refl, Result, subst, [], None, Ok, ap, sym, ◌∙◌}
 use Rattle.tier_store.specs.Seen.{seen}
 use Rattle.archive_core.specs.Parts.{parts}
-use Rattle.archive_core.proofs.Retirement.{begun_there, few, limbo_stands, none_done, on_again, on_failed, on_retired, on_spent, some_store, within}
+use Rattle.archive_core.proofs.Retirement.{begun_there, few, limbo_stands, none_done, on_again, on_failed, on_retired, on_spent, on_unremoved, some_store, within}
 use Rattle.tier_store.specs.Pinned.{seen_all}
 use Rattle.tier_store.specs.Seen.{IsSettled}
 use Rattle.archive_core.proofs.Settled.{rests_has}
 use Rattle.archive_core.specs.Stepping.{with_slots}
 use Rattle.tier_store.specs.Strays.{HasRemoved, LeavesNoStray}
 use Rattle.tier_store.specs.declared.retirement.RetireEnd.{RetireEnd}
+use Rattle.tier_store.specs.declared.retirement.RetireEnd.TheVariants as ends
 use Rattle.archive_core.proofs.Strays.{no_names, tidy_step}
 use Rattle.archive_core.proofs.archive.Archive.retire_taken.Goals as goal
 
@@ -33,12 +34,23 @@ retire-requires-clause-begun g c = let taken = c.requires.taken in begun_there g
 pub retire-requires-clause-stands : goal.retire-requires-clause-stands
 retire-requires-clause-stands g c = let taken = c.requires.taken in limbo_stands g.D.Disk.tells (parts g.D.Disk c.args.self.now) c.args.number c.args.running taken.0 taken.1 taken.2 taken.3 c.requires.published
 
-pub returns-in-Ok-Retired-clause-on : goal.returns-in-Ok-Retired-clause-on
-returns-in-Ok-Retired-clause-on g c = λ slots m takes r.
+pub returns-in-Ok-Retired-Ok-clause-on : goal.returns-in-Ok-Retired-Ok-clause-on
+returns-in-Ok-Retired-Ok-clause-on g c = λ slots m takes r.
     let call = c.retire.ensures in
     on_retired g.D.Disk.tells (parts g.D.Disk c.args.self.now) c.args.number c.args.running slots m takes r c.requires.published
     (g.met.D.Disk.seen c.args.self.now.store.disk) c.from.result c.from.ensures c.deref.result.now (c.deref.ensures.value ∙ c.in-Ok.ensures) (seen g.D.Disk c.retire.new.self) c.retire.new.self.limbo.items c.retire.new.self.pinned c.retire.result
-    c.in-Ok-Retired.field-0-0 c.len.result (c.in-Ok-Retired.is ∙ ap (λ x. Ok x) c.in-Ok-Retired.field-0-is) (c.len.ensures ∙ sym c.deref.ensures.len) (record { acts = call.acts; again = λ len copied is. ap (λ l. l.items) (call.again len copied is); failed = call.failed; doubted = call.doubted; handed = call.handed; shown = call.shown; whole = call.whole; leaves = call.leaves; stands = call.stands; pins = call.pins })
+    c.in-Ok-Retired-Ok.field-0-0 c.len.result (c.in-Ok-Retired-Ok.is ∙ ap (λ x. Ok x) c.in-Ok-Retired-Ok.field-0-is) (c.len.ensures ∙ sym c.deref.ensures.len) (record { acts = call.acts; again = λ len copied is. ap (λ l. l.items) (call.again len copied is); failed = call.failed; doubted = call.doubted; handed = call.handed; shown = call.shown; whole = call.whole; leaves = call.leaves; stands = call.stands; pins = call.pins })
+
+pub returns-in-Ok-Retired-Err-clause-on : goal.returns-in-Ok-Retired-Err-clause-on
+returns-in-Ok-Retired-Err-clause-on g c = λ slots m takes r.
+    let call = c.retire.ensures in
+    on_unremoved g.D.Disk.tells (parts g.D.Disk c.args.self.now) c.args.number c.args.running slots m takes r c.requires.published
+    (g.met.D.Disk.seen c.args.self.now.store.disk) c.from.result c.from.ensures c.deref.result.now (c.deref.ensures.value ∙ c.in-Ok.ensures) (seen g.D.Disk c.retire.new.self) c.retire.new.self.limbo.items c.retire.new.self.pinned c.retire.result
+    c.in-Ok-Retired-Err.field-0-0-0 (c.in-Ok-Retired-Err.is ∙ ap (λ x. Ok x) (c.in-Ok-Retired-Err.field-0-is ∙ ap (λ x. ends.Retired x) c.in-Ok-Retired-Err.field-0-0-is))
+    (call.cause c.in-Ok-Retired-Err.field-0-0 (c.in-Ok-Retired-Err.is ∙ ap (λ x. Ok x) c.in-Ok-Retired-Err.field-0-is) (subst (λ (x : Result (Unit {0}) DiskErr). IsErr x) (sym c.in-Ok-Retired-Err.field-0-0-is) refl)) (record { acts = call.acts; again = λ len copied is. ap (λ l. l.items) (call.again len copied is); failed = call.failed; doubted = call.doubted; handed = call.handed; shown = call.shown; whole = call.whole; leaves = call.leaves; stands = call.stands; pins = call.pins })
+
+pub returns-in-Ok-Retired-Err-clause-tidy : goal.returns-in-Ok-Retired-Err-clause-tidy
+returns-in-Ok-Retired-Err-clause-tidy g c slots takes well = absurd well
 
 pub returns-in-Ok-Again-clause-on : goal.returns-in-Ok-Again-clause-on
 returns-in-Ok-Again-clause-on g c = λ slots m takes r.
@@ -61,13 +73,13 @@ returns-clause-on g c = λ slots m takes r.
     (g.met.D.Disk.seen c.args.self.now.store.disk) c.from.result c.from.ensures c.deref.result.now (c.deref.ensures.value ∙ c.in-Ok.ensures) (seen g.D.Disk c.retire.new.self) c.retire.new.self.limbo.items c.retire.new.self.pinned c.retire.result
     c.put_back-in-Err-Memory.new.self.slots.items c.put_back-in-Err-Memory.ensures c.in-Err-Memory.field-0 c.in-Err-Memory.is c.in-Err-Memory.field-0-is (record { acts = call.acts; again = λ len copied is. ap (λ l. l.items) (call.again len copied is); failed = call.failed; doubted = call.doubted; handed = call.handed; shown = call.shown; whole = call.whole; leaves = call.leaves; stands = call.stands; pins = call.pins })
 
-pub returns-in-Ok-Retired-clause-tidy : goal.returns-in-Ok-Retired-clause-tidy
-returns-in-Ok-Retired-clause-tidy g c slots takes well =
+pub returns-in-Ok-Retired-Ok-clause-tidy : goal.returns-in-Ok-Retired-Ok-clause-tidy
+returns-in-Ok-Retired-Ok-clause-tidy g c slots takes well =
     let p = parts g.D.Disk c.args.self.now in
     let taken = c.requires.taken in
     let settled = (rests_has g.D.Disk.tells (with_slots taken.0 p) taken.1 taken.3).settled in
-    let tidy = subst (λ (r : Result RetireEnd DiskErr). IfOk r (λ end. IsSettled (seen g.D.Disk c.retire.new.self) × (HasRemoved end → LeavesNoStray g.D.Disk.tells (seen_all g.D.Disk c.args.self.now.store) (seen_all g.D.Disk c.retire.new.self)))) (c.in-Ok-Retired.is ∙ ap (λ x. Ok x) c.in-Ok-Retired.field-0-is) (c.retire.ensures.tidy settled) in
-    (c.in-Ok-Retired.field-0-0, tt, tidy_step g.D.Disk.tells (with_slots slots p) _ c.args.number c.args.running None [] [] (c.in-Ok-Retired.field-0-0) takes.ran takes.others tidy.0 (λ fine. tidy.1 fine) (λ failed. c.retire.ensures.cause c.in-Ok-Retired.field-0-0 (c.in-Ok-Retired.is ∙ ap (λ x. Ok x) c.in-Ok-Retired.field-0-is) failed) (λ copying n t. let published = c.requires.published in absurd (cc (copying, published))) (λ n t. absurd (no_names n t)))
+    let tidy = subst (λ (r : Result RetireEnd DiskErr). IfOk r (λ end. IsSettled (seen g.D.Disk c.retire.new.self) × (HasRemoved end → LeavesNoStray g.D.Disk.tells (seen_all g.D.Disk c.args.self.now.store) (seen_all g.D.Disk c.retire.new.self)))) (c.in-Ok-Retired-Ok.is ∙ ap (λ x. Ok x) c.in-Ok-Retired-Ok.field-0-is) (c.retire.ensures.tidy settled) in
+    tidy_step g.D.Disk.tells (with_slots slots p) _ c.args.number c.args.running None [] [] takes.ran takes.others tidy.0 (tidy.1 c.in-Ok-Retired-Ok.field-0-0-is) (λ copying n t. let published = c.requires.published in absurd (cc (copying, published))) (λ n t. absurd (no_names n t))
 
 pub returns-in-Ok-Again-clause-tidy : goal.returns-in-Ok-Again-clause-tidy
 returns-in-Ok-Again-clause-tidy g c slots takes well =
@@ -75,7 +87,7 @@ returns-in-Ok-Again-clause-tidy g c slots takes well =
     let taken = c.requires.taken in
     let settled = (rests_has g.D.Disk.tells (with_slots taken.0 p) taken.1 taken.3).settled in
     let tidy = subst (λ (r : Result RetireEnd DiskErr). IfOk r (λ end. IsSettled (seen g.D.Disk c.retire.new.self) × (HasRemoved end → LeavesNoStray g.D.Disk.tells (seen_all g.D.Disk c.args.self.now.store) (seen_all g.D.Disk c.retire.new.self)))) (c.in-Ok-Again.is ∙ ap (λ x. Ok x) c.in-Ok-Again.field-0-is) (c.retire.ensures.tidy settled) in
-    (Ok tt, refl, tidy_step g.D.Disk.tells (with_slots slots p) _ c.args.number c.args.running None [] [] (Ok tt) takes.ran takes.others tidy.0 (λ fine. tidy.1 tt) (λ failed. absurd (cc (failed))) (λ copying n t. let published = c.requires.published in absurd (cc (copying, published))) (λ n t. absurd (no_names n t)))
+    tidy_step g.D.Disk.tells (with_slots slots p) _ c.args.number c.args.running None [] [] takes.ran takes.others tidy.0 (tidy.1 tt) (λ copying n t. let published = c.requires.published in absurd (cc (copying, published))) (λ n t. absurd (no_names n t))
 
 pub returns-in_default-clause-tidy : goal.returns-in_default-clause-tidy
 returns-in_default-clause-tidy g c slots takes well = absurd well

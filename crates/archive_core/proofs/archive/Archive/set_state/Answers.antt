@@ -120,4 +120,4 @@ returns-clause-tidy g c settled well =
     let q = parts g.D.Disk c.settle.new.self in
     let same = ap (seen_all g.D.Disk) (c.settle.ensures.quiet settled) in
     let slots = ap (λ t. t.slots.items) c.settle.ensures.moves in
-    tidy_then g.D.Disk.tells p q (parts g.D.Disk c.switch.new.self) (Ok tt) same slots (ap (λ (all : SeenAll). all.stores.faults) same) c.in_ok-switch.ensures.tidy
+    tidy_then g.D.Disk.tells p q (parts g.D.Disk c.switch.new.self) same slots c.in_ok-switch.ensures.tidy

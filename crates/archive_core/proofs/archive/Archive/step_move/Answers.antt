@@ -75,7 +75,7 @@ returns-clause-moves g c =
     (λ m r. c.go_on.ensures.on c.settle.new.self.moves.slots.items m takes r) (ap (λ t. t.slots.items) c.settle.ensures.moves) (λ settled. ap (seen g.D.Disk) (c.settle.ensures.quiet settled)) was.0 was.1
 
 pub returns-then-not-runs-clause-tidy : goal.returns-then-not-runs-clause-tidy
-returns-then-not-runs-clause-tidy g c settled well = let p = parts g.D.Disk c.args.self.now in (Ok tt, refl, tidy_none g.D.Disk.tells p p refl refl settled)
+returns-then-not-runs-clause-tidy g c settled well = let p = parts g.D.Disk c.args.self.now in tidy_none g.D.Disk.tells p p refl refl settled
 
 pub returns-in-Err-Fault-clause-tidy : goal.returns-in-Err-Fault-clause-tidy
 returns-in-Err-Fault-clause-tidy g c settled well = absurd well
@@ -90,7 +90,7 @@ returns-in_default-clause-tidy g c settled well =
     let same = ap (seen_all g.D.Disk) (c.settle.ensures.quiet settled) in
     let slots = ap (λ t. t.slots.items) c.settle.ensures.moves in
     let none = sym c.take-2.ensures.taken ∙ c.in_default.is in
-    (Ok tt, refl, tidy_slots g.D.Disk.tells p _ same (λ k. none_taken c.args.number q.slots c.take-2.new.self.slots.items none c.take-2.ensures.others k ∙ ap (λ l. at l k) slots) settled)
+    tidy_slots g.D.Disk.tells p _ same (λ k. none_taken c.args.number q.slots c.take-2.new.self.slots.items none c.take-2.ensures.others k ∙ ap (λ l. at l k) slots) settled
 
 pub returns-clause-tidy : goal.returns-clause-tidy
 returns-clause-tidy g c settled well =
@@ -99,5 +99,4 @@ returns-clause-tidy g c settled well =
     let same = ap (seen_all g.D.Disk) (c.settle.ensures.quiet settled) in
     let slots = ap (λ t. t.slots.items) c.settle.ensures.moves in
     let takes : TakesMove c.args.number c.in-Some.running q.slots c.take-2.new.self.slots.items = record { ran = sym c.take-2.ensures.taken ∙ c.in-Some.is; others = c.take-2.ensures.others } in
-    let done = c.go_on.ensures.tidy q.slots takes well in
-    (done.0, done.1, tidy_then g.D.Disk.tells p q (parts g.D.Disk c.go_on.new.self) done.0 same slots (ap (λ (all : SeenAll). all.stores.faults) same) done.2)
+    tidy_then g.D.Disk.tells p q (parts g.D.Disk c.go_on.new.self) same slots (c.go_on.ensures.tidy q.slots takes well)

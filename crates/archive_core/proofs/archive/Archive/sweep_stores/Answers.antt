@@ -16,7 +16,8 @@ use Rattle.archive_core.proofs.Settled.{begun}
 use Rattle.archive_core.proofs.SweepAct.{sweep_cut, sweep_ends, sweep_unnamed, crash_sweep, crash_sweep_cut}
 use Rattle.archive_core.proofs.SweptMoves.{names_later}
 use Rattle.tier_store.specs.Pinned.{SeenAll, seen_all}
-use Rattle.archive_core.proofs.Strays.{swept_by}
+use Rattle.archive_core.specs.Strays.{IsWell}
+use Rattle.archive_core.proofs.Strays.{disk_not_well, swept_by}
 use Rattle.archive_core.proofs.archive.Archive.sweep_stores.Goals as goal
 
 pub returns-in_err-settle-clause-step : goal.returns-in_err-settle-clause-step
@@ -68,7 +69,7 @@ returns-clause-step g c =
     let later = names_later g.D.Disk.tells q (record then.0 { faults = q.at.faults }) then.2 c.deref.result.now written in
     let new = record q { at = seen g.D.Disk c.sweep.new.self; limbo = c.sweep.new.self.limbo.items; pinned = c.sweep.new.self.pinned } in
     sweep_ends g.D.Disk.tells (parts g.D.Disk c.args.self.now) q c.in_ok-settle.ensures.settled c.settle.ensures.settles.faults new c.deref.result.now refl written c.sweep.result
-    (record { acts = call.acts; swept = call.swept; failed = on_err c.sweep.result _ _ (λ stay. (ap (λ l. l.items) stay.0, λ name bytes shown. subst (λ (l : List Retired). Shows g.D.Disk.tells (beside new.at l) name bytes) (ap (λ l. l.items) stay.0) (stay.1 name bytes shown), subst (λ (l : List Retired). LeavesLater g.D.Disk.tells (beside q.at q.limbo) (beside new.at l)) (ap (λ l. l.items) stay.0) stay.2)) call.failed; left = call.copied later; leaves = call.leaves; whole = call.whole; stands = call.stands; pins = call.pins; nothing = λ settled. (let same = call.nothing settled in (same.0, ap (λ l. l.items) same.1)) })
+    (record { acts = call.acts; swept = call.swept; failed = on_err c.sweep.result _ _ (λ stay. (ap (λ l. l.items) stay.0, λ name bytes shown. subst (λ (l : List Retired). Shows g.D.Disk.tells (beside new.at l) name bytes) (ap (λ l. l.items) stay.0) (stay.1 name bytes shown), subst (λ (l : List Retired). LeavesLater g.D.Disk.tells (beside q.at q.limbo) (beside new.at l)) (ap (λ l. l.items) stay.0) stay.2)) call.failed; left = call.copied later; leaves = call.leaves; whole = call.whole; stands = call.stands; pins = call.pins; nothing = λ settled. (let same = call.nothing settled in (same.0, ap (λ l. l.items) same.1)); cause = call.cause })
 
 pub returns-clause-crash : goal.returns-clause-crash
 returns-clause-crash g c =
@@ -80,14 +81,20 @@ returns-clause-crash g c =
     let later = names_later g.D.Disk.tells q (record then.0 { faults = q.at.faults }) then.2 c.deref.result.now written in
     let new = record q { at = seen g.D.Disk c.sweep.new.self; limbo = c.sweep.new.self.limbo.items; pinned = c.sweep.new.self.pinned } in
     crash_sweep g.D.Disk.tells (parts g.D.Disk c.args.self.now) q c.in_ok-settle.ensures.settled c.settle.ensures.settles.faults new c.deref.result.now refl written c.sweep.result
-    (record { acts = call.acts; swept = call.swept; failed = on_err c.sweep.result _ _ (λ stay. (ap (λ l. l.items) stay.0, λ name bytes shown. subst (λ (l : List Retired). Shows g.D.Disk.tells (beside new.at l) name bytes) (ap (λ l. l.items) stay.0) (stay.1 name bytes shown), subst (λ (l : List Retired). LeavesLater g.D.Disk.tells (beside q.at q.limbo) (beside new.at l)) (ap (λ l. l.items) stay.0) stay.2)) call.failed; left = call.copied later; leaves = call.leaves; whole = call.whole; stands = call.stands; pins = call.pins; nothing = λ settled. (let same = call.nothing settled in (same.0, ap (λ l. l.items) same.1)) })
+    (record { acts = call.acts; swept = call.swept; failed = on_err c.sweep.result _ _ (λ stay. (ap (λ l. l.items) stay.0, λ name bytes shown. subst (λ (l : List Retired). Shows g.D.Disk.tells (beside new.at l) name bytes) (ap (λ l. l.items) stay.0) (stay.1 name bytes shown), subst (λ (l : List Retired). LeavesLater g.D.Disk.tells (beside q.at q.limbo) (beside new.at l)) (ap (λ l. l.items) stay.0) stay.2)) call.failed; left = call.copied later; leaves = call.leaves; whole = call.whole; stands = call.stands; pins = call.pins; nothing = λ settled. (let same = call.nothing settled in (same.0, ap (λ l. l.items) same.1)); cause = call.cause })
     c.settle.ensures.settles.any_moment c.settle.ensures.granularity
 
+pub returns-in_err-settle-clause-tidy : goal.returns-in_err-settle-clause-tidy
+returns-in_err-settle-clause-tidy g c settled well = let e = err_from_is_err_and c.from_residual.result c.from_residual.ensures.1 in absurd (disk_not_well _ (subst (λ (r : Result Swept DiskErr). IsWell (sweep_reply r)) e.1 well))
+
+pub returns-in_err-written-clause-tidy : goal.returns-in_err-written-clause-tidy
+returns-in_err-written-clause-tidy g c settled well = let e = err_from_is_err_and c.from_residual-in_err-written.result c.from_residual-in_err-written.ensures.1 in absurd (disk_not_well _ (subst (λ (r : Result Swept DiskErr). IsWell (sweep_reply r)) e.1 well))
+
 pub returns-clause-tidy : goal.returns-clause-tidy
-returns-clause-tidy g c settled =
+returns-clause-tidy g c settled well =
     let p = parts g.D.Disk c.args.self.now in
     let q = parts g.D.Disk c.settle.new.self in
     let same = ap (seen_all g.D.Disk) (c.settle.ensures.quiet settled) in
     let slots = ap (λ t. t.slots.items) c.settle.ensures.moves in
     let rests = subst (λ (all : SeenAll). IsSettled all.stores) (sym same) settled in
-    swept_by g.D.Disk.tells p q _ c.sweep.result same slots (ap (λ (all : SeenAll). all.stores.faults) same) refl (c.sweep.ensures.tidy rests) c.sweep.ensures.cause
+    swept_by g.D.Disk.tells p q _ c.sweep.result same slots refl (c.sweep.ensures.tidy rests) well
