@@ -89,6 +89,7 @@ impl<D: Disk> Archive<D> {
         requires pins { store.pinned ≡ map.empty }
         ensures opened { IfOk result (λ archive. OpensAs D.tells (seen D.Disk store) store.config doors (parts D.Disk archive)) }
         ensures store { IfOk result (λ archive. archive.store ≡ store) }
+        ensures intake { IfOk result (λ archive. archive.intake ≡ []) }
         ensures back { IfErr result (λ given. given ≡ store) }
     {
         let config = store.config();

@@ -91,7 +91,7 @@ module _ (tells : Bool) (p : Parts) (start : Machine) (stands : Stands tells p s
 module _ {R : Type 0} (tells : Bool) (p : Parts) (start : Machine) (stands : Stands tells p start) (settled : start.doubt ≡ None) (entries : List Entry) (end : Machine) (done : List Done) (all : own 0 entries ≡ entries) (just : mine 0 entries ≡ done) (run : Runs start entries end)
     (name : List ℕ) (query : Query) (a b : Option (List ℕ)) where
   -- a row that was pinned has the name
-  pub pinned_has : (result : Retrieved R) (w : WritesOfPin name query done a b result) → (row : IsPinnedRow start name w.told_name w.about) × (row.row.name ≡ name)
+  pub pinned_has : (result : Retrieved R) (w : WritesOfPin name query done a b result) → (row : IsPinnedRow start name w.told_name w.about w.tail) × (row.row.name ≡ name)
   pinned_has result w =
       let one = first_step entries start end (record { act = Pin name query; answer = answer.Pinned w.pin w.told_name w.about w.pieces w.tail }) w.rest all (just ∙ w.is) run in
       let row = pin_named 0 name query settled one.1 w.pin w.told_name w.about w.pieces w.tail refl in

@@ -35,11 +35,12 @@ use Rattle.archiver_appliance.specs.Judging.{FindsDamage, IsDamagedFile, IsOfOpe
 use Rattle.archiver_appliance.specs.Moving.{MovesFrom}
 use Rattle.archiver_appliance.specs.Outside.{Outside, outside}
 use Rattle.archiver_appliance.specs.Reporting.{ChecksAll, Tells, TellsListed}
-use Rattle.archiver_appliance.specs.Retrieving.{Gets, GetsSome, HasNone, RetrievesFrom}
+use Rattle.archiver_appliance.specs.Retrieving.{Gets, GetsRead, GetsSome, HasNone, RetrievesFrom}
 use Rattle.archiver_appliance.specs.Run.{Does, EndsAs, IsRefused, IsUnasked, Makes, NoDamage, OnlyOpens, OnlyReads}
 use Rattle.command_words.specs.Status.{number_of}
 use Rattle.archiver_appliance.proofs.Acting.{acts_behind, same_end}
 use Rattle.archiver_appliance.proofs.Checking.{checks_in, first_in, with_lists}
+use Rattle.archiver_appliance.proofs.ReadFiles.{read_in}
 use Rattle.archiver_appliance.proofs.Judgements.{OneVerdict, check_judges, etl_judges, exactly, get_judges, ingest_judges, status_judges, whole_with}
 use Rattle.archiver_appliance.proofs.Opening.{first_stands, opened_listed, reads_listed, same_said, then_reads}
 
@@ -258,10 +259,10 @@ module _ {S K C D R : Type 0} (src : OfSource S) (snk : OfSink K) (clk : OfClock
   module _ (name : Bor (List ℕ)) (query : Query) (begun : IsTrue disk.tells → OnlyReads (stores_of config) (disk.files first) (disk.files store.disk) (disk.past first) (disk.past store.disk)) (files : IsTrue disk.tells → disk.files given ≡ disk.files store.disk) (any_moment : IsTrue disk.tells → Passes (λ a b. b ≡ a) (disk.past store.disk) (disk.past given)) where
     pub get_does : s' ≡ s → c' ≡ c → store.config ≡ config
         → (IsNotMade store.disk given status × (k' ≡ k)) ⊎ ((held : Stores) → Has disk.tells (seen disk store) held → RetrievesFrom (λ image. ⊥) disk.tells store.config held name.now query (snk.written k) (snk.written k') (disk.past store.disk) (disk.past given) status)
-        → GetsSome store.catalogue.rows name.now query (snk.written k) (snk.written k') status → (HasNone store.catalogue.rows name.now → IsOneOf (number_of status) 4 7 9) → (status ≡ NoSuchVariable → HasNone store.catalogue.rows name.now)
+        → GetsSome store.catalogue.rows name.now query (snk.written k) (snk.written k') status → (IsTrue disk.tells → GetsRead (disk.files store.disk) store.catalogue.rows (lists_of store.manifests.items) name.now query (snk.written k) (snk.written k') status) → (HasNone store.catalogue.rows name.now → IsOneOf (number_of status) 4 7 9) → (status ≡ NoSuchVariable → HasNone store.catalogue.rows name.now)
         → (IsTrue disk.tells → (file : Name) (at : ℕ) → status ≡ Damaged file at → IsDamagedFile (disk.files store.disk) store.catalogue.rows (lists_of store.manifests.items) name.now file at)
         → IsOfOpened status → ((input : Option (List ℕ)) → EndsAs (command.Get name query) input status) → Does config disk.tells (OverStore (command.Get name query)) (outside src snk clk disk s k c first) (outside src snk clk disk s' k' c' given) status
-    get_does quiet still settings retrieves some none vain damaged opened ends = (
+    get_does quiet still settings retrieves some read none vain damaged opened ends = (
       ends (src.left s),
       λ told.
           let judges = get_judges (stores_of config) (disk.files first) store.catalogue.rows (lists_of store.manifests.items) (whole told) (said told) name query (src.left s) status (ends (src.left s)) none vain
@@ -269,10 +270,14 @@ module _ {S K C D R : Type 0} (src : OfSource S) (snk : OfSink K) (clk : OfClock
             record {
               judges = judges;
               makes = λ before after opens stand.
-                  let read = stands told before after opens in
-                  let standing = first_stands (stores_of config) (disk.past first) before after read.held opens stand read.either in
-                  record { first = read.held; either = read.either; read = read.read; makes = by_made told before after opens read.held read.has retrieves; undamaged = by_writes told read.held read.has standing retrieves };
-              tells = of_image told (λ rs x y z. GetsSome rs name.now query (snk.written k) (snk.written k') status) some;
+                  let was = stands told before after opens in
+                  let standing = first_stands (stores_of config) (disk.past first) before after was.held opens stand was.either in
+                  record { first = was.held; either = was.either; read = was.read; makes = by_made told before after opens was.held was.has retrieves; undamaged = by_writes told was.held was.has standing retrieves };
+              tells = λ w.
+                  let same = same_said (stores_of config) (disk.files first) store.catalogue.rows w.rows (lists_of store.manifests.items) w.lists (said told) w.said in (
+                    of_image told (λ rs x y z. GetsSome rs name.now query (snk.written k) (snk.written k') status) some w,
+                    read_in (disk.files store.disk) (disk.files first) store.catalogue.rows w.rows (lists_of store.manifests.items) w.lists name.now query (snk.written k) (snk.written k') same.0 (λ i low. same.1 i low) (begun told).elsewhere status (read told),
+                  );
               reads = λ reading. only begun files any_moment told;
               listed = λ w keeps i low. reads_listed (stores_of config) (disk.files first) (disk.files given) (disk.past first) (disk.past given) i w.rows (w.lists i) (only begun files any_moment told);
             },

@@ -29,6 +29,12 @@ use Rattle.archiver_appliance.proofs.Retrievals.{is_pinned, not_pinned, writes_r
 abbrev pub AloneOn : {D R : Type 0} → Ghosts D R → Archive D R → List Entry → Archive D R → Type 0
 AloneOn {D} {R} disk old entries new = Alone (λ a m. Stands disk.tells (parts disk a) m) (λ a e b. Leaves disk.tells (parts disk a) e (parts disk b)) 0 old entries new
 
+-- the acts that an actor made are those that were made on the archive that it lends
+pub alone_made : {A D R : Type 0} (number : A → ℕ) (between : A → List Entry → A → Type 0) (disk : Ghosts D R) (old new : A) (first last : Archive D R) → number old ≡ 0 → ((entries : List Entry) → between old entries new → AloneOn disk first entries last) → (done : List Done) → Made number between old done new → ActsAlone disk first done last
+alone_made number between disk old new first last zero alone done m =
+    let on = alone m.entries m.leads in
+    record { entries = m.entries; just_these = subst (λ (n : ℕ). mine n m.entries ≡ done) zero m.just_these; no_others = on.all_mine; chain = on.chain }
+
 -- a run of one act
 step_of : (m n : Machine) (e : Entry) → Runs m (e ∷ []) n → Step e.who e.act m e.answer n
 step_of m n e run = subst (λ (x : Machine). Step e.who e.act m e.answer x) (sym run.3) run.2
@@ -41,9 +47,7 @@ module _ {A O D R : Type 0} (number : A → ℕ) (between : A → List Entry →
     (front : (subject : Subject) (xs : List Sample) → broke out subject xs out' → (text : List ℕ) × IsRaw subject xs text × AppendsFront a b text)
     (name : List ℕ) (query : Query) (result : Retrieved R) where
   made_alone : (done : List Done) → Made number between old done new → ActsAlone disk first done last
-  made_alone done m =
-      let on = alone m.entries m.leads in
-      record { entries = m.entries; just_these = subst (λ (n : ℕ). mine n m.entries ≡ done) zero m.just_these; no_others = on.all_mine; chain = on.chain }
+  made_alone done m = alone_made number between disk old new first last zero alone done m
 
   accepted_of : (m : Machine) → WritesAnswer number between finished broke old m name query out result new out' → WritesAccepted m name query a b result
   accepted_of m w =

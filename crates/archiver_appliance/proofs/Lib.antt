@@ -17,6 +17,7 @@ pub mod Opening
 pub mod Outcomes
 pub mod PinSteps
 pub mod Posts
+pub mod ReadFiles
 pub mod Refusals
 pub mod Retrievals
 pub mod Rooms

@@ -93,17 +93,18 @@ pin_rows who name query none (wants_memory same more) = rows_of same
 pin_rows who name query none (wants_memory_settled p settles same more) = rows_of same ∙ rows_of (settles_same settles none)
 
 -- the row that is pinned
-pub record IsPinnedRow (m : Machine) (name told_name : List ℕ) (about : About) : Type 0 where
+pub record IsPinnedRow (m : Machine) (name told_name : List ℕ) (about : About) (tail : List Sample) : Type 0 where
   pub i : ℕ
   pub row : RowState
   pub found : find_row m name ≡ Some i
   pub here : slice_get m.rows i ≡ Some row
   pub name_is : told_name ≡ row.name
   pub about_is : about ≡ row.about
+  pub tail_is : tail ≡ row.tail
 
-pins_row : {who : ℕ} {name : List ℕ} {query : Query} (mid new : Machine) (reply : Reply) → Pins who name query mid reply new → (pin : ℕ) (told_name : List ℕ) (about : About) (pieces : ℕ) (tail : List Sample) → reply ≡ answer.Pinned pin told_name about pieces tail → IsPinnedRow mid name told_name about
+pins_row : {who : ℕ} {name : List ℕ} {query : Query} (mid new : Machine) (reply : Reply) → Pins who name query mid reply new → (pin : ℕ) (told_name : List ℕ) (about : About) (pieces : ℕ) (tail : List Sample) → reply ≡ answer.Pinned pin told_name about pieces tail → IsPinnedRow mid name told_name about tail
 pins_row mid new reply (pins i row pin pieces found here free least listed order gives few same) n told_name about count tail is =
-    record { i = i; row = row; found = found; here = here; name_is = let one = is in sym (cc (one)); about_is = let one = is in sym (cc (one)) }
+    record { i = i; row = row; found = found; here = here; name_is = let one = is in sym (cc (one)); about_is = let one = is in sym (cc (one)); tail_is = let one = is in sym (cc (one)) }
 
 refusal_not : (name : List ℕ) (m : Machine) (pin : ℕ) (told_name : List ℕ) (about : About) (pieces : ℕ) (tail : List Sample) → details_refused name m ≡ Some (answer.Pinned pin told_name about pieces tail) → ⊥
 refusal_not name m pin told_name about pieces tail is = by_found (find_row m name) refl
@@ -112,10 +113,10 @@ refusal_not name m pin told_name about pieces tail is = by_found (find_row m nam
     by_found (Some i) here = let one = rw here at is in cc (one)
     by_found None here = let one = rw here at is in cc (one)
 
-pub pin_named : (who : ℕ) (name : List ℕ) (query : Query) {old new : Machine} {reply : Reply} → old.doubt ≡ None → PinStep who name query old reply new → (pin : ℕ) (told_name : List ℕ) (about : About) (pieces : ℕ) (tail : List Sample) → reply ≡ answer.Pinned pin told_name about pieces tail → IsPinnedRow old name told_name about
+pub pin_named : (who : ℕ) (name : List ℕ) (query : Query) {old new : Machine} {reply : Reply} → old.doubt ≡ None → PinStep who name query old reply new → (pin : ℕ) (told_name : List ℕ) (about : About) (pieces : ℕ) (tail : List Sample) → reply ≡ answer.Pinned pin told_name about pieces tail → IsPinnedRow old name told_name about tail
 pin_named who name query {old = old} none (refused_at_once reply p) pin told_name about pieces tail is = absurd (refusal_not name old pin told_name about pieces tail (p ∙ ap (λ (r : Reply). Some r) is))
 pin_named who name query none (refused {mid = mid} reply p settles q same more) pin told_name about pieces tail is = absurd (refusal_not name mid pin told_name about pieces tail (q ∙ ap (λ (r : Reply). Some r) is))
-pin_named who name query {new = new} none (runs {mid = mid} reply p settles q ran more) pin told_name about pieces tail is = subst (λ (m : Machine). IsPinnedRow m name told_name about) (settles_same settles none) (pins_row mid new reply ran pin told_name about pieces tail is)
+pin_named who name query {new = new} none (runs {mid = mid} reply p settles q ran more) pin told_name about pieces tail is = subst (λ (m : Machine). IsPinnedRow m name told_name about tail) (settles_same settles none) (pins_row mid new reply ran pin told_name about pieces tail is)
 pin_named who name query none (faults_first p same rose) pin told_name about pieces tail is = absurd (cc (is))
 pin_named who name query none (faults_between p settles same rose) pin told_name about pieces tail is = absurd (cc (is))
 pin_named who name query none (faults_within doubted p settles q r same rose) pin told_name about pieces tail is = absurd (cc (is))

@@ -1,12 +1,15 @@
 -- What `get` makes of what a disk holds, and what it writes.
-use Rattle.std.specs.Prelude.{◌≡◌, ◌≢◌, ◌⊎◌, ℕ, List, [], ◌∷◌, ◌++◌, length, map, Bool, true, IsTrue, Option, None, Some, slice_get}
+use Rattle.std.specs.Prelude.{◌≡◌, ◌≢◌, ◌⊎◌, ◌<◌, ◌+◌, ℕ, List, [], ◌∷◌, ◌++◌, length, map, take, Contains, Bool, true, IsTrue, Option, None, Some, slice_get}
 use Rattle.std.specs.Io.KnownBytes.{Appends}
 use Rattle.edge_io.specs.Stream.{AppendsFront}
-use Rattle.disk_model.specs.Files.{Name, Files}
+use Rattle.disk_model.specs.Files.{Name, Files, HasFile}
 use Rattle.disk_model.specs.Past.{Past}
 use Rattle.disk_model.specs.declared.disk.Disk.{Ghosts}
 use Rattle.etl_rules.specs.Config.{ConfigState}
 use Rattle.event_types.specs.declared.about.About.{About}
+use Rattle.durable_write.specs.Held.{file_of}
+use Rattle.store_manifest.specs.declared.entry.Entry.{Entry}
+use Rattle.store_reopen.specs.Verdict.{Listings}
 use Rattle.pv_catalog.specs.declared.row.Row.{Row}
 use Rattle.pv_catalog.specs.Rows.{HasName}
 use Rattle.series_model.specs.declared.sample.Query.{Query}
@@ -27,7 +30,9 @@ use Rattle.act_model.specs.Step.{Step}
 use Rattle.archive_core.specs.Parts.{parts}
 use Rattle.archive_core.specs.Stands.{Stands}
 use Rattle.archive_core.specs.declared.archive.Archive.{Archive}
+use Rattle.stream_merge.specs.Pieces.{NamedBytes}
 use Rattle.stream_merge.specs.Reading.{IsDamaged}
+use Rattle.stream_merge.specs.Reads.{AnswersRead}
 use Rattle.stream_merge.specs.Pieces.{Faulted, OutOfMemory as NoMemory}
 use Rattle.retrieval_query.specs.Openings.{PieceTold, openings, failing, named}
 use Rattle.retrieval_query.specs.Raw.{IsRaw}
@@ -179,6 +184,56 @@ pub record Retrieves {D R : Type 0} (disk : Ghosts D R) (tells : Bool) (faults :
   pub ends : EndsBy tells faults rose name query result done
   pub some : (IsPinless result × (b ≡ a)) ⊎ WritesOfPin name query done a b result
   pub whole : IsTrue tells → (m : Machine) → Stands disk.tells (parts disk old) m → m.told ≡ true → ReadsHeaders m.rule → (IsPinless result × (b ≡ a)) ⊎ WritesAccepted m name query a b result
+
+-- The pieces of a pin were opened one by one and then it was given up, by just these acts. What was written is the answer over what was read
+-- of them and of the tail that the pin told.
+pub record ReadsPin {D R : Type 0} (disk : Ghosts D R) (old : Archive D R) (name : List ℕ) (query : Query) (a b : Option (List ℕ)) (new : Archive D R) : Type 0 where
+  pub pin : ℕ
+  pub told_name : List ℕ
+  pub about : About
+  pub pieces : ℕ
+  pub tail : List Sample
+  pub told : List PieceTold
+  pub made : ActsAlone disk old (record { act = Pin name query; answer = answer.Pinned pin told_name about pieces tail } ∷ (openings pin 0 told ++ given_up pin)) new
+  pub samples : List Sample
+  pub answers : AnswersRead about.ty query (map named told) tail samples
+  pub text : List ℕ
+  pub raw : IsRaw (record { name = told_name; about = about; query = query }) samples text
+  pub written : Appends a b text
+
+-- so it is where the whole text was written
+abbrev pub ReadsPinAt : {D R : Type 0} → Ghosts D R → Archive D R → List ℕ → Query → Option (List ℕ) → Option (List ℕ) → Retrieved R → Archive D R → Type 0
+ReadsPinAt {D} {R} disk old name query a b (got.Finished count) new = ReadsPin disk old name query a b new
+ReadsPinAt {D} {R} disk old name query a b _ new = Unit {0}
+
+-- a store lists the file of the row that has the name, and these are the listed bytes of it
+pub record IsListedFront (files : Files) (rows : List Row) (lists : Listings) (asked : List ℕ) (piece : NamedBytes) : Type 0 where
+  pub place : ℕ
+  pub within : place < 3
+  pub entry : Entry
+  pub listed : Contains (lists place) entry
+  pub own : HasName rows entry.series asked
+  pub is_named : piece.name ≡ file_of (place + 1, rows) entry
+  pub bytes : HasFile files piece.name (λ b. piece.bytes ≡ take entry.len b)
+
+-- Whatever the listed files are, the text is the answer over what was read of those that were opened, each list of samples over those before
+-- it: of each file all from where its reading began, or as much as there is up to a sample behind the interval.
+pub record ReadsListed (files : Files) (rows : List Row) (lists : Listings) (name : List ℕ) (query : Query) (a b : Option (List ℕ)) : Type 0 where
+  pub id : ℕ
+  pub row : Row
+  pub here : slice_get rows id ≡ Some row
+  pub is_named : row.name ≡ name
+  pub pieces : List NamedBytes
+  pub listed : (piece : NamedBytes) → Contains pieces piece → IsListedFront files rows lists name piece
+  pub samples : List Sample
+  pub answers : AnswersRead row.about.ty query pieces [] samples
+  pub text : List ℕ
+  pub raw : IsRaw (subject_of row query) samples text
+  pub written : Appends a b text
+
+abbrev pub GetsRead : Files → List Row → Listings → List ℕ → Query → Option (List ℕ) → Option (List ℕ) → Status → Type 0
+GetsRead files rows lists name query a b IsDone = ReadsListed files rows lists name query a b
+GetsRead files rows lists name query a b _ = Unit {0}
 
 -- Whatever the listed files are, the text is the raw text of events of the row that has the name, whose moments rise.
 pub record WritesEvents (rows : List Row) (name : List ℕ) (query : Query) (a b : Option (List ℕ)) : Type 0 where

@@ -34,7 +34,7 @@ use Rattle.archiver_appliance.specs.Judging.{Judges, IsExact}
 use Rattle.archiver_appliance.specs.Moving.{MovesFrom}
 use Rattle.archiver_appliance.specs.Outside.{Outside, IsCaused}
 use Rattle.archiver_appliance.specs.Reporting.{Tells, TellsListed, ChecksAll}
-use Rattle.archiver_appliance.specs.Retrieving.{GetsSome, RetrievesFrom}
+use Rattle.archiver_appliance.specs.Retrieving.{GetsRead, GetsSome, RetrievesFrom}
 use Rattle.archiver_appliance.specs.Serving.{ServesFrom, status_of}
 use Rattle.command_words.specs.Status.{number_of}
 use Rattle.stream_extract.specs.Text.{Extracts}
@@ -157,7 +157,7 @@ IsUnopenedFor config tells old new = (new.clock ≡ old.clock) × (IsTrue tells 
 abbrev pub TellsSaid : StoreCommand → Files → List Row → Listings → Outside → Outside → Status → Type 0
 TellsSaid command.Status files rows lists old new status = TellsListed rows (lists 0) (lists 1) (lists 2) old.sink new.sink status
 TellsSaid command.Check files rows lists old new status = ChecksAll rows files (lists 0) (lists 1) (lists 2) old.sink new.sink status
-TellsSaid (command.Get name query) files rows lists old new status = GetsSome rows name.now query old.sink new.sink status
+TellsSaid (command.Get name query) files rows lists old new status = GetsSome rows name.now query old.sink new.sink status × GetsRead files rows lists name.now query old.sink new.sink status
 TellsSaid _ files rows lists old new status = Unit {0}
 
 -- a command that only reads: each but `ingest`, `etl` and `serve`, and these too where the image isn't whole

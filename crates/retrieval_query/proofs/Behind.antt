@@ -1,5 +1,5 @@
 -- What a retrieval did behind its pin.
-use Rattle.std.proofs.Common.{◌≡◌, ◌⊎◌, ℕ, inl, inr, Bool, List, [], ◌++◌, length, Some, None, Ok, Err, Result, refl, sym, ◌∙◌, subst, append-nil, zero-add}
+use Rattle.std.proofs.Common.{◌≡◌, ◌⊎◌, ℕ, inl, inr, Bool, List, [], ◌++◌, length, Some, None, Ok, Err, Result, refl, sym, ap, ◌∙◌, subst, append-nil, zero-add}
 use Rattle.std.specs.Prelude.{IsErrOf, map}
 use Rattle.pb_wire.specs.declared.payload.PayloadType.{PayloadType}
 use Rattle.act_model.specs.History.{Entry, Done, Made}
@@ -8,8 +8,20 @@ use Rattle.stream_merge.specs.Reading.{IsDamaged}
 use Rattle.retrieval_query.specs.declared.retrieved.Retrieved.{Retrieved}
 use Rattle.retrieval_query.specs.declared.retrieved.Retrieved.TheVariants.{Finished, NoSuchVariable, ReadFault, Damaged, SinkFault, Spent, Memory}
 use Rattle.retrieval_query.specs.Openings.{PieceTold, OpensOf, FailsOf, openings, failing, named}
-use Rattle.retrieval_query.specs.Giving.{GivesBy}
-use Rattle.retrieval_query.specs.Retrieving.{Ends, EndsAs, EndsPinned, ReadsPinned, given_up}
+use Rattle.series_model.specs.declared.sample.Sample.{Sample}
+use Rattle.act_model.specs.Event.{AreEvents}
+use Rattle.act_model.specs.Out.{Subject}
+use Rattle.stream_merge.specs.Reads.{AnswersRead}
+use Rattle.retrieval_query.specs.Giving.{Gives, GivesBy, GivesRead, GivesReadAt}
+use Rattle.series_model.specs.declared.sample.Query.{Query}
+use Rattle.event_types.specs.declared.about.About.{About}
+use Rattle.act_model.specs.declared.acts.Act.TheVariants.{Pin}
+use Rattle.act_model.specs.declared.acts.Answer.TheVariants as answer
+use Rattle.act_model.specs.History.{MadeOne}
+use Rattle.retrieval_query.specs.declared.variable.PinErr.{PinErr}
+use Rattle.retrieval_query.specs.declared.variable.PinErr.TheVariants as pin_err
+use Rattle.retrieval_query.specs.Pinning.{ended_by}
+use Rattle.retrieval_query.specs.Retrieving.{RetrievesRead, RetrievesToEnd, Ends, EndsAs, EndsPinned, FinishesRead, ReadsPinned, ReadsToEnd, Writes, given_up}
 
 module _ {P R : Type 0} (tells : Bool) (faults : R → ℕ) (opened : P → List NamedBytes → P → Type 0) (failed : P → Failure → P → Type 0) (ty : PayloadType) (a b : P) where
   -- what follows of all that may have been opened
@@ -93,3 +105,52 @@ module _ {A R : Type 0} (number : A → ℕ) (between : A → List Entry → A �
   reads (Err Spent) w cause e = badly OutOfActs w e.unpin e.made e.is (λ told. subst (λ r. Ends tells faults ty pin told [] e.unpin (is_spent mid ⊎ is_spent new) rose r) (sym e.ends) (refl, inl w.1.spent))
   reads (Err Memory) (inl w) cause e = well w.0 w.1 e.unpin e.made e.is (λ told are. subst (λ r. Ends tells faults ty pin told [] e.unpin (is_spent mid ⊎ is_spent new) rose r) (sym e.ends) (inl refl))
   reads (Err Memory) (inr w) cause e = badly OutOfMemory w e.unpin e.made e.is (λ told. subst (λ r. Ends tells faults ty pin told (failing pin (length told) OutOfMemory) e.unpin (is_spent mid ⊎ is_spent new) rose r) (sym e.ends) (inr refl))
+
+-- What was written to its end is the answer over what was read.
+module _ {A O R : Type 0} (number : A → ℕ) (between : A → List Entry → A → Type 0) (is_spent : A → Type 0) (finished broke gave : O → Subject → List Sample → O → Type 0) (old mid new : A) (pin left : ℕ) (rose : Type 0) (tail : List Sample) (subject : Subject) (before during after : O) where
+  finishes : (count told : ℕ) → GivesRead (OpensOf number between pin 0 left) gave subject.query tail before subject old count mid during → EndsPinned {R = R} number between is_spent mid pin rose (Ok count) (Finished told) new
+      → ((xs : List Sample) → AreEvents subject.about.ty xs → Gives {R = R} gave broke before subject xs (Ok count) during → Writes {R = R} finished broke before subject xs (Finished told) after) → FinishesRead number between finished old pin tail subject before new after
+  finishes count told r e writes =
+      let opened = r.were.3 in
+      record {
+        told = opened.told;
+        stopped = mid;
+        made = opened.made;
+        unpinned = subst (λ (l : List Done). Made number between mid l new) (up e.ends) e.made;
+        given = r.given;
+        answers = subst (λ (l : List NamedBytes). AnswersRead subject.about.ty subject.query l tail r.given) opened.are r.answers;
+        writes = (writes r.given r.events (r.has, r.number)).0;
+      }
+    where
+      up : EndsAs {R = R} pin e.unpin rose (Ok count) (Finished told) → e.unpin ≡ given_up pin
+      up (inl u) = u.0
+      up (inr (none, is)) = absurd (cc)
+
+  pub reads_to_end : (given : Result ℕ (Retrieved R)) (result : Retrieved R) → ((count : ℕ) → given ≡ Err (Finished count) → ⊥) → GivesReadAt (OpensOf number between pin 0 left) gave subject.query tail before subject old given mid during → EndsPinned number between is_spent mid pin rose given result new
+      → ((xs : List Sample) → AreEvents subject.about.ty xs → Gives gave broke before subject xs given during → Writes finished broke before subject xs result after) → ReadsToEnd number between finished old pin tail subject before result new after
+  reads_to_end (Ok count) (Finished told) none r e writes = finishes count told r e writes
+  reads_to_end (Err stop) (Finished told) none r e writes = absurd (none told (ap (λ (x : Retrieved R). Err x) (sym e.ends)))
+  reads_to_end given NoSuchVariable none r e writes = tt
+  reads_to_end given (ReadFault f) none r e writes = tt
+  reads_to_end given (Damaged name at) none r e writes = tt
+  reads_to_end given SinkFault none r e writes = tt
+  reads_to_end given Spent none r e writes = tt
+  reads_to_end given Memory none r e writes = tt
+
+module _ {A O : Type 0} (number : A → ℕ) (between : A → List Entry → A → Type 0) (finished : O → Subject → List Sample → O → Type 0) (old : A) where
+  pub read_behind : {R : Type 0} (pinned new : A) (name : List ℕ) (query : Query) (pin : ℕ) (name_told : List ℕ) (about : About) (pieces : ℕ) (tail : List Sample) (out out_new : O) (result : Retrieved R) → MadeOne number between old (Pin name query) (answer.Pinned pin name_told about pieces tail) pinned
+      → ReadsToEnd number between finished pinned pin tail (record { name = name_told; about = about; query = query }) out result new out_new → RetrievesToEnd number between finished old name query out result new out_new
+  read_behind pinned new name query pin name_told about pieces tail out out_new (Finished count) pins reads = record { pin = pin; name_told = name_told; about = about; pieces = pieces; tail = tail; pinned = pinned; pins = pins; reads = reads }
+  read_behind pinned new name query pin name_told about pieces tail out out_new NoSuchVariable pins reads = tt
+  read_behind pinned new name query pin name_told about pieces tail out out_new (ReadFault f) pins reads = tt
+  read_behind pinned new name query pin name_told about pieces tail out out_new (Damaged n at) pins reads = tt
+  read_behind pinned new name query pin name_told about pieces tail out out_new SinkFault pins reads = tt
+  read_behind pinned new name query pin name_told about pieces tail out out_new Spent pins reads = tt
+  read_behind pinned new name query pin name_told about pieces tail out out_new Memory pins reads = tt
+
+  -- no pin was made
+  pub read_none : (R : Type 0) (new : A) (name : List ℕ) (query : Query) (out out_new : O) (why : PinErr) → RetrievesToEnd {R = R} number between finished old name query out (ended_by why) new out_new
+  read_none R new name query out out_new pin_err.NoSuchVariable = tt
+  read_none R new name query out out_new pin_err.DiskFault = tt
+  read_none R new name query out out_new pin_err.Spent = tt
+  read_none R new name query out out_new pin_err.Memory = tt

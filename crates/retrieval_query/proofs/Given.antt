@@ -21,7 +21,9 @@ use Rattle.stream_merge.specs.Source.{Went, HasFailed}
 use Rattle.stream_merge.specs.Merging.{Rest, StillGives, Answers}
 use Rattle.retrieval_query.specs.declared.retrieved.Retrieved.{Retrieved}
 use Rattle.retrieval_query.specs.declared.retrieved.Retrieved.TheVariants as retrieved
-use Rattle.retrieval_query.specs.Giving.{IsToldAs, OpensSome, StopsBy, Gives, GivesSome, retrieved_by}
+use Rattle.stream_merge.specs.Reads.{AnswersRead}
+use Rattle.series_model.specs.declared.sample.Query.{Query}
+use Rattle.retrieval_query.specs.Giving.{IsToldAs, OpensSome, StopsBy, Gives, GivesRead, GivesReadAt, GivesSome, retrieved_by}
 
 -- EVENTS
 
@@ -60,7 +62,7 @@ pub record Giving {P O R : Type 0} (tells : Bool) (bytes : R → List ℕ) (left
   pub whole : IsTrue tells → (ps : List NamedBytes) (xs : List Sample) → left first ps → Rest bytes start ps xs → (rest : List Sample) × (xs ≡ given ++ rest) × StillGives bytes (left pieces) merge rest
 
 module _ {P O R : Type 0} (tells : Bool) (bytes : R → List ℕ) (left : P → List NamedBytes → Type 0) (gave broke : O → Subject → List Sample → O → Type 0) (ty : PayloadType) (first : P) (start : Merge R) (old : O) (subject : Subject) where
-  pub giving_none : (out : O) (from : ℕ) → gave old subject [] out → Giving tells bytes left gave ty first start old subject 0 from first start out
+  unfoldable pub giving_none : (out : O) (from : ℕ) → gave old subject [] out → Giving tells bytes left gave ty first start old subject 0 from first start out
   giving_none out from begun = record { given = []; number = refl; events = tt; rising = tt; up_to = omega arith; has = begun; whole = λ told ps xs is rest. (xs, refl, record { pieces = ps; left_is = is; rest = rest }) }
 
   module _ (pieces : P) (merge : Merge R) (count from : ℕ) (out : O) (g : Giving tells bytes left gave ty first start old subject count from pieces merge out) where
@@ -73,11 +75,11 @@ module _ {P O R : Type 0} (tells : Bool) (bytes : R → List ℕ) (left : P → 
       abbrev s : Sample
       s = record { t = t; line = line }
 
-      more_rises : IsRising (g.given ++ s ∷ [])
+      pub more_rises : IsRising (g.given ++ s ∷ [])
       more_rises = (rises_more g.given s).1 (g.rising, omega (arith, g.up_to, low))
 
       -- the next sample was given
-      pub giving_more : (from₂ : ℕ) (now : O) → t < from₂ → gave old subject (g.given ++ s ∷ []) now → Giving tells bytes left gave ty first start old subject (count + 1) from₂ next after now
+      unfoldable pub giving_more : (from₂ : ℕ) (now : O) → t < from₂ → gave old subject (g.given ++ s ∷ []) now → Giving tells bytes left gave ty first start old subject (count + 1) from₂ next after now
       giving_more from₂ now high has = record {
         given = g.given ++ s ∷ [];
         number = omega (arith, g.number, length-append g.given (s ∷ []));
@@ -122,6 +124,25 @@ module _ {P O R : Type 0} (tells : Bool) (bytes : R → List ℕ) (left : P → 
       stops_whole stop told ps xs is rest events =
           let w = g.whole told ps xs is rest in
           subst (λ (l : List Sample). broke old subject l out) (sym w.1) (front old out subject g.given w.0 (subst (λ (l : List Sample). AreEvents subject.about.ty l) w.1 events) g.has)
+
+-- what was given is the answer over what was read
+pub gives_read : {P O : Type 0} (opened : P → List NamedBytes → P → Type 0) (gave : O → Subject → List Sample → O → Type 0) (query own : Query) (tail rest : List Sample) (old : O) (subject : Subject) (ty : PayloadType) (first : P) (count : ℕ) (last : P) (new : O) (pieces : List NamedBytes) (given : List Sample) → own ≡ query → rest ≡ tail → ty ≡ subject.about.ty
+    → opened first pieces last → AreEvents subject.about.ty given → count ≡ length given → AnswersRead ty own pieces rest given → gave old subject given new → GivesRead opened gave query tail old subject first count last new
+gives_read opened gave query own tail rest old subject ty first count last new pieces given asked of_tail same were events number answers has = record {
+  pieces = pieces;
+  were = were;
+  given = given;
+  events = events;
+  number = number;
+  answers = subst (λ (q : Query). AnswersRead subject.about.ty q pieces tail given) asked (subst (λ (l : List Sample). AnswersRead subject.about.ty own pieces l given) of_tail (subst (λ (y : PayloadType). AnswersRead y own pieces rest given) same answers));
+  has = has;
+}
+
+-- seen by those who open them
+pub read_as : {P Q O R : Type 0} (opened : P → List NamedBytes → P → Type 0) (opened₂ : Q → List NamedBytes → Q → Type 0) (gave : O → Subject → List Sample → O → Type 0) (query : Query) (tail : List Sample) (old : O) (subject : Subject) (first last : P) (first₂ last₂ : Q) (new : O) → ((ps : List NamedBytes) → opened first ps last → opened₂ first₂ ps last₂)
+    → (r : Result ℕ (Retrieved R)) → GivesReadAt opened gave query tail old subject first r last new → GivesReadAt opened₂ gave query tail old subject first₂ r last₂ new
+read_as opened opened₂ gave query tail old subject first last first₂ last₂ new sees (Ok count) r = record { pieces = r.pieces; were = sees r.pieces r.were; given = r.given; events = r.events; number = r.number; answers = r.answers; has = r.has }
+read_as opened opened₂ gave query tail old subject first last first₂ last₂ new sees (Err stop) r = tt
 
 -- WHY IT STOPPED
 

@@ -12,6 +12,8 @@ use Rattle.stream_merge.specs.declared.pieces.Merged.{Merged}
 use Rattle.stream_merge.specs.declared.pieces.Merged.TheVariants as merged
 use Rattle.stream_merge.specs.Pieces.{NamedBytes, Failure, Faulted, OutOfActs, OutOfMemory}
 use Rattle.stream_merge.specs.Reading.{IsDamaged}
+use Rattle.stream_merge.specs.Reads.{AnswersRead}
+use Rattle.series_model.specs.declared.sample.Query.{Query}
 use Rattle.retrieval_query.specs.declared.retrieved.Retrieved.{Retrieved}
 use Rattle.retrieval_query.specs.declared.retrieved.Retrieved.TheVariants.{Finished, NoSuchVariable, ReadFault, Damaged, SinkFault, Spent, Memory}
 
@@ -70,3 +72,19 @@ pub record GivesSome {O R : Type 0} (gave broke : O → Subject → List Sample 
   pub events : AreEvents subject.about.ty given
   pub rising : IsRising given
   pub gives : Gives gave broke old subject given result new
+
+-- An output was given the answer over what was read of the pieces that were opened, and of the tail: of each piece all from where its reading
+-- began, or as much as there is up to a sample behind the interval.
+pub record GivesRead {P O : Type 0} (opened : P → List NamedBytes → P → Type 0) (gave : O → Subject → List Sample → O → Type 0) (query : Query) (tail : List Sample) (old : O) (subject : Subject) (first : P) (count : ℕ) (last : P) (new : O) : Type 0 where
+  pub pieces : List NamedBytes
+  pub were : opened first pieces last
+  pub given : List Sample
+  pub events : AreEvents subject.about.ty given
+  pub number : count ≡ length given
+  pub answers : AnswersRead subject.about.ty query pieces tail given
+  pub has : gave old subject given new
+
+-- so it is where the answer came to its end
+abbrev pub GivesReadAt : {P O R : Type 0} → (P → List NamedBytes → P → Type 0) → (O → Subject → List Sample → O → Type 0) → Query → List Sample → O → Subject → P → Result ℕ (Retrieved R) → P → O → Type 0
+GivesReadAt opened gave query tail old subject first (Ok count) last new = GivesRead opened gave query tail old subject first count last new
+GivesReadAt opened gave query tail old subject first (Err stop) last new = Unit {0}

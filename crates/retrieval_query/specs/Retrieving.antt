@@ -18,6 +18,7 @@ use Rattle.act_model.specs.Rows.{RowState, accepted}
 use Rattle.act_model.specs.Rule.{Rule, Header}
 use Rattle.stream_merge.specs.Pieces.{Faulted, OutOfMemory}
 use Rattle.stream_merge.specs.Reading.{IsDamaged}
+use Rattle.stream_merge.specs.Reads.{AnswersRead}
 use Rattle.retrieval_query.specs.declared.retrieved.Retrieved.{Retrieved}
 use Rattle.retrieval_query.specs.declared.retrieved.Retrieved.TheVariants.{Finished, NoSuchVariable, ReadFault, Damaged, SinkFault, Spent, Memory}
 use Rattle.retrieval_query.specs.Openings.{PieceTold, openings, failing, named}
@@ -129,3 +130,37 @@ pub record WritesAnswer {A O R : Type 0} (number : A → ℕ) (between : A → L
   pub found : find_row pinned name ≡ Some i
   pub here : slice_get pinned.rows i ≡ Some row
   pub writes : Writes finished broke out (record { name = row.name; about = row.about; query = query }) (answer (accepted row) query) result out_new
+
+-- WHAT WAS READ
+
+-- These pieces of a pin were opened and then it was given up, by just these acts, and what was written is the answer over what was read of
+-- them and of the tail, whatever they have: of each piece all from where its reading began, or as much as there is up to a sample behind
+-- the interval.
+pub record FinishesRead {A O : Type 0} (number : A → ℕ) (between : A → List Entry → A → Type 0) (finished : O → Subject → List Sample → O → Type 0) (old : A) (pin : ℕ) (tail : List Sample) (subject : Subject) (out : O) (new : A) (out_new : O) : Type 0 where
+  pub told : List PieceTold
+  pub stopped : A
+  pub made : Made number between old (openings pin 0 told) stopped
+  pub unpinned : Made number between stopped (given_up pin) new
+  pub given : List Sample
+  pub answers : AnswersRead subject.about.ty subject.query (map named told) tail given
+  pub writes : finished out subject given out_new
+
+-- so it is where the whole text was written
+abbrev pub ReadsToEnd : {A O R : Type 0} → (A → ℕ) → (A → List Entry → A → Type 0) → (O → Subject → List Sample → O → Type 0) → A → ℕ → List Sample → Subject → O → Retrieved R → A → O → Type 0
+ReadsToEnd number between finished old pin tail subject out (Finished count) new out_new = FinishesRead number between finished old pin tail subject out new out_new
+ReadsToEnd number between finished old pin tail subject out _ new out_new = Unit {0}
+
+-- behind the act that made the pin
+pub record RetrievesRead {A O : Type 0} (number : A → ℕ) (between : A → List Entry → A → Type 0) (finished : O → Subject → List Sample → O → Type 0) (old : A) (name : List ℕ) (query : Query) (out : O) (new : A) (out_new : O) : Type 0 where
+  pub pin : ℕ
+  pub name_told : List ℕ
+  pub about : About
+  pub pieces : ℕ
+  pub tail : List Sample
+  pub pinned : A
+  pub pins : MadeOne number between old (Pin name query) (answer.Pinned pin name_told about pieces tail) pinned
+  pub reads : FinishesRead number between finished pinned pin tail (record { name = name_told; about = about; query = query }) out new out_new
+
+abbrev pub RetrievesToEnd : {A O R : Type 0} → (A → ℕ) → (A → List Entry → A → Type 0) → (O → Subject → List Sample → O → Type 0) → A → List ℕ → Query → O → Retrieved R → A → O → Type 0
+RetrievesToEnd number between finished old name query out (Finished count) new out_new = RetrievesRead number between finished old name query out new out_new
+RetrievesToEnd number between finished old name query out _ new out_new = Unit {0}

@@ -14,10 +14,11 @@ ghost use Rattle.stream_merge.specs.Pieces.{NamedBytes};
 ghost use Rattle.stream_merge.specs.Reading.{AreSamplesOf, AreReadAs};
 ghost use Rattle.stream_merge.specs.Merging.{IsGoing, Rest};
 ghost use Rattle.stream_merge.specs.Over.{over_all};
-ghost use Rattle.retrieval_query.specs.Giving.{Gives, GivesBy, GivesSome};
+ghost use Rattle.stream_merge.specs.Reads.{HasGiven};
+ghost use Rattle.retrieval_query.specs.Giving.{Gives, GivesBy, GivesReadAt, GivesSome};
 ghost use Rattle.retrieval_query.specs.Openings.{FailsOf, Holds, LeftOf, OpensOf};
-ghost use Rattle.retrieval_query.specs.Pinning.{AnswersPinned, GivesUp, IsHeld};
-ghost use Rattle.retrieval_query.specs.Retrieving.{NotPinned, IsPinned, ReadsPinned, EndsPinned, WritesSome, Writes, WritesAnswer, ReadsHeaders};
+ghost use Rattle.retrieval_query.specs.Pinning.{AnswersPinned, GivesUp, IsHeld, subject_of};
+ghost use Rattle.retrieval_query.specs.Retrieving.{NotPinned, IsPinned, ReadsPinned, EndsPinned, WritesSome, Writes, WritesAnswer, ReadsHeaders, ReadsToEnd, RetrievesToEnd};
 
 use crate::give::give_answer;
 use crate::pinned::PinPieces;
@@ -48,6 +49,7 @@ pub fn retrieve<A: Actor, O: Out>(
     requires stands { (m : Machine) × A.stands actor.old m }
     ensures acts { NotPinned A.number A.between A.is_spent actor.old name.now query out.old result actor.new out.new ⊎ IsPinned A.number A.between A.is_spent A.Reader.tells A.Reader.faults O.finished O.broke (Rose (O.faults out.old) (O.faults out.new)) actor.old name.now query out.old result actor.new out.new }
     ensures whole { IsTrue A.Reader.tells → (m : Machine) → A.stands actor.old m → m.told ≡ true → ReadsHeaders m.rule → NotPinned A.number A.between A.is_spent actor.old name.now query out.old result actor.new out.new ⊎ WritesAnswer A.number A.between O.finished O.broke actor.old m name.now query out.old result actor.new out.new }
+    ensures read { IsTrue A.Reader.tells → RetrievesToEnd A.number A.between O.finished actor.old name.now query out.old result actor.new out.new }
     ensures faults { O.faults out.old ≤ O.faults out.new }
     ensures stands { (n : Machine) × A.stands actor.new n }
 {
@@ -70,6 +72,7 @@ pub fn read_pinned<A: Actor, O: Out>(
 ) -> Retrieved<A::Reader>
     requires held { IsHeld A.number A.stands actor.old variable }
     ensures answers { AnswersPinned A.number A.between A.is_spent A.stands A.Reader.tells A.Reader.faults O.finished O.broke (Rose (O.faults out.old) (O.faults out.new)) actor.old variable query out.old result actor.new out.new }
+    ensures read { IsTrue A.Reader.tells → ReadsToEnd A.number A.between O.finished actor.old variable.pin variable.tail (subject_of variable query) out.old result actor.new out.new }
     ensures faults { O.faults out.old ≤ O.faults out.new }
     ensures stands { (n : Machine) × A.stands actor.new n }
 {
@@ -120,6 +123,7 @@ fn read_pieces<A: Actor, O: Out>(
     ensures some { WritesSome O.finished O.broke out.old (record { name = name.now; about = about.now; query = query }) result out.new }
     ensures whole { IsTrue A.Reader.tells → (ps : List NamedBytes) (lists : List (List SampleValue)) → LeftOf A.number A.stands actor.old pin 0 pieces ps → AreReadAs about.now.ty ps lists → IsRising tail → AreEvents about.now.ty (answer (over_all lists tail) query)
         → Writes O.finished O.broke out.old (record { name = name.now; about = about.now; query = query }) (answer (over_all lists tail) query) result out.new }
+    ensures read { IsTrue A.Reader.tells → ReadsToEnd A.number A.between O.finished actor.old pin tail (record { name = name.now; about = about.now; query = query }) out.old result actor.new out.new }
     ensures faults { O.faults out.old ≤ O.faults out.new }
 {
     let merge = Merge::new(alloc, query, about.ty, tail);
@@ -167,6 +171,7 @@ fn give_pinned<A: Actor, O: Out, L: Ledger>(
     ensures gave { GivesSome O.gave O.broke out.old (record { name = name.now; about = about.now; query = query }) result out.new }
     ensures whole { IsTrue A.Reader.tells → (ps : List NamedBytes) (xs : List SampleValue) → LeftOf A.number A.stands pieces.old.actor.now pieces.old.pin pieces.old.next pieces.old.left ps → Rest A.Reader.bytes merge ps xs → AreEvents about.now.ty xs
         → Gives O.gave O.broke out.old (record { name = name.now; about = about.now; query = query }) xs result out.new }
+    ensures reads { IsTrue A.Reader.tells → merge.query ≡ query → HasGiven A.Reader.bytes merge pieces.old.left [] [] → GivesReadAt (OpensOf A.number A.between pieces.old.pin pieces.old.next pieces.old.left) O.gave query merge.source.tail.items out.old (record { name = name.now; about = about.now; query = query }) pieces.old.actor.now result pieces.new.actor.now out.new }
     ensures faults { O.faults out.old ≤ O.faults out.new }
     ensures cause { IsErrOf result Retrieved.SinkFault → Rose (O.faults out.old) (O.faults out.new) }
 {

@@ -41,6 +41,7 @@ impl<R: ReadAt> Merge<R> {
         ensures going { IsGoing R.tells R.bytes result }
         ensures ty { result.source.ty ≡ ty }
         ensures whole { (ps : List NamedBytes) (lists : List (List SampleValue)) → AreReadAs ty ps lists → IsRising tail → Rest R.bytes result ps (answer (over_all lists tail) query) }
+        ensures over { (result.query ≡ query) × (result.source.tail.items ≡ tail) }
         ensures nothing { (left : ℕ) → HasGiven R.bytes result left [] [] }
         ensures none_open { result.source.piece ≡ None }
         ensures first { line_from result ≡ 0 }
@@ -69,6 +70,7 @@ impl<R: ReadAt> Merge<R> {
         requires may { P.may_open pieces.old }
         ensures going { (t : ℕ) → result ≡ Merged.Line t → IsGoing R.tells R.bytes self.new }
         ensures ty { self.new.source.ty ≡ self.old.source.ty }
+        ensures same { (self.new.query ≡ self.old.query) × (self.new.source.tail ≡ self.old.source.tail) }
         ensures lines { IsTrue R.tells → (ps : List NamedBytes) (xs : List SampleValue) → P.left pieces.old ps → Rest R.bytes self.old ps xs → Answers R.bytes (P.left pieces.new) self.new xs line.new.items result }
         ensures reads { IsTrue R.tells → (ps : List NamedBytes) (given : List SampleValue) → HasGiven R.bytes self.old (P.count pieces.old) ps given → GivesNext R.bytes P.opened pieces.old ps pieces.new (P.count pieces.new) self.old.source.ty self.old.query self.old.source.tail.items given self.new line.new.items result }
         ensures event { (t : ℕ) → result ≡ Merged.Line t → IsSampleOf self.old.source.ty (record { t = t; line = line.new.items }) }

@@ -57,7 +57,7 @@ returns-in-Get-clause-does g c =
     subst (λ (x : StoreCommand). Does config g.D.Disk.tells (OverStore x) old new c.get_from.result.status) (sym c.in-Get.is)
     (get_does g.S.Source g.K.Sink g.C.Clock g.D.Disk config c.args.disk c.in-Ok.store verdict c.in-Ok.ensures.stands c.in-Ok.ensures.said (λ told. c.in-Ok.ensures.whole told refl) c.in-Ok.ensures.opens
     c.args.source.now c.args.source.now c.args.sink.now c.get_from.new.sink c.args.clock.now c.args.clock.now c.get_from.result.disk c.get_from.result.status
-    c.in-Get.name c.in-Get.query (λ told. c.in-Ok.ensures.reads told (reading told)) c.get_from.ensures.files c.get_from.ensures.any_moment refl refl c.in-Ok.ensures.settings c.get_from.ensures.retrieves c.get_from.ensures.some c.get_from.ensures.none (λ is. (c.get_from.ensures.named is).0) c.get_from.ensures.damaged c.get_from.ensures.opened c.get_from.ensures.ends)
+    c.in-Get.name c.in-Get.query (λ told. c.in-Ok.ensures.reads told (reading told)) c.get_from.ensures.files c.get_from.ensures.any_moment refl refl c.in-Ok.ensures.settings c.get_from.ensures.retrieves c.get_from.ensures.some c.get_from.ensures.read c.get_from.ensures.none (λ is. (c.get_from.ensures.named is).0) c.get_from.ensures.damaged c.get_from.ensures.opened c.get_from.ensures.ends)
 
 pub returns-in-Get-clause-refused : goal.returns-in-Get-clause-refused
 returns-in-Get-clause-refused g c = λ is. (refl, (c.get_from.ensures.named (refused_none c.args.config.now g.D.Disk.tells (g.D.Disk.files c.args.disk) c.get_from.result.status c.get_from.ensures.opened (λ told. c.in-Ok.ensures.whole told refl) is)).1, refl)

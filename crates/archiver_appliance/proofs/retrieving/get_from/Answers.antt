@@ -8,13 +8,14 @@ use Rattle.retrieval_query.specs.Retrieving.{ReadsHeaders}
 use Rattle.retrieval_query.specs.declared.retrieved.Retrieved.TheVariants as got
 use Rattle.archiver_appliance.specs.Acting.{IsOpenedOn}
 use Rattle.archiver_appliance.specs.Judging.{IsDamagedFile, IsOneOf}
-use Rattle.archiver_appliance.specs.Retrieving.{EndsBy, Gets, GetsSome, HasNone, IsRetrieval}
+use Rattle.archiver_appliance.specs.Retrieving.{EndsBy, Gets, GetsRead, GetsSome, HasNone, IsRetrieval}
 use Rattle.command_words.specs.Status.{number_of}
 use Rattle.archiver_appliance.proofs.Acting.{acts_from, acts_given, begins, both_hold, count_given, handed, has_not_fallen, has_risen_within, nested_in, ran, rose_given, stands_at_first, unopened_back, unopened_given}
 use Rattle.archiver_appliance.proofs.Answering.{found_damaged, found_none, gets_held, none_ends, reads_headers, retrieved_caused, some_events, unknown_none}
 use Rattle.archiver_appliance.proofs.Chained.{retrieval_looking}
 use Rattle.archiver_appliance.proofs.Damages.{none_damaged}
 use Rattle.archiver_appliance.proofs.LeftFiles.{damaged_given, files_given, moments_given}
+use Rattle.archiver_appliance.proofs.ReadFiles.{read_given}
 use Rattle.archiver_appliance.proofs.retrieving.get_from.Goals as goal
 
 pub of-requires-clause-nested : goal.of-requires-clause-nested
@@ -71,6 +72,18 @@ returns-clause-some g c =
     let run = ran disk old new r.done begun.start begun.stands r.made in
     subst (λ (n : List ℕ). GetsSome c.args.store.catalogue.rows n c.args.query (g.K.Sink.written c.args.sink.now) (g.K.Sink.written c.get_alone-got.new.sink) c.got_status-status.result.0) c.as_bytes.ensures.value
     (subst (λ s. GetsSome s.catalogue.rows c.as_bytes.result.now c.args.query (g.K.Sink.written c.args.sink.now) (g.K.Sink.written c.get_alone-got.new.sink) c.got_status-status.result.0) c.in-Ok.ensures.store (some_events disk.tells (parts disk old) begun.start begun.stands begun.opened.settled r.made.entries run.after r.done r.made.no_others r.made.just_these run.runs c.as_bytes.result.now c.args.query (g.K.Sink.written c.args.sink.now) (g.K.Sink.written c.get_alone-got.new.sink) c.get_alone-got.result c.got_status-status.result.0 c.got_status-status.result.1 c.got_status-status.ensures r.some))
+
+pub returns-clause-read : goal.returns-clause-read
+returns-clause-read g c told =
+    let disk = g.D.Disk in
+    let old = c.in-Ok.archive in
+    let new = c.get_alone-got.new.archive in
+    let has = c.requires.fresh.has in
+    let begun = begins disk c.args.store c.requires.fresh old c.in-Ok.ensures.opened has.0 has.1 in
+    let status = c.got_status-status.result.0 in
+    subst (λ (n : List ℕ). GetsRead (disk.files c.args.store.disk) c.args.store.catalogue.rows (lists_of c.args.store.manifests.items) n c.args.query (g.K.Sink.written c.args.sink.now) (g.K.Sink.written c.get_alone-got.new.sink) status) c.as_bytes.ensures.value
+    (read_given disk old new c.args.store c.in-Ok.ensures.store c.in-Ok.ensures.intake begun.start begun.stands begun.opened.settled has.0 has.1 c.as_bytes.result.now c.args.query (g.K.Sink.written c.args.sink.now) (g.K.Sink.written c.get_alone-got.new.sink) c.get_alone-got.result status c.got_status-status.result.1 c.got_status-status.ensures (c.get_alone-got.ensures.read (g.met.D.Disk.readers_tell told))
+    (λ done made. let run = ran disk old new done begun.start begun.stands made in (run.after, run.runs)) told)
 
 pub returns-clause-none : goal.returns-clause-none
 returns-clause-none g c =

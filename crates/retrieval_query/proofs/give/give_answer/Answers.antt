@@ -1,4 +1,4 @@
-use Rattle.std.proofs.Common.{◌∙◌, refl, subst, arith, [], ◌∷◌, ◌++◌, ℕ, List, None, rules}
+use Rattle.std.proofs.Common.{◌∙◌, refl, ap, subst, arith, [], ◌∷◌, ◌++◌, ℕ, List, None, rules}
 use Rattle.std.proofs.lemmas.Result.{err_from_is_err_and}
 use Rattle.pb_wire.specs.declared.payload.PayloadType.{PayloadType}
 use Rattle.series_model.specs.declared.sample.Sample.{Sample}
@@ -8,9 +8,11 @@ use Rattle.stream_merge.specs.Reading.{IsSampleOf}
 use Rattle.stream_merge.specs.Merging.{line_from}
 use Rattle.stream_merge.proofs.Went.{goes_joined, goes_nowhere, went_joined}
 use Rattle.retrieval_query.proofs.Given.{event_from, few, giving_none, giving_more, sample_breaks, sample_breaks_whole, gives_whole, stops_some, stops_whole, stops_by, stops_out, never_sink}
+use Rattle.retrieval_query.proofs.Given.{gives_read}
 use Rattle.retrieval_query.proofs.give.give_answer.Goals as goal
 
 pub lines-init : goal.lines-init
+unfolding giving_none
 lines-init g c =
     let R = g.P.Reader.ReadAt in
     let P = g.P.Pieces in
@@ -22,6 +24,8 @@ lines-init g c =
       faults = c.begin.ensures.faults;
       goes = goes_nowhere R.tells R.bytes P.opened P.failed g.met.P.Pieces.none_opened c.args.pieces.now None c.args.merge.source.piece c.requires.none_open;
       giving = giving_none R.tells R.bytes P.left g.O.Out.gave g.O.Out.broke c.args.about.now.ty c.args.pieces.now c.args.merge c.args.out.now subject c.begin.new.self (line_from c.args.merge) c.in_ok-begin.ensures.begun;
+      same = (refl, refl);
+      reads = λ tells has. record { more = []; were = g.met.P.Pieces.none_opened c.args.pieces.now; has = has };
     }
 
 pub returns-in_err-sample-in-Line-clause-gives : goal.returns-in_err-sample-in-Line-clause-gives
@@ -78,6 +82,7 @@ overflow_add-count g c =
     search (rules, low)
 
 pub lines-preserved : goal.lines-preserved
+unfolding giving_more
 lines-preserved g c =
     let R = g.P.Reader.ReadAt in
     let P = g.P.Pieces in
@@ -98,6 +103,11 @@ lines-preserved g c =
       faults = omega (arith, inv.faults, c.sample.ensures.faults);
       goes = goes;
       giving = giving_more R.tells R.bytes P.left g.O.Out.gave g.O.Out.broke c.args.about.now.ty c.args.pieces.now c.args.merge c.args.out.now subject c.lines.pieces c.lines.merge c.lines.count (line_from c.lines.merge) c.lines.out inv.giving c.next.new.pieces c.next.new.self t line event later.0 c.in-Line.ensures.lines (line_from c.next.new.self) c.sample.new.self later.1 has;
+      same = (c.in-Line.ensures.same.0 ∙ inv.same.0, c.in-Line.ensures.same.1 ∙ inv.same.1);
+      reads = λ tells first.
+          let on = inv.reads tells first in
+          let next = c.in-Line.ensures.reads tells on.more given on.has in
+          record { more = on.more ++ next.more; were = g.met.P.Pieces.opened_on c.args.pieces.now c.lines.pieces c.next.new.pieces on.more next.more on.were next.were; has = next.has };
     }
 
 pub returns-in-End-clause-gives : goal.returns-in-End-clause-gives
@@ -106,6 +116,16 @@ returns-in-End-clause-gives g c =
     let P = g.P.Pieces in
     let goes = goes_joined R.tells R.bytes P.opened P.failed g.met.P.Pieces.opened_on c.args.pieces.now c.lines.pieces c.next.new.pieces None c.lines.merge.source.piece c.next.new.self.source.piece c.lines.invariant.goes c.in-End.ensures.went in
     (goes.pieces, goes.were)
+
+pub returns-in-End-clause-reads : goal.returns-in-End-clause-reads
+returns-in-End-clause-reads g c tells query first =
+    let P = g.P.Pieces in
+    let inv = c.lines.invariant in
+    let subject : Subject = record { name = c.args.name.now; about = c.args.about.now; query = c.args.query } in
+    let on = inv.reads tells first in
+    let end = c.in-End.ensures.reads tells on.more inv.giving.given on.has in
+    gives_read P.opened g.O.Out.gave c.args.query c.lines.merge.query c.args.merge.source.tail.items c.lines.merge.source.tail.items c.args.out.now subject c.lines.merge.source.ty c.args.pieces.now c.lines.count c.next.new.pieces c.lines.out (on.more ++ end.0) inv.giving.given (inv.same.0 ∙ query) (ap (λ v. v.items) inv.same.1) inv.ty
+    (g.met.P.Pieces.opened_on c.args.pieces.now c.lines.pieces c.next.new.pieces on.more end.0 on.were end.1) inv.giving.events inv.giving.number end.2 inv.giving.has
 
 pub returns-in-End-clause-whole : goal.returns-in-End-clause-whole
 returns-in-End-clause-whole g c tells ps xs is rest all =
@@ -127,5 +147,6 @@ returns-in_default g c =
       gave = stops_some R.tells R.bytes P.left g.O.Out.gave g.O.Out.broke c.args.about.now.ty c.args.pieces.now c.args.merge c.args.out.now subject c.lines.pieces c.lines.merge c.lines.count (line_from c.lines.merge) c.lines.out inv.giving g.met.O.Out.front c.stopped_by.result refl;
       whole = stops_whole R.tells R.bytes P.left g.O.Out.gave g.O.Out.broke c.args.about.now.ty c.args.pieces.now c.args.merge c.args.out.now subject c.lines.pieces c.lines.merge c.lines.count (line_from c.lines.merge) c.lines.out inv.giving g.met.O.Out.front c.stopped_by.result;
       faults = inv.faults;
+      reads = λ tells query first. tt;
       cause = λ is. absurd (never_sink c.next.result c.stopped_by.result c.stopped_by.ensures is);
     }

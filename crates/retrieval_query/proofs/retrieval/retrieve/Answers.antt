@@ -1,5 +1,6 @@
 use Rattle.std.proofs.Common.{inl, inr, refl}
 use Rattle.retrieval_query.proofs.Answered.{refuses_so, whole_answer}
+use Rattle.retrieval_query.proofs.Behind.{read_behind, read_none}
 use Rattle.retrieval_query.proofs.retrieval.retrieve.Goals as goal
 
 pub returns-in-Ok-clause-acts : goal.returns-in-Ok-clause-acts
@@ -23,3 +24,11 @@ returns-in-Err-clause-acts g c =
 pub returns-in-Err-clause-whole : goal.returns-in-Err-clause-whole
 returns-in-Err-clause-whole g c tells m is told headers =
     rw c.from.ensures (inl (record { refuses = refuses_so g.A.Actor.number g.A.Actor.between g.A.Actor.is_spent _ c.args.actor.now c.pin_variable.new.actor c.args.name.now c.args.query c.in-Err.why c.in-Err.ensures.fails; untouched = refl }))
+
+pub returns-in-Ok-clause-read : goal.returns-in-Ok-clause-read
+returns-in-Ok-clause-read g c tells =
+    let v = c.in-Ok.variable in
+    read_behind g.A.Actor.number g.A.Actor.between g.O.Out.finished c.args.actor.now c.pin_variable.new.actor c.read_pinned.new.actor c.args.name.now c.args.query v.pin v.name v.about v.pieces v.tail c.args.out.now c.read_pinned.new.out c.read_pinned.result c.in-Ok.ensures.pins (c.read_pinned.ensures.read tells)
+
+pub returns-in-Err-clause-read : goal.returns-in-Err-clause-read
+returns-in-Err-clause-read g c tells = rw c.from.ensures (read_none g.A.Actor.number g.A.Actor.between g.O.Out.finished c.args.actor.now _ c.pin_variable.new.actor c.args.name.now c.args.query c.args.out.now c.args.out.now c.in-Err.why)

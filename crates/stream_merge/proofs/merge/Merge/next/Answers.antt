@@ -25,6 +25,21 @@ returns-then-is_due-clause-lines g c tells ps xs is rest =
     let e = c.give_due.ensures in
     due_answers g.R.ReadAt.bytes (g.P.Pieces.left c.args.pieces.now) m c.give_due.new.self m.source.ty ps xs c.give_due.new.line.items c.give_due.result is rest e.rest.1 e.rest.0 e.rest.2 e.none (c.is_due.ensures.due c.if-is_due.true) c.requires.going.kept e.line e.end e.whole
 
+pub returns-then-is_due-clause-same : goal.returns-then-is_due-clause-same
+returns-then-is_due-clause-same g c = let e = c.give_due.ensures in (e.rest.0, ap (λ (v : Source g.row.R.Denot). v.tail) e.rest.1)
+
+pub returns-in-End-clause-same : goal.returns-in-End-clause-same
+returns-in-End-clause-same g c =
+    let e = c.give_kept.ensures in
+    let inv = c.samples.invariant in
+    (e.rest.0 ∙ inv.same.0, ap (λ (v : Source g.row.R.Denot). v.tail) e.rest.1 ∙ c.in-End.ensures.same.1 ∙ inv.tail)
+
+pub returns-then-t-self-clause-same : goal.returns-then-t-self-clause-same
+returns-then-t-self-clause-same g c =
+    let e = c.give.ensures in
+    let inv = c.samples.invariant in
+    (e.rest.0 ∙ inv.same.0, ap (λ (v : Source g.row.R.Denot). v.tail) e.rest.1 ∙ c.in-Line.ensures.same.1 ∙ inv.tail)
+
 pub returns-then-is_due-clause-reads : goal.returns-then-is_due-clause-reads
 returns-then-is_due-clause-reads g c tells ps given has =
     let R = g.R.ReadAt in
@@ -120,6 +135,7 @@ returns-in_default g c =
     record {
       going = λ t is. absurd (none t is);
       ty = e.same.0 ∙ inv.same.1;
+      same = (inv.same.0, e.same.1 ∙ inv.tail);
       lines = λ tells ps xs is rest. answers_none R.bytes (P.left c.pull.new.pieces) _ xs c.pull.new.line.items r none more;
       reads = λ tells ps given has. gives_none R.bytes P.opened c.args.pieces.now ps c.pull.new.pieces (P.count c.pull.new.pieces) _ c.args.self.now.source.ty c.args.self.now.query c.args.self.now.source.tail.items given c.pull.new.line.items r none more;
       event = λ t is. absurd (none t is);
