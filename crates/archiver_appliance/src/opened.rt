@@ -4,7 +4,7 @@ ghost use Rattle.std.specs.Prelude.{◌≡◌, ◌≤◌, ◌<◌, ◌^◌, [], 
 ghost use Rattle.disk_model.specs.Files.{Name, Rose};
 ghost use Rattle.edge_io.specs.Moments.{Gives};
 ghost use Rattle.partition_names.specs.declared.granularity.Granularity.{Granularity as GranularityValue};
-ghost use Rattle.store_reopen.specs.Reopen.{HasRead, IsReady, IsUnopened, OpensEither, disk_in, disk_of, lists_of, stores_of};
+ghost use Rattle.store_reopen.specs.Reopen.{HasRead, IsReady, IsSwept, IsUnopened, OpensEither, disk_in, disk_of, lists_of, stores_of};
 ghost use Rattle.store_reopen.specs.Verdict.{AreSaid, Differs, IsDamaged, IsWhole};
 ghost use Rattle.store_reopen.specs.declared.error.ReopenErr.TheVariants.{DiskFault, Damaged, GranularityDiffers};
 ghost use Rattle.tier_store.specs.Change.{Has};
@@ -134,6 +134,7 @@ fn opened<D: Disk>(
     ensures differs { IsTrue D.tells → (d : D) (kept asked : GranularityValue) → result ≡ Err (GranularityDiffers d kept asked)
         → Differs (stores_of config.now) (D.files disk) kept asked }
     ensures opens { IsTrue D.tells → OnlyOpens (stores_of config.now) (D.files disk) (D.files (disk_of result)) (D.past disk) (D.past (disk_of result)) }
+    ensures swept { IsTrue D.tells → (IsReport command.now → ⊥) → IfOk result (λ s. IsSwept (stores_of config.now) (D.files disk) (D.files s.disk) (D.past s.disk)) }
     ensures reads { IsTrue D.tells → IsReading (stores_of config.now) command.now (D.files disk)
         → OnlyReads (stores_of config.now) (D.files disk) (D.files (disk_of result)) (D.past disk) (D.past (disk_of result)) }
     ensures unopened { IsTrue D.tells → IsUnopened (D.files (disk_of result)) (D.opened (disk_of result)) }

@@ -38,7 +38,8 @@ use stream_merge::Merge;
 ///
 /// It pins the variable, opens the pin's pieces one by one, in order, by later acts, and reads them outside every act. Then it gives up
 /// the pin, at every answer, unless no act is left for that. At `Finished` the whole text was written, and at every other answer a front
-/// of it. Where no pin was made the output is untouched.
+/// of it. Where no pin was made the output is untouched. Over files that somebody has damaged inside, `Finished` comes where no bad line was
+/// met, and the text is the answer over what was read.
 pub fn retrieve<A: Actor, O: Out>(
     alloc: Global,
     actor: &mut A,

@@ -15,9 +15,10 @@
 //! Memory doesn't grow with the pieces: two buffers of one line change places, one line given and one held back.
 //!
 //! Caveats: of a piece that is no file of the type the contracts say that each line that is given is an event of the type and later than
-//! those before it, and that `Damaged` tells a line that no such file has there. Lines that are passed over aren't looked at, so damage in
-//! them isn't found, and `TakesFew` isn't promised. Of readers that don't tell their bytes, as real files, the contracts say besides why a
-//! call fails, and not which lines come.
+//! those before it, that `Damaged` tells a line that no such file has there, and that at the end what was given is the answer over what was
+//! read (`AnswersRead`): of each piece good lines from where its reading began to its end, or to one behind the interval. Lines that are
+//! passed over aren't looked at, so damage in them isn't found, and `TakesFew` isn't promised. Of readers that don't tell their bytes, as
+//! real files, the contracts say besides why a call fails, and not which lines come.
 //!
 //! Tests: `unit_tests`, of worked merges and of the bytes that are read of a large file.
 #![tactic(auto)]
