@@ -18,7 +18,7 @@ use Rattle.stream_merge.specs.declared.source.OpenPiece.{OpenPiece}
 use Rattle.stream_merge.specs.Pieces.{NamedBytes, Failure}
 use Rattle.stream_merge.specs.Reading.{IsSampleOf}
 use Rattle.stream_merge.specs.Source.{Went, HasFailed}
-use Rattle.stream_merge.specs.Merging.{Rest, StillGives, Answers}
+use Rattle.stream_merge.specs.Merging.{Rest, StillGives, GoesBehind, Answers}
 use Rattle.retrieval_query.specs.declared.retrieved.Retrieved.{Retrieved}
 use Rattle.retrieval_query.specs.declared.retrieved.Retrieved.TheVariants as retrieved
 use Rattle.stream_merge.specs.Reads.{AnswersRead}
@@ -50,6 +50,10 @@ events_more ty [] s all one = (one, tt)
 events_more ty (x ∷ xs) s all one = (all.0, events_more ty xs s all.1 one)
 
 -- WHAT WAS GIVEN
+
+-- a line in memory is what a call would have come to
+pub held_answers : {R : Type 0} (tells : Bool) (bytes : R → List ℕ) (left : List NamedBytes → Type 0) (m : Merge R) (t : ℕ) (line : List ℕ) (after : Merge R) → GoesBehind tells bytes m t line after → IsTrue tells → (ps : List NamedBytes) (xs : List Sample) → left ps → Rest bytes m ps xs → Answers bytes left after xs line (merged.Line t)
+held_answers {R} tells bytes left m t line after goes told ps xs is rest = let a = goes.gives told ps xs rest in (a.0, a.1, record { pieces = ps; left_is = is; rest = a.2 })
 
 -- These samples were given so far, which rise up to this moment; and where the pieces tell what comes, the rest of it is still to come.
 pub record Giving {P O R : Type 0} (tells : Bool) (bytes : R → List ℕ) (left : P → List NamedBytes → Type 0) (gave : O → Subject → List Sample → O → Type 0) (ty : PayloadType) (first : P) (start : Merge R) (old : O) (subject : Subject) (count from : ℕ) (pieces : P) (merge : Merge R) (out : O) : Type 0 where

@@ -47,6 +47,13 @@ pub(crate) fn give_answer<P: Pieces, O: Out, L: Ledger>(
     let mut line = Vec::new(alloc);
     let mut count = 0;
     'lines: loop {
+        if let Some((t, held)) = merge.held(&mut line) {
+            let len = held.len();
+            out.sample(t, held)?;
+            merge.pass(t, len, &mut steps);
+            count += 1;
+            continue;
+        }
         match merge.next(pieces, &mut line, &mut steps) {
             Merged::Line { t } => {
                 out.sample(t, &line)?;
