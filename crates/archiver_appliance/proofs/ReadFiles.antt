@@ -40,7 +40,7 @@ use Rattle.archiver_appliance.specs.Acting.{ActsAlone}
 use Rattle.archiver_appliance.specs.Retrieving.{GetsRead, IsListedFront, IsRetrieved, ReadsListed, ReadsPin, ReadsPinAt, subject_of}
 use Rattle.archiver_appliance.proofs.Chained.{done_alone}
 use Rattle.archiver_appliance.proofs.Damages.{IsRowFile, opened_files}
-use Rattle.archiver_appliance.proofs.PinSteps.{first_step, one_has, pin_named}
+use Rattle.archiver_appliance.proofs.PinSteps.{first_step, found_name, one_has, pin_named}
 
 -- OF ONE WHO ACTS ALONE
 
@@ -92,6 +92,9 @@ listed_front tells at held has name n r = record {
   bytes = r.bytes;
 }
 
+same_subject : (query : Query) (n n' : List ℕ) (x x' : About) → n ≡ n' → x ≡ x' → ◌≡◌ {A = Subject} (record { name = n; about = x; query = query }) (record { name = n'; about = x'; query = query })
+same_subject query n n' x x' p q = rw (p, q) refl
+
 no_tail : (tails : List TailState) (i : ℕ) → tails ≡ [] → (tail_at tails i).samples ≡ []
 no_tail tails i none = ap (λ (ts : List TailState). (tail_at ts i).samples) none
 
@@ -106,9 +109,9 @@ module _ {D R : Type 0} (disk : Ghosts D R) (old new : Archive D R) (store : Tie
       let one = one_has disk.tells (parts disk old) start name row.i row.row stands row.found row.here in
       let own = one.0.row in
       let about_is : r.about ≡ own.about = row.about_is ∙ sym one.1 in
-      let name_is : r.told_name ≡ own.name = row.name_is ∙ (sym (stands.rows.each row.i row.row row.here).is.name ∙ refl) in
+      let name_is : r.told_name ≡ own.name = row.name_is ∙ (found_name start name row.i row.row row.found row.here ∙ sym one.0.is) in
       let no_more : r.tail ≡ [] = row.tail_is ∙ ((stands.rows.each row.i row.row row.here).is.tail ∙ no_tail old.intake row.i empty) in
-      let subject_is : ◌≡◌ {A = Subject} (record { name = r.told_name; about = r.about; query = query }) (subject_of own query) = rw (name_is, about_is) refl in
+      let subject_is : ◌≡◌ {A = Subject} (record { name = r.told_name; about = r.about; query = query }) (subject_of own query) = same_subject query r.told_name own.name r.about own.about name_is about_is in
       let files = λ (n : NamedBytes) (among : Contains (map named r.told) n).
       listed_front disk.tells (seen disk old.store) held has_old name n
       (opened_files disk.tells (λ x m. Stands disk.tells (parts disk x) m) (parts disk) told name query r.pin r.told_name r.about r.pieces r.tail r.told (given_up r.pin) r.made.entries old new (done_alone r.made.entries (first ∷ rest) r.made.no_others r.made.just_these) r.made.chain has_old.settled n among) in

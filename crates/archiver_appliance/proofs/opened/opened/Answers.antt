@@ -25,3 +25,9 @@ returns-else-only_reads-clause-reads g c told reading =
 
 pub returns-else-only_reads-clause-unopened : goal.returns-else-only_reads-clause-unopened
 returns-else-only_reads-clause-unopened g c told = (c.reopen.ensures.sweeps told).unopened
+
+pub returns-then-only_reads-clause-swept : goal.returns-then-only_reads-clause-swept
+returns-then-only_reads-clause-swept g c told acts = absurd (acts (c.only_reads.ensures.reads c.if-only_reads.true))
+
+pub returns-else-only_reads-clause-swept : goal.returns-else-only_reads-clause-swept
+returns-else-only_reads-clause-swept g c told acts = c.reopen.ensures.swept told
