@@ -62,6 +62,8 @@ module _ {A O D R : Type 0} (number : A → ℕ) (between : A → List Entry →
         pieces = r.pieces;
         tail = r.tail;
         told = f.told;
+        left = f.left;
+        all = f.all;
         made = alone _ all;
         samples = f.given;
         answers = f.answers;
@@ -115,7 +117,7 @@ module _ {D R : Type 0} (disk : Ghosts D R) (old new : Archive D R) (store : Tie
       let files = λ (n : NamedBytes) (among : Contains (map named r.told) n).
       listed_front disk.tells (seen disk old.store) held has_old name n
       (opened_files disk.tells (λ x m. Stands disk.tells (parts disk x) m) (parts disk) told name query r.pin r.told_name r.about r.pieces r.tail r.told (given_up r.pin) r.made.entries old new (done_alone r.made.entries (first ∷ rest) r.made.no_others r.made.just_these) r.made.chain has_old.settled n among) in
-      let answers : AnswersRead own.about.ty query (map named r.told) [] r.samples = subst (λ (x : About). AnswersRead x.ty query (map named r.told) [] r.samples) about_is (subst (λ (l : List Sample). AnswersRead r.about.ty query (map named r.told) l r.samples) no_more r.answers) in
+      let answers : AnswersRead own.about.ty query (map named r.told) r.left [] r.samples = subst (λ (x : About). AnswersRead x.ty query (map named r.told) r.left [] r.samples) about_is (subst (λ (l : List Sample). AnswersRead r.about.ty query (map named r.told) r.left l r.samples) no_more r.answers) in
       let done : ReadsListed (disk.files old.store.disk) old.store.catalogue.rows (lists_of old.store.manifests.items) name query a b = record {
         id = row.i;
         row = own;
@@ -123,6 +125,7 @@ module _ {D R : Type 0} (disk : Ghosts D R) (old new : Archive D R) (store : Tie
         is_named = one.0.is;
         pieces = map named r.told;
         listed = files;
+        left = r.left;
         samples = r.samples;
         answers = answers;
         text = r.text;
@@ -165,6 +168,7 @@ listed_in files f₂ rows r₂ lists l₂ name query a b rows_are lists_are same
   is_named = r.is_named;
   pieces = r.pieces;
   listed = λ piece among. front_in files f₂ rows r₂ lists l₂ name rows_are lists_are same piece (r.listed piece among);
+  left = r.left;
   samples = r.samples;
   answers = r.answers;
   text = r.text;

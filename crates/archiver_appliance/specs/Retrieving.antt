@@ -194,9 +194,11 @@ pub record ReadsPin {D R : Type 0} (disk : Ghosts D R) (old : Archive D R) (name
   pub pieces : ℕ
   pub tail : List Sample
   pub told : List PieceTold
+  pub left : ℕ
+  pub all : length told + left ≡ pieces
   pub made : ActsAlone disk old (record { act = Pin name query; answer = answer.Pinned pin told_name about pieces tail } ∷ (openings pin 0 told ++ given_up pin)) new
   pub samples : List Sample
-  pub answers : AnswersRead about.ty query (map named told) tail samples
+  pub answers : AnswersRead about.ty query (map named told) left tail samples
   pub text : List ℕ
   pub raw : IsRaw (record { name = told_name; about = about; query = query }) samples text
   pub written : Appends a b text
@@ -225,8 +227,9 @@ pub record ReadsListed (files : Files) (rows : List Row) (lists : Listings) (nam
   pub is_named : row.name ≡ name
   pub pieces : List NamedBytes
   pub listed : (piece : NamedBytes) → Contains pieces piece → IsListedFront files rows lists name piece
+  pub left : ℕ
   pub samples : List Sample
-  pub answers : AnswersRead row.about.ty query pieces [] samples
+  pub answers : AnswersRead row.about.ty query pieces left [] samples
   pub text : List ℕ
   pub raw : IsRaw (subject_of row query) samples text
   pub written : Appends a b text

@@ -1,5 +1,5 @@
 -- What a retrieval did behind its pin.
-use Rattle.std.proofs.Common.{◌≡◌, ◌⊎◌, ℕ, inl, inr, Bool, List, [], ◌++◌, length, Some, None, Ok, Err, Result, refl, sym, ap, ◌∙◌, subst, append-nil, zero-add}
+use Rattle.std.proofs.Common.{◌≡◌, ◌⊎◌, ℕ, inl, inr, Bool, List, [], ◌++◌, length, Some, None, Ok, Err, Result, refl, sym, ap, ◌∙◌, subst, append-nil, zero-add, arith}
 use Rattle.std.specs.Prelude.{IsErrOf, map}
 use Rattle.pb_wire.specs.declared.payload.PayloadType.{PayloadType}
 use Rattle.act_model.specs.History.{Entry, Done, Made}
@@ -7,7 +7,7 @@ use Rattle.stream_merge.specs.Pieces.{NamedBytes, Failure, Faulted, OutOfActs, O
 use Rattle.stream_merge.specs.Reading.{IsDamaged}
 use Rattle.retrieval_query.specs.declared.retrieved.Retrieved.{Retrieved}
 use Rattle.retrieval_query.specs.declared.retrieved.Retrieved.TheVariants.{Finished, NoSuchVariable, ReadFault, Damaged, SinkFault, Spent, Memory}
-use Rattle.retrieval_query.specs.Openings.{PieceTold, OpensOf, FailsOf, openings, failing, named}
+use Rattle.retrieval_query.specs.Openings.{PieceTold, OpensLeaving, OpensOf, FailsOf, openings, failing, named}
 use Rattle.series_model.specs.declared.sample.Sample.{Sample}
 use Rattle.act_model.specs.Event.{AreEvents}
 use Rattle.act_model.specs.Out.{Subject}
@@ -107,18 +107,20 @@ module _ {A R : Type 0} (number : A → ℕ) (between : A → List Entry → A �
   reads (Err Memory) (inr w) cause e = badly OutOfMemory w e.unpin e.made e.is (λ told. subst (λ r. Ends tells faults ty pin told (failing pin (length told) OutOfMemory) e.unpin (is_spent mid ⊎ is_spent new) rose r) (sym e.ends) (inr refl))
 
 -- What was written to its end is the answer over what was read.
-module _ {A O R : Type 0} (number : A → ℕ) (between : A → List Entry → A → Type 0) (is_spent : A → Type 0) (finished broke gave : O → Subject → List Sample → O → Type 0) (old mid new : A) (pin left : ℕ) (rose : Type 0) (tail : List Sample) (subject : Subject) (before during after : O) where
-  finishes : (count told : ℕ) → GivesRead (OpensOf number between pin 0 left) gave subject.query tail before subject old count mid during → EndsPinned {R = R} number between is_spent mid pin rose (Ok count) (Finished told) new
-      → ((xs : List Sample) → AreEvents subject.about.ty xs → Gives {R = R} gave broke before subject xs (Ok count) during → Writes {R = R} finished broke before subject xs (Finished told) after) → FinishesRead number between finished old pin tail subject before new after
+module _ {A O R : Type 0} (number : A → ℕ) (between : A → List Entry → A → Type 0) (is_spent : A → Type 0) (finished broke gave : O → Subject → List Sample → O → Type 0) (old mid new : A) (pin pieces left : ℕ) (rose : Type 0) (tail : List Sample) (subject : Subject) (before during after : O) where
+  finishes : (count told : ℕ) → GivesRead (OpensLeaving number between pin 0 pieces left) gave subject.query left tail before subject old count mid during → EndsPinned {R = R} number between is_spent mid pin rose (Ok count) (Finished told) new
+      → ((xs : List Sample) → AreEvents subject.about.ty xs → Gives {R = R} gave broke before subject xs (Ok count) during → Writes {R = R} finished broke before subject xs (Finished told) after) → FinishesRead number between finished old pin pieces tail subject before new after
   finishes count told r e writes =
-      let opened = r.were.3 in
+      let opened = r.were.2 in
       record {
         told = opened.told;
+        left = left;
+        all = omega (arith, opened.all, opened.next_is);
         stopped = mid;
         made = opened.made;
         unpinned = subst (λ (l : List Done). Made number between mid l new) (up e.ends) e.made;
         given = r.given;
-        answers = subst (λ (l : List NamedBytes). AnswersRead subject.about.ty subject.query l tail r.given) opened.are r.answers;
+        answers = subst (λ (l : List NamedBytes). AnswersRead subject.about.ty subject.query l left tail r.given) opened.are r.answers;
         writes = (writes r.given r.events (r.has, r.number)).0;
       }
     where
@@ -126,8 +128,8 @@ module _ {A O R : Type 0} (number : A → ℕ) (between : A → List Entry → A
       up (inl u) = u.0
       up (inr (none, is)) = absurd (cc)
 
-  pub reads_to_end : (given : Result ℕ (Retrieved R)) (result : Retrieved R) → ((count : ℕ) → given ≡ Err (Finished count) → ⊥) → GivesReadAt (OpensOf number between pin 0 left) gave subject.query tail before subject old given mid during → EndsPinned number between is_spent mid pin rose given result new
-      → ((xs : List Sample) → AreEvents subject.about.ty xs → Gives gave broke before subject xs given during → Writes finished broke before subject xs result after) → ReadsToEnd number between finished old pin tail subject before result new after
+  pub reads_to_end : (given : Result ℕ (Retrieved R)) (result : Retrieved R) → ((count : ℕ) → given ≡ Err (Finished count) → ⊥) → GivesReadAt (OpensLeaving number between pin 0 pieces left) gave subject.query left tail before subject old given mid during → EndsPinned number between is_spent mid pin rose given result new
+      → ((xs : List Sample) → AreEvents subject.about.ty xs → Gives gave broke before subject xs given during → Writes finished broke before subject xs result after) → ReadsToEnd number between finished old pin pieces tail subject before result new after
   reads_to_end (Ok count) (Finished told) none r e writes = finishes count told r e writes
   reads_to_end (Err stop) (Finished told) none r e writes = absurd (none told (ap (λ (x : Retrieved R). Err x) (sym e.ends)))
   reads_to_end given NoSuchVariable none r e writes = tt
@@ -139,7 +141,7 @@ module _ {A O R : Type 0} (number : A → ℕ) (between : A → List Entry → A
 
 module _ {A O : Type 0} (number : A → ℕ) (between : A → List Entry → A → Type 0) (finished : O → Subject → List Sample → O → Type 0) (old : A) where
   pub read_behind : {R : Type 0} (pinned new : A) (name : List ℕ) (query : Query) (pin : ℕ) (name_told : List ℕ) (about : About) (pieces : ℕ) (tail : List Sample) (out out_new : O) (result : Retrieved R) → MadeOne number between old (Pin name query) (answer.Pinned pin name_told about pieces tail) pinned
-      → ReadsToEnd number between finished pinned pin tail (record { name = name_told; about = about; query = query }) out result new out_new → RetrievesToEnd number between finished old name query out result new out_new
+      → ReadsToEnd number between finished pinned pin pieces tail (record { name = name_told; about = about; query = query }) out result new out_new → RetrievesToEnd number between finished old name query out result new out_new
   read_behind pinned new name query pin name_told about pieces tail out out_new (Finished count) pins reads = record { pin = pin; name_told = name_told; about = about; pieces = pieces; tail = tail; pinned = pinned; pins = pins; reads = reads }
   read_behind pinned new name query pin name_told about pieces tail out out_new NoSuchVariable pins reads = tt
   read_behind pinned new name query pin name_told about pieces tail out out_new (ReadFault f) pins reads = tt

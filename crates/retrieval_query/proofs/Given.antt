@@ -130,23 +130,23 @@ module _ {P O R : Type 0} (tells : Bool) (bytes : R → List ℕ) (left : P → 
           subst (λ (l : List Sample). broke old subject l out) (sym w.1) (front old out subject g.given w.0 (subst (λ (l : List Sample). AreEvents subject.about.ty l) w.1 events) g.has)
 
 -- what was given is the answer over what was read
-pub gives_read : {P O : Type 0} (opened : P → List NamedBytes → P → Type 0) (gave : O → Subject → List Sample → O → Type 0) (query own : Query) (tail rest : List Sample) (old : O) (subject : Subject) (ty : PayloadType) (first : P) (count : ℕ) (last : P) (new : O) (pieces : List NamedBytes) (given : List Sample) → own ≡ query → rest ≡ tail → ty ≡ subject.about.ty
-    → opened first pieces last → AreEvents subject.about.ty given → count ≡ length given → AnswersRead ty own pieces rest given → gave old subject given new → GivesRead opened gave query tail old subject first count last new
-gives_read opened gave query own tail rest old subject ty first count last new pieces given asked of_tail same were events number answers has = record {
+pub gives_read : {P O : Type 0} (opened : P → List NamedBytes → P → Type 0) (gave : O → Subject → List Sample → O → Type 0) (query own : Query) (left : ℕ) (tail rest : List Sample) (old : O) (subject : Subject) (ty : PayloadType) (first : P) (count : ℕ) (last : P) (new : O) (pieces : List NamedBytes) (given : List Sample) → own ≡ query → rest ≡ tail → ty ≡ subject.about.ty
+    → opened first pieces last → AreEvents subject.about.ty given → count ≡ length given → AnswersRead ty own pieces left rest given → gave old subject given new → GivesRead opened gave query left tail old subject first count last new
+gives_read opened gave query own left tail rest old subject ty first count last new pieces given asked of_tail same were events number answers has = record {
   pieces = pieces;
   were = were;
   given = given;
   events = events;
   number = number;
-  answers = subst (λ (q : Query). AnswersRead subject.about.ty q pieces tail given) asked (subst (λ (l : List Sample). AnswersRead subject.about.ty own pieces l given) of_tail (subst (λ (y : PayloadType). AnswersRead y own pieces rest given) same answers));
+  answers = subst (λ (q : Query). AnswersRead subject.about.ty q pieces left tail given) asked (subst (λ (l : List Sample). AnswersRead subject.about.ty own pieces left l given) of_tail (subst (λ (y : PayloadType). AnswersRead y own pieces left rest given) same answers));
   has = has;
 }
 
 -- seen by those who open them
-pub read_as : {P Q O R : Type 0} (opened : P → List NamedBytes → P → Type 0) (opened₂ : Q → List NamedBytes → Q → Type 0) (gave : O → Subject → List Sample → O → Type 0) (query : Query) (tail : List Sample) (old : O) (subject : Subject) (first last : P) (first₂ last₂ : Q) (new : O) → ((ps : List NamedBytes) → opened first ps last → opened₂ first₂ ps last₂)
-    → (r : Result ℕ (Retrieved R)) → GivesReadAt opened gave query tail old subject first r last new → GivesReadAt opened₂ gave query tail old subject first₂ r last₂ new
-read_as opened opened₂ gave query tail old subject first last first₂ last₂ new sees (Ok count) r = record { pieces = r.pieces; were = sees r.pieces r.were; given = r.given; events = r.events; number = r.number; answers = r.answers; has = r.has }
-read_as opened opened₂ gave query tail old subject first last first₂ last₂ new sees (Err stop) r = tt
+pub read_as : {P Q O R : Type 0} (opened : P → List NamedBytes → P → Type 0) (opened₂ : Q → List NamedBytes → Q → Type 0) (gave : O → Subject → List Sample → O → Type 0) (query : Query) (left : ℕ) (tail : List Sample) (old : O) (subject : Subject) (first last : P) (first₂ last₂ : Q) (new : O) → ((ps : List NamedBytes) → opened first ps last → opened₂ first₂ ps last₂)
+    → (r : Result ℕ (Retrieved R)) → GivesReadAt opened gave query left tail old subject first r last new → GivesReadAt opened₂ gave query left tail old subject first₂ r last₂ new
+read_as opened opened₂ gave query left tail old subject first last first₂ last₂ new sees (Ok count) r = record { pieces = r.pieces; were = sees r.pieces r.were; given = r.given; events = r.events; number = r.number; answers = r.answers; has = r.has }
+read_as opened opened₂ gave query left tail old subject first last first₂ last₂ new sees (Err stop) r = tt
 
 -- WHY IT STOPPED
 

@@ -73,18 +73,18 @@ pub record GivesSome {O R : Type 0} (gave broke : O → Subject → List Sample 
   pub rising : IsRising given
   pub gives : Gives gave broke old subject given result new
 
--- An output was given the answer over what was read of the pieces that were opened, and of the tail: of each piece all from where its reading
--- began, or as much as there is up to a sample behind the interval.
-pub record GivesRead {P O : Type 0} (opened : P → List NamedBytes → P → Type 0) (gave : O → Subject → List Sample → O → Type 0) (query : Query) (tail : List Sample) (old : O) (subject : Subject) (first : P) (count : ℕ) (last : P) (new : O) : Type 0 where
+-- An output was given the answer over what was read of the pieces that were opened, and of the tail, and so many pieces are left: of each piece
+-- all from where its reading began, with none left, or as much as there is up to a sample behind the interval.
+pub record GivesRead {P O : Type 0} (opened : P → List NamedBytes → P → Type 0) (gave : O → Subject → List Sample → O → Type 0) (query : Query) (left : ℕ) (tail : List Sample) (old : O) (subject : Subject) (first : P) (count : ℕ) (last : P) (new : O) : Type 0 where
   pub pieces : List NamedBytes
   pub were : opened first pieces last
   pub given : List Sample
   pub events : AreEvents subject.about.ty given
   pub number : count ≡ length given
-  pub answers : AnswersRead subject.about.ty query pieces tail given
+  pub answers : AnswersRead subject.about.ty query pieces left tail given
   pub has : gave old subject given new
 
 -- so it is where the answer came to its end
-abbrev pub GivesReadAt : {P O R : Type 0} → (P → List NamedBytes → P → Type 0) → (O → Subject → List Sample → O → Type 0) → Query → List Sample → O → Subject → P → Result ℕ (Retrieved R) → P → O → Type 0
-GivesReadAt opened gave query tail old subject first (Ok count) last new = GivesRead opened gave query tail old subject first count last new
-GivesReadAt opened gave query tail old subject first (Err stop) last new = Unit {0}
+abbrev pub GivesReadAt : {P O R : Type 0} → (P → List NamedBytes → P → Type 0) → (O → Subject → List Sample → O → Type 0) → Query → ℕ → List Sample → O → Subject → P → Result ℕ (Retrieved R) → P → O → Type 0
+GivesReadAt opened gave query left tail old subject first (Ok count) last new = GivesRead opened gave query left tail old subject first count last new
+GivesReadAt opened gave query left tail old subject first (Err stop) last new = Unit {0}

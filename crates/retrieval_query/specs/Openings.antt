@@ -66,6 +66,10 @@ pub record FailsToOpen {A : Type 0} (number : A → ℕ) (between : A → List E
 abbrev pub OpensOf : {A : Type 0} → (A → ℕ) → (A → List Entry → A → Type 0) → ℕ → ℕ → ℕ → A → List NamedBytes → A → Type 0
 OpensOf number between pin next left old pieces new = (pin_now : ℕ) × (next_now : ℕ) × (left_now : ℕ) × HasOpened number between old pin next left pieces new pin_now next_now left_now
 
+-- and so many pieces are left then
+abbrev pub OpensLeaving : {A : Type 0} → (A → ℕ) → (A → List Entry → A → Type 0) → ℕ → ℕ → ℕ → ℕ → A → List NamedBytes → A → Type 0
+OpensLeaving number between pin next left left_now old pieces new = (pin_now : ℕ) × (next_now : ℕ) × HasOpened number between old pin next left pieces new pin_now next_now left_now
+
 abbrev pub FailsOf : {A : Type 0} → (A → ℕ) → (A → List Entry → A → Type 0) → (A → Type 0) → ℕ → ℕ → A → Failure → A → Type 0
 FailsOf number between is_spent pin next old why new = (pin_now : ℕ) × FailsToOpen number between is_spent old pin next why new pin_now
 

@@ -1,5 +1,5 @@
 -- What a retrieval asks for and writes. It pins the variable; where a pin was made it opens some of its pieces and gives the pin up.
-use Rattle.std.specs.Prelude.{◌≡◌, ◌≢◌, ◌⊎◌, ℕ, Bool, IsTrue, List, [], ◌∷◌, ◌++◌, length, map, None, Some, Result, Ok, Err, slice_get}
+use Rattle.std.specs.Prelude.{◌≡◌, ◌≢◌, ◌⊎◌, ◌+◌, ℕ, Bool, IsTrue, List, [], ◌∷◌, ◌++◌, length, map, None, Some, Result, Ok, Err, slice_get}
 use Rattle.pb_wire.specs.declared.payload.PayloadType.{PayloadType}
 use Rattle.event_types.specs.declared.about.About.{About}
 use Rattle.payload_info.specs.declared.info.PayloadInfo.{PayloadInfo}
@@ -133,22 +133,24 @@ pub record WritesAnswer {A O R : Type 0} (number : A → ℕ) (between : A → L
 
 -- WHAT WAS READ
 
--- These pieces of a pin were opened and then it was given up, by just these acts, and what was written is the answer over what was read of
--- them and of the tail, whatever they have: of each piece all from where its reading began, or as much as there is up to a sample behind
--- the interval.
-pub record FinishesRead {A O : Type 0} (number : A → ℕ) (between : A → List Entry → A → Type 0) (finished : O → Subject → List Sample → O → Type 0) (old : A) (pin : ℕ) (tail : List Sample) (subject : Subject) (out : O) (new : A) (out_new : O) : Type 0 where
+-- These pieces of a pin that has so many were opened and then it was given up, by just these acts, and what was written is the answer over
+-- what was read of them and of the tail, whatever they have: of each piece all from where its reading began, with none left, or as much as
+-- there is up to a sample behind the interval.
+pub record FinishesRead {A O : Type 0} (number : A → ℕ) (between : A → List Entry → A → Type 0) (finished : O → Subject → List Sample → O → Type 0) (old : A) (pin pieces : ℕ) (tail : List Sample) (subject : Subject) (out : O) (new : A) (out_new : O) : Type 0 where
   pub told : List PieceTold
+  pub left : ℕ
+  pub all : length told + left ≡ pieces
   pub stopped : A
   pub made : Made number between old (openings pin 0 told) stopped
   pub unpinned : Made number between stopped (given_up pin) new
   pub given : List Sample
-  pub answers : AnswersRead subject.about.ty subject.query (map named told) tail given
+  pub answers : AnswersRead subject.about.ty subject.query (map named told) left tail given
   pub writes : finished out subject given out_new
 
 -- so it is where the whole text was written
-abbrev pub ReadsToEnd : {A O R : Type 0} → (A → ℕ) → (A → List Entry → A → Type 0) → (O → Subject → List Sample → O → Type 0) → A → ℕ → List Sample → Subject → O → Retrieved R → A → O → Type 0
-ReadsToEnd number between finished old pin tail subject out (Finished count) new out_new = FinishesRead number between finished old pin tail subject out new out_new
-ReadsToEnd number between finished old pin tail subject out _ new out_new = Unit {0}
+abbrev pub ReadsToEnd : {A O R : Type 0} → (A → ℕ) → (A → List Entry → A → Type 0) → (O → Subject → List Sample → O → Type 0) → A → ℕ → ℕ → List Sample → Subject → O → Retrieved R → A → O → Type 0
+ReadsToEnd number between finished old pin pieces tail subject out (Finished count) new out_new = FinishesRead number between finished old pin pieces tail subject out new out_new
+ReadsToEnd number between finished old pin pieces tail subject out _ new out_new = Unit {0}
 
 -- behind the act that made the pin
 pub record RetrievesRead {A O : Type 0} (number : A → ℕ) (between : A → List Entry → A → Type 0) (finished : O → Subject → List Sample → O → Type 0) (old : A) (name : List ℕ) (query : Query) (out : O) (new : A) (out_new : O) : Type 0 where
@@ -159,7 +161,7 @@ pub record RetrievesRead {A O : Type 0} (number : A → ℕ) (between : A → Li
   pub tail : List Sample
   pub pinned : A
   pub pins : MadeOne number between old (Pin name query) (answer.Pinned pin name_told about pieces tail) pinned
-  pub reads : FinishesRead number between finished pinned pin tail (record { name = name_told; about = about; query = query }) out new out_new
+  pub reads : FinishesRead number between finished pinned pin pieces tail (record { name = name_told; about = about; query = query }) out new out_new
 
 abbrev pub RetrievesToEnd : {A O R : Type 0} → (A → ℕ) → (A → List Entry → A → Type 0) → (O → Subject → List Sample → O → Type 0) → A → List ℕ → Query → O → Retrieved R → A → O → Type 0
 RetrievesToEnd number between finished old name query out (Finished count) new out_new = RetrievesRead number between finished old name query out new out_new

@@ -16,7 +16,7 @@ ghost use Rattle.stream_merge.specs.Merging.{IsGoing, Rest};
 ghost use Rattle.stream_merge.specs.Over.{over_all};
 ghost use Rattle.stream_merge.specs.Reads.{HasGiven};
 ghost use Rattle.retrieval_query.specs.Giving.{Gives, GivesBy, GivesReadAt, GivesSome};
-ghost use Rattle.retrieval_query.specs.Openings.{FailsOf, Holds, LeftOf, OpensOf};
+ghost use Rattle.retrieval_query.specs.Openings.{FailsOf, Holds, LeftOf, OpensLeaving, OpensOf};
 ghost use Rattle.retrieval_query.specs.Pinning.{AnswersPinned, GivesUp, IsHeld, subject_of};
 ghost use Rattle.retrieval_query.specs.Retrieving.{NotPinned, IsPinned, ReadsPinned, EndsPinned, WritesSome, Writes, WritesAnswer, ReadsHeaders, ReadsToEnd, RetrievesToEnd};
 
@@ -73,7 +73,7 @@ pub fn read_pinned<A: Actor, O: Out>(
 ) -> Retrieved<A::Reader>
     requires held { IsHeld A.number A.stands actor.old variable }
     ensures answers { AnswersPinned A.number A.between A.is_spent A.stands A.Reader.tells A.Reader.faults O.finished O.broke (Rose (O.faults out.old) (O.faults out.new)) actor.old variable query out.old result actor.new out.new }
-    ensures read { IsTrue A.Reader.tells → ReadsToEnd A.number A.between O.finished actor.old variable.pin variable.tail (subject_of variable query) out.old result actor.new out.new }
+    ensures read { IsTrue A.Reader.tells → ReadsToEnd A.number A.between O.finished actor.old variable.pin variable.pieces variable.tail (subject_of variable query) out.old result actor.new out.new }
     ensures faults { O.faults out.old ≤ O.faults out.new }
     ensures stands { (n : Machine) × A.stands actor.new n }
 {
@@ -124,7 +124,7 @@ fn read_pieces<A: Actor, O: Out>(
     ensures some { WritesSome O.finished O.broke out.old (record { name = name.now; about = about.now; query = query }) result out.new }
     ensures whole { IsTrue A.Reader.tells → (ps : List NamedBytes) (lists : List (List SampleValue)) → LeftOf A.number A.stands actor.old pin 0 pieces ps → AreReadAs about.now.ty ps lists → IsRising tail → AreEvents about.now.ty (answer (over_all lists tail) query)
         → Writes O.finished O.broke out.old (record { name = name.now; about = about.now; query = query }) (answer (over_all lists tail) query) result out.new }
-    ensures read { IsTrue A.Reader.tells → ReadsToEnd A.number A.between O.finished actor.old pin tail (record { name = name.now; about = about.now; query = query }) out.old result actor.new out.new }
+    ensures read { IsTrue A.Reader.tells → ReadsToEnd A.number A.between O.finished actor.old pin pieces tail (record { name = name.now; about = about.now; query = query }) out.old result actor.new out.new }
     ensures faults { O.faults out.old ≤ O.faults out.new }
 {
     let merge = Merge::new(alloc, query, about.ty, tail);
@@ -172,7 +172,7 @@ fn give_pinned<A: Actor, O: Out, L: Ledger>(
     ensures gave { GivesSome O.gave O.broke out.old (record { name = name.now; about = about.now; query = query }) result out.new }
     ensures whole { IsTrue A.Reader.tells → (ps : List NamedBytes) (xs : List SampleValue) → LeftOf A.number A.stands pieces.old.actor.now pieces.old.pin pieces.old.next pieces.old.left ps → Rest A.Reader.bytes merge ps xs → AreEvents about.now.ty xs
         → Gives O.gave O.broke out.old (record { name = name.now; about = about.now; query = query }) xs result out.new }
-    ensures reads { IsTrue A.Reader.tells → merge.query ≡ query → HasGiven A.Reader.bytes merge pieces.old.left [] [] → GivesReadAt (OpensOf A.number A.between pieces.old.pin pieces.old.next pieces.old.left) O.gave query merge.source.tail.items out.old (record { name = name.now; about = about.now; query = query }) pieces.old.actor.now result pieces.new.actor.now out.new }
+    ensures reads { IsTrue A.Reader.tells → merge.query ≡ query → HasGiven A.Reader.bytes merge pieces.old.left [] [] → GivesReadAt (OpensLeaving A.number A.between pieces.old.pin pieces.old.next pieces.old.left pieces.new.left) O.gave query pieces.new.left merge.source.tail.items out.old (record { name = name.now; about = about.now; query = query }) pieces.old.actor.now result pieces.new.actor.now out.new }
     ensures faults { O.faults out.old ≤ O.faults out.new }
     ensures cause { IsErrOf result Retrieved.SinkFault → Rose (O.faults out.old) (O.faults out.new) }
 {

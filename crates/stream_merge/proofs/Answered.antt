@@ -109,18 +109,18 @@ are_read {R} bytes s left ps read h = record {
 }
 
 -- all was read, and nothing is kept
-pub answers_all : {R : Type 0} (bytes : R → List ℕ) (m : Merge R) (s : Source R) (left left₂ : ℕ) (ps ps₂ : List NamedBytes) (given : List Sample) → kept_of m.kept m.kept_line.items ≡ [] → (h : HasGiven bytes m left ps given) → HasRead bytes s left₂ ps₂ h.read → HasReadAll bytes s left₂ → AnswersRead s.ty m.query ps₂ s.tail.items given
+pub answers_all : {R : Type 0} (bytes : R → List ℕ) (m : Merge R) (s : Source R) (left left₂ : ℕ) (ps ps₂ : List NamedBytes) (given : List Sample) → kept_of m.kept m.kept_line.items ≡ [] → (h : HasGiven bytes m left ps given) → HasRead bytes s left₂ ps₂ h.read → HasReadAll bytes s left₂ → AnswersRead s.ty m.query ps₂ left₂ s.tail.items given
 unfolding are_read
 answers_all {R} bytes m s left left₂ ps ps₂ given none h has all = record {
   read = h.read;
   are = are_read bytes s left₂ ps₂ h.read has;
-  ends = inl (ap (λ (o : Option (OpenPiece R)). open_pieces bytes o) all.none_open, all.tail);
+  ends = inl (all.no_piece, ap (λ (o : Option (OpenPiece R)). open_pieces bytes o) all.none_open, all.tail);
   is = sym (append-nil given) ∙ ap (λ (l : List Sample). given ++ answer (l ++ []) m.query) (sym none) ∙ sym (h.so [] (λ a. refl)) ∙ ap (λ (l : List Sample). answer (taken l) m.query) (append-nil h.read);
 }
 
 -- one of the samples that were read is behind the interval
 pub answers_past : {R : Type 0} (bytes : R → List ℕ) (m : Merge R) (s : Source R) (left left₂ : ℕ) (ps ps₂ : List NamedBytes) (given : List Sample) (x : Sample) → (h : HasGiven bytes m left ps given) → HasRead bytes s left₂ ps₂ (h.read ++ x ∷ []) → (HasReadAll bytes m.source left → ⊥)
-    → m.query.from ≤ x.t → m.query.to < x.t → answer (kept_of m.kept m.kept_line.items ++ taken_from (behind m.last) (x ∷ [])) m.query ≡ [] → AnswersRead s.ty m.query ps₂ s.tail.items given
+    → m.query.from ≤ x.t → m.query.to < x.t → answer (kept_of m.kept m.kept_line.items ++ taken_from (behind m.last) (x ∷ [])) m.query ≡ [] → AnswersRead s.ty m.query ps₂ left₂ s.tail.items given
 answers_past {R} bytes m s left left₂ ps ps₂ given x h has some from past none = record {
   read = h.read ++ x ∷ [];
   are = are_read bytes s left₂ ps₂ (h.read ++ x ∷ []) has;
@@ -129,7 +129,7 @@ answers_past {R} bytes m s left left₂ ps ps₂ given x h has some from past no
 }
 
 -- what is kept is behind the interval
-pub answers_kept : {R : Type 0} (bytes : R → List ℕ) (m : Merge R) (left : ℕ) (ps : List NamedBytes) (given : List Sample) (t : ℕ) → m.kept ≡ Some t → m.query.from ≤ t → m.query.to < t → t < behind m.last → (h : HasGiven bytes m left ps given) → AnswersRead m.source.ty m.query ps m.source.tail.items given
+pub answers_kept : {R : Type 0} (bytes : R → List ℕ) (m : Merge R) (left : ℕ) (ps : List NamedBytes) (given : List Sample) (t : ℕ) → m.kept ≡ Some t → m.query.from ≤ t → m.query.to < t → t < behind m.last → (h : HasGiven bytes m left ps given) → AnswersRead m.source.ty m.query ps left m.source.tail.items given
 answers_kept {R} bytes m left ps given t kept from past low h =
     let x : Sample = record { t = t; line = m.kept_line.items } in
     let k = h.kept t kept in
@@ -218,10 +218,10 @@ module _ {P R : Type 0} (bytes : R → List ℕ) (opened : P → List NamedBytes
         has = subst Q (sym (append-nil ps)) (given_kept bytes m m₂ left ps given x source query last empty h (λ more all. step_due m.query n x more (answer (ks ++ taken_from n more) m.query) ks gave.0 (due_is m.kept m.kept_line.items x m.query.from gave.0 due) gave.1 (low_is ty m.last m.kept m.kept_line.items x gave.0 kept) refl));
       }
   due_next none m m₂ left ty given line End source query last empty due kept gives ends is h =
-      let Q : List NamedBytes → Type 0 = λ l. AnswersRead m.source.ty m.query l m.source.tail.items given in
+      let Q : List NamedBytes → Type 0 = λ l. AnswersRead m.source.ty m.query l left m.source.tail.items given in
       ([], none a, subst Q (sym (append-nil ps)) (by m.kept refl))
     where
-      by : (o : Option ℕ) → m.kept ≡ o → AnswersRead m.source.ty m.query ps m.source.tail.items given
+      by : (o : Option ℕ) → m.kept ≡ o → AnswersRead m.source.ty m.query ps left m.source.tail.items given
       by None same = absurd (let D : Option ℕ → Type 0 = λ o. IsDue o m.query.from in subst D same due)
       by (Some t) same =
           let D : Option ℕ → Type 0 = λ o. IsDue o m.query.from in
@@ -250,7 +250,7 @@ module _ {P R : Type 0} (bytes : R → List ℕ) (opened : P → List NamedBytes
             subst E (sym (none all)) (step_last m.query n x [] (answer (ks ++ taken_from n []) m.query) ks refl (gives t refl) (early_is m.kept m.kept_line.items x m.query.from (gives t refl) early) refl));
       }
   last_next b more m m₂ s left left₂ pieces ty given line End were source query last empty same early gives ends is h has all =
-      let Q : PayloadType → Type 0 = λ y. AnswersRead y m.query (ps ++ more) s.tail.items given in
+      let Q : PayloadType → Type 0 = λ y. AnswersRead y m.query (ps ++ more) left₂ s.tail.items given in
       (more, were, subst Q same (answers_all bytes m s left left₂ pieces (ps ++ more) given (ends refl) h has all))
   last_next b more m m₂ s left left₂ pieces ty given line (ReadFault f) were source query last empty same early gives ends is h has all = absurd is
   last_next b more m m₂ s left left₂ pieces ty given line (Damaged name at) were source query last empty same early gives ends is h has all = absurd is
@@ -285,7 +285,7 @@ module _ {P R : Type 0} (bytes : R → List ℕ) (opened : P → List NamedBytes
           let first = subst K (sym keeps) (λ rest. refl) in
           elim (cases_lt m.query.to t) [
             | inl past ↦
-                (let Q : PayloadType → Type 0 = λ y. AnswersRead y m.query (ps ++ more) s.tail.items given in
+                (let Q : PayloadType → Type 0 = λ y. AnswersRead y m.query (ps ++ more) left₂ s.tail.items given in
                 subst G (sym (g.2 past))
                 (more, were, subst Q same (answers_past bytes m s left left₂ pieces (ps ++ more) given x h has some from past (first [] ∙ step_past m.query n x [] (x ∷ []) (answer ([] ++ taken_from n (x ∷ [])) m.query) refl low from past refl))))
             | inr within ↦

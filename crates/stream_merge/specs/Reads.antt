@@ -72,12 +72,13 @@ pub record IsBehind (query : Query) (read : List Sample) : Type 0 where
   pub from : query.from ≤ sample.t
   pub to : query.to < sample.t
 
--- These samples are the answer over what was read of the pieces and the tail, one after another, each list over those before it: that is all of each
--- piece from where its reading began, and all of the tail, or as much as there is up to a sample behind the interval.
-pub record AnswersRead (ty : PayloadType) (query : Query) (pieces : List NamedBytes) (tail given : List Sample) : Type 0 where
+-- These samples are the answer over what was read of the pieces that were opened and of the tail, one after another, each list over those
+-- before it, and so many pieces are left: that is all of each piece from where its reading began, with none left, and all of the tail, or as
+-- much as there is up to a sample behind the interval.
+pub record AnswersRead (ty : PayloadType) (query : Query) (pieces : List NamedBytes) (left : ℕ) (tail given : List Sample) : Type 0 where
   pub read : List Sample
   pub are : AreRead ty pieces tail read
-  pub ends : ((are.last ≡ []) × (are.behind_it ≡ [])) ⊎ IsBehind query read
+  pub ends : ((left ≡ 0) × (are.last ≡ []) × (are.behind_it ≡ [])) ⊎ IsBehind query read
   pub is : given ≡ answer (taken read) query
 
 -- SO FAR
@@ -154,5 +155,5 @@ module _ {R : Type 0} (bytes : R → List ℕ) where
     -- what a call came to, where these were given before: one more, or they are the answer over what was read
     abbrev pub GivesNext : PayloadType → Query → List Sample → List Sample → Merge R → List ℕ → Merged R → Type 0
     GivesNext ty query tail given m line (Line t) = GivesMore m (given ++ record { t = t; line = line } ∷ [])
-    GivesNext ty query tail given m line End = (more : List NamedBytes) × opened old more new × AnswersRead ty query (pieces ++ more) tail given
+    GivesNext ty query tail given m line End = (more : List NamedBytes) × opened old more new × AnswersRead ty query (pieces ++ more) left tail given
     GivesNext ty query tail given m line _ = Unit {0}

@@ -127,7 +127,7 @@ returns-in-End-clause-reads g c tells query first =
     let subject : Subject = record { name = c.args.name.now; about = c.args.about.now; query = c.args.query } in
     let on = inv.reads tells first in
     let end = c.in-End.ensures.reads tells on.more inv.giving.given on.has in
-    gives_read P.opened g.O.Out.gave c.args.query c.lines.merge.query c.args.merge.source.tail.items c.lines.merge.source.tail.items c.args.out.now subject c.lines.merge.source.ty c.args.pieces.now c.lines.count c.next.new.pieces c.lines.out (on.more ++ end.0) inv.giving.given (inv.same.0 ∙ query) (ap (λ v. v.items) inv.same.1) inv.ty
+    gives_read P.opened g.O.Out.gave c.args.query c.lines.merge.query (P.count c.next.new.pieces) c.args.merge.source.tail.items c.lines.merge.source.tail.items c.args.out.now subject c.lines.merge.source.ty c.args.pieces.now c.lines.count c.next.new.pieces c.lines.out (on.more ++ end.0) inv.giving.given (inv.same.0 ∙ query) (ap (λ v. v.items) inv.same.1) inv.ty
     (g.met.P.Pieces.opened_on c.args.pieces.now c.lines.pieces c.next.new.pieces on.more end.0 on.were end.1) inv.giving.events inv.giving.number end.2 inv.giving.has
 
 pub returns-in-End-clause-whole : goal.returns-in-End-clause-whole

@@ -1,7 +1,7 @@
 use Rattle.std.proofs.Common.{◌≡◌, List}
 use Rattle.stream_merge.specs.Pieces.{NamedBytes, Failure}
 use Rattle.retrieval_query.specs.declared.pinned.PinPieces.{PinPieces}
-use Rattle.retrieval_query.specs.Openings.{HasOpened, FailsToOpen, OpensOf, FailsOf}
+use Rattle.retrieval_query.specs.Openings.{HasOpened, FailsToOpen, OpensLeaving, OpensOf, FailsOf}
 use Rattle.retrieval_query.proofs.Behind.{gives_as, of_gives}
 use Rattle.act_model.specs.Out.{Subject}
 use Rattle.retrieval_query.proofs.Given.{read_as}
@@ -31,4 +31,4 @@ returns-clause-reads g c tells query first =
     let q = c.give_answer.new.pieces in
     let subject : Subject = record { name = c.args.name.now; about = c.args.about.now; query = c.args.query } in
     let opened : PinPieces g.row.A.Denot → List NamedBytes → PinPieces g.row.A.Denot → Type 0 = λ o ps n. (n.actor.ghost_name ≡ o.actor.ghost_name) × HasOpened A.number A.between o.actor.now o.pin o.next o.left ps n.actor.now n.pin n.next n.left in
-    read_as opened (OpensOf A.number A.between p.pin p.next p.left) g.O.Out.gave c.args.query c.args.merge.source.tail.items c.args.out.now subject p q p.actor.now q.actor.now c.give_answer.new.out (λ ps o. (q.pin, q.next, q.left, o.1)) c.give_answer.result (c.give_answer.ensures.reads tells query first)
+    read_as opened (OpensLeaving A.number A.between p.pin p.next p.left q.left) g.O.Out.gave c.args.query q.left c.args.merge.source.tail.items c.args.out.now subject p q p.actor.now q.actor.now c.give_answer.new.out (λ ps o. (q.pin, q.next, o.1)) c.give_answer.result (c.give_answer.ensures.reads tells query first)

@@ -1,7 +1,7 @@
 use Rattle.std.proofs.Common.{◌+◌, ◌++◌, List, length, subst, rules}
 use Rattle.disk_model.specs.Files.{Rose}
 use Rattle.retrieval_query.specs.Held.{holds_on, openings_others, failing_others, both_others}
-use Rattle.retrieval_query.specs.Openings.{Holds, OpensOf, FailsOf, openings, failing}
+use Rattle.retrieval_query.specs.Openings.{Holds, OpensLeaving, OpensOf, FailsOf, openings, failing}
 use Rattle.retrieval_query.specs.Retrieving.{ReadsPinned, ReadsToEnd}
 use Rattle.act_model.specs.Out.{Subject}
 use Rattle.series_model.specs.declared.sample.Sample.{Sample}
@@ -42,9 +42,10 @@ returns-clause-read g c tells =
     let O = g.O.Out in
     let subject : Subject = record { name = c.args.name.now; about = c.args.about.now; query = c.args.query } in
     let mid = c.give_pinned-given.new.pieces.actor.now in
+    let left = c.give_pinned-given.new.pieces.left in
     let over = c.new-merge.ensures.over in
     let first = c.give_pinned-given.ensures.reads tells over.0 (c.new-merge.ensures.nothing c.args.pieces) in
-    let T : List Sample → Type 0 = λ l. GivesReadAt (OpensOf A.number A.between c.args.pin 0 c.args.pieces) O.gave c.args.query l c.args.out.now subject c.args.actor.now c.give_pinned-given.result mid c.give_pinned-given.new.out in
-    let done : ReadsToEnd A.number A.between O.finished c.args.actor.now c.args.pin c.args.tail subject c.args.out.now c.end_pinned.result c.end_pinned.new.actor c.end_pinned.new.out =
-    reads_to_end A.number A.between A.is_spent O.finished O.broke O.gave c.args.actor.now mid c.end_pinned.new.actor c.args.pin c.args.pieces _ c.args.tail subject c.args.out.now c.give_pinned-given.new.out c.end_pinned.new.out c.give_pinned-given.result c.end_pinned.result (λ count is. rw is at c.give_pinned-given.ensures.gives) (subst T over.1 first) c.end_pinned.ensures.ends (c.end_pinned.ensures.writes c.args.out.now subject) in
+    let T : List Sample → Type 0 = λ l. GivesReadAt (OpensLeaving A.number A.between c.args.pin 0 c.args.pieces left) O.gave c.args.query left l c.args.out.now subject c.args.actor.now c.give_pinned-given.result mid c.give_pinned-given.new.out in
+    let done : ReadsToEnd A.number A.between O.finished c.args.actor.now c.args.pin c.args.pieces c.args.tail subject c.args.out.now c.end_pinned.result c.end_pinned.new.actor c.end_pinned.new.out =
+    reads_to_end A.number A.between A.is_spent O.finished O.broke O.gave c.args.actor.now mid c.end_pinned.new.actor c.args.pin c.args.pieces left _ c.args.tail subject c.args.out.now c.give_pinned-given.new.out c.end_pinned.new.out c.give_pinned-given.result c.end_pinned.result (λ count is. rw is at c.give_pinned-given.ensures.gives) (subst T over.1 first) c.end_pinned.ensures.ends (c.end_pinned.ensures.writes c.args.out.now subject) in
     search (rules, done)
