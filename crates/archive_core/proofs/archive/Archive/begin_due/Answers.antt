@@ -1,4 +1,4 @@
-use Rattle.std.proofs.Common.{Ok, Err, None, Result, ap, refl, sym, subst, ◌∙◌}
+use Rattle.std.proofs.Common.{Err, None, Result, ap, refl, sym, subst, ◌∙◌}
 use Rattle.std.proofs.lemmas.Result.{err_from_is_err_and}
 use Rattle.disk_model.specs.declared.disk.DiskErr.{DiskErr}
 use Rattle.durable_write.specs.Ends.{IsFailed, end_of_disk}
@@ -15,7 +15,7 @@ use Rattle.archive_core.specs.Wanting.{NoneRefuses}
 use Rattle.archive_core.proofs.Acting.{asked_ends, crash_settling, cut_ends, step_alone}
 use Rattle.archive_core.proofs.MoveAct.{begins_goes, begins_tell, begun_ends}
 use Rattle.archive_core.proofs.ReadingAlone.{reads_none, reads_settling, reads_then}
-use Rattle.tier_store.specs.Pinned.{SeenAll, seen_all}
+use Rattle.tier_store.specs.Pinned.{seen_all}
 use Rattle.tier_store.proofs.Strays.{ok_then}
 use Rattle.archive_core.proofs.Strays.{tidy_then}
 use Rattle.archive_core.proofs.archive.Archive.begin_due.Goals as goal

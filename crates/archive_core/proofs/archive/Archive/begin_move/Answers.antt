@@ -1,5 +1,5 @@
 use Rattle.std.specs.Prelude.{OnOk}
-use Rattle.std.proofs.Common.{Ok, Err, Result, ap, subst, ◌∙◌}
+use Rattle.std.proofs.Common.{Err, Result, ap, subst, ◌∙◌}
 use Rattle.disk_model.specs.declared.disk.DiskErr.{DiskErr}
 use Rattle.act_model.specs.MoveBegin.{MoveBeginStep}
 use Rattle.act_model.specs.Step.{store_of}

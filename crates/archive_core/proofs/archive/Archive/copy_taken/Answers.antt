@@ -1,7 +1,7 @@
 use Rattle.etl_mover.specs.Move.{MoveState as Moving}
 use Rattle.disk_model.specs.declared.disk.DiskErr.{DiskErr}
 use Rattle.std.specs.Prelude.{OnOk}
-use Rattle.std.proofs.Common.{Result, refl, ◌∙◌, Some, Ok, ℕ, ◌-◌, ◌≤◌, ap, subst, sym}
+use Rattle.std.proofs.Common.{Result, refl, ◌∙◌, Some, ℕ, ◌-◌, ◌≤◌, ap, subst, sym}
 use Rattle.tier_store.specs.Seen.{seen}
 use Rattle.archive_core.specs.Parts.{parts}
 use Rattle.archive_core.proofs.CopyTaken.{begun_there, copied_ends, damaged_ends, failed_ends, limbo_stands, more_ends, some_store, spent_ends, within}

@@ -1,4 +1,4 @@
-use Rattle.std.proofs.Common.{Ok, ◌≡◌, ℕ, true, Result, Err, IfOk, sym, ◌∙◌, ap, subst}
+use Rattle.std.proofs.Common.{◌≡◌, ℕ, true, Result, Err, IfOk, sym, ◌∙◌, ap, subst}
 use Rattle.std.proofs.lemmas.Result.{err_from_is_err_and}
 use Rattle.disk_model.specs.declared.disk.DiskErr.{DiskErr}
 use Rattle.append_buffer.specs.Tails.{batch_of}
@@ -9,7 +9,7 @@ use Rattle.archive_core.specs.Leaving.{files_of}
 use Rattle.archive_core.specs.Parts.{parts}
 use Rattle.archive_core.specs.Stands.{Rests}
 use Rattle.archive_core.proofs.FlushAct.{flush_told, flush_cut, flush_ends, crash_flush, crash_flush_cut}
-use Rattle.tier_store.specs.Pinned.{SeenAll, seen_all}
+use Rattle.tier_store.specs.Pinned.{seen_all}
 use Rattle.tier_store.proofs.Strays.{ok_then}
 use Rattle.archive_core.proofs.Strays.{tidy_then}
 use Rattle.archive_core.proofs.archive.Archive.flush_tails.Goals as goal

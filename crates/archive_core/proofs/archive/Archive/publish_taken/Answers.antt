@@ -1,6 +1,6 @@
 use Rattle.disk_model.specs.declared.disk.DiskErr.{DiskErr}
 use Rattle.std.specs.Prelude.{OnOk}
-use Rattle.std.proofs.Common.{refl, Result, subst, [], Some, Ok, ap}
+use Rattle.std.proofs.Common.{Result, subst, [], Some, ap}
 use Rattle.tier_store.specs.Seen.{seen}
 use Rattle.archive_core.specs.Parts.{parts}
 use Rattle.archive_core.proofs.Publishing.{begun_there, on_done, on_failed, on_spent}

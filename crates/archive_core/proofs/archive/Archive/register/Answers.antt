@@ -6,7 +6,6 @@ use Rattle.pv_catalog.specs.declared.error.RegisterErr.TheVariants.{NameTaken, K
 use Rattle.archive_core.specs.Parts.{parts}
 use Rattle.archive_core.proofs.Entering.{register_told}
 use Rattle.archive_core.specs.Strays.{ActsTidily}
-use Rattle.act_model.specs.declared.acts.Act.TheVariants.{Register}
 use Rattle.archive_core.specs.Ends.{register_reply}
 use Rattle.archive_core.proofs.archive.Archive.register.Goals as goal
 

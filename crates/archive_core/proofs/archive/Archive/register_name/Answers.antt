@@ -1,4 +1,4 @@
-use Rattle.std.proofs.Common.{refl, Ok, ℕ, Result, Err, sym, ◌∙◌, ap, subst}
+use Rattle.std.proofs.Common.{refl, ℕ, Result, Err, sym, ◌∙◌, ap, subst}
 use Rattle.std.proofs.lemmas.Result.{err_from_is_err_and}
 use Rattle.disk_model.specs.declared.disk.DiskErr.{DiskErr}
 use Rattle.pv_catalog.specs.Catalogue.{CatalogueState, Refuses}
@@ -9,7 +9,7 @@ use Rattle.archive_core.specs.Ends.{ChangesTo, register_reply}
 use Rattle.archive_core.specs.Leaving.{files_of}
 use Rattle.archive_core.specs.Parts.{parts}
 use Rattle.archive_core.proofs.Entering.{RegisterEnds, register_refused_first, register_cut, register_refused_then, register_done, register_failed, crash_register, crash_register_refused, crash_register_cut}
-use Rattle.tier_store.specs.Pinned.{SeenAll, seen_all}
+use Rattle.tier_store.specs.Pinned.{seen_all}
 use Rattle.archive_core.specs.Strays.{IsWell}
 use Rattle.archive_core.specs.Ends.{register_reply}
 use Rattle.archive_core.proofs.Strays.{disk_not_well, tidy_none, tidy_then}

@@ -1,4 +1,4 @@
-use Rattle.std.proofs.Common.{refl, Ok, Some, Result, Err, sym, ◌∙◌, ap, subst}
+use Rattle.std.proofs.Common.{refl, Some, Result, Err, sym, ◌∙◌, ap, subst}
 use Rattle.std.proofs.lemmas.Result.{err_from_is_err_and}
 use Rattle.disk_model.specs.declared.disk.DiskErr.{DiskErr}
 use Rattle.pv_catalog.specs.Catalogue.{CatalogueState, HasState}
@@ -10,7 +10,7 @@ use Rattle.archive_core.specs.Leaving.{files_of}
 use Rattle.archive_core.specs.Parts.{parts}
 use Rattle.archive_core.specs.Switching.{IsFound, IsUnset, from_of, to_of, switch_reply}
 use Rattle.archive_core.proofs.Setting.{SetEnds, set_refused, set_cut, set_refused_then, set_done, set_failed, crash_set, crash_refused, crash_cut}
-use Rattle.tier_store.specs.Pinned.{SeenAll, seen_all}
+use Rattle.tier_store.specs.Pinned.{seen_all}
 use Rattle.archive_core.specs.Strays.{IsWell}
 use Rattle.archive_core.specs.Switching.{switch_reply}
 use Rattle.archive_core.proofs.Strays.{disk_not_well, tidy_none, tidy_then}

@@ -1,4 +1,4 @@
-use Rattle.std.proofs.Common.{Ok, Err, ap, refl, sym, subst, ◌∙◌}
+use Rattle.std.proofs.Common.{Err, ap, refl, sym, subst, ◌∙◌}
 use Rattle.disk_model.specs.declared.disk.DiskErr.{DiskErr}
 use Rattle.std.specs.Prelude.{IsSome}
 use Rattle.durable_write.specs.Ends.{IsFailed, end_of_disk}
@@ -6,7 +6,7 @@ use Rattle.tier_store.specs.Seen.{seen}
 use Rattle.archive_core.specs.Parts.{parts}
 use Rattle.archive_core.specs.Stepping.{TakesMove, stepped_reply}
 use Rattle.archive_core.proofs.MoveStepping.{crash_cut, crash_not_running, crash_went, cut_by_fault, cut_by_memory, gone_then, not_running, tells_went, went}
-use Rattle.tier_store.specs.Pinned.{SeenAll, seen_all}
+use Rattle.tier_store.specs.Pinned.{seen_all}
 use Rattle.running_moves.specs.Table.{at}
 use Rattle.archive_core.proofs.Strays.{none_taken, tidy_none, tidy_slots, tidy_then}
 use Rattle.archive_core.proofs.archive.Archive.step_move.Goals as goal
