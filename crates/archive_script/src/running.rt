@@ -20,7 +20,7 @@ use etl_rules::Config;
 use std::alloc::Global;
 use std::fmt::Write as _;
 
-// In so many runs on end nothing is told to fail where each call is behind the script's last: a move's end doesn't tell that a removal failed.
+// Where nothing is told to fail in so many runs on end, each call is behind the script's last.
 const QUIET_RUNS: u32 = 32;
 
 // A run of a script, as far as it has come.
