@@ -1,15 +1,16 @@
 -- Files that go, one after another.
-use Rattle.std.proofs.Common.{◌≡◌, ◌≢◌, inl, inr, ℕ, ◌≤◌, None, sym, ◌∙◌, ap, subst, arith}
+use Rattle.std.proofs.Common.{◌≡◌, ◌≢◌, inl, inr, ◌≤◌, None, refl, sym, ◌∙◌, ap, arith}
 use Rattle.std.specs.Prelude.{Result, Ok, Err, OnOk, OnErr}
-use Rattle.disk_model.specs.Files.{Name, Files, At, Becomes, KeptOr}
+use Rattle.disk_model.specs.Files.{Name, Content, Files, At, Becomes, KeptOr}
 use Rattle.disk_model.specs.Past.{Past, Passes, Only}
+use Rattle.disk_model.specs.declared.disk.Disk.{Ghosts}
 use Rattle.disk_model.specs.declared.disk.DiskErr.{DiskErr}
-use Rattle.disk_model.proofs.Passing.{passes_then, passes_weaker}
 use Rattle.durable_write.proofs.Names.{name_cases}
 use Rattle.store_reopen.specs.Strays.{OnlyGo, Removes}
+use Rattle.store_reopen.proofs.Leaving.{leaves_by, leaves_none, leaves_one, leaves_read, leaves_then}
 
-pub goes_same : (Goes : Name → Type 0) (files later : Files) → later ≡ files → OnlyGo Goes files later
-goes_same Goes files later same n = inl (ap (λ (f : Files). f n) same)
+pub goes_none : (Goes : Name → Type 0) (a : Files) → OnlyGo Goes a a
+goes_none Goes a n = inl refl
 
 pub goes_then : (Goes : Name → Type 0) (a b c : Files) → OnlyGo Goes a b → OnlyGo Goes b c → OnlyGo Goes a c
 goes_then Goes a b c one two n = elim (two n) [
@@ -37,41 +38,26 @@ only_goes Goes old new n passes only image left =
 
 -- RUNS OF CALLS
 
-pub removes_read : (Goes : Name → Type 0) (files later : Files) (opened after : Name → ℕ) (old new : Past) → later ≡ files → after ≡ opened → Passes (λ a b. b ≡ a) old new → Removes Goes files later opened after old new
-removes_read Goes files later opened after old new same same_opened passes = record {
-  any_moment = passes_weaker (λ a b. b ≡ a) (OnlyGo Goes) old new passes (λ a c left is. goes_same Goes a c is);
-  now = goes_same Goes files later same;
-  fewer = λ n. let is : after n ≡ opened n = ap (λ (o : Name → ℕ). o n) same_opened in omega (arith, is);
-}
+-- whatever a call answers, one name was kept or became so
+pub kept_or : {B : Type 0} (r : Result B DiskErr) (to : Content) (name : Name) (a b : Files) → OnOk r (At name (Becomes to) a b) → OnErr r (At name (KeptOr to) a b) → At name (KeptOr to) a b
+kept_or {B} (Ok x) to name a b done failed = record { here = inr done.here; elsewhere = done.elsewhere }
+kept_or {B} (Err e) to name a b done failed = failed
 
-pub removes_then : (Goes : Name → Type 0) (files mid later : Files) (opened between after : Name → ℕ) (old now new : Past) → Removes Goes files mid opened between old now → Removes Goes mid later between after now new → Removes Goes files later opened after old new
-removes_then Goes files mid later opened between after old now new one two = record {
-  any_moment = passes_then (OnlyGo Goes) (OnlyGo Goes) old now new one.any_moment two.any_moment (λ a b c was first left second. goes_then Goes a b c first second);
-  now = goes_then Goes files mid later one.now two.now;
-  fewer = λ n. let a = one.fewer n in let b = two.fewer n in omega (arith, a, b);
-}
+module _ {D R : Type 0} (disk : Ghosts D R) (Goes : Name → Type 0) where
+  pub removes_none : (d : D) → Removes disk Goes d d
+  removes_none d = leaves_none disk (OnlyGo Goes) (goes_none Goes) d
 
-pub removes_by : (Goes Also : Name → Type 0) (files later : Files) (opened after : Name → ℕ) (old new : Past) → ((n : Name) → Goes n → Also n) → Removes Goes files later opened after old new → Removes Also files later opened after old new
-removes_by Goes Also files later opened after old new to removes = record {
-  any_moment = passes_weaker (OnlyGo Goes) (OnlyGo Also) old new removes.any_moment (λ a c left step. goes_by Goes Also a c to step);
-  now = goes_by Goes Also files later to removes.now;
-  fewer = removes.fewer;
-}
+  pub removes_read : (old new : D) → disk.files new ≡ disk.files old → disk.opened new ≡ disk.opened old → Passes (λ a b. b ≡ a) (disk.past old) (disk.past new) → Removes disk Goes old new
+  removes_read old new files opened passes = leaves_read disk (OnlyGo Goes) (goes_none Goes) old new files opened passes
 
--- ONE FILE
+  pub removes_then : (old mid new : D) → Removes disk Goes old mid → Removes disk Goes mid new → Removes disk Goes old new
+  removes_then old mid new one two = leaves_then disk (OnlyGo Goes) (goes_then Goes) old mid new one two
 
-removed_at : {B : Type 0} (r : Result B DiskErr) (name : Name) (a b : Files) → OnOk r (At name (Becomes None) a b) → OnErr r (At name (KeptOr None) a b) → At name (KeptOr None) a b
-removed_at {B} (Ok x) name a b done failed = record { here = inr done.here; elsewhere = done.elsewhere }
-removed_at {B} (Err e) name a b done failed = failed
+  pub removes_by : (Also : Name → Type 0) → ((n : Name) → Goes n → Also n) → (old new : D) → Removes disk Goes old new → Removes disk Also old new
+  removes_by Also to old new removes = leaves_by disk (OnlyGo Goes) (OnlyGo Also) (λ a b goes. goes_by Goes Also a b to goes) old new removes
 
--- whatever a removal answers
-pub removes_one : {B : Type 0} (r : Result B DiskErr) (name : Name) (a b : Files) (opened after : Name → ℕ) (old new : Past) → OnOk r (At name (Becomes None) a b) → OnErr r (At name (KeptOr None) a b) → Passes (At name (KeptOr None)) old new
-    → ((n : Name) → n ≢ name → after n ≡ opened n) → after name ≤ opened name → Removes (λ (n : Name). n ≡ name) a b opened after old new
-removes_one {B} r name a b opened after old new done failed crash others here = record {
-  any_moment = passes_weaker (At name (KeptOr None)) (OnlyGo (λ (n : Name). n ≡ name)) old new crash (λ x y left step. goes_at name x y step);
-  now = goes_at name a b (removed_at r name a b done failed);
-  fewer = λ n. elim (name_cases n name) [
-    | inl is ↦ subst (λ (m : Name). after m ≤ opened m) (sym is) here
-    | inr apart ↦ let same = others n apart in omega (arith, same)
-  ];
-}
+-- one file, whatever its removal answers
+pub removes_one : {D R B : Type 0} (disk : Ghosts D R) (r : Result B DiskErr) (name : Name) (old new : D) → OnOk r (At name (Becomes None) (disk.files old) (disk.files new)) → OnErr r (At name (KeptOr None) (disk.files old) (disk.files new)) → Passes (At name (KeptOr None)) (disk.past old) (disk.past new)
+    → ((n : Name) → n ≢ name → disk.opened new n ≡ disk.opened old n) → disk.opened new name ≤ disk.opened old name → Removes disk (λ (n : Name). n ≡ name) old new
+removes_one {D} {R} {B} disk r name old new done failed crash others here =
+    leaves_one disk (OnlyGo (λ (n : Name). n ≡ name)) (KeptOr None) name (goes_at name) old new (kept_or r None name (disk.files old) (disk.files new) done failed) crash others here

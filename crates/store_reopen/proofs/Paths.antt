@@ -26,6 +26,7 @@ use Rattle.store_manifest.specs.declared.entry.Entry.{Entry}
 use Rattle.store_manifest.specs.Entries.{AreEntries, is_listed, is_place}
 use Rattle.store_manifest.specs.Entries.{place as place_of}
 use Rattle.durable_write.specs.Held.{file_of, name_of}
+use Rattle.store_reopen.specs.Adoption.{IsUnlisted}
 use Rattle.store_reopen.specs.Strays.{IsFileOf, IsStrayOf}
 use Rattle.store_reopen.specs.Verdict.{HasRow}
 
@@ -273,3 +274,17 @@ pub row_here : (rows : List Row) (i : ℕ) (r : Row) → i < length rows → sli
 row_here [] i r low = absurd (omega (arith, low))
 row_here (y ∷ ys) zero r low = refl
 row_here (y ∷ ys) (suc i) r low = row_here ys i r (omega (arith, low))
+
+-- UNLISTED FILES
+
+-- a file that is of no row and partition isn't listed
+pub unlisted_other : (g : Granularity) (place : ℕ) (rows : List Row) (entries : List Entry) (n : Name) → AreEntries g entries → All (HasRow rows) entries → ((series : ℕ) (part : Part) → IsFileOf g rows n.1 series part → ⊥) → IsUnlisted ((place + 1, rows), entries) n
+unlisted_other g place rows entries n good of_rows none e within named =
+    let row = row_at rows e.series (All-contains (HasRow rows) entries e of_rows within) in
+    let own : IsPart g e.part = All-contains (λ (x : Entry). IsPart g x.part) entries e good.parts within in
+    let path : path_of row.0.name e.part.name ≡ n.1 = sym (path_at rows e.series e.part.name row.0 row.1) ∙ ap (λ (m : Name). m.1) named in
+    none e.series e.part (record { row = row.0; stands = row.1; unit = own; named = path })
+
+-- and one that is of them isn't just where it is a stray
+pub unlisted_own : (g : Granularity) (place : ℕ) (rows : List Row) (entries : List Entry) (n : Name) (series : ℕ) (part : Part) → n.0 ≡ place + 1 → IsFileOf g rows n.1 series part → IsStrayOf place g rows entries n ↔ IsUnlisted ((place + 1, rows), entries) n
+unlisted_own g place rows entries n series part store file = (λ stray. stray.unlisted, λ unlisted. record { store = store; series = series; part = part; file = file; unlisted = unlisted })

@@ -1,41 +1,36 @@
 -- What the stores have once the strays are swept that their manifests don't list.
-use Rattle.std.proofs.Common.{◌≡◌, inl, inr, ℕ, zero, suc, ◌<◌, ◌+◌, List, [], ◌∷◌, length, map, get_or, Option, None, Some, refl, sym, ◌∙◌, ap, subst, arith}
-use Rattle.std.specs.Prelude.{All, Contains, IsSome, IsTrue, slice_get}
+use Rattle.std.proofs.Common.{◌≡◌, ◌⊎◌, inl, inr, Bool, true, false, ℕ, zero, suc, ◌<◌, ◌+◌, List, [], ◌∷◌, length, map, get_or, Option, None, Some, refl, sym, ◌∙◌, ap, subst, arith}
+use Rattle.std.specs.Prelude.{All, Contains, IsSome, IsTrue, ◌↔◌, slice_get}
 use Rattle.std.proofs.lemmas.List.Elements.{All-nil, Contains-get_or}
 use Rattle.std.proofs.lemmas.Option.{same_Some, slice_get_within}
-use Rattle.disk_model.specs.Files.{Name, Files}
-use Rattle.disk_model.specs.Past.{Past, MayLeave, Passes}
+use Rattle.disk_model.specs.Files.{Content, Name, Files}
+use Rattle.disk_model.specs.Past.{MayLeave, Passes}
 use Rattle.disk_model.specs.declared.disk.Disk.{Ghosts}
 use Rattle.disk_model.proofs.Passing.{passes_then, passes_weaker}
 use Rattle.gate_journal.specs.Generations.{IsOwn}
-use Rattle.gate_journal.specs.Journal.{JournalState}
-use Rattle.gate_journal.proofs.Keeping.{says_stays}
 use Rattle.gate_journal.proofs.Owning.{own_store}
 use Rattle.partition_names.specs.declared.granularity.Granularity.{Granularity}
 use Rattle.pv_catalog.specs.declared.row.Row.{Row}
 use Rattle.pv_catalog.specs.Catalogue.{CatalogueState, IsStored, catalogue_name}
-use Rattle.pv_catalog.specs.Rows.{IsCatalogue}
-use Rattle.store_files.specs.Fronts.{Begins}
-use Rattle.store_manifest.specs.Batches.{Folds}
 use Rattle.store_manifest.specs.Manifest.{IsKept, ManifestState, manifest_name}
 use Rattle.store_manifest.specs.declared.entry.Entry.{Entry}
 use Rattle.store_manifest.proofs.Committing.{one_listing}
-use Rattle.durable_write.specs.Held.{Filed, Held, AreIn, bytes_of, entry_of, file_of, shelf_of}
-use Rattle.durable_write.specs.Stored.{Holds, AreLong, CatalogueStored, TierStored}
-use Rattle.durable_write.proofs.Frame.{Untouched, catalogue_stays, tier_stays}
-use Rattle.durable_write.proofs.Stays.{safe_stays}
+use Rattle.durable_write.specs.Held.{Filed, entry_of, file_of}
 use Rattle.tier_store.specs.Stores.{Stores, list_at, tier}
-use Rattle.tier_store.specs.Seen.{AtEach, Seen, granularities}
+use Rattle.tier_store.specs.Seen.{AtEach, granularities}
+use Rattle.tier_store.specs.Stored.{HoldsAll}
 use Rattle.tier_store.specs.Change.{Has}
 use Rattle.tier_store.proofs.Left.{has_left}
 use Rattle.tier_store.proofs.Places.{manifest_at, manifest_of}
 use Rattle.store_reopen.specs.Loading.{KeepsSaid, StillSay}
-use Rattle.store_reopen.specs.Reopen.{HasLoaded, HoldsEither, IsReady, IsSwept, IsUnopened, Opens, OpensEither, Reopens, SameStores, StillHolds, Sweeps, entries_in, lists_of, loaded}
-use Rattle.store_reopen.specs.Strays.{AreGone, IsStray, IsStrayBelow, IsStrayOf, OnlyGo, Removes, SweptStores}
+use Rattle.store_reopen.specs.Reopen.{HasLoaded, HoldsEither, IsReady, IsSwept, IsUnopened, Opens, OpensEither, OpensRead, Reopens, SameStores, StillHolds, Sweeps, entries_in, lists_of, loaded}
+use Rattle.store_reopen.specs.Strays.{AreGone, IsStray, IsStrayBelow, IsStrayOf, OnlyGo, Removes, SweptStores, adoption_name}
 use Rattle.store_reopen.specs.Verdict.{AreSaid, HasRow, IsThere, IsWhole, Listings}
 use Rattle.store_reopen.proofs.HandedBack.{has_opens, open_unopened}
 use Rattle.store_reopen.proofs.Having.{IsLoaded, count_of, has_read, has_some, listed_at, loaded_again, own_granularity, reads_one, reopened}
+use Rattle.store_reopen.proofs.Keeping.{kept_reading}
 use Rattle.store_reopen.proofs.OneJournal.{one_list_of_rows}
+use Rattle.store_reopen.proofs.Sparing.{AreSpared, has_spared, holds_spared}
 
 -- WHOLE IMAGES
 
@@ -85,14 +80,17 @@ module _ (catalogue : CatalogueState) (ms : List ManifestState) where
   abbrev Spared : Name → Type 0
   Spared n = Goes n → ⊥
 
-  abbrev Step : Files → Files → Type 0
-  Step a c = OnlyGo Goes a c
-
-  spared_same : (a c : Files) (n : Name) → Step a c → Spared n → c n ≡ a n
+  spared_same : (a c : Files) (n : Name) → OnlyGo Goes a c → Spared n → c n ≡ a n
   spared_same a c n step spared = elim (step n) [ inl same ↦ same | inr gone ↦ absurd (spared gone.0) ]
 
   journals : (n : Name) → n.0 ≡ 0 → Spared n
   journals n zero_store s = let store = s.stray.store in absurd (omega (arith, store, zero_store))
+
+  rows_spared : (n : Name) → IsOwn catalogue_name n → Spared n
+  rows_spared n own = journals n (own_store catalogue_name n own)
+
+  lists_spared : (store : ℕ) (n : Name) → IsOwn (manifest_name store) n → Spared n
+  lists_spared store n own = journals n (own_store (manifest_name store) n own)
 
   listed_spared : (k : ℕ) (m : ManifestState) (e : Entry) → slice_get ms k ≡ Some m → Contains m.entries e → Spared (file_of (k + 1, catalogue.rows) e)
   listed_spared k m e here within s =
@@ -102,88 +100,41 @@ module _ (catalogue : CatalogueState) (ms : List ManifestState) where
       s.stray.unlisted e (subst (λ (x : ManifestState). Contains x.entries e) (sym own) within) (ap (λ (p : ℕ). file_of (p + 1, catalogue.rows) e) place)
 
   -- none of the files of a store goes that has just what its manifest lists
-  abbrev AreSpared : Held → Type 0
-  AreSpared t = All (λ (f : Filed). Spared (file_of (shelf_of t) f.entry)) t.files
-
-  all_spared : (k : ℕ) (m : ManifestState) (held : Stores) → slice_get ms k ≡ Some m → held.rows ≡ catalogue.rows → map entry_of (list_at k held) ≡ m.entries → AreSpared (tier k held)
+  all_spared : (k : ℕ) (m : ManifestState) (held : Stores) → slice_get ms k ≡ Some m → held.rows ≡ catalogue.rows → map entry_of (list_at k held) ≡ m.entries → AreSpared Spared (tier k held)
   all_spared k m held here of_rows are j d lt =
       let f : Filed = get_or (list_at k held) j d in
       let within : Contains m.entries f.entry = subst (λ (es : List Entry). Contains es f.entry) are (map_contains (list_at k held) f (Contains-get_or (list_at k held) j d lt)) in
       subst (λ (rows : List Row). Spared (file_of (k + 1, rows) f.entry)) (sym of_rows) (listed_spared k m f.entry here within)
 
-  in_spared : (t : Held) (a c : Files) → AreSpared t → Step a c → AreIn t a → AreIn t c
-  in_spared t a c spared step was stands k d lt =
-      let f : Filed = get_or t.files k d in subst (Begins (bytes_of f)) (sym (spared_same a c (file_of (shelf_of t) f.entry) step (spared k d lt))) (was stands k d lt)
-
-  long_spared : (t : Held) (a c : Files) → AreSpared t → Step a c → AreLong t a → AreLong t c
-  long_spared t a c spared step long k d lt =
-      let was = long k d lt in record { bytes = was.bytes; file = spared_same a c (file_of (shelf_of t) (get_or t.files k d).entry) step (spared k d lt) ∙ was.file; holds = was.holds }
-
-  holds_spared : (g : Granularity) (t : Held) (a c : Files) → AreSpared t → Step a c → Holds g a t → Holds g c t
-  holds_spared g t a c spared step holds = record {
-    rows = says_stays IsCatalogue t.rows catalogue_name a c (λ n own. spared_same a c n step (journals n (own_store catalogue_name n own))) holds.rows;
-    lists = says_stays (Folds g) (map entry_of t.files) (manifest_name t.store) a c (λ n own. spared_same a c n step (journals n (own_store (manifest_name t.store) n own))) holds.lists;
-    filed = holds.filed;
-    files = in_spared t a c spared step holds.files;
-  }
-
-  module _ (files later : Files) (opened after : Name → ℕ) (old new : Past) (removes : Removes Goes files later opened after old new) where
-    untouched : (journal : JournalState) (own : Name) → journal.name ≡ own → own.0 ≡ 0 → Untouched Step journal files later opened after
-    untouched journal own is zero_store =
-        let spared : (n : Name) → IsOwn journal.name n → Spared n = λ n own. journals n (own_store journal.name n own ∙ ap (λ (m : Name). m.0) is ∙ zero_store) in
-        record { step = λ a c step n own. spared_same a c n step (spared n own); same = λ n own. spared_same files later n removes.now (spared n own); fewer = λ n own. removes.fewer n }
-
-    rows_spared : (c : JournalState) (rows : List Row) → CatalogueStored c files opened old rows → CatalogueStored c later after new rows
-    rows_spared c rows stored = catalogue_stays Step c files later opened after old new removes.any_moment (untouched c catalogue_name stored.named refl) rows stored
-
-    tier_spared : (g : Granularity) (m : JournalState) (t : Held) → AreSpared t → TierStored g m files opened old t → TierStored g m later after new t
-    tier_spared g m t spared stored =
-        tier_stays Step m files later opened after old new removes.any_moment (untouched m (manifest_name t.store) stored.named refl) g t stored
-        (safe_stays t Step files later opened after old new stored.safe removes.any_moment (λ a c step. in_spared t a c spared step) (long_spared t files later spared removes.now stored.safe.long) removes.fewer)
-
 -- THE STORES BEHIND IT
 
-module _ {D R : Type 0} (disk : Ghosts D R) (catalogue : CatalogueState) (ms : List ManifestState) (mid new : D) where
-  abbrev at : Seen
-  at = loaded disk catalogue ms mid
+module _ {D R : Type 0} (disk : Ghosts D R) (catalogue : CatalogueState) (ms : List ManifestState) (mid new : D) (removes : IsTrue disk.tells → Removes disk (Goes catalogue ms) mid new) where
+  -- they have what they had
+  pub has_swept : (held : Stores) → Has disk.tells (loaded disk catalogue ms mid) held → Has disk.tells (loaded disk catalogue ms new) held
+  has_swept held has =
+      has_spared (OnlyGo (Goes catalogue ms)) (Spared catalogue ms) (spared_same catalogue ms) (rows_spared catalogue ms) (lists_spared catalogue ms) disk mid new catalogue ms removes held
+      (λ k m here. all_spared catalogue ms k m held here (sym has.known.rows) (sym (has.known.each k m here).entries)) has
 
-  abbrev swept : Seen
-  swept = loaded disk catalogue ms new
+  -- whatever an image held that a crash might leave then, it holds still
+  one_holds : (some : Stores) → Has disk.tells (loaded disk catalogue ms mid) some → IsTrue disk.tells → (a c : Files) → MayLeave (disk.past mid) a → OnlyGo (Goes catalogue ms) a c → StillHolds (granularities ms) a c
+  one_holds some has told a c left step held holds i g here =
+      let m = manifest_of ms i g here in
+      let own = has_left disk.tells (loaded disk catalogue ms mid) some has told a left in
+      let was = holds i g here in
+      let of_rows : held.rows ≡ catalogue.rows = one_list_of_rows a held.rows some.rows was.rows (own i g here).rows ∙ sym has.known.rows in
+      let lists : map entry_of (list_at i held) ≡ m.0.entries = one_listing g g (manifest_name (i + 1)) a (map entry_of (list_at i held)) (map entry_of (list_at i some)) was.lists (own i g here).lists ∙ sym (has.known.each i m.0 m.1).entries in
+      holds_spared (OnlyGo (Goes catalogue ms)) (Spared catalogue ms) (spared_same catalogue ms) (rows_spared catalogue ms) (lists_spared catalogue ms) g (tier i held) a c (all_spared catalogue ms i m.0 held m.1 of_rows lists) step was
 
-  module _ (removes : IsTrue disk.tells → Removes (Goes catalogue ms) (disk.files mid) (disk.files new) (disk.opened mid) (disk.opened new) (disk.past mid) (disk.past new)) where
-    -- they have what they had
-    pub has_swept : (held : Stores) → Has disk.tells at held → Has disk.tells swept held
-    has_swept held has = record {
-      known = record { three = has.known.three; rows = has.known.rows; each = has.known.each };
-      settled = record { catalogue = has.settled.catalogue; manifests = has.settled.manifests };
-      disk = λ told.
-          let stored = has.disk told in
-          let gone = removes told in
-          record {
-            rows = rows_spared catalogue ms (disk.files mid) (disk.files new) (disk.opened mid) (disk.opened new) (disk.past mid) (disk.past new) gone catalogue.journal held.rows stored.rows;
-            each = λ k m here. tier_spared catalogue ms (disk.files mid) (disk.files new) (disk.opened mid) (disk.opened new) (disk.past mid) (disk.past new) gone m.granularity m.journal (tier k held) (all_spared catalogue ms k m held here (sym has.known.rows) (sym (has.known.each k m here).entries)) (stored.each k m here);
-          };
-    }
-
-    -- whatever an image held that a crash might leave then, it holds still
-    one_holds : (some : Stores) → Has disk.tells at some → IsTrue disk.tells → (a c : Files) → MayLeave (disk.past mid) a → OnlyGo (Goes catalogue ms) a c → StillHolds (granularities ms) a c
-    one_holds some has told a c left step held holds i g here =
-        let m = manifest_of ms i g here in
-        let own = has_left disk.tells at some has told a left in
-        let was = holds i g here in
-        let of_rows : held.rows ≡ catalogue.rows = one_list_of_rows a held.rows some.rows was.rows (own i g here).rows ∙ sym has.known.rows in
-        let lists : map entry_of (list_at i held) ≡ m.0.entries = one_listing g g (manifest_name (i + 1)) a (map entry_of (list_at i held)) (map entry_of (list_at i some)) was.lists (own i g here).lists ∙ sym (has.known.each i m.0 m.1).entries in
-        holds_spared catalogue ms g (tier i held) a c (all_spared catalogue ms i m.0 held m.1 of_rows lists) step was
-
-    pub moments_hold : (some : Stores) → Has disk.tells at some → IsTrue disk.tells → Passes (StillHolds (granularities ms)) (disk.past mid) (disk.past new)
-    moments_hold some has told = passes_weaker (OnlyGo (Goes catalogue ms)) (StillHolds (granularities ms)) (disk.past mid) (disk.past new) (removes told).any_moment (λ a c left step. one_holds some has told a c left step)
+  pub moments_hold : (some : Stores) → Has disk.tells (loaded disk catalogue ms mid) some → IsTrue disk.tells → Passes (StillHolds (granularities ms)) (disk.past mid) (disk.past new)
+  moments_hold some has told = passes_weaker (OnlyGo (Goes catalogue ms)) (StillHolds (granularities ms)) (disk.past mid) (disk.past new) (removes told).any_moment (λ a c left step. one_holds some has told a c left step)
 
 -- STRAYS OF THE IMAGE
 
 module _ (gs : List Granularity) (files : Files) (catalogue : CatalogueState) (ms : List ManifestState) (three : length gs ≡ 3) (same : granularities ms ≡ gs) (count : length ms ≡ 3) (whole : IsWhole gs files) (of_rows : whole.rows ≡ catalogue.rows) (of_lists : whole.lists ≡ lists_of ms) where
-  pub stray_of : (n : Name) → IsStrayBelow 3 catalogue.rows ms n → IsStray gs files n
-  stray_of n s = record {
+  pub stray_of : files adoption_name ≡ None → (n : Name) → IsStrayBelow 3 catalogue.rows ms n → IsStray gs files n
+  stray_of finished n s = record {
     whole = whole;
+    finished = finished;
     place = s.place;
     granularity = s.manifest.granularity;
     here = own_granularity gs ms s.place s.manifest same s.here;
@@ -216,7 +167,7 @@ module _ (gs : List Granularity) (files : Files) (catalogue : CatalogueState) (m
 
 module _ {D R : Type 0} (disk : Ghosts D R) (gs : List Granularity) (old mid new : D) (catalogue : CatalogueState) (ms : List ManifestState) (three : length gs ≡ 3) (same : granularities ms ≡ gs) (count : length ms ≡ 3) (told : IsTrue disk.tells)
     (unopened : IsUnopened (disk.files old) (disk.opened old)) (keeps : KeepsSaid gs (disk.files old) (disk.opened old) (disk.past old) (disk.files mid) (disk.opened mid) (disk.past mid))
-    (removes : Removes (Goes catalogue ms) (disk.files mid) (disk.files new) (disk.opened mid) (disk.opened new) (disk.past mid) (disk.past new)) (some : Stores) (has : Has disk.tells (loaded disk catalogue ms mid) some)
+    (removes : Removes disk (Goes catalogue ms) mid new) (some : Stores) (has : Has disk.tells (loaded disk catalogue ms mid) some)
     (whole : IsWhole gs (disk.files old)) (of_rows : whole.rows ≡ catalogue.rows) (of_lists : whole.lists ≡ lists_of ms)
     (read : (before after : Stores) → OpensEither gs (disk.past old) before after → HasLoaded disk gs old catalogue ms mid before after) (seen : MayLeave (disk.past new) (disk.files new)) where
   begun : Reopens disk gs old mid
@@ -225,14 +176,14 @@ module _ {D R : Type 0} (disk : Ghosts D R) (gs : List Granularity) (old mid new
   holds : Passes (StillHolds gs) (disk.past mid) (disk.past new)
   holds = subst (λ (g : List Granularity). Passes (StillHolds g) (disk.past mid) (disk.past new)) same (moments_hold disk catalogue ms mid new (λ t. removes) some has told)
 
-  swept_from : (a b c : Files) → SweptStores gs (disk.files old) a b → OnlyGo (Goes catalogue ms) b c → SweptStores gs (disk.files old) a c
-  swept_from a b c one two n other = elim (two n) [
+  swept_from : disk.files old adoption_name ≡ None → (a b c : Files) → SweptStores gs (disk.files old) a b → OnlyGo (Goes catalogue ms) b c → SweptStores gs (disk.files old) a c
+  swept_from finished a b c one two n other = elim (two n) [
     | inl is ↦ elim (one n other) [ inl was ↦ inl (is ∙ was) | inr gone ↦ inr (gone.0, is ∙ gone.1) ]
-    | inr gone ↦ inr (stray_of gs (disk.files old) catalogue ms three same count whole of_rows of_lists n gone.0, gone.1)
+    | inr gone ↦ inr (stray_of gs (disk.files old) catalogue ms three same count whole of_rows of_lists finished n gone.0, gone.1)
   ]
 
-  pub opening_sweeps : Sweeps disk gs old new
-  opening_sweeps = record {
+  pub opening_sweeps : disk.files old adoption_name ≡ None → Sweeps disk gs old new
+  opening_sweeps finished = record {
     any_moment = passes_then (StillHolds gs) (StillHolds gs) (disk.past old) (disk.past mid) (disk.past new) begun.any_moment holds (λ a b c was one now two held holds. two held (one held holds));
     either = λ before after opens. passes_then (λ a b. HoldsEither gs before after b) (StillHolds gs) (disk.past old) (disk.past mid) (disk.past new) (begun.either before after opens) holds
         (λ a b c was one now two. elim one [ inl h ↦ inl (two before h) | inr h ↦ inr (two after h) ]);
@@ -245,9 +196,9 @@ module _ {D R : Type 0} (disk : Ghosts D R) (gs : List Granularity) (old mid new
           whole = whole;
           opens = subst (λ (g : List Granularity). Opens g (disk.past new) r.held) same (has_opens disk.tells (loaded disk catalogue ms new) r.held told (has_swept disk catalogue ms mid new (λ t. removes) r.held r.has));
         });
-    elsewhere = λ n other. swept_from (disk.files old) (disk.files mid) (disk.files new) (λ m apart. inl (keeps.elsewhere m apart)) removes.now n other;
+    elsewhere = λ n other. swept_from finished (disk.files old) (disk.files mid) (disk.files new) (λ m apart. inl (keeps.elsewhere m apart)) removes.now n other;
     stores = passes_then (SweptStores gs (disk.files old)) (OnlyGo (Goes catalogue ms)) (disk.past old) (disk.past mid) (disk.past new)
-        (passes_weaker (StillSay gs) (SweptStores gs (disk.files old)) (disk.past old) (disk.past mid) keeps.passes (λ a c left step n other. inl (step.elsewhere n other))) removes.any_moment (λ a b c was one now two. swept_from a b c one two);
+        (passes_weaker (StillSay gs) (SweptStores gs (disk.files old)) (disk.past old) (disk.past mid) keeps.passes (λ a c left step n other. inl (step.elsewhere n other))) removes.any_moment (λ a b c was one now two. swept_from finished a b c one two);
     unopened = open_unopened disk.tells (loaded disk catalogue ms new) some some told seen (inl (has_swept disk catalogue ms mid new (λ t. removes) some has));
   }
 
@@ -269,6 +220,46 @@ sweeps_none {D} {R} disk gs old new reopens = record {
   unopened = reopens.unopened;
 }
 
+-- WHETHER AN ADOPTION IS UNFINISHED
+
+-- the answer false says that the file isn't there
+pub no_file : (unfinished : Bool) (content : Content) → (IsTrue unfinished ↔ IsSome content) → unfinished ≡ false → content ≡ None
+no_file unfinished None says is = refl
+no_file unfinished (Some bytes) says is = let yes : unfinished ≡ true = says.1 refl in absurd (cc (yes, is))
+
+pub is_finished : (unfinished : Bool) (content : Content) → (IsTrue unfinished ↔ IsSome content) → content ≡ None → unfinished ≡ false
+is_finished false content says none = refl
+is_finished true content says none = let some = subst IsSome none (says.0 refl) in absurd (cc (some))
+
+-- it swept where none was, and else it left all
+pub sweeps_or_none : {D R : Type 0} (disk : Ghosts D R) (gs : List Granularity) (old mid new : D) (unfinished : Bool) → (IsTrue unfinished → new ≡ mid) → Reopens disk gs old mid → (unfinished ≡ false → Sweeps disk gs old new) → Sweeps disk gs old new
+sweeps_or_none {D} {R} disk gs old mid new true left reopens swept = subst (λ (d : D). Sweeps disk gs old d) (sym (left refl)) (sweeps_none disk gs old mid reopens)
+sweeps_or_none {D} {R} disk gs old mid new false left reopens swept = swept refl
+
+-- A LOAD BEHIND A CALL THAT ONLY READ
+
+pub read_reopens : {D R : Type 0} (disk : Ghosts D R) (gs : List Granularity) (old now : D) → IsUnopened (disk.files old) (disk.opened old) → disk.files now ≡ disk.files old → Passes (λ a b. b ≡ a) (disk.past old) (disk.past now) → disk.opened now ≡ disk.opened old → Reopens disk gs old now
+read_reopens {D} {R} disk gs old now unopened same passes opened = reopened disk gs old now unopened (kept_reading gs (disk.files old) (disk.files now) (disk.opened old) (disk.opened now) (disk.past old) (disk.past now) same passes opened)
+
+pub loaded_behind : {D R : Type 0} (disk : Ghosts D R) (gs : List Granularity) (old now new : D) (catalogue : CatalogueState) (ms : List ManifestState) (before after : Stores) → disk.files now ≡ disk.files old → HasLoaded disk gs now catalogue ms new before after → HasLoaded disk gs old catalogue ms new before after
+loaded_behind {D} {R} disk gs old now new catalogue ms before after same loaded = record { held = loaded.held; either = loaded.either; read = subst (λ (f : Files). HoldsAll gs f loaded.held) same loaded.read; has = loaded.has }
+
+-- a sweep behind a call that only read is one from before it on
+pub sweeps_behind : {D R : Type 0} (disk : Ghosts D R) (gs : List Granularity) (old now new : D) → Reopens disk gs old now → disk.files now ≡ disk.files old → Sweeps disk gs now new → Sweeps disk gs old new
+sweeps_behind {D} {R} disk gs old now new reopens same sweeps = record {
+  any_moment = passes_then (StillHolds gs) (StillHolds gs) (disk.past old) (disk.past now) (disk.past new) reopens.any_moment sweeps.any_moment (λ a b c was one left two held holds. two held (one held holds));
+  either = λ before after opens. passes_then (λ a b. HoldsEither gs before after b) (λ a b. HoldsEither gs before after b) (disk.past old) (disk.past now) (disk.past new) (reopens.either before after opens) (sweeps.either before after (reopens.opens before after opens)) (λ a b c was one left two. two);
+  opens = λ before after opens. subst (λ (f : Files). OpensEither gs (disk.past new) before after ⊎ OpensRead gs f (disk.past new) before after) same (sweeps.opens before after (reopens.opens before after opens));
+  elsewhere = subst (λ (f : Files). SweptStores gs f f (disk.files new)) same sweeps.elsewhere;
+  stores = passes_then (SweptStores gs (disk.files old)) (SweptStores gs (disk.files old)) (disk.past old) (disk.past now) (disk.past new) (passes_weaker SameStores (SweptStores gs (disk.files old)) (disk.past old) (disk.past now) reopens.stores (λ a c left step n other. inl (step n other)))
+      (subst (λ (f : Files). Passes (SweptStores gs f) (disk.past now) (disk.past new)) same sweeps.stores)
+      (λ a b c was one left two n other. elim (two n other) [
+        | inl is ↦ elim (one n other) [ inl was ↦ inl (is ∙ was) | inr gone ↦ inr (gone.0, is ∙ gone.1) ]
+        | inr gone ↦ inr gone
+      ]);
+  unopened = sweeps.unopened;
+}
+
 -- A LOAD, AND A SWEEP BEHIND IT
 
 module _ {D R : Type 0} (disk : Ghosts D R) (gs : List Granularity) (old mid new : D) (catalogue : CatalogueState) (ms : List ManifestState) (three : length gs ≡ 3) (ready : IsReady gs catalogue ms)
@@ -276,7 +267,7 @@ module _ {D R : Type 0} (disk : Ghosts D R) (gs : List Granularity) (old mid new
     (stored : IsTrue disk.tells → IsStored catalogue (disk.files mid) (disk.opened mid) (disk.past mid)) (kept : IsTrue disk.tells → AtEach ms (λ i m. IsKept m (disk.files mid) (disk.opened mid) (disk.past mid)))
     (named : catalogue.journal.name ≡ catalogue_name) (named_manifests : AtEach ms (λ i m. m.journal.name ≡ manifest_name (i + 1))) (said : IsTrue disk.tells → AreSaid gs (disk.files old) catalogue.rows (lists_of ms))
     (there : IsTrue disk.tells → AtEach ms (λ i m. All (IsThere i (disk.files old) catalogue.rows) m.entries)) (left : (d : D) → IsTrue disk.tells → MayLeave (disk.past d) (disk.files d))
-    (removes : IsTrue disk.tells → Removes (Goes catalogue ms) (disk.files mid) (disk.files new) (disk.opened mid) (disk.opened new) (disk.past mid) (disk.past new)) where
+    (removes : IsTrue disk.tells → Removes disk (Goes catalogue ms) mid new) where
   count : length ms ≡ 3
   count = count_of gs ms three ready.granularity
 
@@ -309,7 +300,7 @@ module _ {D R : Type 0} (disk : Ghosts D R) (gs : List Granularity) (old mid new
   load_stands told before after opens =
       let r = reads told before after opens in record { held = r.held; either = r.either; read = r.read; has = has_swept disk catalogue ms mid new removes r.held r.has }
 
-  pub load_sweeps : IsTrue disk.tells → Sweeps disk gs old new
+  pub load_sweeps : IsTrue disk.tells → disk.files old adoption_name ≡ None → Sweeps disk gs old new
   load_sweeps told = opening_sweeps disk gs old mid new catalogue ms three ready.granularity count told (unopened told) (keeps told) (removes told) some.0 some.1 (by told).whole (by told).of_rows (by told).of_lists (reads told) (left new told)
 
   pub load_swept : IsTrue disk.tells → AreGone (Goes catalogue ms) (disk.files mid) (disk.files new) (disk.past new) → IsSwept gs (disk.files old) (disk.files new) (disk.past new)

@@ -1,6 +1,15 @@
+pub mod Adoption
+pub mod Finding
+pub mod Following
+pub mod Leaving
+pub mod Listing
 pub mod Loading
+pub mod Marking
 pub mod OneJournal
 pub mod Refusal
 pub mod Reopen
+pub mod Runs
+pub mod Steps
 pub mod Strays
 pub mod Verdict
+pub mod Turns

@@ -23,6 +23,7 @@ use Rattle.etl_rules.specs.Config.{ConfigState}
 use Rattle.store_reopen.specs.OneJournal.{NoneOpened}
 use Rattle.store_reopen.specs.declared.error.ReopenErr.{ReopenErr}
 use Rattle.store_reopen.specs.declared.error.ReopenErr.TheVariants.{DiskFault, Damaged, GranularityDiffers, Memory}
+use Rattle.store_reopen.specs.Leaving.{Leaves}
 use Rattle.store_reopen.specs.Loading.{granularity_at}
 use Rattle.store_reopen.specs.Verdict.{Listings, HasRow, IsWhole}
 use Rattle.store_reopen.specs.Strays.{AreGone, IsStray, SweptStores}
@@ -89,6 +90,10 @@ StillHolds gs old new = (held : Stores) → HoldsAll gs old held → HoldsAll gs
 abbrev pub SameStores : Files → Files → Type 0
 SameStores old new = (n : Name) → n.0 ≢ 0 → new n ≡ old n
 
+-- no file of these stores changes, and none is opened further
+abbrev pub SparesStores : {D R : Type 0} → Ghosts D R → D → D → Type 0
+SparesStores {D} {R} disk old new = Leaves disk SameStores old new
+
 -- What opening makes of a disk that tells its files, whatever it answers: each image goes on to hold what it held, at each moment, and
 -- the disk may be opened again. No store of partition files changes at any moment, also where it is damaged.
 pub record Reopens {D R : Type 0} (disk : Ghosts D R) (gs : List Granularity) (old new : D) : Type 0 where
@@ -109,7 +114,7 @@ pub record OpensRead (gs : List Granularity) (files : Files) (past : Past) (befo
 
 -- What an opening that sweeps makes of a disk that tells its files, whatever it answers: each image goes on to hold what it held, at each
 -- moment, and the disk may be opened again: with what it might hold before, or with what reads gave alone, once they are swept by that.
--- Of the stores of partition files only strays go, at any moment, and none where the image isn't whole.
+-- Of the stores of partition files only strays go, at any moment, and none where the image isn't whole or an adoption isn't finished.
 pub record Sweeps {D R : Type 0} (disk : Ghosts D R) (gs : List Granularity) (old new : D) : Type 0 where
   pub any_moment : Passes (StillHolds gs) (disk.past old) (disk.past new)
   pub either : (before after : Stores) → OpensEither gs (disk.past old) before after → Passes (λ a b. HoldsEither gs before after b) (disk.past old) (disk.past new)
@@ -118,7 +123,7 @@ pub record Sweeps {D R : Type 0} (disk : Ghosts D R) (gs : List Granularity) (ol
   pub stores : Passes (SweptStores gs (disk.files old)) (disk.past old) (disk.past new)
   pub unopened : IsUnopened (disk.files new) (disk.opened new)
 
--- after an opening that swept, a file of stores 1 to 3 that is of a row and a partition is listed; and no crash brings back what went
+-- after an opening that swept, where no adoption is unfinished, a file of stores 1 to 3 that is of a row and a partition is listed; and no crash brings back what went
 abbrev pub IsSwept : List Granularity → Files → Files → Past → Type 0
 IsSwept gs files later past = AreGone (IsStray gs files) files later past
 

@@ -1,7 +1,8 @@
 -- Files of rows and partitions that no manifest lists, and what a sweep of them leaves.
-use Rattle.std.specs.Prelude.{◌≡◌, ◌≢◌, ◌⊎◌, ◌≤◌, ◌<◌, ◌+◌, ℕ, List, Contains, IsSome, Some, None, slice_get}
+use Rattle.std.specs.Prelude.{◌≡◌, ◌≢◌, ◌⊎◌, ◌<◌, ◌+◌, ℕ, List, [], Contains, IsSome, Some, None, codes, slice_get}
 use Rattle.disk_model.specs.Files.{Name, Files}
-use Rattle.disk_model.specs.Past.{Past, Passes, Only}
+use Rattle.disk_model.specs.Past.{Past, Only}
+use Rattle.disk_model.specs.declared.disk.Disk.{Ghosts}
 use Rattle.partition_names.specs.declared.granularity.Granularity.{Granularity}
 use Rattle.partition_names.specs.declared.part.Part.{Part}
 use Rattle.partition_names.specs.Part.{IsPart}
@@ -10,9 +11,16 @@ use Rattle.store_manifest.specs.declared.entry.Entry.{Entry}
 use Rattle.store_manifest.specs.Manifest.{ManifestState}
 use Rattle.pv_catalog.specs.declared.row.Row.{Row}
 use Rattle.durable_write.specs.Held.{file_of}
+use Rattle.tier_store.specs.Pinned.{SeenAll}
+use Rattle.tier_store.specs.Strays.{IsStray as IsStrayOfStores}
+use Rattle.store_reopen.specs.Leaving.{Leaves}
 use Rattle.store_reopen.specs.Verdict.{IsWhole}
 
 -- WHICH FILES
+
+-- the file `adopt` of store 0, which is there while an adoption isn't finished
+abbrev pub adoption_name : Name
+adoption_name = (0, codes "adopt")
 
 -- this is the path of the file of a row and of one of the granularity's partitions
 pub record IsFileOf (g : Granularity) (rows : List Row) (path : List ℕ) (series : ℕ) (part : Part) : Type 0 where
@@ -37,13 +45,21 @@ pub record IsStrayBelow (count : ℕ) (rows : List Row) (manifests : List Manife
   pub here : slice_get manifests place ≡ Some manifest
   pub stray : IsStrayOf place manifest.granularity rows manifest.entries n
 
--- it is one by what the journals of a whole image say
+-- It is one by what the journals of a whole image say. While an adoption isn't finished no file is: what isn't listed may be listed yet.
 pub record IsStray (gs : List Granularity) (files : Files) (n : Name) : Type 0 where
   pub whole : IsWhole gs files
+  pub finished : files adoption_name ≡ None
   pub place : ℕ
   pub granularity : Granularity
   pub here : slice_get gs place ≡ Some granularity
   pub stray : IsStrayOf place granularity whole.rows (whole.lists place) n
+
+-- No file of the stores that is named as the file of a row and of a partition is a stray of theirs: one that no list and no limbo knows. Acts
+-- go on from there, and make none.
+abbrev pub HaveNoStray : SeenAll → Type 0
+HaveNoStray all =
+    (place : ℕ) (manifest : ManifestState) (n : Name) (series : ℕ) (part : Part) → slice_get all.stores.manifests place ≡ Some manifest → n.0 ≡ place + 1 → IsFileOf manifest.granularity all.stores.catalogue.rows n.1 series part
+    → IsStrayOfStores all [] n → ⊥
 
 -- WHAT IS LEFT
 
@@ -51,11 +67,9 @@ pub record IsStray (gs : List Granularity) (files : Files) (n : Name) : Type 0 w
 abbrev pub OnlyGo : (Name → Type 0) → Files → Files → Type 0
 OnlyGo Goes old new = (n : Name) → (new n ≡ old n) ⊎ (Goes n × (new n ≡ None))
 
--- so it is as reads give it and as a crash at any moment leaves it, and no name is opened further
-pub record Removes (Goes : Name → Type 0) (files later : Files) (opened after : Name → ℕ) (old new : Past) : Type 0 where
-  pub any_moment : Passes (OnlyGo Goes) old new
-  pub now : OnlyGo Goes files later
-  pub fewer : (n : Name) → after n ≤ opened n
+-- only these went
+abbrev pub Removes : {D R : Type 0} → Ghosts D R → (Name → Type 0) → D → D → Type 0
+Removes {D} {R} disk Goes old new = Leaves disk (OnlyGo Goes) old new
 
 -- no file has the name, and no crash brings one back
 abbrev pub IsGone : Files → Past → Name → Type 0

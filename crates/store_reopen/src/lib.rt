@@ -17,7 +17,8 @@
 //!
 //! What the image holds is what the stores hold. `reopen` then removes strays, each with a sync: files of stores 1 to 3 that are named as
 //! the file of a row and of a partition of their store, and that aren't listed. A flush or a move that was cut off left them. Whatever is
-//! named otherwise stays. `open_to_read` opens in the same way and removes none.
+//! named otherwise stays. While store 0 has a file `adopt` no file is a stray, since an adoption isn't finished. `open_to_read` opens in the
+//! same way and removes none.
 //!
 //! Beside that, opening writes nothing but the first bytes of journals that are missing, and removes nothing but the file of a journal's
 //! generation before the current one.
@@ -25,13 +26,24 @@
 //! Caveat: it looks only at lengths, so a disk whose listed bytes others damaged is opened too.
 #![tactic(auto)]
 
+mod adopted;
+mod adopting;
+mod counting;
 mod error;
 mod files;
+mod finding;
 mod journals;
 pub mod laws;
+mod listing;
 mod opening;
+mod registering;
+mod stepping;
 mod strays;
 mod sweeping;
+mod taking;
+mod unfinished;
 
+pub use adopted::{AdoptErr, Adopted};
+pub use adopting::adopt;
 pub use error::ReopenErr;
 pub use opening::{open_to_read, reopen};

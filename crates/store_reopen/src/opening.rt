@@ -1,6 +1,6 @@
 // The opening of a disk, from its journals to its listed files.
 ghost use Rattle.std.specs.FinMap as map;
-ghost use Rattle.std.specs.Prelude.{◌≡◌, ◌≢◌, ◌≤◌, ◌<◌, ◌+◌, [], ℕ, List, All, IfOk, IfErr, IsOk, IsTrue, OnOk, Err, length};
+ghost use Rattle.std.specs.Prelude.{◌≡◌, ◌≢◌, ◌≤◌, ◌<◌, ◌+◌, [], ℕ, List, All, IfOk, IfErr, IsOk, IsSome, IsTrue, None, OnOk, Err, length, ◌↔◌};
 ghost use Rattle.disk_model.specs.Files.{Name, Rose};
 ghost use Rattle.disk_model.specs.Past.{Passes};
 ghost use Rattle.disk_model.specs.declared.disk.DiskErr.TheVariants.{Fault};
@@ -10,11 +10,13 @@ ghost use Rattle.store_manifest.specs.Manifest.{IsKept, manifest_name};
 ghost use Rattle.tier_store.specs.Stores.{Stores};
 ghost use Rattle.tier_store.specs.Seen.{seen, AtEach};
 ghost use Rattle.tier_store.specs.Change.{Has};
+ghost use Rattle.tier_store.specs.Pinned.{seen_all};
 ghost use Rattle.store_reopen.specs.OneJournal.{NoneOpened};
 ghost use Rattle.store_reopen.specs.Verdict.{AreSaid, IsThere, IsWhole, IsDamaged, Differs};
 ghost use Rattle.store_reopen.specs.Reopen.{IsUnopened, OpensEither, HasLoaded, HasRead, IsReady, IsSwept, Reopens, Sweeps, loaded, stores_of, lists_of, disk_of};
 ghost use Rattle.store_reopen.specs.Loading.{KeepsSaid};
 ghost use Rattle.store_reopen.specs.Refusal.{IsTold};
+ghost use Rattle.store_reopen.specs.Strays.{HaveNoStray, IsStrayBelow, adoption_name};
 ghost use Rattle.store_reopen.specs.declared.error.Refusal.TheVariants.{Disk as OfDisk};
 ghost use Rattle.store_reopen.specs.declared.error.ReopenErr.TheVariants.{DiskFault, Damaged, GranularityDiffers};
 
@@ -22,7 +24,8 @@ use crate::ReopenErr;
 use crate::error::Refusal;
 use crate::files::{check_files, check_rows};
 use crate::journals::{load_catalogue, load_manifests};
-use crate::sweeping::sweep_stores;
+use crate::sweeping::sweep_finished;
+use crate::unfinished::is_unfinished;
 use disk_model::{Disk, DiskErr};
 use etl_rules::Config;
 use pv_catalog::Catalogue;
@@ -40,6 +43,7 @@ use tier_store::TierStore;
 ///
 /// Strays are removed once all that is listed was found, each with a sync. At `Ok` none is left: a file of stores 1 to 3 that is named as
 /// that of a row and of a partition of its store is listed there. Every other file stays. After `DiskFault` and `Memory` some may be left.
+/// While store 0 has a file `adopt`, an adoption isn't finished: no file counts as a stray then, and none is removed.
 pub fn reopen<D: Disk>(
     alloc: Global,
     disk: D,
@@ -61,14 +65,15 @@ pub fn reopen<D: Disk>(
     ensures differs { IsTrue D.tells → (d : D) (kept asked : GranularityValue) → result ≡ Err (GranularityDiffers d kept asked)
         → Differs (stores_of config.now) (D.files disk) kept asked }
 
-    // No stray is left. A crash at any moment leaves what the image held, and the disk can be opened again.
+    // No stray is left, where no adoption is unfinished. A crash at any moment leaves what the image held, and the disk can be opened again.
     ensures swept { IsTrue D.tells → IfOk result (λ s. IsSwept (stores_of config.now) (D.files disk) (D.files s.disk) (D.past s.disk)) }
+    ensures tidy { IsTrue D.tells → D.files disk adoption_name ≡ None → IfOk result (λ s. HaveNoStray (seen_all D.Disk s)) }
     ensures sweeps { IsTrue D.tells → Sweeps D.Disk (stores_of config.now) disk (disk_of result) }
     ensures faults { D.faults disk ≤ D.faults (disk_of result) }
     ensures cause { (d : D) → result ≡ Err (DiskFault d) → Rose (D.faults disk) (D.faults d) }
 {
     let mut disk = disk;
-    match load_and_sweep(alloc, &mut disk, config) {
+    match open_stores(alloc, &mut disk, config) {
         Ok((catalogue, manifests)) => Ok(TierStore::new(
             alloc, disk, *config, catalogue, manifests,
         )),
@@ -122,8 +127,8 @@ pub fn open_to_read<D: Disk>(
     }
 }
 
-// Loads the journals, looks whether all that they list is there, and removes strays.
-fn load_and_sweep<D: Disk>(
+// Asks whether an adoption is unfinished, loads the journals, and removes strays where none is.
+fn open_stores<D: Disk>(
     alloc: Global,
     disk: &mut D,
     config: &Config,
@@ -137,17 +142,44 @@ fn load_and_sweep<D: Disk>(
     ensures ready { IfOk result (λ r. IsReady (stores_of config.now) r.0 r.1.items) }
     ensures told { IsTrue D.tells → IfErr result (IsTold (stores_of config.now) (D.files disk.old)) }
     ensures swept { IsTrue D.tells → OnOk result (IsSwept (stores_of config.now) (D.files disk.old) (D.files disk.new) (D.past disk.new)) }
+    ensures gone { IsTrue D.tells → D.files disk.old adoption_name ≡ None → IfOk result (λ r. (n : Name) → IsStrayBelow 3 r.0.rows r.1.items n → D.files disk.new n ≡ None) }
+    ensures sweeps { IsTrue D.tells → Sweeps D.Disk (stores_of config.now) disk.old disk.new }
+    ensures faults { D.faults disk.old ≤ D.faults disk.new }
+    ensures cause { result ≡ Err (OfDisk Fault) → Rose (D.faults disk.old) (D.faults disk.new) }
+{
+    let unfinished = is_unfinished(alloc, disk)?;
+    load_and_sweep(alloc, disk, config, unfinished)
+}
+
+// Loads the journals, looks whether all that they list is there, and removes strays, but not while an adoption is unfinished.
+fn load_and_sweep<D: Disk>(
+    alloc: Global,
+    disk: &mut D,
+    config: &Config,
+    unfinished: bool,
+) -> Result<(Catalogue, Vec<Manifest>), Refusal>
+    requires unopened { IsTrue D.tells → IsUnopened (D.files disk.old) (D.opened disk.old) }
+    requires says { IsTrue D.tells → IsTrue unfinished ↔ IsSome (D.files disk.old adoption_name) }
+    ensures stands { IsTrue D.tells → (before after : Stores) → OpensEither (stores_of config.now) (D.past disk.old) before after
+        → IfOk result (λ r. HasLoaded D.Disk (stores_of config.now) disk.old r.0 r.1.items disk.new before after) }
+    ensures has { IfOk result (λ r. (held : Stores) × Has D.tells (loaded D.Disk r.0 r.1.items disk.new) held) }
+    ensures said { IsTrue D.tells → IfOk result (λ r. AreSaid (stores_of config.now) (D.files disk.old) r.0.rows (lists_of r.1.items)) }
+    ensures whole { IsTrue D.tells → IsOk result → IsWhole (stores_of config.now) (D.files disk.old) }
+    ensures ready { IfOk result (λ r. IsReady (stores_of config.now) r.0 r.1.items) }
+    ensures told { IsTrue D.tells → IfErr result (IsTold (stores_of config.now) (D.files disk.old)) }
+    ensures swept { IsTrue D.tells → OnOk result (IsSwept (stores_of config.now) (D.files disk.old) (D.files disk.new) (D.past disk.new)) }
+    ensures gone { IsTrue D.tells → D.files disk.old adoption_name ≡ None → IfOk result (λ r. (n : Name) → IsStrayBelow 3 r.0.rows r.1.items n → D.files disk.new n ≡ None) }
     ensures sweeps { IsTrue D.tells → Sweeps D.Disk (stores_of config.now) disk.old disk.new }
     ensures faults { D.faults disk.old ≤ D.faults disk.new }
     ensures cause { result ≡ Err (OfDisk Fault) → Rose (D.faults disk.old) (D.faults disk.new) }
 {
     let (catalogue, manifests) = load_stores(alloc, disk, config)?;
-    sweep_stores(alloc, disk, &catalogue, &manifests)?;
+    sweep_finished(alloc, disk, &catalogue, &manifests, unfinished)?;
     Ok((catalogue, manifests))
 }
 
 // Loads the journals, and looks whether all that they list is there.
-fn load_stores<D: Disk>(
+pub(crate) fn load_stores<D: Disk>(
     alloc: Global,
     disk: &mut D,
     config: &Config,

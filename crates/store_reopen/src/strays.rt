@@ -40,7 +40,7 @@ pub(crate) fn is_stray(
 }
 
 // The row and the partition whose file has this path.
-fn own_file(
+pub(crate) fn own_file(
     alloc: Global,
     catalogue: &Catalogue,
     granularity: Granularity,
@@ -123,7 +123,7 @@ fn has_path(alloc: Global, name: &PvName, part: &PartName, path: &[u8]) -> Resul
 }
 
 // Whether the manifest lists an entry of this series whose partition begins at this moment.
-fn is_listed(manifest: &Manifest, series: u32, start: u64) -> bool
+pub(crate) fn is_listed(manifest: &Manifest, series: u32, start: u64) -> bool
     requires { InOrder manifest.now.entries }
     ensures { result ≡ is_listed manifest.now.entries (series, start) }
 {

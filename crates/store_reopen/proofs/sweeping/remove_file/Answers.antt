@@ -11,5 +11,5 @@ remove-requires g c tells =
 
 pub returns-in-Some-clause-removes : goal.returns-in-Some-clause-removes
 returns-in-Some-clause-removes g c tells =
-    removes_then _ _ _ _ _ _ _ _ _ _ (removes_read (λ n. n ≡ c.args.name.now) (g.D.Disk.files c.args.disk.now) (g.D.Disk.files c.size.new.self) (g.D.Disk.opened c.args.disk.now) (g.D.Disk.opened c.size.new.self) (g.D.Disk.past c.args.disk.now) (g.D.Disk.past c.size.new.self) (c.size.ensures.same tells) (c.size.ensures.opened tells) (c.size.ensures.crash tells))
-    (removes_one c.remove.result c.args.name.now (g.D.Disk.files c.size.new.self) (g.D.Disk.files c.remove.new.self) (g.D.Disk.opened c.size.new.self) (g.D.Disk.opened c.remove.new.self) (g.D.Disk.past c.size.new.self) (g.D.Disk.past c.remove.new.self) (c.remove.ensures.removed tells) (c.remove.ensures.unremoved tells) (c.remove.ensures.crash tells) (c.remove.ensures.opened tells) (c.remove.ensures.no_more tells))
+    removes_then g.D.Disk (λ n. n ≡ c.args.name.now) _ _ _ (removes_read g.D.Disk (λ n. n ≡ c.args.name.now) c.args.disk.now c.size.new.self (c.size.ensures.same tells) (c.size.ensures.opened tells) (c.size.ensures.crash tells))
+    (removes_one g.D.Disk c.remove.result c.args.name.now c.size.new.self c.remove.new.self (c.remove.ensures.removed tells) (c.remove.ensures.unremoved tells) (c.remove.ensures.crash tells) (c.remove.ensures.opened tells) (c.remove.ensures.no_more tells))

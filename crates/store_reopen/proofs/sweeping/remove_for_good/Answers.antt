@@ -9,8 +9,8 @@ use Rattle.store_reopen.proofs.sweeping.remove_for_good.Goals as goal
 
 pub returns-clause-removes : goal.returns-clause-removes
 returns-clause-removes g c tells =
-    removes_then _ _ _ _ _ _ _ _ _ _ (c.remove_file.ensures.removes tells)
-    (removes_read (λ n. n ≡ c.args.name.now) (g.D.Disk.files c.remove_file.new.disk) (g.D.Disk.files c.sync.new.self) (g.D.Disk.opened c.remove_file.new.disk) (g.D.Disk.opened c.sync.new.self) (g.D.Disk.past c.remove_file.new.disk) (g.D.Disk.past c.sync.new.self) (c.sync.ensures.same tells) (c.sync.ensures.opened tells) (c.sync.ensures.crash tells))
+    removes_then g.D.Disk (λ n. n ≡ c.args.name.now) _ _ _ (c.remove_file.ensures.removes tells)
+    (removes_read g.D.Disk (λ n. n ≡ c.args.name.now) c.remove_file.new.disk c.sync.new.self (c.sync.ensures.same tells) (c.sync.ensures.opened tells) (c.sync.ensures.crash tells))
 
 pub returns-clause-gone : goal.returns-clause-gone
 returns-clause-gone g c tells = by c.sync.result (c.sync.ensures.durable tells)

@@ -23,8 +23,8 @@ returns-in_err-remove_for_good-clause-removes g c tells place all =
     let Goes : Name → Type 0 = IsStrayOf place c.args.manifest.now.granularity c.args.catalogue.now.rows c.args.manifest.now.entries in
     let store = at_store (place + 1) c.args.names.now c.loop-name.name-index c.name-item.result c.loop-name-test.true c.name-item.is all in
     let stray : Goes c.name-item.result = (c.in_ok-stray.ensures place store).0 c.if-not-stray.false in
-    removes_then Goes _ _ _ _ _ _ _ _ _ (c.loop-name.invariant.removes tells place all)
-    (removes_by (λ (n : Name). n ≡ c.name-item.result) Goes _ _ _ _ _ _ (λ n is. subst Goes (sym is) stray) (c.remove_for_good.ensures.removes tells))
+    removes_then g.D.Disk Goes _ _ _ (c.loop-name.invariant.removes tells place all)
+    (removes_by g.D.Disk (λ (n : Name). n ≡ c.name-item.result) Goes (λ n is. subst Goes (sym is) stray) _ _ (c.remove_for_good.ensures.removes tells))
 
 pub loop-name-preserved : goal.loop-name-preserved
 loop-name-preserved g c = record {
@@ -32,14 +32,13 @@ loop-name-preserved g c = record {
       let Goes : Name → Type 0 = IsStrayOf place c.args.manifest.now.granularity c.args.catalogue.now.rows c.args.manifest.now.entries in
       let store = at_store (place + 1) c.args.names.now c.loop-name.name-index c.name-item.result c.loop-name-test.true c.name-item.is all in
       let stray : Goes c.name-item.result = (c.in_ok-stray.ensures place store).0 c.if-not-stray.false in
-      removes_then Goes _ _ _ _ _ _ _ _ _ (c.loop-name.invariant.removes tells place all)
-      (removes_by (λ (n : Name). n ≡ c.name-item.result) Goes _ _ _ _ _ _ (λ n is. subst Goes (sym is) stray) (c.remove_for_good.ensures.removes tells));
+      removes_then g.D.Disk Goes _ _ _ (c.loop-name.invariant.removes tells place all)
+      (removes_by g.D.Disk (λ (n : Name). n ≡ c.name-item.result) Goes (λ n is. subst Goes (sym is) stray) _ _ (c.remove_for_good.ensures.removes tells));
   gone = λ tells place all.
       let Goes : Name → Type 0 = IsStrayOf place c.args.manifest.now.granularity c.args.catalogue.now.rows c.args.manifest.now.entries in
       let store = at_store (place + 1) c.args.names.now c.loop-name.name-index c.name-item.result c.loop-name-test.true c.name-item.is all in
       let stray : Goes c.name-item.result = (c.in_ok-stray.ensures place store).0 c.if-not-stray.false in
-      let one = removes_by (λ (n : Name). n ≡ c.name-item.result) Goes (g.D.Disk.files c.loop-name.disk) (g.D.Disk.files c.remove_for_good.new.disk) (g.D.Disk.opened c.loop-name.disk) (g.D.Disk.opened c.remove_for_good.new.disk) (g.D.Disk.past c.loop-name.disk) (g.D.Disk.past c.remove_for_good.new.disk)
-      (λ n is. subst Goes (sym is) stray) (c.remove_for_good.ensures.removes tells) in
+      let one = removes_by g.D.Disk (λ (n : Name). n ≡ c.name-item.result) Goes (λ n is. subst Goes (sym is) stray) c.loop-name.disk c.remove_for_good.new.disk (c.remove_for_good.ensures.removes tells) in
       one_more Goes c.args.names.now c.loop-name.name-index c.name-item.result (g.D.Disk.files c.loop-name.disk) (g.D.Disk.files c.remove_for_good.new.disk) (g.D.Disk.past c.loop-name.disk) (g.D.Disk.past c.remove_for_good.new.disk)
       c.loop-name-test.true c.name-item.is one.now one.any_moment (c.in_ok-remove_for_good.ensures.gone tells) (c.loop-name.invariant.gone tells place all);
   faults = omega (arith, c.loop-name.invariant.faults, c.remove_for_good.ensures.faults);

@@ -6,7 +6,7 @@ use Rattle.store_reopen.proofs.sweeping.remove_strays.Given as goal
 abbrev pub invariant-loop-name : goal.invariant-loop-name
 invariant-loop-name g l = record {
   removes : IsTrue g.D.Disk.tells → (place : ℕ) → All (λ (n : Name). n.0 ≡ place + 1) l.names
-      → Removes (IsStrayOf place l.manifest.granularity l.catalogue.rows l.manifest.entries) (g.D.Disk.files l.fn.disk) (g.D.Disk.files l.disk) (g.D.Disk.opened l.fn.disk) (g.D.Disk.opened l.disk) (g.D.Disk.past l.fn.disk) (g.D.Disk.past l.disk);
+      → Removes g.D.Disk (IsStrayOf place l.manifest.granularity l.catalogue.rows l.manifest.entries) l.fn.disk l.disk;
   gone : IsTrue g.D.Disk.tells → (place : ℕ) → All (λ (n : Name). n.0 ≡ place + 1) l.names
       → All (IsGoneIf (IsStrayOf place l.manifest.granularity l.catalogue.rows l.manifest.entries) (g.D.Disk.files l.disk) (g.D.Disk.past l.disk)) (take l.name-index l.names);
   faults : g.D.Disk.faults l.fn.disk ≤ g.D.Disk.faults l.disk;

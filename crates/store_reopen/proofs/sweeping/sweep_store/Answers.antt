@@ -11,7 +11,7 @@ pub returns-clause-removes : goal.returns-clause-removes
 returns-clause-removes g c tells =
     let Goes : Name → Type 0 = IsStrayOf c.args.place c.args.manifest.now.granularity c.args.catalogue.now.rows c.args.manifest.now.entries in
     let lists = subst (Lists (c.args.place + 1) (g.D.Disk.files c.args.disk.now)) (sym c.as_slice.ensures.value) (c.in_ok-names.ensures.listed tells) in
-    removes_then Goes _ _ _ _ _ _ _ _ _ (removes_read Goes (g.D.Disk.files c.args.disk.now) (g.D.Disk.files c.names.new.self) (g.D.Disk.opened c.args.disk.now) (g.D.Disk.opened c.names.new.self) (g.D.Disk.past c.args.disk.now) (g.D.Disk.past c.names.new.self) (c.names.ensures.same tells) (c.names.ensures.opened tells) (c.names.ensures.crash tells))
+    removes_then g.D.Disk Goes _ _ _ (removes_read g.D.Disk Goes c.args.disk.now c.names.new.self (c.names.ensures.same tells) (c.names.ensures.opened tells) (c.names.ensures.crash tells))
     (c.remove_strays.ensures.removes tells c.args.place (in_store (c.args.place + 1) (g.D.Disk.files c.args.disk.now) c.as_slice.result.now lists))
 
 pub returns-clause-gone : goal.returns-clause-gone

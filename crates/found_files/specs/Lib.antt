@@ -1,0 +1,4 @@
+pub mod Candidate
+pub mod ReadRuns
+pub mod Reading
+pub mod Refusals

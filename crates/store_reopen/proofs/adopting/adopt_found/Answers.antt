@@ -1,0 +1,266 @@
+use Rattle.std.proofs.Common.{◌≡◌, ◌-◌, ◌*◌, inr, true, false, [], ℕ, List, length, refl, sym, ◌∙◌, ap, subst, arith, append-nil}
+use Rattle.std.proofs.lemmas.Result.{err_from_is_err_and}
+use Rattle.std.proofs.lemmas.List.{length-map}
+use Rattle.std.specs.Prelude.{All, Vec}
+use Rattle.std.specs.declared.alloc.Global.{Global}
+use Rattle.store_manifest.specs.Manifest.{ManifestState}
+use Rattle.store_reopen.specs.Adoption.{GetRows, TakesTurns, place_of, row_of}
+use Rattle.store_reopen.specs.Finding.{AreUnlistedOf, IsOfPlace}
+use Rattle.store_reopen.specs.Listing.{AtEachTurn, turns_of}
+use Rattle.store_reopen.specs.Runs.{Goes, Stops}
+use Rattle.store_reopen.specs.Steps.{Step, made_by}
+use Rattle.store_reopen.specs.Turns.{AreNumbers, TakesOf, all_taken}
+use Rattle.store_reopen.specs.declared.finding.Taken.{Taken}
+use Rattle.store_reopen.specs.declared.finding.Unlisted.{Unlisted}
+use Rattle.store_reopen.proofs.Adding.{spares_read, spares_then}
+use Rattle.store_reopen.proofs.Following.{all_of, all_unopened, followed, gets, left_between, left_lists, left_rows, none_later, rows_had}
+use Rattle.store_reopen.proofs.Counts.{counted}
+use Rattle.store_reopen.proofs.Having.{count_of}
+use Rattle.store_reopen.proofs.Stages.{steps_read}
+use Rattle.store_reopen.proofs.TurnsKnown.{turns_are, turns_have_parts, turns_may, turns_unopened}
+use Rattle.store_reopen.proofs.TurnsTaken.{may_later}
+use Rattle.store_reopen.proofs.adopting.adopt_found.Goals as goal
+
+pub register_all-requires-clause-has : goal.register_all-requires-clause-has
+register_all-requires-clause-has g c tells =
+    let disk = g.D.Disk in
+    let cat = c.args.catalogue.now in
+    let ms = c.args.manifests.now.items in
+    let old = c.args.disk.now in
+    let mid = c.find_unlisted.new.disk in
+    let r = c.find_unlisted.ensures.read in
+    let read = steps_read disk cat ms old mid r.files r.opened r.any_moment r.faults in
+    let was = c.requires.has tells in
+    (ms, was.0, read.ends was.0 was.1)
+
+pub returns-in_err-register_all-clause-leaves_off : goal.returns-in_err-register_all-clause-leaves_off
+returns-in_err-register_all-clause-leaves_off g c tells gs image held of_gs same has =
+    let disk = g.D.Disk in
+    let cat = c.args.catalogue.now in
+    let ms = c.args.manifests.now.items in
+    let old = c.args.disk.now in
+    let mid = c.find_unlisted.new.disk in
+    let r = c.find_unlisted.ensures.read in
+    let xs = c.in_ok-unlisted.unlisted.items in
+    let read = steps_read disk cat ms old mid r.files r.opened r.any_moment r.faults in
+    let found : AreUnlistedOf (disk.files old) cat.rows ms xs = subst (λ (l : List ManifestState). AreUnlistedOf (disk.files old) cat.rows l xs) c.as_slice.ensures.value (c.in_ok-unlisted.ensures.found tells) in
+    let are = all_of gs image (disk.files old) cat ms held xs of_gs same has.known found in
+    let made = c.register_all.new.disk in
+    let cat₁ = c.register_all.new.catalogue in
+    let stops : Stops disk (λ whole. GetRows whole cat.rows [] xs) cat ms mid cat₁ ms made = subst (λ (l : List Unlisted). Stops disk (λ whole. GetRows whole cat.rows [] l) cat ms mid cat₁ ms made) c.as_slice-2.ensures.value (c.in_err-register_all.ensures.stops tells ms (held, read.ends held has)) in
+    let p = err_from_is_err_and c.from_residual-in_err-register_all.result c.from_residual-in_err-register_all.ensures.1 in
+    rw p.1 (inr (false, left_rows disk gs image held xs cat ms old mid are has read cat₁ made stops))
+
+pub returns-in_err-register_all-clause-spares : goal.returns-in_err-register_all-clause-spares
+returns-in_err-register_all-clause-spares g c tells =
+    let disk = g.D.Disk in
+    let cat = c.args.catalogue.now in
+    let ms = c.args.manifests.now.items in
+    let old = c.args.disk.now in
+    let mid = c.find_unlisted.new.disk in
+    let r = c.find_unlisted.ensures.read in
+    let made = c.register_all.new.disk in
+    let cat₁ = c.register_all.new.catalogue in
+    spares_then disk old mid made (spares_read disk old mid (r.files tells) (r.opened tells) (r.any_moment tells)) (c.register_all.ensures.spares tells)
+
+pub returns-in_err-turns-clause-spares : goal.returns-in_err-turns-clause-spares
+returns-in_err-turns-clause-spares g c tells =
+    let disk = g.D.Disk in
+    let cat = c.args.catalogue.now in
+    let ms = c.args.manifests.now.items in
+    let old = c.args.disk.now in
+    let mid = c.find_unlisted.new.disk in
+    let r = c.find_unlisted.ensures.read in
+    let made = c.register_all.new.disk in
+    let cat₁ = c.register_all.new.catalogue in
+    spares_then disk old mid made (spares_read disk old mid (r.files tells) (r.opened tells) (r.any_moment tells)) (c.register_all.ensures.spares tells)
+
+pub returns-in_err-turns-clause-leaves_off : goal.returns-in_err-turns-clause-leaves_off
+returns-in_err-turns-clause-leaves_off g c tells gs image held of_gs same has =
+    let disk = g.D.Disk in
+    let cat = c.args.catalogue.now in
+    let ms = c.args.manifests.now.items in
+    let old = c.args.disk.now in
+    let mid = c.find_unlisted.new.disk in
+    let r = c.find_unlisted.ensures.read in
+    let xs = c.in_ok-unlisted.unlisted.items in
+    let read = steps_read disk cat ms old mid r.files r.opened r.any_moment r.faults in
+    let found : AreUnlistedOf (disk.files old) cat.rows ms xs = subst (λ (l : List ManifestState). AreUnlistedOf (disk.files old) cat.rows l xs) c.as_slice.ensures.value (c.in_ok-unlisted.ensures.found tells) in
+    let are = all_of gs image (disk.files old) cat ms held xs of_gs same has.known found in
+    let made = c.register_all.new.disk in
+    let cat₁ = c.register_all.new.catalogue in
+    let goes : Goes disk (λ whole. GetRows whole cat.rows [] xs) (λ whole steps. steps ≡ []) cat ms mid cat₁ ms made = subst (λ (l : List Unlisted). Goes disk (λ whole. GetRows whole cat.rows [] l) (λ whole steps. steps ≡ []) cat ms mid cat₁ ms made) c.as_slice-2.ensures.value (c.in_ok-register_all.ensures.goes tells ms (held, read.ends held has)) in
+    let p = err_from_is_err_and c.from_residual-in_err-turns.result c.from_residual-in_err-turns.ensures.1 in
+    rw p.1 (inr (false, left_between disk gs image held xs cat ms old mid are has read cat₁ made goes))
+
+pub list_all-requires-clause-ready : goal.list_all-requires-clause-ready
+list_all-requires-clause-ready g c =
+    (c.requires.ready.0, c.requires.ready.1, c.in_ok-register_all.ensures.ready c.requires.ready.0 c.args.manifests.now.items c.requires.ready.2)
+
+pub list_all-requires-clause-parts : goal.list_all-requires-clause-parts
+list_all-requires-clause-parts g c =
+    let ms = c.args.manifests.now.items in
+    let cat₁ = c.register_all.new.catalogue in
+    let xs = c.in_ok-unlisted.unlisted.items in
+    let turns = c.as_slice-4.result.now in
+    let takes : AtEachTurn (λ turn taken. TakesOf ms cat₁.rows turn xs taken) (turns_of turns) = subst (λ (vs : List (Vec Taken Global)). AtEachTurn (λ turn taken. TakesOf ms cat₁.rows turn xs taken) (turns_of vs)) (sym c.as_slice-4.ensures.value)
+    (subst (λ (l : List ManifestState). AtEachTurn (λ turn taken. TakesOf l cat₁.rows turn xs taken) (turns_of c.in_ok-turns.turns.items)) c.as_slice-3.ensures.value c.in_ok-turns.ensures.takes) in
+    turns_have_parts ms cat₁.rows xs (turns_of turns) (subst (λ (l : List ManifestState). All (IsOfPlace l) xs) c.as_slice.ensures.value c.in_ok-unlisted.ensures.shape) takes
+
+pub list_all-requires-clause-has : goal.list_all-requires-clause-has
+list_all-requires-clause-has g c tells =
+    let disk = g.D.Disk in
+    let cat = c.args.catalogue.now in
+    let ms = c.args.manifests.now.items in
+    let old = c.args.disk.now in
+    let mid = c.find_unlisted.new.disk in
+    let r = c.find_unlisted.ensures.read in
+    let xs = c.in_ok-unlisted.unlisted.items in
+    let read = steps_read disk cat ms old mid r.files r.opened r.any_moment r.faults in
+    let was = c.requires.has tells in
+    let goes = c.in_ok-register_all.ensures.goes tells ms (was.0, read.ends was.0 was.1) in
+    (made_by goes.steps was.0, goes.makes.ends was.0 (read.ends was.0 was.1))
+
+pub list_all-requires-clause-may : goal.list_all-requires-clause-may
+list_all-requires-clause-may g c tells turn taken here g₁ at =
+    let disk = g.D.Disk in
+    let cat = c.args.catalogue.now in
+    let ms = c.args.manifests.now.items in
+    let old = c.args.disk.now in
+    let mid = c.find_unlisted.new.disk in
+    let r = c.find_unlisted.ensures.read in
+    let xs = c.in_ok-unlisted.unlisted.items in
+    let found : AreUnlistedOf (disk.files old) cat.rows ms xs = subst (λ (l : List ManifestState). AreUnlistedOf (disk.files old) cat.rows l xs) c.as_slice.ensures.value (c.in_ok-unlisted.ensures.found tells) in
+    let made = c.register_all.new.disk in
+    let cat₁ = c.register_all.new.catalogue in
+    let spared = spares_then disk old mid made (spares_read disk old mid (r.files tells) (r.opened tells) (r.any_moment tells)) (c.register_all.ensures.spares tells) in
+    let turns = c.as_slice-4.result.now in
+    let takes : AtEachTurn (λ turn taken. TakesOf ms cat₁.rows turn xs taken) (turns_of turns) = subst (λ (vs : List (Vec Taken Global)). AtEachTurn (λ turn taken. TakesOf ms cat₁.rows turn xs taken) (turns_of vs)) (sym c.as_slice-4.ensures.value)
+    (subst (λ (l : List ManifestState). AtEachTurn (λ turn taken. TakesOf l cat₁.rows turn xs taken) (turns_of c.in_ok-turns.turns.items)) c.as_slice-3.ensures.value c.in_ok-turns.ensures.takes) in
+    let three = count_of c.requires.ready.0 ms c.requires.ready.1 c.requires.ready.2.granularity in
+    may_later g₁ (disk.files old) (disk.files made) cat₁.rows (row_of turn) (place_of turn) taken spared.now (turns_may (disk.files old) cat.rows cat₁.rows ms xs (turns_of turns) three found takes turn taken here g₁ at)
+
+pub list_all-requires-clause-unopened : goal.list_all-requires-clause-unopened
+list_all-requires-clause-unopened g c tells =
+    let disk = g.D.Disk in
+    let cat = c.args.catalogue.now in
+    let ms = c.args.manifests.now.items in
+    let old = c.args.disk.now in
+    let mid = c.find_unlisted.new.disk in
+    let r = c.find_unlisted.ensures.read in
+    let xs = c.in_ok-unlisted.unlisted.items in
+    let found : AreUnlistedOf (disk.files old) cat.rows ms xs = subst (λ (l : List ManifestState). AreUnlistedOf (disk.files old) cat.rows l xs) c.as_slice.ensures.value (c.in_ok-unlisted.ensures.found tells) in
+    let made = c.register_all.new.disk in
+    let cat₁ = c.register_all.new.catalogue in
+    let spared = spares_then disk old mid made (spares_read disk old mid (r.files tells) (r.opened tells) (r.any_moment tells)) (c.register_all.ensures.spares tells) in
+    let turns = c.as_slice-4.result.now in
+    let takes : AtEachTurn (λ turn taken. TakesOf ms cat₁.rows turn xs taken) (turns_of turns) = subst (λ (vs : List (Vec Taken Global)). AtEachTurn (λ turn taken. TakesOf ms cat₁.rows turn xs taken) (turns_of vs)) (sym c.as_slice-4.ensures.value)
+    (subst (λ (l : List ManifestState). AtEachTurn (λ turn taken. TakesOf l cat₁.rows turn xs taken) (turns_of c.in_ok-turns.turns.items)) c.as_slice-3.ensures.value c.in_ok-turns.ensures.takes) in
+    let three = count_of c.requires.ready.0 ms c.requires.ready.1 c.requires.ready.2.granularity in
+    turns_unopened (disk.opened made) cat₁.rows ms xs (turns_of turns) (all_unopened (disk.files old) cat.rows ms (disk.opened made) xs three (none_later cat.rows ms (disk.opened old) (disk.opened made) spared.fewer (c.requires.unopened tells)) found) takes
+
+pub returns-in_err-list_all-clause-leaves_off : goal.returns-in_err-list_all-clause-leaves_off
+returns-in_err-list_all-clause-leaves_off g c tells gs image held of_gs same has =
+    let disk = g.D.Disk in
+    let cat = c.args.catalogue.now in
+    let ms = c.args.manifests.now.items in
+    let old = c.args.disk.now in
+    let mid = c.find_unlisted.new.disk in
+    let r = c.find_unlisted.ensures.read in
+    let xs = c.in_ok-unlisted.unlisted.items in
+    let read = steps_read disk cat ms old mid r.files r.opened r.any_moment r.faults in
+    let found : AreUnlistedOf (disk.files old) cat.rows ms xs = subst (λ (l : List ManifestState). AreUnlistedOf (disk.files old) cat.rows l xs) c.as_slice.ensures.value (c.in_ok-unlisted.ensures.found tells) in
+    let are = all_of gs image (disk.files old) cat ms held xs of_gs same has.known found in
+    let made = c.register_all.new.disk in
+    let cat₁ = c.register_all.new.catalogue in
+    let goes : Goes disk (λ whole. GetRows whole cat.rows [] xs) (λ whole steps. steps ≡ []) cat ms mid cat₁ ms made = subst (λ (l : List Unlisted). Goes disk (λ whole. GetRows whole cat.rows [] l) (λ whole steps. steps ≡ []) cat ms mid cat₁ ms made) c.as_slice-2.ensures.value (c.in_ok-register_all.ensures.goes tells ms (held, read.ends held has)) in
+    let spared = spares_then disk old mid made (spares_read disk old mid (r.files tells) (r.opened tells) (r.any_moment tells)) (c.register_all.ensures.spares tells) in
+    let turns = c.as_slice-4.result.now in
+    let takes : AtEachTurn (λ turn taken. TakesOf ms cat₁.rows turn xs taken) (turns_of turns) = subst (λ (vs : List (Vec Taken Global)). AtEachTurn (λ turn taken. TakesOf ms cat₁.rows turn xs taken) (turns_of vs)) (sym c.as_slice-4.ensures.value)
+    (subst (λ (l : List ManifestState). AtEachTurn (λ turn taken. TakesOf l cat₁.rows turn xs taken) (turns_of c.in_ok-turns.turns.items)) c.as_slice-3.ensures.value c.in_ok-turns.ensures.takes) in
+    let count : length turns ≡ 3 * length cat₁.rows = ap length c.as_slice-4.ensures.value ∙ c.in_ok-turns.ensures.count in
+    let are_turns = turns_are cat ms held cat₁.rows xs (turns_of turns) has.known takes in
+    let m₁ = c.list_all.new.manifests.items in
+    let new = c.list_all.new.disk in
+    let stops = c.in_err-list_all.ensures.stops tells image held xs (λ n other. spared.now n other ∙ same n other) are_turns in
+    let p = err_from_is_err_and c.from_residual-in_err-list_all.result c.from_residual-in_err-list_all.ensures.1 in
+    rw p.1 (inr (false, left_lists disk gs image held xs cat ms old mid are has read cat₁ made goes (length turns) count m₁ new stops))
+
+pub returns-in_err-list_all-clause-spares : goal.returns-in_err-list_all-clause-spares
+returns-in_err-list_all-clause-spares g c tells =
+    let disk = g.D.Disk in
+    let cat = c.args.catalogue.now in
+    let ms = c.args.manifests.now.items in
+    let old = c.args.disk.now in
+    let mid = c.find_unlisted.new.disk in
+    let r = c.find_unlisted.ensures.read in
+    let made = c.register_all.new.disk in
+    let cat₁ = c.register_all.new.catalogue in
+    let spared = spares_then disk old mid made (spares_read disk old mid (r.files tells) (r.opened tells) (r.any_moment tells)) (c.register_all.ensures.spares tells) in
+    spares_then disk old made c.list_all.new.disk spared (c.list_all.ensures.spares tells)
+
+pub returns-clause-spares : goal.returns-clause-spares
+returns-clause-spares g c tells =
+    let disk = g.D.Disk in
+    let cat = c.args.catalogue.now in
+    let ms = c.args.manifests.now.items in
+    let old = c.args.disk.now in
+    let mid = c.find_unlisted.new.disk in
+    let r = c.find_unlisted.ensures.read in
+    let made = c.register_all.new.disk in
+    let cat₁ = c.register_all.new.catalogue in
+    let spared = spares_then disk old mid made (spares_read disk old mid (r.files tells) (r.opened tells) (r.any_moment tells)) (c.register_all.ensures.spares tells) in
+    spares_then disk old made c.list_all.new.disk spared (c.list_all.ensures.spares tells)
+
+pub overflow_sub-rows : goal.overflow_sub-rows
+overflow_sub-rows g c =
+    let was = ap length c.rows-before.ensures.value in
+    let now = ap length c.rows.ensures.value in
+    omega (arith, was, now, c.in_ok-register_all.ensures.more)
+
+pub returns-clause-follows : goal.returns-clause-follows
+returns-clause-follows g c tells gs image held of_gs same has =
+    let disk = g.D.Disk in
+    let cat = c.args.catalogue.now in
+    let ms = c.args.manifests.now.items in
+    let old = c.args.disk.now in
+    let mid = c.find_unlisted.new.disk in
+    let r = c.find_unlisted.ensures.read in
+    let xs = c.in_ok-unlisted.unlisted.items in
+    let read = steps_read disk cat ms old mid r.files r.opened r.any_moment r.faults in
+    let found : AreUnlistedOf (disk.files old) cat.rows ms xs = subst (λ (l : List ManifestState). AreUnlistedOf (disk.files old) cat.rows l xs) c.as_slice.ensures.value (c.in_ok-unlisted.ensures.found tells) in
+    let are = all_of gs image (disk.files old) cat ms held xs of_gs same has.known found in
+    let made = c.register_all.new.disk in
+    let cat₁ = c.register_all.new.catalogue in
+    let goes : Goes disk (λ whole. GetRows whole cat.rows [] xs) (λ whole steps. steps ≡ []) cat ms mid cat₁ ms made = subst (λ (l : List Unlisted). Goes disk (λ whole. GetRows whole cat.rows [] l) (λ whole steps. steps ≡ []) cat ms mid cat₁ ms made) c.as_slice-2.ensures.value (c.in_ok-register_all.ensures.goes tells ms (held, read.ends held has)) in
+    let spared = spares_then disk old mid made (spares_read disk old mid (r.files tells) (r.opened tells) (r.any_moment tells)) (c.register_all.ensures.spares tells) in
+    let turns = c.as_slice-4.result.now in
+    let takes : AtEachTurn (λ turn taken. TakesOf ms cat₁.rows turn xs taken) (turns_of turns) = subst (λ (vs : List (Vec Taken Global)). AtEachTurn (λ turn taken. TakesOf ms cat₁.rows turn xs taken) (turns_of vs)) (sym c.as_slice-4.ensures.value)
+    (subst (λ (l : List ManifestState). AtEachTurn (λ turn taken. TakesOf l cat₁.rows turn xs taken) (turns_of c.in_ok-turns.turns.items)) c.as_slice-3.ensures.value c.in_ok-turns.ensures.takes) in
+    let count : length turns ≡ 3 * length cat₁.rows = ap length c.as_slice-4.ensures.value ∙ c.in_ok-turns.ensures.count in
+    let are_turns = turns_are cat ms held cat₁.rows xs (turns_of turns) has.known takes in
+    let m₁ = c.list_all.new.manifests.items in
+    let new = c.list_all.new.disk in
+    let lists = c.in_ok-list_all.ensures.goes tells image held xs (λ n other. spared.now n other ∙ same n other) are_turns in
+    record {
+      all = followed disk gs image held xs cat ms old mid are has read cat₁ made goes (length turns) count m₁ new lists;
+      counts =
+          let of_rows = (rows_had disk gs image held xs cat ms old mid are has read cat₁ made goes).known.rows in
+          let listed = subst (λ (l : List Step). TakesTurns image held cat₁.rows xs true 0 (length turns) l) (append-nil lists.steps) (lists.by true [] refl) in
+          let was = ap length c.rows-before.ensures.value in
+          let now = ap length c.rows.ensures.value in
+          let more = c.in_ok-register_all.ensures.more in
+          let many : c.len-count.result ≡ length xs = omega (arith, c.len-count.ensures, c.in_ok-unlisted.unlisted.ok.0) in
+          let fits = c.len-count.type_inv in
+          let made_rows : ℕ = length c.rows.result.now - length c.rows-before.result.now in
+          let told : AreNumbers made_rows (length xs) (all_taken (turns_of turns)) c.numbers.result = subst (λ (k : ℕ). AreNumbers made_rows k (all_taken (turns_of turns)) c.numbers.result) many
+          (subst (λ (vs : List (Vec Taken Global)). AreNumbers made_rows c.len-count.result (all_taken (turns_of vs)) c.numbers.result) (c.as_slice-5.ensures.value ∙ sym c.as_slice-4.ensures.value) c.numbers.ensures) in
+          let fewer = c.in_ok-turns.ensures.fewer in
+          let all = ap (λ (vs : List (Vec Taken Global)). length (all_taken (turns_of vs))) c.as_slice-4.ensures.value in
+          counted image (disk.files old) cat.rows cat₁.rows ms held xs (turns_of turns) goes.steps lists.steps (length turns) made_rows c.numbers.result same (count_of c.requires.ready.0 ms c.requires.ready.1 c.requires.ready.2.granularity) found takes are_turns of_rows
+          (gets disk gs image held xs cat ms old mid are has read cat₁ made goes) (sym (length-map turns (λ (v : Vec Taken Global). v.items))) listed told (omega (arith, was, now, more, ap length has.known.rows)) (omega (arith, fewer, all)) (omega (arith, many, fits));
+    }
+
+pub returns-clause-ready : goal.returns-clause-ready
+returns-clause-ready g c gs ready =
+    c.in_ok-list_all.ensures.ready gs (c.in_ok-register_all.ensures.ready gs c.args.manifests.now.items ready)

@@ -1,0 +1,57 @@
+use Rattle.std.proofs.Common.{sym, ◌∙◌, ap, subst}
+use Rattle.std.proofs.lemmas.Result.{IfErr-weaker, IfOk-weaker}
+use Rattle.std.specs.Prelude.{IsSome, IsTrue, OnOk, ◌↔◌}
+use Rattle.disk_model.specs.Files.{Files}
+use Rattle.store_reopen.specs.Refusal.{IsTold}
+use Rattle.store_reopen.specs.Reopen.{HasLoaded, IsSwept, lists_of, stores_of}
+use Rattle.store_reopen.specs.Strays.{adoption_name}
+use Rattle.store_reopen.specs.Verdict.{AreSaid, IsWhole}
+use Rattle.store_reopen.proofs.Swept.{loaded_behind, read_reopens, sweeps_behind, sweeps_none}
+use Rattle.store_reopen.proofs.opening.open_stores.Goals as goal
+
+pub load_and_sweep-requires-clause-unopened : goal.load_and_sweep-requires-clause-unopened
+load_and_sweep-requires-clause-unopened g c tells =
+    (read_reopens g.D.Disk (stores_of c.args.config.now) c.args.disk.now c.is_unfinished.new.disk (c.requires.unopened tells) (c.is_unfinished.ensures.same tells) (c.is_unfinished.ensures.any_moment tells) (c.is_unfinished.ensures.opened tells)).unopened
+
+pub load_and_sweep-requires-clause-says : goal.load_and_sweep-requires-clause-says
+load_and_sweep-requires-clause-says g c tells = subst (λ (f : Files). IsTrue c.in_ok-unfinished.unfinished ↔ IsSome (f adoption_name)) (sym (c.is_unfinished.ensures.same tells)) (c.in_ok-unfinished.ensures.there tells)
+
+pub returns-in_err-unfinished-clause-sweeps : goal.returns-in_err-unfinished-clause-sweeps
+returns-in_err-unfinished-clause-sweeps g c tells =
+    sweeps_none g.D.Disk (stores_of c.args.config.now) c.args.disk.now c.is_unfinished.new.disk
+    (read_reopens g.D.Disk (stores_of c.args.config.now) c.args.disk.now c.is_unfinished.new.disk (c.requires.unopened tells) (c.is_unfinished.ensures.same tells) (c.is_unfinished.ensures.any_moment tells) (c.is_unfinished.ensures.opened tells))
+
+pub returns-clause-stands : goal.returns-clause-stands
+returns-clause-stands g c tells before after opens =
+    let gs = stores_of c.args.config.now in
+    let begun = read_reopens g.D.Disk gs c.args.disk.now c.is_unfinished.new.disk (c.requires.unopened tells) (c.is_unfinished.ensures.same tells) (c.is_unfinished.ensures.any_moment tells) (c.is_unfinished.ensures.opened tells) in
+    IfOk-weaker c.load_and_sweep.result (λ r. HasLoaded g.D.Disk gs c.is_unfinished.new.disk r.0 r.1.items c.load_and_sweep.new.disk before after) (λ r. HasLoaded g.D.Disk gs c.args.disk.now r.0 r.1.items c.load_and_sweep.new.disk before after)
+    (λ r loaded. loaded_behind g.D.Disk gs c.args.disk.now c.is_unfinished.new.disk c.load_and_sweep.new.disk r.0 r.1.items before after (c.is_unfinished.ensures.same tells) loaded) (c.load_and_sweep.ensures.stands tells before after (begun.opens before after opens))
+
+pub returns-clause-said : goal.returns-clause-said
+returns-clause-said g c tells =
+    let gs = stores_of c.args.config.now in
+    IfOk-weaker c.load_and_sweep.result (λ r. AreSaid gs (g.D.Disk.files c.is_unfinished.new.disk) r.0.rows (lists_of r.1.items)) (λ r. AreSaid gs (g.D.Disk.files c.args.disk.now) r.0.rows (lists_of r.1.items))
+    (λ r said. subst (λ (f : Files). AreSaid gs f r.0.rows (lists_of r.1.items)) (c.is_unfinished.ensures.same tells) said) (c.load_and_sweep.ensures.said tells)
+
+pub returns-clause-whole : goal.returns-clause-whole
+returns-clause-whole g c tells fine = subst (IsWhole (stores_of c.args.config.now)) (c.is_unfinished.ensures.same tells) (c.load_and_sweep.ensures.whole tells fine)
+
+pub returns-clause-told : goal.returns-clause-told
+returns-clause-told g c tells =
+    let gs = stores_of c.args.config.now in
+    IfErr-weaker c.load_and_sweep.result (IsTold gs (g.D.Disk.files c.is_unfinished.new.disk)) (IsTold gs (g.D.Disk.files c.args.disk.now)) (λ e told. subst (λ (f : Files). IsTold gs f e) (c.is_unfinished.ensures.same tells) told) (c.load_and_sweep.ensures.told tells)
+
+pub returns-clause-swept : goal.returns-clause-swept
+returns-clause-swept g c tells =
+    subst (λ (f : Files). OnOk c.load_and_sweep.result (IsSwept (stores_of c.args.config.now) f (g.D.Disk.files c.load_and_sweep.new.disk) (g.D.Disk.past c.load_and_sweep.new.disk))) (c.is_unfinished.ensures.same tells) (c.load_and_sweep.ensures.swept tells)
+
+pub returns-clause-sweeps : goal.returns-clause-sweeps
+returns-clause-sweeps g c tells =
+    let gs = stores_of c.args.config.now in
+    sweeps_behind g.D.Disk gs c.args.disk.now c.is_unfinished.new.disk c.load_and_sweep.new.disk
+    (read_reopens g.D.Disk gs c.args.disk.now c.is_unfinished.new.disk (c.requires.unopened tells) (c.is_unfinished.ensures.same tells) (c.is_unfinished.ensures.any_moment tells) (c.is_unfinished.ensures.opened tells))
+    (c.is_unfinished.ensures.same tells) (c.load_and_sweep.ensures.sweeps tells)
+
+pub returns-clause-gone : goal.returns-clause-gone
+returns-clause-gone g c tells finished = c.load_and_sweep.ensures.gone tells (ap (λ (f : Files). f adoption_name) (c.is_unfinished.ensures.same tells) ∙ finished)

@@ -1,0 +1,91 @@
+use Rattle.std.proofs.Common.{◌+◌, List, Err, refl, ◌∙◌, ap, arith}
+use Rattle.std.specs.Prelude.{Result}
+use Rattle.std.proofs.lemmas.Result.{err_from_is_err_and}
+use Rattle.disk_model.specs.declared.disk.DiskErr.{DiskErr}
+use Rattle.store_manifest.specs.Manifest.{manifest_name}
+use Rattle.store_manifest.proofs.Written.{batch_length}
+use Rattle.durable_write.specs.Ends.{end_of_disk}
+use Rattle.durable_write.specs.Flush.{put_all}
+use Rattle.durable_write.specs.Held.{Filed}
+use Rattle.durable_write.specs.Three.{Anything}
+use Rattle.tier_store.specs.Change.{CanList, Has}
+use Rattle.tier_store.specs.Moving.{publishing}
+use Rattle.tier_store.specs.Stores.{Stores, list_at, tier}
+use Rattle.tier_store.proofs.Places.{manifest_here, holding}
+use Rattle.tier_store.proofs.RelistCall.{can_relist, beside_all, call_done, call_cut}
+use Rattle.store_reopen.specs.Reopen.{loaded}
+use Rattle.store_reopen.proofs.Adding.{files_ready, own_spares}
+use Rattle.store_reopen.proofs.stepping.add_files.Goals as goal
+
+pub relist-requires-clause-sound : goal.relist-requires-clause-sound
+relist-requires-clause-sound g c = c.requires.sound c.index_mut.result.now (manifest_here c.args.manifests.now.items c.args.place c.index_mut.result.now c.index_mut.ensures.value c.requires.within)
+
+pub relist-requires-clause-follow : goal.relist-requires-clause-follow
+relist-requires-clause-follow g c = c.requires.follow c.index_mut.result.now (manifest_here c.args.manifests.now.items c.args.place c.index_mut.result.now c.index_mut.ensures.value c.requires.within)
+
+pub relist-requires-clause-few : goal.relist-requires-clause-few
+relist-requires-clause-few g c = omega (arith, batch_length c.args.changes.now, c.requires.few)
+
+pub relist-requires-clause-can : goal.relist-requires-clause-can
+relist-requires-clause-can g c tells =
+    let disk = g.D.Disk in
+    let was = c.requires.has tells in
+    let m = c.index_mut.result.now in
+    let ms = c.args.manifests.now.items in
+    let here = manifest_here ms c.args.place m c.index_mut.ensures.value c.requires.within in
+    let files = (c.requires.can tells).0 in
+    let can : (held : Stores) → Has g.D.Disk.tells (loaded g.D.Disk c.args.catalogue.now c.args.manifests.now.items c.args.disk.now) held → (fs : List Filed) × CanList c.args.place g.D.Disk.tells (loaded g.D.Disk c.args.catalogue.now c.args.manifests.now.items c.args.disk.now) c.args.changes.now held fs = λ held has. (put_all (list_at c.args.place held) files, (c.requires.can tells).1 held has) in (
+      c.args.catalogue.now.journal,
+      (c.args.place + 1, c.args.catalogue.now.rows),
+      tier c.args.place was.0,
+      holding c.args.place was.0 (put_all (list_at c.args.place was.0) files),
+      can_relist disk.files disk.opened disk.past disk.faults disk.tells c.args.catalogue.now ms c.args.place m m here c.args.disk.now c.args.disk.now c.args.changes.now can was.0 was.1 tells,
+    )
+
+pub returns-clause-changes : goal.returns-clause-changes
+returns-clause-changes g c files may =
+    let disk = g.D.Disk in
+    let m = c.index_mut.result.now in
+    let ms = c.args.manifests.now.items in
+    let here = manifest_here ms c.args.place m c.index_mut.ensures.value c.requires.within in
+    let says = c.relist.ensures in
+    let can : (held : Stores) → Has g.D.Disk.tells (loaded g.D.Disk c.args.catalogue.now c.args.manifests.now.items c.args.disk.now) held → (fs : List Filed) × CanList c.args.place g.D.Disk.tells (loaded g.D.Disk c.args.catalogue.now c.args.manifests.now.items c.args.disk.now) c.args.changes.now held fs = λ held has. (put_all (list_at c.args.place held) files, may held has) in
+    call_done disk.files disk.opened disk.past disk.faults disk.tells c.args.catalogue.now ms c.args.place m c.relist.new.manifest here c.args.disk.now c.relist.new.disk c.args.changes.now can
+    says.state.0 says.any_moment
+    (λ tells. beside_all disk.files disk.opened disk.past disk.faults disk.tells c.args.catalogue.now ms c.args.place m c.relist.new.manifest here c.args.disk.now c.relist.new.disk c.args.changes.now can (c.requires.has tells).0 (c.requires.has tells).1 tells (says.frame tells) (says.elsewhere tells) (says.no_more tells))
+    says.faults (publishing c.args.place files) (λ held has. refl) (λ held has. tt) c.in_ok-relist.ensures.entries c.in_ok-relist.ensures.sound c.in_ok-relist.ensures.made
+
+pub returns-in_err-relist-clause-changes : goal.returns-in_err-relist-clause-changes
+returns-in_err-relist-clause-changes g c files may =
+    let disk = g.D.Disk in
+    let m = c.index_mut.result.now in
+    let ms = c.args.manifests.now.items in
+    let here = manifest_here ms c.args.place m c.index_mut.ensures.value c.requires.within in
+    let says = c.relist.ensures in
+    let can : (held : Stores) → Has g.D.Disk.tells (loaded g.D.Disk c.args.catalogue.now c.args.manifests.now.items c.args.disk.now) held → (fs : List Filed) × CanList c.args.place g.D.Disk.tells (loaded g.D.Disk c.args.catalogue.now c.args.manifests.now.items c.args.disk.now) c.args.changes.now held fs = λ held has. (put_all (list_at c.args.place held) files, may held has) in
+    let p = err_from_is_err_and c.from_residual.result c.from_residual.ensures.1 in
+    call_cut disk.files disk.opened disk.past disk.faults disk.tells c.args.catalogue.now ms c.args.place m c.relist.new.manifest here c.args.disk.now c.relist.new.disk c.args.changes.now can
+    says.state.0 says.any_moment
+    (λ tells. beside_all disk.files disk.opened disk.past disk.faults disk.tells c.args.catalogue.now ms c.args.place m c.relist.new.manifest here c.args.disk.now c.relist.new.disk c.args.changes.now can (c.requires.has tells).0 (c.requires.has tells).1 tells (says.frame tells) (says.elsewhere tells) (says.no_more tells))
+    says.faults (publishing c.args.place files) (λ held has. refl) (λ held has. tt) c.in_err-relist.ensures.unchanged c.in_err-relist.ensures.next c.in_err-relist.ensures.unmade c.in_err-relist.ensures.in_doubt
+    c.in_err-relist.field-0.0 _ (ap (λ (r : Result (Unit {0}) DiskErr). end_of_disk r) (p.1 ∙ ap (λ (x : DiskErr). Err x) p.2))
+    (λ is. says.memory (c.in_err-relist.was ∙ ap (λ (x : DiskErr). Err x) is)) (λ is. says.cause (c.in_err-relist.was ∙ ap (λ (x : DiskErr). Err x) is))
+
+pub returns-clause-spares : goal.returns-clause-spares
+returns-clause-spares g c tells =
+    let here = manifest_here c.args.manifests.now.items c.args.place c.index_mut.result.now c.index_mut.ensures.value c.requires.within in
+    let says = c.relist.ensures in
+    own_spares g.D.Disk Anything c.index_mut.result.now.journal.name (manifest_name (c.args.place + 1)) (((c.requires.has tells).1.disk tells).each c.args.place c.index_mut.result.now here).named refl c.args.disk.now c.relist.new.disk (says.frame tells) (says.elsewhere tells) (says.no_more tells)
+
+pub returns-in_err-relist-clause-spares : goal.returns-in_err-relist-clause-spares
+returns-in_err-relist-clause-spares g c tells =
+    let here = manifest_here c.args.manifests.now.items c.args.place c.index_mut.result.now c.index_mut.ensures.value c.requires.within in
+    let says = c.relist.ensures in
+    own_spares g.D.Disk Anything c.index_mut.result.now.journal.name (manifest_name (c.args.place + 1)) (((c.requires.has tells).1.disk tells).each c.args.place c.index_mut.result.now here).named refl c.args.disk.now c.relist.new.disk (says.frame tells) (says.elsewhere tells) (says.no_more tells)
+
+pub returns-clause-ready : goal.returns-clause-ready
+returns-clause-ready g c gs entries ready sets rows =
+    let m = c.index_mut.result.now in
+    let ms = c.args.manifests.now.items in
+    let here = manifest_here ms c.args.place m c.index_mut.ensures.value c.requires.within in
+    files_ready gs c.args.catalogue.now ms c.args.place m c.relist.new.manifest here c.args.changes.now entries ready c.relist.ensures.state.0 c.in_ok-relist.ensures.sound c.in_ok-relist.ensures.entries (c.requires.follow m here) sets rows
