@@ -11,9 +11,9 @@ from dataclasses import dataclass, field, replace
 from pb_model import FIRST_YEAR, LAST_YEAR, Header
 from store_model import AHEAD, STORES, TYPE_NAMES, header_line, key_of, partition, path_of, year_of
 
-# How many calls of the disk the opening of an empty one takes: of each journal five for its file and five for that of its
-# generations, and of each manifest four more, for its granularity; and then the names of each store are asked for.
-OPENING = 4 * (5 + 5) + 3 * 4 + 3
+# How many calls of the disk the opening of an empty one takes: one for the file `adopt`; of each journal five for its file and
+# five for that of its generations, and of each manifest four more, for its granularity; and then the names of each store are asked for.
+OPENING = 1 + 4 * (5 + 5) + 3 * 4 + 3
 ROOM = 67_108_864
 LATEST = 2**64 - 1
 FAULT = "disk fault"
