@@ -1,0 +1,198 @@
+-- What a flush of a batch leaves: a sound half, and the batch's samples behind what is durable, or in doubt.
+use Rattle.std.proofs.Common.{◌≡◌, ℕ, ◌+◌, List, [], ◌++◌, Option, Some, None, true, refl, ap, sym, ◌∙◌, subst, arith, append-nil, inl, length}
+use Rattle.std.specs.Prelude.{slice_get}
+use Rattle.series_model.specs.declared.batch.RowSamples.{RowSamples}
+use Rattle.series_model.specs.Series.{over, since, end_of}
+use Rattle.series_model.proofs.RisingLists.{since-since}
+use Rattle.act_model.specs.declared.acts.Answer.TheVariants.{Flushed}
+use Rattle.act_model.specs.Changes.{made, of_row, Settles}
+use Rattle.act_model.specs.Growth.{Onward}
+use Rattle.act_model.specs.Machine.{Machine, Change}
+use Rattle.act_model.specs.Outcome.{Acts, all_go, Same, refused_at_once, refused, runs, faults_first, faults_between, faults_within, faults_removing, wants_memory, wants_memory_settled}
+use Rattle.act_model.specs.Reply.{Reply}
+use Rattle.act_model.specs.Rows.{RowState}
+use Rattle.act_model.specs.Sound.{MayMake, IsSoundOf, IsSound}
+use Rattle.act_model.proofs.Onward.{onward_settled, onward_made, each_forward}
+use Rattle.act_model.proofs.StepLaws.{settled_sound, settled_none, same_sound, own_change, with_doubt}
+use Rattle.act_model.proofs.Rows.{length-each, each_get}
+use Rattle.archive_halves.specs.Store.{StoreRow, rows_with, left_rows, doubted}
+use Rattle.archive_halves.specs.StoreStep.{later_than, ends_in, appends, with_tail, with_batch, FlushesBatch}
+use Rattle.archive_halves.proofs.Batches.{BatchFits, batch_sound, fits_on, later_row, ends_are}
+use Rattle.archive_halves.proofs.Durables.{durable_in, durable_is, made_durable}
+use Rattle.archive_halves.proofs.Keeping.{none_durable, past_durable}
+use Rattle.archive_halves.proofs.Settling.{HasDoubtedTails, SettledAt, settled_durable, Went, went_nowhere, NoneDoubted, no_samples}
+use Rattle.archive_halves.proofs.StoreSound.{AreAlike, alike_self, likes_sound}
+
+-- the half that is left of the machine is sound
+abbrev pub LeavesSound : Machine → Type 0
+LeavesSound m = (n : ℕ) (olds : List StoreRow) → IsSoundOf m.rule m.told (rows_with (doubted m.doubt) 0 (left_rows n olds 0 m.rows)) m.limbo m.pins m.moves m.doubt
+
+pub leaves_sound : (m : Machine) → IsSound m → LeavesSound m
+leaves_sound m s n olds = likes_sound n olds m m.rows s refl (λ i new there. (new, there, alike_self new))
+
+-- how it went: no sample was written, some may be, or all are
+pub data FlushWent (old new : Machine) (batch : List RowSamples) : Type 0 where
+  rested : Went old new → FlushWent old new batch
+  failed : ((i : ℕ) → SettledAt old new.rows i) → ((i : ℕ) → doubted new.doubt i ≡ since (end_of (durable_in new.rows i)) (of_row i batch)) → FlushWent old new batch
+  flushed : (mid : List RowState) → ((i : ℕ) → SettledAt old mid i) → ((i : ℕ) → durable_in new.rows i ≡ over (durable_in mid i) (of_row i batch)) → NoneDoubted new.doubt → FlushWent old new batch
+
+-- each row stays one of its type
+abbrev pub AboutsStay : List RowState → List RowState → Type 0
+AboutsStay rows news = (i : ℕ) (row : RowState) → slice_get rows i ≡ Some row → (now : RowState) × (slice_get news i ≡ Some now) × (now.about ≡ row.about)
+
+pub abouts_same : (rows news : List RowState) → news ≡ rows → AboutsStay rows news
+abouts_same rows news is i row here = (row, ap (λ w. slice_get w i) is ∙ here, refl)
+
+pub abouts_trans : (a b c : List RowState) → AboutsStay a b → AboutsStay b c → AboutsStay a c
+abouts_trans a b c p q i row here = let x = p i row here in let y = q i x.0 x.1 in (y.0, y.1, y.2 ∙ x.2)
+
+pub abouts_on : (old new : Machine) → old.told ≡ true → Onward old new → AboutsStay old.rows new.rows
+abouts_on old new t on i row here = let x = on.rows t i row here in (x.0, x.1, x.2.about)
+
+-- THE ROWS OF A BATCH
+
+with_alike : (m : Machine) (batch : List RowSamples) → AreAlike (with_batch batch m).rows m.rows
+with_alike m batch i new there =
+    let later = later_than (ends_in m.rows) batch in
+    let plain : 0 + i ≡ i = omega arith in (
+      with_tail (of_row i later) new,
+      each_forward (λ k row. with_tail (of_row k later) row) 0 m.rows i new there ∙ ap (λ k. Some (with_tail (of_row k later) new)) plain,
+      record { short = refl; medium = refl; long = refl; name = refl; about = refl },
+    )
+
+with_abouts : (m : Machine) (batch : List RowSamples) → AboutsStay m.rows (with_batch batch m).rows
+with_abouts m batch i row here =
+    let later = later_than (ends_in m.rows) batch in
+    let plain : 0 + i ≡ i = omega arith in
+    (with_tail (of_row i later) row, each_forward (λ k r. with_tail (of_row k later) r) 0 m.rows i row here ∙ ap (λ k. Some (with_tail (of_row k later) row)) plain, refl)
+
+with_none : (m : Machine) (batch : List RowSamples) (i : ℕ) → slice_get m.rows i ≡ None → slice_get (with_batch batch m).rows i ≡ None
+with_none m batch i none = by_new (slice_get (with_batch batch m).rows i) refl
+  where
+    by_new : (o : Option RowState) → slice_get (with_batch batch m).rows i ≡ o → slice_get (with_batch batch m).rows i ≡ None
+    by_new None is = is
+    by_new (Some new) is = let o = each_get (λ k row. with_tail (of_row k (later_than (ends_in m.rows) batch)) row) 0 m.rows i new is in absurd (let bad = sym none ∙ o.1 in cc)
+
+may_append : (m : Machine) (batch : List RowSamples) → MayMake m.rule m.told (with_batch batch m).rows m.limbo (appends batch m)
+may_append m batch i row there =
+    let later = later_than (ends_in m.rows) batch in
+    let o = each_get (λ k r. with_tail (of_row k later) r) 0 m.rows i row there in
+    let plain : 0 + i ≡ i = omega arith in
+    ([], ap (λ (r : RowState). r.tail) o.2 ∙ (ap (λ k. of_row k later) plain ∙ sym (append-nil (of_row i later))))
+
+-- once the batch is written, all of it is durable
+written : (m : Machine) (batch : List RowSamples) → IsSound (with_batch batch m) → m.told ≡ true → BatchFits m.rows batch → (i : ℕ)
+    → durable_in (made [] (appends batch m) (with_batch batch m)).rows i ≡ over (durable_in m.rows i) (of_row i batch)
+unfolding with_alike
+written m batch s t fits i = by_row (slice_get m.rows i) refl
+  where
+    by_row : (o : Option RowState) → slice_get m.rows i ≡ o → durable_in (made [] (appends batch m) (with_batch batch m)).rows i ≡ over (durable_in m.rows i) (of_row i batch)
+    by_row None none =
+        past_durable m.told m.limbo (appends batch m) (with_batch batch m).rows i (with_none m batch i none)
+        ∙ sym (ap (λ w. over w (of_row i batch)) (none_durable m.rows i none) ∙ ap (λ w. over [] w) (fits.past i none))
+    by_row (Some row) here =
+        let later = later_than (ends_in m.rows) batch in
+        let a = with_alike m batch i row here in
+        let n = end_of (durable_in m.rows i) in
+        let xs : of_row i later ≡ since n (of_row i batch) = later_row (ends_in m.rows) batch i ∙ ap (λ k. since k (of_row i batch)) (ends_are m.rows i) in
+        made_durable (with_batch batch m) [] (appends batch m) s t (may_append m batch) i a.0 a.1 refl
+        ∙ (ap (λ w. over w (of_row i later)) (sym (durable_is m.rows i row here))
+        ∙ (ap (λ w. over (durable_in m.rows i) w) xs ∙ ap (λ w. durable_in m.rows i ++ w) (since-since n n (of_row i batch) (omega arith))))
+
+-- THE FLUSH
+
+module _ (batch : List RowSamples) (left doors : ℕ) (old new : Machine) (s : IsSound old) (t : old.told ≡ true) (tails : HasDoubtedTails old) (fits : BatchFits old.rows batch) where
+  abbrev Result : Type 0
+  Result = LeavesSound new × FlushWent old new batch × AboutsStay old.rows new.rows
+
+  fits_mid : {mid : Machine} → Settles old mid → BatchFits mid.rows batch
+  fits_mid {mid} settles =
+      let on = onward_settled s settles in
+      fits_on old mid batch t on fits (λ i none. by_old i none on (slice_get old.rows i) refl)
+    where
+      by_old : (i : ℕ) → slice_get mid.rows i ≡ None → Onward old mid → (o : Option RowState) → slice_get old.rows i ≡ o → slice_get old.rows i ≡ None
+      by_old i none on None is = is
+      by_old i none on (Some was) is = absurd (let now = on.rows t i was is in let bad = sym none ∙ now.1 in cc)
+
+  stays_so : new.rows ≡ old.rows → new.doubt ≡ old.doubt → IsSound new → Result
+  stays_so rows doubt sound = (leaves_sound new sound, rested (went_nowhere old new rows doubt), abouts_same old.rows new.rows rows)
+
+  to_mid : {mid : Machine} → Settles old mid → AboutsStay old.rows mid.rows
+  to_mid {mid} settles = abouts_on old mid t (onward_settled s settles)
+
+  settles_so : {mid : Machine} → Settles old mid → Same mid new → Result
+  settles_so {mid} settles same =
+      let rows : new.rows ≡ mid.rows = ap (λ (m : Machine). m.rows) same in
+      let none : new.doubt ≡ None = ap (λ (m : Machine). m.doubt) same ∙ settled_none settles in (
+        leaves_sound new (same_sound mid new same (settled_sound settles s)),
+        rested (record { settled = λ i. subst (λ w. SettledAt old w i) (sym rows) (settled_durable settles s t tails i); doubt = inl (no_samples new.doubt none) }),
+        abouts_trans old.rows mid.rows new.rows (to_mid settles) (abouts_same mid.rows new.rows rows),
+      )
+
+  told_mid : {mid : Machine} → Settles old mid → mid.told ≡ true
+  told_mid settles = (onward_settled s settles).told ∙ t
+
+  flushes_so : {mid : Machine} → Settles old mid → Same (made [] (appends batch mid) (with_batch batch mid)) new → Result
+  flushes_so {mid} settles same =
+      let sound : IsSound (with_batch batch mid) = batch_sound mid batch (settled_sound settles s) (settled_none settles) (fits_mid settles) in
+      let none : new.doubt ≡ None = ap (λ (m : Machine). m.doubt) same ∙ settled_none settles in (
+        leaves_sound new (own_change (with_batch batch mid) new [] (appends batch mid) sound (settled_none settles) (may_append mid batch) tt refl same),
+        flushed mid.rows (settled_durable settles s t tails) (λ i. ap (λ (m : Machine). durable_in m.rows i) same ∙ written mid batch sound (told_mid settles) (fits_mid settles) i) (no_samples new.doubt none),
+        abouts_trans old.rows mid.rows new.rows (to_mid settles)
+            (abouts_trans mid.rows (with_batch batch mid).rows new.rows (with_abouts mid batch)
+            (abouts_trans (with_batch batch mid).rows (made [] (appends batch mid) (with_batch batch mid)).rows new.rows
+            (abouts_on (with_batch batch mid) (made [] (appends batch mid) (with_batch batch mid)) (told_mid settles) (onward_made (with_batch batch mid) [] (appends batch mid) sound (may_append mid batch)))
+            (abouts_same (made [] (appends batch mid) (with_batch batch mid)).rows new.rows (ap (λ (m : Machine). m.rows) same)))),
+      )
+
+  fails_so : {mid : Machine} (change : Change) → Settles old mid → Some (appends batch mid) ≡ Some change → Same (record mid { doubt = Some change }) new → Result
+  fails_so {mid} change settles is same =
+      let one : appends batch mid ≡ change = cc in
+      let own : new ≡ record mid { doubt = Some (appends batch mid); faults = new.faults } = same ∙ ap (λ c. record mid { doubt = Some c; faults = new.faults }) (sym one) in
+      let sound : IsSound (with_batch batch mid) = batch_sound mid batch (settled_sound settles s) (settled_none settles) (fits_mid settles) in
+      let doubting : IsSound (record (with_batch batch mid) { doubt = Some (appends batch mid) }) = with_doubt mid.rule mid.told (with_batch batch mid).rows mid.limbo mid.pins mid.moves mid.doubt (appends batch mid) sound (may_append mid batch, tt) in
+      let long : length mid.rows ≡ length (with_batch batch mid).rows = sym (length-each (λ i row. with_tail (of_row i (later_than (ends_in mid.rows) batch)) row) 0 mid.rows) in
+      let leaves : LeavesSound (record mid { doubt = Some (appends batch mid); faults = new.faults }) = λ n olds. likes_sound n olds (record (with_batch batch mid) { doubt = Some (appends batch mid) }) mid.rows doubting long (with_alike mid batch) in
+      let rows : new.rows ≡ mid.rows = ap (λ (m : Machine). m.rows) own in (
+        subst (λ m. LeavesSound m) (sym own) leaves,
+        failed (λ i. subst (λ w. SettledAt old w i) (sym rows) (settled_durable settles s t tails i))
+            (λ i. ap (λ (m : Machine). doubted m.doubt i) own
+            ∙ (later_row (ends_in mid.rows) batch i ∙ (ap (λ k. since k (of_row i batch)) (ends_are mid.rows i) ∙ ap (λ w. since (end_of (durable_in w i)) (of_row i batch)) (sym rows)))),
+        abouts_trans old.rows mid.rows new.rows (to_mid settles) (abouts_same mid.rows new.rows rows),
+      )
+
+-- a flush that is done has settled a doubt, and then all of the batch is durable
+abbrev pub FlushDone : Machine → Machine → List RowSamples → Type 0
+FlushDone old new batch = (mid : List RowState) × ((i : ℕ) → SettledAt old mid i) × ((i : ℕ) → durable_in new.rows i ≡ over (durable_in mid i) (of_row i batch))
+
+pub flush_done : (batch : List RowSamples) (left doors : ℕ) {old new : Machine} {reply : Reply} → IsSound old → old.told ≡ true → HasDoubtedTails old → BatchFits old.rows batch
+    → Acts (λ m. None) (FlushesBatch batch left doors) (λ m. Some (appends batch m)) all_go old reply new → (samples bytes doors_left : ℕ) → reply ≡ Flushed samples bytes doors_left → FlushDone old new batch
+flush_done batch left doors s t tails fits (refused_at_once answer p) samples bytes doors_left is = absurd cc
+flush_done batch left doors s t tails fits (refused answer p settles q same r) samples bytes doors_left is = absurd cc
+flush_done batch left doors {old} {new} s t tails fits (runs {mid = mid} answer p settles q ran r) samples bytes doors_left is =
+    let fit = fits_mid batch left doors old new s t tails fits settles in
+    let sound : IsSound (with_batch batch mid) = batch_sound mid batch (settled_sound settles s) (settled_none settles) fit in (
+      mid.rows,
+      settled_durable settles s t tails,
+      λ i. ap (λ (m : Machine). durable_in m.rows i) ran.1 ∙ written mid batch sound (told_mid batch left doors old new s t tails fits settles) fit i,
+    )
+flush_done batch left doors s t tails fits (faults_first p same q) samples bytes doors_left is = absurd cc
+flush_done batch left doors s t tails fits (faults_between p settles same q) samples bytes doors_left is = absurd cc
+flush_done batch left doors s t tails fits (faults_within change p settles q r same u) samples bytes doors_left is = absurd cc
+flush_done batch left doors s t tails fits (faults_removing answer removes p settles q ran r) samples bytes doors_left is = absurd cc
+flush_done batch left doors s t tails fits (wants_memory same q) samples bytes doors_left is = absurd cc
+flush_done batch left doors s t tails fits (wants_memory_settled p settles same q) samples bytes doors_left is = absurd cc
+
+pub flush_went : (batch : List RowSamples) (left doors : ℕ) {old new : Machine} {reply : Reply} → IsSound old → old.told ≡ true → HasDoubtedTails old → BatchFits old.rows batch
+    → Acts (λ m. None) (FlushesBatch batch left doors) (λ m. Some (appends batch m)) all_go old reply new → LeavesSound new × FlushWent old new batch × AboutsStay old.rows new.rows
+flush_went batch left doors s t tails fits (refused_at_once answer p) = absurd cc
+flush_went batch left doors s t tails fits (refused answer p settles q same r) = absurd cc
+flush_went batch left doors {old} {new} s t tails fits (runs answer p settles q ran r) = flushes_so batch left doors old new s t tails fits settles ran.1
+flush_went batch left doors {old} {new} s t tails fits (faults_first p same q) =
+    stays_so batch left doors old new s t tails fits (ap (λ (m : Machine). m.rows) same) (ap (λ (m : Machine). m.doubt) same) (same_sound old new same s)
+flush_went batch left doors {old} {new} s t tails fits (faults_between p settles same q) = settles_so batch left doors old new s t tails fits settles same
+flush_went batch left doors {old} {new} s t tails fits (faults_within change p settles q is same u) = fails_so batch left doors old new s t tails fits change settles is same
+flush_went batch left doors {old} {new} s t tails fits (faults_removing answer removes p settles q ran r) = flushes_so batch left doors old new s t tails fits settles ran.1
+flush_went batch left doors {old} {new} s t tails fits (wants_memory same q) =
+    stays_so batch left doors old new s t tails fits (ap (λ (m : Machine). m.rows) same) (ap (λ (m : Machine). m.doubt) same) (same_sound old new same s)
+flush_went batch left doors {old} {new} s t tails fits (wants_memory_settled p settles same q) = settles_so batch left doors old new s t tails fits settles same
