@@ -64,7 +64,7 @@ module _ (config : ConfigState) (old new : Outside) (source : new.source ≡ old
   tells_nothing command.Ingest rows lists = (tt, tt)
   tells_nothing command.Etl rows lists = (tt, tt)
   tells_nothing (command.Serve numbers) rows lists = (tt, tt)
-  tells_nothing (command.Get name query) rows lists = (tt, tt)
+  tells_nothing (command.Get name query) rows lists = ((tt, tt), (tt, tt))
 
   -- The reasons for a refusal, of an image that is whole: none but a fault of the disk and want of memory.
   module _ {D R : Type 0} (verdict : OneVerdict) (err : ReopenErr D R) (damaged : (d : D) (name : Name) (at : ℕ) → err ≡ reopening.Damaged d name at → IsDamaged (stores_of config) old.files name at)
