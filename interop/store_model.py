@@ -242,7 +242,7 @@ def complaint(text):
 
 USAGE = complaint(
     "usage: archappl extract FROM TO / ingest / get NAME FROM TO / etl / status / check / drill N"
-    " / serve FEEDPORT HTTPPORT WORKERS LINKS"
+    " / serve FEEDPORT HTTPPORT WORKERS LINKS / adopt"
 )
 
 

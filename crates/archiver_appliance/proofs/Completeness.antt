@@ -3,6 +3,8 @@ use Rattle.std.proofs.Common.{◌≡◌, ◌⊎◌, inl, inr, ℕ, List, Bool, t
 use Rattle.std.specs.Prelude.{IsTrue, IfSome, nat_lt}
 use Rattle.edge_io.specs.Stream.{Rose}
 use Rattle.disk_model.specs.Files.{Files, Rose as DiskRose}
+use Rattle.disk_model.specs.Past.{Past}
+use Rattle.partition_names.specs.declared.granularity.Granularity.{Granularity}
 use Rattle.series_model.specs.declared.sample.Query.{Query}
 use Rattle.pb_lines.specs.Stream.{Item, IsWholeStream, first_section}
 use Rattle.pb_lines.specs.declared.fault.ChunkFault.{ChunkFault}
@@ -18,6 +20,7 @@ use Rattle.command_words.specs.declared.command.StoreCommand.TheVariants as comm
 use Rattle.command_words.specs.declared.status.Status.{Status}
 use Rattle.command_words.specs.declared.status.Status.TheVariants.{Done, Usage, Refused, NoSuchVariable, SourceFault, SinkFault, DiskFault, Damaged, OutOfMemory, GranularityDiffers, DoorFault, Spent}
 use Rattle.command_words.specs.Command.{IsCommand, IsFaulty}
+use Rattle.archiver_appliance.specs.Adopting.{TellsAdopted}
 use Rattle.archiver_appliance.specs.Ingesting.{IsIngested}
 use Rattle.archiver_appliance.specs.Outside.{Outside, IsCaused, IsQuiet}
 use Rattle.archiver_appliance.specs.Reporting.{Tells, ChecksAll}
@@ -40,6 +43,7 @@ use Rattle.serving_loops.specs.declared.moves.MoveErr.TheVariants as err
 use Rattle.tier_store.specs.Change.{IsEither}
 use Rattle.tier_store.specs.Stores.{Stores}
 use Rattle.store_reopen.specs.Reopen.{OpensEither, stores_of}
+use Rattle.store_reopen.specs.Steps.{Step}
 use Rattle.store_reopen.specs.Verdict.{IsWhole}
 use Rattle.store_reopen.proofs.Verdicts.{held_whole}
 use Rattle.archiver_appliance.specs.Moving.{TellsMoved}
@@ -137,6 +141,14 @@ module _ (config : ConfigState) (before after first : Stores) (old new : Outside
   moved_well (Err err.Spent) a b stands w = absurd w
   moved_well (Err err.Memory) a b stands w = ends_as OutOfMemory w.0 (inr refl)
 
+  adopted_well : {gs : List Granularity} {image : Files} {steps : List Step} {later : Past} {a b : Option (List ℕ)} → TellsAdopted gs image first steps later a b status ⊎ ((b ≡ a) × ((status ≡ DiskFault) ⊎ (status ≡ OutOfMemory))) → EndsWell (number_of status)
+  adopted_well (inl told) = elim told.line [
+    | inl done ↦ ends_as Done done.0 (inl refl)
+    | inr failed ↦ absurd (six failed.0)
+  ]
+  adopted_well (inr (quiet, inl fault)) = absurd (seven fault)
+  adopted_well (inr (quiet, inr memory)) = ends_as OutOfMemory memory (inr refl)
+
   served_by : (numbers : ServeWords) → (status ≡ DoorFault → ⊥) → (door fault memory spent : Bool) → status ≡ first_of door fault memory spent → EndsWellBy (OverStore (command.Serve numbers)) (number_of status)
   served_by numbers eleven true fault memory spent is = absurd (eleven is)
   served_by numbers eleven false true memory spent is = absurd (seven is)
@@ -154,6 +166,8 @@ module _ (config : ConfigState) (before after first : Stores) (old new : Outside
   makes_well command.Etl stands undamaged can checks door (inr from) = moved_well from.came old.sink new.sink undamaged from.tells_moved
   makes_well command.Status stands undamaged can checks door makes = status_done _ old.sink new.sink status six seven makes
   makes_well command.Check stands undamaged can checks door makes = let all = checks refl in check_done all.0 old.files all.1 all.2 all.3 old.sink new.sink status undamaged six seven all.4
+  makes_well command.Adopt stands undamaged can checks door (inl unasked) = unasked_well unasked
+  makes_well command.Adopt stands undamaged can checks door (inr into) = adopted_well into.tells_adopted
   makes_well (command.Serve numbers) stands undamaged can checks door (inl unasked) = inr (unasked_well unasked)
   makes_well (command.Serve numbers) stands undamaged can checks door (inr from) =
       let told = from.0 in
@@ -178,6 +192,7 @@ served_well config asked old new status serves before after opens stands can fiv
     checks command.Etl serves whole is = cc
     checks command.Status serves whole is = cc
     checks (command.Serve numbers) serves whole is = cc
+    checks command.Adopt serves whole is = cc
 
 -- WORDS
 
@@ -195,6 +210,7 @@ module _ {R : Type 0} (faults : R → ℕ) (words : List (List ℕ)) (config : C
   ends_same command.Etl (command.Serve n) one two ends = absurd (serving_same command.Etl (command.Serve n) one two tt)
   ends_same command.Status (command.Serve n) one two ends = absurd (serving_same command.Status (command.Serve n) one two tt)
   ends_same command.Check (command.Serve n) one two ends = absurd (serving_same command.Check (command.Serve n) one two tt)
+  ends_same command.Adopt (command.Serve n) one two ends = absurd (serving_same command.Adopt (command.Serve n) one two tt)
   ends_same c d one two ends = ends
 
   drilled_well : (hours : ℕ) (s : Status) → s ≡ status → Unless status SinkFault → Drills hours old.sink new.sink s → (number_of s ≡ 13) ⊎ EndsWell (number_of s)

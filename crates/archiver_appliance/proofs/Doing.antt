@@ -116,6 +116,7 @@ module _ {S K C D R : Type 0} (src : OfSource S) (snk : OfSink K) (clk : OfClock
               tells = of_image told (λ rs x y z. TellsListed rs x y z (snk.written k) (snk.written k') status) listed;
               reads = λ reading. only told;
               listed = λ w keeps i low. reads_listed (stores_of config) (disk.files first) (disk.files given) (disk.past first) (disk.past given) i w.rows (w.lists i) (only told);
+              rewrites_none = λ is. absurd is;
             },
             exactly verdict (stores_of config) command.Status (disk.files first) status judges,
           ),
@@ -146,6 +147,7 @@ module _ {S K C D R : Type 0} (src : OfSource S) (snk : OfSink K) (clk : OfClock
               tells = of_image told (λ rs x y z. ChecksAll rs (disk.files first) x y z a b status) (checks_in rows (disk.files store.disk) (disk.files first) same short medium long a b status (checks told));
               reads = λ reading. only told;
               listed = λ w keeps i low. reads_listed (stores_of config) (disk.files first) (disk.files given) (disk.past first) (disk.past given) i w.rows (w.lists i) (only told);
+              rewrites_none = λ is. absurd is;
             },
             exactly verdict (stores_of config) command.Check (disk.files first) status judges,
           ),
@@ -191,6 +193,7 @@ module _ {S K C D R : Type 0} (src : OfSource S) (snk : OfSink K) (clk : OfClock
                 opened_listed (stores_of config) (disk.files first) (disk.files store.disk) (disk.files given) (disk.past first) (disk.past store.disk) (disk.past given) w i low (opening told)
                 (subst (λ (es : List Entry). LeavesListed ((i + 1, w.rows), es) (disk.files store.disk) (disk.files given) (disk.past store.disk) (disk.past given)) is
                 (subst (λ (rs : List Row). LeavesListed ((i + 1, rs), m.0.entries) (disk.files store.disk) (disk.files given) (disk.past store.disk) (disk.past given)) same.0 (lists told i m.0 m.1)));
+            rewrites_none = λ is. absurd is;
           },
           exactly verdict (stores_of config) command.Ingest (disk.files first) status judges,
         ),
@@ -232,6 +235,7 @@ module _ {S K C D R : Type 0} (src : OfSource S) (snk : OfSink K) (clk : OfClock
             tells = λ w. tt;
             reads = λ none. absurd (none (whole told));
             listed = λ w none i low. absurd none;
+            rewrites_none = λ is. absurd is;
           },
           exactly verdict (stores_of config) command.Etl (disk.files first) status judges,
         ),
@@ -280,6 +284,7 @@ module _ {S K C D R : Type 0} (src : OfSource S) (snk : OfSink K) (clk : OfClock
                   );
               reads = λ reading. only begun files any_moment told;
               listed = λ w keeps i low. reads_listed (stores_of config) (disk.files first) (disk.files given) (disk.past first) (disk.past given) i w.rows (w.lists i) (only begun files any_moment told);
+              rewrites_none = λ is. absurd is;
             },
             exactly verdict (stores_of config) (command.Get name query) (disk.files first) status judges,
           ),

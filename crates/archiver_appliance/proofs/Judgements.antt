@@ -172,4 +172,5 @@ exactly verdict gs asked files status j = record {
     named command.Etl j whole none = absurd none
     named command.Status j whole none = absurd none
     named command.Check j whole none = absurd none
+    named command.Adopt j whole none = absurd none
     named (command.Serve numbers) j whole none = absurd none

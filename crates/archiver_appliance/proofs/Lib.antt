@@ -1,4 +1,5 @@
 pub mod Acting
+pub mod Adoptions
 pub mod Answering
 pub mod Chained
 pub mod Checking

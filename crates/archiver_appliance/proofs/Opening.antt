@@ -94,6 +94,7 @@ unreported gs files (command.Serve numbers) acts reading = reading
 unreported gs files (command.Get name query) acts reading = absurd (acts tt)
 unreported gs files command.Status acts reading = absurd (acts tt)
 unreported gs files command.Check acts reading = absurd (acts tt)
+unreported gs files command.Adopt acts reading = reading
 
 same_image : (P : Files → Type 0) (a b : Files) → b ≡ a → P a → P b
 same_image P a b is holds = subst P (sym is) holds

@@ -226,3 +226,4 @@ module _ {D L : Type 0} (is_closed : D → Bool) (faults : D → ℕ) (ledger : 
   doors_hold (OverStore asked.Etl) asks quiet serving is = serving
   doors_hold (OverStore asked.Status) asks quiet serving is = serving
   doors_hold (OverStore asked.Check) asks quiet serving is = serving
+  doors_hold (OverStore asked.Adopt) asks quiet serving is = serving

@@ -25,7 +25,7 @@ use Rattle.command_words.specs.declared.command.Command.TheVariants.{OverStore}
 use Rattle.archiver_appliance.specs.Judging.{refusal_of}
 use Rattle.archiver_appliance.specs.Outside.{Outside}
 use Rattle.archiver_appliance.specs.Reporting.{TellsRows, listed_files}
-use Rattle.archiver_appliance.specs.Run.{Does, IsReading, IsUnasked, Makes, MakesOfRead, NoDamage, OnlyOpens, OnlyReads, Serves, TellsSaid}
+use Rattle.archiver_appliance.specs.Run.{Does, IsAdopt, IsReading, IsUnasked, Makes, MakesOfRead, NoDamage, OnlyOpens, OnlyReads, Serves, TellsSaid}
 use Rattle.archiver_appliance.proofs.Judgements.{OneVerdict, exactly, refusal_judges}
 use Rattle.archiver_appliance.proofs.Opening.{read_of, first_stands, opens_listed}
 use Rattle.archiver_appliance.proofs.Outcomes.{refused_ends}
@@ -42,6 +42,18 @@ none_told rows short medium long a b is = record { lines = []; many = refl; are 
 three_of : (config : ConfigState) → length (stores_of config) ≡ 3
 three_of config = refl
 
+-- The reasons for a refusal, of an image that is whole: none but a fault of the disk and want of memory.
+module _ {D R : Type 0} (verdict : OneVerdict) (gs : List Granularity) (files : Files) (err : ReopenErr D R) (damaged : (d : D) (name : Name) (at : ℕ) → err ≡ reopening.Damaged d name at → IsDamaged gs files name at)
+    (differs : (d : D) (kept other : Granularity) → err ≡ reopening.GranularityDiffers d kept other → Differs gs files kept other) where
+  by_case : (P : ReopenErr D R → Type 0) → IsWhole gs files → ((d : D) → P (reopening.DiskFault d)) → ((d : D) → P (reopening.Memory d)) → (e : ReopenErr D R) → err ≡ e → P e
+  by_case P whole fault memory (reopening.DiskFault d) is = fault d
+  by_case P whole fault memory (reopening.Damaged d name at) is = absurd (verdict.whole gs files name at whole (damaged d name at is))
+  by_case P whole fault memory (reopening.GranularityDiffers d kept other) is = absurd (verdict.same gs files kept other whole (differs d kept other is))
+  by_case P whole fault memory (reopening.Memory d) is = memory d
+
+  pub refusal_cases : (P : ReopenErr D R → Type 0) → IsWhole gs files → ((d : D) → P (reopening.DiskFault d)) → ((d : D) → P (reopening.Memory d)) → P err
+  refusal_cases P whole fault memory = by_case P whole fault memory err refl
+
 -- A disk that failed, or wanting memory, before anything but the disk was read, and before anything was written.
 module _ (config : ConfigState) (old new : Outside) (source : new.source ≡ old.source) (sink : new.sink ≡ old.sink) (clock : new.clock ≡ old.clock) (opens : OnlyOpens (stores_of config) old.files new.files old.past new.past) where
   gs : List Granularity
@@ -57,6 +69,7 @@ module _ (config : ConfigState) (old new : Outside) (source : new.source ≡ old
   makes_nothing (command.Serve numbers) before after first = (inl unasked.0, inl unasked.1)
   makes_nothing command.Status before after first = (front_none old.sink new.sink _ sink, front_none old.sink new.sink _ sink)
   makes_nothing command.Check before after first = (tt, tt)
+  makes_nothing command.Adopt before after first = (inl unasked.0, inl unasked.1)
 
   pub tells_nothing : (asked : StoreCommand) (rows : List Row) (lists : Listings) → TellsSaid asked old.files rows lists old new DiskFault × TellsSaid asked old.files rows lists old new OutOfMemory
   tells_nothing command.Status rows lists = ((0, none_told rows (lists 0) (lists 1) (lists 2) old.sink new.sink sink), (0, none_told rows (lists 0) (lists 1) (lists 2) old.sink new.sink sink))
@@ -65,17 +78,14 @@ module _ (config : ConfigState) (old new : Outside) (source : new.source ≡ old
   tells_nothing command.Etl rows lists = (tt, tt)
   tells_nothing (command.Serve numbers) rows lists = (tt, tt)
   tells_nothing (command.Get name query) rows lists = ((tt, tt), (tt, tt))
+  tells_nothing command.Adopt rows lists = (tt, tt)
 
-  -- The reasons for a refusal, of an image that is whole: none but a fault of the disk and want of memory.
   module _ {D R : Type 0} (verdict : OneVerdict) (err : ReopenErr D R) (damaged : (d : D) (name : Name) (at : ℕ) → err ≡ reopening.Damaged d name at → IsDamaged (stores_of config) old.files name at)
       (differs : (d : D) (kept other : Granularity) → err ≡ reopening.GranularityDiffers d kept other → Differs (stores_of config) old.files kept other) where
-    refusal_cases : (P : ReopenErr D R → Type 0) → IsWhole (stores_of config) old.files → ((d : D) → P (reopening.DiskFault d)) → ((d : D) → P (reopening.Memory d)) → (e : ReopenErr D R) → err ≡ e → P e
-    refusal_cases P whole fault memory (reopening.DiskFault d) is = fault d
-    refusal_cases P whole fault memory (reopening.Damaged d name at) is = absurd (verdict.whole (stores_of config) old.files name at whole (damaged d name at is))
-    refusal_cases P whole fault memory (reopening.GranularityDiffers d kept other) is = absurd (verdict.same (stores_of config) old.files kept other whole (differs d kept other is))
-    refusal_cases P whole fault memory (reopening.Memory d) is = memory d
+    cases : (P : ReopenErr D R → Type 0) → IsWhole (stores_of config) old.files → ((d : D) → P (reopening.DiskFault d)) → ((d : D) → P (reopening.Memory d)) → P err
+    cases = refusal_cases verdict (stores_of config) old.files err damaged differs
 
-    refused_makes : (asked : StoreCommand) → MayLeave old.past old.files → (before after : Stores) → OpensEither (stores_of config) old.past before after → IsTrue before.stands → MakesOfRead config asked before after old new (refusal_of err)
+    pub refused_makes : (asked : StoreCommand) → MayLeave old.past old.files → (before after : Stores) → OpensEither (stores_of config) old.past before after → IsTrue before.stands → MakesOfRead config asked before after old new (refusal_of err)
     refused_makes asked seen before after opens stands =
         let read = read_of (stores_of config) old.files old.past before after seen opens in
         let whole = held_whole (stores_of config) old.files read.first refl read.read (first_stands (stores_of config) old.past before after read.first opens stands read.either) in
@@ -84,24 +94,29 @@ module _ (config : ConfigState) (old new : Outside) (source : new.source ≡ old
           first = read.first;
           either = read.either;
           read = read.read;
-          makes = refusal_cases (λ e. Makes config asked before after read.first old new (refusal_of e)) whole (λ d. both.0) (λ d. both.1) err refl;
-          undamaged = refusal_cases (λ e. NoDamage (refusal_of e)) whole (λ d. tt) (λ d. tt) err refl;
+          makes = cases (λ e. Makes config asked before after read.first old new (refusal_of e)) whole (λ d. both.0) (λ d. both.1);
+          undamaged = cases (λ e. NoDamage (refusal_of e)) whole (λ d. tt) (λ d. tt);
         }
 
-    pub refused_serves : (asked : StoreCommand) → MayLeave old.past old.files → (IsReading (stores_of config) asked old.files → OnlyReads (stores_of config) old.files new.files old.past new.past) → Serves config asked old new (refusal_of err)
-    refused_serves asked seen reads = record {
+    pub refused_serves : (asked : StoreCommand) → (IsAdopt asked → ⊥) → MayLeave old.past old.files → (IsReading (stores_of config) asked old.files → OnlyReads (stores_of config) old.files new.files old.past new.past) → Serves config asked old new (refusal_of err)
+    refused_serves asked apart seen reads = record {
       judges = refusal_judges (stores_of config) asked old.files err damaged differs;
       makes = refused_makes asked seen;
-      tells = λ whole. let both = tells_nothing asked whole.rows whole.lists in refusal_cases (λ e. TellsSaid asked old.files whole.rows whole.lists old new (refusal_of e)) whole (λ d. both.0) (λ d. both.1) err refl;
+      tells = λ whole. let both = tells_nothing asked whole.rows whole.lists in cases (λ e. TellsSaid asked old.files whole.rows whole.lists old new (refusal_of e)) whole (λ d. both.0) (λ d. both.1);
       reads = reads;
       listed = λ whole keeps i low. opens_listed (stores_of config) old.files new.files old.past new.past whole i low opens;
+      rewrites_none = λ adopts. absurd (apart adopts);
     }
 
--- What a disk that isn't opened comes to.
-pub refused_does : {D R : Type 0} (tells : Bool) (config : ConfigState) (asked : StoreCommand) (old new : Outside) (verdict : OneVerdict) (err : ReopenErr D R) → new.source ≡ old.source → new.sink ≡ old.sink → new.clock ≡ old.clock
+pub is_adopt : (asked : StoreCommand) → IsAdopt asked → asked ≡ command.Adopt
+is_adopt command.Adopt adopts = refl
+is_adopt asked adopts = absurd adopts
+
+-- What a disk that isn't opened comes to. `adopt` opens it by itself.
+pub refused_does : {D R : Type 0} (tells : Bool) (config : ConfigState) (asked : StoreCommand) (old new : Outside) (verdict : OneVerdict) (err : ReopenErr D R) → (IsAdopt asked → ⊥) → new.source ≡ old.source → new.sink ≡ old.sink → new.clock ≡ old.clock
     → (IsTrue tells → MayLeave old.past old.files) → (IsTrue tells → OnlyOpens (stores_of config) old.files new.files old.past new.past) → (IsTrue tells → IsReading (stores_of config) asked old.files → OnlyReads (stores_of config) old.files new.files old.past new.past) → (IsTrue tells → (d : D) (name : Name) (at : ℕ) → err ≡ reopening.Damaged d name at → IsDamaged (stores_of config) old.files name at)
     → (IsTrue tells → (d : D) (kept other : Granularity) → err ≡ reopening.GranularityDiffers d kept other → Differs (stores_of config) old.files kept other) → Does config tells (OverStore asked) old new (refusal_of err)
-refused_does {D} {R} tells config asked old new verdict err source sink clock seen opens reads damaged differs = (
+refused_does {D} {R} tells config asked old new verdict err apart source sink clock seen opens reads damaged differs = (
   refused_ends asked old.source err,
-  λ told. let serves = refused_serves config old new source sink clock (opens told) verdict err (damaged told) (differs told) asked (seen told) (reads told) in (serves, exactly verdict (stores_of config) asked old.files (refusal_of err) serves.judges),
+  λ told. let serves = refused_serves config old new source sink clock (opens told) verdict err (damaged told) (differs told) asked apart (seen told) (reads told) in (serves, exactly verdict (stores_of config) asked old.files (refusal_of err) serves.judges),
 )

@@ -91,6 +91,7 @@ module _ {S K C D R : Type 0} (src : OfSource S) (snk : OfSink K) (clk : OfClock
               tells = λ w. tt;
               reads = λ none. absurd (none (whole told));
               listed = λ w none i low. absurd none;
+              rewrites_none = λ is. absurd is;
             },
             exactly verdict (stores_of config) (command.Serve numbers) (disk.files first) status judges,
           ),

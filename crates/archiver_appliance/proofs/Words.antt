@@ -2,7 +2,7 @@
 use Rattle.std.proofs.Common.{ℕ, List, Option, arith, subst}
 use Rattle.command_words.specs.declared.command.Command.TheVariants.{OverStore}
 use Rattle.command_words.specs.declared.command.StoreCommand.{StoreCommand}
-use Rattle.command_words.specs.declared.command.StoreCommand.TheVariants.{Ingest, Get, Etl, Status, Check, Serve}
+use Rattle.command_words.specs.declared.command.StoreCommand.TheVariants.{Ingest, Get, Etl, Status, Check, Serve, Adopt}
 use Rattle.command_words.specs.Command.{IsCommand}
 use Rattle.command_words.proofs.Words.{same_letter, same_name}
 use Rattle.pv_catalog.specs.Rows.{HasName}
@@ -17,6 +17,7 @@ servable_same words a Etl source first one two can = tt
 servable_same words a Status source first one two can = tt
 servable_same words a Check source first one two can = tt
 servable_same words a (Serve numbers) source first one two can = tt
+servable_same words a Adopt source first one two can = tt
 servable_same words a b source first one two can = absurd (omega (arith, same_letter words (OverStore a) (OverStore b) one two))
 
 -- or is a report, as that is
@@ -27,4 +28,6 @@ report_same words Etl Etl one two report = report
 report_same words Etl d one two report = absurd (omega (arith, same_letter words (OverStore Etl) (OverStore d) one two))
 report_same words (Serve m) (Serve n) one two report = report
 report_same words (Serve m) d one two report = absurd (omega (arith, same_letter words (OverStore (Serve m)) (OverStore d) one two))
+report_same words Adopt Adopt one two report = report
+report_same words Adopt d one two report = absurd (omega (arith, same_letter words (OverStore Adopt) (OverStore d) one two))
 report_same words c d one two report = tt

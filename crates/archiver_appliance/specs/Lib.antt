@@ -1,4 +1,5 @@
 pub mod Acting
+pub mod Adopting
 pub mod Drilling
 pub mod Ingesting
 pub mod Judging

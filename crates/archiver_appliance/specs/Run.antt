@@ -28,6 +28,7 @@ use Rattle.command_words.specs.declared.status.Status.{Status}
 use Rattle.command_words.specs.declared.status.Status.TheVariants.{Done, Usage, Refused, NoSuchVariable, SourceFault, SinkFault, DiskFault, Damaged, OutOfMemory, DoorFault, Spent}
 use Rattle.command_words.specs.Command.{IsCommand, IsFaulty}
 use Rattle.command_words.specs.Complaint.{Complains, complaint_of}
+use Rattle.archiver_appliance.specs.Adopting.{AdoptsInto}
 use Rattle.archiver_appliance.specs.Drilling.{Drills}
 use Rattle.archiver_appliance.specs.Ingesting.{IngestsInto}
 use Rattle.archiver_appliance.specs.Judging.{Judges, IsExact}
@@ -53,6 +54,10 @@ abbrev pub IsServe : StoreCommand → Type 0
 IsServe (command.Serve numbers) = Unit {0}
 IsServe _ = ⊥
 
+abbrev pub IsAdopt : StoreCommand → Type 0
+IsAdopt command.Adopt = Unit {0}
+IsAdopt _ = ⊥
+
 -- a command that writes a text
 abbrev pub IsTelling : StoreCommand → Type 0
 IsTelling command.Ingest = ⊥
@@ -64,6 +69,7 @@ abbrev pub IsReport : StoreCommand → Type 0
 IsReport command.Ingest = ⊥
 IsReport command.Etl = ⊥
 IsReport (command.Serve numbers) = ⊥
+IsReport command.Adopt = ⊥
 IsReport _ = Unit {0}
 
 -- what an ingest reads is a stream up to this stop, where its bytes are told
@@ -128,6 +134,8 @@ Makes config (command.Serve numbers) before after first old new status =
     IsUnasked (stores_of config) old new status ⊎ ((told : AllServed) × (status ≡ status_of told))
 Makes config command.Status before after first old new status = Tells (status_text first) old.sink new.sink status
 Makes config command.Check before after first old new status = Unit {0}
+Makes config command.Adopt before after first old new status =
+    IsUnasked (stores_of config) old new status ⊎ AdoptsInto (HoldsEither (stores_of config) before after) (stores_of config) old.files first old.past new.past old.sink new.sink status
 
 -- What a command makes of a disk of which a crash leaves what was before a change, or what is after it: what reads give is held from then
 -- on. No damage is told of what stands.
@@ -160,11 +168,12 @@ TellsSaid command.Check files rows lists old new status = ChecksAll rows files (
 TellsSaid (command.Get name query) files rows lists old new status = GetsSome rows name.now query old.sink new.sink status × GetsRead files rows lists name.now query old.sink new.sink status
 TellsSaid _ files rows lists old new status = Unit {0}
 
--- a command that only reads: each but `ingest`, `etl` and `serve`, and these too where the image isn't whole
+-- a command that only reads: each but `ingest`, `etl`, `serve` and `adopt`, and these too where the image isn't whole
 abbrev pub IsReading : List Granularity → StoreCommand → Files → Type 0
 IsReading gs command.Ingest files = IsWhole gs files → ⊥
 IsReading gs command.Etl files = IsWhole gs files → ⊥
 IsReading gs (command.Serve numbers) files = IsWhole gs files → ⊥
+IsReading gs command.Adopt files = IsWhole gs files → ⊥
 IsReading gs _ files = Unit {0}
 
 -- a command that takes no file from what a store lists: each but `etl` and `serve`
@@ -175,12 +184,14 @@ KeepsFiles _ = Unit {0}
 
 -- What a command over the archive did: what its status says of the image, what it made of what the disk held, and what it told of the image.
 -- The listed files of a whole image, damaged inside or not, have what is listed of them as they had it, at each moment, where no file moves.
+-- `adopt` changes no file of a store, listed or not, at any moment and whatever is in it.
 pub record Serves (config : ConfigState) (asked : StoreCommand) (old new : Outside) (status : Status) : Type 0 where
   pub judges : Judges (stores_of config) asked old.files status
   pub makes : (before after : Stores) → OpensEither (stores_of config) old.past before after → IsTrue before.stands → MakesOfRead config asked before after old new status
   pub tells : (whole : IsWhole (stores_of config) old.files) → TellsSaid asked old.files whole.rows whole.lists old new status
   pub reads : IsReading (stores_of config) asked old.files → OnlyReads (stores_of config) old.files new.files old.past new.past
   pub listed : (whole : IsWhole (stores_of config) old.files) → KeepsFiles asked → (i : ℕ) → i < 3 → LeavesListed ((i + 1, whole.rows), whole.lists i) old.files new.files old.past new.past
+  pub rewrites_none : IsAdopt asked → SameStores old.files new.files × Passes SameStores old.past new.past
 
 -- WHAT A RUN DOES
 

@@ -27,7 +27,8 @@ pub fn report<D: Disk>(
     drill: Drill,
 ) -> Result<Vec<u8>, AllocError>
     requires stands { (m : Machine) × Stands D.tells (parts D.Disk archive.old) m }
-    ensures tells { IfOk result (λ text. TellsOn D.Disk archive.old archive.new (λ m entries. (lines files : List ℕ) × Tells m entries drill.hours 4 lines files × (text.items ≡ lines ++ tiers_text (tiers_of files)))) }
+    ensures tells { IfOk result (λ text. TellsOn D.Disk archive.old archive.new
+        (λ m entries. (lines files : List ℕ) × Tells m entries drill.hours 4 lines files × (text.items ≡ lines ++ tiers_text (tiers_of files)))) }
 {
     let mut text = Vec::new(alloc);
     let mut files = [0; 3];
@@ -56,7 +57,9 @@ fn put_variable<D: Disk>(
     requires known { variable < VARIABLES }
     requires stands { (m : Machine) × Stands D.tells (parts D.Disk archive.old) m }
     ensures stands { (m : Machine) × Stands D.tells (parts D.Disk archive.new) m }
-    ensures tells { OnOk result (TellsOn D.Disk archive.old archive.new (λ m entries. (line more : List ℕ) × TellsVariable m entries drill.hours variable line more × (text.new.items ≡ text.old.items ++ line) × (files.new ≡ added files.old more))) }
+    ensures tells { OnOk result (TellsOn D.Disk archive.old archive.new
+        (λ m entries. (line more : List ℕ) × TellsVariable m entries drill.hours variable line more × (text.new.items ≡ text.old.items ++ line)
+        × (files.new ≡ added files.old more))) }
 {
     let name = name_of(variable);
     let query = Query {

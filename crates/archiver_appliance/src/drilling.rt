@@ -151,7 +151,8 @@ fn begun<D: Disk>(alloc: Global, disk: D) -> Result<Archive<D>, AllocError>
     requires unopened { IsTrue D.tells → IsUnopened (D.files disk) (D.opened disk) }
     requires opens { IsTrue D.tells → OpensWell (stores_of shipped) (D.past disk) }
     ensures stands { IfOk result (λ archive. (m : Machine) × Stands D.tells (parts D.Disk archive) m) }
-    ensures begun { IfOk result (λ archive. IsTrue D.tells → OfHeld (stores_of shipped) (D.past disk) (λ held. (m : Machine) × Stands D.tells (parts D.Disk archive) m × HasRegistered D.tells held 4 m)) }
+    ensures begun { IfOk result (λ archive. IsTrue D.tells
+        → OfHeld (stores_of shipped) (D.past disk) (λ held. (m : Machine) × Stands D.tells (parts D.Disk archive) m × HasRegistered D.tells held 4 m)) }
 {
     let mut archive = opened(alloc, disk, &unmoving(), DOORS)?;
     for variable in 0..VARIABLES {
@@ -181,7 +182,8 @@ fn opened<D: Disk>(
     requires unopened { IsTrue D.tells → IsUnopened (D.files disk) (D.opened disk) }
     requires opens { IsTrue D.tells → OpensWell (stores_of config.now) (D.past disk) }
     ensures stands { IfOk result (λ archive. (m : Machine) × Stands D.tells (parts D.Disk archive) m) }
-    ensures begun { IfOk result (λ archive. IsTrue D.tells → OfHeld (stores_of config.now) (D.past disk) (λ held. IsBegunWith D.Disk config.now held doors archive)) }
+    ensures begun { IfOk result (λ archive. IsTrue D.tells
+        → OfHeld (stores_of config.now) (D.past disk) (λ held. IsBegunWith D.Disk config.now held doors archive)) }
 {
     match reopen(alloc, disk, config) {
         Ok(store) => on_stores(alloc, store, doors),

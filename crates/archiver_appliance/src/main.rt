@@ -11,6 +11,7 @@
 //! image, a status and a complaint.
 #![tactic(auto)]
 
+mod adopting;
 mod contents;
 mod doors;
 mod drill_report;
@@ -254,10 +255,11 @@ fn opened_doors<'a>(
     Ok(Doors::open(net, rt, folders, address, &asked, stop)?)
 }
 
-// The commands that change nothing leave others beside them, and need not be allowed to write.
+// The commands that change nothing leave others beside them, and need not be allowed to write. An adoption takes stores that have no mark yet.
 fn access(words: &[&str]) -> Access {
     match words.first() {
         Some(word) if ["get", "status", "check"].contains(word) => Access::Read,
+        Some(word) if *word == "adopt" => Access::Adopt,
         _ => Access::Write,
     }
 }

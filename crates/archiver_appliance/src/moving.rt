@@ -44,10 +44,12 @@ pub fn move_due<K: Sink, D: Disk, C: Clock>(
     requires fresh { IsFresh D.Disk store }
     ensures moves { (IsNotMade store.disk result.disk result.status × (sink.new ≡ sink.old) × (clock.new ≡ clock.old))
         ⊎ ((held : Stores) → Has D.tells (seen D.Disk store) held → MovesFrom (λ image. ⊥) D.tells store.config held (C.coming clock.old) (C.coming clock.new) (K.written sink.old) (K.written sink.new) (D.past store.disk) (D.past result.disk) result.status) }
-    ensures damaged { IsTrue D.tells → (held : Stores) → Has D.tells (seen D.Disk store) held → IsTrue held.stands → (file : Name) (at : ℕ) → result.status ≡ Status.Damaged file at → ⊥ }
+    ensures damaged { IsTrue D.tells → (held : Stores) → Has D.tells (seen D.Disk store) held → IsTrue held.stands → (file : Name) (at : ℕ)
+        → result.status ≡ Status.Damaged file at → ⊥ }
     ensures opened { IsOfOpened result.status }
     ensures ends { (input : Option (List ℕ)) → EndsAs asked.Etl input result.status }
-    ensures caused { IsCausedBy D.Reader.faults ⊥ (Rose (K.write_faults sink.old) (K.write_faults sink.new)) (DiskRose (D.faults store.disk) (D.faults result.disk)) result.status result.failed }
+    ensures caused { IsCausedBy D.Reader.faults ⊥ (Rose (K.write_faults sink.old) (K.write_faults sink.new))
+        (DiskRose (D.faults store.disk) (D.faults result.disk)) result.status result.failed }
     ensures write_faults { K.write_faults sink.old ≤ K.write_faults sink.new }
     ensures disk_faults { HasNotFallen (D.faults store.disk) (D.faults result.disk) }
     ensures unopened { IsTrue D.tells → IsUnopened (D.files result.disk) (D.opened result.disk) }
@@ -99,7 +101,8 @@ fn moved_status<K: Sink>(moved: Result<DueMoved, MoveErr>, sink: &mut K) -> Stat
 
 // Writes how many partitions were retired. It takes no memory.
 fn tell_moved<K: Sink>(moved: DueMoved, sink: &mut K) -> Status
-    ensures told { ((result ≡ Status.Done) × Appends (K.written sink.old) (K.written sink.new) (moved_text moved)) ⊎ ((result ≡ Status.SinkFault) × AppendsFront (K.written sink.old) (K.written sink.new) (moved_text moved)) }
+    ensures told { ((result ≡ Status.Done) × Appends (K.written sink.old) (K.written sink.new) (moved_text moved))
+        ⊎ ((result ≡ Status.SinkFault) × AppendsFront (K.written sink.old) (K.written sink.new) (moved_text moved)) }
     ensures failed { result ≡ Status.SinkFault → Rose (K.write_faults sink.old) (K.write_faults sink.new) }
     ensures faults { K.write_faults sink.old ≤ K.write_faults sink.new }
 {

@@ -25,12 +25,15 @@ use tier_store::TierStore;
 /// Writes one line for each row.
 pub fn tell_rows<K: Sink, D: Disk>(alloc: Global, mut store: TierStore<D>, sink: &mut K) -> Came<D>
     requires has { (held : Stores) × Has D.tells (seen D.Disk store) held }
-    ensures held { (held : Stores) → Has D.tells (seen D.Disk store) held → IsTrue held.stands → IsTrue D.tells → Tells (status_text held) (K.written sink.old) (K.written sink.new) result.status }
-    ensures listed { TellsListed store.catalogue.rows (lists_of store.manifests.items 0) (lists_of store.manifests.items 1) (lists_of store.manifests.items 2) (K.written sink.old) (K.written sink.new) result.status }
+    ensures held { (held : Stores) → Has D.tells (seen D.Disk store) held → IsTrue held.stands → IsTrue D.tells
+        → Tells (status_text held) (K.written sink.old) (K.written sink.new) result.status }
+    ensures listed { TellsListed store.catalogue.rows (lists_of store.manifests.items 0) (lists_of store.manifests.items 1) (lists_of store.manifests.items 2)
+        (K.written sink.old) (K.written sink.new) result.status }
     ensures ends { (input : Option (List ℕ)) → EndsAs asked.Status input result.status }
     ensures files { IsTrue D.tells → D.files result.disk ≡ D.files store.disk }
     ensures any_moment { IsTrue D.tells → Passes (λ a b. b ≡ a) (D.past store.disk) (D.past result.disk) }
-    ensures caused { IsCausedBy D.Reader.faults ⊥ (Rose (K.write_faults sink.old) (K.write_faults sink.new)) (DiskRose (D.faults store.disk) (D.faults result.disk)) result.status result.failed }
+    ensures caused { IsCausedBy D.Reader.faults ⊥ (Rose (K.write_faults sink.old) (K.write_faults sink.new))
+        (DiskRose (D.faults store.disk) (D.faults result.disk)) result.status result.failed }
     ensures write_faults { K.write_faults sink.old ≤ K.write_faults sink.new }
     ensures disk_faults { D.faults store.disk ≤ D.faults result.disk }
     ensures unopened { IsTrue D.tells → IsUnopened (D.files result.disk) (D.opened result.disk) }
@@ -47,12 +50,14 @@ pub fn tell_rows<K: Sink, D: Disk>(alloc: Global, mut store: TierStore<D>, sink:
 pub fn tell_files<K: Sink, D: Disk>(alloc: Global, mut store: TierStore<D>, sink: &mut K) -> Came<D>
     requires has { (held : Stores) × Has D.tells (seen D.Disk store) held }
     ensures held { (held : Stores) → Has D.tells (seen D.Disk store) held → IsTrue held.stands → IsTrue D.tells → NoDamage result.status }
-    ensures checks { IsTrue D.tells → ChecksAll store.catalogue.rows (D.files store.disk) (lists_of store.manifests.items 0) (lists_of store.manifests.items 1) (lists_of store.manifests.items 2) (K.written sink.old) (K.written sink.new) result.status }
+    ensures checks { IsTrue D.tells → ChecksAll store.catalogue.rows (D.files store.disk) (lists_of store.manifests.items 0) (lists_of store.manifests.items 1)
+        (lists_of store.manifests.items 2) (K.written sink.old) (K.written sink.new) result.status }
     ensures opened { IsOfOpened result.status }
     ensures ends { (input : Option (List ℕ)) → EndsAs asked.Check input result.status }
     ensures files { IsTrue D.tells → D.files result.disk ≡ D.files store.disk }
     ensures any_moment { IsTrue D.tells → Passes (λ a b. b ≡ a) (D.past store.disk) (D.past result.disk) }
-    ensures caused { IsCausedBy D.Reader.faults ⊥ (Rose (K.write_faults sink.old) (K.write_faults sink.new)) (DiskRose (D.faults store.disk) (D.faults result.disk)) result.status result.failed }
+    ensures caused { IsCausedBy D.Reader.faults ⊥ (Rose (K.write_faults sink.old) (K.write_faults sink.new))
+        (DiskRose (D.faults store.disk) (D.faults result.disk)) result.status result.failed }
     ensures write_faults { K.write_faults sink.old ≤ K.write_faults sink.new }
     ensures disk_faults { D.faults store.disk ≤ D.faults result.disk }
     ensures unopened { IsTrue D.tells → IsUnopened (D.files result.disk) (D.opened result.disk) }

@@ -42,15 +42,18 @@ pub fn get_from<K: Sink, D: Disk>(
     ensures retrieves { (IsNotMade store.disk result.disk result.status × (sink.new ≡ sink.old))
         ⊎ ((held : Stores) → Has D.tells (seen D.Disk store) held → RetrievesFrom (λ image. ⊥) D.tells store.config held name.now query (K.written sink.old) (K.written sink.new) (D.past store.disk) (D.past result.disk) result.status) }
     ensures some { GetsSome store.catalogue.rows name.now query (K.written sink.old) (K.written sink.new) result.status }
-    ensures read { IsTrue D.tells → GetsRead (D.files store.disk) store.catalogue.rows (lists_of store.manifests.items) name.now query (K.written sink.old) (K.written sink.new) result.status }
+    ensures read { IsTrue D.tells → GetsRead (D.files store.disk) store.catalogue.rows (lists_of store.manifests.items) name.now query (K.written sink.old)
+        (K.written sink.new) result.status }
     ensures none { HasNone store.catalogue.rows name.now → IsOneOf (number_of result.status) 4 7 9 }
     ensures named { result.status ≡ Status.NoSuchVariable → HasNone store.catalogue.rows name.now × (sink.new ≡ sink.old) }
-    ensures damaged { IsTrue D.tells → (file : Name) (at : ℕ) → result.status ≡ Status.Damaged file at → IsDamagedFile (D.files store.disk) store.catalogue.rows (lists_of store.manifests.items) name.now file at }
+    ensures damaged { IsTrue D.tells → (file : Name) (at : ℕ) → result.status ≡ Status.Damaged file at
+        → IsDamagedFile (D.files store.disk) store.catalogue.rows (lists_of store.manifests.items) name.now file at }
     ensures files { IsTrue D.tells → D.files result.disk ≡ D.files store.disk }
     ensures any_moment { IsTrue D.tells → Passes (λ a b. b ≡ a) (D.past store.disk) (D.past result.disk) }
     ensures opened { IsOfOpened result.status }
     ensures ends { (input : Option (List ℕ)) → EndsAs (asked.Get name.entry query) input result.status }
-    ensures caused { IsCausedBy D.Reader.faults ⊥ (Rose (K.write_faults sink.old) (K.write_faults sink.new)) (DiskRose (D.faults store.disk) (D.faults result.disk)) result.status result.failed }
+    ensures caused { IsCausedBy D.Reader.faults ⊥ (Rose (K.write_faults sink.old) (K.write_faults sink.new))
+        (DiskRose (D.faults store.disk) (D.faults result.disk)) result.status result.failed }
     ensures write_faults { K.write_faults sink.old ≤ K.write_faults sink.new }
     ensures disk_faults { HasNotFallen (D.faults store.disk) (D.faults result.disk) }
     ensures unopened { IsTrue D.tells → IsUnopened (D.files result.disk) (D.opened result.disk) }
@@ -78,7 +81,8 @@ fn get_alone<K: Sink, D: Disk>(
     sink: &mut K,
 ) -> Retrieved<D::Reader>
     requires stands { (m : Machine) × Stands D.tells (parts D.Disk archive.old) m }
-    ensures retrieves { Retrieves D.Disk D.Reader.tells D.Reader.faults (Rose (K.write_faults sink.old) (K.write_faults sink.new)) archive.old name.now query (K.written sink.old) (K.written sink.new) result archive.new }
+    ensures retrieves { Retrieves D.Disk D.Reader.tells D.Reader.faults (Rose (K.write_faults sink.old) (K.write_faults sink.new)) archive.old name.now query
+        (K.written sink.old) (K.written sink.new) result archive.new }
     ensures read { IsTrue D.Reader.tells → ReadsPinAt D.Disk archive.old name.now query (K.written sink.old) (K.written sink.new) result archive.new }
     ensures not_spent { result ≡ Retrieved.Spent → ⊥ }
     ensures untouched { result ≡ Retrieved.NoSuchVariable → sink.new ≡ sink.old }

@@ -50,7 +50,8 @@ where
     W::L: Send,
     requires few { length posts.old < 2 ^ 32 }
     requires fresh { IsFresh D.Disk store }
-    ensures serves { ServesPosts W.is_closed W.door_faults W.ledger (λ kind l. IsServed kind W.L.Sink.written W.L.Source.read_faults W.L.Sink.write_faults l) (IsNotMade store.disk result.disk result.status × (C.coming clock.new ≡ C.coming clock.old))
+    ensures serves { ServesPosts W.is_closed W.door_faults W.ledger (λ kind l. IsServed kind W.L.Sink.written W.L.Source.read_faults W.L.Sink.write_faults l)
+        (IsNotMade store.disk result.disk result.status × (C.coming clock.new ≡ C.coming clock.old))
         (λ began told. (held : Stores) → Has D.tells (seen D.Disk store) held → ServesFrom (λ image. ⊥) D.tells store.config held (length posts.old) (λ start entries. Given start D.Reader.tells D.Reader.faults W.L.Source.left W.L.Sink.written W.L.Sink.write_faults entries W.L.Source.read_faults W.is_closed W.door_faults W.ledger told posts.old posts.new) began told (D.past store.disk) (D.past result.disk))
         result.status posts.old posts.new }
     ensures clock { Gives (C.coming clock.old) (C.coming clock.new) [] }
@@ -97,7 +98,9 @@ where
     W::L: Send,
     requires stands { (m : Machine) × Stands D.tells (parts D.Disk archive) m }
     requires few { length posts.old < 2 ^ 32 }
-    ensures leaves { IfOk result (λ end. (began : Bool) × LeavesArchive D.Disk archive (length posts.old) (λ start entries. Given start D.Reader.tells D.Reader.faults W.L.Source.left W.L.Sink.written W.L.Sink.write_faults entries W.L.Source.read_faults W.is_closed W.door_faults W.ledger end.0 posts.old posts.new) began end.0 end.1 × PostsLeft W.is_closed W.door_faults W.ledger (λ kind l. IsServed kind W.L.Sink.written W.L.Source.read_faults W.L.Sink.write_faults l) began end.0 posts.old posts.new) }
+    ensures leaves { IfOk result (λ end. (began : Bool)
+        × LeavesArchive D.Disk archive (length posts.old)
+        (λ start entries. Given start D.Reader.tells D.Reader.faults W.L.Source.left W.L.Sink.written W.L.Sink.write_faults entries W.L.Source.read_faults W.is_closed W.door_faults W.ledger end.0 posts.old posts.new) began end.0 end.1 × PostsLeft W.is_closed W.door_faults W.ledger (λ kind l. IsServed kind W.L.Sink.written W.L.Source.read_faults W.L.Sink.write_faults l) began end.0 posts.old posts.new) }
     ensures clock { Gives (C.coming clock.old) (C.coming clock.new) [] }
     ensures back { IfErr result (λ given. (given ≡ archive) × (posts.new ≡ posts.old) × (clock.new ≡ clock.old)) }
 {
@@ -132,8 +135,11 @@ where
     requires opens { Opens (ArchiveStep D.Disk D.Reader.tells D.Reader.bytes D.Reader.faults) rooms (opened rooms) pass }
     requires stands { (m : Machine) × Stands D.tells (parts D.Disk (opened rooms).archive.archive) m }
     requires few { length posts.old < 2 ^ 32 }
-    ensures leaves { (began : Bool) × LeavesRoom D.Disk (ArchiveStep D.Disk D.Reader.tells D.Reader.bytes D.Reader.faults) (reply_of D.Reader.tells D.Reader.bytes D.Reader.faults) (opened rooms) (length posts.old) (λ start entries. Given start D.Reader.tells D.Reader.faults W.L.Source.left W.L.Sink.written W.L.Sink.write_faults entries W.L.Source.read_faults W.is_closed W.door_faults W.ledger result.0 posts.old posts.new) began result.0 result.1
-        × PostsLeft W.is_closed W.door_faults W.ledger (λ kind l. IsServed kind W.L.Sink.written W.L.Source.read_faults W.L.Sink.write_faults l) began result.0 posts.old posts.new }
+    ensures leaves { (began : Bool) × LeavesRoom D.Disk (ArchiveStep D.Disk D.Reader.tells D.Reader.bytes D.Reader.faults)
+        (reply_of D.Reader.tells D.Reader.bytes D.Reader.faults) (opened rooms) (length posts.old)
+        (λ start entries. Given start D.Reader.tells D.Reader.faults W.L.Source.left W.L.Sink.written W.L.Sink.write_faults entries W.L.Source.read_faults W.is_closed W.door_faults W.ledger result.0 posts.old posts.new) began result.0 result.1
+        × PostsLeft W.is_closed W.door_faults W.ledger
+        (λ kind l. IsServed kind W.L.Sink.written W.L.Source.read_faults W.L.Sink.write_faults l) began result.0 posts.old posts.new }
     ensures clock { Gives (C.coming clock.old) (C.coming clock.new) [] }
 {
     let told = serve_all(rt, alloc, &rooms, &mut pass, posts, clock, log);

@@ -7,7 +7,7 @@ use Rattle.series_model.specs.declared.sample.Query.{Query}
 use Rattle.command_words.specs.declared.command.Command.{Command}
 use Rattle.command_words.specs.declared.command.Command.TheVariants.{Drill, Extract, OverStore}
 use Rattle.command_words.specs.declared.command.StoreCommand.{StoreCommand}
-use Rattle.command_words.specs.declared.command.StoreCommand.TheVariants.{Ingest, Get, Etl, Status, Check, Serve}
+use Rattle.command_words.specs.declared.command.StoreCommand.TheVariants.{Ingest, Get, Etl, Status, Check, Serve, Adopt}
 use Rattle.command_words.specs.ServeWords.{AsksToDrill, AsksToServe}
 use Rattle.drill_feed.specs.declared.drill.Drill.{Drill as DrillState}
 use Rattle.command_words.specs.declared.service_words.ServeWords.{ServeWords}
@@ -26,20 +26,21 @@ four_texts (a ∷ b ∷ c ∷ []) d least most = absurd (omega arith)
 four_texts (a ∷ b ∷ c ∷ e ∷ []) d least most = refl
 four_texts (a ∷ b ∷ c ∷ e ∷ f ∷ words) d least most = absurd (omega arith)
 
--- THE FIRST AND THE THIRD LETTER, TOGETHER
+-- THE FIRST LETTER, AND TWICE THE THIRD
 
 letter : List (List ℕ) → ℕ
-letter words = get_or (get_or words 0 []) 0 0 + get_or (get_or words 0 []) 2 0
+letter words = get_or (get_or words 0 []) 0 0 + (get_or (get_or words 0 []) 2 0 + get_or (get_or words 0 []) 2 0)
 
 abbrev pub letter_of : Command → ℕ
-letter_of (Extract query) = 217
-letter_of (Drill drill) = 205
-letter_of (OverStore Ingest) = 208
-letter_of (OverStore (Get name query)) = 219
-letter_of (OverStore Etl) = 209
-letter_of (OverStore Status) = 212
-letter_of (OverStore Check) = 200
-letter_of (OverStore (Serve numbers)) = 229
+letter_of (Extract query) = 333
+letter_of (Drill drill) = 310
+letter_of (OverStore Ingest) = 311
+letter_of (OverStore (Get name query)) = 335
+letter_of (OverStore Etl) = 317
+letter_of (OverStore Status) = 309
+letter_of (OverStore Check) = 301
+letter_of (OverStore (Serve numbers)) = 343
+letter_of (OverStore Adopt) = 319
 
 asked_letter : (words : List (List ℕ)) (c : Command) → AsksFor c words → letter words ≡ letter_of c
 unfolding letter
@@ -51,6 +52,7 @@ asked_letter words (OverStore Etl) h = ap letter h
 asked_letter words (OverStore Status) h = ap letter h
 asked_letter words (OverStore Check) h = ap letter h
 asked_letter words (OverStore (Serve numbers)) h = ap letter h.written
+asked_letter words (OverStore Adopt) h = ap letter h
 
 pub same_letter : (words : List (List ℕ)) (a b : Command) → IsCommand words a → IsCommand words b → letter_of b ≡ letter_of a
 same_letter words a b one two = sym (asked_letter words b two.1) ∙ asked_letter words a one.1
@@ -70,6 +72,10 @@ ingest_same words c one two = absurd (omega (arith, same_letter words (OverStore
 pub move_same : (words : List (List ℕ)) (c : StoreCommand) → IsCommand words (OverStore c) → IsCommand words (OverStore Etl) → c ≡ Etl
 move_same words Etl one two = refl
 move_same words c one two = absurd (omega (arith, same_letter words (OverStore c) (OverStore Etl) one two))
+
+pub adopt_same : (words : List (List ℕ)) (c : StoreCommand) → IsCommand words (OverStore c) → IsCommand words (OverStore Adopt) → c ≡ Adopt
+adopt_same words Adopt one two = refl
+adopt_same words c one two = absurd (omega (arith, same_letter words (OverStore c) (OverStore Adopt) one two))
 
 pub serve_same : (words : List (List ℕ)) (c : StoreCommand) (n : ServeWords) → IsCommand words (OverStore c) → IsCommand words (OverStore (Serve n)) → (m : ServeWords) × (c ≡ Serve m)
 serve_same words (Serve m) n one two = (m, refl)
@@ -116,6 +122,7 @@ not_extract word from to none (OverStore Etl) h = let long : 3 ≡ 1 = ap length
 not_extract word from to none (OverStore Status) h = let long : 3 ≡ 1 = ap length h in omega (arith, long)
 not_extract word from to none (OverStore Check) h = let long : 3 ≡ 1 = ap length h in omega (arith, long)
 not_extract word from to none (OverStore (Serve numbers)) h = let long : 3 ≡ 5 = ap length h.written in omega (arith, long)
+not_extract word from to none (OverStore Adopt) h = let long : 3 ≡ 1 = ap length h in omega (arith, long)
 
 pub not_get : (word name from to : List ℕ) → ((query : Query) → IsInterval from to query → ⊥) → (c : Command) → AsksFor c (word ∷ name ∷ from ∷ to ∷ []) → ⊥
 not_get word name from to none (Extract query) h = let long : 4 ≡ 3 = ap length h.2 in omega (arith, long)
@@ -129,6 +136,7 @@ not_get word name from to none (OverStore Etl) h = let long : 4 ≡ 1 = ap lengt
 not_get word name from to none (OverStore Status) h = let long : 4 ≡ 1 = ap length h in omega (arith, long)
 not_get word name from to none (OverStore Check) h = let long : 4 ≡ 1 = ap length h in omega (arith, long)
 not_get word name from to none (OverStore (Serve numbers)) h = let long : 4 ≡ 5 = ap length h.written in omega (arith, long)
+not_get word name from to none (OverStore Adopt) h = let long : 4 ≡ 1 = ap length h in omega (arith, long)
 
 -- no command but `serve` has another number of words
 pub other_length : (words : List (List ℕ)) → length words ≢ 1 → length words ≢ 2 → length words ≢ 3 → length words ≢ 4 → ((numbers : ServeWords) → AsksToServe words numbers → ⊥) → (c : Command) → AsksFor c words → ⊥
@@ -140,6 +148,7 @@ other_length words one two three four serves (OverStore Etl) h = one (ap length 
 other_length words one two three four serves (OverStore Status) h = one (ap length h)
 other_length words one two three four serves (OverStore Check) h = one (ap length h)
 other_length words one two three four serves (OverStore (Serve numbers)) h = serves numbers h
+other_length words one two three four serves (OverStore Adopt) h = one (ap length h)
 
 pub other_none : (words : List (List ℕ)) → length words ≢ 1 → length words ≢ 2 → length words ≢ 3 → length words ≢ 4 → (r : Option Command) → IfNone r ((numbers : ServeWords) → AsksToServe words numbers → ⊥) → IfNone r ((c : Command) → AsksFor c words → ⊥)
 other_none words one two three four None serves = λ c h. other_length words one two three four serves c h
@@ -155,6 +164,7 @@ not_drill words two none (OverStore Etl) h = let long : length words ≡ 1 = ap 
 not_drill words two none (OverStore Status) h = let long : length words ≡ 1 = ap length h in omega (arith, two, long)
 not_drill words two none (OverStore Check) h = let long : length words ≡ 1 = ap length h in omega (arith, two, long)
 not_drill words two none (OverStore (Serve numbers)) h = let long : length words ≡ 5 = ap length h.written in omega (arith, two, long)
+not_drill words two none (OverStore Adopt) h = let long : length words ≡ 1 = ap length h in omega (arith, two, long)
 
 pub drill_none : (words : List (List ℕ)) → length words ≡ 2 → (r : Option Command) → IfNone r ((hours : ℕ) → AsksToDrill words hours → ⊥) → IfNone r ((c : Command) → AsksFor c words → ⊥)
 drill_none words two None none = λ c h. not_drill words two none c h

@@ -6,7 +6,7 @@ use Rattle.series_model.specs.declared.sample.Query.{Query}
 use Rattle.command_words.specs.declared.command.Command.{Command}
 use Rattle.command_words.specs.declared.command.Command.TheVariants.{Drill, Extract, OverStore}
 use Rattle.command_words.specs.declared.command.StoreCommand.{StoreCommand}
-use Rattle.command_words.specs.declared.command.StoreCommand.TheVariants.{Ingest, Get, Etl, Status, Check, Serve}
+use Rattle.command_words.specs.declared.command.StoreCommand.TheVariants.{Ingest, Get, Etl, Status, Check, Serve, Adopt}
 use Rattle.command_words.specs.ServeWords.{AsksToDrill, AsksToServe}
 
 -- two texts and the two moments that they tell
@@ -23,6 +23,7 @@ AsksFor (OverStore Etl) words = words ≡ codes "etl" ∷ []
 AsksFor (OverStore Status) words = words ≡ codes "status" ∷ []
 AsksFor (OverStore Check) words = words ≡ codes "check" ∷ []
 AsksFor (OverStore (Serve numbers)) words = AsksToServe words numbers
+AsksFor (OverStore Adopt) words = words ≡ codes "adopt" ∷ []
 
 -- the word begins with `-`
 abbrev pub has_dash : List ℕ → Bool

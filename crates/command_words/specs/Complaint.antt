@@ -10,7 +10,7 @@ use Rattle.command_words.specs.declared.status.Status.TheVariants.{Done, Usage, 
 -- nothing where the command was done
 abbrev pub complaint_of : Status → List ℕ
 complaint_of Done = []
-complaint_of Usage = codes "archappl: usage: archappl extract FROM TO / ingest / get NAME FROM TO / etl / status / check / drill N / serve FEEDPORT HTTPPORT WORKERS LINKS\n"
+complaint_of Usage = codes "archappl: usage: archappl extract FROM TO / ingest / get NAME FROM TO / etl / status / check / drill N / serve FEEDPORT HTTPPORT WORKERS LINKS / adopt\n"
 complaint_of (Refused line fault) = codes "archappl: line " ++ decimal line ++ codes ": E" ++ decimal (fault_number fault) ++ codes "\n"
 complaint_of NoSuchVariable = codes "archappl: no such variable\n"
 complaint_of SourceFault = codes "archappl: input failed\n"

@@ -38,6 +38,8 @@ pub enum StoreCommand<'a> {
     Check,
     /// `serve FEEDPORT HTTPPORT WORKERS LINKS`
     Serve(ServeWords),
+    /// `adopt`
+    Adopt,
 }
 
 /// The command of these words. A word that begins with `-` is of none.
@@ -111,6 +113,7 @@ fn bare_command<'a>(word: &str) -> Option<Command<'a>>
         "etl" => Some(Command::OverStore(StoreCommand::Etl)),
         "status" => Some(Command::OverStore(StoreCommand::Status)),
         "check" => Some(Command::OverStore(StoreCommand::Check)),
+        "adopt" => Some(Command::OverStore(StoreCommand::Adopt)),
         _ => None,
     }
 }

@@ -22,7 +22,7 @@ pub fn complain<E: Sink>(status: &Status, complaints: &mut E)
         Status::Done => tell(&[], complaints),
         Status::Usage => tell(
             &[
-                b"archappl: usage: archappl extract FROM TO / ingest / get NAME FROM TO / etl / status / check / drill N / serve FEEDPORT HTTPPORT WORKERS LINKS\n",
+                b"archappl: usage: archappl extract FROM TO / ingest / get NAME FROM TO / etl / status / check / drill N / serve FEEDPORT HTTPPORT WORKERS LINKS / adopt\n",
             ],
             complaints,
         ),

@@ -6,10 +6,10 @@ use Rattle.command_words.specs.declared.command.StoreCommand.{StoreCommand}
 use Rattle.command_words.specs.declared.command.StoreCommand.TheVariants as command
 use Rattle.command_words.specs.declared.status.Status.{Status}
 use Rattle.archiver_appliance.specs.Outside.{outside}
-use Rattle.archiver_appliance.specs.Run.{Does, EndsAs, IsReading, OnlyOpens}
+use Rattle.archiver_appliance.specs.Run.{Does, EndsAs, IsAdopt, IsReading, OnlyOpens}
 use Rattle.archiver_appliance.specs.Serving.{IsUnserved}
 use Rattle.archiver_appliance.proofs.Judgements.{OneVerdict}
-use Rattle.archiver_appliance.proofs.Refusals.{refused_does}
+use Rattle.archiver_appliance.proofs.Refusals.{is_adopt, refused_does}
 use Rattle.archiver_appliance.proofs.Doing.{check_does, etl_does, get_does, ingest_does, never_damaged, refused_none, status_does, three_of}
 use Rattle.archiver_appliance.proofs.Services.{gives_nothing}
 use Rattle.archiver_appliance.proofs.ServingAll.{serve_does, serve_makes}
@@ -23,7 +23,8 @@ returns-in-Err-clause-does g c =
     let old = outside g.S.Source g.K.Sink g.C.Clock g.D.Disk c.args.source.now c.args.sink.now c.args.clock.now c.args.disk in
     let new = outside g.S.Source g.K.Sink g.C.Clock g.D.Disk c.args.source.now c.args.sink.now c.args.clock.now (disk_in err) in
     let verdict : OneVerdict = record { whole = c.one_verdict.ensures.whole; same = c.one_verdict.ensures.same; undamaged = c.one_verdict.ensures.undamaged } in
-    let does = refused_does g.D.Disk.tells config c.args.command old new verdict err refl refl refl (λ told. (g.met.D.Disk g.world.𝓛 g.world.𝓜 g.world.𝓡 ((λ s x. x), (λ x. x), (λ x. x), λ x. x)).seen c.args.disk told) c.in-Err.ensures.opens c.in-Err.ensures.reads
+    let apart : IsAdopt c.args.command → ⊥ = λ adopts. c.in_default.not-Adopt (is_adopt c.args.command adopts) in
+    let does = refused_does g.D.Disk.tells config c.args.command old new verdict err apart refl refl refl (λ told. (g.met.D.Disk g.world.𝓛 g.world.𝓜 g.world.𝓡 ((λ s x. x), (λ x. x), (λ x. x), λ x. x)).seen c.args.disk told) c.in-Err.ensures.opens c.in-Err.ensures.reads
     (λ told d name at is. c.in-Err.ensures.damaged told d name at (ap (λ e. Err e) is)) (λ told d kept other is. c.in-Err.ensures.differs told d kept other (ap (λ e. Err e) is)) in
     subst (λ d. Does config g.D.Disk.tells (OverStore c.args.command) old (outside g.S.Source g.K.Sink g.C.Clock g.D.Disk c.args.source.now c.args.sink.now c.args.clock.now d) c.refused.result.status) (sym c.refused.ensures.disk)
     (subst (λ (s : Status). Does config g.D.Disk.tells (OverStore c.args.command) old new s) (sym c.refused.ensures.status) does)
@@ -128,3 +129,16 @@ pub returns-in-Serve-clause-refused : goal.returns-in-Serve-clause-refused
 returns-in-Serve-clause-refused g c = λ is.
     let four = refused_none c.args.config.now g.D.Disk.tells (g.D.Disk.files c.args.disk) c.serve_posts.result.status c.serve_posts.ensures.opened (λ told. c.in-Ok.ensures.whole told refl) is in
     absurd (subst (λ (s : Status). EndsAs (command.Serve c.in-Serve.field-0) (g.S.Source.left c.args.source.now) s) four (c.serve_posts.ensures.ends c.in-Serve.field-0 (g.S.Source.left c.args.source.now)))
+
+pub returns-in-Serve-clause-posts_alone : goal.returns-in-Serve-clause-posts_alone
+returns-in-Serve-clause-posts_alone g c none = absurd (none c.in-Serve.field-0 c.in-Serve.is)
+
+pub returns-in-Adopt-clause-does : goal.returns-in-Adopt-clause-does
+returns-in-Adopt-clause-does g c =
+    let old = outside g.S.Source g.K.Sink g.C.Clock g.D.Disk c.args.source.now c.args.sink.now c.args.clock.now c.args.disk in
+    let new = outside g.S.Source g.K.Sink g.C.Clock g.D.Disk c.args.source.now c.adopt_found.new.sink c.args.clock.now c.adopt_found.result.disk in
+    subst (λ (x : StoreCommand). Does c.args.config.now g.D.Disk.tells (OverStore x) old new c.adopt_found.result.status) (sym c.in-Adopt.is)
+    (c.adopt_found.ensures.does (g.S.Source.left c.args.source.now) (g.C.Clock.coming c.args.clock.now) (g.S.Source.read_faults c.args.source.now))
+
+pub adopt_found-requires-clause-found : goal.adopt_found-requires-clause-found
+adopt_found-requires-clause-found g c = c.requires.found c.in-Adopt.is

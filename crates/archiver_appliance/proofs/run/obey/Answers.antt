@@ -1,6 +1,7 @@
 use Rattle.std.proofs.Common.{inl, map, subst}
 use Rattle.command_words.specs.declared.command.Command.{Command}
 use Rattle.command_words.specs.declared.command.Command.TheVariants.{OverStore}
+use Rattle.command_words.specs.declared.command.StoreCommand.{StoreCommand}
 use Rattle.command_words.specs.declared.command.StoreCommand.TheVariants as asked
 use Rattle.command_words.specs.Command.{IsCommand}
 use Rattle.command_words.proofs.Words.{move_same, ingest_same, not_both, serve_same}
@@ -55,3 +56,8 @@ returns-in-Some-OverStore-clause-serves g c numbers asks =
     let words = map (λ w. w.now) c.args.words.now in
     let same = serve_same words c.in-Some-OverStore.command numbers (subst (λ (a : Command). IsCommand words a) c.in-Some-OverStore.field-0-is c.in-Some-OverStore.ensures.found) asks in
     c.serve.ensures.serves same.0 same.1
+
+pub serve-requires-clause-found : goal.serve-requires-clause-found
+serve-requires-clause-found g c κs within is =
+    let words = map (λ w. w.now) c.args.words.now in
+    c.requires.found (subst (λ (a : StoreCommand). IsCommand words (OverStore a)) is (subst (λ (a : Command). IsCommand words a) c.in-Some-OverStore.field-0-is c.in-Some-OverStore.ensures.found))
