@@ -261,10 +261,11 @@ def compare_listed(place, model):
 def compare_swept(place, model):
     """Those that only read have removed no file. One that writes leaves of the files of variables those that are listed, and every
     other as it is."""
-    if not (place.site / "archive-mark").is_file():
-        # A folder that has files and no archive's marks is taken for another's.
-        return
     files, folder = place.stored(), place.stores[1]
+    mark = folder / "archive-mark"
+    if not mark.is_file() or not mark.read_bytes():
+        # A folder that has files and no archive's mark is taken for another's, and a cut may leave a mark without its bytes.
+        return
     for command in ("status", "check"):
         place.run(command)
     agree("the files behind those that only read", place.stored(), files)
