@@ -41,7 +41,7 @@ class Variable:
 def segment(rng):
     """A piece of a name between separators."""
     letters = "".join(rng.choice(LETTERS) for _ in range(rng.choice((1, 2, 3, 3, 8, 30))))
-    return letters + "." if letters in (".", "..") else letters
+    return "..." if letters in (".", "..") else letters
 
 
 def good_name(rng):
