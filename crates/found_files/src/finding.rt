@@ -6,7 +6,7 @@ ghost use Rattle.found_files.specs.declared.finding.Candidate.{Candidate as Valu
 ghost use Rattle.found_files.specs.Candidate.{IsCandidate, IsNamed, IsShapedOf};
 ghost use Rattle.partition_names.specs.Path.{path_of};
 ghost use Rattle.pv_name.specs.Name.{IsName};
-ghost use Rattle.found_files.specs.Reading.{IsOnlyRead};
+ghost use Rattle.found_files.specs.Reading.{OnlyReads};
 
 use crate::path::{has_path, part_in};
 use crate::reading::front_of;
@@ -41,7 +41,7 @@ pub fn find_candidate<D: Disk>(
     ensures found { IsTrue D.tells → IfOk result (λ r. IfSome r (IsCandidate granularity (D.files disk.old) file.now)) }
     ensures none { IsTrue D.tells → IfOk result (λ r. r ≡ None → (c : Value) → IsCandidate granularity (D.files disk.old) file.now c → ⊥) }
     ensures shape { IfOk result (λ r. IfSome r (IsShapedOf granularity file.now)) }
-    ensures read { IsOnlyRead D.tells (D.files disk.old) (D.opened disk.old) (D.past disk.old) (D.faults disk.old) (D.files disk.new) (D.opened disk.new) (D.past disk.new) (D.faults disk.new) }
+    ensures read { OnlyReads D.Disk disk.old disk.new }
     ensures cause { result ≡ Err Fault → Rose (D.faults disk.old) (D.faults disk.new) }
 {
     let Some((_, part)) = part_in(granularity, file.path.as_slice()) else {

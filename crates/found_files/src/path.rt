@@ -14,7 +14,8 @@ use std::alloc::{AllocError, Global};
 /// that of a variable's file of one of the granularity's partitions. It takes no memory.
 pub fn part_in(granularity: Granularity, path: &[u8]) -> Option<(usize, Part)>
     ensures within { IfSome result (λ r. (r.0 ≤ length path.now) × IsPart granularity r.1) }
-    ensures only { (name : List ℕ) (part : PartValue) → IsPart granularity part → path_of name part.name ≡ path.now → result ≡ Some (length (key_of name), part) }
+    ensures only { (name : List ℕ) (part : PartValue) → IsPart granularity part → path_of name part.name ≡ path.now
+        → result ≡ Some (length (key_of name), part) }
 {
     let end = first_colon(path)?;
     if path.len() < end + 4 {

@@ -3,7 +3,7 @@ ghost use Rattle.std.specs.Prelude.{◌≡◌, ◌≢◌, ◌≤◌, None, Some,
 ghost use Rattle.disk_model.specs.Files.{Rose, HasFile};
 ghost use Rattle.disk_model.specs.declared.disk.DiskErr.TheVariants.{Fault};
 ghost use Rattle.pb_file.specs.GoodFront.{IsShapedAs};
-ghost use Rattle.found_files.specs.Reading.{IsOnlyRead, HasFront};
+ghost use Rattle.found_files.specs.Reading.{HasFront, OnlyReads};
 
 use disk_model::{Disk, DiskErr, FileName, ReadAt, ReadFailed};
 use partition_names::Part;
@@ -34,7 +34,8 @@ impl<'a, D: Disk> ReadAt for DiskFile<'a, D> {
     ghost faults = { λ f. f.count };
 
     ghost leaves = { λ old new. (new.disk.ghost_name ≡ old.disk.ghost_name) × (new.name ≡ old.name)
-        × ReadsOn D.tells (D.files old.disk.now) (D.opened old.disk.now) (D.past old.disk.now) (D.faults old.disk.now) old.refused old.count (D.files new.disk.now) (D.opened new.disk.now) (D.past new.disk.now) (D.faults new.disk.now) new.refused new.count };
+        × ReadsOn D.tells (D.files old.disk.now) (D.opened old.disk.now) (D.past old.disk.now) (D.faults old.disk.now) old.refused old.count
+        (D.files new.disk.now) (D.opened new.disk.now) (D.past new.disk.now) (D.faults new.disk.now) new.refused new.count };
 
     fn read_at(&mut self, at: u64, buf: &mut [u8]) -> Result<usize, ReadFailed> {
         match self.disk.read(self.name, at, buf) {
@@ -47,9 +48,21 @@ impl<'a, D: Disk> ReadAt for DiskFile<'a, D> {
         }
     }
 
-    ghost leaves_none = { λ f. (refl, refl, reads_none D.tells (D.files f.disk.now) (D.opened f.disk.now) (D.past f.disk.now) (D.faults f.disk.now) f.refused f.count) };
+    ghost leaves_none = { λ f. (
+      refl,
+      refl,
+      reads_none D.tells (D.files f.disk.now) (D.opened f.disk.now) (D.past f.disk.now) (D.faults f.disk.now) f.refused f.count,
+    ) };
 
-    ghost leaves_then = { λ a b c first second. (second.0 ∙ first.0, second.1 ∙ first.1, reads_then D.tells (D.files a.disk.now) (D.opened a.disk.now) (D.past a.disk.now) (D.faults a.disk.now) a.refused a.count (D.files b.disk.now) (D.opened b.disk.now) (D.past b.disk.now) (D.faults b.disk.now) b.refused b.count (D.files c.disk.now) (D.opened c.disk.now) (D.past c.disk.now) (D.faults c.disk.now) c.refused c.count first.2 second.2) };
+    ghost leaves_then = { λ a b c first second. (
+      second.0 ∙ first.0,
+      second.1 ∙ first.1,
+      reads_then D.tells
+          (D.files a.disk.now) (D.opened a.disk.now) (D.past a.disk.now) (D.faults a.disk.now) a.refused a.count
+          (D.files b.disk.now) (D.opened b.disk.now) (D.past b.disk.now) (D.faults b.disk.now) b.refused b.count
+          (D.files c.disk.now) (D.opened c.disk.now) (D.past c.disk.now) (D.faults c.disk.now) c.refused c.count
+          first.2 second.2,
+    ) };
 }
 
 // Gives the front of the first `len` bytes of a file for this partition, or `None` where it has none. The disk is only read.
@@ -63,7 +76,7 @@ pub(crate) fn front_of<'a, D: Disk>(
     requires there { IsTrue D.tells → HasFile (D.files disk.old) name.now (λ b. len ≡ length b) }
     ensures front { IsTrue D.tells → IfOk result (HasFront part.now (D.files disk.old) name.now) }
     ensures shape { IfOk result (λ r. IfSome r (IsShapedAs part.now len)) }
-    ensures read { IsOnlyRead D.tells (D.files disk.old) (D.opened disk.old) (D.past disk.old) (D.faults disk.old) (D.files disk.new) (D.opened disk.new) (D.past disk.new) (D.faults disk.new) }
+    ensures read { OnlyReads D.Disk disk.old disk.new }
     ensures cause { result ≡ Err Fault → Rose (D.faults disk.old) (D.faults disk.new) }
 {
     let mut file = DiskFile {

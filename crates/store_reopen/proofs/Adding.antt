@@ -39,7 +39,8 @@ use Rattle.tier_store.specs.Seen.{Seen}
 use Rattle.tier_store.specs.Stores.{Stores, list_at, tier, with_list}
 use Rattle.tier_store.proofs.Places.{holding, same_granularities, set_cases, tier_set, within_three}
 use Rattle.store_reopen.specs.Marking.{LeavesOthers, Marks}
-use Rattle.store_reopen.specs.Reopen.{IsReady, SameStores, SparesStores}
+use Rattle.store_reopen.specs.Reopen.{ChangesJournals, IsReady, OnlyJournals, SameStores, SparesStores}
+use Rattle.store_reopen.specs.Strays.{adoption_name}
 use Rattle.store_reopen.specs.Verdict.{HasRow}
 use Rattle.store_reopen.proofs.Leaving.{leaves_by, leaves_none, leaves_read, leaves_then}
 
@@ -72,29 +73,40 @@ can_add i tells at held files m here has filed safe = record {
 -- WHAT IS LEFT OF STORES 1 TO 3
 
 module _ {D R : Type 0} (disk : Ghosts D R) where
-  pub spares_none : (d : D) → SparesStores disk d d
-  spares_none d = leaves_none disk SameStores (λ a n other. refl) d
+  pub spares_none : (d : D) → ChangesJournals disk d d
+  spares_none d = leaves_none disk OnlyJournals (λ a n other. refl) d
 
-  pub spares_read : (old new : D) → disk.files new ≡ disk.files old → disk.opened new ≡ disk.opened old → Passes (λ a b. b ≡ a) (disk.past old) (disk.past new) → SparesStores disk old new
-  spares_read old new files opened passes = leaves_read disk SameStores (λ a n other. refl) old new files opened passes
+  pub spares_read : (old new : D) → disk.files new ≡ disk.files old → disk.opened new ≡ disk.opened old → Passes (λ a b. b ≡ a) (disk.past old) (disk.past new) → ChangesJournals disk old new
+  spares_read old new files opened passes = leaves_read disk OnlyJournals (λ a n other. refl) old new files opened passes
 
-  pub spares_then : (old mid new : D) → SparesStores disk old mid → SparesStores disk mid new → SparesStores disk old new
-  spares_then old mid new one two = leaves_then disk SameStores (λ a b c first second n other. second n other ∙ first n other) old mid new one two
+  pub spares_then : (old mid new : D) → ChangesJournals disk old mid → ChangesJournals disk mid new → ChangesJournals disk old new
+  spares_then old mid new one two = leaves_then disk OnlyJournals (λ a b c first second n other. second n other ∙ first n other) old mid new one two
 
-  -- the file `adopt` is of store 0
-  pub marks_spare : (old new : D) → Marks disk old new → SparesStores disk old new
-  marks_spare old new marks = leaves_by disk LeavesOthers SameStores (λ a b step n other. step n (λ is. other (ap (λ (m : Name). m.0) is))) old new marks
-
-  -- and so are the journals
-  pub own_spares : (R : Files → Files → Type 0) (name own : Name) → name ≡ own → own.0 ≡ 0 → (old new : D) → Passes (AtOwn name R) (disk.past old) (disk.past new) → ((n : Name) → (IsOwn name n → ⊥) → disk.files new n ≡ disk.files old n) → ((n : Name) → disk.opened new n ≤ disk.opened old n) → SparesStores disk old new
-  own_spares R name own is of_zero old new passes elsewhere fewer = record {
-    any_moment = passes_weaker (AtOwn name R) SameStores (disk.past old) (disk.past new) passes (λ a c left step n other. step.elsewhere n (none n other));
+  -- the journals are of store 0, and none is the file `adopt`
+  pub own_spares : (R : Files → Files → Type 0) (name own : Name) → name ≡ own → own.0 ≡ 0 → ((n : Name) → IsOwn own n → n ≢ adoption_name) → (old new : D) → Passes (AtOwn name R) (disk.past old) (disk.past new) → ((n : Name) → (IsOwn name n → ⊥) → disk.files new n ≡ disk.files old n)
+      → ((n : Name) → disk.opened new n ≤ disk.opened old n) → ChangesJournals disk old new
+  own_spares R name own is of_zero apart old new passes elsewhere fewer = record {
+    any_moment = passes_weaker (AtOwn name R) OnlyJournals (disk.past old) (disk.past new) passes (λ a c left step n other. step.elsewhere n (none n other));
     now = λ n other. elsewhere n (none n other);
     fewer = fewer;
   }
     where
-      none : (n : Name) → n.0 ≢ 0 → IsOwn name n → ⊥
-      none n other its = other (own_store name n its ∙ ap (λ (m : Name). m.0) is ∙ of_zero)
+      none : (n : Name) → (n.0 ≡ 0 → n ≡ adoption_name) → IsOwn name n → ⊥
+      none n other its = apart n (subst (λ (m : Name). IsOwn m n) is its) (other (own_store name n its ∙ ap (λ (m : Name). m.0) is ∙ of_zero))
+
+  -- so stores 1 to 3 are spared
+  pub journals_same : (a c : Files) → OnlyJournals a c → SameStores a c
+  journals_same a c step n other = step n (λ zero. absurd (other zero))
+
+  pub journals_spare : (old new : D) → ChangesJournals disk old new → SparesStores disk old new
+  journals_spare old new changes = leaves_by disk OnlyJournals SameStores journals_same old new changes
+
+  pub stores_then : (old mid new : D) → SparesStores disk old mid → SparesStores disk mid new → SparesStores disk old new
+  stores_then old mid new one two = leaves_then disk SameStores (λ a b c first second n other. second n other ∙ first n other) old mid new one two
+
+  -- the file `adopt` is of store 0
+  pub marks_spare : (old new : D) → Marks disk old new → SparesStores disk old new
+  marks_spare old new marks = leaves_by disk LeavesOthers SameStores (λ a b step n other. step n (λ is. other (ap (λ (m : Name). m.0) is))) old new marks
 
 -- STORES THAT MAY BE CHANGED STILL
 

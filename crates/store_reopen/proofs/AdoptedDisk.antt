@@ -21,9 +21,9 @@ use Rattle.tier_store.specs.Stores.{Stores, list_at, tier}
 use Rattle.tier_store.specs.declared.store.TierStore.{TierStore}
 use Rattle.tier_store.proofs.Beside.{in_out}
 use Rattle.tier_store.proofs.Places.{manifest_of, within_three}
-use Rattle.store_reopen.specs.Adoption.{Adopts, AdoptsFrom, HasAdopted, IsUnlisted, NoneFoundOpened, OpensStage}
+use Rattle.store_reopen.specs.Adoption.{Adopts, AdoptsFrom, HasAdopted, IsMarked, IsMarkedOf, IsUnlisted, NoneFoundOpened, OpensStage}
 use Rattle.store_reopen.specs.Following.{Follows, HasAdoptedOf, LeavesOff, NoneUnlistedOpened}
-use Rattle.store_reopen.specs.Loading.{KeepsSaid}
+use Rattle.store_reopen.specs.Loading.{KeepsSaid, StillSay}
 use Rattle.store_reopen.specs.Marking.{LeavesOthers, Marks}
 use Rattle.store_reopen.specs.Reopen.{HasLoaded, HoldsEither, IsUnopened, Opens, OpensEither, Reopens, SameStores, SparesStores, StillHolds, lists_of, loaded}
 use Rattle.store_reopen.specs.Steps.{EndsSteps, MakesSteps, Step, StopsWithin, made_by, stage}
@@ -31,6 +31,7 @@ use Rattle.store_reopen.specs.Verdict.{AreSaid, IsWhole}
 use Rattle.store_reopen.specs.declared.adopted.Adopted.{Adopted}
 use Rattle.store_reopen.proofs.HandedBack.{doubt_opens, has_opens, open_unopened}
 use Rattle.store_reopen.proofs.Having.{listed_at}
+use Rattle.store_reopen.proofs.Marked.{loaded_marked}
 use Rattle.store_reopen.proofs.Marking.{has_marked, marked_all_in, marked_holds}
 use Rattle.store_reopen.proofs.Stages.{whole_stage}
 
@@ -86,8 +87,8 @@ module _ {D R : Type 0} (disk : Ghosts D R) (gs : List Granularity) (old mid new
 -- THE WHOLE
 
 -- an opening that came to nothing more
-pub only_opens : {D R : Type 0} (disk : Ghosts D R) (gs : List Granularity) (old new : D) → Reopens disk gs old new → Adopts disk gs old new
-only_opens {D} {R} disk gs old new reopens = record { only = λ not. reopens; makes = λ before after opens. inl reopens; elsewhere = reopens.elsewhere; stores = reopens.stores; unopened = reopens.unopened }
+pub only_opens : {D R : Type 0} (disk : Ghosts D R) (gs : List Granularity) (old new : D) → Reopens disk gs old new → ((before after : Stores) → OpensEither gs (disk.past old) before after → Passes (IsMarkedOf gs (disk.files old) before after) (disk.past old) (disk.past new)) → Adopts disk gs old new
+only_opens {D} {R} disk gs old new reopens marked = record { only = λ not. reopens; makes = λ before after opens. inl reopens; marked = marked; elsewhere = reopens.elsewhere; stores = reopens.stores; unopened = reopens.unopened }
 
 module _ {D R : Type 0} (disk : Ghosts D R) (gs : List Granularity) (old mid new : D) (c : CatalogueState) (ms : List ManifestState) (c₁ : CatalogueState) (m₁ : List ManifestState) (told : IsTrue disk.tells) (same : granularities ms ≡ gs) (begun : Reopens disk gs old mid) (left : MayLeave (disk.past new) (disk.files new)) where
   -- from what was held before the load or after it to a stage of the steps
@@ -120,16 +121,22 @@ module _ {D R : Type 0} (disk : Ghosts D R) (gs : List Granularity) (old mid new
 
   -- an adoption that was done, or left
   module _ (whole_image : IsWhole gs (disk.files old)) (loads : (before after : Stores) → OpensEither gs (disk.past old) before after → HasLoaded disk gs old c ms mid before after) (some : Stores) (has : Has disk.tells (loaded disk c ms mid) some) (spares : SparesStores disk mid new) where
+    marked_of : Passes (StillSay gs) (disk.past old) (disk.past mid) → ((held : Stores) → Has disk.tells (loaded disk c ms mid) held → Passes (IsMarked gs (disk.files old) held) (disk.past mid) (disk.past new))
+        → (before after : Stores) → OpensEither gs (disk.past old) before after → Passes (IsMarkedOf gs (disk.files old) before after) (disk.past old) (disk.past new)
+    marked_of passes marks before after opens =
+        let l = loads before after opens in loaded_marked gs (disk.files old) (disk.past old) (disk.past mid) (disk.past new) before after l.held opens passes l.either (marks l.held l.has)
+
     stores_passed : Passes SameStores (disk.past old) (disk.past new)
     stores_passed = passes_then SameStores SameStores (disk.past old) (disk.past mid) (disk.past new) begun.stores spares.any_moment (λ a b c was one now two n other. two n other ∙ one n other)
 
     stores_now : SameStores (disk.files old) (disk.files new)
     stores_now n other = spares.now n other ∙ begun.elsewhere n other
 
-    pub done_adopts : ((held : Stores) → Has disk.tells (loaded disk c ms mid) held → Follows disk true true gs (disk.files old) held c ms mid c₁ m₁ new) → Adopts disk gs old new
-    done_adopts follows = record {
+    pub done_adopts : ((held : Stores) → Has disk.tells (loaded disk c ms mid) held → Follows disk true true gs (disk.files old) held c ms mid c₁ m₁ new) → Passes (StillSay gs) (disk.past old) (disk.past mid) → ((held : Stores) → Has disk.tells (loaded disk c ms mid) held → Passes (IsMarked gs (disk.files old) held) (disk.past mid) (disk.past new)) → Adopts disk gs old new
+    done_adopts follows passes marks = record {
       only = λ not. absurd (not whole_image);
       makes = λ before after opens. let l = loads before after opens in inr (true, adopts_from true true before after opens l (follows l.held l.has));
+      marked = marked_of passes marks;
       elsewhere = stores_now;
       stores = stores_passed;
       unopened = let f = follows some has in ends_unopened gs disk.tells told (loaded disk c₁ m₁ new) (f.makes.granularity ∙ same) f.steps some true left (f.makes.ends some has);
@@ -138,10 +145,11 @@ module _ {D R : Type 0} (disk : Ghosts D R) (gs : List Granularity) (old mid new
     marked_unopened : Marks disk mid new → IsUnopened (disk.files new) (disk.opened new)
     marked_unopened marks = open_unopened disk.tells (loaded disk c ms new) some some told left (inl (has_marked disk c ms mid new (λ t. marks) some has))
 
-    pub left_adopts : ((held : Stores) → Has disk.tells (loaded disk c ms mid) held → LeavesOff disk gs (disk.files old) held c ms mid c₁ m₁ new) → Adopts disk gs old new
-    left_adopts leaves = record {
+    pub left_adopts : ((held : Stores) → Has disk.tells (loaded disk c ms mid) held → LeavesOff disk gs (disk.files old) held c ms mid c₁ m₁ new) → Passes (StillSay gs) (disk.past old) (disk.past mid) → ((held : Stores) → Has disk.tells (loaded disk c ms mid) held → Passes (IsMarked gs (disk.files old) held) (disk.past mid) (disk.past new)) → Adopts disk gs old new
+    left_adopts leaves passes marks = record {
       only = λ not. absurd (not whole_image);
       makes = λ before after opens. let l = loads before after opens in by before after opens l (leaves l.held l.has);
+      marked = marked_of passes marks;
       elsewhere = stores_now;
       stores = stores_passed;
       unopened = elim (leaves some has) [

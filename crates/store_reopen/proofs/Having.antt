@@ -256,7 +256,7 @@ list_step : (gs : List Granularity) (a c : Files) (i : ℕ) (g : Granularity) �
 list_step gs a c i g here step = subst (λ (h : Granularity). StillSays (Folds h) (manifest_name (i + 1)) a c) (is_at gs i g here) (step.journals (Manifest i))
 
 -- an image goes on to hold what it held
-still_one : (gs : List Granularity) (a c : Files) → StillSay gs a c → StillHolds gs a c
+pub still_one : (gs : List Granularity) (a c : Files) → StillSay gs a c → StillHolds gs a c
 still_one gs a c step held holds i g here =
     let was = holds i g here in
     record {

@@ -58,12 +58,13 @@ no_journal n j other own = other (own_store (name_of j) n own ∙ of_zero j)
 -- ONE CALL AFTER ANOTHER
 
 still_none : (gs : List Granularity) (a : Files) → StillSay gs a a
-still_none gs a = record { journals = λ j value. (λ says. says, λ says. says); elsewhere = λ n other. refl }
+still_none gs a = record { journals = λ j value. (λ says. says, λ says. says); elsewhere = λ n other. refl; others = λ n apart. refl }
 
 still_then : (gs : List Granularity) (a b c : Files) → StillSay gs a b → StillSay gs b c → StillSay gs a c
 still_then gs a b c one two = record {
   journals = λ j value. (λ says. (two.journals j value).0 ((one.journals j value).0 says), λ says. (one.journals j value).1 ((two.journals j value).1 says));
   elsewhere = λ n other. two.elsewhere n other ∙ one.elsewhere n other;
+  others = λ n apart. two.others n apart ∙ one.others n apart;
 }
 
 pub kept_then : (gs : List Granularity) (f₀ : Files) (o₀ : Name → ℕ) (p₀ : Past) (f₁ : Files) (o₁ : Name → ℕ) (p₁ : Past) (f₂ : Files) (o₂ : Name → ℕ) (p₂ : Past) → KeepsSaid gs f₀ o₀ p₀ f₁ o₁ p₁ → KeepsSaid gs f₁ o₁ p₁ f₂ o₂ p₂ → KeepsSaid gs f₀ o₀ p₀ f₂ o₂ p₂
@@ -121,6 +122,7 @@ kept_load gs j files later opened after old new load = record {
   passes = passes_weaker (AtOwn (name_of j) (StillSays (Means gs j) (name_of j))) (StillSay gs) old new load.passes (λ a c left step. record {
     journals = λ i. still i a c step (journal_cases i j);
     elsewhere = λ n other. step.elsewhere n (no_journal n j other);
+    others = λ n apart. step.elsewhere n (apart j);
   });
   elsewhere = λ n other. load.others n (no_journal n j other);
   said = λ i. goes i (journal_cases i j);

@@ -11,6 +11,7 @@ pub mod Keeping
 pub mod Leaving
 pub mod Looking
 pub mod Manifests
+pub mod Marked
 pub mod Marking
 pub mod OneJournal
 pub mod Paths

@@ -22,17 +22,17 @@ use Rattle.store_reopen.proofs.Sparing.{AreSpared, has_spared, holds_spared, in_
 
 -- IT IS NO OTHER FILE
 
-abbrev IsOther : Name → Type 0
+abbrev pub IsOther : Name → Type 0
 IsOther n = n ≢ adoption_name
 
 other_kept : (a c : Files) (n : Name) → LeavesOthers a c → IsOther n → c n ≡ a n
 other_kept a c n step apart = step n apart
 
-catalogue_apart : (n : Name) → IsOwn catalogue_name n → IsOther n
+pub catalogue_apart : (n : Name) → IsOwn catalogue_name n → IsOther n
 catalogue_apart n own is =
     own_apart catalogue_name adoption_name n (inr (0, omega arith, omega arith, λ same. let first : get_or catalogue_name.1 0 0 ≡ get_or adoption_name.1 0 0 = same in absurd (omega (arith, first)))) own (inr (0, omega arith, is ∙ sym (first_generation adoption_name)))
 
-manifest_apart : (store : ℕ) (n : Name) → IsOwn (manifest_name store) n → IsOther n
+pub manifest_apart : (store : ℕ) (n : Name) → IsOwn (manifest_name store) n → IsOther n
 manifest_apart store n own is =
     own_apart (manifest_name store) adoption_name n (inr (0, omega arith, omega arith, λ same. let first : get_or (manifest_name store).1 0 0 ≡ get_or adoption_name.1 0 0 = same in absurd (omega (arith, first)))) own (inr (0, omega arith, is ∙ sym (first_generation adoption_name)))
 

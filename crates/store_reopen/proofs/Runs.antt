@@ -5,11 +5,9 @@ use Rattle.pv_catalog.specs.Catalogue.{CatalogueState}
 use Rattle.store_manifest.specs.Manifest.{ManifestState}
 use Rattle.tier_store.specs.Change.{Has}
 use Rattle.tier_store.specs.Stores.{Stores}
-use Rattle.store_reopen.specs.Reopen.{SparesStores, loaded}
+use Rattle.store_reopen.specs.Reopen.{loaded}
 use Rattle.store_reopen.specs.Runs.{Goes, Rule, Stops}
 use Rattle.store_reopen.specs.Steps.{Step, made_by}
-use Rattle.disk_model.proofs.Passing.{passes_none}
-use Rattle.store_reopen.proofs.Adding.{spares_read}
 use Rattle.store_reopen.proofs.Stages.{steps_then}
 
 module _ {D R : Type 0} (disk : Ghosts D R) (c₀ : CatalogueState) (ms₀ : List ManifestState) (d₀ : D) (c₁ : CatalogueState) (ms₁ : List ManifestState) (d₁ : D) where
@@ -35,10 +33,6 @@ module _ {D R : Type 0} (disk : Ghosts D R) (c₀ : CatalogueState) (ms₀ : Lis
   -- what is left may be less
   pub goes_by : (rule left less : Rule) → Goes disk rule left c₀ ms₀ d₀ c₁ ms₁ d₁ → ((whole : Bool) (more : List Step) → less whole more → left whole more) → Goes disk rule less c₀ ms₀ d₀ c₁ ms₁ d₁
   goes_by rule left less goes by = record { steps = goes.steps; makes = goes.makes; by = λ whole more rest. goes.by whole more (by whole more rest) }
-
--- nothing was changed
-pub spares_none : {D R : Type 0} (disk : Ghosts D R) (d : D) → SparesStores disk d d
-spares_none disk d = spares_read disk d d refl refl (passes_none (λ a b. b ≡ a) (disk.past d) (λ a left. refl))
 
 -- ITEMS OF LISTS
 

@@ -1,5 +1,6 @@
 -- The rule of an adoption: which files that no manifest lists are listed where they stand, and which variables get rows for them.
-use Rattle.std.specs.Prelude.{◌≡◌, ◌≢◌, ◌⊎◌, ◌≤◌, ◌<◌, ◌+◌, ◌*◌, ◌-◌, ◌/◌, ◌%◌, ◌^◌, ℕ, suc, Bool, true, false, List, [], ◌∷◌, ◌++◌, All, Contains, Option, None, Some, filter, length, map, min, nat_lt, Result, Ok, Err, slice_get, take}
+use Rattle.std.specs.Prelude.{◌≡◌, ◌≢◌, ◌⊎◌, ◌≤◌, ◌<◌, ◌+◌, ◌*◌, ◌-◌, ◌/◌, ◌%◌, ◌^◌, ℕ, suc, Bool, true, false, List, [], ◌∷◌, ◌++◌}
+use Rattle.std.specs.Prelude.{All, Contains, Option, None, Some, filter, length, map, min, nat_lt, Result, Ok, Err, slice_get, take}
 use Rattle.std.specs.List.{AllZip, flat_map, sum_by}
 use Rattle.disk_model.specs.Files.{Name, Files, Lists as HasNames}
 use Rattle.disk_model.specs.Past.{Past, Passes}
@@ -29,6 +30,7 @@ use Rattle.tier_store.specs.declared.store.TierStore.{TierStore}
 use Rattle.store_reopen.specs.Loading.{granularity_at}
 use Rattle.store_reopen.specs.Reopen.{HoldsEither, IsUnopened, Opens, OpensEither, Reopens, SameStores, disk_in}
 use Rattle.store_reopen.specs.Steps.{Step, NewRow, Lists, made_by, stage}
+use Rattle.store_reopen.specs.Strays.{adoption_name}
 use Rattle.store_reopen.specs.Verdict.{IsWhole}
 use Rattle.store_reopen.specs.declared.adopted.Adopted.{Adopted}
 use Rattle.store_reopen.specs.declared.adopted.AdoptErr.{AdoptErr}
@@ -54,8 +56,10 @@ IsFoundAs g image n (Some c) = IsCandidate g image n c
 -- of these names of a store just those that aren't listed, in their order, each with the candidate that its file is
 pub data Finds (g : Granularity) (image : Files) (listing : Listing) (place : ℕ) : List Name → List Unlisted → Type 0 where
   done : Finds g image listing place [] []
-  listed : {n : Name} {ns : List Name} {xs : List Unlisted} → (IsUnlisted listing n → ⊥) → Finds g image listing place ns xs → Finds g image listing place (n ∷ ns) xs
-  unlisted : {n : Name} {ns : List Name} {xs : List Unlisted} {o : Option Candidate} → IsUnlisted listing n → IsFoundAs g image n o → Finds g image listing place ns xs
+  listed : {n : Name} {ns : List Name} {xs : List Unlisted} → (IsUnlisted listing n → ⊥) → Finds g image listing place ns xs
+      → Finds g image listing place (n ∷ ns) xs
+  unlisted : {n : Name} {ns : List Name} {xs : List Unlisted} {o : Option Candidate} → IsUnlisted listing n → IsFoundAs g image n o
+      → Finds g image listing place ns xs
       → Finds g image listing place (n ∷ ns) (record { place = place; file = n; candidate = o } ∷ xs)
 
 -- all unlisted files of a store, in the order of their names
@@ -93,13 +97,17 @@ IsFree rows c = (e : RegisterErr) → Refuses rows c.name e → ⊥
 pub data GetRows (whole : Bool) : List Row → List (List ℕ) → List Unlisted → List Step → Type 0 where
   done : {rows : List Row} {long : List (List ℕ)} → GetRows whole rows long [] []
   stopped : {rows : List Row} {long : List (List ℕ)} {xs : List Unlisted} → whole ≡ false → GetRows whole rows long xs []
-  gets : {rows : List Row} {long : List (List ℕ)} {x : Unlisted} {c : Candidate} {xs : List Unlisted} {steps : List Step} → x.candidate ≡ Some c → (Contains long c.name → ⊥) → IsFree rows c → IsShort rows c
+  gets : {rows : List Row} {long : List (List ℕ)} {x : Unlisted} {c : Candidate} {xs : List Unlisted} {steps : List Step} → x.candidate ≡ Some c
+      → (Contains long c.name → ⊥) → IsFree rows c → IsShort rows c
       → GetRows whole (rows ++ registered rows c.name (about_of c) ∷ []) long xs steps → GetRows whole rows long (x ∷ xs) (NewRow c.name (about_of c) ∷ steps)
-  refused : {rows : List Row} {long : List (List ℕ)} {x : Unlisted} {c : Candidate} {xs : List Unlisted} {steps : List Step} → x.candidate ≡ Some c → (e : RegisterErr) → Refuses rows c.name e
+  refused : {rows : List Row} {long : List (List ℕ)} {x : Unlisted} {c : Candidate} {xs : List Unlisted} {steps : List Step} → x.candidate ≡ Some c
+      → (e : RegisterErr) → Refuses rows c.name e
       → GetRows whole rows long xs steps → GetRows whole rows long (x ∷ xs) steps
-  too_long : {rows : List Row} {long : List (List ℕ)} {x : Unlisted} {c : Candidate} {xs : List Unlisted} {steps : List Step} → x.candidate ≡ Some c → (IsShort rows c → ⊥)
+  too_long : {rows : List Row} {long : List (List ℕ)} {x : Unlisted} {c : Candidate} {xs : List Unlisted} {steps : List Step} → x.candidate ≡ Some c
+      → (IsShort rows c → ⊥)
       → GetRows whole rows (long ++ c.name ∷ []) xs steps → GetRows whole rows long (x ∷ xs) steps
-  kept : {rows : List Row} {long : List (List ℕ)} {x : Unlisted} {c : Candidate} {xs : List Unlisted} {steps : List Step} → x.candidate ≡ Some c → Contains long c.name
+  kept : {rows : List Row} {long : List (List ℕ)} {x : Unlisted} {c : Candidate} {xs : List Unlisted} {steps : List Step} → x.candidate ≡ Some c
+      → Contains long c.name
       → GetRows whole rows long xs steps → GetRows whole rows long (x ∷ xs) steps
   other : {rows : List Row} {long : List (List ℕ)} {x : Unlisted} {xs : List Unlisted} {steps : List Step} → x.candidate ≡ None
       → GetRows whole rows long xs steps → GetRows whole rows long (x ∷ xs) steps
@@ -123,12 +131,22 @@ pub record IsTakenBy (held : Stores) (rows : List Row) (series place : ℕ) (x :
 -- of these files just those that a row takes of the store at a place, in their order
 pub data Takes (held : Stores) (rows : List Row) (series place : ℕ) : List Unlisted → List Taken → Type 0 where
   done : Takes held rows series place [] []
-  takes : {x : Unlisted} {c : Candidate} {xs : List Unlisted} {ys : List Taken} → IsTakenBy held rows series place x c → Takes held rows series place xs ys → Takes held rows series place (x ∷ xs) (record { file = x.file; candidate = c } ∷ ys)
-  other : {x : Unlisted} {xs : List Unlisted} {ys : List Taken} → ((c : Candidate) → IsTakenBy held rows series place x c → ⊥) → Takes held rows series place xs ys → Takes held rows series place (x ∷ xs) ys
+  takes : {x : Unlisted} {c : Candidate} {xs : List Unlisted} {ys : List Taken} → IsTakenBy held rows series place x c
+      → Takes held rows series place xs ys → Takes held rows series place (x ∷ xs) (record { file = x.file; candidate = c } ∷ ys)
+  other : {x : Unlisted} {xs : List Unlisted} {ys : List Taken} → ((c : Candidate) → IsTakenBy held rows series place x c → ⊥)
+      → Takes held rows series place xs ys → Takes held rows series place (x ∷ xs) ys
 
 -- the entry by which a row lists the candidate
 abbrev pub entry_as : ℕ → Candidate → Entry
-entry_as series c = record { series = series; part = c.part; len = c.front.len; head_len = c.front.head_len; first = c.front.first; last = c.front.last; count = c.front.count }
+entry_as series c = record {
+  series = series;
+  part = c.part;
+  len = c.front.len;
+  head_len = c.front.head_len;
+  first = c.front.first;
+  last = c.front.last;
+  count = c.front.count;
+}
 
 -- the listed file has the candidate's front, as the image has it
 pub record IsListedAs (image : Files) (series : ℕ) (x : Taken) (f : Filed) : Type 0 where
@@ -154,8 +172,10 @@ place_of turn = 2 - turn % 3
 pub data TakesTurns (image : Files) (held : Stores) (rows : List Row) (xs : List Unlisted) (whole : Bool) : ℕ → ℕ → List Step → Type 0 where
   done : {turn : ℕ} → TakesTurns image held rows xs whole turn 0 []
   stopped : {turn left : ℕ} → whole ≡ false → TakesTurns image held rows xs whole turn left []
-  nothing : {turn left : ℕ} {steps : List Step} → ListsAll image held rows xs (row_of turn) (place_of turn) [] → TakesTurns image held rows xs whole (suc turn) left steps → TakesTurns image held rows xs whole turn (suc left) steps
-  lists : {turn left : ℕ} {f : Filed} {files : List Filed} {steps : List Step} → ListsAll image held rows xs (row_of turn) (place_of turn) (f ∷ files) → TakesTurns image held rows xs whole (suc turn) left steps
+  nothing : {turn left : ℕ} {steps : List Step} → ListsAll image held rows xs (row_of turn) (place_of turn) []
+      → TakesTurns image held rows xs whole (suc turn) left steps → TakesTurns image held rows xs whole turn (suc left) steps
+  lists : {turn left : ℕ} {f : Filed} {files : List Filed} {steps : List Step} → ListsAll image held rows xs (row_of turn) (place_of turn) (f ∷ files)
+      → TakesTurns image held rows xs whole (suc turn) left steps
       → TakesTurns image held rows xs whole turn (suc left) (Lists (place_of turn) (f ∷ files) ∷ steps)
 
 -- THE RULE
@@ -202,7 +222,8 @@ NoneFiner config = (i : ℕ) → granularity_at config.granularity i ≢ FiveMin
 
 -- no file of stores 1 to 3 that isn't listed was opened
 abbrev pub NoneFoundOpened : List Granularity → Files → (Name → ℕ) → Type 0
-NoneFoundOpened gs image opened = (held : Stores) → HoldsAll gs image held → (i : ℕ) (n : Name) → i < 3 → n.0 ≡ i + 1 → IsUnlisted (listing_of (tier i held)) n → opened n ≡ 0
+NoneFoundOpened gs image opened = (held : Stores) → HoldsAll gs image held → (i : ℕ) (n : Name) → i < 3 → n.0 ≡ i + 1
+    → IsUnlisted (listing_of (tier i held)) n → opened n ≡ 0
 
 -- a crash leaves what was held with so many of the steps made, or it isn't known whether the next one was too
 abbrev pub OpensStage : List Granularity → List Step → Stores → Past → Type 0
@@ -218,16 +239,33 @@ pub record AdoptsFrom (whole : Bool) {D R : Type 0} (disk : Ghosts D R) (gs : Li
   pub any_moment : Passes (λ a b. HoldsEither gs before after b ⊎ ((k : ℕ) × HoldsAll gs b (stage steps held k))) (disk.past old) (disk.past new)
   pub opens : OpensStage gs steps held (disk.past new)
 
+-- an image holds all that the rule makes of what another one holds
+abbrev pub HoldsAdopted : List Granularity → Files → Stores → Files → Type 0
+HoldsAdopted gs image held b = (steps : List Step) × IsAdoption true gs image held steps × HoldsAll gs b (made_by steps held)
+
+-- Without the file `adopt` an image holds what was held before the rule's first step, where none had the file when that was so, or all that the rule
+-- makes: so no opening removes what an adoption is still to list, of this call or of one before it.
+abbrev pub IsMarked : List Granularity → Files → Stores → Files → Files → Type 0
+IsMarked gs image held a b = b adoption_name ≡ None → ((a adoption_name ≡ None) × HoldsAll gs b held) ⊎ HoldsAdopted gs image held b
+
+abbrev pub IsMarkedOf : List Granularity → Files → Stores → Stores → Files → Files → Type 0
+IsMarkedOf gs image before after a b = b adoption_name ≡ None → ((a adoption_name ≡ None) × HoldsEither gs before after b)
+    ⊎ ((held : Stores) × IsEither before after held × HoldsAdopted gs image held b)
+
 -- What a call makes of a disk that tells its files, whatever it answers: it opens it, or adopts too. No file of stores 1 to 3 changes.
 pub record Adopts {D R : Type 0} (disk : Ghosts D R) (gs : List Granularity) (old new : D) : Type 0 where
   pub only : (IsWhole gs (disk.files old) → ⊥) → Reopens disk gs old new
-  pub makes : (before after : Stores) → OpensEither gs (disk.past old) before after → Reopens disk gs old new ⊎ ((whole : Bool) × AdoptsFrom whole disk gs old new before after)
+  pub makes : (before after : Stores) → OpensEither gs (disk.past old) before after
+      → Reopens disk gs old new ⊎ ((whole : Bool) × AdoptsFrom whole disk gs old new before after)
+  pub marked : (before after : Stores) → OpensEither gs (disk.past old) before after
+      → Passes (IsMarkedOf gs (disk.files old) before after) (disk.past old) (disk.past new)
   pub elsewhere : SameStores (disk.files old) (disk.files new)
   pub stores : Passes SameStores (disk.past old) (disk.past new)
   pub unopened : IsUnopened (disk.files new) (disk.opened new)
 
 -- where it is done: all steps are made, and these are their numbers
-pub record HasAdopted {D R : Type 0} (disk : Ghosts D R) (gs : List Granularity) (old : D) (store : TierStore D R) (told : Adopted) (before after : Stores) : Type 0 where
+pub record HasAdopted {D R : Type 0} (disk : Ghosts D R) (gs : List Granularity) (old : D) (store : TierStore D R) (told : Adopted)
+    (before after : Stores) : Type 0 where
   pub adopts : AdoptsFrom true disk gs old store.disk before after
   pub has : Has disk.tells (seen disk store) (made_by adopts.steps adopts.held)
   pub counts : Counts (disk.files old) adopts.held adopts.steps adopts.rule.unlisted told

@@ -41,7 +41,8 @@ commit_of place [] = []
 commit_of place (f ∷ files) = Lists place (f ∷ files) ∷ []
 
 -- Each of the files is listed with its front, in one step: it is made, or where that isn't `done`, it may be.
-pub record ListsTaken {D R : Type 0} (disk : Ghosts D R) (done : Bool) (catalogue : CatalogueState) (place series : ℕ) (taken : List Taken) (before : List ManifestState) (old : D) (after : List ManifestState) (new : D) : Type 0 where
+pub record ListsTaken {D R : Type 0} (disk : Ghosts D R) (done : Bool) (catalogue : CatalogueState) (place series : ℕ) (taken : List Taken)
+    (before : List ManifestState) (old : D) (after : List ManifestState) (new : D) : Type 0 where
   pub files : List Filed
   pub listed : AllZip (IsListedAs (disk.files old) series) taken files
   pub makes : MakesSteps done disk.tells (commit_of place files) (loaded disk catalogue before old) (loaded disk catalogue after new)
@@ -62,10 +63,12 @@ AreTurns held rows unlisted turns = AtEachTurn (λ turn taken. Takes held rows (
 
 -- they may be listed, in stores of these granularities
 abbrev pub AllMayList : List Granularity → Files → List Row → List (List Taken) → Type 0
-AllMayList gs image rows turns = AtEachTurn (λ turn taken. (g : Granularity) → slice_get gs (place_of turn) ≡ Some g → All (MayList g image rows (row_of turn) (place_of turn)) taken) turns
+AllMayList gs image rows turns = AtEachTurn (λ turn taken. (g : Granularity) → slice_get gs (place_of turn) ≡ Some g
+    → All (MayList g image rows (row_of turn) (place_of turn)) taken) turns
 
 abbrev pub AllHaveParts : List Granularity → List (List Taken) → Type 0
-AllHaveParts gs turns = AtEachTurn (λ turn taken. (g : Granularity) → slice_get gs (place_of turn) ≡ Some g → All (λ (x : Taken). IsPart g x.candidate.part) taken) turns
+AllHaveParts gs turns = AtEachTurn (λ turn taken. (g : Granularity) → slice_get gs (place_of turn) ≡ Some g
+    → All (λ (x : Taken). IsPart g x.candidate.part) taken) turns
 
 abbrev pub AllUnopened : (Name → ℕ) → List (List Taken) → Type 0
 AllUnopened opened turns = AtEachTurn (λ turn taken. AreUnopened opened taken) turns

@@ -4,6 +4,7 @@ use Rattle.partition_names.specs.declared.granularity.Granularity.{Granularity}
 use Rattle.partition_names.specs.declared.granularity.Granularity.TheVariants.{Hour}
 use Rattle.disk_model.specs.Files.{Name, Files}
 use Rattle.disk_model.specs.Past.{Past, Passes}
+use Rattle.gate_journal.specs.Generations.{IsOwn}
 use Rattle.gate_journal.specs.Kept.{Says, StillSays}
 use Rattle.store_manifest.specs.declared.entry.Entry.{Entry}
 use Rattle.store_manifest.specs.Batches.{Folds}
@@ -36,10 +37,11 @@ abbrev pub Means : List Granularity → (j : Journal) → List (List ℕ) → Va
 Means gs Catalogue = IsCatalogue
 Means gs (Manifest i) = Folds (granularity_at gs i)
 
--- each journal of an image still says what it said, and nothing else, and every other store is as it was
+-- each journal of an image still says what it said, and nothing else, and every file that is none of theirs is as it was
 pub record StillSay (gs : List Granularity) (old new : Files) : Type 0 where
   pub journals : (j : Journal) → StillSays (Means gs j) (name_of j) old new
   pub elsewhere : (n : Name) → n.0 ≢ 0 → new n ≡ old n
+  pub others : (n : Name) → ((j : Journal) → IsOwn (name_of j) n → ⊥) → new n ≡ old n
 
 -- Whatever a crash leaves, the journals say what they said; reads give so too, and nothing more. The other stores are as they were.
 pub record KeepsSaid (gs : List Granularity) (files : Files) (opened : Name → ℕ) (old : Past) (later : Files) (after : Name → ℕ) (new : Past) : Type 0 where

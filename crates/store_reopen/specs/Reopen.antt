@@ -26,7 +26,7 @@ use Rattle.store_reopen.specs.declared.error.ReopenErr.TheVariants.{DiskFault, D
 use Rattle.store_reopen.specs.Leaving.{Leaves}
 use Rattle.store_reopen.specs.Loading.{granularity_at}
 use Rattle.store_reopen.specs.Verdict.{Listings, HasRow, IsWhole}
-use Rattle.store_reopen.specs.Strays.{AreGone, IsStray, SweptStores}
+use Rattle.store_reopen.specs.Strays.{AreGone, IsStray, SweptStores, adoption_name}
 
 -- the granularities of stores 1 to 3
 abbrev pub stores_of : ConfigState → List Granularity
@@ -93,6 +93,14 @@ SameStores old new = (n : Name) → n.0 ≢ 0 → new n ≡ old n
 -- no file of these stores changes, and none is opened further
 abbrev pub SparesStores : {D R : Type 0} → Ghosts D R → D → D → Type 0
 SparesStores {D} {R} disk old new = Leaves disk SameStores old new
+
+-- Of all files those of journals alone may change: each file of stores 1 to 3 is as it was, and so is the file `adopt`.
+abbrev pub OnlyJournals : Files → Files → Type 0
+OnlyJournals old new = (n : Name) → (n.0 ≡ 0 → n ≡ adoption_name) → new n ≡ old n
+
+-- none but those of journals change, and none is opened further
+abbrev pub ChangesJournals : {D R : Type 0} → Ghosts D R → D → D → Type 0
+ChangesJournals {D} {R} disk old new = Leaves disk OnlyJournals old new
 
 -- What opening makes of a disk that tells its files, whatever it answers: each image goes on to hold what it held, at each moment, and
 -- the disk may be opened again. No store of partition files changes at any moment, also where it is damaged.

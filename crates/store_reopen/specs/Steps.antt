@@ -30,7 +30,8 @@ stage steps held k = made_by (take k steps) held
 
 -- so many were made, or it isn't known whether the next one was too
 abbrev pub StopsWithin : Bool → Seen → List Step → Stores → Type 0
-StopsWithin tells at steps held = (k : ℕ) × (Has tells at (stage steps held k) ⊎ ((k < length steps) × Doubts tells at (stage steps held k) (stage steps held (suc k))))
+StopsWithin tells at steps held = (k : ℕ) × (Has tells at (stage steps held k) ⊎ ((k < length steps)
+    × Doubts tells at (stage steps held k) (stage steps held (suc k))))
 
 abbrev pub EndsSteps : Bool → Bool → Seen → List Step → Stores → Type 0
 EndsSteps true tells at steps held = Has tells at (made_by steps held)
@@ -39,6 +40,7 @@ EndsSteps false tells at steps held = StopsWithin tells at steps held
 -- The steps were made, or a front of them. At each moment a crash leaves what was held with a front of them made.
 pub record MakesSteps (done tells : Bool) (steps : List Step) (old new : Seen) : Type 0 where
   pub ends : (held : Stores) → Has tells old held → EndsSteps done tells new steps held
-  pub any_moment : IsTrue tells → (held : Stores) → Has tells old held → Passes (λ a b. (k : ℕ) × HoldsAll (granularities old.manifests) b (stage steps held k)) old.past new.past
+  pub any_moment : IsTrue tells → (held : Stores) → Has tells old held
+      → Passes (λ a b. (k : ℕ) × HoldsAll (granularities old.manifests) b (stage steps held k)) old.past new.past
   pub granularity : granularities new.manifests ≡ granularities old.manifests
   pub faults : old.faults ≤ new.faults

@@ -25,14 +25,17 @@ pub record IsOfTurn (manifests : List ManifestState) (rows : List Row) (turn pla
 
 -- what a turn has is what it had, with the file where it takes it
 pub record TakesIn (manifests : List ManifestState) (rows : List Row) (turn : ℕ) (x : Unlisted) (old new : List Taken) : Type 0 where
-  pub takes : ((c : Candidate) × (x.candidate ≡ Some c) × IsOfTurn manifests rows turn x.place c × (new ≡ old ++ (record { file = x.file; candidate = c }) ∷ []))
+  pub takes : ((c : Candidate) × (x.candidate ≡ Some c) × IsOfTurn manifests rows turn x.place c
+      × (new ≡ old ++ (record { file = x.file; candidate = c }) ∷ []))
       ⊎ (((c : Candidate) → x.candidate ≡ Some c → IsOfTurn manifests rows turn x.place c → ⊥) × (new ≡ old))
 
 -- of these files just those that the turn takes, in their order
 pub data TakesOf (manifests : List ManifestState) (rows : List Row) (turn : ℕ) : List Unlisted → List Taken → Type 0 where
   done : TakesOf manifests rows turn [] []
-  takes : {x : Unlisted} {c : Candidate} {xs : List Unlisted} {ys : List Taken} → x.candidate ≡ Some c → IsOfTurn manifests rows turn x.place c → TakesOf manifests rows turn xs ys → TakesOf manifests rows turn (x ∷ xs) (record { file = x.file; candidate = c } ∷ ys)
-  other : {x : Unlisted} {xs : List Unlisted} {ys : List Taken} → ((c : Candidate) → x.candidate ≡ Some c → IsOfTurn manifests rows turn x.place c → ⊥) → TakesOf manifests rows turn xs ys → TakesOf manifests rows turn (x ∷ xs) ys
+  takes : {x : Unlisted} {c : Candidate} {xs : List Unlisted} {ys : List Taken} → x.candidate ≡ Some c → IsOfTurn manifests rows turn x.place c
+      → TakesOf manifests rows turn xs ys → TakesOf manifests rows turn (x ∷ xs) (record { file = x.file; candidate = c } ∷ ys)
+  other : {x : Unlisted} {xs : List Unlisted} {ys : List Taken} → ((c : Candidate) → x.candidate ≡ Some c → IsOfTurn manifests rows turn x.place c → ⊥)
+      → TakesOf manifests rows turn xs ys → TakesOf manifests rows turn (x ∷ xs) ys
 
 -- THE NUMBERS
 

@@ -2,15 +2,17 @@
 ghost use Rattle.std.specs.FinMap as map;
 ghost use Rattle.std.specs.Prelude.{◌≡◌, ◌≤◌, [], ℕ, List, Err, IfErr, IfOk, IsErrOf, IsOk, IsTrue, OnErr, OnOk, length};
 ghost use Rattle.disk_model.specs.Files.{Name, Files, Rose};
+ghost use Rattle.disk_model.specs.Past.{Passes};
 ghost use Rattle.disk_model.specs.declared.disk.DiskErr.TheVariants.{Fault};
 ghost use Rattle.partition_names.specs.declared.granularity.Granularity.{Granularity as GranularityValue};
 ghost use Rattle.tier_store.specs.Change.{Has};
 ghost use Rattle.tier_store.specs.Seen.{granularities, seen};
 ghost use Rattle.tier_store.specs.Stores.{Stores};
-ghost use Rattle.store_reopen.specs.Adoption.{Adopts, HasAdopted, NoneFiner, NoneFoundOpened, adopt_disk};
+ghost use Rattle.store_reopen.specs.Adoption.{Adopts, HasAdopted, IsMarked, NoneFiner, NoneFoundOpened, adopt_disk};
 ghost use Rattle.store_reopen.specs.Following.{FollowsAll, HasAdoptedOf, LeavesOff, NoneUnlistedOpened};
 ghost use Rattle.store_reopen.specs.Refusal.{IsTold};
-ghost use Rattle.store_reopen.specs.Reopen.{IsReady, IsUnopened, OpensEither, SameStores, SparesStores, loaded, stores_of};
+ghost use Rattle.store_reopen.specs.Reopen.{ChangesJournals, IsReady, IsUnopened, OpensEither, SameStores, SparesStores, loaded, stores_of};
+ghost use Rattle.store_reopen.specs.Strays.{IsGone, adoption_name};
 ghost use Rattle.store_reopen.specs.Verdict.{IsWhole, IsDamaged, Differs};
 ghost use Rattle.store_reopen.specs.declared.adopted.AdoptErr.TheVariants.{Reopen};
 ghost use Rattle.store_reopen.specs.declared.error.Refusal.TheVariants.{Disk as OfDisk};
@@ -41,8 +43,8 @@ use tier_store::TierStore;
 /// file, in the order of stores 3, 2, 1 and of the files' names. Then each row takes files of its type, of store 3, then 2, then 1, in one
 /// commit each; it takes none of a store where it lists a file there or in a store before it.
 ///
-/// While that is going on, store 0 has the file `adopt`, and no opening sweeps. So after a stop at any moment what was held is held, with
-/// a front of these steps made, and a second call makes the others. `DiskFault` comes only where the disk's count of faults rose in the
+/// While that is going on, store 0 has the file `adopt`, and no opening sweeps; at `Ok` it is gone. So after a stop at any moment what was
+/// held is held, with a front of these steps made, and a second call makes the others. `DiskFault` comes only where the disk's count of faults rose in the
 /// call; `Memory` alone may come at any time.
 pub fn adopt<D: Disk>(
     alloc: Global,
@@ -57,12 +59,14 @@ pub fn adopt<D: Disk>(
     ensures adopts { IsTrue D.tells → Adopts D.Disk (stores_of config.now) disk (adopt_disk result) }
     ensures adopted { IsTrue D.tells → (before after : Stores) → OpensEither (stores_of config.now) (D.past disk) before after
         → IfOk result (λ r. HasAdopted D.Disk (stores_of config.now) disk r.0 r.1 before after) }
+    ensures finished { IsTrue D.tells → IfOk result (λ r. IsGone (D.files r.0.disk) (D.past r.0.disk) adoption_name) }
     ensures ready { IfOk result (λ r. let now = seen D.Disk r.0 in IsReady (stores_of config.now) now.catalogue now.manifests) }
     ensures fresh { IfOk result (λ r. (r.0.limbo.items ≡ []) × (r.0.pinned ≡ map.empty)) }
     ensures settings { IfOk result (λ r. r.0.config ≡ config.now) }
 
     ensures whole { IsTrue D.tells → IsOk result → IsWhole (stores_of config.now) (D.files disk) }
-    ensures damaged { IsTrue D.tells → (d : D) (name : Name) (at : ℕ) → result ≡ Err (Reopen (Damaged d name at)) → IsDamaged (stores_of config.now) (D.files disk) name at }
+    ensures damaged { IsTrue D.tells → (d : D) (name : Name) (at : ℕ) → result ≡ Err (Reopen (Damaged d name at))
+        → IsDamaged (stores_of config.now) (D.files disk) name at }
     ensures differs { IsTrue D.tells → (d : D) (kept asked : GranularityValue) → result ≡ Err (Reopen (GranularityDiffers d kept asked))
         → Differs (stores_of config.now) (D.files disk) kept asked }
     ensures faults { D.faults disk ≤ D.faults (adopt_disk result) }
@@ -96,6 +100,7 @@ fn adopt_files<D: Disk>(
     ensures adopts { IsTrue D.tells → Adopts D.Disk (stores_of config.now) disk.old disk.new }
     ensures adopted { IsTrue D.tells → (before after : Stores) → OpensEither (stores_of config.now) (D.past disk.old) before after
         → IfOk result (λ r. HasAdoptedOf D.Disk (stores_of config.now) disk.old r.0 r.1.items disk.new r.2 before after) }
+    ensures finished { IsTrue D.tells → OnOk result (IsGone (D.files disk.new) (D.past disk.new) adoption_name) }
     ensures ready { IfOk result (λ r. IsReady (stores_of config.now) r.0 r.1.items) }
     ensures whole { IsTrue D.tells → IsOk result → IsWhole (stores_of config.now) (D.files disk.old) }
     ensures told { IsTrue D.tells → IfErr result (IsTold (stores_of config.now) (D.files disk.old)) }
@@ -117,10 +122,16 @@ fn adopt_loaded<D: Disk>(
     requires ready { (gs : List GranularityValue) × (length gs ≡ 3) × IsReady gs catalogue.old manifests.old.items }
     requires has { IsTrue D.tells → (held : Stores) × Has D.tells (loaded D.Disk catalogue.old manifests.old.items disk.old) held }
     requires unopened { IsTrue D.tells → NoneUnlistedOpened catalogue.old.rows manifests.old.items (D.opened disk.old) }
-    ensures follows { IsTrue D.tells → (gs : List GranularityValue) (image : Files) (held : Stores) → granularities manifests.old.items ≡ gs → SameStores image (D.files disk.old) → Has D.tells (loaded D.Disk catalogue.old manifests.old.items disk.old) held
+    ensures follows { IsTrue D.tells → (gs : List GranularityValue) (image : Files) (held : Stores) → granularities manifests.old.items ≡ gs
+        → SameStores image (D.files disk.old) → Has D.tells (loaded D.Disk catalogue.old manifests.old.items disk.old) held
         → IfOk result (FollowsAll D.Disk gs image held catalogue.old manifests.old.items disk.old catalogue.new manifests.new.items disk.new) }
-    ensures leaves_off { IsTrue D.tells → (gs : List GranularityValue) (image : Files) (held : Stores) → granularities manifests.old.items ≡ gs → SameStores image (D.files disk.old) → Has D.tells (loaded D.Disk catalogue.old manifests.old.items disk.old) held
+    ensures leaves_off { IsTrue D.tells → (gs : List GranularityValue) (image : Files) (held : Stores) → granularities manifests.old.items ≡ gs
+        → SameStores image (D.files disk.old) → Has D.tells (loaded D.Disk catalogue.old manifests.old.items disk.old) held
         → OnErr result (LeavesOff D.Disk gs image held catalogue.old manifests.old.items disk.old catalogue.new manifests.new.items disk.new) }
+    ensures marked { IsTrue D.tells → (gs : List GranularityValue) (image : Files) (held : Stores) → granularities manifests.old.items ≡ gs
+        → SameStores image (D.files disk.old) → Has D.tells (loaded D.Disk catalogue.old manifests.old.items disk.old) held
+        → Passes (IsMarked gs image held) (D.past disk.old) (D.past disk.new) }
+    ensures finished { IsTrue D.tells → OnOk result (IsGone (D.files disk.new) (D.past disk.new) adoption_name) }
     ensures ready { (gs : List GranularityValue) → IsReady gs catalogue.old manifests.old.items → OnOk result (IsReady gs catalogue.new manifests.new.items) }
     ensures spares { IsTrue D.tells → SparesStores D.Disk disk.old disk.new }
     ensures faults { D.faults disk.old ≤ D.faults disk.new }
@@ -142,12 +153,14 @@ fn adopt_found<D: Disk>(
     requires ready { (gs : List GranularityValue) × (length gs ≡ 3) × IsReady gs catalogue.old manifests.old.items }
     requires has { IsTrue D.tells → (held : Stores) × Has D.tells (loaded D.Disk catalogue.old manifests.old.items disk.old) held }
     requires unopened { IsTrue D.tells → NoneUnlistedOpened catalogue.old.rows manifests.old.items (D.opened disk.old) }
-    ensures follows { IsTrue D.tells → (gs : List GranularityValue) (image : Files) (held : Stores) → granularities manifests.old.items ≡ gs → SameStores image (D.files disk.old) → Has D.tells (loaded D.Disk catalogue.old manifests.old.items disk.old) held
+    ensures follows { IsTrue D.tells → (gs : List GranularityValue) (image : Files) (held : Stores) → granularities manifests.old.items ≡ gs
+        → SameStores image (D.files disk.old) → Has D.tells (loaded D.Disk catalogue.old manifests.old.items disk.old) held
         → IfOk result (FollowsAll D.Disk gs image held catalogue.old manifests.old.items disk.old catalogue.new manifests.new.items disk.new) }
-    ensures leaves_off { IsTrue D.tells → (gs : List GranularityValue) (image : Files) (held : Stores) → granularities manifests.old.items ≡ gs → SameStores image (D.files disk.old) → Has D.tells (loaded D.Disk catalogue.old manifests.old.items disk.old) held
+    ensures leaves_off { IsTrue D.tells → (gs : List GranularityValue) (image : Files) (held : Stores) → granularities manifests.old.items ≡ gs
+        → SameStores image (D.files disk.old) → Has D.tells (loaded D.Disk catalogue.old manifests.old.items disk.old) held
         → OnErr result (LeavesOff D.Disk gs image held catalogue.old manifests.old.items disk.old catalogue.new manifests.new.items disk.new) }
     ensures ready { (gs : List GranularityValue) → IsReady gs catalogue.old manifests.old.items → OnOk result (IsReady gs catalogue.new manifests.new.items) }
-    ensures spares { IsTrue D.tells → SparesStores D.Disk disk.old disk.new }
+    ensures spares { IsTrue D.tells → ChangesJournals D.Disk disk.old disk.new }
     ensures faults { D.faults disk.old ≤ D.faults disk.new }
     ensures cause { IsErrOf result DiskErr.Fault → Rose (D.faults disk.old) (D.faults disk.new) }
 {

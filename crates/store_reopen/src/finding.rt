@@ -1,7 +1,7 @@
 // The files of the stores that no manifest lists, and which of them may be listed.
 ghost use Rattle.std.specs.Prelude.{◌≡◌, ◌≤◌, ◌<◌, ◌+◌, ◌++◌, ◌↔◌, ℕ, List, All, IfOk, IfSome, IsErrOf, IsTrue, OnOk, Some, length, slice_get};
 ghost use Rattle.disk_model.specs.Files.{Name, Files, Rose};
-ghost use Rattle.found_files.specs.Reading.{IsOnlyRead};
+ghost use Rattle.found_files.specs.Reading.{OnlyReads};
 ghost use Rattle.pv_catalog.specs.Rows.{AreRows};
 ghost use Rattle.store_manifest.specs.Entries.{AreEntries};
 ghost use Rattle.store_manifest.specs.Manifest.{ManifestState};
@@ -48,7 +48,7 @@ pub(crate) fn find_unlisted<D: Disk>(
     requires of_rows { AtEach manifests.now (λ i m. All (HasRow catalogue.now.rows) m.entries) }
     ensures found { IsTrue D.tells → IfOk result (λ v. AreUnlistedOf (D.files disk.old) catalogue.now.rows manifests.now v.items) }
     ensures shape { IfOk result (λ v. All (IsOfPlace manifests.now) v.items) }
-    ensures read { IsOnlyRead D.tells (D.files disk.old) (D.opened disk.old) (D.past disk.old) (D.faults disk.old) (D.files disk.new) (D.opened disk.new) (D.past disk.new) (D.faults disk.new) }
+    ensures read { OnlyReads D.Disk disk.old disk.new }
     ensures cause { IsErrOf result DiskErr.Fault → Rose (D.faults disk.old) (D.faults disk.new) }
 {
     let mut unlisted = Vec::new(alloc);
@@ -71,9 +71,12 @@ fn find_in<D: Disk>(
     requires rows { AreRows catalogue.now.rows }
     requires entries { AreEntries manifest.now.granularity manifest.now.entries }
     requires of_rows { All (HasRow catalogue.now.rows) manifest.now.entries }
-    ensures found { IsTrue D.tells → OnOk result ((xs : List UnlistedValue) × (unlisted.new.items ≡ unlisted.old.items ++ xs) × AreUnlisted manifest.now.granularity (D.files disk.old) ((place + 1, catalogue.now.rows), manifest.now.entries) place xs) }
-    ensures shape { (ms : List ManifestState) → slice_get ms place ≡ Some manifest.now → All (IsOfPlace ms) unlisted.old.items → OnOk result (All (IsOfPlace ms) unlisted.new.items) }
-    ensures read { IsOnlyRead D.tells (D.files disk.old) (D.opened disk.old) (D.past disk.old) (D.faults disk.old) (D.files disk.new) (D.opened disk.new) (D.past disk.new) (D.faults disk.new) }
+    ensures found { IsTrue D.tells
+        → OnOk result ((xs : List UnlistedValue) × (unlisted.new.items ≡ unlisted.old.items ++ xs)
+        × AreUnlisted manifest.now.granularity (D.files disk.old) ((place + 1, catalogue.now.rows), manifest.now.entries) place xs) }
+    ensures shape { (ms : List ManifestState) → slice_get ms place ≡ Some manifest.now → All (IsOfPlace ms) unlisted.old.items
+        → OnOk result (All (IsOfPlace ms) unlisted.new.items) }
+    ensures read { OnlyReads D.Disk disk.old disk.new }
     ensures cause { IsErrOf result DiskErr.Fault → Rose (D.faults disk.old) (D.faults disk.new) }
 {
     let names = disk.names(place + 1)?;
@@ -103,9 +106,11 @@ fn look_at<D: Disk>(
     requires entries { AreEntries manifest.now.granularity manifest.now.entries }
     requires of_rows { All (HasRow catalogue.now.rows) manifest.now.entries }
     ensures found { IsTrue D.tells → All (λ (n : Name). n.0 ≡ place + 1) names.now
-        → OnOk result ((xs : List UnlistedValue) × (unlisted.new.items ≡ unlisted.old.items ++ xs) × Finds manifest.now.granularity (D.files disk.old) ((place + 1, catalogue.now.rows), manifest.now.entries) place names.now xs) }
-    ensures shape { (ms : List ManifestState) → slice_get ms place ≡ Some manifest.now → All (IsOfPlace ms) unlisted.old.items → OnOk result (All (IsOfPlace ms) unlisted.new.items) }
-    ensures read { IsOnlyRead D.tells (D.files disk.old) (D.opened disk.old) (D.past disk.old) (D.faults disk.old) (D.files disk.new) (D.opened disk.new) (D.past disk.new) (D.faults disk.new) }
+        → OnOk result ((xs : List UnlistedValue) × (unlisted.new.items ≡ unlisted.old.items ++ xs)
+        × Finds manifest.now.granularity (D.files disk.old) ((place + 1, catalogue.now.rows), manifest.now.entries) place names.now xs) }
+    ensures shape { (ms : List ManifestState) → slice_get ms place ≡ Some manifest.now → All (IsOfPlace ms) unlisted.old.items
+        → OnOk result (All (IsOfPlace ms) unlisted.new.items) }
+    ensures read { OnlyReads D.Disk disk.old disk.new }
     ensures cause { IsErrOf result DiskErr.Fault → Rose (D.faults disk.old) (D.faults disk.new) }
 {
     for file in names {

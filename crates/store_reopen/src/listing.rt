@@ -3,7 +3,7 @@ ghost use Rattle.std.specs.Prelude.{◌≡◌, ◌≤◌, ◌<◌, ◌*◌, [], 
 ghost use Rattle.disk_model.specs.Files.{Files, Rose};
 ghost use Rattle.disk_model.specs.Past.{Only};
 ghost use Rattle.etl_mover.specs.Move.{set_entry};
-ghost use Rattle.found_files.specs.Reading.{IsOnlyRead};
+ghost use Rattle.found_files.specs.Reading.{OnlyReads};
 ghost use Rattle.partition_names.specs.declared.granularity.Granularity.{Granularity};
 ghost use Rattle.partition_names.specs.Part.{IsPart};
 ghost use Rattle.store_manifest.specs.Manifest.{ManifestState};
@@ -12,7 +12,7 @@ ghost use Rattle.tier_store.specs.Seen.{granularities};
 ghost use Rattle.tier_store.specs.Stores.{Stores};
 ghost use Rattle.store_reopen.specs.Adoption.{TakesTurns, entry_as};
 ghost use Rattle.store_reopen.specs.Listing.{AllHaveParts, AllMayList, AllUnopened, AreTurns, AreUnopened, ListsTaken, MayList, turns_of};
-ghost use Rattle.store_reopen.specs.Reopen.{IsReady, SameStores, SparesStores, loaded};
+ghost use Rattle.store_reopen.specs.Reopen.{ChangesJournals, IsReady, SameStores, loaded};
 ghost use Rattle.store_reopen.specs.Runs.{Goes, Stops};
 ghost use Rattle.store_reopen.specs.declared.finding.Taken.{Taken as TakenValue};
 ghost use Rattle.store_reopen.specs.declared.finding.Unlisted.{Unlisted as UnlistedValue};
@@ -42,12 +42,16 @@ pub(crate) fn list_all<D: Disk>(
     requires has { IsTrue D.tells → (held : Stores) × Has D.tells (loaded D.Disk catalogue.now manifests.old.items disk.old) held }
     requires may { IsTrue D.tells → AllMayList (granularities manifests.old.items) (D.files disk.old) catalogue.now.rows (turns_of turns.now) }
     requires unopened { IsTrue D.tells → AllUnopened (D.opened disk.old) (turns_of turns.now) }
-    ensures goes { IsTrue D.tells → (image : Files) (held : Stores) (unlisted : List UnlistedValue) → SameStores image (D.files disk.old) → AreTurns held catalogue.now.rows unlisted (turns_of turns.now)
-        → OnOk result (Goes D.Disk (λ whole. TakesTurns image held catalogue.now.rows unlisted whole 0 (length turns.now)) (λ whole steps. steps ≡ []) catalogue.now manifests.old.items disk.old catalogue.now manifests.new.items disk.new) }
-    ensures stops { IsTrue D.tells → (image : Files) (held : Stores) (unlisted : List UnlistedValue) → SameStores image (D.files disk.old) → AreTurns held catalogue.now.rows unlisted (turns_of turns.now)
-        → OnErr result (Stops D.Disk (λ whole. TakesTurns image held catalogue.now.rows unlisted whole 0 (length turns.now)) catalogue.now manifests.old.items disk.old catalogue.now manifests.new.items disk.new) }
+    ensures goes { IsTrue D.tells → (image : Files) (held : Stores) (unlisted : List UnlistedValue) → SameStores image (D.files disk.old)
+        → AreTurns held catalogue.now.rows unlisted (turns_of turns.now)
+        → OnOk result (Goes D.Disk (λ whole. TakesTurns image held catalogue.now.rows unlisted whole 0 (length turns.now)) (λ whole steps. steps ≡ [])
+        catalogue.now manifests.old.items disk.old catalogue.now manifests.new.items disk.new) }
+    ensures stops { IsTrue D.tells → (image : Files) (held : Stores) (unlisted : List UnlistedValue) → SameStores image (D.files disk.old)
+        → AreTurns held catalogue.now.rows unlisted (turns_of turns.now)
+        → OnErr result (Stops D.Disk (λ whole. TakesTurns image held catalogue.now.rows unlisted whole 0 (length turns.now))
+        catalogue.now manifests.old.items disk.old catalogue.now manifests.new.items disk.new) }
     ensures ready { (gs : List Granularity) → IsReady gs catalogue.now manifests.old.items → OnOk result (IsReady gs catalogue.now manifests.new.items) }
-    ensures spares { IsTrue D.tells → SparesStores D.Disk disk.old disk.new }
+    ensures spares { IsTrue D.tells → ChangesJournals D.Disk disk.old disk.new }
     ensures faults { D.faults disk.old ≤ D.faults disk.new }
     ensures cause { IsErrOf result DiskErr.Fault → Rose (D.faults disk.old) (D.faults disk.new) }
 {
@@ -81,14 +85,18 @@ pub(crate) fn list_taken<D: Disk>(
     requires place { place < 3 }
     requires series { series < length catalogue.now.rows }
     requires ready { (gs : List Granularity) × (length gs ≡ 3) × IsReady gs catalogue.now manifests.old.items }
-    requires parts { (m : ManifestState) → slice_get manifests.old.items place ≡ Some m → All (λ (x : TakenValue). IsPart m.granularity x.candidate.part) taken.now }
+    requires parts { (m : ManifestState) → slice_get manifests.old.items place ≡ Some m
+        → All (λ (x : TakenValue). IsPart m.granularity x.candidate.part) taken.now }
     requires has { IsTrue D.tells → (held : Stores) × Has D.tells (loaded D.Disk catalogue.now manifests.old.items disk.old) held }
-    requires may { IsTrue D.tells → (m : ManifestState) → slice_get manifests.old.items place ≡ Some m → All (MayList m.granularity (D.files disk.old) catalogue.now.rows series place) taken.now }
+    requires may { IsTrue D.tells → (m : ManifestState) → slice_get manifests.old.items place ≡ Some m
+        → All (MayList m.granularity (D.files disk.old) catalogue.now.rows series place) taken.now }
     requires unopened { IsTrue D.tells → AreUnopened (D.opened disk.old) taken.now }
-    ensures lists { IsTrue D.tells → OnOk result (ListsTaken D.Disk true catalogue.now place series taken.now manifests.old.items disk.old manifests.new.items disk.new) }
-    ensures stops { IsTrue D.tells → OnErr result (ListsTaken D.Disk false catalogue.now place series taken.now manifests.old.items disk.old manifests.new.items disk.new) }
+    ensures lists { IsTrue D.tells
+        → OnOk result (ListsTaken D.Disk true catalogue.now place series taken.now manifests.old.items disk.old manifests.new.items disk.new) }
+    ensures stops { IsTrue D.tells
+        → OnErr result (ListsTaken D.Disk false catalogue.now place series taken.now manifests.old.items disk.old manifests.new.items disk.new) }
     ensures ready { (gs : List Granularity) → IsReady gs catalogue.now manifests.old.items → OnOk result (IsReady gs catalogue.now manifests.new.items) }
-    ensures spares { IsTrue D.tells → SparesStores D.Disk disk.old disk.new }
+    ensures spares { IsTrue D.tells → ChangesJournals D.Disk disk.old disk.new }
     ensures faults { D.faults disk.old ≤ D.faults disk.new }
     ensures cause { IsErrOf result DiskErr.Fault → Rose (D.faults disk.old) (D.faults disk.new) }
 {
@@ -106,7 +114,7 @@ pub(crate) fn list_taken<D: Disk>(
 // Syncs each of these files. The disk's files stay.
 fn sync_taken<D: Disk>(disk: &mut D, taken: &[Taken]) -> Result<(), DiskErr>
     ensures durable { IsTrue D.tells → OnOk result (All (λ (x : TakenValue). Only (D.past disk.new) x.file (D.files disk.old x.file)) taken.now) }
-    ensures read { IsOnlyRead D.tells (D.files disk.old) (D.opened disk.old) (D.past disk.old) (D.faults disk.old) (D.files disk.new) (D.opened disk.new) (D.past disk.new) (D.faults disk.new) }
+    ensures read { OnlyReads D.Disk disk.old disk.new }
     ensures cause { IsErrOf result DiskErr.Fault → Rose (D.faults disk.old) (D.faults disk.new) }
 {
     for one in taken {

@@ -9,7 +9,7 @@ ghost use Rattle.store_manifest.specs.Manifest.{ManifestState};
 ghost use Rattle.tier_store.specs.Change.{Has};
 ghost use Rattle.tier_store.specs.Stores.{Stores};
 ghost use Rattle.store_reopen.specs.Adoption.{GetRows, IsFree, IsShort, about_of, capped, headers_len};
-ghost use Rattle.store_reopen.specs.Reopen.{IsReady, SparesStores, loaded};
+ghost use Rattle.store_reopen.specs.Reopen.{ChangesJournals, IsReady, loaded};
 ghost use Rattle.store_reopen.specs.Runs.{Goes, Stops};
 ghost use Rattle.store_reopen.specs.Steps.{MakesSteps, NewRow};
 ghost use Rattle.store_reopen.specs.declared.finding.Unlisted.{Unlisted as UnlistedValue};
@@ -35,12 +35,13 @@ pub(crate) fn register_all<D: Disk>(
     requires sound { IsTrue catalogue.old.journal.sound }
     requires has { IsTrue D.tells → (ms : List ManifestState) × (held : Stores) × Has D.tells (loaded D.Disk catalogue.old ms disk.old) held }
     ensures goes { IsTrue D.tells → (ms : List ManifestState) → ((held : Stores) × Has D.tells (loaded D.Disk catalogue.old ms disk.old) held)
-        → OnOk result (Goes D.Disk (λ whole. GetRows whole catalogue.old.rows [] unlisted.now) (λ whole steps. steps ≡ []) catalogue.old ms disk.old catalogue.new ms disk.new) }
+        → OnOk result (Goes D.Disk (λ whole. GetRows whole catalogue.old.rows [] unlisted.now) (λ whole steps. steps ≡ [])
+        catalogue.old ms disk.old catalogue.new ms disk.new) }
     ensures stops { IsTrue D.tells → (ms : List ManifestState) → ((held : Stores) × Has D.tells (loaded D.Disk catalogue.old ms disk.old) held)
         → OnErr result (Stops D.Disk (λ whole. GetRows whole catalogue.old.rows [] unlisted.now) catalogue.old ms disk.old catalogue.new ms disk.new) }
     ensures more { OnOk result (length catalogue.old.rows ≤ length catalogue.new.rows) }
     ensures ready { (gs : List GranularityValue) (ms : List ManifestState) → IsReady gs catalogue.old ms → OnOk result (IsReady gs catalogue.new ms) }
-    ensures spares { IsTrue D.tells → SparesStores D.Disk disk.old disk.new }
+    ensures spares { IsTrue D.tells → ChangesJournals D.Disk disk.old disk.new }
     ensures faults { D.faults disk.old ≤ D.faults disk.new }
     ensures cause { IsErrOf result DiskErr.Fault → Rose (D.faults disk.old) (D.faults disk.new) }
 {
@@ -64,14 +65,17 @@ fn register<D: Disk>(
 ) -> Result<(), DiskErr>
     requires sound { IsTrue catalogue.old.journal.sound }
     requires has { IsTrue D.tells → (ms : List ManifestState) × (held : Stores) × Has D.tells (loaded D.Disk catalogue.old ms disk.old) held }
-    ensures goes { IsTrue D.tells → (ms : List ManifestState) → ((held : Stores) × Has D.tells (loaded D.Disk catalogue.old ms disk.old) held) → (x : UnlistedValue) (xs : List UnlistedValue) → x.candidate ≡ Some candidate.now
-        → OnOk result (Goes D.Disk (λ whole. GetRows whole catalogue.old.rows long.old.items (x ∷ xs)) (λ whole. GetRows whole catalogue.new.rows long.new.items xs) catalogue.old ms disk.old catalogue.new ms disk.new) }
-    ensures stops { IsTrue D.tells → (ms : List ManifestState) → ((held : Stores) × Has D.tells (loaded D.Disk catalogue.old ms disk.old) held) → (x : UnlistedValue) (xs : List UnlistedValue) → x.candidate ≡ Some candidate.now
+    ensures goes { IsTrue D.tells → (ms : List ManifestState) → ((held : Stores) × Has D.tells (loaded D.Disk catalogue.old ms disk.old) held)
+        → (x : UnlistedValue) (xs : List UnlistedValue) → x.candidate ≡ Some candidate.now
+        → OnOk result (Goes D.Disk (λ whole. GetRows whole catalogue.old.rows long.old.items (x ∷ xs))
+        (λ whole. GetRows whole catalogue.new.rows long.new.items xs) catalogue.old ms disk.old catalogue.new ms disk.new) }
+    ensures stops { IsTrue D.tells → (ms : List ManifestState) → ((held : Stores) × Has D.tells (loaded D.Disk catalogue.old ms disk.old) held)
+        → (x : UnlistedValue) (xs : List UnlistedValue) → x.candidate ≡ Some candidate.now
         → OnErr result (Stops D.Disk (λ whole. GetRows whole catalogue.old.rows long.old.items (x ∷ xs)) catalogue.old ms disk.old catalogue.new ms disk.new) }
     ensures sound { OnOk result (IsTrue catalogue.new.journal.sound) }
     ensures more { OnOk result (length catalogue.old.rows ≤ length catalogue.new.rows) }
     ensures ready { (gs : List GranularityValue) (ms : List ManifestState) → IsReady gs catalogue.old ms → OnOk result (IsReady gs catalogue.new ms) }
-    ensures spares { IsTrue D.tells → SparesStores D.Disk disk.old disk.new }
+    ensures spares { IsTrue D.tells → ChangesJournals D.Disk disk.old disk.new }
     ensures faults { D.faults disk.old ≤ D.faults disk.new }
     ensures cause { IsErrOf result DiskErr.Fault → Rose (D.faults disk.old) (D.faults disk.new) }
 {
@@ -101,13 +105,15 @@ fn register_first<D: Disk>(
     requires has { IsTrue D.tells → (ms : List ManifestState) × (held : Stores) × Has D.tells (loaded D.Disk catalogue.old ms disk.old) held }
     ensures rows { OnOk result (catalogue.new.rows ≡ catalogue.old.rows ++ registered catalogue.old.rows candidate.now.name (about_of candidate.now) ∷ []) }
     ensures makes { IsTrue D.tells → (ms : List ManifestState) → ((held : Stores) × Has D.tells (loaded D.Disk catalogue.old ms disk.old) held)
-        → OnOk result (MakesSteps true D.tells (NewRow candidate.now.name (about_of candidate.now) ∷ []) (loaded D.Disk catalogue.old ms disk.old) (loaded D.Disk catalogue.new ms disk.new)) }
+        → OnOk result (MakesSteps true D.tells (NewRow candidate.now.name (about_of candidate.now) ∷ []) (loaded D.Disk catalogue.old ms disk.old)
+        (loaded D.Disk catalogue.new ms disk.new)) }
     ensures stops { IsTrue D.tells → (ms : List ManifestState) → ((held : Stores) × Has D.tells (loaded D.Disk catalogue.old ms disk.old) held)
-        → OnErr result (MakesSteps false D.tells (NewRow candidate.now.name (about_of candidate.now) ∷ []) (loaded D.Disk catalogue.old ms disk.old) (loaded D.Disk catalogue.new ms disk.new)) }
+        → OnErr result (MakesSteps false D.tells (NewRow candidate.now.name (about_of candidate.now) ∷ []) (loaded D.Disk catalogue.old ms disk.old)
+        (loaded D.Disk catalogue.new ms disk.new)) }
     ensures sound { OnOk result (IsTrue catalogue.new.journal.sound) }
     ensures more { OnOk result (length catalogue.old.rows ≤ length catalogue.new.rows) }
     ensures ready { (gs : List GranularityValue) (ms : List ManifestState) → IsReady gs catalogue.old ms → OnOk result (IsReady gs catalogue.new ms) }
-    ensures spares { IsTrue D.tells → SparesStores D.Disk disk.old disk.new }
+    ensures spares { IsTrue D.tells → ChangesJournals D.Disk disk.old disk.new }
     ensures faults { D.faults disk.old ≤ D.faults disk.new }
     ensures cause { IsErrOf result DiskErr.Fault → Rose (D.faults disk.old) (D.faults disk.new) }
 {

@@ -16,7 +16,7 @@ ghost use Rattle.store_manifest.specs.Manifest.{ManifestState};
 ghost use Rattle.tier_store.specs.Change.{CanList, Changes, Has, registering};
 ghost use Rattle.tier_store.specs.Moving.{publishing};
 ghost use Rattle.tier_store.specs.Stores.{Stores, list_at};
-ghost use Rattle.store_reopen.specs.Reopen.{IsReady, SparesStores, loaded};
+ghost use Rattle.store_reopen.specs.Reopen.{ChangesJournals, IsReady, loaded};
 ghost use Rattle.store_reopen.specs.Verdict.{HasRow};
 
 use disk_model::{Disk, DiskErr};
@@ -42,8 +42,9 @@ pub(crate) fn add_row<D: Disk>(
     ensures refusal { IfErr result (IsRefusal catalogue.old.rows name.now) }
     ensures unchanged { IfErr result (λ e. IsOfRows e → (catalogue.new ≡ catalogue.old) × (disk.new ≡ disk.old)) }
     ensures changes { (ms : List ManifestState) → ((held : Stores) × Has D.tells (loaded D.Disk catalogue.old ms disk.old) held)
-        → Changes D.tells (registering name.now about.now) (loaded D.Disk catalogue.old ms disk.old) (loaded D.Disk catalogue.new ms disk.new) (end_of_register result) }
-    ensures spares { IsTrue D.tells → SparesStores D.Disk disk.old disk.new }
+        → Changes D.tells (registering name.now about.now) (loaded D.Disk catalogue.old ms disk.old)
+        (loaded D.Disk catalogue.new ms disk.new) (end_of_register result) }
+    ensures spares { IsTrue D.tells → ChangesJournals D.Disk disk.old disk.new }
     ensures faults { D.faults disk.old ≤ D.faults disk.new }
     ensures cause { result ≡ Err (RegisterDisk Fault) → Rose (D.faults disk.old) (D.faults disk.new) }
 {
@@ -65,12 +66,14 @@ pub(crate) fn add_files<D: Disk>(
     requires has { IsTrue D.tells → (held : Stores) × Has D.tells (loaded D.Disk catalogue.now manifests.old.items disk.old) held }
     requires can { IsTrue D.tells → (files : List Filed) × ((held : Stores) → Has D.tells (loaded D.Disk catalogue.now manifests.old.items disk.old) held
         → CanList place D.tells (loaded D.Disk catalogue.now manifests.old.items disk.old) changes.now held (put_all (list_at place held) files)) }
-    ensures ready { (gs : List Granularity) (entries : List Entry) → IsReady gs catalogue.now manifests.old.items → changes.now ≡ map set_entry entries → All (HasRow catalogue.now.rows) entries
+    ensures ready { (gs : List Granularity) (entries : List Entry) → IsReady gs catalogue.now manifests.old.items → changes.now ≡ map set_entry entries
+        → All (HasRow catalogue.now.rows) entries
         → OnOk result (IsReady gs catalogue.now manifests.new.items) }
     ensures changes { (files : List Filed) → ((held : Stores) → Has D.tells (loaded D.Disk catalogue.now manifests.old.items disk.old) held
         → CanList place D.tells (loaded D.Disk catalogue.now manifests.old.items disk.old) changes.now held (put_all (list_at place held) files))
-        → Changes D.tells (publishing place files) (loaded D.Disk catalogue.now manifests.old.items disk.old) (loaded D.Disk catalogue.now manifests.new.items disk.new) (end_of_disk result) }
-    ensures spares { IsTrue D.tells → SparesStores D.Disk disk.old disk.new }
+        → Changes D.tells (publishing place files) (loaded D.Disk catalogue.now manifests.old.items disk.old)
+        (loaded D.Disk catalogue.now manifests.new.items disk.new) (end_of_disk result) }
+    ensures spares { IsTrue D.tells → ChangesJournals D.Disk disk.old disk.new }
     ensures faults { D.faults disk.old ≤ D.faults disk.new }
     ensures cause { IsErrOf result DiskErr.Fault → Rose (D.faults disk.old) (D.faults disk.new) }
 {

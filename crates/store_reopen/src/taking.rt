@@ -59,7 +59,8 @@ fn take(
     requires place { IsOfPlace manifests.now one }
     ensures count { OnOk result (length turns.new.items ≡ length turns.old.items) }
     ensures one_more { OnOk result (length (all_taken (turns_of turns.new.items)) ≤ length (all_taken (turns_of turns.old.items)) + 1) }
-    ensures takes { OnOk result ((turn : ℕ) (old new : List TakenValue) → slice_get (turns_of turns.old.items) turn ≡ Some old → slice_get (turns_of turns.new.items) turn ≡ Some new → TakesIn manifests.now catalogue.now.rows turn one old new) }
+    ensures takes { OnOk result ((turn : ℕ) (old new : List TakenValue) → slice_get (turns_of turns.old.items) turn ≡ Some old
+        → slice_get (turns_of turns.new.items) turn ≡ Some new → TakesIn manifests.now catalogue.now.rows turn one old new) }
 {
     let Unlisted {
         place,

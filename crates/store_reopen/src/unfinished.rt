@@ -2,7 +2,7 @@
 ghost use Rattle.std.specs.Prelude.{◌≡◌, ◌≤◌, ◌↔◌, IfOk, IsErrOf, IsSome, IsTrue, OnOk};
 ghost use Rattle.disk_model.specs.Files.{Rose};
 ghost use Rattle.disk_model.specs.Past.{Passes};
-ghost use Rattle.store_reopen.specs.Marking.{IsThereForGood, Marks};
+ghost use Rattle.store_reopen.specs.Marking.{Begins, IsThereForGood, Marks};
 ghost use Rattle.store_reopen.specs.Strays.{IsGone, adoption_name};
 
 use crate::sweeping::remove_for_good;
@@ -27,6 +27,7 @@ pub(crate) fn is_unfinished<D: Disk>(alloc: Global, disk: &mut D) -> Result<bool
 pub(crate) fn begin_adoption<D: Disk>(alloc: Global, disk: &mut D) -> Result<(), DiskErr>
     ensures there { IsTrue D.tells → OnOk result (IsThereForGood (D.files disk.new) (D.past disk.new)) }
     ensures marks { IsTrue D.tells → Marks D.Disk disk.old disk.new }
+    ensures stays { IsTrue D.tells → Passes Begins (D.past disk.old) (D.past disk.new) }
     ensures faults { D.faults disk.old ≤ D.faults disk.new }
     ensures cause { IsErrOf result DiskErr.Fault → Rose (D.faults disk.old) (D.faults disk.new) }
 {
@@ -40,6 +41,7 @@ fn make_file<D: Disk>(disk: &mut D, name: &FileName) -> Result<(), DiskErr>
     requires { name.now ≡ adoption_name }
     ensures there { IsTrue D.tells → OnOk result (IsSome (D.files disk.new adoption_name)) }
     ensures marks { IsTrue D.tells → Marks D.Disk disk.old disk.new }
+    ensures stays { IsTrue D.tells → Passes Begins (D.past disk.old) (D.past disk.new) }
     ensures faults { D.faults disk.old ≤ D.faults disk.new }
     ensures cause { IsErrOf result DiskErr.Fault → Rose (D.faults disk.old) (D.faults disk.new) }
 {

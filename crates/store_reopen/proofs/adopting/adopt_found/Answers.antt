@@ -12,7 +12,7 @@ use Rattle.store_reopen.specs.Steps.{Step, made_by}
 use Rattle.store_reopen.specs.Turns.{AreNumbers, TakesOf, all_taken}
 use Rattle.store_reopen.specs.declared.finding.Taken.{Taken}
 use Rattle.store_reopen.specs.declared.finding.Unlisted.{Unlisted}
-use Rattle.store_reopen.proofs.Adding.{spares_read, spares_then}
+use Rattle.store_reopen.proofs.Adding.{journals_same, spares_read, spares_then}
 use Rattle.store_reopen.proofs.Following.{all_of, all_unopened, followed, gets, left_between, left_lists, left_rows, none_later, rows_had}
 use Rattle.store_reopen.proofs.Counts.{counted}
 use Rattle.store_reopen.proofs.Having.{count_of}
@@ -138,7 +138,7 @@ list_all-requires-clause-may g c tells turn taken here g₁ at =
     let takes : AtEachTurn (λ turn taken. TakesOf ms cat₁.rows turn xs taken) (turns_of turns) = subst (λ (vs : List (Vec Taken Global)). AtEachTurn (λ turn taken. TakesOf ms cat₁.rows turn xs taken) (turns_of vs)) (sym c.as_slice-4.ensures.value)
     (subst (λ (l : List ManifestState). AtEachTurn (λ turn taken. TakesOf l cat₁.rows turn xs taken) (turns_of c.in_ok-turns.turns.items)) c.as_slice-3.ensures.value c.in_ok-turns.ensures.takes) in
     let three = count_of c.requires.ready.0 ms c.requires.ready.1 c.requires.ready.2.granularity in
-    may_later g₁ (disk.files old) (disk.files made) cat₁.rows (row_of turn) (place_of turn) taken spared.now (turns_may (disk.files old) cat.rows cat₁.rows ms xs (turns_of turns) three found takes turn taken here g₁ at)
+    may_later g₁ (disk.files old) (disk.files made) cat₁.rows (row_of turn) (place_of turn) taken (journals_same disk _ _ spared.now) (turns_may (disk.files old) cat.rows cat₁.rows ms xs (turns_of turns) three found takes turn taken here g₁ at)
 
 pub list_all-requires-clause-unopened : goal.list_all-requires-clause-unopened
 list_all-requires-clause-unopened g c tells =
@@ -182,7 +182,7 @@ returns-in_err-list_all-clause-leaves_off g c tells gs image held of_gs same has
     let are_turns = turns_are cat ms held cat₁.rows xs (turns_of turns) has.known takes in
     let m₁ = c.list_all.new.manifests.items in
     let new = c.list_all.new.disk in
-    let stops = c.in_err-list_all.ensures.stops tells image held xs (λ n other. spared.now n other ∙ same n other) are_turns in
+    let stops = c.in_err-list_all.ensures.stops tells image held xs (λ n other. journals_same disk _ _ spared.now n other ∙ same n other) are_turns in
     let p = err_from_is_err_and c.from_residual-in_err-list_all.result c.from_residual-in_err-list_all.ensures.1 in
     rw p.1 (inr (false, left_lists disk gs image held xs cat ms old mid are has read cat₁ made goes (length turns) count m₁ new stops))
 
@@ -241,7 +241,7 @@ returns-clause-follows g c tells gs image held of_gs same has =
     let are_turns = turns_are cat ms held cat₁.rows xs (turns_of turns) has.known takes in
     let m₁ = c.list_all.new.manifests.items in
     let new = c.list_all.new.disk in
-    let lists = c.in_ok-list_all.ensures.goes tells image held xs (λ n other. spared.now n other ∙ same n other) are_turns in
+    let lists = c.in_ok-list_all.ensures.goes tells image held xs (λ n other. journals_same disk _ _ spared.now n other ∙ same n other) are_turns in
     record {
       all = followed disk gs image held xs cat ms old mid are has read cat₁ made goes (length turns) count m₁ new lists;
       counts =

@@ -1,7 +1,8 @@
 use Rattle.std.proofs.Common.{inl, inr, true, false, ◌∙◌}
 use Rattle.std.proofs.lemmas.Result.{err_from_is_err_and}
-use Rattle.store_reopen.proofs.Adding.{marks_spare, spares_then}
+use Rattle.store_reopen.proofs.Adding.{journals_spare, marks_spare, stores_then}
 use Rattle.store_reopen.proofs.Following.{follows_before, follows_behind, follows_stopped, none_later}
+use Rattle.store_reopen.proofs.Marked.{marked_begun, marked_end, marked_made}
 use Rattle.store_reopen.proofs.Marking.{has_marked, marks_then}
 use Rattle.store_reopen.proofs.Stages.{steps_marked}
 use Rattle.store_reopen.proofs.adopting.adopt_loaded.Goals as goal
@@ -35,7 +36,7 @@ returns-in_err-adopted-clause-leaves_off g c tells gs image held of_gs same has 
     ])
 
 pub returns-in_err-adopted-clause-spares : goal.returns-in_err-adopted-clause-spares
-returns-in_err-adopted-clause-spares g c tells = spares_then g.D.Disk c.args.disk.now c.begin_adoption.new.disk c.adopt_found.new.disk (marks_spare g.D.Disk c.args.disk.now c.begin_adoption.new.disk (c.begin_adoption.ensures.marks tells)) (c.adopt_found.ensures.spares tells)
+returns-in_err-adopted-clause-spares g c tells = stores_then g.D.Disk c.args.disk.now c.begin_adoption.new.disk c.adopt_found.new.disk (marks_spare g.D.Disk c.args.disk.now c.begin_adoption.new.disk (c.begin_adoption.ensures.marks tells)) (journals_spare g.D.Disk c.begin_adoption.new.disk c.adopt_found.new.disk (c.adopt_found.ensures.spares tells))
 
 pub returns-in_err-end_adoption-clause-leaves_off : goal.returns-in_err-end_adoption-clause-leaves_off
 returns-in_err-end_adoption-clause-leaves_off g c tells gs image held of_gs same has =
@@ -64,7 +65,7 @@ returns-in_err-end_adoption-clause-spares g c tells =
     let mid = c.begin_adoption.new.disk in
     let made = c.adopt_found.new.disk in
     let new = c.end_adoption.new.disk in
-    spares_then disk old made new (spares_then disk old mid made (marks_spare disk old mid (c.begin_adoption.ensures.marks tells)) (c.adopt_found.ensures.spares tells)) (marks_spare disk made new (c.end_adoption.ensures.marks tells))
+    stores_then disk old made new (stores_then disk old mid made (marks_spare disk old mid (c.begin_adoption.ensures.marks tells)) (journals_spare g.D.Disk c.begin_adoption.new.disk c.adopt_found.new.disk (c.adopt_found.ensures.spares tells))) (marks_spare disk made new (c.end_adoption.ensures.marks tells))
 
 pub returns-clause-follows : goal.returns-clause-follows
 returns-clause-follows g c tells gs image held of_gs same has =
@@ -91,4 +92,39 @@ returns-clause-spares g c tells =
     let mid = c.begin_adoption.new.disk in
     let made = c.adopt_found.new.disk in
     let new = c.end_adoption.new.disk in
-    spares_then disk old made new (spares_then disk old mid made (marks_spare disk old mid (c.begin_adoption.ensures.marks tells)) (c.adopt_found.ensures.spares tells)) (marks_spare disk made new (c.end_adoption.ensures.marks tells))
+    stores_then disk old made new (stores_then disk old mid made (marks_spare disk old mid (c.begin_adoption.ensures.marks tells)) (journals_spare g.D.Disk c.begin_adoption.new.disk c.adopt_found.new.disk (c.adopt_found.ensures.spares tells))) (marks_spare disk made new (c.end_adoption.ensures.marks tells))
+
+pub returns-in_err-begin_adoption-clause-marked : goal.returns-in_err-begin_adoption-clause-marked
+returns-in_err-begin_adoption-clause-marked g c tells gs image held of_gs same has =
+    marked_begun g.D.Disk gs tells image c.args.catalogue.now c.args.manifests.now.items held c.args.disk.now c.begin_adoption.new.disk of_gs (c.begin_adoption.ensures.stays tells) has
+
+pub returns-in_err-adopted-clause-marked : goal.returns-in_err-adopted-clause-marked
+returns-in_err-adopted-clause-marked g c tells gs image held of_gs same has =
+    marked_made g.D.Disk gs tells image c.args.catalogue.now c.args.manifests.now.items held c.args.disk.now c.begin_adoption.new.disk of_gs (c.begin_adoption.ensures.stays tells) has c.adopt_found.new.disk (c.in_ok-begin_adoption.ensures.there tells)
+    (c.adopt_found.ensures.spares tells)
+
+pub returns-in_err-end_adoption-clause-marked : goal.returns-in_err-end_adoption-clause-marked
+returns-in_err-end_adoption-clause-marked g c tells gs image held of_gs same has =
+    let disk = g.D.Disk in
+    let cat = c.args.catalogue.now in
+    let ms = c.args.manifests.now.items in
+    let old = c.args.disk.now in
+    let mid = c.begin_adoption.new.disk in
+    let marks = c.begin_adoption.ensures.marks in
+    let had = has_marked disk cat ms old mid marks held has in
+    let all = (c.in_ok-adopted.ensures.follows tells gs image held of_gs (λ n other. (marks_spare disk old mid (marks tells)).now n other ∙ same n other) had).all in
+    marked_end disk gs tells image cat ms held old mid of_gs (c.begin_adoption.ensures.stays tells) has c.adopt_found.new.disk (c.in_ok-begin_adoption.ensures.there tells) (c.adopt_found.ensures.spares tells) all.steps all.rule c.adopt_found.new.catalogue
+    c.adopt_found.new.manifests.items c.end_adoption.new.disk (all.makes.granularity ∙ of_gs) (all.makes.ends held had) (c.end_adoption.ensures.marks tells)
+
+pub returns-clause-marked : goal.returns-clause-marked
+returns-clause-marked g c tells gs image held of_gs same has =
+    let disk = g.D.Disk in
+    let cat = c.args.catalogue.now in
+    let ms = c.args.manifests.now.items in
+    let old = c.args.disk.now in
+    let mid = c.begin_adoption.new.disk in
+    let marks = c.begin_adoption.ensures.marks in
+    let had = has_marked disk cat ms old mid marks held has in
+    let all = (c.in_ok-adopted.ensures.follows tells gs image held of_gs (λ n other. (marks_spare disk old mid (marks tells)).now n other ∙ same n other) had).all in
+    marked_end disk gs tells image cat ms held old mid of_gs (c.begin_adoption.ensures.stays tells) has c.adopt_found.new.disk (c.in_ok-begin_adoption.ensures.there tells) (c.adopt_found.ensures.spares tells) all.steps all.rule c.adopt_found.new.catalogue
+    c.adopt_found.new.manifests.items c.end_adoption.new.disk (all.makes.granularity ∙ of_gs) (all.makes.ends held had) (c.end_adoption.ensures.marks tells)

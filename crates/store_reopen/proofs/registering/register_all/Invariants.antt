@@ -4,7 +4,7 @@ use Rattle.store_manifest.specs.Manifest.{ManifestState}
 use Rattle.tier_store.specs.Change.{Has}
 use Rattle.tier_store.specs.Stores.{Stores}
 use Rattle.store_reopen.specs.Adoption.{GetRows}
-use Rattle.store_reopen.specs.Reopen.{IsReady, SparesStores, loaded}
+use Rattle.store_reopen.specs.Reopen.{ChangesJournals, IsReady, loaded}
 use Rattle.store_reopen.specs.Runs.{Goes}
 use Rattle.store_reopen.proofs.registering.register_all.Given as goal
 
@@ -15,6 +15,6 @@ invariant-loop-file g l = record {
   sound : IsTrue l.catalogue.journal.sound;
   more : length l.fn.catalogue.rows ≤ length l.catalogue.rows;
   ready : (gs : List Granularity) (ms : List ManifestState) → IsReady gs l.fn.catalogue ms → IsReady gs l.catalogue ms;
-  spares : IsTrue g.D.Disk.tells → SparesStores g.D.Disk l.fn.disk l.disk;
+  spares : IsTrue g.D.Disk.tells → ChangesJournals g.D.Disk l.fn.disk l.disk;
   faults : g.D.Disk.faults l.fn.disk ≤ g.D.Disk.faults l.disk;
 }

@@ -15,6 +15,7 @@ use Rattle.tier_store.proofs.Places.{manifest_here, holding}
 use Rattle.tier_store.proofs.RelistCall.{can_relist, beside_all, call_done, call_cut}
 use Rattle.store_reopen.specs.Reopen.{loaded}
 use Rattle.store_reopen.proofs.Adding.{files_ready, own_spares}
+use Rattle.store_reopen.proofs.Marking.{manifest_apart}
 use Rattle.store_reopen.proofs.stepping.add_files.Goals as goal
 
 pub relist-requires-clause-sound : goal.relist-requires-clause-sound
@@ -75,13 +76,13 @@ pub returns-clause-spares : goal.returns-clause-spares
 returns-clause-spares g c tells =
     let here = manifest_here c.args.manifests.now.items c.args.place c.index_mut.result.now c.index_mut.ensures.value c.requires.within in
     let says = c.relist.ensures in
-    own_spares g.D.Disk Anything c.index_mut.result.now.journal.name (manifest_name (c.args.place + 1)) (((c.requires.has tells).1.disk tells).each c.args.place c.index_mut.result.now here).named refl c.args.disk.now c.relist.new.disk (says.frame tells) (says.elsewhere tells) (says.no_more tells)
+    own_spares g.D.Disk Anything c.index_mut.result.now.journal.name (manifest_name (c.args.place + 1)) (((c.requires.has tells).1.disk tells).each c.args.place c.index_mut.result.now here).named refl (manifest_apart (c.args.place + 1)) c.args.disk.now c.relist.new.disk (says.frame tells) (says.elsewhere tells) (says.no_more tells)
 
 pub returns-in_err-relist-clause-spares : goal.returns-in_err-relist-clause-spares
 returns-in_err-relist-clause-spares g c tells =
     let here = manifest_here c.args.manifests.now.items c.args.place c.index_mut.result.now c.index_mut.ensures.value c.requires.within in
     let says = c.relist.ensures in
-    own_spares g.D.Disk Anything c.index_mut.result.now.journal.name (manifest_name (c.args.place + 1)) (((c.requires.has tells).1.disk tells).each c.args.place c.index_mut.result.now here).named refl c.args.disk.now c.relist.new.disk (says.frame tells) (says.elsewhere tells) (says.no_more tells)
+    own_spares g.D.Disk Anything c.index_mut.result.now.journal.name (manifest_name (c.args.place + 1)) (((c.requires.has tells).1.disk tells).each c.args.place c.index_mut.result.now here).named refl (manifest_apart (c.args.place + 1)) c.args.disk.now c.relist.new.disk (says.frame tells) (says.elsewhere tells) (says.no_more tells)
 
 pub returns-clause-ready : goal.returns-clause-ready
 returns-clause-ready g c gs entries ready sets rows =

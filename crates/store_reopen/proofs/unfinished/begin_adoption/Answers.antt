@@ -2,6 +2,7 @@ use Rattle.std.proofs.Common.{subst}
 use Rattle.std.specs.Prelude.{OnOk}
 use Rattle.disk_model.specs.Files.{Name}
 use Rattle.disk_model.specs.Past.{Only}
+use Rattle.store_reopen.proofs.Marked.{begins_read, begins_then}
 use Rattle.store_reopen.proofs.Marking.{for_good, marks_read, marks_then}
 use Rattle.store_reopen.proofs.unfinished.begin_adoption.Goals as goal
 
@@ -13,3 +14,7 @@ returns-clause-there g c tells =
 pub returns-clause-marks : goal.returns-clause-marks
 returns-clause-marks g c tells =
     marks_then g.D.Disk c.args.disk.now c.make_file.new.disk c.sync.new.self (c.make_file.ensures.marks tells) (marks_read g.D.Disk c.make_file.new.disk c.sync.new.self (c.sync.ensures.same tells) (c.sync.ensures.opened tells) (c.sync.ensures.crash tells))
+
+pub returns-clause-stays : goal.returns-clause-stays
+returns-clause-stays g c tells =
+    begins_then (g.D.Disk.past c.args.disk.now) (g.D.Disk.past c.make_file.new.disk) (g.D.Disk.past c.sync.new.self) (c.make_file.ensures.stays tells) (begins_read (g.D.Disk.past c.make_file.new.disk) (g.D.Disk.past c.sync.new.self) (c.sync.ensures.crash tells))

@@ -3,6 +3,7 @@ use Rattle.std.specs.Prelude.{IsSome, OnErr, OnOk}
 use Rattle.disk_model.specs.Files.{At, Becomes, Files, KeptOr, Name}
 use Rattle.disk_model.specs.Past.{Passes}
 use Rattle.store_reopen.specs.Strays.{adoption_name}
+use Rattle.store_reopen.proofs.Marked.{begins_made, begins_read, begins_then}
 use Rattle.store_reopen.proofs.Marking.{made_there, marks_made, marks_read, marks_then, none_of, some_of}
 use Rattle.store_reopen.proofs.unfinished.make_file.Goals as goal
 
@@ -33,3 +34,16 @@ returns-in-None-clause-marks g c tells =
     (marks_made g.D.Disk c.create.result mid new (subst (λ (n : Name). OnOk c.create.result (At n (Becomes (Some [])) (g.D.Disk.files mid) (g.D.Disk.files new))) is (c.create.ensures.made tells))
     (subst (λ (n : Name). OnErr c.create.result (At n (KeptOr (Some [])) (g.D.Disk.files mid) (g.D.Disk.files new))) is (c.create.ensures.unmade tells)) (subst (λ (n : Name). Passes (At n (KeptOr (Some []))) (g.D.Disk.past mid) (g.D.Disk.past new)) is (c.create.ensures.crash tells))
     (subst (λ (m : Name). (n : Name) → n ≢ m → g.D.Disk.opened new n ≡ g.D.Disk.opened mid n) is (c.create.ensures.opened tells)) (subst (λ (n : Name). g.D.Disk.opened new n ≤ g.D.Disk.opened mid n) is (c.create.ensures.no_more tells)))
+
+pub returns-in-Some-clause-stays : goal.returns-in-Some-clause-stays
+returns-in-Some-clause-stays g c tells = begins_read (g.D.Disk.past c.args.disk.now) (g.D.Disk.past c.size.new.self) (c.size.ensures.crash tells)
+
+pub returns-in_err-size-clause-stays : goal.returns-in_err-size-clause-stays
+returns-in_err-size-clause-stays g c tells = begins_read (g.D.Disk.past c.args.disk.now) (g.D.Disk.past c.size.new.self) (c.size.ensures.crash tells)
+
+pub returns-in-None-clause-stays : goal.returns-in-None-clause-stays
+returns-in-None-clause-stays g c tells =
+    let mid = g.D.Disk.past c.size.new.self in
+    let new = g.D.Disk.past c.create.new.self in
+    begins_then (g.D.Disk.past c.args.disk.now) mid new (begins_read (g.D.Disk.past c.args.disk.now) mid (c.size.ensures.crash tells))
+    (begins_made mid new (subst (λ (n : Name). Passes (At n (KeptOr (Some []))) mid new) c.requires (c.create.ensures.crash tells)))
