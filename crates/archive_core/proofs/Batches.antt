@@ -1,30 +1,30 @@
 -- A batch that is flushed: what it has of the machine's rows, that the stores can take it, and whether store 1 lists it.
-use Rattle.std.proofs.Common.{◌≡◌, ◌⊎◌, inl, inr, ℕ, suc, ◌+◌, ◌<◌, ◌≤◌, List, [], ◌∷◌, ◌++◌, length, Bool, true, false, cond, Some, refl, sym, ◌∙◌, ap, subst, arith, length-append}
-use Rattle.std.specs.List.{AllByRecursion}
-use Rattle.std.specs.Prelude.{◌&&◌, slice_get, nat_eq, nat_le, All, IsTrue}
+use Rattle.std.proofs.Common.{◌≡◌, ◌⊎◌, inl, inr, ℕ, suc, ◌+◌, ◌<◌, ◌≤◌, List, [], ◌∷◌, ◌++◌, length, Bool, true, false, cond, Some, refl, sym, ◌∙◌, ap, subst, arith, length-append, zero, zero-add, ◌≢◌, ◌-◌, take, get_or, max, None, append-nil, append_assoc}
+use Rattle.std.specs.List.{AllByRecursion, flat_map}
+use Rattle.std.specs.Prelude.{◌&&◌, slice_get, nat_eq, nat_le, All, IsTrue, filter, nat_lt, ◌↔◌}
 use Rattle.std.proofs.lemmas.Bool.Decides.{nat_tests}
 use Rattle.std.proofs.lemmas.List.Elements.{All-from_recursion}
 use Rattle.std.proofs.lemmas.Option.{slice_get_within}
-use Rattle.append_buffer.specs.Tails.{TailState}
+use Rattle.append_buffer.specs.Tails.{TailState, tail_at, SetsTail}
 use Rattle.event_types.specs.declared.about.About.{About}
 use Rattle.pb_lines.specs.File.{lines_of}
 use Rattle.pb_wire.specs.declared.payload.PayloadType.{PayloadType}
 use Rattle.pv_catalog.specs.declared.row.Row.{Row}
-use Rattle.series_model.specs.Series.{end_of, end_from, RisesFrom, IsRising}
+use Rattle.series_model.specs.Series.{end_of, end_from, RisesFrom, IsRising, since}
 use Rattle.series_model.specs.declared.batch.RowSamples.{RowSamples}
 use Rattle.series_model.specs.declared.sample.Sample.{Sample}
-use Rattle.series_model.proofs.OverLemmas.{end_of-over}
-use Rattle.series_model.proofs.RisingLists.{end_from-append, end_from-ge, RisesFrom-front, RisesFrom-rest, RisesFrom-lower}
+use Rattle.series_model.proofs.OverLemmas.{end_of-over, since_max}
+use Rattle.series_model.proofs.RisingLists.{end_from-append, end_from-ge, RisesFrom-front, RisesFrom-rest, RisesFrom-lower, end_of_last}
 use Rattle.store_manifest.specs.Manifest.{ManifestState}
 use Rattle.durable_write.specs.Flush.{CanFlush, IsOfRow, IsSampleOf, bytes_in}
-use Rattle.durable_write.specs.Held.{samples_of}
+use Rattle.durable_write.specs.Held.{samples_of, Filed, count_of}
 use Rattle.tier_store.specs.Change.{Has}
 use Rattle.tier_store.specs.Seen.{Seen}
 use Rattle.tier_store.specs.Stores.{Stores}
 use Rattle.act_model.specs.Changes.{each, changed, made, of_row}
 use Rattle.act_model.specs.Crash.{DurableRow, kept_of, kept}
 use Rattle.act_model.specs.Event.{IsEvent}
-use Rattle.act_model.specs.Flush.{batch_from, batch_of}
+use Rattle.act_model.specs.Flush.{batch_from, batch_of, count_in}
 use Rattle.act_model.specs.Limbo.{files_of}
 use Rattle.act_model.specs.Machine.{Machine, Appends, held_bytes}
 use Rattle.act_model.specs.Rows.{RowState, Short, deep, durable, is_empty, size_of}
@@ -33,14 +33,15 @@ use Rattle.act_model.proofs.MadeLaws.{ground}
 use Rattle.act_model.proofs.Puts.{put_rises}
 use Rattle.act_model.proofs.RowLaws.{fit_all, higher_cover}
 use Rattle.archive_core.specs.declared.memory.RowMemory.{RowMemory}
-use Rattle.archive_core.specs.Flushing.{ListsBatch}
+use Rattle.archive_core.specs.Flushing.{ListsBatch, GivesUp}
 use Rattle.archive_core.specs.Memory.{AreRowsOf}
 use Rattle.archive_core.specs.Opening.{end_at}
 use Rattle.archive_core.specs.Stands.{AreDurable, HoldsDurable, IsPartOf}
-use Rattle.archive_core.proofs.KeptRows.{each_to}
 use Rattle.archive_core.proofs.ListEnds.{place_end}
-use Rattle.archive_core.proofs.Lists.{element, get_front}
+use Rattle.archive_core.proofs.Lists.{element, get_front, same_or_not}
 use Rattle.archive_core.proofs.Making.{kept_to, taken_durable, taken_later, kept_untold, kept_empty}
+use Rattle.act_model.proofs.Onward.{each_forward}
+use Rattle.archive_core.proofs.Fronts.{take_whole}
 
 -- WHAT A FLUSH TAKES
 
@@ -79,7 +80,7 @@ parts_there limit m = go (batch_of limit m) (taken_of limit m)
 
 -- THE STORES CAN TAKE IT
 
-lines_size : (xs : List Sample) → length (lines_of xs) ≡ size_of xs
+pub lines_size : (xs : List Sample) → length (lines_of xs) ≡ size_of xs
 lines_size [] = refl
 lines_size (x ∷ xs) =
     let more = lines_size xs in
@@ -204,7 +205,7 @@ module _ (tells : Bool) (new : Seen) (m : Machine) (sound : IsSound m) (held : S
       let r = element m.rows part.row is.here in
       let change = changed m.told m.limbo (Appends (part ∷ batch)) in
       let plain : 0 + part.row ≡ part.row = omega arith in
-      let there : slice_get (made [] (Appends (part ∷ batch)) m).rows part.row ≡ Some (change part.row r.0) = get_front (each change 0 m.rows) [] part.row (change part.row r.0) (each_to change 0 m.rows part.row r.0 r.1 ∙ ap (λ (n : ℕ). Some (change n r.0)) plain) in
+      let there : slice_get (made [] (Appends (part ∷ batch)) m).rows part.row ≡ Some (change part.row r.0) = get_front (each change 0 m.rows) [] part.row (change part.row r.0) (each_forward change 0 m.rows part.row r.0 r.1 ∙ ap (λ (n : ℕ). Some (change n r.0)) plain) in
       let at = holds.each part.row (kept_of (change part.row r.0)) (kept_to (made [] (Appends (part ∷ batch)) m).rows part.row (change part.row r.0) there) in
       let same : end_of (change part.row r.0).short ≡ end_of (samples_of part.row held.short) = ap end_of (at.is.short told) in
       let end : end_at new.manifests 0 part.row ≡ end_of (samples_of part.row held.short) = place_end new held tells has (told_stands tells m.told held.stands told_is told) 0 part.row (omega arith) in
@@ -235,3 +236,182 @@ module _ (tells : Bool) (new : Seen) (m : Machine) (sound : IsSound m) (held : S
       by_told : (t : Bool) → m.told ≡ t → HoldsDurable held m
       by_told true told = absurd (lacks (lists_then part batch told may all.0 holds))
       by_told false told = subst (λ (ds : List DurableRow). AreDurable m.told held ds) (kept_untold m (part ∷ batch) told) holds
+
+-- HOW MANY SAMPLES A FLUSH APPENDS
+
+-- the sum over all rows before k
+abbrev total : (ℕ → ℕ) → ℕ → ℕ
+total f zero = 0
+total f (suc k) = total f k + f k
+
+total_same : (f g : ℕ → ℕ) (k : ℕ) → ((i : ℕ) → i < k → f i ≡ g i) → total f k ≡ total g k
+total_same f g zero same = refl
+total_same f g (suc k) same =
+    let own = same k (omega arith) in
+    let rest = total_same f g k (λ i low. same i (omega (arith, low))) in
+    omega (arith, own, rest)
+
+total_sum : (f g : ℕ → ℕ) (k : ℕ) → total (λ i. f i + g i) k ≡ total f k + total g k
+total_sum f g zero = refl
+total_sum f g (suc k) = let rest = total_sum f g k in omega (arith, rest)
+
+total_none : (k : ℕ) → total (λ i. 0) k ≡ 0
+total_none zero = refl
+total_none (suc k) = let rest = total_none k in omega (arith, rest)
+
+-- so many of one row
+abbrev of_one : ℕ → ℕ → ℕ → ℕ
+of_one j n i = cond (nat_eq j i) n 0
+
+one_past : (j n k : ℕ) → k ≤ j → total (of_one j n) k ≡ 0
+one_past j n zero high = refl
+one_past j n (suc k) high =
+    let rest = one_past j n k (omega (arith, high)) in
+    let other : nat_eq j k ≡ false = grind (arith, nat_tests) in
+    let none : of_one j n k ≡ 0 = rw other refl in
+    omega (arith, rest, none)
+
+one_there : (j n k : ℕ) → j < k → total (of_one j n) k ≡ n
+one_there j n zero low = absurd (omega (arith, low))
+one_there j n (suc k) low = by_test (nat_eq j k) refl (one_there j n k)
+  where
+    by_test : (b : Bool) → nat_eq j k ≡ b → (j < k → total (of_one j n) k ≡ n) → total (of_one j n) k + of_one j n k ≡ n
+    by_test true is more =
+        let same : j ≡ k = grind (arith, nat_tests) in
+        let rest = one_past j n k (omega (arith, same)) in
+        let own : of_one j n k ≡ n = rw is refl in
+        omega (arith, rest, own)
+    by_test false is more =
+        let below : j < k = grind (arith, nat_tests) in
+        let rest = more below in
+        let none : of_one j n k ≡ 0 = rw is refl in
+        omega (arith, rest, none)
+
+-- a file is of a row before k
+abbrev pub IsBefore : ℕ → Filed → Type 0
+IsBefore k f = f.entry.series < k
+
+count_rows : (k : ℕ) (files : List Filed) → AllByRecursion (IsBefore k) files → total (λ i. length (samples_of i files)) k ≡ count_of files
+count_rows k [] all = total_none k
+count_rows k (f ∷ files) all =
+    let one = one_there f.entry.series (length f.samples) k all.0 in
+    let rest = count_rows k files all.1 in
+    let parts = total_same (λ i. length (samples_of i (f ∷ files))) (λ i. of_one f.entry.series (length f.samples) i + length (samples_of i files)) k (λ i low. own i (nat_eq f.entry.series i)) in
+    let both = total_sum (of_one f.entry.series (length f.samples)) (λ i. length (samples_of i files)) k in
+    let whole : count_of (f ∷ files) ≡ length f.samples + count_of files = length-append f.samples (flat_map (λ (h : Filed). h.samples) files) in
+    omega (arith, one, rest, parts, both, whole)
+  where
+    own : (i : ℕ) (b : Bool) → length (flat_map (λ (h : Filed). h.samples) (cond b (f ∷ filter (λ (h : Filed). nat_eq h.entry.series i) files) (filter (λ (h : Filed). nat_eq h.entry.series i) files))) ≡ cond b (length f.samples) 0 + length (samples_of i files)
+    own i true = length-append f.samples (samples_of i files)
+    own i false = sym (zero-add (length (samples_of i files)))
+
+count_parts : (k : ℕ) (batch : List RowSamples) → AllByRecursion (IsPartOf k) batch → total (λ i. length (of_row i batch)) k ≡ count_in batch
+count_parts k [] all = total_none k
+count_parts k (part ∷ batch) all =
+    let one = one_there part.row (length part.samples) k all.0.here in
+    let rest = count_parts k batch all.1 in
+    let parts = total_same (λ i. length (of_row i (part ∷ batch))) (λ i. of_one part.row (length part.samples) i + length (of_row i batch)) k (λ i low. own i (nat_eq part.row i)) in
+    let both = total_sum (of_one part.row (length part.samples)) (λ i. length (of_row i batch)) k in
+    omega (arith, one, rest, parts, both)
+  where
+    own : (i : ℕ) (b : Bool) → length (cond b (part.samples ++ of_row i batch) (of_row i batch)) ≡ cond b (length part.samples) 0 + length (of_row i batch)
+    own i true = length-append part.samples (of_row i batch)
+    own i false = sym (zero-add (length (of_row i batch)))
+
+-- where each row has the batch's samples more, there are as many more as the batch has
+pub count_more : (k : ℕ) (old new : List Filed) (batch : List RowSamples) → AllByRecursion (IsBefore k) old → AllByRecursion (IsBefore k) new → AllByRecursion (IsPartOf k) batch → ((i : ℕ) → i < k → samples_of i new ≡ samples_of i old ++ of_row i batch) → count_of new ≡ count_of old + count_in batch
+count_more k old new batch old_there new_there there more =
+    let was = count_rows k old old_there in
+    let now = count_rows k new new_there in
+    let parts = count_parts k batch there in
+    let each = total_same (λ i. length (samples_of i new)) (λ i. length (samples_of i old) + length (of_row i batch)) k (λ i low. ap length (more i low) ∙ length-append (samples_of i old) (of_row i batch)) in
+    let both = total_sum (λ i. length (samples_of i old)) (λ i. length (of_row i batch)) k in
+    omega (arith, was, now, parts, each, both)
+
+-- THE INTAKE GIVES UP A BATCH, PART BY PART
+
+-- all samples are from 0 on
+pub since_start : (xs : List Sample) → since 0 xs ≡ xs
+since_start [] = refl
+since_start (x ∷ xs) =
+    let low : nat_le 0 x.t ≡ true = grind (arith, nat_tests) in
+    ap (λ (b : Bool). cond b (x ∷ since 0 xs) (since 0 xs)) low ∙ ap (λ (ys : List Sample). x ∷ ys) (since_start xs)
+
+-- ONE PART
+
+-- a list that has no last element is empty
+pub no_last : (xs : List Sample) → slice_get xs (length xs - 1) ≡ None → xs ≡ []
+no_last [] none = refl
+no_last (x ∷ xs) none = absurd (let last = element (x ∷ xs) (length (x ∷ xs) - 1) (omega arith) in let some = last.1 in cc (none, some))
+
+part_none : (i : ℕ) (part : RowSamples) → part.samples ≡ [] → of_row i (part ∷ []) ≡ []
+part_none i part none = rw none (by_test (nat_eq part.row i))
+  where
+    by_test : (b : Bool) → ◌≡◌ {A = List Sample} (cond b ([] ++ []) []) []
+    by_test true = refl
+    by_test false = refl
+
+-- a part without samples gives up nothing
+pub gives_none : (part : RowSamples) (old : List TailState) → slice_get part.samples (length part.samples - 1) ≡ None → (i : ℕ) → (tail_at old i).samples ≡ since (end_of (of_row i (part ∷ []))) (tail_at old i).samples
+gives_none part old none i = sym (ap (λ (xs : List Sample). since (end_of xs) (tail_at old i).samples) (part_none i part (no_last part.samples none)) ∙ since_start (tail_at old i).samples)
+
+-- another gives up what is no later than its last sample
+pub gives_part : (part : RowSamples) (last : Sample) (old new : List TailState) → slice_get part.samples (length part.samples - 1) ≡ Some last → SetsTail part.row (since (last.t + 1) (tail_at old part.row).samples) old new → (i : ℕ) → (tail_at new i).samples ≡ since (end_of (of_row i (part ∷ []))) (tail_at old i).samples
+gives_part part last old new here sets i = by_place (same_or_not i part.row)
+  where
+    by_place : (i ≡ part.row) ⊎ (i ≢ part.row) → (tail_at new i).samples ≡ since (end_of (of_row i (part ∷ []))) (tail_at old i).samples
+    by_place (inl same) =
+        let test : nat_eq part.row i ≡ true = grind (arith, nat_tests) in
+        let own : of_row i (part ∷ []) ≡ part.samples = rw test (append-nil part.samples) in
+        let end : end_of (of_row i (part ∷ [])) ≡ last.t + 1 = ap end_of own ∙ end_of_last part.samples last here in
+        ap (λ (k : ℕ). (tail_at new k).samples) same ∙ (sets.own ∙ (ap (λ (k : ℕ). since (last.t + 1) (tail_at old k).samples) (sym same) ∙ ap (λ (n : ℕ). since n (tail_at old i).samples) (sym end)))
+    by_place (inr apart) =
+        let test : nat_eq part.row i ≡ false = grind (arith, nat_tests) in
+        let own : of_row i (part ∷ []) ≡ [] = rw test refl in
+        sets.others i apart ∙ sym (ap (λ (xs : List Sample). since (end_of xs) (tail_at old i).samples) own ∙ since_start (tail_at old i).samples)
+
+-- ONE AFTER ANOTHER
+
+of_row-append : (i : ℕ) (xs ys : List RowSamples) → of_row i (xs ++ ys) ≡ of_row i xs ++ of_row i ys
+of_row-append i [] ys = refl
+of_row-append i (x ∷ xs) ys = by_test (nat_eq x.row i) (of_row-append i xs ys)
+  where
+    by_test : (b : Bool) → of_row i (xs ++ ys) ≡ of_row i xs ++ of_row i ys → cond b (x.samples ++ of_row i (xs ++ ys)) (of_row i (xs ++ ys)) ≡ cond b (x.samples ++ of_row i xs) (of_row i xs) ++ of_row i ys
+    by_test true rest = ap (λ (zs : List Sample). x.samples ++ zs) rest ∙ sym (append_assoc x.samples (of_row i xs) (of_row i ys))
+    by_test false rest = rest
+
+take_next : (xs : List RowSamples) (k : ℕ) (x : RowSamples) → k < length xs → x ≡ get_or xs k x → take (suc k) xs ≡ take k xs ++ x ∷ []
+take_next [] k x low is = absurd (omega (arith, low))
+take_next (y ∷ xs) zero x low is = ap (λ (w : RowSamples). w ∷ []) (sym is)
+take_next (y ∷ xs) (suc k) x low is = ap (λ (ws : List RowSamples). y ∷ ws) (take_next xs k x (omega (arith, low)) is)
+
+later_end : (n : ℕ) (xs : List Sample) → RisesFrom n xs → max (end_of xs) n ≡ end_from n xs
+later_end n [] rises = omega arith
+later_end n (x ∷ xs) rises = let low = rises.0 in let end = end_from-ge (x.t + 1) xs rises.1 in omega (arith, low, end)
+
+-- what is given up before a part, and that part
+pub gives_more : (parts : List RowSamples) (k : ℕ) (part : RowSamples) (old mid new : List TailState) → k < length parts → part ≡ get_or parts k part → GivesUp (take k parts) old mid → ((i : ℕ) → (tail_at new i).samples ≡ since (end_of (of_row i (part ∷ []))) (tail_at mid i).samples) → GivesUp (take (k + 1) parts) old new
+gives_more parts k part old mid new low is gave gives = λ i rises.
+    let front = of_row i (take k parts) in
+    let own = of_row i (part ∷ []) in
+    let next : k + 1 ≡ suc k = omega arith in
+    let all : of_row i (take (k + 1) parts) ≡ front ++ own = ap (λ (n : ℕ). of_row i (take n parts)) next ∙ (ap (of_row i) (take_next parts k part low is) ∙ of_row-append i (take k parts) (part ∷ [])) in
+    let both : IsRising (front ++ own) = subst (λ (xs : List Sample). IsRising xs) all rises in
+    let first = gave i (RisesFrom-front 0 front own both) in
+    let end : max (end_of own) (end_of front) ≡ end_of (front ++ own) = later_end (end_of front) own (RisesFrom-rest 0 front own both) ∙ sym (end_from-append 0 front own) in
+    gives i ∙ (ap (λ (xs : List Sample). since (end_of own) xs) first ∙ (since_max (end_of own) (end_of front) (tail_at old i).samples ∙ (ap (λ (n : ℕ). since n (tail_at old i).samples) end ∙ ap (λ (xs : List Sample). since (end_of xs) (tail_at old i).samples) (sym all))))
+
+pub gives_all : (parts batch : List RowSamples) (k : ℕ) (old new : List TailState) → parts ≡ batch → length parts ≤ k → GivesUp (take k parts) old new → GivesUp batch old new
+gives_all parts batch k old new is end gives = subst (λ (b : List RowSamples). GivesUp b old new) (take_whole k parts end ∙ is) gives
+
+-- WHETHER A PART IS LISTED
+
+pub lists_none : (xs : List Sample) (end : ℕ) → slice_get xs (length xs - 1) ≡ None → end_of xs ≤ end
+lists_none xs end none = let empty : end_of xs ≡ 0 = ap end_of (no_last xs none) in omega (arith, empty)
+
+pub lists_part : (xs : List Sample) (last : Sample) (end e : ℕ) → slice_get xs (length xs - 1) ≡ Some last → e ≡ end → IsTrue (nat_lt last.t e) ↔ (end_of xs ≤ end)
+lists_part xs last end e here same =
+    let of_last = end_of_last xs last here in (
+      λ is. let low : last.t < e = grind (arith, nat_tests) in omega (arith, of_last, low, same),
+      λ low. let below : last.t < e = omega (arith, of_last, low, same) in grind (arith, nat_tests),
+    )

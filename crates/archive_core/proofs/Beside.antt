@@ -25,7 +25,7 @@ use Rattle.tier_store.specs.Stores.{Stores, list_at, tier}
 use Rattle.tier_store.specs.declared.limbo.Retired.{Retired}
 use Rattle.tier_store.proofs.Places.{granularity_at, list_other, manifest_at, manifest_of}
 use Rattle.tier_store.proofs.Showing.{registers_on, switches_on}
-use Rattle.archive_core.proofs.FlushOver.{IsFiledAt}
+use Rattle.archive_core.proofs.Changing.{IsFiledAt}
 use Rattle.archive_core.proofs.Growth.{rows_beside}
 use Rattle.archive_core.proofs.PartsGrow.{parts_grow}
 

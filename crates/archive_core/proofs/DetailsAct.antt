@@ -12,12 +12,12 @@ use Rattle.series_model.proofs.RisingLists.{since_all}
 use Rattle.durable_write.specs.Ends.{End, IsFailed}
 use Rattle.durable_write.specs.Held.{Filed}
 use Rattle.durable_write.specs.Plan.{of_row}
-use Rattle.tier_store.specs.Change.{Has}
+use Rattle.tier_store.specs.Change.{Has, OnlyReads}
 use Rattle.tier_store.specs.Details.{AreCounted, IsDescribed, SaysDescribed, none_has, is_described}
 use Rattle.tier_store.specs.Opening.{end_of_answer}
 use Rattle.tier_store.specs.Pinned.{beside}
 use Rattle.tier_store.specs.Seen.{Seen, granularities}
-use Rattle.tier_store.specs.Settling.{SettlesAndReads, ReadsOf}
+use Rattle.tier_store.specs.Telling.{ReadsOf}
 use Rattle.tier_store.specs.Stores.{Stores, list_at, samples_in}
 use Rattle.act_model.specs.declared.acts.Answer.{Answer}
 use Rattle.act_model.specs.declared.acts.Answer.TheVariants as answer
@@ -27,23 +27,24 @@ use Rattle.act_model.specs.Machine.{Machine, find_row}
 use Rattle.act_model.specs.Reply.{Reply, reply_of}
 use Rattle.act_model.specs.Rows.{RowState, Store, Short, Medium, Long, durable, accepted}
 use Rattle.act_model.specs.Rule.{index_of}
-use Rattle.archive_core.specs.Describing.{IsDescribing}
 use Rattle.archive_core.specs.Ends.{AskEnds, is_spent, is_failed, is_answered}
 use Rattle.archive_core.specs.Parts.{Parts}
 use Rattle.archive_core.specs.Stands.{Stands, Rests}
-use Rattle.archive_core.proofs.Keeping.{Keeps}
-use Rattle.archive_core.proofs.Asking.{end_kind}
+use Rattle.archive_core.proofs.Asking.{end_kind, never_wants}
 use Rattle.archive_core.proofs.Batches.{told_stands}
 use Rattle.archive_core.proofs.Changing.{rests_again}
 use Rattle.archive_core.proofs.KeptRows.{row_at}
 use Rattle.archive_core.proofs.Opens.{told_tells}
 use Rattle.archive_core.proofs.PartLists.{parts_of, row_parts}
-use Rattle.archive_core.proofs.Pieces.{durable_is}
+use Rattle.archive_core.proofs.Windows.{durable_is}
 use Rattle.archive_core.proofs.Registered.{find_some}
-use Rattle.archive_core.proofs.Settled.{rests_has, open_rows}
+use Rattle.archive_core.proofs.Settled.{rests_has}
+use Rattle.tier_store.specs.Frame.{Frame}
+use Rattle.act_model.specs.declared.acts.Act.TheVariants.{Details as DetailsAct}
+use Rattle.archive_core.proofs.Acting.{IsAct}
 
 module _ (R : Type 0) (tells reader_tells : Bool) (bytes : R → List ℕ) (faults : R → ℕ) (p : Parts) (m : Machine) (r : Rests tells p m) (i : ℕ) (name : List ℕ) (named : HasName p.at.catalogue.rows i name) (result : Answer R) (new : Seen)
-    (settles : SettlesAndReads tells (SaysDescribed tells name (tail_at p.tails i).samples) p.at new (end_of_answer result)) (shown : Keeps tells (beside p.at p.limbo) (beside new p.limbo)) where
+    (says : ReadsOf (SaysDescribed tells name (tail_at p.tails i).samples) (end_of_answer result) r.stands.store.before) (has_new : Has tells new r.stands.store.before) (same_g : granularities new.manifests ≡ granularities p.at.manifests) (frame : Frame tells (beside p.at p.limbo) (beside new p.limbo)) (reads : OnlyReads tells p.at new (end_of_answer result)) where
   abbrev held : Stores
   held = r.stands.store.before
 
@@ -56,15 +57,12 @@ module _ (R : Type 0) (tells reader_tells : Bool) (bytes : R → List ℕ) (faul
   abbrev Ends : Answer R → Type 0
   Ends given = AskEnds tells (Describes name) p m (record p { at = new }) (reply_of reader_tells bytes faults given)
 
-  has_new : Has tells new held
-  has_new = (settles.settled held (rests_has tells p m r)).0
-
   -- the archive stands for the machine as it did
   read : Stands tells (record p { at = new }) n
-  read = rests_again tells p m r new settles.granularity shown has_new
+  read = rests_again tells p m r new same_g frame has_new
 
   same_rows : p.at.catalogue.rows ≡ held.rows
-  same_rows = open_rows tells p.at held m r.stands.store.is_open
+  same_rows = (rests_has tells p m r).known.rows
 
   module _ (k : ℕ) (d : Details) (has : HasName held.rows k name) (is : IsDescribed tells held k tail d) where
     known : HasName p.at.catalogue.rows k name
@@ -99,7 +97,7 @@ module _ (R : Type 0) (tells reader_tells : Bool) (bytes : R → List ℕ) (faul
         stands = told_stands tells m.told held.stands r.stands.store.told on
 
         gran : m.rule.granularity ≡ granularities new.manifests
-        gran = r.stands.rule.granularity ∙ sym settles.granularity
+        gran = r.stands.rule.granularity ∙ sym same_g
 
         counted : AreCounted (samples_in k held) tail d
         counted = is.counted (told_tells tells m.told held.stands r.stands.store.told on) stands
@@ -139,32 +137,21 @@ module _ (R : Type 0) (tells reader_tells : Bool) (bytes : R → List ℕ) (faul
   details_end = elim (end_kind result) [
     | inl fault ↦ (
         let failed : IsFailed (end_of_answer result) = subst (λ (given : Answer R). IsFailed (end_of_answer given)) (sym fault) tt in
-        subst (λ (given : Answer R). Ends given) (sym fault) (is_failed read (settles.settles.cause failed))
+        subst (λ (given : Answer R). Ends given) (sym fault) (is_failed read (reads.cause failed))
         )
     | inr others ↦ elim others [
       | inl spent ↦ subst (λ (given : Answer R). Ends given) (sym spent) (is_spent read)
-      | inr done ↦ by_says result held (subst (λ (end : End (Answer R) ⊥). ReadsOf (SaysDescribed tells name tail) end held) done (settles.settled held (rests_has tells p m r)).1) refl
+      | inr done ↦ by_says result held (subst (λ (end : End (Answer R) ⊥). ReadsOf (SaysDescribed tells name tail) end held) done says) refl
     ]
   ]
-
-  -- it is answered as one who asks for details is
-  pub details_answer : IsDescribing result
-  details_answer = elim (end_kind result) [
-    | inl fault ↦ subst (λ (given : Answer R). IsDescribing given) (sym fault) tt
-    | inr others ↦ elim others [
-      | inl spent ↦ subst (λ (given : Answer R). IsDescribing given) (sym spent) tt
-      | inr done ↦ of_says result held (subst (λ (end : End (Answer R) ⊥). ReadsOf (SaysDescribed tells name tail) end held) done (settles.settled held (rests_has tells p m r)).1)
-    ]
-  ]
-    where
-      of_says : (given : Answer R) (s : Stores) → SaysDescribed tells name tail given s → IsDescribing given
-      of_says _ _ (none_has none) = tt
-      of_says _ _ (is_described k d has is) = tt
 
 -- the count of faults is nothing to what is told
-pub describes_goes : (name : List ℕ) (m : Machine) (f : ℕ) (given : Reply) (new : Machine) → Describes name (record m { faults = f }) given new → Describes name m given new
+describes_goes : (name : List ℕ) (m : Machine) (f : ℕ) (given : Reply) (new : Machine) → Describes name (record m { faults = f }) given new → Describes name m given new
 describes_goes name m f given new is = record { i = is.i; row = is.row; details = is.details; found = is.found; here = is.here; known = is.known; told = is.told; answered = is.answered; same = is.same }
 
 -- it isn't told as want of memory
-pub describes_tells : (name : List ℕ) (m : Machine) (given : Reply) (new : Machine) → Describes name m given new → given ≡ answer.Memory → ⊥
+describes_tells : (name : List ℕ) (m : Machine) (given : Reply) (new : Machine) → Describes name m given new → given ≡ answer.Memory → ⊥
 describes_tells name m given new is told = let both = sym is.answered ∙ told in cc (both)
+
+pub describes_act : (who : ℕ) (name : List ℕ) → IsAct who (DetailsAct name) (Describes name)
+describes_act who name = record { refuses = λ m f. refl; changes = λ m f. refl; goes = describes_goes name; never = never_wants name; tells_more = describes_tells name; steps = λ m given new acts. acts; wants = λ m n none. none }

@@ -1,5 +1,5 @@
 -- What a flush beside files in limbo makes of the stores is what the machine makes of them.
-use Rattle.std.proofs.Common.{◌≡◌, inl, inr, ℕ, zero, suc, ◌<◌, List, [], ◌∷◌, length, get_or, Bool, true, Some, refl, sym, ◌∙◌, ap, subst, arith}
+use Rattle.std.proofs.Common.{◌≡◌, inl, inr, ◌<◌, List, [], length, get_or, Bool, true, Some, refl, sym, ◌∙◌, ap, subst, arith, ℕ}
 use Rattle.std.specs.List.{AllByRecursion}
 use Rattle.std.specs.Prelude.{◌&&◌, All, Contains, IsTrue, map, slice_get, slice_set}
 use Rattle.std.proofs.lemmas.List.Elements.{All-contains, All-from_recursion, Contains-get_or, recursion_from_All}
@@ -32,22 +32,13 @@ use Rattle.act_model.specs.Sound.{IsSound, MayMake}
 use Rattle.act_model.proofs.RowActs.{flush_may}
 use Rattle.archive_core.specs.LimboTies.{IsLimboOf}
 use Rattle.archive_core.specs.Stands.{IsDurableAt, HoldsDurable}
-use Rattle.archive_core.proofs.Batches.{told_stands}
 use Rattle.archive_core.proofs.Making.{count_of, durable_made, kept_to}
-use Rattle.archive_core.proofs.Opens.{told_tells}
 use Rattle.archive_core.proofs.Reviving.{short_over}
+use Rattle.archive_core.proofs.Changing.{IsFiledAt}
+use Rattle.archive_core.proofs.MoveLimbo.{HaveMachine}
+use Rattle.durable_write.proofs.Three.{set_long}
 
 -- WHAT IS LISTED THEN
-
--- a list with one element set is as long
-set_length : {A : Type 0} (xs : List A) (i : ℕ) (x : A) → length (slice_set xs i x) ≡ length xs
-set_length {A} [] i x = refl
-set_length {A} (y ∷ xs) zero x = refl
-set_length {A} (y ∷ xs) (suc i) x = let rest = set_length xs i x in omega (arith, rest)
-
--- of each granularity that the place has, the files are of it
-abbrev pub IsFiledAt : List Granularity → ℕ → Held → Type 0
-IsFiledAt gs i t = (g : Granularity) → slice_get gs i ≡ Some g → AreFiled g t
 
 module _ (at : Seen) (held after : Stores) (known : IsKnown at.catalogue at.manifests held) (same : after ≡ with_list 0 after.short held) (rise : PlacesRise after.short) (filed : IsFiledAt (granularities at.manifests) 0 (tier 0 after)) where
   pub first : (m : ManifestState) × (slice_get at.manifests 0 ≡ Some m)
@@ -65,7 +56,7 @@ module _ (at : Seen) (held after : Stores) (known : IsKnown at.catalogue at.mani
   -- manifests that list what is then listed
   pub known_then : IsKnown at.catalogue manifests_then after
   known_then = record {
-    three = set_length at.manifests 0 now ∙ known.three;
+    three = set_long at.manifests 0 now ∙ known.three;
     rows = known.rows ∙ sym rows;
     each = λ i m here. elim (set_cases at.manifests 0 i first.0 now m first.1 here) [
       | inl own ↦ subst (λ (k : ℕ). IsKnownAt m (tier k after)) (sym own.0) (subst (λ (n : ManifestState). IsKnownAt n (tier 0 after)) (sym own.1) (record {
@@ -93,24 +84,23 @@ module _ (at : Seen) (held after : Stores) (known : IsKnown at.catalogue at.mani
 put_short : (m : Machine) (batch : List RowSamples) (i : ℕ) (r : RowState) → m.told ≡ true → (changed m.told m.limbo (Appends batch) i r).short ≡ put (of_row i batch) (files_of i Short m.limbo) r.short
 put_short m batch i r told = rw told refl
 
-module _ (tells : Bool) (at : Seen) (limbo : List Retired) (m : Machine) (held : Stores) (has : Has tells at held) (seen_now : IsTrue tells → MayLeave at.past at.files) (sound : IsSound m) (told_is : m.told ≡ (tells && held.stands)) (holds : HoldsDurable held m) (tie : IsLimboOf tells (beside at limbo) m.told m.rows m.limbo)
+module _ (tells : Bool) (at : Seen) (limbo : List Retired) (m : Machine) (held : Stores) (have : HaveMachine tells at limbo m held)
     (files : List Filed) (whole : AreWhole 0 tells at limbo held.stands files) (batch : List RowSamples) (may : MayMake m.rule m.told m.rows m.limbo (Appends batch)) (after : Stores) (by : FlushesOver limbo files batch held after) where
   short_is : after.short ≡ put_all held.short by.flushed.written
   short_is = ap (λ (t : Held). t.files) by.flushed.lists
 
   rise : PlacesRise after.short
-  rise = subst PlacesRise (sym short_is) (rise_put_all held.short by.flushed.written (let three = has.known.three in let first = manifest_at at.manifests 0 (omega (arith, three)) in (has.known.each 0 first.0 first.1).valid.apart))
+  rise = subst PlacesRise (sym short_is) (rise_put_all held.short by.flushed.written (let three = have.has.known.three in let first = manifest_at at.manifests 0 (omega (arith, three)) in (have.has.known.each 0 first.0 first.1).valid.apart))
 
   -- the stores then hold what is durable of the machine with the batch
   pub flush_over_holds : IsFiledAt (granularities at.manifests) 0 (tier 0 after) → HoldsDurable after (made [] (Appends batch) m)
   flush_over_holds filed = durable_made m (Appends batch) after
-      (let count = count_of held m holds in let same = ap (λ (s : Stores). length s.rows) by.same in omega (arith, count, same))
-      (λ i r here. by_row i r here (holds.each i (kept_of r) (kept_to m.rows i r here))) (λ j r here. absurd (cc (here)))
+      (let count = count_of held m have.holds in let same = ap (λ (s : Stores). length s.rows) by.same in omega (arith, count, same))
+      (λ i r here. by_row i r here (have.holds.each i (kept_of r) (kept_to m.rows i r here))) (λ j r here. absurd (cc (here)))
     where
       short : (i : ℕ) (r : RowState) → slice_get m.rows i ≡ Some r → m.told ≡ true → samples_of i after.short ≡ put (of_row i batch) (files_of i Short m.limbo) r.short
       short i r here told =
-          let tells_now = told_tells tells m.told held.stands told_is told in
-          short_over tells at limbo m held has tells_now (seen_now tells_now) (told_stands tells m.told held.stands told_is told) sound told holds tie files whole batch after by i r here may at.catalogue (manifests_then at held after has.known by.same rise filed) (known_then at held after has.known by.same rise filed) (same_then at held after has.known by.same rise filed)
+          short_over tells at limbo m held have told files whole batch after by i r here may at.catalogue (manifests_then at held after have.has.known by.same rise filed) (known_then at held after have.has.known by.same rise filed) (same_then at held after have.has.known by.same rise filed)
 
       by_row : (i : ℕ) (r : RowState) → slice_get m.rows i ≡ Some r → IsDurableAt m.told held i (kept_of r) → IsDurableAt m.told after i (kept_of (changed m.told m.limbo (Appends batch) i r))
       by_row i r here own = record {
@@ -140,13 +130,13 @@ module _ (tells : Bool) (at : Seen) (limbo : List Retired) (m : Machine) (held :
   both_below = recursion_from_All (IsBelow (length held.rows)) both (all_put_all (IsBelow (length held.rows)) held.short by.back (below first.0.granularity held.rows held.short known.valid.filed.listed) back)
     where
       first : (m : ManifestState) × (slice_get at.manifests 0 ≡ Some m)
-      first = manifest_at at.manifests 0 (let three = has.known.three in omega (arith, three))
+      first = manifest_at at.manifests 0 (let three = have.has.known.three in omega (arith, three))
 
       known : IsKnownAt first.0 (tier 0 held)
-      known = has.known.each 0 first.0 first.1
+      known = have.has.known.each 0 first.0 first.1
 
       in_files : All (IsBelow (length held.rows)) files
-      in_files = subst (λ (rows : List Row). All (IsBelow (length rows)) files) has.known.rows (below first.0.granularity at.catalogue.rows files (whole.filed first.0 first.1).listed)
+      in_files = subst (λ (rows : List Row). All (IsBelow (length rows)) files) have.has.known.rows (below first.0.granularity at.catalogue.rows files (whole.filed first.0 first.1).listed)
 
       back : All (IsBelow (length held.rows)) by.back
       back k d lt = All-contains (IsBelow (length held.rows)) files (get_or by.back k d) in_files (by.in_limbo.known k d lt)
@@ -163,6 +153,6 @@ module _ (tells : Bool) (at : Seen) (limbo : List Retired) (m : Machine) (held :
 pub goes_on_in_limbo : (tells : Bool) (at : Seen) → (IsTrue tells → MayLeave at.past at.files) → (later : CatalogueState) (ns : List ManifestState) (limbo : List Retired) (files : List Filed) (limit : ℕ) (old new : Stores) (m : Machine) → IsSound m → m.told ≡ (tells && old.stands) → Has tells at old → HoldsDurable old m → IsLimboOf tells (beside at limbo) m.told m.rows m.limbo → AreWhole 0 tells at limbo old.stands files
     → FlushesOver limbo files (batch_of limit m) old new → IsKnown later ns new → granularities ns ≡ granularities at.manifests → HoldsDurable new (made [] (Appends (batch_of limit m)) m)
 goes_on_in_limbo tells at seen_now later ns limbo files limit old new m sound told_is has holds tie whole by known same_g =
-    flush_over_holds tells at limbo m old has seen_now sound told_is holds tie files whole (batch_of limit m) (flush_may limit m) new by (λ g here.
+    flush_over_holds tells at limbo m old (record { has = has; seen_now = seen_now; holds = holds; told_is = told_is; sound = sound; tie = tie }) files whole (batch_of limit m) (flush_may limit m) new by (λ g here.
     let n = manifest_of ns 0 g (ap (λ (gs : List Granularity). slice_get gs 0) same_g ∙ here) in
     subst (λ (u : Granularity). AreFiled u (tier 0 new)) n.2 (known.each 0 n.0 n.1).valid.filed)

@@ -21,7 +21,8 @@ use Rattle.act_model.specs.declared.acts.Answer.TheVariants.{NamesAre}
 use Rattle.act_model.proofs.Rows.{each_get, length-each}
 use Rattle.archive_core.specs.declared.memory.RowMemory.{RowMemory}
 use Rattle.archive_core.specs.Memory.{IsRowOf, IsRowAt, AreRowsOf, cell_in, period_in, sampling_by}
-use Rattle.archive_core.proofs.Lists.{same_or_not, get_set_same, get_set_other, element}
+use Rattle.archive_core.proofs.Lists.{same_or_not, get_set_same, element}
+use Rattle.durable_write.proofs.Three.{get_set_other}
 
 -- a row of the catalogue has its row of the machine
 pub row_there : (rows : List Row) (kept : List RowMemory) (ts : List TailState) (rs : List RowState) → AreRowsOf rows kept ts rs → (i : ℕ) (row : Row) → slice_get rows i ≡ Some row → (r : RowState) × (slice_get rs i ≡ Some r) × (r.name ≡ row.name)
@@ -209,16 +210,6 @@ names_are rows kept ts rs are = go rs rows are.count (λ i r here. let is = are.
         cc (head, rest)
 
 -- ONE ROW CHANGES
-
--- a row is changed by its number
-pub each_to : (f : ℕ → RowState → RowState) (j : ℕ) (rows : List RowState) (k : ℕ) (r : RowState) → slice_get rows k ≡ Some r → slice_get (each f j rows) k ≡ Some (f (j + k) r)
-each_to f j [] k r here = absurd (cc (here))
-each_to f j (q ∷ rows) zero r here =
-    let plain : j ≡ j + 0 = omega arith in
-    ap (λ (n : ℕ). Some (f n q)) plain ∙ ap (λ (w : RowState). Some (f (j + 0) w)) (same_Some q r here)
-each_to f j (q ∷ rows) (suc k) r here =
-    let next : (j + 1) + k ≡ j + suc k = omega arith in
-    each_to f (j + 1) rows k r here ∙ ap (λ (n : ℕ). Some (f n r)) next
 
 other_tail : (ts new : List TailState) (i : ℕ) (row : Row) (kept : RowMemory) (r : RowState) → (tail_at new i).samples ≡ (tail_at ts i).samples → IsRowOf ts i row kept r → IsRowOf new i row kept r
 other_tail ts new i row kept r same is = record { name = is.name; about = is.about; state = is.state; next = is.next; cell = is.cell; period = is.period; tail = is.tail ∙ sym same }

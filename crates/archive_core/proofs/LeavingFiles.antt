@@ -1,5 +1,5 @@
 -- The oldest files of a row that leave a store's list, as files of limbo: which names are listed before and after, and that theirs differ.
-use Rattle.std.proofs.Common.{◌≡◌, ◌≢◌, ◌⊎◌, inl, inr, ℕ, zero, suc, ◌+◌, ◌<◌, List, [], ◌∷◌, ◌++◌, map, take, Bool, refl, sym, ◌∙◌, ap, subst, arith}
+use Rattle.std.proofs.Common.{◌≡◌, ◌≢◌, ◌⊎◌, inl, inr, ℕ, suc, ◌+◌, ◌<◌, List, [], ◌∷◌, ◌++◌, map, take, Bool, refl, sym, ◌∙◌, ap, subst, arith}
 use Rattle.std.specs.List.{AllByRecursion}
 use Rattle.std.specs.Prelude.{All, Contains, nat_eq}
 use Rattle.std.proofs.lemmas.List.Elements.{All-contains, All-contains_itself, All-filter, All-head, All-tail, All-take}
@@ -12,7 +12,7 @@ use Rattle.durable_write.specs.Flush.{PlacesRise}
 use Rattle.durable_write.specs.Held.{Filed, IsListed, file_of, filed_at}
 use Rattle.durable_write.specs.Plan.{of_row}
 use Rattle.durable_write.specs.Stored.{KeysDiffer}
-use Rattle.durable_write.proofs.Listed.{before_apart}
+use Rattle.durable_write.proofs.Listed.{before_apart, rise_filter}
 use Rattle.durable_write.proofs.Names.{same_place}
 use Rattle.durable_write.proofs.PutFile.{Comes}
 use Rattle.durable_write.proofs.Retiring.{all_without_all}
@@ -28,30 +28,14 @@ use Rattle.tier_store.proofs.Dropped.{from_oldest, stays_or}
 use Rattle.tier_store.proofs.Places.{list_other, list_set, manifest_at, within_three}
 use Rattle.tier_store.proofs.Sparing.{listed_name}
 use Rattle.archive_core.specs.LimboTies.{NamesDiffer}
-use Rattle.archive_core.proofs.Pieces.{rise_filter}
 use Rattle.archive_core.proofs.SameNames.{contains_cases, of_all}
+use Rattle.tier_store.proofs.Removals.{rise_take}
+use Rattle.archive_core.proofs.Lists.{map_in, map_out}
 
 -- LISTS
 
-pub map_in : {A B : Type 0} (g : A → B) (xs : List A) (x : A) → Contains xs x → Contains (map g xs) (g x)
-map_in {A} {B} g [] x (k, low, is) = absurd (omega (arith, low))
-map_in {A} {B} g (y ∷ ys) x (zero, low, is) = (zero, omega arith, ap g is)
-map_in {A} {B} g (y ∷ ys) x (suc k, low, is) = let rest = map_in g ys x (k, omega (arith, low), is) in (suc rest.0, (let more = rest.1 in omega (arith, more)), rest.2)
-
-pub map_out : {A B : Type 0} (g : A → B) (xs : List A) (r : B) → Contains (map g xs) r → (x : A) × Contains xs x × (g x ≡ r)
-map_out {A} {B} g [] r (k, low, is) = absurd (omega (arith, low))
-map_out {A} {B} g (y ∷ ys) r (zero, low, is) = (y, (zero, omega arith, refl), is)
-map_out {A} {B} g (y ∷ ys) r (suc k, low, is) =
-    let rest = map_out g ys r (k, omega (arith, low), is) in
-    (rest.0, (let at = rest.1 in (suc at.0, (let more = at.1 in omega (arith, more)), at.2)), rest.2)
-
 take_from : (n : ℕ) (xs : List Filed) (f : Filed) → Contains (take n xs) f → Contains xs f
 take_from n xs f there = All-contains (Contains xs) (take n xs) f (All-take (Contains xs) n xs (All-contains_itself xs)) there
-
-rise_take : (n : ℕ) (xs : List Filed) → PlacesRise xs → PlacesRise (take n xs)
-rise_take zero xs rise = tt
-rise_take (suc n) [] rise = tt
-rise_take (suc n) (x ∷ xs) rise = (All-take (Comes x) n xs rise.0, rise_take n xs rise.1)
 
 abbrev pub named : Retired → Name
 named file = file.name

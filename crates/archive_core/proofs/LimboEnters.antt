@@ -33,7 +33,7 @@ use Rattle.archive_core.specs.LimboTies.{IsRetiredOf}
 use Rattle.archive_core.specs.Stands.{HoldsDurable}
 use Rattle.archive_core.proofs.LimboLists.{from_filter}
 use Rattle.archive_core.proofs.Making.{kept_to}
-use Rattle.archive_core.proofs.Pieces.{index_low}
+use Rattle.archive_core.proofs.Windows.{index_low}
 use Rattle.archive_core.proofs.PinMade.{bytes_same}
 
 module _ (tells : Bool) (at : Seen) (limbo : List Retired) (m : Machine) (s : Stores) (has : Has tells at s) (seen_now : IsTrue tells → MayLeave at.past at.files) (holds : HoldsDurable s m) (stands : IsTrue s.stands)

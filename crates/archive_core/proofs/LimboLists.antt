@@ -28,8 +28,8 @@ use Rattle.act_model.specs.Rows.{RowState, tier, window, is_empty}
 use Rattle.act_model.specs.Rule.{index_of}
 use Rattle.archive_core.specs.Stands.{TellsHeaders, HoldsDurable}
 use Rattle.archive_core.proofs.Lists.{same_or_not}
-use Rattle.archive_core.proofs.Pieces.{OwnFiles, own_files, tier_is, index_low}
-use Rattle.archive_core.proofs.Windows.{all_in, windows, window_apart, window-append}
+use Rattle.archive_core.proofs.Windows.{RowFiles, own_files, list_is, index_low, all_in, windows, window_apart}
+use Rattle.act_model.proofs.Puts.{window-append}
 
 -- one of the files starts there
 abbrev pub StartsAt : ℕ → List Filed → Type 0
@@ -75,14 +75,14 @@ module _ (tells : Bool) (at : Seen) (m : Machine) (held : Stores) (has : Has tel
   abbrev files : List Filed
   files = of_row f.row (list_at (index_of f.store) held)
 
-  own : OwnFiles tells at m held has holds gran heads told stands f.row r here f.store
+  own : RowFiles m.rule held f.store f.row r
   own = own_files tells at m held has holds gran heads told stands f.row r here f.store
 
   filed : All (IsFiled unit held.rows) files
   filed = subst (λ (g : Granularity). All (IsFiled g held.rows) files) (same_Some own.unit unit (sym own.of_store ∙ (ap (λ (gs : List Granularity). slice_get gs (index_of f.store)) gran ∙ of_store))) own.filed
 
   tier_all : tier r f.store ≡ all_in files
-  tier_all = tier_is tells at m held has holds gran heads told stands f.row r here f.store
+  tier_all = sym (list_is m held f.row r holds told here f.store)
 
   -- where a file of the partition is listed, there are samples of it
   pub some_samples : StartsAt f.part.start files → is_empty (window f.part (tier r f.store)) ≡ false

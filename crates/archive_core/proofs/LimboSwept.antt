@@ -1,31 +1,167 @@
--- A sweep of the stores' limbo is one of the machine's.
-use Rattle.std.proofs.Common.{◌≡◌, ◌≢◌, ◌⊎◌, inl, inr, ℕ, List, [], ◌∷◌, length, Bool, true, false, cond, Option, Some, None, refl, sym, ◌∙◌, ap, subst, arith}
-use Rattle.std.specs.FinMap.{FinMap}
-use Rattle.std.specs.List.{AllByRecursion, list_any}
+-- A sweep of the stores' limbo is one of the machine's: the stores' pins name a file of limbo just where the machine's do.
+use Rattle.std.proofs.Common.{◌≡◌, ℕ, zero, suc, ◌+◌, List, [], ◌∷◌, length, map, Bool, true, false, Option, Some, None, refl, sym, ◌∙◌, ap, subst, arith, ◌≢◌, ◌⊎◌, inl, inr, cond}
+use Rattle.std.specs.FinMap.{FinMap, get}
 use Rattle.std.specs.Ordering.{nat_cmp}
-use Rattle.std.specs.Prelude.{◌↔◌, Contains, filter, not, slice_get}
-use Rattle.std.proofs.lemmas.List.Filters.{length-filter_both}
-use Rattle.std.proofs.lemmas.List.Folds.{Any-from_list_any, list_any-from_Any}
-use Rattle.std.proofs.lemmas.Option.{same_Some}
+use Rattle.std.specs.Prelude.{◌==◌, Contains, slice_get, ◌↔◌, filter, not}
+use Rattle.std.proofs.lemmas.Bool.Decides.{nat_tests}
+use Rattle.std.proofs.lemmas.List.Folds.{Any-from_list_any, list_any_at}
+use Rattle.std.proofs.lemmas.Option.{same_Some, slice_get_within, get_or_from_slice_get}
 use Rattle.disk_model.specs.Files.{Name}
-use Rattle.pinned_pieces.specs.Pieces.{PinOf}
-use Rattle.durable_write.proofs.Names.{name_cases}
-use Rattle.tier_store.specs.Limbo.{IsListedName, IsNeeded, IsPinnedFile, IsSwept as StoresSwept, Stay}
+use Rattle.partition_names.specs.declared.granularity.Granularity.{Granularity}
+use Rattle.partition_names.specs.declared.part.Part.{Part}
+use Rattle.partition_names.specs.Part.{IsPart}
+use Rattle.partition_names.specs.Path.{path_of}
+use Rattle.partition_names.proofs.PartLemmas.{one_name, one_part, within}
+use Rattle.partition_names.proofs.PathLemmas.{one_path}
+use Rattle.pinned_pieces.specs.Pieces.{PinOf, file_of as piece_file}
+use Rattle.pinned_pieces.specs.declared.piece.PinnedFile.{PinnedFile}
+use Rattle.tier_store.specs.Limbo.{IsPinnedFile, IsListedName, IsNeeded, IsSwept as StoresSwept, Stay}
 use Rattle.tier_store.specs.Pinned.{SeenAll}
-use Rattle.tier_store.specs.declared.limbo.Retired.{Retired}
-use Rattle.tier_store.proofs.Staying.{stay_cases, stay_from}
 use Rattle.act_model.specs.Limbo.{FileState, PlacesDiffer, IsElsewhere}
-use Rattle.act_model.specs.Machine.{Machine}
+use Rattle.act_model.specs.Machine.{Machine, PinState}
 use Rattle.act_model.specs.OpenPiece.{name_of}
-use Rattle.act_model.specs.Rows.{RowState}
-use Rattle.act_model.specs.Sound.{IsSound, LimboSound}
-use Rattle.act_model.specs.Sweep.{IsSwept, IsPinned, IsCopiedInto}
-use Rattle.archive_core.specs.LimboTies.{HasRetired, IsOneOf, AreRetired, AreUnlisted, NamesDiffer}
+use Rattle.act_model.specs.Rows.{RowState, Store, Short, Medium, Long, same_store}
+use Rattle.act_model.specs.Rule.{IsPartition, index_of}
+use Rattle.act_model.specs.Sound.{IsSound, PieceSound, LimboSound}
+use Rattle.act_model.specs.Sweep.{is_at, IsPinned, IsSwept, IsCopiedInto}
 use Rattle.archive_core.specs.Pins.{ArePinsOf}
+use Rattle.archive_core.proofs.Lists.{element, read_at, map_out}
+use Rattle.archive_core.proofs.SameNames.{get_all, all_of, of_all, no_longer}
+use Rattle.act_model.proofs.Rows.{same_store_is, of_filter}
+use Rattle.std.specs.List.{AllByRecursion, list_any}
+use Rattle.std.proofs.lemmas.List.Filters.{length-filter_both}
+use Rattle.tier_store.specs.declared.limbo.Retired.{Retired}
+use Rattle.tier_store.proofs.Staying.{stay_cases, stay_from, among_is, is_among}
+use Rattle.archive_core.specs.LimboTies.{HasRetired, IsOneOf, AreRetired, AreUnlisted, NamesDiffer}
 use Rattle.archive_core.proofs.LimboLists.{contains_filter, from_filter}
-use Rattle.archive_core.proofs.LimboPinned.{place_named, pinned_there, there_pinned}
 use Rattle.archive_core.proofs.LimboTying.{KeepsFiles, retired_stays, ListsSame}
-use Rattle.archive_core.proofs.SameNames.{all_of, of_all, no_longer}
+use Rattle.disk_model.specs.Record.{is_same}
+use Rattle.tier_store.specs.Retiring.{names_in}
+use Rattle.tier_store.proofs.Handing.{name_left}
+
+-- NAMES
+
+pub one_store : (a b : Store) → index_of a ≡ index_of b → a ≡ b
+one_store Short Short is = refl
+one_store Short Medium is = absurd (omega (arith, is))
+one_store Short Long is = absurd (omega (arith, is))
+one_store Medium Short is = absurd (omega (arith, is))
+one_store Medium Medium is = refl
+one_store Medium Long is = absurd (omega (arith, is))
+one_store Long Short is = absurd (omega (arith, is))
+one_store Long Medium is = absurd (omega (arith, is))
+one_store Long Long is = refl
+
+pub store_itself : (a : Store) → same_store a a ≡ true
+store_itself Short = refl
+store_itself Medium = refl
+store_itself Long = refl
+
+-- a place is a row, a store and a partition
+pub record IsSamePlace (g f : FileState) : Type 0 where
+  pub row : g.row ≡ f.row
+  pub store : g.store ≡ f.store
+  pub part : g.part ≡ f.part
+
+module _ (m : Machine) (sound : IsSound m) (f g : FileState) (r q : RowState) (here : slice_get m.rows f.row ≡ Some r) (there : slice_get m.rows g.row ≡ Some q) (part : IsPartition m.rule f.store f.part) (other : IsPartition m.rule g.store g.part) where
+  same_unit : g.store ≡ f.store → other.unit ≡ part.unit
+  same_unit store = same_Some other.unit part.unit (sym other.of_store ∙ (ap (λ (s : Store). slice_get m.rule.granularity (index_of s)) store ∙ part.of_store))
+
+  -- files that have one name are of one place
+  pub place_named : name_of q g ≡ name_of r f → IsSamePlace g f
+  place_named same =
+      let number : index_of g.store + 1 ≡ index_of f.store + 1 = ap (λ (n : Name). n.0) same in
+      let store = one_store g.store f.store (omega (arith, number)) in
+      let cut = one_path q.name r.name g.part.name f.part.name (ap (λ (n : Name). n.1) same) in
+      record {
+        row = sound.keys g.row f.row q r there here cut.0;
+        store = store;
+        part = one_name part.unit g.part f.part (subst (λ (u : Granularity). IsPart u g.part) (same_unit store) other.is) part.is cut.1;
+      }
+
+  -- and files of one place have one name
+  pub named_place : IsSamePlace g f → name_of q g ≡ name_of r f
+  named_place same =
+      let one : q ≡ r = same_Some q r (sym there ∙ (ap (slice_get m.rows) same.row ∙ here)) in
+      let stores : name_of q g ≡ (index_of f.store + 1, path_of q.name g.part.name) = ap (λ (s : Store). (let n : Name = (index_of s + 1, path_of q.name g.part.name) in n)) same.store in
+      let rows : (let n : Name = (index_of f.store + 1, path_of q.name g.part.name) in n) ≡ (index_of f.store + 1, path_of r.name g.part.name) = ap (λ (x : RowState). (let n : Name = (index_of f.store + 1, path_of x.name g.part.name) in n)) one in
+      let parts : (let n : Name = (index_of f.store + 1, path_of r.name g.part.name) in n) ≡ name_of r f = ap (λ (p : Part). (let n : Name = (index_of f.store + 1, path_of r.name p.name) in n)) same.part in
+      stores ∙ (rows ∙ parts)
+
+  -- the test says so
+  pub at_place : IsSamePlace g f → is_at f g ≡ true
+  at_place same =
+      let row = same.row in
+      let start : g.part.start ≡ f.part.start = ap (λ (p : Part). p.start) same.part in
+      let rows : (g.row == f.row) ≡ true = grind (arith, nat_tests) in
+      let stores : same_store g.store f.store ≡ true = ap (λ (s : Store). same_store s f.store) same.store ∙ store_itself f.store in
+      let starts : (g.part.start == f.part.start) ≡ true = grind (arith, nat_tests) in
+      rw (rows, stores, starts) refl
+
+  pub place_at : is_at f g ≡ true → IsSamePlace g f
+  place_at is = by_tests (g.row == f.row) refl (same_store g.store f.store) refl (g.part.start == f.part.start) refl
+    where
+      by_tests : (a : Bool) → (g.row == f.row) ≡ a → (b : Bool) → same_store g.store f.store ≡ b → (c : Bool) → (g.part.start == f.part.start) ≡ c → IsSamePlace g f
+      by_tests true rows true stores true starts =
+          let start : g.part.start ≡ f.part.start = grind (arith, nat_tests) in
+          let store = same_store_is g.store f.store stores in
+          let is_part = subst (λ (u : Granularity). IsPart u g.part) (same_unit store) other.is in
+          let mine = (within part.unit g.part is_part).1 in
+          let theirs = (within part.unit f.part part.is).1 in
+          record { row = grind (arith, nat_tests); store = store; part = one_part part.unit g.part f.part f.part.start is_part part.is (omega (arith, start), omega (arith, start, mine)) (omega arith, theirs) }
+      by_tests true rows true stores false starts = absurd (let bad = rw (rows, stores, starts) at is in cc (bad))
+      by_tests true rows false stores c starts = absurd (let bad = rw (rows, stores) at is in cc (bad))
+      by_tests false rows b stores c starts = absurd (let bad = rw rows at is in cc (bad))
+
+-- PIECES
+
+-- a piece that has the name
+named_at : (files : List PinnedFile) (name : Name) → Contains (map piece_file files) name → (k : ℕ) × (file : PinnedFile) × (slice_get files k ≡ Some file) × (file.name ≡ name)
+named_at [] name (k, low, is) = absurd (omega (arith, low))
+named_at (file ∷ files) name (zero, low, is) = (0, file, refl, is)
+named_at (file ∷ files) name (suc k, low, is) = let rest = named_at files name (k, omega (arith, low), is) in (suc rest.0, rest.1, rest.2, rest.3)
+
+pub at_named : (files : List PinnedFile) (k : ℕ) (file : PinnedFile) → slice_get files k ≡ Some file → Contains (map piece_file files) file.name
+at_named [] k file here = absurd (cc (here))
+at_named (x ∷ files) zero file here = (0, omega arith, ap (λ (p : PinnedFile). p.name) (same_Some x file here))
+at_named (x ∷ files) (suc k) file here = let rest = at_named files k file here in (suc rest.0, (let low = rest.1 in omega (arith, low)), rest.2)
+
+module _ (tells : Bool) (all : SeenAll) (m : Machine) (sound : IsSound m) (told : m.told ≡ true) (pinned : FinMap nat_cmp PinOf) (pins : ArePinsOf tells all m.told m.rows m.pins pinned) (f : FileState) (r : RowState) (here : slice_get m.rows f.row ≡ Some r) (part : IsPartition m.rule f.store f.part) where
+  piece_sound : (n : ℕ) (state : PinState) (k : ℕ) (piece : FileState) → get m.pins n ≡ Some state → slice_get state.pieces k ≡ Some piece → PieceSound m.rule m.rows m.limbo piece
+  piece_sound n state k piece there got = get_all (PieceSound m.rule m.rows m.limbo) state.pieces k piece (sound.pinned told n state there) got
+
+  pub pinned_there : IsPinnedFile pinned (name_of r f) → IsPinned m f
+  pinned_there is = by_pin (get m.pins is.number) refl
+    where
+      by_pin : (o : Option PinState) → get m.pins is.number ≡ o → IsPinned m f
+      by_pin None none = absurd (let lacks = pins.none is.number none in let both : ◌≡◌ {A = Option PinOf} None (Some is.pin) = sym lacks ∙ is.stands in cc (both))
+      by_pin (Some state) there =
+          let has = pins.each is.number state there in
+          let one : has.own ≡ is.pin = same_Some has.own is.pin (sym has.there ∙ is.stands) in
+          let at = named_at is.pin.pieces (name_of r f) is.names in
+          let own_at : slice_get has.own.pieces at.0 ≡ Some at.1 = ap (λ (p : PinOf). slice_get p.pieces at.0) one ∙ at.2 in
+          let low = slice_get_within has.own.pieces at.0 at.1 own_at in
+          let number : length has.own.pieces ≡ length state.pieces = has.is.number in
+          let piece = element state.pieces at.0 (omega (arith, low, number)) in
+          let file = has.is.pieces told at.0 piece.0 piece.1 in
+          let same : file.file ≡ at.1 = same_Some file.file at.1 (sym file.there ∙ own_at) in
+          let named : name_of file.is.row piece.0 ≡ name_of r f = sym file.is.named ∙ (ap (λ (p : PinnedFile). p.name) same ∙ at.3) in
+          let s = piece_sound is.number state at.0 piece.0 there piece.1 in
+          let place = place_named m sound f piece.0 r file.is.row here file.is.here part s.partition named in
+          let test : is_at f piece.0 ≡ true = at_place m sound f piece.0 r file.is.row here file.is.here part s.partition place in
+          let found = get_or_from_slice_get state.pieces at.0 piece.0 piece.0 piece.1 in
+          record { number = is.number; pin = state; here = there; names = list_any_at (is_at f) state.pieces at.0 piece.0 (omega (arith, low, number)) (ap (is_at f) found ∙ test) }
+
+  pub there_pinned : IsPinned m f → IsPinnedFile pinned (name_of r f)
+  there_pinned is =
+      let has = pins.each is.number is.pin is.here in
+      let some = Any-from_list_any (is_at f) is.pin.pieces is.names in
+      let got : slice_get is.pin.pieces some.0 ≡ Some some.1 = read_at is.pin.pieces some.0 some.1 (sym some.3) some.2 in
+      let file = has.is.pieces told some.0 some.1 got in
+      let s = piece_sound is.number is.pin some.0 some.1 is.here got in
+      let place = place_at m sound f some.1 r file.is.row here file.is.here part s.partition some.4 in
+      let named : file.file.name ≡ name_of r f = file.is.named ∙ named_place m sound f some.1 r file.is.row here file.is.here part s.partition place in
+      record { number = is.number; pin = has.own; stands = has.there; names = subst (λ (n : Name). Contains (map piece_file has.own.pieces) n) named (at_named has.own.pieces some.0 file.file file.there) }
 
 -- WHAT STAYS OF A LIST
 
@@ -44,26 +180,9 @@ stay_differ P Q (x ∷ xs) ys (inr s) differ = stay_differ P Q xs ys s.1 differ.
 
 -- NAMES
 
-abbrev is_left : {A B : Type 0} → A ⊎ B → Bool
-is_left (inl a) = true
-is_left (inr b) = false
-
-abbrev same_name : Name → Name → Bool
-same_name a b = is_left (name_cases a b)
-
-same_is : (a b : Name) → same_name a b ≡ true → a ≡ b
-same_is a b is = go (name_cases a b) is
-  where
-    go : (c : (a ≡ b) ⊎ (a ≢ b)) → is_left c ≡ true → a ≡ b
-    go (inl same) is = same
-    go (inr apart) is = absurd (cc (is))
-
-is_same : (a b : Name) → a ≡ b → same_name a b ≡ true
-is_same a b same = go (name_cases a b)
-  where
-    go : (c : (a ≡ b) ⊎ (a ≢ b)) → is_left c ≡ true
-    go (inl same) = refl
-    go (inr apart) = absurd (apart same)
+-- the names of files have this one where one of them does
+named_in : (files : List Retired) (name : Name) (file : Retired) → Contains files file → file.name ≡ name → list_any (λ (other : Name). is_same other name) (names_in files) ≡ true
+named_in files name file there same = is_among (names_in files) name (subst (λ (n : Name). Contains (names_in files) n) same (name_left files file there))
 
 -- the name of a file of the machine
 abbrev name_in : List RowState → FileState → Name
@@ -91,20 +210,12 @@ names_once m sound told (f ∷ files) each rows places = (behind files each.1 ro
       behind gs each_g.1 rows_g.1 apart.1,
     )
 
-filter_all : (T : FileState → Type 0) (test : FileState → Bool) (xs : List FileState) → AllByRecursion T xs → AllByRecursion T (filter test xs)
-filter_all T test [] all = tt
-filter_all T test (x ∷ xs) all = by_test (test x) (filter_all T test xs all.1)
-  where
-    by_test : (b : Bool) → AllByRecursion T (filter test xs) → AllByRecursion T (cond b (x ∷ filter test xs) (filter test xs))
-    by_test true rest = (all.0, rest)
-    by_test false rest = rest
-
 filter_differ : (name : FileState → Name) (test : FileState → Bool) (xs : List FileState) → NamesDiffer name xs → NamesDiffer name (filter test xs)
 filter_differ name test [] differ = tt
 filter_differ name test (x ∷ xs) differ = by_test (test x) (filter_differ name test xs differ.1)
   where
     by_test : (b : Bool) → NamesDiffer name (filter test xs) → NamesDiffer name (cond b (x ∷ filter test xs) (filter test xs))
-    by_test true rest = (filter_all (λ (y : FileState). name y ≢ name x) test xs differ.0, rest)
+    by_test true rest = (of_filter (λ (y : FileState). name y ≢ name x) test xs differ.0, rest)
     by_test false rest = rest
 
 -- THE SWEEP
@@ -113,7 +224,7 @@ module _ (tells : Bool) (old new : SeenAll) (m : Machine) (sound : IsSound m) (t
     (lists : ListsSame old.stores new.stores old.limbo) (copied : List Name) (copied_is : (f : FileState) (row : RowState) → Contains m.limbo f → slice_get m.rows f.row ≡ Some row → Contains copied (name_of row f) ↔ IsCopiedInto m f) (files : ℕ) (swept : StoresSwept new.stores pinned copied old.limbo new.limbo files) where
   -- a file stays where one of its name does
   abbrev pub stays : FileState → Bool
-  stays f = list_any (λ (file : Retired). same_name file.name (name_in m.rows f)) new.limbo
+  stays f = list_any (λ (other : Name). is_same other (name_in m.rows f)) (names_in new.limbo)
 
   -- a file that the stores leave in limbo is needed, and was there
   pub left_is : (file : Retired) → Contains new.limbo file → Contains old.limbo file × IsNeeded pinned copied file.name × (IsListedName new.stores file.name → ⊥)
@@ -138,11 +249,10 @@ module _ (tells : Bool) (old new : SeenAll) (m : Machine) (sound : IsSound m) (t
   pub stays_where : (f : FileState) (there : Contains m.limbo f) → (stays f ≡ true) ↔ IsNeeded pinned copied (ties.each f there).file.name
   stays_where f there = (
     λ test.
-        let some = Any-from_list_any (λ (file : Retired). same_name file.name (name_in m.rows f)) new.limbo test in
-        let same = same_is some.1.name (name_in m.rows f) some.4 in
-        subst (λ (n : Name). IsNeeded pinned copied n) (same ∙ sym (own_name f there)) (left_is some.1 (some.0, some.2, some.3)).1,
+        let some = map_out named new.limbo (name_in m.rows f) (among_is (names_in new.limbo) (name_in m.rows f) test) in
+        subst (λ (n : Name). IsNeeded pinned copied n) (some.2 ∙ sym (own_name f there)) (left_is some.0 some.1).1,
     λ needed. elim (stay_cases (λ r. IsNeeded pinned copied r.name) (λ r. IsNeeded pinned copied r.name → ⊥) swept.retired new.limbo (ties.each f there).file swept.needed (retired_there f there)) [
-      | inl at ↦ list_any-from_Any (λ (file : Retired). same_name file.name (name_in m.rows f)) new.limbo (at.0, (ties.each f there).file, at.1, at.2, is_same (ties.each f there).file.name (name_in m.rows f) (own_name f there))
+      | inl at ↦ named_in new.limbo (name_in m.rows f) (ties.each f there).file at (own_name f there)
       | inr gone ↦ absurd (gone needed)
     ],
   )
@@ -166,12 +276,12 @@ module _ (tells : Bool) (old new : SeenAll) (m : Machine) (sound : IsSound m) (t
   of_machine : (file : Retired) → Contains old.limbo file → (IsListedName new.stores file.name → ⊥) → IsOneOf tells old m.rows m.limbo file
   of_machine file there none = ties.others file there (λ listed. none ((lists file there).1 listed))
 
-  one_name : (file : Retired) (one : IsOneOf tells old m.rows m.limbo file) → name_in m.rows one.f ≡ file.name
-  one_name file one = name_there m.rows one.f one.is.row one.is.here ∙ sym one.is.named
+  name_of_one : (file : Retired) (one : IsOneOf tells old m.rows m.limbo file) → name_in m.rows one.f ≡ file.name
+  name_of_one file one = name_there m.rows one.f one.is.row one.is.here ∙ sym one.is.named
 
   -- one whose name stays in limbo stays
   left_stays : (file : Retired) → Contains new.limbo file → (one : IsOneOf tells old m.rows m.limbo file) → stays one.f ≡ true
-  left_stays file there one = list_any-from_Any (λ (r : Retired). same_name r.name (name_in m.rows one.f)) new.limbo (there.0, file, there.1, there.2, is_same file.name (name_in m.rows one.f) (sym (one_name file one)))
+  left_stays file there one = named_in new.limbo (name_in m.rows one.f) file there (sym (name_of_one file one))
 
   once : NamesDiffer (name_in m.rows) m.limbo
   once = names_once m sound told m.limbo sound.each_file (all_of (λ (f : FileState). (row : RowState) × (slice_get m.rows f.row ≡ Some row)) m.limbo (λ f there. ((ties.each f there).is.row, (ties.each f there).is.here))) (sound.places told)
@@ -189,13 +299,13 @@ module _ (tells : Bool) (old new : SeenAll) (m : Machine) (sound : IsSound m) (t
   all_count : length m.limbo ≡ length swept.retired
   all_count =
       let low = no_longer (name_in m.rows) named m.limbo swept.retired once (λ f there. ((ties.each f there).file, retired_there f there, own_name f there)) in
-      let high = no_longer named (name_in m.rows) swept.retired m.limbo retired_differ (λ file there. (let from = in_retired file there in let one = of_machine file from.0 from.1 in (one.f, one.within, one_name file one))) in
+      let high = no_longer named (name_in m.rows) swept.retired m.limbo retired_differ (λ file there. (let from = in_retired file there in let one = of_machine file from.0 from.1 in (one.f, one.within, name_of_one file one))) in
       omega (arith, low, high)
 
   left_count : length (filter stays m.limbo) ≡ length new.limbo
   left_count =
       let low = no_longer (name_in m.rows) named (filter stays m.limbo) new.limbo (filter_differ (name_in m.rows) stays m.limbo once) (λ f there. (let from = from_filter stays m.limbo f there in still f from.0 ((stays_where f from.0).0 from.1))) in
-      let high = no_longer named (name_in m.rows) new.limbo (filter stays m.limbo) left_differ (λ file there. (let from = left_is file there in let one = of_machine file from.0 from.2 in (one.f, contains_filter stays m.limbo one.f one.within (left_stays file there one), one_name file one))) in
+      let high = no_longer named (name_in m.rows) new.limbo (filter stays m.limbo) left_differ (λ file there. (let from = left_is file there in let one = of_machine file from.0 from.2 in (one.f, contains_filter stays m.limbo one.f one.within (left_stays file there one), name_of_one file one))) in
       omega (arith, low, high)
     where
       still : (f : FileState) (there : Contains m.limbo f) → IsNeeded pinned copied (ties.each f there).file.name → (file : Retired) × Contains new.limbo file × (file.name ≡ name_in m.rows f)

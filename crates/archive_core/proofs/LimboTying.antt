@@ -1,26 +1,37 @@
--- The stores' limbo stays the machine's.
-use Rattle.std.proofs.Common.{◌≡◌, ℕ, ◌≤◌, zero, suc, List, [], ◌∷◌, Bool, true, false, cond, Option, Some, None, refl, sym, ◌∙◌, ap, subst}
+-- The stores' limbo stays the machine's, in acts that leave limbo and after a change: what is listed again has left it.
+use Rattle.std.proofs.Common.{◌≡◌, ℕ, ◌≤◌, zero, suc, List, [], ◌∷◌, Bool, true, false, cond, Option, Some, None, refl, sym, ◌∙◌, ap, subst, ◌⊎◌, inl, inr, ◌+◌, ◌++◌, arith}
 use Rattle.std.specs.List.{AllByRecursion}
-use Rattle.std.specs.Prelude.{◌↔◌, ◌==◌, Contains, slice_get}
+use Rattle.std.specs.Prelude.{◌↔◌, ◌==◌, Contains, slice_get, IsTrue}
 use Rattle.std.proofs.lemmas.Option.{same_Some}
 use Rattle.event_types.specs.declared.about.About.{About}
 use Rattle.disk_model.specs.Files.{Name}
 use Rattle.pv_catalog.specs.Rows.{KeepsRows}
 use Rattle.durable_write.proofs.Growing.{filed_grows}
-use Rattle.tier_store.specs.Limbo.{IsListedName}
-use Rattle.tier_store.specs.Pinned.{SeenAll, beside, Shows}
+use Rattle.tier_store.specs.Limbo.{IsListedName, IsOfPlace, LimboStands}
+use Rattle.tier_store.specs.Pinned.{SeenAll, beside, Shows, KeepsShown}
 use Rattle.tier_store.specs.Seen.{Seen, granularities}
 use Rattle.tier_store.specs.declared.limbo.Retired.{Retired}
-use Rattle.tier_store.proofs.Staying.{limbo_kept}
-use Rattle.act_model.specs.Changes.{changed, changed_rows, added, without_held, Retires}
-use Rattle.act_model.specs.Limbo.{FileState, tier_at, IsThere, files_of}
+use Rattle.tier_store.proofs.Staying.{limbo_kept, listed_place, place_listed}
+use Rattle.act_model.specs.Changes.{changed, changed_rows, added, without_held, Retires, made, each}
+use Rattle.act_model.specs.Limbo.{FileState, tier_at, IsThere, files_of, unlisted}
 use Rattle.act_model.specs.Machine.{Machine, Change, AddsRow, SetsState, Appends, Publishes, Unlists}
 use Rattle.act_model.specs.OpenPiece.{name_of, bytes_of}
 use Rattle.act_model.specs.Rows.{RowState, fresh_row, Store, Short, Medium, Long, tier, window, is_empty}
 use Rattle.act_model.specs.Rule.{index_of}
-use Rattle.act_model.proofs.Rows.{Came, from_row, is_new, came}
-use Rattle.archive_core.specs.LimboTies.{IsRetiredOf, filed_of, AreBare, IsLimboOf}
-use Rattle.archive_core.proofs.PinTies.{KeepsNames}
+use Rattle.act_model.proofs.Rows.{Came, from_row, is_new, came, each_get}
+use Rattle.archive_core.specs.LimboTies.{IsRetiredOf, filed_of, AreBare, IsLimboOf, HasRetired, IsOneOf, AreRetired, AreUnlisted, NamesDiffer}
+use Rattle.archive_core.proofs.PinTies.{KeepsNames, names_stay}
+use Rattle.std.proofs.lemmas.List.Elements.{All-contains, Contains-append_cases, Contains-append_left, Contains-append_right}
+use Rattle.partition_names.specs.declared.part.Part.{Part}
+use Rattle.partition_names.specs.Part.{IsPart}
+use Rattle.tier_store.specs.Change.{Has, IsKnown}
+use Rattle.tier_store.specs.Stores.{Stores}
+use Rattle.archive_core.specs.Stands.{TellsHeaders, HoldsDurable, IsRuleOf, StoresGrow}
+use Rattle.archive_core.proofs.LimboLists.{contains_filter, from_filter, some_samples, some_file, lists_file, file_listed}
+use Rattle.pv_catalog.proofs.Standing.{keeps_same}
+use Rattle.act_model.specs.Crash.{DurableRow, kept_of}
+use Rattle.act_model.specs.Sound.{IsSound, IsUnlisted}
+use Rattle.archive_core.proofs.Growth.{no_moves, stays_listed, rows_go_on, same_grow}
 
 -- WHAT STAYS
 
@@ -139,3 +150,203 @@ bare_made m c off bare = subst (λ (t : Bool). AreBare (changed_rows t m.limbo c
     by_row : (i : ℕ) (row : RowState) (store : Store) → Came false m.limbo c m.rows i row → tier row store ≡ []
     by_row i row store (from_row was here made_is) = ap (λ (r : RowState). tier r store) made_is ∙ (tier_stays m.limbo c i was store ∙ bare i was store here)
     by_row i row store (is_new j at_is here) = none_added c j row store here
+
+pub tier_there : (rows : List RowState) (i : ℕ) (row : RowState) (store : Store) → slice_get rows i ≡ Some row → tier_at rows i store ≡ tier row store
+tier_there rows i row store here = rw here refl
+
+-- whether it isn't listed, by the row's samples
+abbrev is_gone : List RowState → FileState → Bool
+is_gone rows f = is_empty (window f.part (tier_at rows f.row f.store))
+
+-- WHAT IS LISTED
+
+module _ (tells : Bool) (all : SeenAll) (m : Machine) (held : Stores) (has : Has tells all.stores held) (holds : HoldsDurable held m) (gran : m.rule.granularity ≡ granularities all.stores.manifests) (heads : TellsHeaders m.rule) (told : m.told ≡ true) (stands : IsTrue held.stands) where
+  module _ (f : FileState) (file : Retired) (is : IsRetiredOf tells all m.rows f file) (of : IsOfPlace all.stores file) where
+    number : file.name.0 ≡ index_of f.store + 1
+    number = ap (λ (n : Name). n.0) is.named
+
+    part : IsPart is.unit f.part
+    part = subst (λ (p : Part). IsPart is.unit p) is.part is.filed.part
+
+    gone_is : is_gone m.rows f ≡ is_empty (window f.part (tier is.row f.store))
+    gone_is = ap (λ xs. is_empty (window f.part xs)) (tier_there m.rows f.row is.row f.store is.here)
+
+    -- a file that a store lists has samples there
+    listed_some : IsListedName all.stores file.name → is_gone m.rows f ≡ false
+    listed_some listed =
+        let lists = listed_place all.stores held file has.known of listed in
+        let starts = file_listed tells all.stores m held has holds gran heads told stands f is.row is.here is.unit is.of_store part file is.series is.part number lists in
+        gone_is ∙ some_samples tells all.stores m held has holds gran heads told stands f is.row is.here is.unit is.of_store part starts
+
+    -- and one that has samples there is listed
+    some_listed : is_gone m.rows f ≡ false → IsListedName all.stores file.name
+    some_listed some =
+        let starts = some_file tells all.stores m held has holds gran heads told stands f is.row is.here is.unit is.of_store part (sym gone_is ∙ some) in
+        place_listed all.stores held file has.known of (lists_file tells all.stores m held has holds gran heads told stands f is.row is.here is.unit is.of_store part file is.series is.part number starts)
+
+  -- of files of the machine those that aren't listed are those without samples in their stores
+  pub unlisted_ties : (files : List FileState) → LimboStands all.stores all.limbo → AreRetired tells all m.rows files → AreRetired tells all m.rows (unlisted m.rows files) × AreUnlisted all m.rows (unlisted m.rows files)
+  unlisted_ties files limbo ties = (record { each = λ f there. ties.each f (from_filter (is_gone m.rows) files f there).0; others = others }, none_listed)
+    where
+      of : (file : Retired) → Contains all.limbo file → IsOfPlace all.stores file
+      of file there = All-contains (IsOfPlace all.stores) all.limbo file limbo.0 there
+
+      others : (file : Retired) → Contains all.limbo file → (IsListedName all.stores file.name → ⊥) → IsOneOf tells all m.rows (unlisted m.rows files) file
+      others file there free =
+          let one = ties.others file there free in
+          record { f = one.f; within = contains_filter (is_gone m.rows) files one.f one.within (by_test one.f one.is (is_gone m.rows one.f) refl); is = one.is }
+        where
+          by_test : (f : FileState) → IsRetiredOf tells all m.rows f file → (b : Bool) → is_gone m.rows f ≡ b → is_gone m.rows f ≡ true
+          by_test f is true test = test
+          by_test f is false test = absurd (free (some_listed f file is (of file there) test))
+
+      none_listed : AreUnlisted all m.rows (unlisted m.rows files)
+      none_listed f row there here listed =
+          let from = from_filter (is_gone m.rows) files f there in
+          let own = ties.each f from.0 in
+          let one : own.is.row ≡ row = same_Some own.is.row row (sym own.is.here ∙ here) in
+          let named : own.file.name ≡ name_of row f = own.is.named ∙ ap (λ (r : RowState). name_of r f) one in
+          let some = listed_some f own.file own.is (of own.file own.within) (subst (λ (n : Name). IsListedName all.stores n) (sym named) listed) in
+          let both : true ≡ false = sym from.1 ∙ some in
+          cc (both)
+
+-- CHANGES
+
+-- What becomes of limbo with a change: what isn't listed stays in it, and of what comes into it these are the files of the machine.
+pub record GoesOn (tells : Bool) (old new : SeenAll) (later : List RowState) (into : List FileState) : Type 0 where
+  pub stay : (file : Retired) → Contains old.limbo file → (IsListedName old.stores file.name → ⊥) → Contains new.limbo file
+  pub come : (file : Retired) → Contains new.limbo file → (IsListedName new.stores file.name → ⊥) → (Contains old.limbo file × (IsListedName old.stores file.name → ⊥)) ⊎ IsOneOf tells new later into file
+  pub into_is : (f : FileState) → Contains into f → HasRetired tells new later f
+
+-- limbo is as it was, and each of its files that was listed is so still
+pub goes_on_same : (tells : Bool) (old new : Seen) (retired : List Retired) (later : List RowState) → ((file : Retired) → Contains retired file → IsListedName old file.name → IsListedName new file.name) → GoesOn tells (beside old retired) (beside new retired) later []
+goes_on_same tells old new retired later lists = record {
+  stay = λ file there free. there;
+  come = λ file there free. inl (there, λ listed. free (lists file there listed));
+  into_is = λ f there. absurd (let low = there.1 in omega (arith, low));
+}
+
+module _ (tells : Bool) (old new : SeenAll) (m : Machine) (into : List FileState) (c : Change) (keeps : KeepsFiles tells old new m.rows (made into c m).rows) (goes : GoesOn tells old new (made into c m).rows into) where
+  abbrev rows_then : List RowState
+  rows_then = (made into c m).rows
+
+  -- the machine's files have theirs, and the others are among them
+  retired_on : AreRetired tells old m.rows m.limbo → AreUnlisted old m.rows m.limbo → AreRetired tells new rows_then (m.limbo ++ into)
+  retired_on ties free = record {
+    each = λ f there. elim (Contains-append_cases m.limbo into f there) [
+      | inl was ↦ was_there f was
+      | inr comes ↦ goes.into_is f comes
+    ];
+    others = λ file there none. elim (goes.come file there none) [
+      | inl was ↦ (let one = ties.others file was.0 was.1 in record { f = one.f; within = Contains-append_left m.limbo into one.f one.within; is = retired_stays tells old new m.rows rows_then one.f file keeps there one.is })
+      | inr one ↦ record { f = one.f; within = Contains-append_right m.limbo into one.f one.within; is = one.is }
+    ];
+  }
+    where
+      was_there : (f : FileState) → Contains m.limbo f → HasRetired tells new rows_then f
+      was_there f was =
+          let own = ties.each f was in
+          let there = goes.stay own.file own.within (λ listed. free f own.is.row was own.is.here (subst (λ (n : Name). IsListedName old.stores n) own.is.named listed)) in
+          record { file = own.file; within = there; is = retired_stays tells old new m.rows rows_then f own.file keeps there own.is }
+
+  -- the stores' limbo is then the machine's, which what is listed again has left
+  pub limbo_made : (held : Stores) → Has tells new.stores held → HoldsDurable held (made into c m) → m.rule.granularity ≡ granularities new.stores.manifests → TellsHeaders m.rule → (m.told ≡ true → IsTrue held.stands) → LimboStands new.stores new.limbo → NamesDiffer (λ (file : Retired). file.name) new.limbo → (m.told ≡ false → into ≡ [])
+      → IsLimboOf tells old m.told m.rows m.limbo → IsLimboOf tells new m.told rows_then (made into c m).limbo
+  limbo_made held has holds gran heads stands limbo differ none_comes tie = record {
+    stands = limbo;
+    differ = differ;
+    retired = λ on. (told_ties on).0;
+    unlisted = λ on. (told_ties on).1;
+    none = λ off. ap (unlisted rows_then) (ap (λ (files : List FileState). files ++ into) (tie.none off) ∙ none_comes off);
+    bare = λ off. bare_made m c off (tie.bare off);
+  }
+    where
+      told_ties : m.told ≡ true → AreRetired tells new rows_then (made into c m).limbo × AreUnlisted new rows_then (made into c m).limbo
+      told_ties on = unlisted_ties tells new (made into c m) held has holds gran heads on (stands on) (m.limbo ++ into) limbo (retired_on (tie.retired on) (tie.unlisted on))
+
+-- NO FILE
+
+-- where the machine has none, the stores may have none
+pub empty_limbo : (tells : Bool) (at : Seen) (told : Bool) (rows : List RowState) → (told ≡ false → AreBare rows) → IsLimboOf tells (beside at []) told rows []
+empty_limbo tells at told rows bare = record {
+  stands = (λ k d low. absurd (omega (arith, low)), λ i j d less low. absurd (omega (arith, low)));
+  differ = tt;
+  retired = λ on. record { each = λ f there. absurd (omega (arith, there.1)); others = λ file there none. absurd (omega (arith, there.1)) };
+  unlisted = λ on f row there here listed. absurd (omega (arith, there.1));
+  none = λ off. refl;
+  bare = bare;
+}
+
+-- ROWS CHANGE IN MEMORY
+
+pub tier_kept : (a b : RowState) (store : Store) → kept_of a ≡ kept_of b → tier a store ≡ tier b store
+tier_kept a b Short same = ap (λ (d : DurableRow). d.short) same
+tier_kept a b Medium same = ap (λ (d : DurableRow). d.medium) same
+tier_kept a b Long same = ap (λ (d : DurableRow). d.long) same
+
+-- rows whose durable part stays show no more samples
+pub bare_each : (g : ℕ → RowState → RowState) (rows : List RowState) → ((i : ℕ) (r : RowState) → kept_of (g i r) ≡ kept_of r) → AreBare rows → AreBare (each g 0 rows)
+bare_each g rows stays bare = λ i row store here.
+    let from = each_get g 0 rows i row here in
+    ap (λ (r : RowState). tier r store) from.2 ∙ (tier_kept (g (0 + i) from.0) from.0 store (stays (0 + i) from.0) ∙ bare i from.0 store from.1)
+
+pub limbo_rows : (tells : Bool) (at : Seen) (retired : List Retired) (told : Bool) (rows later : List RowState) (limbo : List FileState) → KeepsNames rows later → (told ≡ false → AreBare later) → IsLimboOf tells (beside at retired) told rows limbo → IsLimboOf tells (beside at retired) told later limbo
+limbo_rows tells at retired told rows later limbo names bare tie = limbo_stays tells at at retired told rows later limbo keeps (λ file there. (λ listed. listed, λ listed. listed)) bare tie
+  where
+    keeps : KeepsFiles tells (beside at retired) (beside at retired) rows later
+    keeps = record { shown = λ file bytes there shown. shown; variables = keeps_same at.catalogue.rows; names = names; granularity = refl }
+
+-- THE STORES STAY
+
+pub limbo_beside : (tells : Bool) (old new : Seen) (retired : List Retired) (s : Stores) (told : Bool) (rows : List RowState) (limbo : List FileState) → IsKnown old.catalogue old.manifests s → IsKnown new.catalogue new.manifests s → granularities new.manifests ≡ granularities old.manifests
+    → KeepsShown tells (beside old retired) (beside new retired) → IsLimboOf tells (beside old retired) told rows limbo → IsLimboOf tells (beside new retired) told rows limbo
+limbo_beside tells old new retired s told rows limbo was now same_g shown tie = limbo_stays tells old new retired told rows rows limbo keeps lists tie.bare tie
+  where
+    keeps : KeepsFiles tells (beside old retired) (beside new retired) rows rows
+    keeps = record { shown = λ file bytes there. shown file.name bytes; variables = rows_go_on old new s s was now (same_grow no_moves s); names = names_stay rows; granularity = same_g }
+
+    lists : ListsSame old new retired
+    lists = λ file there. (λ listed. stays_listed new old s s file.name now was (same_grow no_moves s) listed, λ listed. stays_listed old new s s file.name was now (same_grow no_moves s) listed)
+
+-- THE STORES GROW
+
+-- of files that are all unlisted none goes
+all_unlisted : (rows : List RowState) (files : List FileState) → AllByRecursion (IsUnlisted rows) files → unlisted rows files ≡ files
+all_unlisted rows [] all = refl
+all_unlisted rows (f ∷ files) all = let own = all.0 in rw own (ap (λ (fs : List FileState). f ∷ fs) (all_unlisted rows files all.1))
+
+module _ (tells : Bool) (old new : Seen) (retired : List Retired) (m : Machine) (before held : Stores) (was : IsKnown old.catalogue old.manifests before) (has : Has tells new held) (grow : StoresGrow m.moves before held) (stands : m.told ≡ true → IsTrue held.stands)
+    (same_g : granularities new.manifests ≡ granularities old.manifests) (rule : IsRuleOf old m.rule) (shown : KeepsShown tells (beside old retired) (beside new retired)) (tie : IsLimboOf tells (beside old retired) m.told m.rows m.limbo) where
+  variables : KeepsRows old.catalogue.rows new.catalogue.rows
+  variables = rows_go_on old new before held was has.known grow
+
+  lists_on : (file : Retired) → Contains retired file → IsListedName old file.name → IsListedName new file.name
+  lists_on file there = stays_listed old new before held file.name was has.known grow
+
+  limbo_still : LimboStands new retired
+  limbo_still = limbo_kept old new retired variables same_g tie.stands
+
+  keeps_on : (later : List RowState) → KeepsNames m.rows later → KeepsFiles tells (beside old retired) (beside new retired) m.rows later
+  keeps_on later names = record { shown = λ file bytes there. shown file.name bytes; variables = variables; names = names; granularity = same_g }
+
+  -- they have what is durable of the machine with a change made
+  pub limbo_changed : (c : Change) → KeepsNames m.rows (made [] c m).rows → HoldsDurable held (made [] c m) → IsLimboOf tells (beside new retired) m.told (made [] c m).rows (made [] c m).limbo
+  limbo_changed c names holds =
+      limbo_made tells (beside old retired) (beside new retired) m [] c (keeps_on (made [] c m).rows names) (goes_on_same tells old new retired (made [] c m).rows lists_on) held has holds (rule.granularity ∙ sym same_g) rule.headers stands limbo_still tie.differ (λ off. refl) tie
+
+  -- or of the machine as it was
+  pub limbo_held : IsSound m → HoldsDurable held m → IsLimboOf tells (beside new retired) m.told m.rows m.limbo
+  limbo_held sound holds = record { stands = limbo_still; differ = tie.differ; retired = λ on. (told_ties on).0; unlisted = λ on. (told_ties on).1; none = tie.none; bare = tie.bare }
+    where
+      ties_on : m.told ≡ true → AreRetired tells (beside new retired) m.rows m.limbo
+      ties_on on = record {
+        each = λ f there. let own = (tie.retired on).each f there in record { file = own.file; within = own.within; is = retired_stays tells (beside old retired) (beside new retired) m.rows m.rows f own.file (keeps_on m.rows (names_stay m.rows)) own.within own.is };
+        others = λ file there none.
+            let one = (tie.retired on).others file there (λ listed. none (lists_on file there listed)) in
+            record { f = one.f; within = one.within; is = retired_stays tells (beside old retired) (beside new retired) m.rows m.rows one.f file (keeps_on m.rows (names_stay m.rows)) there one.is };
+      }
+
+      told_ties : m.told ≡ true → AreRetired tells (beside new retired) m.rows m.limbo × AreUnlisted (beside new retired) m.rows m.limbo
+      told_ties on =
+          subst (λ (files : List FileState). AreRetired tells (beside new retired) m.rows files × AreUnlisted (beside new retired) m.rows files) (all_unlisted m.rows m.limbo sound.each_unlisted)
+          (unlisted_ties tells (beside new retired) m held has holds (rule.granularity ∙ sym same_g) rule.headers on (stands on) m.limbo limbo_still (ties_on on))

@@ -1,8 +1,15 @@
 -- What the stores make of a change is what the machine makes of it.
-use Rattle.std.proofs.Common.{◌≡◌, ℕ, zero, suc, ◌+◌, ◌<◌, List, [], ◌∷◌, ◌++◌, length, Bool, true, false, cond, Some, refl, sym, ◌∙◌, ap, subst, arith, append_assoc, append-nil, length-append}
-use Rattle.std.specs.Prelude.{◌==◌, slice_get, map, nat_eq, IsTrue, All}
+use Rattle.std.proofs.Common.{◌≡◌, ℕ, ◌+◌, List, [], ◌∷◌, ◌++◌, Bool, true, false, refl, sym, ◌∙◌, ap, zero, suc, ◌<◌, length, cond, Some, subst, arith, append_assoc, append-nil, length-append}
+use Rattle.std.specs.Prelude.{◌==◌, map, slice_get, nat_eq, IsTrue, All}
+use Rattle.std.proofs.lemmas.List.{map-append, length-map}
+use Rattle.series_model.specs.declared.sample.Sample.{Sample}
+use Rattle.series_model.specs.Series.{since, end_of, over, RisesFrom}
+use Rattle.act_model.specs.Rows.{RowState, Store, Short, Medium, Long, next_store, durable, fresh_row}
+use Rattle.act_model.specs.Limbo.{FileState, files_of, put}
+use Rattle.act_model.specs.Machine.{Machine, Change, AddsRow, SetsState, Appends, Publishes, Unlists}
+use Rattle.act_model.specs.Changes.{each, at, with_rows as with_each, changed, added, made, of_row, published, retired, without_held}
+use Rattle.act_model.specs.Crash.{DurableRow, kept_of, kept}
 use Rattle.std.proofs.lemmas.Bool.Decides.{nat_tests}
-use Rattle.std.proofs.lemmas.List.{length-map}
 use Rattle.std.proofs.lemmas.List.Elements.{All-head, All-tail}
 use Rattle.std.proofs.lemmas.Option.{same_Some, slice_get_within}
 use Rattle.event_types.specs.declared.about.About.{About}
@@ -11,9 +18,7 @@ use Rattle.pv_catalog.specs.Catalogue.{CatalogueState, registered}
 use Rattle.pv_catalog.specs.Rows.{switched}
 use Rattle.pv_catalog.specs.declared.row.Row.{Row}
 use Rattle.pv_catalog.proofs.Standing.{length-switched}
-use Rattle.series_model.specs.Series.{end_of, over, RisesFrom}
 use Rattle.series_model.specs.declared.batch.RowSamples.{RowSamples}
-use Rattle.series_model.specs.declared.sample.Sample.{Sample}
 use Rattle.series_model.proofs.OverLemmas.{end_of-over}
 use Rattle.series_model.proofs.RisingLists.{end_from-append, RisesFrom-front, RisesFrom-rest, RisesFrom-lower, since_all}
 use Rattle.partition_names.specs.declared.granularity.Granularity.{Granularity}
@@ -23,19 +28,65 @@ use Rattle.durable_write.specs.Held.{Filed, IsListed, samples_of}
 use Rattle.tier_store.specs.Change.{IsKnown, Registers, Switches, Flushes}
 use Rattle.tier_store.specs.Stores.{Stores, list_at, with_rows}
 use Rattle.tier_store.proofs.Places.{manifest_at}
-use Rattle.act_model.specs.Changes.{each, changed, added, made, of_row}
-use Rattle.act_model.specs.Crash.{DurableRow, kept_of, kept}
 use Rattle.act_model.specs.Flush.{batch_of}
-use Rattle.act_model.specs.Machine.{Machine, Change, AddsRow, SetsState, Appends}
-use Rattle.act_model.specs.Limbo.{files_of}
-use Rattle.act_model.specs.Rows.{RowState, Short, durable, fresh_row}
 use Rattle.act_model.specs.Sound.{IsSound, MayMake}
 use Rattle.act_model.proofs.Puts.{put_plain}
 use Rattle.act_model.proofs.RowActs.{flush_may}
 use Rattle.act_model.proofs.Rows.{Came, from_row, is_new, came, more_rows}
 use Rattle.archive_core.specs.Stands.{IsDurableAt, HoldsDurable}
-use Rattle.archive_core.proofs.Durable.{kept_each}
 use Rattle.archive_core.proofs.Lists.{get_front}
+
+published_same : (told : Bool) (limbo : List FileState) (store : Store) (xs : List Sample) (a b : RowState) → kept_of a ≡ kept_of b → kept_of (published told limbo store xs a) ≡ kept_of (published told limbo store xs b)
+published_same true limbo Short xs a b same = ap (λ (d : DurableRow). record d { short = put xs limbo d.short }) same
+published_same true limbo Medium xs a b same = ap (λ (d : DurableRow). record d { medium = put xs limbo d.medium }) same
+published_same true limbo Long xs a b same = ap (λ (d : DurableRow). record d { long = put xs limbo d.long }) same
+published_same false limbo store xs a b same = same
+
+retired_same : (told : Bool) (store : Store) (to : ℕ) (a b : RowState) → kept_of a ≡ kept_of b → kept_of (retired told store to a) ≡ kept_of (retired told store to b)
+retired_same true Short to a b same = ap (λ (d : DurableRow). record d { short = since to d.short }) same
+retired_same true Medium to a b same = ap (λ (d : DurableRow). record d { medium = since to d.medium }) same
+retired_same true Long to a b same = ap (λ (d : DurableRow). record d { long = since to d.long }) same
+retired_same false store to a b same = same
+
+at_same : (k : ℕ) (f : RowState → RowState) (i : ℕ) (a b : RowState) → kept_of a ≡ kept_of b → kept_of (f a) ≡ kept_of (f b) → kept_of (at k f i a) ≡ kept_of (at k f i b)
+at_same k f i a b same there = by_test (i == k) refl
+  where
+    by_test : (t : Bool) → (i == k) ≡ t → kept_of (at k f i a) ≡ kept_of (at k f i b)
+    by_test true is = rw is there
+    by_test false is = rw is same
+
+-- a change makes the same of what is durable of two rows of which the same is durable
+pub changed_same : (told : Bool) (limbo : List FileState) (c : Change) (i : ℕ) (a b : RowState) → kept_of a ≡ kept_of b → kept_of (changed told limbo c i a) ≡ kept_of (changed told limbo c i b)
+changed_same told limbo (AddsRow name about) i a b same = same
+changed_same told limbo (SetsState k state) i a b same = at_same k (without_held state) i a b same (ap (λ (d : DurableRow). record d { state = state }) same)
+changed_same told limbo (Appends batch) i a b same = by_told told
+  where
+    by_told : (t : Bool) → kept_of (changed t limbo (Appends batch) i a) ≡ kept_of (changed t limbo (Appends batch) i b)
+    by_told true = ap (λ (d : DurableRow). record d { short = put (of_row i batch) (files_of i Short limbo) d.short }) same
+    by_told false = same
+changed_same told limbo (Publishes k store copied) i a b same = at_same k (published told (files_of k (next_store store) limbo) (next_store store) copied) i a b same (published_same told (files_of k (next_store store) limbo) (next_store store) copied a b same)
+changed_same told limbo (Unlists k store to) i a b same = at_same k (retired told store to) i a b same (retired_same told store to a b same)
+
+-- so it is of all rows, where a change in memory leaves what is durable
+rows_same : (told : Bool) (limbo : List FileState) (c : Change) (g : ℕ → RowState → RowState) (k : ℕ) (rows : List RowState) → ((i : ℕ) (r : RowState) → kept_of (g i r) ≡ kept_of r)
+    → map kept_of (each (changed told limbo c) k (each g k rows)) ≡ map kept_of (each (changed told limbo c) k rows)
+rows_same told limbo c g k [] stays = refl
+rows_same told limbo c g k (r ∷ rows) stays =
+    let head = changed_same told limbo c k (g k r) r (stays k r) in
+    let tail = rows_same told limbo c g (k + 1) rows stays in
+    cc (head, tail)
+
+pub kept_each : (g : ℕ → RowState → RowState) (k : ℕ) (rows : List RowState) → ((i : ℕ) (r : RowState) → kept_of (g i r) ≡ kept_of r) → map kept_of (each g k rows) ≡ map kept_of rows
+kept_each g k [] stays = refl
+kept_each g k (r ∷ rows) stays = let head = stays k r in let tail = kept_each g (k + 1) rows stays in cc (head, tail)
+
+pub kept_changed : (m : Machine) (g : ℕ → RowState → RowState) (c : Change) → ((i : ℕ) (r : RowState) → kept_of (g i r) ≡ kept_of r) → kept (made [] c (with_each m g)) ≡ kept (made [] c m)
+kept_changed m g c stays =
+    map-append kept_of (each (changed m.told m.limbo c) 0 (each g 0 m.rows)) (added c)
+    ∙ (ap (λ (ds : List DurableRow). ds ++ map kept_of (added c)) (rows_same m.told m.limbo c g 0 m.rows stays)
+    ∙ sym (map-append kept_of (each (changed m.told m.limbo c) 0 m.rows) (added c)))
+
+-- A CHANGE IS MADE
 
 kept_from : (rs : List RowState) (i : ℕ) (d : DurableRow) → slice_get (map kept_of rs) i ≡ Some d → (r : RowState) × (slice_get rs i ≡ Some r) × (kept_of r ≡ d)
 kept_from [] i d here = absurd (cc (here))

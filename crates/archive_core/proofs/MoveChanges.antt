@@ -1,5 +1,5 @@
--- What the stores make of a publication and of a retirement is what the machine makes of it.
-use Rattle.std.proofs.Common.{◌≡◌, ◌≢◌, ◌⊎◌, inl, inr, ℕ, zero, suc, ◌<◌, ◌≤◌, List, [], ◌∷◌, ◌++◌, length, map, take, drop, Bool, true, false, cond, Some, refl, sym, ◌∙◌, ap, subst, arith, append-nil}
+-- What the stores make of a publication and of a retirement is what the machine makes of it, and what is left to copy of a move is what remains of the machine's.
+use Rattle.std.proofs.Common.{◌≡◌, ◌≢◌, ◌⊎◌, inl, inr, ℕ, zero, suc, ◌<◌, ◌≤◌, List, [], ◌∷◌, ◌++◌, length, map, take, drop, Bool, true, false, cond, Some, refl, sym, ◌∙◌, ap, subst, arith, append-nil, ◌+◌}
 use Rattle.std.specs.List.{AllByRecursion}
 use Rattle.std.specs.Prelude.{All, filter, nat_eq, slice_get, ◌==◌}
 use Rattle.std.proofs.lemmas.Bool.{cases_order}
@@ -9,9 +9,9 @@ use Rattle.partition_names.specs.declared.granularity.Granularity.{Granularity}
 use Rattle.partition_names.proofs.PartLemmas.{within}
 use Rattle.pv_catalog.specs.Catalogue.{CatalogueState}
 use Rattle.pv_catalog.specs.declared.row.Row.{Row}
-use Rattle.series_model.specs.Series.{since, end_from}
+use Rattle.series_model.specs.Series.{since, end_from, before, end_of}
 use Rattle.series_model.specs.declared.sample.Sample.{Sample}
-use Rattle.series_model.proofs.RisingLists.{since-append, since_all, since_none}
+use Rattle.series_model.proofs.RisingLists.{since-append, since_all, since_none, end_from-append}
 use Rattle.store_manifest.specs.Entries.{Place, comes_before, without}
 use Rattle.store_manifest.specs.Manifest.{ManifestState}
 use Rattle.store_manifest.specs.declared.entry.Entry.{Entry}
@@ -28,7 +28,7 @@ use Rattle.tier_store.proofs.Places.{manifest_at}
 use Rattle.tier_store.proofs.Rising.{own_series}
 use Rattle.act_model.specs.Changes.{added, at, changed, made}
 use Rattle.act_model.specs.Crash.{DurableRow, kept_of}
-use Rattle.act_model.specs.Limbo.{files_of, put}
+use Rattle.act_model.specs.Limbo.{files_of, put, FileState, revived}
 use Rattle.act_model.specs.Machine.{Machine, Change, Publishes, Unlists}
 use Rattle.act_model.specs.Rows.{RowState, Store, Short, Medium, Long, next_store, tier, with_tier}
 use Rattle.act_model.specs.Rule.{index_of}
@@ -38,9 +38,12 @@ use Rattle.archive_core.specs.Stands.{IsDurableAt, HoldsDurable}
 use Rattle.archive_core.proofs.ListEnds.{own_entries}
 use Rattle.archive_core.proofs.Lists.{same_or_not}
 use Rattle.archive_core.proofs.Making.{count_of, durable_made, kept_to}
-use Rattle.archive_core.proofs.MoveChoice.{files_held}
-use Rattle.archive_core.proofs.Pieces.{index_low, rise_filter}
-use Rattle.archive_core.proofs.Windows.{AreApart, all_in, from_there, rises_inside, ends_inside}
+use Rattle.archive_core.proofs.Windows.{files_held, index_low, AreApart, all_in, from_there, rises_inside, ends_inside}
+use Rattle.archive_core.proofs.MoveChoice.{from_zero}
+use Rattle.durable_write.proofs.Listed.{rise_filter}
+use Rattle.act_model.proofs.RowLaws.{before_none}
+use Rattle.act_model.proofs.Copies.{before_all}
+use Rattle.act_model.proofs.Puts.{before-append}
 
 -- ONE STORE HAS ANOTHER LIST
 
@@ -111,7 +114,7 @@ row_without j p xs =
     let back = filter_swap (of_number j) (is_behind p) (is_behind p) (λ x is. refl) xs in
     filter-append (of_number j) (filter (is_before p) xs) (filter (is_behind p) xs) ∙ (λ k. front k ++ back k)
 
-row_without_all : (j : ℕ) (fs xs : List Filed) → of_row j (without_all xs fs) ≡ without_all (of_row j xs) fs
+pub row_without_all : (j : ℕ) (fs xs : List Filed) → of_row j (without_all xs fs) ≡ without_all (of_row j xs) fs
 row_without_all j [] xs = refl
 row_without_all j (f ∷ fs) xs = row_without_all j fs (without filed_at (filed_at f) xs) ∙ ap (λ (ys : List Filed). without_all ys fs) (row_without j (filed_at f) xs)
 
@@ -146,7 +149,7 @@ without_other j p ys apart own = by_order (cases_order j p.0)
     by_order (inr (inl lt)) = let tests = below lt ys own in (λ k. pass_all (is_before p) ys tests.0 k ++ pass_none (is_behind p) ys tests.1 k) ∙ append-nil ys
     by_order (inr (inr lt)) = let tests = above lt ys own in (λ k. pass_none (is_before p) ys tests.0 k ++ pass_all (is_behind p) ys tests.1 k)
 
-without_others : (j : ℕ) (fs ys : List Filed) → AllByRecursion (λ (f : Filed). j ≢ f.entry.series) fs → AllByRecursion (λ (f : Filed). f.entry.series ≡ j) ys → without_all ys fs ≡ ys
+pub without_others : (j : ℕ) (fs ys : List Filed) → AllByRecursion (λ (f : Filed). j ≢ f.entry.series) fs → AllByRecursion (λ (f : Filed). f.entry.series ≡ j) ys → without_all ys fs ≡ ys
 without_others j [] ys apart own = refl
 without_others j (f ∷ fs) ys apart own = ap (λ (zs : List Filed). without_all zs fs) (without_other j (filed_at f) ys apart.0 own) ∙ without_others j fs ys apart.1 own
 
@@ -205,10 +208,6 @@ module _ (g : Granularity) (rows : List Row) where
       since-append end f.samples (all_in fs)
       ∙ (ap (λ (ys : List Sample). ys ++ since end (all_in fs)) (since_none end p.start f.samples own (omega (arith, inside, high))) ∙ since_oldest p.end n fs others apart.1 apart.0)
 
-pub starts_low : (fs : List Filed) → AllByRecursion (λ (f : Filed). 0 ≤ f.entry.part.start) fs
-starts_low [] = tt
-starts_low (f ∷ fs) = (omega arith, starts_low fs)
-
 -- A RETIREMENT
 
 pub retire_holds : (catalogue : CatalogueState) (ms : List ManifestState) (row n to : ℕ) (store : Store) (old : Stores) (m : Machine) → HaveDurable catalogue ms old m → (m.told ≡ true → to ≡ move_end old store row n)
@@ -223,7 +222,7 @@ retire_holds catalogue ms row n to store old m have ends =
     let is = files_held catalogue ms old m have told row r here store in
     let end : to ≡ ends_from 0 (take n (map entry_of own)) = ends told ∙ ap (λ (es : List Entry). ends_from 0 (take n es)) (sym (own_entries row listed)) in
     ap (λ (fs : List Filed). all_in fs) (row_without_all row parts listed ∙ without_front n own (rise_filter (of_number row) listed rise))
-    ∙ (sym (since_oldest is.unit old.rows 0 n own is.filed is.apart (starts_low own)) ∙ (λ k. since (sym end k) (sym is.samples k))))
+    ∙ (sym (since_oldest is.unit old.rows 0 n own is.filed is.apart (from_zero own)) ∙ (λ k. since (sym end k) (sym is.samples k))))
     (λ i apart. ap (λ (fs : List Filed). all_in fs) (row_without_all i parts listed ∙ without_others i parts (of_row i listed) (other_rows i row parts apart (take_own row n own (own_series row listed))) (own_series i listed)))
     have.holds
   where
@@ -233,3 +232,26 @@ retire_holds catalogue ms row n to store old m have ends =
         let low = index_low store in
         let manifest = manifest_at ms (index_of store) (omega (arith, low, three)) in
         (have.known.each (index_of store) manifest.0 manifest.1).valid.apart
+
+-- before the end of the n oldest files there are their samples
+pub before_oldest : (g : Granularity) (rows : List Row) (k n : ℕ) (fs : List Filed) → All (IsFiled g rows) fs → AreApart fs → starts_from g rows k fs → before (ends_from k (take n (map entry_of fs))) (all_in fs) ≡ all_in (take n fs)
+before_oldest g rows k zero fs filed apart low = before_none k k (all_in fs) (from_there g rows k fs filed apart low) (omega arith)
+before_oldest g rows k (suc n) [] filed apart low = refl
+before_oldest g rows k (suc n) (f ∷ fs) filed apart low =
+    let p = f.entry.part in
+    let others = All-tail (IsFiled g rows) f fs filed in
+    let is = All-head (IsFiled g rows) f fs filed in
+    let end = ends_from p.end (take n (map entry_of fs)) in
+    let wide = (within g p is.part).1 in
+    let own = rises_inside p.start p f.samples (omega arith) is.file.rising is.inside in
+    let inside : end_from p.start f.samples ≤ p.end = ends_inside p.start p f.samples (omega (arith, wide)) is.inside in
+    let high : p.end ≤ end = end_behind g rows p.end n fs others apart.1 apart.0 in
+    before-append end f.samples (all_in fs) ∙ (λ i. before_all end p.start f.samples own (omega (arith, inside, high)) i ++ before_oldest g rows p.end n fs others apart.1 apart.0 i)
+
+-- a list ends behind what is put into it
+pub end_put : (xs : List Sample) (limbo : List FileState) (listed : List Sample) → end_of (put xs limbo listed) ≡ end_from (end_of listed) xs
+end_put [] limbo listed = refl
+end_put (s ∷ rest) limbo listed =
+    let more = revived limbo listed s in
+    let end : end_of (listed ++ (more ++ s ∷ [])) ≡ s.t + 1 = end_from-append 0 listed (more ++ s ∷ []) ∙ end_from-append (end_of listed) more (s ∷ []) in
+    end_put rest limbo (listed ++ (more ++ s ∷ [])) ∙ ap (λ (n : ℕ). end_from n rest) end

@@ -1,10 +1,27 @@
 -- The choice of a move by what the stores list of a row is the machine's, by its samples.
-use Rattle.std.proofs.Common.{◌≡◌, ◌≢◌, inl, inr, ℕ, zero, suc, ◌+◌, ◌-◌, ◌<◌, ◌≤◌, List, [], ◌∷◌, ◌++◌, length, map, take, min, max, Bool, true, false, cond, Some, None, refl, sym, ◌∙◌, ap, subst, arith}
+use Rattle.std.proofs.Common.{◌≡◌, ◌≢◌, ℕ, ◌+◌, ◌≤◌, ◌<◌, List, [], ◌∷◌, ◌++◌, map, Bool, true, false, cond, Some, None, refl, sym, ◌∙◌, ap, subst, arith, inl, inr, zero, suc, ◌-◌, length, take, min, max}
 use Rattle.std.specs.List.{AllByRecursion, flat_map}
-use Rattle.std.specs.Prelude.{Option, All, IsSome, count_by, nat_eq, nat_le, slice_get, slice_index}
+use Rattle.std.specs.Prelude.{◌&&◌, All, nat_eq, Option, IsSome, count_by, nat_le, slice_get, slice_index}
+use Rattle.std.proofs.lemmas.List.Elements.{All-head, All-tail}
+use Rattle.etl_mover.specs.Move.{MoveState as Moving}
+use Rattle.partition_names.specs.declared.granularity.Granularity.{Granularity}
+use Rattle.partition_names.specs.Part.{IsPart, HoldsMoment}
+use Rattle.series_model.specs.declared.sample.Sample.{Sample}
+use Rattle.store_manifest.specs.Entries.{Place, put as put_at}
+use Rattle.store_manifest.specs.declared.entry.Entry.{Entry}
+use Rattle.durable_write.specs.Flush.{file_at, put_all}
+use Rattle.durable_write.specs.Held.{Filed, entry_of, filed_at, IsFiled}
+use Rattle.durable_write.specs.Plan.{of_row}
+use Rattle.durable_write.proofs.PutFile.{put_own, sooner, later}
+use Rattle.tier_store.specs.Moving.{RunsBeside}
+use Rattle.tier_store.specs.Pinned.{SeenAll}
+use Rattle.tier_store.specs.Stores.{Stores, list_at}
+use Rattle.act_model.specs.Rows.{Store, Short, Medium, Long, next_store, RowState, tier, window, is_empty}
+use Rattle.act_model.specs.Rule.{index_of, Rule, IsPartition}
+use Rattle.archive_core.specs.MoveTies.{GetsOne, GoInto, ends_from}
+use Rattle.archive_core.proofs.SameNames.{all_of, of_all}
 use Rattle.std.proofs.lemmas.Bool.Decides.{nat_tests}
 use Rattle.std.proofs.lemmas.List.{length-map}
-use Rattle.std.proofs.lemmas.List.Elements.{All-head, All-tail, All-filter}
 use Rattle.std.proofs.lemmas.List.Sums.{sum_by-cons}
 use Rattle.std.proofs.lemmas.Option.{slice_get_within}
 use Rattle.etl_rules.specs.Choosing.{ripe}
@@ -12,37 +29,89 @@ use Rattle.move_choice.specs.Parts.{parts_of as choice_parts, covered, end_of as
 use Rattle.move_choice.specs.Series.{of_series, IsPassed as IsPassedBy}
 use Rattle.move_choice.specs.declared.series.ToMove.{ToMove}
 use Rattle.move_choice.specs.declared.series.ToMove.TheVariants.{Begin, Running, Nothing}
-use Rattle.partition_names.specs.declared.granularity.Granularity.{Granularity}
 use Rattle.partition_names.specs.declared.part.Part.{Part}
-use Rattle.partition_names.specs.Part.{HoldsMoment}
 use Rattle.partition_names.proofs.PartLemmas.{within}
 use Rattle.pv_catalog.specs.Catalogue.{CatalogueState}
 use Rattle.pv_catalog.specs.declared.row.Row.{Row}
-use Rattle.series_model.specs.declared.sample.Sample.{Sample}
 use Rattle.series_model.specs.Series.{end_of, end_from, RisesFrom}
 use Rattle.series_model.proofs.RisingLists.{end_from-ge}
 use Rattle.store_manifest.specs.Manifest.{ManifestState}
-use Rattle.store_manifest.specs.declared.entry.Entry.{Entry}
-use Rattle.durable_write.specs.Held.{Filed, IsFiled, entry_of, samples_of}
-use Rattle.durable_write.specs.Plan.{of_row}
 use Rattle.tier_store.specs.Beginning.{IsChoice}
-use Rattle.tier_store.specs.Stores.{Stores, list_at}
 use Rattle.tier_store.proofs.Beginning.{parts_listed}
-use Rattle.tier_store.proofs.Places.{manifest_at, granularity_at}
-use Rattle.tier_store.proofs.Rising.{own_series}
 use Rattle.act_model.specs.Crash.{kept_of}
 use Rattle.act_model.specs.Machine.{Machine}
 use Rattle.act_model.specs.MoveBegin.{HasMove, HasNoMove, IsFree, IsMoving, IsPassed, begins, all_run, none_to_make, chosen, front_length, parts_of}
 use Rattle.act_model.specs.Parts.{PartsFrom, AreParts}
-use Rattle.act_model.specs.Rows.{RowState, Store, Short, Medium, Long, next_store, tier, window, is_empty}
-use Rattle.act_model.specs.Rule.{Rule, IsPartition, index_of}
 use Rattle.archive_core.specs.MoveChoice.{HaveDurable, AreNumbers, GoesOnBy, file_parts, move_end, move_rule, parts_to_move, row_files}
-use Rattle.archive_core.specs.MoveTies.{ends_from}
 use Rattle.archive_core.proofs.ListEnds.{files_end, last_end, own_entries}
 use Rattle.archive_core.proofs.Lists.{element}
-use Rattle.archive_core.proofs.Making.{kept_to}
-use Rattle.archive_core.proofs.Pieces.{index_low, rise_filter}
-use Rattle.archive_core.proofs.Windows.{AreApart, all_in, ends_inside, row_apart, windows}
+use Rattle.archive_core.proofs.Windows.{AreApart, all_in, ends_inside, windows, files_held}
+
+-- a list has the same files of a row as another that had, once the same files of the row are put into both
+pub put_rows : (row : ℕ) (fs xs ys : List Filed) → AllByRecursion (λ (f : Filed). f.entry.series ≡ row) fs → of_row row xs ≡ of_row row ys → of_row row (put_all xs fs) ≡ of_row row (put_all ys fs)
+put_rows row [] xs ys own same = same
+put_rows row (f ∷ fs) xs ys own same =
+    put_rows row fs (put_at filed_at f xs) (put_at filed_at f ys) own.1
+    (put_own row f xs own.0 ∙ ((λ k. sooner f.entry.part.start (same k) ++ (f ∷ later f.entry.part.start (same k))) ∙ sym (put_own row f ys own.0)))
+
+-- what a move has to list is of its row
+files_own : (g : Granularity) (row : ℕ) (files : List Filed) → All (λ (e : Entry). IsPart g e.part × (e.series ≡ row)) (map entry_of files) → AllByRecursion (λ (f : Filed). f.entry.series ≡ row) files
+files_own g row [] all = tt
+files_own g row (f ∷ files) all =
+    let P : Entry → Type 0 = λ e. IsPart g e.part × (e.series ≡ row) in
+    ((All-head P f.entry (map entry_of files) all).1, files_own g row files (All-tail P f.entry (map entry_of files) all))
+
+pub ahead_own : (i : ℕ) (tells : Bool) (all : SeenAll) (move : Moving) (files : List Filed) (held : Stores) → RunsBeside i tells all move files held → AllByRecursion (λ (f : Filed). f.entry.series ≡ move.series) files
+ahead_own i tells all move files held runs = files_own move.granularity move.series files (subst (All (λ (e : Entry). IsPart move.granularity e.part × (e.series ≡ move.series))) runs.pending runs.running.pending)
+
+-- what is listed in a place is told by the files of its row
+row_place : (p : Place) (xs : List Filed) → file_at p xs ≡ file_at p (of_row p.0 xs)
+row_place p [] = refl
+row_place p (x ∷ xs) = by_tests (nat_eq x.entry.series p.0) (nat_eq x.entry.part.start p.1) refl refl (row_place p xs)
+  where
+    by_tests : (a b : Bool) → nat_eq x.entry.series p.0 ≡ a → nat_eq x.entry.part.start p.1 ≡ b → file_at p xs ≡ file_at p (of_row p.0 xs) → cond (a && b) (Some x) (file_at p xs) ≡ file_at p (cond a (x ∷ of_row p.0 xs) (of_row p.0 xs))
+    by_tests true true own start rest = rw (own, start) refl
+    by_tests true false own start rest = rw (own, start) rest
+    by_tests false b own start rest = rest
+
+-- so files of a row go into the same places of a list that has the same files of it
+pub into_same : (row : ℕ) (copied : List Sample) (files xs ys : List Filed) → AllByRecursion (λ (f : Filed). f.entry.series ≡ row) files → of_row row ys ≡ of_row row xs → GoInto xs copied files → GoInto ys copied files
+into_same row copied files xs ys own same into = record {
+  each = into.each;
+  just = all_of (GetsOne ys copied) files (λ f there none.
+      let series : f.entry.series ≡ row = of_all (λ (h : Filed). h.entry.series ≡ row) files f own there in
+      let own_same : of_row f.entry.series xs ≡ of_row f.entry.series ys = subst (λ (k : ℕ). of_row k xs ≡ of_row k ys) (sym series) (sym same) in
+      let was : file_at (filed_at f) xs ≡ None = row_place (filed_at f) xs ∙ (ap (file_at (filed_at f)) own_same ∙ (sym (row_place (filed_at f) ys) ∙ none)) in
+      of_all (GetsOne xs copied) files f into.just there was);
+}
+
+-- no move goes to the first store
+pub next_low : (store : Store) → 1 ≤ index_of (next_store store)
+next_low Short = omega arith
+next_low Medium = omega arith
+next_low Long = omega arith
+
+pub next_high : (store : Store) → index_of (next_store store) < 3
+next_high Short = omega arith
+next_high Medium = omega arith
+next_high Long = omega arith
+
+-- the place behind a store's is that of the next store
+pub next_place : (store : Store) → store ≢ Long → index_of (next_store store) ≡ index_of store + 1
+next_place Short apart = refl
+next_place Medium apart = refl
+next_place Long apart = absurd (apart refl)
+
+pub store_low : (store : Store) → index_of store < 3
+store_low Short = omega arith
+store_low Medium = omega arith
+store_low Long = omega arith
+
+-- a move out of one of the first two stores
+pub source_low : (store : Store) → store ≢ Long → index_of store < 2
+source_low Short apart = omega arith
+source_low Medium apart = omega arith
+source_low Long apart = absurd (apart refl)
 
 abbrev part_of : Filed → Part
 part_of f = f.entry.part
@@ -67,7 +136,8 @@ windows_join : (xs : List Sample) (fs : List Filed) → AllByRecursion (λ (f : 
 windows_join xs [] cuts = refl
 windows_join xs (f ∷ fs) cuts = ap (λ (ys : List Sample). ys ++ flat_map (λ p. window p xs) (map part_of fs)) cuts.0 ∙ ap (λ (ys : List Sample). f.samples ++ ys) (windows_join xs fs cuts.1)
 
-from_zero : (fs : List Filed) → AllByRecursion (λ (f : Filed). 0 ≤ f.entry.part.start) fs
+-- no file starts before the beginning
+pub from_zero : (fs : List Filed) → AllByRecursion (λ (f : Filed). 0 ≤ f.entry.part.start) fs
 from_zero [] = tt
 from_zero (f ∷ fs) = (omega arith, from_zero fs)
 
@@ -241,50 +311,16 @@ end_is g rows (d ∷ ds) filed =
 
 -- the next store's list is at the next place
 next_list : (store : Store) (s : Stores) → store ≢ Long → list_at (index_of store + 1) s ≡ list_at (index_of (next_store store)) s
-next_list Short s apart = refl
-next_list Medium s apart = refl
-next_list Long s apart = absurd (apart refl)
-
--- THE FILES OF A ROW
-
--- they are of the store's partitions, each ends before the next one starts, and together they have what the machine's store lists
-pub record RowFiles (rule : Rule) (s : Stores) (store : Store) (i : ℕ) (row : RowState) : Type 0 where
-  pub unit : Granularity
-  pub of_store : slice_get rule.granularity (index_of store) ≡ Some unit
-  pub filed : All (IsFiled unit s.rows) (row_files s store i)
-  pub apart : AreApart (row_files s store i)
-  pub samples : tier row store ≡ all_in (row_files s store i)
+next_list store s apart = ap (λ (k : ℕ). list_at k s) (sym (next_place store apart))
 
 module _ (catalogue : CatalogueState) (ms : List ManifestState) (s : Stores) (m : Machine) (have : HaveDurable catalogue ms s m) (told : m.told ≡ true) (i : ℕ) (row : RowState) (here : slice_get m.rows i ≡ Some row) where
-  pub tier_held : (store : Store) → tier row store ≡ samples_of i (list_at (index_of store) s)
-  tier_held Short = (have.holds.each i (kept_of row) (kept_to m.rows i row here)).is.short told
-  tier_held Medium = (have.holds.each i (kept_of row) (kept_to m.rows i row here)).is.medium told
-  tier_held Long = (have.holds.each i (kept_of row) (kept_to m.rows i row here)).is.long told
-
-  pub files_held : (store : Store) → RowFiles m.rule s store i row
-  files_held store =
-      let three = have.known.three in
-      let low = index_low store in
-      let n = manifest_at ms (index_of store) (omega (arith, low, three)) in
-      let known = have.known.each (index_of store) n.0 n.1 in
-      let files = list_at (index_of store) s in
-      let own : Filed → Bool = λ f. nat_eq f.entry.series i in
-      let filed = All-filter own (IsFiled n.0.granularity s.rows) files (known.valid.filed.filed (have.stands told)) in
-      record {
-        unit = n.0.granularity;
-        of_store = ap (λ (gs : List Granularity). slice_get gs (index_of store)) have.rule ∙ granularity_at ms (index_of store) n.0 n.1;
-        filed = filed;
-        apart = row_apart n.0.granularity s.rows i (of_row i files) filed (rise_filter own files known.valid.apart) (own_series i files);
-        samples = tier_held store;
-      }
-
   cut : (store : Store) → AllByRecursion (λ (f : Filed). window f.entry.part (all_in (row_files s store i)) ≡ f.samples) (row_files s store i)
-  cut store = let is = files_held store in windows is.unit s.rows (row_files s store i) is.filed is.apart
+  cut store = let is = files_held catalogue ms s m have told i row here store in windows is.unit s.rows (row_files s store i) is.filed is.apart
 
   -- their partitions are the machine's
   pub parts_are : (store : Store) → AreParts m.rule store (tier row store) (file_parts (row_files s store i))
   parts_are store =
-      let is = files_held store in
+      let is = files_held catalogue ms s m have told i row here store in
       subst (λ (xs : List Sample). AreParts m.rule store xs (file_parts (row_files s store i))) (sym is.samples)
       (files_are_parts m.rule store is.unit s.rows is.of_store (row_files s store i) is.filed is.apart (cut store))
 
@@ -297,8 +333,8 @@ module _ (catalogue : CatalogueState) (ms : List ManifestState) (s : Stores) (m 
   -- as many of them move as of the machine's
   pub number_is : (store : Store) (now : ℕ) → store ≢ Long → parts_to_move m s store now i ≡ parts_of m.rule store now row (file_parts (row_files s store i))
   number_is store now apart =
-      let is = files_held store in
-      let next = files_held (next_store store) in
+      let is = files_held catalogue ms s m have told i row here store in
+      let next = files_held catalogue ms s m have told i row here (next_store store) in
       let fs = row_files s store i in
       let ds = row_files s (next_store store) i in
       let rule = move_rule m.rule store now in

@@ -1,7 +1,7 @@
 -- A step of copying: what is left to copy is what remains, and what is ahead then is what the machine puts there.
-use Rattle.std.proofs.Common.{◌≡◌, ◌⊎◌, inl, inr, ℕ, ◌<◌, ◌≤◌, List, [], ◌∷◌, ◌++◌, map, take, Bool, true, false, Some, None, refl, sym, ◌∙◌, ap, subst, arith, append-nil}
-use Rattle.std.specs.List.{list_any}
-use Rattle.std.specs.Prelude.{◌||◌, All, Contains, IsTrue, filter, nat_eq, nat_le, slice_get}
+use Rattle.std.proofs.Common.{◌≡◌, ◌⊎◌, inl, inr, ℕ, ◌<◌, ◌≤◌, List, [], ◌∷◌, ◌++◌, map, take, Bool, true, false, Some, None, refl, sym, ◌∙◌, ap, subst, arith, append-nil, ◌+◌, length, drop, Option}
+use Rattle.std.specs.List.{list_any, AllByRecursion}
+use Rattle.std.specs.Prelude.{All, Contains, IsTrue, filter, nat_eq, nat_le, slice_get}
 use Rattle.std.proofs.lemmas.Bool.Decides.{nat_tests}
 use Rattle.std.proofs.lemmas.List.Elements.{All-contains, Contains-append_cases, Contains-append_left, Contains-append_right}
 use Rattle.etl_mover.specs.Move.{MoveState as Moving}
@@ -15,11 +15,11 @@ use Rattle.store_manifest.specs.Entries.{Place}
 use Rattle.store_manifest.specs.Manifest.{ManifestState}
 use Rattle.store_manifest.specs.declared.entry.Entry.{Entry}
 use Rattle.durable_write.specs.Flush.{PlacesRise, file_at, put_all}
-use Rattle.durable_write.specs.Held.{Filed, IsFiled, entry_of, filed_at, samples_of}
+use Rattle.durable_write.specs.Held.{Filed, IsFiled, entry_of, filed_at, samples_of, IsIn, bytes_of, file_of}
 use Rattle.durable_write.specs.Plan.{of_row}
 use Rattle.durable_write.proofs.Listed.{all_put_all, found, listed_at, rise_put_all}
 use Rattle.tier_store.specs.Moving.{RunsBeside}
-use Rattle.tier_store.specs.Pinned.{SeenAll, beside}
+use Rattle.tier_store.specs.Pinned.{SeenAll, beside, KeepsShown}
 use Rattle.tier_store.specs.Retiring.{oldest}
 use Rattle.tier_store.specs.Revival.{AreWhole, samples_at}
 use Rattle.tier_store.specs.Revival as revival
@@ -30,7 +30,7 @@ use Rattle.tier_store.proofs.Places.{granularity_at}
 use Rattle.act_model.specs.Limbo.{FileState, Fits, files_of, put, revived}
 use Rattle.act_model.specs.Machine.{Machine, MoveState}
 use Rattle.act_model.specs.MoveStep.{is_later, remaining}
-use Rattle.act_model.specs.Rows.{RowState, Store, Short, Medium, Long, holds, next_store, tier}
+use Rattle.act_model.specs.Rows.{RowState, Store, Short, Medium, Long, holds, next_store, tier, is_empty, window}
 use Rattle.act_model.specs.Rule.{index_of}
 use Rattle.act_model.specs.Sound.{CopiesOf}
 use Rattle.archive_core.specs.MoveChoice.{move_end}
@@ -38,38 +38,35 @@ use Rattle.archive_core.specs.MoveTies.{GetsOne, GoInto, HasCopies, ends_from}
 use Rattle.archive_core.proofs.Batches.{told_stands}
 use Rattle.archive_core.proofs.LimboLists.{contains_filter, from_filter}
 use Rattle.archive_core.proofs.ListEnds.{own_entries}
-use Rattle.archive_core.proofs.MoveChanges.{starts_low}
-use Rattle.archive_core.proofs.MoveChoice.{files_held}
-use Rattle.archive_core.proofs.MoveCopies.{before_oldest, end_put}
-use Rattle.archive_core.proofs.MoveLimbo.{HaveMachine, from_put, have_durable, later_same, none_put, own_free, own_part, same_back, has_file}
-use Rattle.archive_core.proofs.MovePuts.{GoTogether, put_append, put_together, rises_before, same_filter, since_late, RevivesAs, revives}
+use Rattle.archive_core.proofs.Windows.{files_held, all_in}
+use Rattle.archive_core.proofs.MoveChanges.{before_oldest, end_put}
+use Rattle.archive_core.proofs.MoveLimbo.{HaveMachine, from_put, have_durable, later_same, none_put, own_free, own_part, same_back, has_file, back_at, back_inside, none_window, own_named, some_window, GoTogether, put_append, put_together, rises_before, same_filter, since_late, RevivesAs, revives, GoesWith, window_has}
 use Rattle.archive_core.proofs.SameNames.{all_of, contains_cases, contains_head, contains_tail, of_all}
-use Rattle.archive_core.proofs.Windows.{all_in}
-use Rattle.archive_core.proofs.MoveRows.{ahead_own}
+use Rattle.archive_core.proofs.MoveChoice.{ahead_own, from_zero}
 use Rattle.archive_core.proofs.PutFirst.{holds_at}
 use Rattle.durable_write.proofs.Revival.{put_all_new}
 use Rattle.tier_store.specs.Reviving.{AreBack, past}
+use Rattle.std.proofs.lemmas.List.{take-append-drop}
+use Rattle.disk_model.specs.Files.{Content, Name}
+use Rattle.disk_model.specs.Past.{MayLeave}
+use Rattle.payload_info.specs.declared.info.PayloadInfo.{PayloadInfo}
+use Rattle.pb_lines.specs.File.{IsFile}
+use Rattle.pb_lines.proofs.FileLines.{GoesOn}
+use Rattle.pb_lines.proofs.FileMeaning.{begin_alike}
+use Rattle.store_files.specs.Fronts.{Begins}
+use Rattle.act_model.specs.OpenPiece.{bytes_of as piece_bytes}
+use Rattle.archive_core.specs.LimboTies.{filed_of}
+use Rattle.archive_core.proofs.Opens.{told_tells}
+use Rattle.archive_core.proofs.PinMade.{lines_same}
+use Rattle.std.proofs.lemmas.List.Folds.{Any-from_list_any, list_any-from_Any}
 
 -- TESTS OF LISTS
 
 any_from : {A : Type 0} (p : A → Bool) (xs : List A) → list_any p xs ≡ true → (x : A) × Contains xs x × (p x ≡ true)
-any_from {A} p [] is = absurd (cc (is))
-any_from {A} p (x ∷ xs) is = by_test (p x) refl is (any_from p xs)
-  where
-    by_test : (b : Bool) → p x ≡ b → (b || list_any p xs) ≡ true → (list_any p xs ≡ true → (y : A) × Contains xs y × (p y ≡ true)) → (y : A) × Contains (x ∷ xs) y × (p y ≡ true)
-    by_test true own all more = (x, contains_head x xs, own)
-    by_test false other all more = let rest = more all in (rest.0, contains_tail x xs rest.0 rest.1, rest.2)
+any_from {A} p xs is = let some = Any-from_list_any p xs is in (some.1, (some.0, some.2, some.3), some.4)
 
 any_to : {A : Type 0} (p : A → Bool) (xs : List A) (x : A) → Contains xs x → p x ≡ true → list_any p xs ≡ true
-any_to {A} p [] x there is = absurd (let low = there.1 in omega (arith, low))
-any_to {A} p (y ∷ xs) x there is = elim (contains_cases y xs x there) [
-  | inl own ↦ (let yes : p y ≡ true = ap p own ∙ is in ap (λ (b : Bool). b || list_any p xs) yes)
-  | inr later ↦ by_rest (p y) (any_to p xs x later is)
-]
-  where
-    by_rest : (b : Bool) → list_any p xs ≡ true → (b || list_any p xs) ≡ true
-    by_rest true rest = refl
-    by_rest false rest = rest
+any_to {A} p xs x there is = list_any-from_Any p xs (there.0, x, there.1, there.2, is)
 
 -- what is put is there
 put_keeps : (xs : List Sample) (limbo : List FileState) (listed : List Sample) (s : Sample) → Contains listed s → Contains (put xs limbo listed) s
@@ -137,7 +134,24 @@ in_all (x ∷ fs) f s there has = elim (contains_cases x fs f there) [
   | inr later ↦ Contains-append_right x.samples (all_in fs) s (in_all fs f s later has)
 ]
 
-module _ (tells : Bool) (at : Seen) (limbo : List Retired) (m : Machine) (held : Stores) (have : HaveMachine tells at limbo m held) (told : m.told ≡ true) (move : MoveState) (n : ManifestState) (managed : slice_get at.manifests (index_of (next_store move.store)) ≡ Some n) (r : RowState) (here : slice_get m.rows move.row ≡ Some r) where
+-- FILES THAT BEGIN ONE CONTENT
+
+-- one goes on with the other's samples, so they have one first sample
+first_of : (xs ys : List Sample) (x y : Sample) (us vs : List Sample) (u v : List ℕ) → xs ≡ x ∷ us → ys ≡ y ∷ vs → GoesOn xs ys u v → x ≡ y
+first_of xs ys x y us vs u v xs_are ys_are on = let both : y ∷ vs ≡ x ∷ (us ++ on.more) = sym ys_are ∙ (on.list ∙ ap (λ (zs : List Sample). zs ++ on.more) xs_are) in cc (both)
+
+one_first : (a b : List ℕ) (content : Content) (head other : List ℕ) (info about : PayloadInfo) (xs ys : List Sample) (x y : Sample) (us vs : List Sample) → Begins a content → Begins b content → IsFile a head info xs → IsFile b other about ys → xs ≡ x ∷ us → ys ≡ y ∷ vs → x ≡ y
+one_first a b None head other info about xs ys x y us vs one two a_is b_is xs_are ys_are = absurd one
+one_first a b (Some bytes) head other info about xs ys x y us vs one two a_is b_is xs_are ys_are =
+    let u = drop (length a) bytes in
+    let v = drop (length b) bytes in
+    let same : a ++ u ≡ b ++ v = ap (λ (w : List ℕ). w ++ u) (sym one) ∙ (take-append-drop (length a) bytes ∙ (sym (take-append-drop (length b) bytes) ∙ ap (λ (w : List ℕ). w ++ v) two)) in
+    elim (begin_alike a b u v head other info about xs ys a_is b_is same).samples [
+      | inl on ↦ first_of xs ys x y us vs u v xs_are ys_are on
+      | inr on ↦ sym (first_of ys xs y x vs us v u ys_are xs_are on)
+    ]
+
+module _ (tells : Bool) (at : Seen) (limbo : List Retired) (m : Machine) (held : Stores) (have : HaveMachine tells at limbo m held) (rule : m.rule.granularity ≡ granularities at.manifests) (told : m.told ≡ true) (move : MoveState) (n : ManifestState) (managed : slice_get at.manifests (index_of (next_store move.store)) ≡ Some n) (r : RowState) (here : slice_get m.rows move.row ≡ Some r) where
   abbrev to : Store
   to = next_store move.store
 
@@ -157,7 +171,7 @@ module _ (tells : Bool) (at : Seen) (limbo : List Retired) (m : Machine) (held :
   listed_filed = (have.has.known.each place n managed).valid.filed.filed stands
 
   own_tier : tier r to ≡ samples_of move.row listed
-  own_tier = (files_held at.catalogue at.manifests held m (have_durable tells at limbo m held have) told move.row r here to).samples
+  own_tier = (files_held at.catalogue at.manifests held m (have_durable tells at limbo m held have rule) told move.row r here to).samples
 
   abbrev own : List FileState
   own = files_of move.row to m.limbo
@@ -240,9 +254,9 @@ module _ (tells : Bool) (at : Seen) (limbo : List Retired) (m : Machine) (held :
     left_remains count ends =
         let source = list_at (index_of move.store) held in
         let fs = of_row move.row source in
-        let is = files_held at.catalogue at.manifests held m (have_durable tells at limbo m held have) told move.row r here move.store in
+        let is = files_held at.catalogue at.manifests held m (have_durable tells at limbo m held have rule) told move.row r here move.store in
         let last : move.to ≡ ends_from 0 (take count (map entry_of fs)) = ends ∙ ap (λ (es : List Entry). ends_from 0 (take count es)) (sym (own_entries move.row source)) in
-        let front : all_in (take count fs) ≡ before move.to (tier r move.store) = sym (before_oldest is.unit held.rows 0 count fs is.filed is.apart (starts_low fs)) ∙ (λ k. before (sym last k) (sym is.samples k)) in
+        let front : all_in (take count fs) ≡ before move.to (tier r move.store) = sym (before_oldest is.unit held.rows 0 count fs is.filed is.apart (from_zero fs)) ∙ (λ k. before (sym last k) (sym is.samples k)) in
         past_is (all_in (take count fs)) ∙ (λ k. filter (is_later own) (since (ahead_end k) (front k)))
 
     -- WHAT IS PUT
@@ -345,3 +359,98 @@ module _ (tells : Bool) (at : Seen) (limbo : List Retired) (m : Machine) (held :
         each = all_of (λ (s : Sample). list_any (λ (f : Filed). holds f.entry.part s.t) more ≡ true) (move.copied ++ copied) one_into;
         just = all_of (GetsOne listed (move.copied ++ copied)) more (into_free new_series);
       }
+
+    -- THE SAMPLES OF ONE STEP
+
+    -- They lie in one partition wherever a file in limbo comes back: a file that is written there begins as that does.
+    module _ (later : Seen) (same_g : granularities later.manifests ≡ granularities at.manifests) (later_now : IsTrue tells → MayLeave later.past later.files) (shown : KeepsShown tells (beside at limbo) (beside later limbo)) (new : Moving) (more : List Filed) (then : RunsBeside place tells (beside later limbo) new more held)
+        (s : Sample) (xs rest left : List Sample) (are_left : past back move.row left ≡ (s ∷ xs) ++ rest) (ahead_is : samples_of move.row (put_all (list_at place held) more) ≡ samples_of move.row (put_all (list_at place held) files) ++ (samples_at back move.row s.t ++ s ∷ xs)) where
+      tells_now : IsTrue tells
+      tells_now = told_tells tells m.told held.stands have.told_is told
+
+      filed_then : All (IsFiled n.granularity held.rows) (put_all listed more)
+      filed_then = ahead_filed (beside later limbo) same_g new more then
+
+      more_in : All (IsIn (place + 1, held.rows) later.files) more
+      more_in = (then.ahead.safe tells_now).left later.files (later_now tells_now) stands
+
+      -- a copied sample is later than the file of its partition that comes back
+      behind : (f : FileState) → Contains own f → file_at (move.row, f.part.start) ahead ≡ None → (y : Sample) → Contains (s ∷ xs) y → holds f.part y.t ≡ true → end_of f.samples ≤ y.t
+      behind f there none y has lies =
+          let test = (from_filter (λ (x : Sample). nat_le (end_of (samples_at back move.row x.t)) x.t) left y (subst (λ (ys : List Sample). Contains ys y) (sym are_left) (Contains-append_left (s ∷ xs) rest y has))).1 in
+          let same = ap end_of (back_at tells at limbo m held have told to n managed move.row r here retired whole ahead leads back in_limbo f there y.t lies none) in
+          let low : end_of (samples_at back move.row y.t) ≤ y.t = grind (arith, nat_tests, test) in
+          omega (arith, low, same)
+
+      -- Where a sample comes into the partition of a file in limbo, and nothing is ahead there, the first one of the step does too: what is written
+      -- there begins as that file does.
+      never : (f : FileState) → Contains own f → file_at (move.row, f.part.start) ahead ≡ None → (x : Sample) → Contains (s ∷ xs) x → holds f.part x.t ≡ true → holds f.part s.t ≡ false → ⊥
+      never f there none x has lies apart =
+          let were = samples_of move.row ahead in
+          let came = samples_at back move.row s.t in
+          let fs = of_row move.row (put_all listed more) in
+          let one = in_one fs x (subst (λ (ys : List Sample). Contains ys x) (sym ahead_is) (Contains-append_right were (came ++ s ∷ xs) x (Contains-append_right came (s ∷ xs) x has))) in
+          let h : Filed = one.0 in
+          let from = from_filter (λ (g : Filed). nat_eq g.entry.series move.row) (put_all listed more) h one.1 in
+          let test = from.1 in
+          let h_is : IsFiled n.granularity held.rows h = All-contains (IsFiled n.granularity held.rows) (put_all listed more) h filed_then from.0 in
+          let f_part = own_part tells at limbo m held have told to n managed move.row r here retired whole ahead leads back in_limbo f there in
+          let x_lies : HoldsMoment h.entry.part x.t = All-contains (λ (y : Sample). HoldsMoment h.entry.part y.t) h.samples x h_is.inside one.2 in
+          let same : h.entry.part ≡ f.part = one_part n.granularity h.entry.part f.part x.t h_is.part f_part x_lies (grind (arith, nat_tests, lies), grind (arith, nat_tests, lies)) in
+          let series : h.entry.series ≡ move.row = grind (arith, nat_tests, test) in
+          let start : h.entry.part.start ≡ f.part.start = ap (λ (p : Part). p.start) same in
+          let at_place : filed_at h ≡ (move.row, f.part.start) = λ j. (series j, start j) in
+          let written = is_written f there h from.0 at_place in
+          let file = has_file tells at limbo m held have told to n managed move.row r here retired whole ahead leads back in_limbo f there in
+          let name : file_of (place + 1, held.rows) h.entry ≡ file.file.name = own_named tells at limbo m held have told to n managed move.row r here retired whole ahead leads back in_limbo f there h (record { row = h_is.row; stands = h_is.stands; part = h_is.part }) at_place in
+          let h_front : Begins (bytes_of h) (later.files file.file.name) = subst (λ (k : Name). Begins (bytes_of h) (later.files k)) name (All-contains (IsIn (place + 1, held.rows) later.files) more h more_in written) in
+          let plain : piece_bytes f ≡ bytes_of (filed_of file.file.entry f) = ap (λ (bytes : List ℕ). f.head ++ (10 ∷ bytes)) (lines_same f.samples) in
+          let f_front : Begins (bytes_of (filed_of file.file.entry f)) (later.files file.file.name) = subst (λ (b : List ℕ). Begins b (later.files file.file.name)) plain ((shown file.file.name (piece_bytes f) file.is.shows).front tells_now) in
+          let f_is = file.is.filed in
+          let first : f_is.first ≡ h_is.first = one_first (bytes_of (filed_of file.file.entry f)) (bytes_of h) (later.files file.file.name) f.head h.head f_is.info h_is.info f.samples h.samples f_is.first h_is.first f_is.others h_is.others f_front h_front f_is.file h_is.file f_is.some h_is.some in
+          let y : Sample = h_is.first in
+          let in_h : Contains h.samples y = subst (λ (ys : List Sample). Contains ys y) (sym h_is.some) (contains_head y h_is.others) in
+          let in_f : Contains f.samples y = subst (λ (z : Sample). Contains f.samples z) first (subst (λ (ys : List Sample). Contains ys f_is.first) (sym f_is.some) (contains_head f_is.first f_is.others)) in
+          let y_in : HoldsMoment h.entry.part y.t = All-contains (λ (z : Sample). HoldsMoment h.entry.part z.t) h.samples y h_is.inside in_h in
+          let y_there : HoldsMoment f.part y.t = subst (λ (p : Part). HoldsMoment p y.t) same y_in in
+          let y_lies : holds f.part y.t ≡ true = holds_at f.part y.t y_there.0 y_there.1 in
+          let among : Contains (were ++ (came ++ s ∷ xs)) y = subst (λ (ys : List Sample). Contains ys y) ahead_is (in_all fs h y one.1 in_h) in
+          elim (Contains-append_cases were (came ++ s ∷ xs) y among) [
+            | inl was ↦ (
+                let some = window_has f.part were y was y_lies in
+                let bare = none_window tells at limbo m held have told to n managed move.row r here retired whole ahead leads back in_limbo filed (rise_put_all listed files rise_listed) f.part f_part none in
+                let both : true ≡ false = sym bare ∙ some in
+                cc (both)
+                )
+            | inr new_there ↦ elim (Contains-append_cases came (s ∷ xs) y new_there) [
+              | inl back_there ↦ (
+                  let inside = back_inside tells at limbo m held have told to n managed move.row r here retired whole ahead leads back in_limbo s.t y back_there f there y_lies in
+                  let both : true ≡ false = sym inside ∙ apart in
+                  cc (both)
+                  )
+              | inr copied_there ↦ (
+                  let low = behind f there none y copied_there y_lies in
+                  let high = (of_all (λ (z : Sample). (0 ≤ z.t) × (z.t < end_of f.samples)) f.samples y (rises_before 0 f.samples f_is.file.rising) in_f).1 in
+                  omega (arith, low, high)
+                  )
+            ]
+          ]
+        where
+          is_written : (f : FileState) → Contains own f → (h : Filed) → Contains (put_all listed more) h → filed_at h ≡ (move.row, f.part.start) → Contains more h
+          is_written f there h inside at_place = elim (from_put more listed h inside) [
+            | inl was ↦ absurd (
+                let free = own_free tells at limbo m held have told to n managed move.row r here retired whole ahead leads back in_limbo f there in
+                let found_it = All-contains (λ (z : Filed). file_at (filed_at z) listed ≡ Some z) listed h (found listed rise_listed) was in
+                let there_too : file_at (move.row, f.part.start) listed ≡ Some h = ap (λ (q : Place). file_at q listed) (sym at_place) ∙ found_it in
+                cc (free, there_too)
+                )
+            | inr is_new ↦ is_new
+          ]
+
+      pub goes_with : AllByRecursion (GoesWith own (samples_of move.row ahead) s) xs
+      goes_with = all_of (GoesWith own (samples_of move.row ahead) s) xs (λ x inside. all_of (λ (f : FileState). holds f.part x.t ≡ true → (holds f.part s.t ≡ true) ⊎ (is_empty (window f.part (samples_of move.row ahead)) ≡ false)) own (λ f there lies. by_cases f there x inside lies (file_at (move.row, f.part.start) ahead) refl (holds f.part s.t) refl))
+        where
+          by_cases : (f : FileState) → Contains own f → (x : Sample) → Contains xs x → holds f.part x.t ≡ true → (o : Option Filed) → file_at (move.row, f.part.start) ahead ≡ o → (b : Bool) → holds f.part s.t ≡ b → (holds f.part s.t ≡ true) ⊎ (is_empty (window f.part (samples_of move.row ahead)) ≡ false)
+          by_cases f there x inside lies (Some g) is b with_it = inr (some_window tells at limbo m held have told to n managed move.row r here retired whole ahead leads back in_limbo filed (rise_put_all listed files rise_listed) f.part (own_part tells at limbo m held have told to n managed move.row r here retired whole ahead leads back in_limbo f there) g is)
+          by_cases f there x inside lies None none true with_it = inl with_it
+          by_cases f there x inside lies None none false apart = absurd (never f there none x (contains_tail s xs x inside) lies apart)

@@ -1,12 +1,11 @@
 -- Whether a move's parts have grown: the stores tell it by lengths, and the machine by samples.
 use Rattle.std.proofs.Common.{◌≡◌, ℕ, zero, suc, ◌+◌, ◌<◌, ◌≤◌, List, [], ◌∷◌, ◌++◌, length, map, take, true, false, Some, refl, sym, ◌∙◌, ap, subst, arith, append-nil}
 use Rattle.std.specs.List.{AllByRecursion}
-use Rattle.std.specs.Option.{option_map}
 use Rattle.std.specs.Prelude.{All, nat_le, slice_get}
 use Rattle.std.proofs.lemmas.Bool.Decides.{nat_tests}
 use Rattle.std.proofs.lemmas.List.{length-append, length-map, take-map, take-take, take_all}
 use Rattle.std.proofs.lemmas.List.Elements.{All-head, All-tail, All-take}
-use Rattle.std.proofs.lemmas.Option.{same_Some, slice_get-map, slice_get_within}
+use Rattle.std.proofs.lemmas.Option.{same_Some, slice_get_within}
 use Rattle.partition_names.specs.declared.granularity.Granularity.{Granularity}
 use Rattle.partition_names.specs.declared.part.Part.{Part}
 use Rattle.partition_names.proofs.PartLemmas.{within}
@@ -31,21 +30,16 @@ use Rattle.archive_core.specs.MoveTies.{IsCopiedTo, ends_from}
 use Rattle.archive_core.specs.Retiring.{AreCopiedTo}
 use Rattle.archive_core.specs.Retiring.{lengths_of}
 use Rattle.archive_core.proofs.ListEnds.{own_entries}
-use Rattle.archive_core.proofs.Lists.{element}
-use Rattle.archive_core.proofs.MoveChanges.{end_behind, starts_low}
-use Rattle.archive_core.proofs.MoveChoice.{RowFiles, files_held}
-use Rattle.archive_core.proofs.MoveCopies.{before_oldest}
+use Rattle.archive_core.proofs.Lists.{element, get_map, get_take, all_at}
+use Rattle.archive_core.proofs.MoveChanges.{end_behind, before_oldest}
+use Rattle.archive_core.proofs.Windows.{RowFiles, files_held, AreApart, all_in, from_there, rises_inside, ends_inside, windows}
 use Rattle.archive_core.proofs.SameNames.{get_all}
-use Rattle.archive_core.proofs.Windows.{AreApart, all_in, before-append, before_whole, from_there, rises_inside, ends_inside, windows}
+use Rattle.act_model.proofs.Copies.{before_all}
+use Rattle.act_model.proofs.Puts.{before-append}
+use Rattle.archive_core.proofs.MoveChoice.{from_zero}
+use Rattle.archive_core.proofs.Batches.{lines_size}
 
 -- LENGTHS
-
-lines_size : (xs : List Sample) → length (lines_of xs) ≡ size_of xs
-lines_size [] = refl
-lines_size (x ∷ xs) =
-    let long = length-append x.line (10 ∷ lines_of xs) in
-    let rest = lines_size xs in
-    omega (arith, long, rest)
 
 size-append : (xs ys : List Sample) → size_of (xs ++ ys) ≡ size_of xs + size_of ys
 size-append [] ys = omega arith
@@ -106,27 +100,13 @@ module _ (g : Granularity) (rows : List Row) (n : ℕ) (published : Entry) (f : 
   published_is =
       let rising = RisesFrom-front 0 copied.front copied.back (subst IsRising copied.samples is.file.rising) in
       let front : before n f.samples ≡ copied.front =
-      ap (before n) copied.samples ∙ (before-append n copied.front copied.back ∙ ((λ k. before_whole n 0 copied.front rising copied.until k ++ before_none n n copied.back copied.later (omega arith) k) ∙ append-nil copied.front)) in
+      ap (before n) copied.samples ∙ (before-append n copied.front copied.back ∙ ((λ k. before_all n 0 copied.front rising copied.until k ++ before_none n n copied.back copied.later (omega arith) k) ∙ append-nil copied.front)) in
       let size = ap size_of front in
       let len = copied.len in
       let lines = lines_size copied.front in
       omega (arith, size, len, lines)
 
 -- LISTS
-
-pub get_map : {A B : Type 0} (v : A → B) (xs : List A) (k : ℕ) (x : A) → slice_get xs k ≡ Some x → slice_get (map v xs) k ≡ Some (v x)
-get_map {A} {B} v xs k x here = slice_get-map v xs k ∙ ap (option_map v) here
-
-pub get_take : {A : Type 0} (n k : ℕ) (xs : List A) (x : A) → slice_get (take n xs) k ≡ Some x → (k < n) × (slice_get xs k ≡ Some x)
-get_take {A} zero k xs x here = absurd (cc (here))
-get_take {A} (suc n) k [] x here = absurd (cc (here))
-get_take {A} (suc n) zero (y ∷ xs) x here = (omega arith, here)
-get_take {A} (suc n) (suc k) (y ∷ xs) x here = let rest = get_take n k xs x here in (let low = rest.0 in omega (arith, low), rest.1)
-
-pub all_at : {A : Type 0} (P : A → Type 0) (xs : List A) (k : ℕ) (x : A) → All P xs → slice_get xs k ≡ Some x → P x
-all_at {A} P [] k x all here = absurd (cc (here))
-all_at {A} P (y ∷ xs) zero x all here = subst P (same_Some y x here) (All-head P y xs all)
-all_at {A} P (y ∷ xs) (suc k) x all here = all_at P xs k x (All-tail P y xs all) here
 
 take_each : (P : Filed → Type 0) (n : ℕ) (fs : List Filed) → AllByRecursion P fs → AllByRecursion P (take n fs)
 take_each P zero fs all = tt
@@ -164,7 +144,7 @@ before_file g rows (x ∷ fs) (suc k) f filed apart here =
     let wide = (within g p is.part).1 in
     let own = rises_inside p.start p x.samples (omega arith) is.file.rising is.inside in
     let inside : end_from p.start x.samples ≤ p.end = ends_inside p.start p x.samples (omega (arith, wide)) is.inside in
-    before-append q x.samples (all_in fs) ∙ (λ i. before_whole q p.start x.samples own (omega (arith, inside, behind)) i ++ before_file g rows fs k f (All-tail (IsFiled g rows) x fs filed) apart.1 here i)
+    before-append q x.samples (all_in fs) ∙ (λ i. before_all q p.start x.samples own (omega (arith, inside, behind)) i ++ before_file g rows fs k f (All-tail (IsFiled g rows) x fs filed) apart.1 here i)
 
 -- files that all end by n end by n together
 all_end : (n : ℕ) (fs : List Filed) → AllByRecursion (λ (f : Filed). end_of f.samples ≤ n) fs → end_of (all_in fs) ≤ n
@@ -246,7 +226,7 @@ module _ (catalogue : CatalogueState) (ms : List ManifestState) (s : Stores) (m 
   to_files = to_ends ∙ ap (λ (es : List Entry). ends_from 0 es) (sym (take-map entry_of (length parts) own))
 
   front_is : before move.to (tier row move.store) ≡ all_in files
-  front_is = (λ k. before (to_files k) (is.samples k)) ∙ before_oldest is.unit s.rows 0 (length parts) own is.filed is.apart (starts_low own)
+  front_is = (λ k. before (to_files k) (is.samples k)) ∙ before_oldest is.unit s.rows 0 (length parts) own is.filed is.apart (from_zero own)
 
   few : length files ≤ length parts
   few = let number = copied.number in omega (arith, number)

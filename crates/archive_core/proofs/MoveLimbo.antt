@@ -1,33 +1,38 @@
--- The files in limbo of the store to which a move copies: those that may come back are the machine's.
-use Rattle.std.proofs.Common.{◌≡◌, ◌⊎◌, inl, inr, ℕ, ◌+◌, ◌<◌, ◌≤◌, List, [], ◌∷◌, ◌++◌, length, map, Bool, true, false, cond, Option, Some, None, refl, sym, ◌∙◌, ap, subst, arith}
-use Rattle.std.specs.Prelude.{◌==◌, ◌≢◌, ◌&&◌, All, Contains, IsTrue, nat_eq, nat_le, nat_lt, slice_get}
+-- The files in limbo of the store to which a move copies: those that may come back are the machine's, and what it puts among them.
+use Rattle.std.proofs.Common.{◌≡◌, ◌⊎◌, inl, inr, ℕ, ◌+◌, ◌<◌, ◌≤◌, List, [], ◌∷◌, ◌++◌, Bool, true, false, cond, sym, refl, ◌∙◌, ap, arith, append_assoc, append-nil, length, map, Option, Some, None, subst}
+use Rattle.std.specs.List.{AllByRecursion}
+use Rattle.std.specs.Prelude.{◌&&◌, Contains, filter, nat_le, ◌==◌, ◌≢◌, All, IsTrue, nat_eq, nat_lt, slice_get}
 use Rattle.std.proofs.lemmas.Bool.Decides.{nat_tests}
+use Rattle.partition_names.specs.declared.part.Part.{Part}
+use Rattle.series_model.specs.declared.sample.Sample.{Sample}
+use Rattle.series_model.specs.Series.{end_from, end_of, since, RisesFrom}
+use Rattle.series_model.proofs.RisingLists.{end_from-ge}
+use Rattle.act_model.specs.Limbo.{FileState, revived, put, files_of}
+use Rattle.act_model.specs.MoveStep.{is_later}
+use Rattle.act_model.specs.Rows.{window, holds, is_empty, RowState, Store, same_store}
+use Rattle.act_model.proofs.Puts.{window-append}
+use Rattle.archive_core.proofs.PutFirst.{some_back, some_front, window_own}
+use Rattle.archive_core.proofs.SameNames.{contains_cases, contains_head, contains_tail, all_of, of_all}
 use Rattle.std.proofs.lemmas.List.Elements.{All-contains, All-contains_itself, All-filter, All-from_recursion}
-use Rattle.std.proofs.lemmas.Option.{same_Some}
 use Rattle.disk_model.specs.Files.{Name}
 use Rattle.disk_model.specs.Past.{MayLeave}
 use Rattle.partition_names.specs.declared.granularity.Granularity.{Granularity}
-use Rattle.partition_names.specs.declared.part.Part.{Part}
 use Rattle.partition_names.specs.Part.{IsPart, HoldsMoment}
 use Rattle.partition_names.proofs.PartLemmas.{one_part, within}
 use Rattle.pb_lines.specs.File.{IsFile}
 use Rattle.pb_lines.proofs.FileMeaning.{one_file}
 use Rattle.pv_catalog.specs.declared.row.Row.{Row}
-use Rattle.series_model.specs.Series.{end_from, end_of}
-use Rattle.series_model.specs.declared.sample.Sample.{Sample}
 use Rattle.store_files.specs.Fronts.{Begins}
 use Rattle.store_manifest.specs.Entries.{Place, place}
 use Rattle.store_manifest.specs.Manifest.{ManifestState}
 use Rattle.store_manifest.specs.declared.entry.Entry.{Entry}
 use Rattle.durable_write.specs.Flush.{PlacesRise, file_at, is_place, put_all}
 use Rattle.durable_write.specs.Held.{Filed, IsFiled, IsIn, IsListed, entry_of, file_of, filed_at}
-use Rattle.durable_write.specs.Held as held_files
 use Rattle.durable_write.specs.Plan.{of_row}
 use Rattle.durable_write.proofs.Ahead.{contains_entry, put_has, put_itself}
-use Rattle.durable_write.proofs.Listed.{all_put_all, found, is_place-same, is_place-true, listed_at, rise_put_all}
+use Rattle.durable_write.proofs.Listed.{all_put_all, found, is_place-same, is_place-true, listed_at, rise_put_all, rise_filter}
 use Rattle.durable_write.proofs.Names.{same_file}
 use Rattle.durable_write.proofs.There.{contains_map}
-use Rattle.store_manifest.specs.Entries as entries
 use Rattle.tier_store.specs.Change.{Has}
 use Rattle.tier_store.specs.Limbo.{IsListedName, IsOfPlace, ListsPlace}
 use Rattle.tier_store.specs.Pinned.{beside}
@@ -37,16 +42,13 @@ use Rattle.tier_store.specs.Stores.{Stores, list_at}
 use Rattle.tier_store.specs.declared.limbo.Retired.{Retired}
 use Rattle.tier_store.specs.Reviving.{AreBack}
 use Rattle.tier_store.proofs.Dropped.{one_file as one_of_list}
-use Rattle.tier_store.proofs.Places.{granularity_at, one_manifest}
+use Rattle.tier_store.proofs.Places.{one_manifest}
 use Rattle.tier_store.proofs.Rising.{own_series}
 use Rattle.tier_store.proofs.Staying.{as_filed, listed_place, retired_listed}
-use Rattle.act_model.specs.Limbo.{FileState, files_of, revived}
 use Rattle.act_model.specs.Machine.{Machine}
-use Rattle.act_model.specs.MoveStep.{is_later}
 use Rattle.act_model.specs.OpenPiece.{bytes_of}
-use Rattle.act_model.specs.Rows.{RowState, Store, Short, Medium, Long, holds, is_empty, same_store, window}
 use Rattle.act_model.specs.Rule.{index_of}
-use Rattle.act_model.specs.Sound.{IsSound, LimboSound}
+use Rattle.act_model.specs.Sound.{IsSound}
 use Rattle.act_model.proofs.Rows.{same_store_is}
 use Rattle.act_model.proofs.RowLaws.{end_from-below}
 use Rattle.archive_core.specs.LimboTies.{IsRetiredOf, IsLimboOf, filed_of}
@@ -54,12 +56,172 @@ use Rattle.archive_core.specs.MoveChoice.{HaveDurable}
 use Rattle.archive_core.specs.Stands.{HoldsDurable}
 use Rattle.archive_core.proofs.Batches.{told_stands}
 use Rattle.archive_core.proofs.LimboLists.{contains_filter, from_filter, none_starts}
-use Rattle.archive_core.proofs.MovePuts.{IsBehind, RevivesAs, end_lower, later_each, later_true, revives, same_test}
 use Rattle.archive_core.proofs.Opens.{told_tells}
-use Rattle.archive_core.proofs.Pieces.{rise_filter}
 use Rattle.archive_core.proofs.PinMade.{lines_same, same_front}
-use Rattle.archive_core.proofs.SameNames.{all_of, contains_cases, contains_head, contains_tail, of_all}
 use Rattle.archive_core.proofs.Windows.{AreApart, all_in, row_apart, windows}
+use Rattle.archive_core.proofs.LimboSwept.{one_store, store_itself}
+use Rattle.durable_write.specs.Held as held_files
+use Rattle.store_manifest.specs.Entries as entries
+
+-- LISTS
+
+-- two tests that are each passed where the other is are the same
+pub same_test : (a b : Bool) → (a ≡ true → b ≡ true) → (b ≡ true → a ≡ true) → a ≡ b
+same_test true b to from = sym (to refl)
+same_test false true to from = from refl
+same_test false false to from = refl
+
+-- by tests that are the same for each of the samples the same ones pass
+pub same_filter : (p q : Sample → Bool) (xs : List Sample) → AllByRecursion (λ (s : Sample). p s ≡ q s) xs → filter p xs ≡ filter q xs
+same_filter p q [] same = refl
+same_filter p q (x ∷ xs) same = (λ k. cond (same.0 k) (x ∷ filter p xs) (filter p xs)) ∙ ap (λ (ys : List Sample). cond (q x) (x ∷ ys) ys) (same_filter p q xs same.1)
+
+-- what is taken from a moment on is no earlier
+pub since_late : (n : ℕ) (xs : List Sample) → AllByRecursion (λ (s : Sample). n ≤ s.t) (since n xs)
+since_late n [] = tt
+since_late n (x ∷ xs) = by_test (nat_le n x.t) refl (since_late n xs)
+  where
+    by_test : (b : Bool) → nat_le n x.t ≡ b → AllByRecursion (λ (s : Sample). n ≤ s.t) (since n xs) → AllByRecursion (λ (s : Sample). n ≤ s.t) (cond b (x ∷ since n xs) (since n xs))
+    by_test true is rest = (grind (arith, nat_tests, is), rest)
+    by_test false is rest = rest
+
+-- a list that has a sample ends behind where it ends from anywhere sooner
+pub end_lower : (n : ℕ) (xs : List Sample) → end_of xs ≤ end_from n xs
+end_lower n [] = omega arith
+end_lower n (x ∷ xs) = omega arith
+
+-- each of rising samples is before their end
+pub rises_before : (n : ℕ) (xs : List Sample) → RisesFrom n xs → AllByRecursion (λ (s : Sample). (n ≤ s.t) × (s.t < end_from n xs)) xs
+rises_before n [] rises = tt
+rises_before n (x ∷ xs) rises = let first = rises.0 in let end = end_from-ge (x.t + 1) xs rises.1 in ((first, omega (arith, end)), lower n xs (rises_before (x.t + 1) xs rises.1))
+  where
+    lower : (k : ℕ) (ys : List Sample) → AllByRecursion (λ (s : Sample). (x.t + 1 ≤ s.t) × (s.t < end_from (x.t + 1) xs)) ys → AllByRecursion (λ (s : Sample). (n ≤ s.t) × (s.t < end_from (x.t + 1) xs)) ys
+    lower k [] all = tt
+    lower k (y ∷ ys) all = ((let up = all.0.0 in let first = rises.0 in omega (arith, up, first), all.0.1), lower k ys all.1)
+
+-- LATER THAN THE FILES OF LIMBO
+
+-- a sample that is later than the file of its partition
+abbrev pub IsBehind : Sample → FileState → Type 0
+IsBehind s f = holds f.part s.t ≡ true → end_from f.part.start f.samples ≤ s.t
+
+pub later_true : (files : List FileState) (s : Sample) → AllByRecursion (IsBehind s) files → is_later files s ≡ true
+later_true [] s all = refl
+later_true (f ∷ files) s all = by_test (holds f.part s.t) refl (later_true files s all.1)
+  where
+    by_test : (b : Bool) → holds f.part s.t ≡ b → is_later files s ≡ true → (cond b (nat_le (end_from f.part.start f.samples) s.t) true && is_later files s) ≡ true
+    by_test true is rest = let low : end_from f.part.start f.samples ≤ s.t = all.0 is in let own : nat_le (end_from f.part.start f.samples) s.t ≡ true = grind (arith, nat_tests, low) in rw (own, rest) refl
+    by_test false is rest = rest
+
+pub later_each : (files : List FileState) (s : Sample) → is_later files s ≡ true → AllByRecursion (IsBehind s) files
+later_each [] s is = tt
+later_each (f ∷ files) s is = by_test (holds f.part s.t) refl (later_each files s)
+  where
+    by_test : (b : Bool) → holds f.part s.t ≡ b → (is_later files s ≡ true → AllByRecursion (IsBehind s) files) → AllByRecursion (IsBehind s) (f ∷ files)
+    by_test true test rest = let both = rw test at is in ((λ h. grind (arith, nat_tests, both)), rest (grind (arith, nat_tests, both)))
+    by_test false test rest = let both = rw test at is in ((λ h. absurd (let no : true ≡ false = sym h ∙ test in cc (no))), rest both)
+
+-- WHAT COMES BACK
+
+-- What comes back is the file in whose partition the sample lies, where that isn't listed, and nothing where it is or there is none.
+abbrev pub RevivesAs : List FileState → List Sample → Sample → List Sample → Type 0
+RevivesAs files listed s xs = ((f : FileState) × Contains files f × (holds f.part s.t ≡ true) × (((is_empty (window f.part listed) ≡ true) × (xs ≡ f.samples)) ⊎ ((is_empty (window f.part listed) ≡ false) × (xs ≡ [])))) ⊎ (((f : FileState) → Contains files f → holds f.part s.t ≡ true → ⊥) × (xs ≡ []))
+
+pub revives : (files : List FileState) (listed : List Sample) (s : Sample) → RevivesAs files listed s (revived files listed s)
+revives [] listed s = inr ((λ f there is. absurd (let low = there.1 in omega (arith, low))), refl)
+revives (f ∷ files) listed s = by_test (holds f.part s.t) refl (is_empty (window f.part listed)) refl (revives files listed s)
+  where
+    by_test : (b : Bool) → holds f.part s.t ≡ b → (c : Bool) → is_empty (window f.part listed) ≡ c → RevivesAs files listed s (revived files listed s) → RevivesAs (f ∷ files) listed s (cond b (cond c f.samples []) (revived files listed s))
+    by_test true is true none rest = inl (f, contains_head f files, is, inl (none, refl))
+    by_test true is false some rest = inl (f, contains_head f files, is, inr (some, refl))
+    by_test false is c empty (inl (g, there, lies, as_it_is)) = inl (g, contains_tail f files g there, lies, as_it_is)
+    by_test false is c empty (inr (none, same)) = inr (
+      (λ g there lies. elim (contains_cases f files g there) [
+        | inl own ↦ (let yes : holds f.part s.t ≡ true = ap (λ (x : FileState). holds x.part s.t) own ∙ lies in let both : true ≡ false = sym yes ∙ is in cc (both))
+        | inr later ↦ none g later lies
+      ]),
+      same,
+    )
+
+-- WHAT IS PUT
+
+pub put_append : (xs ys : List Sample) (files : List FileState) (listed : List Sample) → put (xs ++ ys) files listed ≡ put ys files (put xs files listed)
+put_append [] ys files listed = refl
+put_append (x ∷ xs) ys files listed = put_append xs ys files (listed ++ (revived files listed x ++ x ∷ []))
+
+-- what has samples of a partition has some with more behind it
+window_more : (part : Part) (xs ys : List Sample) → is_empty (window part xs) ≡ false → is_empty (window part (xs ++ ys)) ≡ false
+window_more part xs ys some = ap is_empty (window-append part xs ys) ∙ some_front (window part xs) (window part ys) some
+
+-- and so has what ends with one
+window_last : (part : Part) (s : Sample) (xs ys : List Sample) → holds part s.t ≡ true → is_empty (window part (xs ++ (ys ++ s ∷ []))) ≡ false
+window_last part s xs ys is =
+    ap is_empty (window-append part xs (ys ++ s ∷ []) ∙ ap (λ (w : List Sample). window part xs ++ w) (window-append part ys (s ∷ [])))
+    ∙ some_back (window part xs) (window part ys ++ window part (s ∷ [])) (some_back (window part ys) (window part (s ∷ [])) (ap is_empty (window_own part s is)))
+
+-- a sample in the partition makes it no empty one
+pub window_has : (part : Part) (xs : List Sample) (s : Sample) → Contains xs s → holds part s.t ≡ true → is_empty (window part xs) ≡ false
+window_has part [] s there is = absurd (let low = there.1 in omega (arith, low))
+window_has part (x ∷ xs) s there is = elim (contains_cases x xs s there) [
+  | inl own ↦ window_more part (x ∷ []) xs (ap is_empty (window_own part x (ap (λ (y : Sample). holds part y.t) own ∙ is)))
+  | inr later ↦ ap is_empty (window-append part (x ∷ []) xs) ∙ some_back (window part (x ∷ [])) (window part xs) (window_has part xs s later is)
+]
+
+-- a file into whose partition a sample comes has samples in the list already
+abbrev AreListed : List FileState → List Sample → Sample → Type 0
+AreListed files listed x = AllByRecursion (λ (f : FileState). holds f.part x.t ≡ true → is_empty (window f.part listed) ≡ false) files
+
+none_listed : (files : List FileState) (listed : List Sample) (x : Sample) → AreListed files listed x → revived files listed x ≡ []
+none_listed [] listed x are = refl
+none_listed (f ∷ files) listed x are = by_test (holds f.part x.t) refl (none_listed files listed x are.1)
+  where
+    by_test : (b : Bool) → holds f.part x.t ≡ b → revived files listed x ≡ [] → cond b (cond (is_empty (window f.part listed)) f.samples []) (revived files listed x) ≡ []
+    by_test true is rest = ap (λ (b : Bool). cond b f.samples []) (are.0 is)
+    by_test false is rest = rest
+
+listed_more : (files : List FileState) (listed ys : List Sample) (x : Sample) → AreListed files listed x → AreListed files (listed ++ ys) x
+listed_more [] listed ys x are = tt
+listed_more (f ∷ files) listed ys x are = ((λ is. window_more f.part listed ys (are.0 is)), listed_more files listed ys x are.1)
+
+all_more : (xs : List Sample) (files : List FileState) (listed ys : List Sample) → AllByRecursion (AreListed files listed) xs → AllByRecursion (AreListed files (listed ++ ys)) xs
+all_more [] files listed ys are = tt
+all_more (x ∷ xs) files listed ys are = (listed_more files listed ys x are.0, all_more xs files listed ys are.1)
+
+put_behind : (xs : List Sample) (files : List FileState) (listed : List Sample) → AllByRecursion (AreListed files listed) xs → put xs files listed ≡ listed ++ xs
+put_behind [] files listed are = sym (append-nil listed)
+put_behind (x ∷ xs) files listed are =
+    ap (λ (ys : List Sample). put xs files (listed ++ (ys ++ x ∷ []))) (none_listed files listed x are.0)
+    ∙ (put_behind xs files (listed ++ x ∷ []) (all_more xs files listed (x ∷ []) are.1) ∙ append_assoc listed (x ∷ []) xs)
+
+-- A file that has the one sample in its partition has the other there too, or has samples in the list.
+abbrev pub GoesWith : List FileState → List Sample → Sample → Sample → Type 0
+GoesWith files listed s x = AllByRecursion (λ (f : FileState). holds f.part x.t ≡ true → (holds f.part s.t ≡ true) ⊎ (is_empty (window f.part listed) ≡ false)) files
+
+with_listed : (files : List FileState) (listed back : List Sample) (s x : Sample) → GoesWith files listed s x → AreListed files (listed ++ (back ++ s ∷ [])) x
+with_listed [] listed back s x alike = tt
+with_listed (f ∷ files) listed back s x alike = (
+  (λ is. elim (alike.0 is) [
+    | inl own ↦ window_last f.part s listed back own
+    | inr some ↦ window_more f.part listed (back ++ s ∷ []) some
+  ]),
+  with_listed files listed back s x alike.1,
+)
+
+-- all samples but the first go with it
+abbrev pub GoTogether : List FileState → List Sample → List Sample → Type 0
+GoTogether files listed [] = Unit {0}
+GoTogether files listed (s ∷ xs) = AllByRecursion (GoesWith files listed s) xs
+
+-- they go behind what comes back before the first of them
+pub put_together : (s : Sample) (xs : List Sample) (files : List FileState) (listed : List Sample) → AllByRecursion (GoesWith files listed s) xs → put (s ∷ xs) files listed ≡ listed ++ (revived files listed s ++ s ∷ xs)
+put_together s xs files listed alike =
+    let back = revived files listed s in
+    put_behind xs files (listed ++ (back ++ s ∷ [])) (all_listed xs alike)
+    ∙ (append_assoc listed (back ++ s ∷ []) xs ∙ ap (λ (ys : List Sample). listed ++ ys) (append_assoc back (s ∷ []) xs))
+  where
+    all_listed : (ys : List Sample) → AllByRecursion (GoesWith files listed s) ys → AllByRecursion (AreListed files (listed ++ (revived files listed s ++ s ∷ []))) ys
+    all_listed [] all = tt
+    all_listed (y ∷ ys) all = (with_listed files listed (revived files listed s) s y all.0, all_listed ys all.1)
 
 -- FILES THAT ARE PUT AMONG OTHERS
 
@@ -98,29 +260,12 @@ pub record HaveMachine (tells : Bool) (at : Seen) (limbo : List Retired) (m : Ma
   pub has : Has tells at held
   pub seen_now : IsTrue tells → MayLeave at.past at.files
   pub holds : HoldsDurable held m
-  pub rule : m.rule.granularity ≡ granularities at.manifests
   pub told_is : m.told ≡ (tells && held.stands)
   pub sound : IsSound m
   pub tie : IsLimboOf tells (beside at limbo) m.told m.rows m.limbo
 
-pub have_durable : (tells : Bool) (at : Seen) (limbo : List Retired) (m : Machine) (held : Stores) → HaveMachine tells at limbo m held → HaveDurable at.catalogue at.manifests held m
-have_durable tells at limbo m held have = record { known = have.has.known; holds = have.holds; rule = have.rule; stands = told_stands tells m.told held.stands have.told_is }
-
-same_index : (a b : Store) → index_of a ≡ index_of b → a ≡ b
-same_index Short Short is = refl
-same_index Medium Medium is = refl
-same_index Long Long is = refl
-same_index Short Medium is = absurd (omega (arith, is))
-same_index Short Long is = absurd (omega (arith, is))
-same_index Medium Short is = absurd (omega (arith, is))
-same_index Medium Long is = absurd (omega (arith, is))
-same_index Long Short is = absurd (omega (arith, is))
-same_index Long Medium is = absurd (omega (arith, is))
-
-same_itself : (store : Store) → same_store store store ≡ true
-same_itself Short = refl
-same_itself Medium = refl
-same_itself Long = refl
+pub have_durable : (tells : Bool) (at : Seen) (limbo : List Retired) (m : Machine) (held : Stores) → HaveMachine tells at limbo m held → m.rule.granularity ≡ granularities at.manifests → HaveDurable at.catalogue at.manifests held m
+have_durable tells at limbo m held have rule = record { known = have.has.known; holds = have.holds; rule = rule; stands = told_stands tells m.told held.stands have.told_is }
 
 -- FILES BY A MOMENT
 
@@ -155,21 +300,12 @@ module _ (tells : Bool) (at : Seen) (limbo : List Retired) (m : Machine) (held :
   abbrev is_own : FileState → Bool
   is_own f = f.row == row && same_store f.store store
 
-  own_is : (f : FileState) → Contains own f → Contains m.limbo f × (f.row ≡ row) × (f.store ≡ store)
+  pub own_is : (f : FileState) → Contains own f → Contains m.limbo f × (f.row ≡ row) × (f.store ≡ store)
   own_is f there = let from = from_filter is_own m.limbo f there in let both = by_test (f.row == row) refl (same_store f.store store) refl from.1 in (from.0, both.0, both.1)
     where
       by_test : (a : Bool) → (f.row == row) ≡ a → (b : Bool) → same_store f.store store ≡ b → (a && b) ≡ true → (f.row ≡ row) × (f.store ≡ store)
       by_test true is b same both = (grind (arith, nat_tests, is), same_store_is f.store store (same ∙ both))
       by_test false is b same both = absurd (cc (both))
-
-  -- a file of limbo is of a partition of the store
-  pub own_part : (f : FileState) → Contains own f → IsPart unit f.part
-  own_part f there =
-      let of = own_is f there in
-      let is = of_all (LimboSound m.rule m.told m.rows) m.limbo f have.sound.each_file of.0 in
-      let p = is.partition told in
-      let at_store : slice_get (granularities at.manifests) (index_of store) ≡ Some p.unit = ap (λ (gs : List Granularity). slice_get gs (index_of store)) (sym have.rule) ∙ (ap (λ (s : Store). slice_get m.rule.granularity (index_of s)) (sym of.2) ∙ p.of_store) in
-      subst (λ (g : Granularity). IsPart g f.part) (same_Some p.unit unit (sym at_store ∙ granularity_at at.manifests (index_of store) n managed)) p.is
 
   -- THEIR NAMES
 
@@ -185,11 +321,14 @@ module _ (tells : Bool) (at : Seen) (limbo : List Retired) (m : Machine) (held :
       let of : IsOfPlace at file = All-contains (IsOfPlace at) limbo file have.tie.stands.0 there in
       subst (λ (k : ℕ). file_of (k + 1, at.catalogue.rows) file.entry ≡ file.name) (place_is file there number) of.named
 
-  -- and so is what may be listed in its place
+  -- it may be listed there
+  as_listed : (file : Retired) → Contains limbo file → file.name.0 ≡ i + 1 → IsListed unit at.catalogue.rows (as_filed file)
+  as_listed file there number = retired_listed at file (All-contains (IsOfPlace at) limbo file have.tie.stands.0 there) n (ap (slice_get at.manifests) (place_is file there number) ∙ managed)
+
+  -- and what may be listed in its place is named so too
   placed_named : (file : Retired) → Contains limbo file → file.name.0 ≡ i + 1 → (h : Filed) → IsListed unit held.rows h → filed_at h ≡ place file.entry → file_of (i + 1, held.rows) h.entry ≡ file.name
   placed_named file there number h h_is same =
-      let of : IsOfPlace at file = All-contains (IsOfPlace at) limbo file have.tie.stands.0 there in
-      let file_is : IsListed unit held.rows (as_filed file) = subst (λ (rows : List Row). IsListed unit rows (as_filed file)) have.has.known.rows (retired_listed at file of n (ap (slice_get at.manifests) (place_is file there number) ∙ managed)) in
+      let file_is : IsListed unit held.rows (as_filed file) = subst (λ (rows : List Row). IsListed unit rows (as_filed file)) have.has.known.rows (as_listed file there number) in
       same_file unit (i + 1) held.rows h (as_filed file) h_is file_is same ∙ (ap (λ (rows : List Row). file_of (i + 1, rows) file.entry) (sym have.has.known.rows) ∙ named_by file there number)
 
   -- a retired file that no store lists has no place in the store's list
@@ -263,6 +402,10 @@ module _ (tells : Bool) (at : Seen) (limbo : List Retired) (m : Machine) (held :
         at_place = λ j. (series j, start j);
       }
 
+  -- a file of limbo is of a partition of the store
+  pub own_part : (f : FileState) → Contains own f → IsPart unit f.part
+  own_part f there = let has = has_file f there in subst (λ (p : Part). IsPart unit p) has.is.part (as_listed has.file has.inside has.number).part
+
   -- what may be listed in its place has its name
   pub own_named : (f : FileState) (there : Contains own f) (h : Filed) → IsListed unit held.rows h → filed_at h ≡ (row, f.part.start) → file_of (i + 1, held.rows) h.entry ≡ (has_file f there).file.name
   own_named f there h h_is same = let has = has_file f there in placed_named has.file has.inside has.number h h_is (same ∙ sym has.at_place)
@@ -303,7 +446,7 @@ module _ (tells : Bool) (at : Seen) (limbo : List Retired) (m : Machine) (held :
     pub part : h.entry.part ≡ f.part
     pub samples : h.samples ≡ f.samples
 
-  is_of_machine : (h : Filed) → Contains back h → h.entry.series ≡ row → IsOwn h
+  pub is_of_machine : (h : Filed) → Contains back h → h.entry.series ≡ row → IsOwn h
   is_of_machine h inside series =
       let of = All-contains (λ (x : Filed). IsOfLimbo i limbo x.entry) back h in_limbo.from inside in
       let none : file_at (filed_at h) ahead ≡ None = All-contains (λ (x : Filed). file_at (filed_at x) ahead ≡ None) back h in_limbo.unlisted inside in
@@ -311,7 +454,7 @@ module _ (tells : Bool) (at : Seen) (limbo : List Retired) (m : Machine) (held :
       let one = (have.tie.retired told).others of.file of.within (not_listed of.file of.within of.store none_of) in
       let own_row : one.f.row ≡ row = sym one.is.series ∙ (ap (λ (e : Entry). e.series) of.is ∙ series) in
       let number : index_of one.f.store + 1 ≡ i + 1 = sym (ap (λ (n : Name). n.0) one.is.named) ∙ of.store in
-      let own_store = same_index one.f.store store (omega (arith, number)) in
+      let own_store = one_store one.f.store store (omega (arith, number)) in
       record {
         f = one.f;
         there = contains_filter is_own m.limbo one.f one.within (own_test one.f own_row own_store);
@@ -322,7 +465,7 @@ module _ (tells : Bool) (at : Seen) (limbo : List Retired) (m : Machine) (held :
       own_test : (f : FileState) → f.row ≡ row → f.store ≡ store → is_own f ≡ true
       own_test f own_row own_store =
           let rows : (f.row == row) ≡ true = grind (arith, nat_tests, own_row) in
-          ap (λ (b : Bool). b && same_store f.store store) rows ∙ (ap (λ (s : Store). same_store s store) own_store ∙ same_itself store)
+          ap (λ (b : Bool). b && same_store f.store store) rows ∙ (ap (λ (s : Store). same_store s store) own_store ∙ store_itself store)
 
   -- BY A MOMENT
 

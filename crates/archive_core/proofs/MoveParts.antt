@@ -1,10 +1,10 @@
 -- The parts of a running move, as their store lists them: where they end, and how far they are copied once all are.
-use Rattle.std.proofs.Common.{◌≡◌, inl, inr, ℕ, zero, suc, ◌+◌, ◌-◌, ◌<◌, ◌≤◌, List, [], ◌∷◌, ◌++◌, length, map, take, drop, Bool, true, false, cond, Some, refl, sym, ◌∙◌, ap, subst, arith, append-nil, length-append}
+use Rattle.std.proofs.Common.{◌≡◌, inl, inr, ℕ, zero, suc, ◌+◌, ◌-◌, ◌<◌, ◌≤◌, List, [], ◌∷◌, ◌++◌, length, map, take, drop, Bool, true, false, cond, Some, refl, sym, ◌∙◌, ap, arith, append-nil, length-append}
 use Rattle.std.specs.Prelude.{All, IsTrue, nat_eq, nat_le, slice_get}
 use Rattle.std.proofs.lemmas.Bool.{cases_lt}
 use Rattle.std.proofs.lemmas.Bool.Decides.{nat_tests}
 use Rattle.std.proofs.lemmas.List.{length-map}
-use Rattle.std.proofs.lemmas.List.Elements.{All-head, All-tail, All-filter}
+use Rattle.std.proofs.lemmas.List.Elements.{All-filter}
 use Rattle.std.proofs.lemmas.Option.{same_Some}
 use Rattle.etl_mover.specs.Move.{MoveState as Moving, StillLists, of_series}
 use Rattle.partition_names.specs.declared.granularity.Granularity.{Granularity}
@@ -26,6 +26,7 @@ use Rattle.tier_store.specs.Stores.{Stores, list_at}
 use Rattle.archive_core.specs.MoveTies.{HasCopiedParts, IsCopiedTo, ends_from}
 use Rattle.archive_core.proofs.ListEnds.{own_entries}
 use Rattle.archive_core.proofs.Windows.{all_in}
+use Rattle.archive_core.proofs.Lists.{get_map, all_at, get_take}
 
 -- LISTS
 
@@ -38,20 +39,9 @@ take_front : {A : Type 0} (xs ys : List A) → take (length xs) (xs ++ ys) ≡ x
 take_front {A} [] ys = refl
 take_front {A} (x ∷ xs) ys = ap (λ (zs : List A). x ∷ zs) (take_front xs ys)
 
-get_map : {A B : Type 0} (f : A → B) (xs : List A) (k : ℕ) (x : A) → slice_get xs k ≡ Some x → slice_get (map f xs) k ≡ Some (f x)
-get_map {A} {B} f [] k x here = absurd (cc (here))
-get_map {A} {B} f (y ∷ xs) zero x here = ap (λ (w : A). Some (f w)) (same_Some y x here)
-get_map {A} {B} f (y ∷ xs) (suc k) x here = get_map f xs k x here
-
 -- lists with the same of each have the same of those at a place
 pub same_at : {A B C : Type 0} (f : A → C) (g : B → C) (xs : List A) (ys : List B) (k : ℕ) (x : A) (y : B) → map f xs ≡ map g ys → slice_get xs k ≡ Some x → slice_get ys k ≡ Some y → f x ≡ g y
 same_at {A} {B} {C} f g xs ys k x y same here there = same_Some (f x) (g y) (sym (get_map f xs k x here) ∙ (ap (λ (zs : List C). slice_get zs k) same ∙ get_map g ys k y there))
-
-from_take : {A : Type 0} (n : ℕ) (xs : List A) (k : ℕ) (x : A) → slice_get (take n xs) k ≡ Some x → slice_get xs k ≡ Some x
-from_take {A} zero xs k x here = absurd (cc (here))
-from_take {A} (suc n) [] k x here = absurd (cc (here))
-from_take {A} (suc n) (y ∷ xs) zero x here = here
-from_take {A} (suc n) (y ∷ xs) (suc k) x here = from_take n xs k x here
 
 to_take : {A : Type 0} (n : ℕ) (xs : List A) (k : ℕ) (x : A) → k < n → slice_get xs k ≡ Some x → slice_get (take n xs) k ≡ Some x
 to_take {A} zero xs k x low here = absurd (omega (arith, low))
@@ -63,11 +53,6 @@ to_drop : {A : Type 0} (n : ℕ) (xs : List A) (j : ℕ) (x : A) → slice_get x
 to_drop {A} zero xs j x here = let plain : 0 + j ≡ j = omega arith in ap (slice_get xs) (sym plain) ∙ here
 to_drop {A} (suc n) [] j x here = absurd (cc (here))
 to_drop {A} (suc n) (y ∷ xs) j x here = let next : suc n + j ≡ suc (n + j) = omega arith in to_drop n xs j x (sym (ap (slice_get (y ∷ xs)) next) ∙ here)
-
-all_at : {A : Type 0} (P : A → Type 0) (xs : List A) (k : ℕ) (x : A) → All P xs → slice_get xs k ≡ Some x → P x
-all_at {A} P [] k x all here = absurd (cc (here))
-all_at {A} P (y ∷ xs) zero x all here = subst P (same_Some y x here) (All-head P y xs all)
-all_at {A} P (y ∷ xs) (suc k) x all here = all_at P xs k x (All-tail P y xs all) here
 
 -- SAMPLES
 
@@ -162,7 +147,7 @@ module _ (i : ℕ) (tells : Bool) (all : SeenAll) (moving : Moving) (files : Lis
     -- a part of which all is ahead
     whole_part : (k : ℕ) (part : Entry) (f : Filed) → k < knows.whole → slice_get moving.parts k ≡ Some part → slice_get (oldest from row (length moving.parts) held) k ≡ Some f → IsCopiedTo end part f
     whole_part k part f low in_parts here =
-        let in_own : slice_get own k ≡ Some f = from_take (length moving.parts) own k f here in
+        let in_own : slice_get own k ≡ Some f = (get_take (length moving.parts) k own f here).1 in
         let in_whole : slice_get (take knows.whole own) k ≡ Some f = to_take knows.whole own k f low in_own in
         let len : f.entry.len ≡ part.len = same_at (λ (x : Filed). x.entry.len) (λ (e : Entry). e.len) (take knows.whole own) (take knows.whole moving.parts) k f part knows.lengths in_whole (to_take knows.whole moving.parts k part low in_parts) in
         let none : since end f.samples ≡ [] = none_since end (take knows.whole own) k f (knows.none_left stands) in_whole in
@@ -183,7 +168,7 @@ module _ (i : ℕ) (tells : Bool) (all : SeenAll) (moving : Moving) (files : Lis
         let files_there = oldest from row (length moving.parts) held in
         let dropped : slice_get (drop n files_there) j ≡ Some f = to_drop n files_there j f here in
         let head : f.entry.head_len ≡ part.len = same_at (λ (x : Filed). x.entry.head_len) (λ (e : Entry). e.len) (drop n files_there) (drop n moving.parts) j f part knows.heads dropped (to_drop n moving.parts j part in_parts) in
-        let is = all_at (IsFiled g held.rows) own (n + j) f own_filed (from_take (length moving.parts) own (n + j) f here) in
+        let is = all_at (IsFiled g held.rows) own (n + j) f own_filed (get_take (length moving.parts) (n + j) own f here).1 in
         record {
           of_part = same_at (λ (x : Filed). x.entry.part) (λ (e : Entry). e.part) files_there moving.parts (n + j) f part parts_are here in_parts;
           front = [];

@@ -1,8 +1,8 @@
 -- The files of a retirement as files of the machine: which of them may go to limbo.
-use Rattle.std.proofs.Common.{◌≡◌, ◌≢◌, inl, inr, ℕ, zero, suc, ◌+◌, ◌<◌, ◌≤◌, List, [], ◌∷◌, ◌++◌, map, take, Bool, true, false, cond, Option, Some, refl, sym, ◌∙◌, ap, subst, arith}
+use Rattle.std.proofs.Common.{◌≡◌, ◌≢◌, inl, inr, ℕ, zero, suc, ◌+◌, ◌<◌, ◌≤◌, List, [], ◌∷◌, ◌++◌, map, take, true, false, Option, Some, refl, sym, ◌∙◌, ap, subst, arith, Bool, cond}
 use Rattle.std.specs.FinMap.{get}
 use Rattle.std.specs.List.{AllByRecursion}
-use Rattle.std.specs.Prelude.{◌==◌, ◌&&◌, All, Contains, filter, nat_eq, slice_get}
+use Rattle.std.specs.Prelude.{◌==◌, ◌&&◌, All, Contains, nat_eq, slice_get, filter}
 use Rattle.std.proofs.lemmas.Bool.Decides.{Decides-eqb, nat_tests}
 use Rattle.std.proofs.lemmas.List.{take-map}
 use Rattle.std.proofs.lemmas.List.Elements.{All-head, All-tail, All-take}
@@ -30,7 +30,7 @@ use Rattle.act_model.specs.Crash.{kept_of}
 use Rattle.act_model.specs.Limbo.{FileState, files_of, tier_at, IsThere, IsElsewhere, PlacesDiffer}
 use Rattle.act_model.specs.Machine.{Machine, PinState, Unlists}
 use Rattle.act_model.specs.OpenPiece.{name_of}
-use Rattle.act_model.specs.Rows.{RowState, Store, Short, Medium, Long, same_store, tier, window, is_empty}
+use Rattle.act_model.specs.Rows.{RowState, Store, Long, same_store, window, is_empty}
 use Rattle.act_model.specs.Rule.{IsPartition, index_of}
 use Rattle.act_model.specs.Sound.{IsSound, PieceSound}
 use Rattle.act_model.specs.Sweep.{is_at, IsPinned}
@@ -38,14 +38,17 @@ use Rattle.archive_core.specs.MoveChoice.{HaveDurable, row_files}
 use Rattle.archive_core.specs.MoveTies.{ends_from}
 use Rattle.archive_core.specs.Stands.{HoldsDurable}
 use Rattle.archive_core.proofs.LimboLists.{contains_filter, from_filter}
-use Rattle.archive_core.proofs.LimboPinned.{IsSamePlace, at_place}
-use Rattle.archive_core.proofs.Lists.{read_at, same_or_not}
+use Rattle.archive_core.proofs.LimboSwept.{IsSamePlace, at_place, store_itself}
+use Rattle.archive_core.proofs.Lists.{read_at, same_or_not, get_take, all_at}
 use Rattle.archive_core.proofs.Making.{kept_to}
-use Rattle.archive_core.proofs.MoveChanges.{starts_from, starts_low}
-use Rattle.archive_core.proofs.MoveChoice.{RowFiles, files_held}
-use Rattle.archive_core.proofs.MoveCovers.{all_at, apart_take, end_within, get_take}
+use Rattle.archive_core.proofs.MoveChanges.{starts_from}
+use Rattle.archive_core.proofs.Windows.{RowFiles, files_held, AreApart, all_in, window_apart, windows}
+use Rattle.archive_core.proofs.MoveCovers.{apart_take, end_within}
 use Rattle.archive_core.proofs.SameNames.{all_of, contains_cases, get_all, of_all}
-use Rattle.archive_core.proofs.Windows.{AreApart, all_in, window-append, window_apart, windows}
+use Rattle.act_model.proofs.Puts.{window-append}
+use Rattle.archive_core.proofs.MoveChoice.{from_zero}
+use Rattle.archive_core.proofs.LimboTying.{tier_there}
+use Rattle.act_model.proofs.Rows.{of_filter}
 
 -- FILES OF A ROW
 
@@ -77,11 +80,6 @@ ends_early g rows m (suc n) (x ∷ fs) (suc k) h filed apart low here end =
 
 -- THE MACHINE'S LIMBO
 
-same_itself : (store : Store) → same_store store store ≡ true
-same_itself Short = refl
-same_itself Medium = refl
-same_itself Long = refl
-
 there_at : (p : Part) (limbo : List FileState) (f : FileState) → Contains limbo f → f.part ≡ p → IsThere p limbo
 there_at p [] f (k, low, is) same = absurd (omega (arith, low))
 there_at p (g ∷ limbo) f there same = elim (contains_cases g limbo f there) [
@@ -89,27 +87,15 @@ there_at p (g ∷ limbo) f there same = elim (contains_cases g limbo f there) [
   | inr later ↦ inr (there_at p limbo f later same)
 ]
 
--- of files of different places some are so
-filter_each : (P : FileState → Type 0) (test : FileState → Bool) (xs : List FileState) → AllByRecursion P xs → AllByRecursion P (filter test xs)
-filter_each P test [] all = tt
-filter_each P test (x ∷ xs) all = by_test (test x) (filter_each P test xs all.1)
-  where
-    by_test : (b : Bool) → AllByRecursion P (filter test xs) → AllByRecursion P (cond b (x ∷ filter test xs) (filter test xs))
-    by_test true rest = (all.0, rest)
-    by_test false rest = rest
+-- THE FILES OF A RETIREMENT
 
 pub filter_apart : (test : FileState → Bool) (xs : List FileState) → PlacesDiffer xs → PlacesDiffer (filter test xs)
 filter_apart test [] differ = tt
 filter_apart test (x ∷ xs) differ = by_test (test x) (filter_apart test xs differ.1)
   where
     by_test : (b : Bool) → PlacesDiffer (filter test xs) → PlacesDiffer (cond b (x ∷ filter test xs) (filter test xs))
-    by_test true rest = (filter_each (IsElsewhere x) test xs differ.0, rest)
+    by_test true rest = (of_filter (IsElsewhere x) test xs differ.0, rest)
     by_test false rest = rest
-
-tier_there : (rows : List RowState) (i : ℕ) (row : RowState) (store : Store) → slice_get rows i ≡ Some row → tier_at rows i store ≡ tier row store
-tier_there rows i row store here = rw here refl
-
--- THE FILES OF A RETIREMENT
 
 module _ (i : ℕ) (store : Store) where
   -- a file of the row as one of the machine
@@ -215,7 +201,7 @@ module _ (catalogue : CatalogueState) (ms : List ManifestState) (held : Stores) 
       let one_is : one.1.entry.part ≡ piece.part = one_part is.unit one.1.entry.part piece.part piece.part.start filed.part part (omega (arith, start), omega (arith, start, mine)) (omega arith, theirs) in
       let high : one.1.entry.part.end ≡ piece.part.end = ap (λ (p : Part). p.end) one_is in
       let last = all_end in
-      record { h = one.1; there = ends_early is.unit held.rows 0 n all one.0 one.1 is.filed is.apart (starts_low all) one.2 (omega (arith, high, end, last)); part = one_is }
+      record { h = one.1; there = ends_early is.unit held.rows 0 n all one.0 one.1 is.filed is.apart (from_zero all) one.2 (omega (arith, high, end, last)); part = one_is }
 
   -- files that have each of them that a pin names keep each listed piece of a pin
   pub stays_with : (into : List FileState) → ((h : Filed) → Contains parts h → IsPinned m (own i store h) → Contains into (own i store h)) → StaysPinned m i store to into
@@ -231,7 +217,7 @@ module _ (catalogue : CatalogueState) (ms : List ManifestState) (held : Stores) 
           let pinned : IsPinned m f = record { number = k; pin = p; here = there; names = list_any-from_Any (is_at f) p.pieces (among.0, piece, among.1, among.2, test) } in
           let within_it = has found.h found.there pinned in
           let rows : (i == i) ≡ true = grind (arith, nat_tests) in
-          let own_test : (i == i && same_store store store) ≡ true = rw (rows, same_itself store) refl in
+          let own_test : (i == i && same_store store store) ≡ true = rw (rows, store_itself store) refl in
           there_at piece.part (files_of i store into) f (contains_filter (λ (x : FileState). x.row == i && same_store x.store store) into f within_it own_test) found.part
 
   -- so may all of these go together

@@ -1,11 +1,9 @@
 -- The act by which a move goes on: how it ends, and what a crash within it leaves.
-use Rattle.std.proofs.Common.{◌≡◌, ◌≢◌, ◌⊎◌, inl, inr, ℕ, ◌≤◌, ◌+◌, ◌-◌, List, [], ◌∷◌, Bool, true, false, cond, Option, Some, None, refl, sym, ◌∙◌, ap, subst, arith}
-use Rattle.std.specs.FinMap.{FinMap, get, remove, get-remove}
-use Rattle.std.specs.Cmp.{nat_cmp_total}
+use Rattle.std.proofs.Common.{◌≡◌, ◌⊎◌, inl, inr, ℕ, ◌≤◌, ◌+◌, ◌-◌, List, [], ◌∷◌, Bool, true, false, cond, Option, Some, None, refl, sym, ◌∙◌, ap, subst, arith, Err, Result}
+use Rattle.std.specs.FinMap.{FinMap, get, remove}
 use Rattle.std.specs.Ordering.{nat_cmp}
 use Rattle.std.specs.Option.{is_some}
 use Rattle.std.specs.Prelude.{slice_get, ◌==◌}
-use Rattle.std.proofs.lemmas.Bool.Decides.{nat_tests}
 use Rattle.std.specs.List.{AllByRecursion}
 use Rattle.disk_model.specs.Files.{Rose}
 use Rattle.disk_model.specs.Past.{Passes}
@@ -15,7 +13,7 @@ use Rattle.partition_names.specs.declared.granularity.Granularity.{Granularity}
 use Rattle.running_moves.specs.Table as table
 use Rattle.running_moves.specs.declared.table.Running.{Running}
 use Rattle.durable_write.proofs.Rises.{rose_after}
-use Rattle.tier_store.specs.Pinned.{SeenAll, beside}
+use Rattle.tier_store.specs.Pinned.{beside, SeenAll}
 use Rattle.tier_store.specs.Change.{Has}
 use Rattle.tier_store.specs.Seen.{IsSettled, Seen, granularities}
 use Rattle.tier_store.specs.Stores.{Stores}
@@ -24,7 +22,7 @@ use Rattle.act_model.specs.Changes.{Settles, made, IsRetired}
 use Rattle.act_model.specs.Crash.{settled_there, with_change}
 use Rattle.act_model.specs.Limbo.{FileState}
 use Rattle.act_model.specs.Machine.{Machine, MoveState, Change, AddsRow, SetsState, Appends, Publishes, Unlists}
-use Rattle.act_model.specs.MoveStep.{GoesOn, MoveStepStep, change_of, copies, has_copied, publishes, retires, again, damaged, no_move, without_move}
+use Rattle.act_model.specs.MoveStep.{ends_move, GoesOn, MoveStepStep, change_of, copies, has_copied, publishes, retires, again, damaged, no_move, without_move}
 use Rattle.act_model.specs.Outcome.{faults_first, faults_between, faults_within, faults_removing, refused, refused_at_once, runs, wants_memory, wants_memory_settled}
 use Rattle.act_model.specs.Reply.{Reply}
 use Rattle.act_model.specs.Rows.{RowState}
@@ -33,21 +31,24 @@ use Rattle.act_model.specs.Sweep.{IsPinned}
 use Rattle.act_model.specs.declared.acts.Act.TheVariants.{MoveStep}
 use Rattle.act_model.specs.declared.acts.Answer.TheVariants as answer
 use Rattle.act_model.proofs.MoveActs.{move_step_sound}
-use Rattle.archive_core.specs.Ends.{LeavesByAct, LeavesWithin, SettlesTo, StandsStill, Steps}
+use Rattle.archive_core.specs.Ends.{LeavesByAct, LeavesWithin, SettlesTo, StandsStill}
 use Rattle.archive_core.specs.declared.memory.RowMemory.{RowMemory}
-use Rattle.archive_core.specs.Growing.{HasRunning}
-use Rattle.archive_core.specs.Leaving.{LeavesMove}
-use Rattle.archive_core.specs.MoveTies.{AreMovesOf, HasMoveOf}
 use Rattle.archive_core.specs.Parts.{Parts}
 use Rattle.archive_core.specs.Stands.{IsReady, Stands, Rests, InDoubt}
 use Rattle.archive_core.specs.Stepping.{HoldsStep, StepEnds, StepsOn, with_slots, is_doubted, has_failed, not_removed, was_spent, went_on}
 use Rattle.archive_core.specs.Wanting.{NoneRefuses, WithWants, before_settling, behind_settling}
-use Rattle.archive_core.proofs.Crashes.{HoldsDoubted}
 use Rattle.archive_core.proofs.Acting.{crash_none, crash_settling}
 use Rattle.archive_core.proofs.StoresGoing.{go_fewer}
-use Rattle.archive_core.proofs.Lists.{same_or_not}
-use Rattle.archive_core.proofs.MoveAct.{slots_stand}
-use Rattle.archive_core.proofs.MoveBegun.{number_tests}
+use Rattle.archive_core.proofs.MoveTable.{had_running, moves_without, slots_stand, stands_moves}
+use Rattle.archive_core.specs.Acting.{Acted, Settling}
+use Rattle.disk_model.specs.declared.disk.DiskErr.TheVariants.{Fault}
+use Rattle.disk_model.specs.declared.disk.DiskErr.{DiskErr}
+use Rattle.durable_write.specs.Ends.{IsFailed, end_of_disk}
+use Rattle.tier_store.specs.Limbo.{IsKeptName}
+use Rattle.archive_core.specs.Leaving.{files_of}
+use Rattle.archive_core.proofs.Strays.{none_taken, tidy_none, tidy_slots, tidy_then}
+use Rattle.tier_store.proofs.LeavingFronts.{fronts_shown}
+use Rattle.pinned_pieces.specs.Pieces.{PinOf}
 
 -- WHERE THE DISK HAS COUNTED ANOTHER NUMBER
 
@@ -88,34 +89,6 @@ goes_tell n m _ new (damaged name at never same) told = cc (told)
 
 -- THE MOVE THAT WAS TAKEN OUT
 
-pub moves_without : (tells : Bool) (all : SeenAll) (told : Bool) (rows : List RowState) (limbo : List FileState) (before : Stores) (moves : FinMap nat_cmp MoveState) (slots later : List (Option (Running Moving))) (n : ℕ)
-    → ((k : ℕ) → table.at later k ≡ cond (k == n) None (table.at slots k)) → AreMovesOf tells all told rows limbo before moves slots → AreMovesOf tells all told rows limbo before (remove moves n) later
-moves_without tells all told rows limbo before moves slots later n left are = record {
-  none = λ k none. left k ∙ by_none k (k == n) (ap (λ (b : Bool). cond b None (get moves k)) (sym (number_tests k n)) ∙ (sym (get-remove nat_cmp_total moves n k) ∙ none));
-  each = λ k move here. by_each k move (k == n) refl (ap (λ (b : Bool). cond b None (get moves k)) (sym (number_tests k n)) ∙ (sym (get-remove nat_cmp_total moves n k) ∙ here));
-}
-  where
-    by_none : (k : ℕ) (b : Bool) → cond b None (get moves k) ≡ None → cond b None (table.at slots k) ≡ None
-    by_none k true none = refl
-    by_none k false none = are.none k none
-
-    by_each : (k : ℕ) (move : MoveState) (b : Bool) → (k == n) ≡ b → cond b None (get moves k) ≡ Some move → HasMoveOf tells all told rows limbo before later k move
-    by_each k move true test here = absurd (cc (here))
-    by_each k move false test here =
-        let has = are.each k move here in
-        record { running = has.running; there = left k ∙ (ap (λ (b : Bool). cond b None (table.at slots k)) test ∙ has.there); is = has.is }
-
--- those that are left are among those that were
-pub left_was : (moves : FinMap nat_cmp MoveState) (n k : ℕ) (other : MoveState) → get (remove moves n) k ≡ Some other → ((k == n) ≡ false) × (get moves k ≡ Some other)
-left_was moves n k other here = by_test (k == n) refl (ap (λ (b : Bool). cond b None (get moves k)) (sym (number_tests k n)) ∙ (sym (get-remove nat_cmp_total moves n k) ∙ here))
-  where
-    by_test : (b : Bool) → (k == n) ≡ b → cond b None (get moves k) ≡ Some other → ((k == n) ≡ false) × (get moves k ≡ Some other)
-    by_test true is gone = absurd (cc (gone))
-    by_test false is there = (is, there)
-
-pub had_running : (moves : FinMap nat_cmp MoveState) (n row : ℕ) → HasRunning (remove moves n) row → HasRunning moves row
-had_running moves n row (k, other, there, same) = (k, other, (left_was moves n k other there).1, same)
-
 -- what is ready stays so
 pub ready_fewer : (kept : List RowMemory) (rows : List RowState) (moves : FinMap nat_cmp MoveState) (n : ℕ) (d : Option Change) → IsReady kept rows moves d → IsReady kept rows (remove moves n) d
 ready_fewer kept rows moves n None ready = tt
@@ -136,34 +109,24 @@ doubt_without tells n at limbo before m (inr d) = inr (record { change = d.chang
 
 -- so the archive stands for what it stood for, without the move
 pub stands_without : (tells : Bool) (n : ℕ) (p : Parts) (left : List (Option (Running Moving))) (m : Machine) → ((k : ℕ) → table.at left k ≡ cond (k == n) None (table.at p.slots k)) → no_move (get m.moves n) ≡ None → Stands tells p m → Stands tells (with_slots left p) (without_move n m)
-stands_without tells n p left m others runs_it s = record {
-  sound = without_sound n m s.sound runs_it;
-  rule = s.rule;
-  limbo = s.limbo;
-  settings = s.settings;
-  pins = s.pins;
-  faults = s.faults;
-  doors = s.doors;
-  rows = s.rows;
-  doubt = s.doubt;
-  ready = ready_fewer p.kept m.rows m.moves n m.doubt s.ready;
-  store = record { before = s.store.before; told = s.store.told; disk = s.store.disk; holds = s.store.holds; whole = s.store.whole; moves = moves_without tells (beside p.at p.limbo) m.told m.rows m.limbo s.store.before m.moves p.slots left n others s.store.moves; is_open = doubt_without tells n p.at p.limbo s.store.before m s.store.is_open };
-}
+stands_without tells n p left m others runs_it s =
+    stands_moves tells p m s left (ends_move n m.moves) (without_sound n m s.sound runs_it) (ready_fewer p.kept m.rows m.moves n m.doubt s.ready) (moves_without tells (beside p.at p.limbo) m.told m.rows m.limbo s.store.before m.moves p.slots left n others s.store.moves)
+    (doubt_without tells n p.at p.limbo s.store.before m s.store.is_open)
 
--- WHETHER IT RUNS
+-- THE ACT
 
-module _ (tells : Bool) (n : ℕ) (p : Parts) where
+module _ (tells : Bool) (who n : ℕ) (p : Parts) where
   abbrev refuse : Machine → Option Reply
   refuse m = no_move (get m.moves n)
 
   abbrev change : Machine → Option Change
   change m = change_of m (get m.moves n)
 
-  abbrev pub StepsAs : Reply → Parts → Type 0
-  StepsAs given q = Steps tells (WithWants (NoneRefuses refuse) (MoveStepStep n)) p given q
+  abbrev Ran : Machine → Reply → Parts → Type 0
+  Ran m given q = (next : Machine) × WithWants (NoneRefuses refuse) (MoveStepStep n) m given next × Stands tells q next
 
   -- a move that isn't in the table isn't the machine's
-  pub none_runs : (q : Parts) → table.at q.slots n ≡ None → (m : Machine) → Stands tells q m → refuse m ≡ Some answer.NoMove
+  none_runs : (q : Parts) → table.at q.slots n ≡ None → (m : Machine) → Stands tells q m → refuse m ≡ Some answer.NoMove
   none_runs q none m s = by_get (get m.moves n) refl
     where
       by_get : (o : Option MoveState) → get m.moves n ≡ o → no_move o ≡ Some answer.NoMove
@@ -171,115 +134,151 @@ module _ (tells : Bool) (n : ℕ) (p : Parts) where
       by_get (Some move) is = let has = s.store.moves.each n move is in absurd (let bad = sym none ∙ has.there in cc (bad))
 
   -- one that is, is
-  pub one_runs : (q : Parts) → is_some (table.at q.slots n) ≡ true → (m : Machine) → Stands tells q m → refuse m ≡ None
+  one_runs : (q : Parts) → is_some (table.at q.slots n) ≡ true → (m : Machine) → Stands tells q m → refuse m ≡ None
   one_runs q some m s = by_get (get m.moves n) refl
     where
       by_get : (o : Option MoveState) → get m.moves n ≡ o → no_move o ≡ None
       by_get None is = absurd (let bad = sym some ∙ ap is_some (s.store.moves.none n is) in cc (bad))
       by_get (Some move) is = refl
 
-  pub not_running : is_some (table.at p.slots n) ≡ false → StepsAs answer.NoMove p
-  not_running none = λ m s. (m, (refused_at_once answer.NoMove (none_runs p (is_none (table.at p.slots n) none) m s), λ told. absurd (cc (told))), s)
+  pub not_running : is_some (table.at p.slots n) ≡ false → Acted tells who (MoveStep n) p answer.NoMove p
+  not_running none = record {
+    step = λ m s. (m, (refused_at_once answer.NoMove (none_runs p (is_none (table.at p.slots n) none) m s), λ told. absurd (cc (told))), s);
+    crash = crash_none tells refuse change (λ m f. refl) (λ m f. refl) p;
+    files = λ name bytes kept shown. shown;
+    pins = tt;
+    moves = λ name place told. absurd (cc (told));
+    tidy = λ settled well. tidy_none tells p p refl refl settled;
+  }
     where
       is_none : (o : Option (Running Moving)) → is_some o ≡ false → o ≡ None
       is_none None is = refl
       is_none (Some running) is = absurd (cc (is))
 
-  pub crash_not_running : LeavesByAct tells refuse change p p
-  crash_not_running = crash_none tells refuse change (λ m f. refl) (λ m f. refl) p
-
-  module _ (there : is_some (table.at p.slots n) ≡ true) where
+  module _ (there : is_some (table.at p.slots n) ≡ true) (q : Parts) (done : Result (Unit {0}) DiskErr) (settling : Settling tells p q (end_of_disk done)) (same_files : IsSettled p.at → files_of q ≡ files_of p) where
     passed : (m : Machine) → Stands tells p m → refuse m ≡ None
     passed = one_runs p there
 
+    more : p.at.faults ≤ q.at.faults
+    more = settling.settles.faults
+
+    crash_cut : LeavesByAct tells refuse change p q
+    crash_cut = crash_settling tells refuse change (λ m f. refl) (λ m f. refl) p q settling.settles.any_moment
+
     -- THE DOUBT COULDN'T BE SETTLED
 
-    pub cut_by_fault : (q : Parts) (left : List (Option (Running Moving))) → StandsStill tells p q → ((k : ℕ) → table.at left k ≡ cond (k == n) None (table.at q.slots k)) → Rose p.at.faults q.at.faults → StepsAs answer.DiskFault (with_slots left q)
-    cut_by_fault q left still others rose = λ m s.
-        let rises : Rose m.faults q.at.faults = rw s.faults rose in
-        (record (without_move n m) { faults = q.at.faults }, (faults_first (passed m s) refl rises, λ told. absurd (cc (told))), stands_without tells n q left (record m { faults = q.at.faults }) others (passed m s) (still m s))
+    pub cut_by_fault : (left : List (Option (Running Moving))) → done ≡ Err Fault → StandsStill tells p q → ((k : ℕ) → table.at left k ≡ cond (k == n) None (table.at q.slots k)) → Acted tells who (MoveStep n) p answer.DiskFault (with_slots left q)
+    cut_by_fault left failed still others = record {
+      step = λ m s.
+          let rises : Rose m.faults q.at.faults = rw s.faults (settling.settles.cause (subst (λ (x : Result (Unit {0}) DiskErr). IsFailed (end_of_disk x)) (sym failed) tt)) in
+          (record (without_move n m) { faults = q.at.faults }, (faults_first (passed m s) refl rises, λ told. absurd (cc (told))), stands_without tells n q left (record m { faults = q.at.faults }) others (passed m s) (still m s));
+      crash = crash_cut;
+      files = λ name bytes kept. fronts_shown tells (files_of p) (files_of q) settling.fronts name bytes;
+      pins = tt;
+      moves = λ name place told. absurd (cc (told));
+      tidy = λ settled none. absurd none;
+    }
 
-    pub cut_by_memory : (q : Parts) → StandsStill tells p q → p.at.faults ≤ q.at.faults → StepsAs answer.Memory q
-    cut_by_memory q still more = λ m s.
-        let was : m.faults ≡ p.at.faults = s.faults in
-        (record m { faults = q.at.faults }, (wants_memory refl (omega (arith, was, more)), λ told. before_settling (passed m s) refl), still m s)
-
-    pub crash_cut : (q : Parts) → HoldsDoubted tells p q → LeavesByAct tells refuse change p q
-    crash_cut q reads = crash_settling tells refuse change (λ m f. refl) (λ m f. refl) p q reads
+    pub cut_by_memory : StandsStill tells p q → Acted tells who (MoveStep n) p answer.Memory q
+    cut_by_memory still = record {
+      step = λ m s. let was : m.faults ≡ p.at.faults = s.faults in (record m { faults = q.at.faults }, (wants_memory refl (omega (arith, was, more)), λ told. before_settling (passed m s) refl), still m s);
+      crash = crash_cut;
+      files = λ name bytes kept. fronts_shown tells (files_of p) (files_of q) settling.fronts name bytes;
+      pins = tt;
+      moves = λ name place told. absurd (cc (told));
+      tidy = λ settled none. absurd none;
+    }
 
     -- IT WAS SETTLED
 
-    module _ (q : Parts) (settles : SettlesTo tells p q) (more : p.at.faults ≤ q.at.faults) where
-      pub gone_then : (left : List (Option (Running Moving))) → ((k : ℕ) → table.at left k ≡ cond (k == n) None (table.at q.slots k)) → table.at q.slots n ≡ None → StepsAs answer.NoMove (with_slots left q)
-      gone_then left others none = λ m s.
-          let mid = settles m s in
-          let at_q : Machine = record mid.0 { faults = q.at.faults } in
-          let was : m.faults ≡ p.at.faults = s.faults in
-          (at_q, (refused answer.NoMove (passed m s) mid.1 (none_runs q none at_q mid.2.stands) refl (omega (arith, was, more)), λ told. absurd (cc (told))), slots_stand tells q at_q left (λ k. others k ∙ by_number k (same_or_not k n)) mid.2)
+    module _ (settles : SettlesTo tells p q) where
+      pub gone_then : (left : List (Option (Running Moving))) → ((k : ℕ) → table.at left k ≡ cond (k == n) None (table.at q.slots k)) → table.at q.slots n ≡ None → Acted tells who (MoveStep n) p answer.NoMove (with_slots left q)
+      gone_then left others none = record {
+        step = λ m s.
+            let mid = settles m s in
+            let at_q : Machine = record mid.0 { faults = q.at.faults } in
+            let was : m.faults ≡ p.at.faults = s.faults in
+            (at_q, (refused answer.NoMove (passed m s) mid.1 (none_runs q none at_q mid.2.stands) refl (omega (arith, was, more)), λ told. absurd (cc (told))), slots_stand tells q at_q left same mid.2);
+        crash = crash_cut;
+        files = λ name bytes kept. fronts_shown tells (files_of p) (files_of q) settling.fronts name bytes;
+        pins = tt;
+        moves = λ name place told. absurd (cc (told));
+        tidy = λ settled well. tidy_slots tells p (with_slots left q) (same_files settled) (λ k. same k ∙ ap (λ (slots : List (Option (Running Moving))). table.at slots k) settling.slots) settled;
+      }
         where
-          by_number : (k : ℕ) → (k ≡ n) ⊎ (k ≢ n) → cond (k == n) None (table.at q.slots k) ≡ table.at q.slots k
-          by_number k (inl same) = let test : (k == n) ≡ true = grind (arith, nat_tests, same) in rw test (sym (ap (table.at q.slots) same ∙ none))
-          by_number k (inr apart) = let test : (k == n) ≡ false = grind (arith, nat_tests, apart) in rw test refl
+          same : (k : ℕ) → table.at left k ≡ table.at q.slots k
+          same = none_taken n q.slots left none others
 
       module _ (running : Running Moving) (out : table.at q.slots n ≡ Some running) (new : Parts) (given : Reply) (on : (m : Machine) → Rests tells q m → StepsOn tells n q m new given) where
-        pub went : StepsAs given new
-        went = λ m s.
+        went : (m : Machine) → Stands tells p m → Ran m given new
+        went m s =
             let mid = settles m s in
             let at_q : Machine = record mid.0 { faults = q.at.faults } in
             let step = on at_q mid.2 in
-            by_end m s mid.0 mid.1 (one_runs q (ap is_some out) at_q mid.2.stands) given step.faults step.cause step.ends
+            by_end mid.0 mid.1 (one_runs q (ap is_some out) at_q mid.2.stands) given step.faults step.cause step.ends
           where
-            by_end : (m : Machine) → Stands tells p m → (mid : Machine) → Settles m mid → refuse mid ≡ None → (r : Reply) → q.at.faults ≤ new.at.faults → (r ≡ answer.DiskFault → Rose q.at.faults new.at.faults) → StepEnds tells n (record mid { faults = q.at.faults }) new r
-                → (next : Machine) × WithWants (NoneRefuses refuse) (MoveStepStep n) m r next × Stands tells new next
-            by_end m s mid settled free _ later cause (was_spent stands) =
-                let was : m.faults ≡ p.at.faults = s.faults in
-                (record mid { faults = new.at.faults }, (wants_memory_settled (passed m s) settled refl (omega (arith, was, more, later)), λ told. behind_settling (passed m s) settled free refl), stands)
-            by_end m s mid settled free _ later cause (has_failed stands) =
+            by_end : (mid : Machine) → Settles m mid → refuse mid ≡ None → (r : Reply) → q.at.faults ≤ new.at.faults → (r ≡ answer.DiskFault → Rose q.at.faults new.at.faults) → StepEnds tells n (record mid { faults = q.at.faults }) new r → Ran m r new
+            by_end mid settled free _ later cause (was_spent stands) =
+                let first : m.faults ≡ p.at.faults = s.faults in
+                (record mid { faults = new.at.faults }, (wants_memory_settled (passed m s) settled refl (omega (arith, first, more, later)), λ told. behind_settling (passed m s) settled free refl), stands)
+            by_end mid settled free _ later cause (has_failed stands) =
                 let rises : Rose m.faults new.at.faults = rw s.faults (rose_after p.at.faults q.at.faults new.at.faults more (cause refl)) in
                 (record (without_move n mid) { faults = new.at.faults }, (faults_between (passed m s) settled refl rises, λ told. absurd (cc (told))), stands)
-            by_end m s mid settled free _ later cause (is_doubted c own stands) =
+            by_end mid settled free _ later cause (is_doubted c own stands) =
                 let rises : Rose m.faults new.at.faults = rw s.faults (rose_after p.at.faults q.at.faults new.at.faults more (cause refl)) in
                 (record (without_move n mid) { doubt = Some c; faults = new.at.faults }, (faults_within c (passed m s) settled free own refl rises, λ told. absurd (cc (told))), stands)
-            by_end m s mid settled free _ later cause (not_removed r next gone goes stands) =
+            by_end mid settled free _ later cause (not_removed r next gone goes stands) =
                 let rises : Rose m.faults new.at.faults = rw s.faults (rose_after p.at.faults q.at.faults new.at.faults more (cause refl)) in
                 let now : next.faults ≡ new.at.faults = stands.faults in
                 (next, (faults_removing r gone (passed m s) settled free (step_goes n mid q.at.faults r next goes) (subst (λ (k : ℕ). Rose m.faults k) (sym now) rises), λ told. absurd (cc (told))), stands)
-            by_end m s mid settled free r later cause (went_on next goes stands) =
-                let was : m.faults ≡ p.at.faults = s.faults in
+            by_end mid settled free r later cause (went_on next goes stands) =
+                let first : m.faults ≡ p.at.faults = s.faults in
                 let now : next.faults ≡ new.at.faults = stands.faults in
                 let goes_on = step_goes n mid q.at.faults r next goes in
-                (next, (runs r (passed m s) settled free goes_on (omega (arith, was, more, later, now)), λ told. absurd (goes_tell n mid r next goes_on told)), stands)
+                (next, (runs r (passed m s) settled free goes_on (omega (arith, first, more, later, now)), λ told. absurd (goes_tell n mid r next goes_on told)), stands)
 
-        -- what is told as damaged is so of the archive before a doubt was settled
-        pub tells_went : q.slots ≡ p.slots → (IsSettled p.at → q.at ≡ p.at) → (m : Machine) → Stands tells p m → LeavesMove p (MoveStep n) given new
-        tells_went same_slots quiet m s name place told =
-            let mid = settles m s in
-            let is = (on (record mid.0 { faults = q.at.faults }) mid.2).moves name place told in
-            record {
-              running = is.running;
-              ran = ap (λ (slots : List (Option (Running Moving))). table.at slots n) (sym same_slots) ∙ is.ran;
-              part = is.part;
-              of_move = is.of_move;
-              manifest = is.manifest;
-              here = is.here;
-              entry = is.entry;
-              listed = is.listed;
-              own_row = is.own_row;
-              own_part = is.own_part;
-              named = is.named;
-              within = is.within;
-              same_rows = λ settled. (let same = quiet settled in is.same_rows (subst IsSettled (sym same) settled) ∙ ap (λ (x : Seen). x.catalogue.rows) same);
-              same_list = λ settled before there. (let same = quiet settled in is.same_list (subst IsSettled (sym same) settled) before (ap (λ (x : Seen). slice_get x.manifests (is.running.store - 1)) same ∙ there));
-            }
+        -- from one that the archive stood for all the rest is known
+        pub moves_on : (m : Machine) → Stands tells p m → Acted tells who (MoveStep n) p given new
+        moves_on m s = record {
+          step = went;
+          crash = λ m told s.
+              let mid = settles m s in
+              let at_q : Machine = record mid.0 { faults = q.at.faults } in
+              let gs = granularities p.at.manifests in
+              let second = subst (λ (g : List Granularity). Passes (λ a image. HoldsStep g n at_q image) q.at.past new.at.past) settling.granularity ((on at_q mid.2).any_moment told) in
+              let free : refuse mid.0 ≡ None = one_runs q (ap is_some out) at_q mid.2.stands in
+              passes_then (λ a image. LeavesWithin refuse change gs m image) (λ a image. HoldsStep gs n at_q image) p.at.past q.at.past new.at.past (crash_cut m told s) second (λ a b image was within left holds. elim holds [
+                | inl same ↦ (mid.0, settled_there mid.1, same)
+                | inr with_it ↦ (made [] with_it.0 mid.0, with_change with_it.0 mid.1 free with_it.1, with_it.2)
+              ]);
+          files = λ name bytes kept was. step.files name bytes (subst (λ (pins : FinMap nat_cmp PinOf). IsKeptName new.at pins [] name) (sym settling.pins) kept) (fronts_shown tells (files_of p) (files_of q) settling.fronts name bytes was);
+          pins = tt;
+          moves = λ name place told.
+              let is = step.moves name place told in
+              record {
+                running = is.running;
+                ran = ap (λ (slots : List (Option (Running Moving))). table.at slots n) (sym settling.slots) ∙ is.ran;
+                part = is.part;
+                of_move = is.of_move;
+                manifest = is.manifest;
+                here = is.here;
+                entry = is.entry;
+                listed = is.listed;
+                own_row = is.own_row;
+                own_part = is.own_part;
+                named = is.named;
+                within = is.within;
+                bad = is.bad;
+                numbered = is.numbered;
+                settled = is.settled;
+                same_rows = λ settled. (let same = quiet settled in is.same_rows (subst IsSettled (sym same) settled) ∙ ap (λ (x : Seen). x.catalogue.rows) same);
+                same_list = λ settled before there. (let same = quiet settled in is.same_list (subst IsSettled (sym same) settled) before (ap (λ (x : Seen). slice_get x.manifests (is.running.store - 1)) same ∙ there));
+              };
+          tidy = λ settled well. tidy_then tells p q new (same_files settled) settling.slots (step.tidy well);
+        }
+          where
+            step : StepsOn tells n q (record (settles m s).0 { faults = q.at.faults }) new given
+            step = on (record (settles m s).0 { faults = q.at.faults }) (settles m s).2
 
-        pub crash_went : HoldsDoubted tells p q → granularities q.at.manifests ≡ granularities p.at.manifests → LeavesByAct tells refuse change p new
-        crash_went reads same_g = λ m told s.
-            let mid = settles m s in
-            let at_q : Machine = record mid.0 { faults = q.at.faults } in
-            let gs = granularities p.at.manifests in
-            let second = subst (λ (g : List Granularity). Passes (λ a image. HoldsStep g n at_q image) q.at.past new.at.past) same_g ((on at_q mid.2).any_moment told) in
-            let free : refuse mid.0 ≡ None = one_runs q (ap is_some out) at_q mid.2.stands in
-            passes_then (λ a image. LeavesWithin refuse change gs m image) (λ a image. HoldsStep gs n at_q image) p.at.past q.at.past new.at.past (crash_cut q reads m told s) second (λ a b image was within left holds. elim holds [
-              | inl same ↦ (mid.0, settled_there mid.1, same)
-              | inr with_it ↦ (made [] with_it.0 mid.0, with_change with_it.0 mid.1 free with_it.1, with_it.2)
-            ])
+            quiet : IsSettled p.at → q.at ≡ p.at
+            quiet settled = ap (λ (all : SeenAll). all.stores) (same_files settled)

@@ -40,7 +40,7 @@ use Rattle.archive_core.specs.Opening.{end_at, memory_of, IsOpened}
 use Rattle.append_buffer.specs.Tails.{TailState}
 use Rattle.archive_core.specs.Stands.{Rests, HasSettings, TellsHeaders, IsDurable, HoldsDurable}
 use Rattle.archive_core.proofs.KeptRows.{sampling_cell, sampling_period}
-use Rattle.archive_core.proofs.LimboKept.{empty_limbo}
+use Rattle.archive_core.proofs.LimboTying.{empty_limbo}
 use Rattle.archive_core.proofs.ListEnds.{place_end, place_rises}
 
 -- THE ROWS

@@ -1,5 +1,5 @@
 -- A piece of a pin is opened: as the machine has it.
-use Rattle.std.proofs.Common.{◌≡◌, ◌⊎◌, inl, inr, ℕ, ◌≤◌, List, length, Bool, true, false, Option, Some, None, Result, Ok, Err, refl, sym, ◌∙◌, ap, subst, arith}
+use Rattle.std.proofs.Common.{◌≡◌, ◌⊎◌, inl, inr, ℕ, ◌≤◌, List, length, Bool, true, false, Option, Some, None, Ok, Err, refl, sym, ◌∙◌, ap, subst, arith}
 use Rattle.std.specs.FinMap.{get}
 use Rattle.std.specs.Prelude.{◌==◌, ◌&&◌, slice_get, IsTrue}
 use Rattle.std.proofs.lemmas.Bool.Decides.{nat_tests}
@@ -29,10 +29,10 @@ use Rattle.act_model.specs.Rows.{RowState}
 use Rattle.act_model.specs.Unpin.{pin_refused}
 use Rattle.archive_core.specs.Ends.{Steps}
 use Rattle.archive_core.specs.Parts.{Parts}
-use Rattle.archive_core.specs.Pins.{IsPieceOf, HasFileOf, HasPinOf, IsOpening}
+use Rattle.archive_core.specs.Pins.{IsPieceOf, HasFileOf, HasPinOf}
 use Rattle.archive_core.specs.Stands.{Stands, InDoubt}
 use Rattle.archive_core.specs.Wanting.{OwnsPiece, WithWants}
-use Rattle.archive_core.proofs.Keeping.{KeepsLimbo}
+use Rattle.archive_core.proofs.After.{KeepsLimbo}
 use Rattle.archive_core.proofs.MovesKept.{moves_beside}
 use Rattle.archive_core.proofs.Lists.{element}
 use Rattle.archive_core.proofs.Settled.{doubt_beside}
@@ -60,64 +60,7 @@ pub opened_as : {R : Type 0} (tells reader_tells : Bool) (bytes : R → List ℕ
 opened_as {R} tells reader_tells bytes faults all file (answer.Piece reader name head_len len) is = as_piece reader name head_len len refl is
 opened_as {R} tells reader_tells bytes faults all file answer.DiskFault is = as_fault refl
 opened_as {R} tells reader_tells bytes faults all file answer.Memory is = as_memory refl
-opened_as {R} tells reader_tells bytes faults all file (answer.NameTaken x0) is = absurd is
-opened_as {R} tells reader_tells bytes faults all file (answer.KeyTaken x0) is = absurd is
-opened_as {R} tells reader_tells bytes faults all file answer.CatalogueFull is = absurd is
-opened_as {R} tells reader_tells bytes faults all file (answer.Registered x0) is = absurd is
-opened_as {R} tells reader_tells bytes faults all file answer.NoSuchVariable is = absurd is
-opened_as {R} tells reader_tells bytes faults all file answer.NotRunning is = absurd is
-opened_as {R} tells reader_tells bytes faults all file answer.NotPaused is = absurd is
-opened_as {R} tells reader_tells bytes faults all file answer.Done is = absurd is
-opened_as {R} tells reader_tells bytes faults all file (answer.Dropped x0) is = absurd is
-opened_as {R} tells reader_tells bytes faults all file (answer.IntakeFull x0) is = absurd is
-opened_as {R} tells reader_tells bytes faults all file answer.Kept is = absurd is
-opened_as {R} tells reader_tells bytes faults all file answer.Held is = absurd is
-opened_as {R} tells reader_tells bytes faults all file answer.NoRow is = absurd is
-opened_as {R} tells reader_tells bytes faults all file answer.TickNone is = absurd is
-opened_as {R} tells reader_tells bytes faults all file (answer.NotDue x0) is = absurd is
-opened_as {R} tells reader_tells bytes faults all file (answer.TickKept x0) is = absurd is
-opened_as {R} tells reader_tells bytes faults all file (answer.Flushed x0 x1 x2) is = absurd is
-opened_as {R} tells reader_tells bytes faults all file (answer.Begun x0 x1 x2) is = absurd is
-opened_as {R} tells reader_tells bytes faults all file (answer.Busy x0) is = absurd is
-opened_as {R} tells reader_tells bytes faults all file (answer.Nothing x0) is = absurd is
-opened_as {R} tells reader_tells bytes faults all file answer.NoMove is = absurd is
-opened_as {R} tells reader_tells bytes faults all file (answer.Damaged x0 x1) is = absurd is
-opened_as {R} tells reader_tells bytes faults all file answer.Copying is = absurd is
-opened_as {R} tells reader_tells bytes faults all file answer.Copied is = absurd is
-opened_as {R} tells reader_tells bytes faults all file answer.Published is = absurd is
-opened_as {R} tells reader_tells bytes faults all file (answer.Retired x0) is = absurd is
-opened_as {R} tells reader_tells bytes faults all file (answer.Again x0 x1) is = absurd is
-opened_as {R} tells reader_tells bytes faults all file (answer.Swept x0) is = absurd is
-opened_as {R} tells reader_tells bytes faults all file (answer.Pinned x0 x1 x2 x3 x4) is = absurd is
-opened_as {R} tells reader_tells bytes faults all file answer.NoPin is = absurd is
-opened_as {R} tells reader_tells bytes faults all file (answer.NotYours x0) is = absurd is
-opened_as {R} tells reader_tells bytes faults all file (answer.NoPiece x0) is = absurd is
-opened_as {R} tells reader_tells bytes faults all file answer.Unpinned is = absurd is
-opened_as {R} tells reader_tells bytes faults all file (answer.NamesAre x0 x1) is = absurd is
-opened_as {R} tells reader_tells bytes faults all file (answer.Described x0) is = absurd is
-opened_as {R} tells reader_tells bytes faults all file (answer.DoorsLeft x0) is = absurd is
-
--- one who asks to open a piece is answered as such
-of_refusal : (R : Type 0) (e : PinErr) → IsOpening (refusal {R = R} e)
-of_refusal R err.NoPin = tt
-of_refusal R (err.NotYours owner) = tt
-
-pub is_opening : (R : Type 0) (tells reader_tells : Bool) (bytes : R → List ℕ) (faults : R → ℕ) (all : SeenAll) (asked_for : Result PinOf PinErr) (i : ℕ) (given : Answer R) → ((e : PinErr) → asked_for ≡ Err e → given ≡ refusal e) → ((own : PinOf) → asked_for ≡ Ok own → slice_get own.pieces i ≡ None → given ≡ answer.NoPiece (length own.pieces))
-    → ((own : PinOf) (file : PinnedFile) → asked_for ≡ Ok own → slice_get own.pieces i ≡ Some file → IsOpened tells reader_tells bytes faults all file given) → IsOpening given
-is_opening R tells reader_tells bytes faults all asked_for i given refused lacks opened = by_asked asked_for refl
-  where
-    by_kind : (file : PinnedFile) → OpenedAs tells reader_tells bytes faults all file given → IsOpening given
-    by_kind file (as_piece reader name head_len len same is) = subst (λ (x : Answer R). IsOpening x) (sym same) tt
-    by_kind file (as_fault same) = subst (λ (x : Answer R). IsOpening x) (sym same) tt
-    by_kind file (as_memory same) = subst (λ (x : Answer R). IsOpening x) (sym same) tt
-
-    by_piece : (own : PinOf) → asked_for ≡ Ok own → (o : Option PinnedFile) → slice_get own.pieces i ≡ o → IsOpening given
-    by_piece own is None none = subst (λ (x : Answer R). IsOpening x) (sym (lacks own is none)) tt
-    by_piece own is (Some file) here = by_kind file (opened_as tells reader_tells bytes faults all file given (opened own file is here))
-
-    by_asked : (r : Result PinOf PinErr) → asked_for ≡ r → IsOpening given
-    by_asked (Err e) is = subst (λ (x : Answer R). IsOpening x) (sym (refused e is)) (of_refusal R e)
-    by_asked (Ok own) is = by_piece own is (slice_get own.pieces i) refl
+opened_as {R} tells reader_tells bytes faults all file given is = absurd is
 
 module _ (R : Type 0) (tells reader_tells : Bool) (bytes : R → List ℕ) (faults : R → ℕ) (readers : IsTrue reader_tells → IsTrue tells) (p : Parts) (who pin i : ℕ) (result : Answer R) (new : Seen)
     (refused : (e : PinErr) → asked who (get p.pinned pin) ≡ Err e → (result ≡ refusal e) × (new ≡ p.at)) (lacks : (own : PinOf) → asked who (get p.pinned pin) ≡ Ok own → slice_get own.pieces i ≡ None → (result ≡ answer.NoPiece (length own.pieces)) × (new ≡ p.at))

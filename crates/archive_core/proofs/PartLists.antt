@@ -1,5 +1,5 @@
 -- The partitions of the files that a store lists of a row are those of the row's samples there.
-use Rattle.std.proofs.Common.{◌≡◌, ℕ, ◌≤◌, List, [], ◌∷◌, ◌++◌, Bool, true, false, Some, refl, sym, ◌∙◌, ap, subst, arith}
+use Rattle.std.proofs.Common.{◌≡◌, ℕ, ◌≤◌, List, [], ◌∷◌, ◌++◌, Bool, true, false, Some, refl, sym, ◌∙◌, ap, subst}
 use Rattle.std.specs.List.{AllByRecursion, flat_map}
 use Rattle.std.specs.Prelude.{All, IsTrue, map, slice_get}
 use Rattle.std.proofs.lemmas.List.Elements.{All-head, All-tail}
@@ -18,8 +18,8 @@ use Rattle.act_model.specs.Parts.{PartsFrom, AreParts}
 use Rattle.act_model.specs.Rows.{RowState, Store, tier, window, is_empty}
 use Rattle.act_model.specs.Rule.{Rule, IsPartition, index_of}
 use Rattle.archive_core.specs.Stands.{TellsHeaders, HoldsDurable}
-use Rattle.archive_core.proofs.Pieces.{tier_is, own_files}
-use Rattle.archive_core.proofs.Windows.{all_in, AreApart, windows}
+use Rattle.archive_core.proofs.Windows.{list_is, own_files, all_in, AreApart, windows}
+use Rattle.archive_core.proofs.MoveChoice.{from_zero}
 
 abbrev pub parts_of : List Filed → List Part
 parts_of files = map (λ (f : Filed). f.entry.part) files
@@ -44,10 +44,6 @@ module _ (rule : Rule) (store : Store) (g : Granularity) (rows : List Row) (of_s
   all_windows xs [] cuts = refl
   all_windows xs (f ∷ files) cuts = ap (λ (ys : List Sample). ys ++ all_in files) (sym cuts.0) ∙ ap (λ (ys : List Sample). window f.entry.part xs ++ ys) (all_windows xs files cuts.1)
 
-  from_zero : (files : List Filed) → AllByRecursion (λ (f : Filed). 0 ≤ f.entry.part.start) files
-  from_zero [] = tt
-  from_zero (f ∷ files) = (omega arith, from_zero files)
-
   pub parts_are : (files : List Filed) → All (IsFiled g rows) files → AreApart files → AreParts rule store (all_in files) (parts_of files)
   parts_are files filed apart =
       let cuts = windows g rows files filed apart in
@@ -59,4 +55,4 @@ pub row_parts : (tells : Bool) (at : Seen) (m : Machine) (held : Stores) → Has
 row_parts tells at m held has holds gran heads told stands i r here store =
     let files = of_row i (list_at (index_of store) held) in
     let own = own_files tells at m held has holds gran heads told stands i r here store in
-    subst (λ (xs : List Sample). AreParts m.rule store xs (parts_of files)) (sym (tier_is tells at m held has holds gran heads told stands i r here store)) (parts_are m.rule store own.unit held.rows own.of_store files own.filed own.apart)
+    subst (λ (xs : List Sample). AreParts m.rule store xs (parts_of files)) (list_is m held i r holds told here store) (parts_are m.rule store own.unit held.rows own.of_store files own.filed own.apart)

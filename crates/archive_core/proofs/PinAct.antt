@@ -1,16 +1,16 @@
--- The act that pins: what the stores' call makes of the machine.
-use Rattle.std.proofs.Common.{◌≡◌, ◌⊎◌, inl, inr, ℕ, ◌<◌, ◌≤◌, ◌^◌, List, [], ◌∷◌, length, map, Bool, true, false, cond, Option, Some, None, refl, sym, ◌∙◌, ap, subst, arith}
+-- The act that pins: what the stores' call makes of the machine, and which files the pieces of pins are.
+use Rattle.std.proofs.Common.{◌≡◌, ◌⊎◌, inl, inr, ℕ, ◌<◌, ◌≤◌, ◌^◌, List, [], ◌∷◌, length, map, Bool, true, false, cond, Option, Some, None, refl, sym, ◌∙◌, ap, subst, arith, ◌++◌, take, Result, Ok, Err}
 use Rattle.std.specs.FinMap.{FinMap, get, insert}
 use Rattle.std.specs.List.{AllByRecursion}
 use Rattle.std.specs.Ordering.{nat_cmp}
-use Rattle.std.specs.Prelude.{IsSome, IsTrue, filter, slice_get}
+use Rattle.std.specs.Prelude.{IsSome, IsTrue, filter, slice_get, All, Contains, nat_eq}
 use Rattle.std.proofs.lemmas.List.{length-map}
 use Rattle.std.proofs.lemmas.Option.{same_Some}
 use Rattle.append_buffer.specs.Tails.{tail_at}
 use Rattle.disk_model.specs.Past.{MayLeave}
 use Rattle.event_types.specs.declared.about.About.{About}
 use Rattle.piece_choice.specs.declared.choosing.Listed.{Listed}
-use Rattle.pinned_pieces.specs.Pieces.{PinOf}
+use Rattle.pinned_pieces.specs.Pieces.{PinOf, asked}
 use Rattle.pinned_pieces.specs.declared.piece.PinnedFile.{PinnedFile}
 use Rattle.pv_catalog.specs.Rows.{HasName}
 use Rattle.pv_catalog.specs.declared.row.Row.{Row}
@@ -20,38 +20,54 @@ use Rattle.series_model.specs.Retrieval.{answer as answer_to}
 use Rattle.series_model.specs.Series.{end_of, over, IsRising}
 use Rattle.series_model.proofs.RisingLists.{RisesFrom-lower}
 use Rattle.durable_write.specs.Ends.{End, IsCut}
-use Rattle.tier_store.specs.Change.{Has}
-use Rattle.tier_store.specs.Opening.{end_of_answer}
-use Rattle.tier_store.specs.Pinned.{beside, PinsStand}
-use Rattle.tier_store.specs.Pinning.{files_in, state_of, listed_of, piece_of, has_bytes, IsPinned, AreEnough, SaysPinned, none_has, is_pinned}
-use Rattle.tier_store.specs.Seen.{Seen, granularities}
-use Rattle.tier_store.specs.Settling.{Settles, SaysOf}
-use Rattle.tier_store.specs.Stores.{Stores}
+use Rattle.tier_store.specs.Change.{Has, IsKnown}
+use Rattle.tier_store.specs.Opening.{end_of_answer, IsOpened, IsReaderOf, refusal}
+use Rattle.tier_store.specs.Pinned.{beside, PinsStand, IsShown}
+use Rattle.tier_store.specs.Pinning.{files_in, state_of, listed_of, piece_of, has_bytes, IsPinned, AreEnough, SaysPinned, none_has, is_pinned, Placed, placed, placed_at}
+use Rattle.tier_store.specs.Seen.{granularities, Seen, IsSettled}
+use Rattle.tier_store.specs.Telling.{SaysOf}
+use Rattle.tier_store.specs.Stores.{Stores, list_at}
 use Rattle.act_model.specs.declared.acts.Answer.{Answer}
 use Rattle.act_model.specs.declared.acts.Answer.TheVariants as answer
 use Rattle.act_model.specs.Limbo.{FileState}
 use Rattle.act_model.specs.Machine.{Machine, PinState, find_row}
 use Rattle.act_model.specs.Pin.{Pins, pins, IsListedPiece, InOrder, over_pieces}
 use Rattle.act_model.specs.Reply.{Reply, reply_of}
-use Rattle.act_model.specs.Rows.{RowState, Short, durable, accepted}
+use Rattle.act_model.specs.Rows.{RowState, Short, durable, accepted, Store, Medium, Long}
 use Rattle.act_model.proofs.PinActs.{pins_sound}
 use Rattle.archive_core.specs.Parts.{Parts}
-use Rattle.archive_core.specs.Ends.{AskEnds, is_spent, is_answered}
-use Rattle.archive_core.specs.Pinning.{IsPinning}
+use Rattle.archive_core.specs.Ends.{AskEnds, is_spent, is_answered, disk_reply}
 use Rattle.archive_core.specs.Pins.{IsPinOf}
 use Rattle.archive_core.specs.Stands.{Stands, Rests}
-use Rattle.archive_core.proofs.Keeping.{Keeps}
-use Rattle.archive_core.proofs.Asking.{end_kind}
+use Rattle.archive_core.proofs.Asking.{end_kind, never_wants}
 use Rattle.archive_core.proofs.Batches.{told_stands}
 use Rattle.archive_core.proofs.Changing.{rests_again}
 use Rattle.archive_core.proofs.KeptRows.{row_at}
-use Rattle.archive_core.proofs.Opens.{told_tells}
-use Rattle.archive_core.proofs.Pieces.{durable_is, part_listed, part_ordered}
+use Rattle.archive_core.proofs.Opens.{told_tells, OpenedAs, as_piece, as_fault, as_memory, opened_as}
+use Rattle.archive_core.proofs.Windows.{durable_is, part_listed, part_ordered, index_low}
 use Rattle.archive_core.proofs.PinMade.{more_pins, get_inserted, pieces_are}
-use Rattle.archive_core.proofs.PinTies.{pins_stay, names_stay}
 use Rattle.archive_core.proofs.Registered.{find_some}
-use Rattle.archive_core.proofs.Settled.{rests_has, open_rows}
+use Rattle.archive_core.proofs.Settled.{rests_has}
 use Rattle.archive_core.proofs.Standing.{pins_stand}
+use Rattle.tier_store.proofs.Framing.{frame_same}
+use Rattle.act_model.specs.declared.acts.Act.TheVariants.{Pin, OpenPiece}
+use Rattle.archive_core.proofs.Acting.{IsAct}
+use Rattle.std.proofs.lemmas.List.Elements.{All-contains, All-contains_itself, All-filter, All-from_recursion, All-map, All-same, All-weaker, Contains-append_cases, Contains-append_left, Contains-append_right}
+use Rattle.disk_model.specs.Files.{Name}
+use Rattle.disk_model.specs.declared.disk.DiskErr.{DiskErr}
+use Rattle.disk_model.specs.declared.disk.DiskErr.TheVariants.{Fault, Memory}
+use Rattle.pin_table.specs.declared.table.PinErr.{PinErr}
+use Rattle.pin_table.specs.declared.table.PinErr.TheVariants as err
+use Rattle.store_manifest.specs.Manifest.{ManifestState}
+use Rattle.store_manifest.specs.declared.entry.Entry.{Entry}
+use Rattle.durable_write.specs.Held.{Filed, entry_of}
+use Rattle.durable_write.specs.Plan.{of_row}
+use Rattle.tier_store.proofs.OpeningPieces.{begins_there}
+use Rattle.tier_store.proofs.Places.{manifest_at}
+use Rattle.tier_store.proofs.Rising.{own_series}
+use Rattle.act_model.specs.Rule.{index_of}
+use Rattle.archive_core.specs.Leaving.{IsPieceOfRow, LeavesPins}
+use Rattle.archive_core.proofs.Lists.{map_in, map_out}
 
 -- what an answer says is so, or memory was wanting
 pub says_kind : {R : Type 0} (says : Answer R → Stores → Type 0) (held : Stores) (given : Answer R) → SaysOf says (end_of_answer given) held → (given ≡ answer.Memory) ⊎ says given held
@@ -75,34 +91,31 @@ filter_few test (x ∷ xs) = by_test (test x) (filter_few test xs)
 unknown : ℕ → PinnedFile → FileState
 unknown i file = record { row = i; store = Short; part = record { start = 0; end = 0; name = [] }; head = []; samples = [] }
 
-module _ (R : Type 0) (tells reader_tells : Bool) (bytes : R → List ℕ) (faults : R → ℕ) (p : Parts) (m : Machine) (r : Rests tells p m) (who i : ℕ) (name : List ℕ) (query : Query) (named : HasName p.at.catalogue.rows i name) (result : Answer R) (new : Seen) (pinned : FinMap nat_cmp PinOf)
-    (settles : Settles tells (SaysPinned who name query (tail_at p.tails i).samples p.pinned pinned) p.at new (end_of_answer result)) (unchanged : IsCut (end_of_answer result) → pinned ≡ p.pinned) (shown : Keeps tells (beside p.at p.limbo) (beside new p.limbo))
-    (stand : PinsStand tells (beside p.at p.limbo) p.pinned → PinsStand tells (beside new p.limbo) pinned) (seen_now : IsTrue tells → MayLeave new.past new.files) where
+module _ (R : Type 0) (tells reader_tells : Bool) (bytes : R → List ℕ) (faults : R → ℕ) (p : Parts) (m : Machine) (r : Rests tells p m) (who i : ℕ) (name : List ℕ) (query : Query) (named : HasName p.at.catalogue.rows i name) (result : Answer R) (pinned : FinMap nat_cmp PinOf)
+    (says : SaysOf (SaysPinned who name query (tail_at p.tails i).samples p.pinned pinned) (end_of_answer result) r.stands.store.before) (unchanged : IsCut (end_of_answer result) → pinned ≡ p.pinned) (stand : PinsStand tells (beside p.at p.limbo) p.pinned → PinsStand tells (beside p.at p.limbo) pinned)
+    (seen_now : IsTrue tells → MayLeave p.at.past p.at.files) where
   abbrev held : Stores
   held = r.stands.store.before
 
-  abbrev then : Parts
-  then = record p { at = new; pinned = pinned }
-
   abbrev Ends : Answer R → Type 0
-  Ends given = AskEnds tells (Pins who name query) p m then (reply_of reader_tells bytes faults given)
+  Ends given = AskEnds tells (Pins who name query) p m (record p { pinned = pinned }) (reply_of reader_tells bytes faults given)
 
-  has_new : Has tells new held
-  has_new = (settles.settled held (rests_has tells p m r)).0
+  has : Has tells p.at held
+  has = rests_has tells p m r
 
   -- the archive but for its pins
-  read : Stands tells (record p { at = new }) (record m { faults = new.faults })
-  read = rests_again tells p m r new settles.granularity shown has_new
+  read : Stands tells p (record m { faults = p.at.faults })
+  read = rests_again tells p m r p.at refl (frame_same tells (beside p.at p.limbo)) has
 
   told_is : m.told ≡ true → IsTrue held.stands
   told_is = told_stands tells m.told held.stands r.stands.store.told
 
-  module _ (k : ℕ) (pin count : ℕ) (told : List ℕ) (about : About) (rest : List Sample) (has : HasName held.rows k name) (q : IsPinned held.rows (map listed_of (files_in k held)) who k query (tail_at p.tails i).samples p.pinned pinned pin told about count rest) (enough : AreEnough held k query (tail_at p.tails i).samples q.opened) where
+  module _ (k : ℕ) (pin count : ℕ) (told : List ℕ) (about : About) (rest : List Sample) (named_k : HasName held.rows k name) (q : IsPinned held.rows (map listed_of (files_in k held)) who k query (tail_at p.tails i).samples p.pinned pinned pin told about count rest) (enough : AreEnough held k query (tail_at p.tails i).samples q.opened) where
     abbrev own : PinOf
     own = record { owner = who; pieces = q.pieces }
 
     known : HasName p.at.catalogue.rows k name
-    known = subst (λ (rows : List Row). HasName rows k name) (sym (open_rows tells p.at held m r.stands.store.is_open)) has
+    known = subst (λ (rows : List Row). HasName rows k name) (sym has.known.rows) named_k
 
     found : find_row m name ≡ Some k
     found = find_some tells p m r.stands name k known
@@ -113,24 +126,23 @@ module _ (R : Type 0) (tells reader_tells : Bool) (bytes : R → List ℕ) (faul
     row : (row : RowState) × (slice_get m.rows k ≡ Some row) × (row.name ≡ told) × (row.about ≡ about) × (row.tail ≡ rest)
     row =
         let at = row_at p.at.catalogue.rows p.kept p.tails m.rows r.stands.rows k known.row known.here in
-        let one : known.row ≡ q.row = same_Some known.row q.row (sym known.here ∙ (ap (λ (rows : List Row). slice_get rows k) (open_rows tells p.at held m r.stands.store.is_open) ∙ q.here)) in
+        let one : known.row ≡ q.row = same_Some known.row q.row (sym known.here ∙ (ap (λ (rows : List Row). slice_get rows k) has.known.rows ∙ q.here)) in
         let tail : at.0.tail ≡ rest = at.4.tail ∙ (ap (λ (n : ℕ). (tail_at p.tails n).samples) (sym same_row) ∙ sym q.tail_is) in
         (at.0, at.1, at.4.name ∙ (ap (λ (x : Row). x.name) one ∙ sym q.name_is), at.4.about ∙ (ap (λ (x : Row). x.about) one ∙ sym q.about_is), tail)
 
     -- with these pieces the machine makes the pin
     with_pieces : (pieces : List FileState) → length pieces ≡ count → length pieces < 2 ^ 32 → (m.told ≡ true → AllByRecursion (IsListedPiece m.rule k row.0) pieces) → (m.told ≡ true → InOrder pieces) → (m.told ≡ true → answer_to (over (over_pieces [] pieces) row.0.tail) query ≡ answer_to (accepted row.0) query)
-        → IsPinOf tells (beside new p.limbo) m.told m.rows (record { owner = who; pieces = pieces }) own → Ends (answer.Pinned pin told about count rest)
+        → IsPinOf tells (beside p.at p.limbo) m.told m.rows (record { owner = who; pieces = pieces }) own → Ends (answer.Pinned pin told about count rest)
     with_pieces pieces number few listed ordered answers is =
         let state : PinState = record { owner = who; pieces = pieces } in
-        let n : Machine = record m { pins = insert m.pins pin state; faults = new.faults } in
+        let n : Machine = record m { pins = insert m.pins pin state; faults = p.at.faults } in
         let free : get m.pins pin ≡ None = by_pin (get m.pins pin) refl in
         let made : Pins who name query m (answer.Pinned pin row.0.name row.0.about (length pieces) row.0.tail) n = pins k row.0 pin pieces found row.1 free (λ lower low none. absurd (let some = q.least lower low in let lacks = r.stands.pins.none lower none in let both : false ≡ true = subst (λ (o : Option PinOf). IsSome o) lacks some in cc (both))) listed ordered answers few refl in
         let same : answer.Pinned pin row.0.name row.0.about (length pieces) row.0.tail ≡ reply_of reader_tells bytes faults (answer.Pinned pin told about count rest) = let a = row.2 in let b = row.3 in let c = row.4 in cc (a, b, c, number) in
-        let stay = pins_stay tells (beside p.at p.limbo) (beside new p.limbo) m.told m.rows m.rows m.pins p.pinned shown.shown (names_stay m.rows) r.stands.pins in
-        let stand_now = subst (λ (x : FinMap nat_cmp PinOf). PinsStand tells (beside new p.limbo) x) q.made (stand r.stands.pins.stand) in
-        let are = more_pins tells (beside new p.limbo) m.told m.rows m.pins p.pinned pin state own stay is stand_now in
-        let stands = pins_stand tells (record p { at = new }) (record m { faults = new.faults }) (insert m.pins pin state) (insert p.pinned pin own) are (pins_sound r.stands.sound made) read in
-        is_answered n (subst (λ (reply : Reply). Pins who name query m reply n) same made) (subst (λ (x : FinMap nat_cmp PinOf). Stands tells (record p { at = new; pinned = x }) n) (sym q.made) stands)
+        let stand_now = subst (λ (x : FinMap nat_cmp PinOf). PinsStand tells (beside p.at p.limbo) x) q.made (stand r.stands.pins.stand) in
+        let are = more_pins tells (beside p.at p.limbo) m.told m.rows m.pins p.pinned pin state own r.stands.pins is stand_now in
+        let stands = pins_stand tells p (record m { faults = p.at.faults }) (insert m.pins pin state) (insert p.pinned pin own) are (pins_sound r.stands.sound made) read in
+        is_answered n (subst (λ (reply : Reply). Pins who name query m reply n) same made) (subst (λ (x : FinMap nat_cmp PinOf). Stands tells (record p { pinned = x }) n) (sym q.made) stands)
       where
         by_pin : (o : Option PinState) → get m.pins pin ≡ o → get m.pins pin ≡ None
         by_pin None is = is
@@ -155,32 +167,31 @@ module _ (R : Type 0) (tells reader_tells : Bool) (bytes : R → List ℕ) (faul
         by_told true on =
             let stands = told_is on in
             let whole : filter has_bytes q.opened ≡ q.opened = enough.all stands in
-            let of_files : q.pieces ≡ map (piece_of new.catalogue.rows) (map listed_of enough.files) = q.are ∙ (ap (map (piece_of held.rows)) (whole ∙ sym enough.are) ∙ ap (λ (rows : List Row). map (piece_of rows) (map listed_of enough.files)) (sym has_new.known.rows)) in
-            let size = ap length of_files ∙ (length-map (map listed_of enough.files) (piece_of new.catalogue.rows) ∙ length-map enough.files listed_of) in
+            let of_files : q.pieces ≡ map (piece_of p.at.catalogue.rows) (map listed_of enough.files) = q.are ∙ (ap (map (piece_of held.rows)) (whole ∙ sym enough.are) ∙ ap (λ (rows : List Row). map (piece_of rows) (map listed_of enough.files)) (sym has.known.rows)) in
+            let size = ap length of_files ∙ (length-map (map listed_of enough.files) (piece_of p.at.catalogue.rows) ∙ length-map enough.files listed_of) in
             let number = length-map enough.files (state_of k) in
             let count_is = q.number in
             let opened_size = ap length enough.are in
             let listed_size = length-map enough.files listed_of in
             let most = enough.few in
-            let has_it = has_new in
-            let gran : m.rule.granularity ≡ granularities new.manifests = r.stands.rule.granularity ∙ sym settles.granularity in
+            let gran : m.rule.granularity ≡ granularities p.at.manifests = r.stands.rule.granularity in
             let rising : IsRising (tail_at p.tails i).samples = subst (λ (xs : List Sample). IsRising xs) (row.4 ∙ q.tail_is) (RisesFrom-lower 0 (end_of (durable row.0)) row.0.tail (r.stands.sound.each_row k row.0 row.1).later (omega arith)) in
-            let durable_same = durable_is tells new m held has_new r.stands.store.holds gran r.stands.rule.headers on stands k row.0 row.1 in
+            let durable_same = durable_is tells p.at m held has r.stands.store.holds gran r.stands.rule.headers on stands k row.0 row.1 in
             let tail_same : row.0.tail ≡ (tail_at p.tails i).samples = row.4 ∙ q.tail_is in
             let stand_now = stand r.stands.pins.stand in
             let there : get pinned pin ≡ Some own = ap (λ (x : FinMap nat_cmp PinOf). get x pin) q.made ∙ get_own in
             with_pieces (map (state_of k) enough.files) (omega (arith, number, count_is, size)) (omega (arith, number, opened_size, listed_size, most))
-            (λ t. part_listed tells new m held has_new r.stands.store.holds gran r.stands.rule.headers on stands k row.0 row.1 enough.closed enough.files enough.behind enough.split)
-            (λ t. part_ordered tells new m held has_new r.stands.store.holds gran r.stands.rule.headers on stands k row.0 row.1 enough.closed enough.files enough.behind enough.split)
+            (λ t. part_listed tells p.at m held has r.stands.store.holds gran r.stands.rule.headers on stands k row.0 row.1 enough.closed enough.files enough.behind enough.split)
+            (λ t. part_ordered tells p.at m held has r.stands.store.holds gran r.stands.rule.headers on stands k row.0 row.1 enough.closed enough.files enough.behind enough.split)
             (λ t. ap (λ (xs : List Sample). answer_to (over (over_pieces [] (map (state_of k) enough.files)) xs) query) tail_same ∙ (enough.answers stands rising ∙ (ap (λ (xs : List Sample). answer_to (over xs (tail_at p.tails i).samples) query) (sym durable_same) ∙ ap (λ (xs : List Sample). answer_to (over (durable row.0) xs) query) (sym tail_same))))
-            (record { owner = refl; number = sym (number ∙ sym size); pieces = λ t. pieces_are tells (beside new p.limbo) m held has_new seen_now r.stands.store.holds (told_tells tells m.told held.stands r.stands.store.told on) stands k row.0 row.1 enough.closed enough.files enough.behind pinned pin own enough.split of_files there stand_now })
+            (record { owner = refl; number = sym (number ∙ sym size); pieces = λ t. pieces_are tells (beside p.at p.limbo) m held has seen_now r.stands.store.holds (told_tells tells m.told held.stands r.stands.store.told on) stands k row.0 row.1 enough.closed enough.files enough.behind pinned pin own enough.split of_files there stand_now })
           where
             get_own : get (insert p.pinned pin own) pin ≡ Some own
             get_own = get_inserted p.pinned pin own
 
   -- the stores' answer
   by_says : (given : Answer R) (s : Stores) → SaysPinned who name query (tail_at p.tails i).samples p.pinned pinned given s → s ≡ held → Ends given
-  by_says _ _ (none_has {held = s} none same) is = absurd (none i (subst (λ (rows : List Row). HasName rows i name) (open_rows tells p.at held m r.stands.store.is_open ∙ sym (ap (λ (x : Stores). x.rows) is)) named))
+  by_says _ _ (none_has {held = s} none same) is = absurd (none i (subst (λ (rows : List Row). HasName rows i name) (has.known.rows ∙ sym (ap (λ (x : Stores). x.rows) is)) named))
   by_says _ _ (is_pinned {held = s} k pin count told about rest has q enough) is = moved s is k pin count told about rest has q enough
     where
       moved : (s : Stores) → s ≡ held → (k pin count : ℕ) (told : List ℕ) (about : About) (rest : List Sample) → HasName s.rows k name → (q : IsPinned s.rows (map listed_of (files_in k s)) who k query (tail_at p.tails i).samples p.pinned pinned pin told about count rest) → AreEnough s k query (tail_at p.tails i).samples q.opened → Ends (answer.Pinned pin told about count rest)
@@ -189,30 +200,171 @@ module _ (R : Type 0) (tells reader_tells : Bool) (bytes : R → List ℕ) (faul
           k pin count told about rest has q enough
 
   pub pin_ends : Ends result
-  pin_ends = elim (says_kind (SaysPinned who name query (tail_at p.tails i).samples p.pinned pinned) held result (settles.settled held (rests_has tells p m r)).1) [
+  pin_ends = elim (says_kind (SaysPinned who name query (tail_at p.tails i).samples p.pinned pinned) held result says) [
     | inl spent ↦ (
         let cut : IsCut (end_of_answer result) = subst (λ (given : Answer R). IsCut (end_of_answer given)) (sym spent) tt in
         let same = unchanged cut in
-        subst (λ (given : Answer R). Ends given) (sym spent) (is_spent (subst (λ (x : FinMap nat_cmp PinOf). Stands tells (record p { at = new; pinned = x }) (record m { faults = new.faults })) (sym same) read))
+        subst (λ (given : Answer R). Ends given) (sym spent) (is_spent (subst (λ (x : FinMap nat_cmp PinOf). Stands tells (record p { pinned = x }) (record m { faults = p.at.faults })) (sym same) read))
         )
-    | inr says ↦ by_says result held says refl
+    | inr told ↦ by_says result held told refl
   ]
-
-  -- it is answered as one who pins is
-  pub pin_answers : IsPinning result
-  pin_answers = elim (says_kind (SaysPinned who name query (tail_at p.tails i).samples p.pinned pinned) held result (settles.settled held (rests_has tells p m r)).1) [
-    | inl spent ↦ subst (λ (given : Answer R). IsPinning given) (sym spent) tt
-    | inr says ↦ of_says result held says
-  ]
-    where
-      of_says : (given : Answer R) (s : Stores) → SaysPinned who name query (tail_at p.tails i).samples p.pinned pinned given s → IsPinning given
-      of_says _ _ (none_has none same) = tt
-      of_says _ _ (is_pinned k pin count told about rest has q enough) = tt
 
 -- the count of faults is nothing to a pin
-pub pins_goes : (who : ℕ) (name : List ℕ) (query : Query) (m : Machine) (f : ℕ) (given : Reply) (new : Machine) → Pins who name query (record m { faults = f }) given new → Pins who name query m given new
+pins_goes : (who : ℕ) (name : List ℕ) (query : Query) (m : Machine) (f : ℕ) (given : Reply) (new : Machine) → Pins who name query (record m { faults = f }) given new → Pins who name query m given new
 pins_goes who name query m f _ new (pins i row pin pieces found here free least listed ordered answers few same) = pins i row pin pieces found here free least listed ordered answers few same
 
 -- it isn't told as want of memory
-pub pins_tell : (who : ℕ) (name : List ℕ) (query : Query) (m : Machine) (given : Reply) (new : Machine) → Pins who name query m given new → given ≡ answer.Memory → ⊥
+pins_tell : (who : ℕ) (name : List ℕ) (query : Query) (m : Machine) (given : Reply) (new : Machine) → Pins who name query m given new → given ≡ answer.Memory → ⊥
 pins_tell who name query m _ new (pins i row pin pieces found here free least listed ordered answers few same) told = cc (told)
+
+pub pins_act : (who : ℕ) (name : List ℕ) (query : Query) → IsAct who (Pin name query) (Pins who name query)
+pins_act who name query = record { refuses = λ m f. refl; changes = λ m f. refl; goes = pins_goes who name query; never = never_wants name; tells_more = pins_tell who name query; steps = λ m given new acts. acts; wants = λ m n none. none }
+
+-- THE FILES OF A PIN THAT IS MADE
+
+module _ (at : Seen) (held : Stores) (known : IsKnown at.catalogue at.manifests held) (i : ℕ) (name : List ℕ) (named : HasName held.rows i name) where
+  -- what is pinned of a file that a store lists of the row
+  piece_in : (store : Store) (p : Placed) → Contains (placed store i (list_at (index_of store) held)) p → IsPieceOfRow at name (piece_of at.catalogue.rows (listed_of p))
+  piece_in store p there = subst (λ (x : Placed). IsPieceOfRow at name (piece_of at.catalogue.rows (listed_of x))) f.2 (record {
+    place = index_of store;
+    manifest = m.0;
+    here = m.1;
+    entry = f.0.entry;
+    listed = subst (λ (es : List Entry). Contains es f.0.entry) (sym (known.each (index_of store) m.0 m.1).entries) (map_in entry_of files f.0 within);
+    row = subst (λ (rows : List Row). HasName rows f.0.entry.series name) (sym known.rows) (subst (λ (k : ℕ). HasName held.rows k name) (sym series) named);
+    is = refl;
+  })
+    where
+      files : List Filed
+      files = list_at (index_of store) held
+
+      m : (m : ManifestState) × (slice_get at.manifests (index_of store) ≡ Some m)
+      m = let low = index_low store in let three = known.three in manifest_at at.manifests (index_of store) (omega (arith, low, three))
+
+      f : (f : Filed) × Contains (of_row i files) f × (placed_at store f ≡ p)
+      f = map_out (placed_at store) (of_row i files) p there
+
+      within : Contains files f.0
+      within = All-contains (Contains files) (of_row i files) f.0 (All-filter (λ (x : Filed). nat_eq x.entry.series i) (Contains files) files (All-contains_itself files)) f.1
+
+      series : f.0.entry.series ≡ i
+      series = All-contains (λ (x : Filed). x.entry.series ≡ i) (of_row i files) f.0 (All-from_recursion (λ (x : Filed). x.entry.series ≡ i) (of_row i files) (own_series i files)) f.1
+
+  piece_of_row : (p : Placed) → Contains (files_in i held) p → IsPieceOfRow at name (piece_of at.catalogue.rows (listed_of p))
+  piece_of_row p there = elim (Contains-append_cases (placed Long i held.long ++ placed Medium i held.medium) (placed Short i held.short) p there) [
+    | inl deeper ↦ elim (Contains-append_cases (placed Long i held.long) (placed Medium i held.medium) p deeper) [
+      | inl long ↦ piece_in Long p long
+      | inr medium ↦ piece_in Medium p medium
+    ]
+    | inr short ↦ piece_in Short p short
+  ]
+
+  pieces_of_row : (closed files behind : List Placed) (opened : List Listed) → files_in i held ≡ closed ++ (files ++ behind) → map listed_of files ≡ opened → All (IsPieceOfRow at name) (map (piece_of at.catalogue.rows) (filter has_bytes opened))
+  pieces_of_row closed files behind opened split are = All-map (IsPieceOfRow at name) (piece_of at.catalogue.rows) (filter has_bytes opened) (All-filter has_bytes (λ (l : Listed). IsPieceOfRow at name (piece_of at.catalogue.rows l)) opened each)
+    where
+      each : All (λ (l : Listed). IsPieceOfRow at name (piece_of at.catalogue.rows l)) opened
+      each = subst (λ (ls : List Listed). All (λ (l : Listed). IsPieceOfRow at name (piece_of at.catalogue.rows l)) ls) are
+          (All-map (λ (l : Listed). IsPieceOfRow at name (piece_of at.catalogue.rows l)) listed_of files
+          (All-weaker (Contains files) (λ (p : Placed). IsPieceOfRow at name (piece_of at.catalogue.rows (listed_of p)))
+          (λ p there. piece_of_row p (subst (λ (ps : List Placed). Contains ps p) (sym split) (Contains-append_right closed (files ++ behind) p (Contains-append_left files behind p there)))) files (All-contains_itself files)))
+
+-- the stores' answer, by what they say of what is held
+pins_by : (R : Type 0) (tells reader_tells : Bool) (bytes : R → List ℕ) (faults : R → ℕ) (p q : Parts) (who : ℕ) (name : List ℕ) (query : Query) (tail : List Sample) (held : Stores) (given : Answer R) → IsKnown q.at.catalogue q.at.manifests held → (q.at.catalogue ≡ p.at.catalogue) × (q.at.manifests ≡ p.at.manifests)
+    → SaysPinned who name query tail p.pinned q.pinned given held → LeavesPins tells p (Pin name query) (reply_of reader_tells bytes faults given) q
+pins_by R tells reader_tells bytes faults p q who name query tail _ _ known same (none_has none stay) = tt
+pins_by R tells reader_tells bytes faults p q who name query tail _ _ known same (is_pinned {held = held} i pin count told about rest has made enough) =
+    let own : PinOf = record { owner = who; pieces = made.pieces } in
+    record {
+      own = own;
+      made = ap (λ (x : FinMap nat_cmp PinOf). get x pin) made.made ∙ get_inserted p.pinned pin own;
+      pieces = All-same (IsPieceOfRow q.at name) made.pieces (map (piece_of q.at.catalogue.rows) (filter has_bytes made.opened)) (made.are ∙ ap (λ (rows : List Row). map (piece_of rows) (filter has_bytes made.opened)) (sym known.rows))
+          (pieces_of_row q.at held known i name has enough.closed enough.files enough.behind made.opened enough.split enough.are);
+      same_lists = λ settled. same;
+    }
+
+-- so it is where the pins alone have changed
+pub pins_files : (R : Type 0) (tells reader_tells : Bool) (bytes : R → List ℕ) (faults : R → ℕ) (p : Parts) (pinned : FinMap nat_cmp PinOf) (held : Stores) → IsKnown p.at.catalogue p.at.manifests held → (who : ℕ) (name : List ℕ) (query : Query) (tail : List Sample) (given : Answer R)
+    → SaysOf (SaysPinned who name query tail p.pinned pinned) (end_of_answer given) held → LeavesPins tells p (Pin name query) (reply_of reader_tells bytes faults given) (record p { pinned = pinned })
+pins_files R tells reader_tells bytes faults p pinned held known who name query tail given says = elim (says_kind (SaysPinned who name query tail p.pinned pinned) held given says) [
+  | inl spent ↦ subst (λ (x : Answer R). LeavesPins tells p (Pin name query) (reply_of reader_tells bytes faults x) (record p { pinned = pinned })) (sym spent) tt
+  | inr told ↦ pins_by R tells reader_tells bytes faults p (record p { pinned = pinned }) who name query tail held given known (refl, refl) told
+]
+
+-- a doubt was settled before
+pub pins_then : (tells : Bool) (p mid q : Parts) (name : List ℕ) (query : Query) (given : Reply) → (IsSettled p.at → mid.at ≡ p.at) → LeavesPins tells mid (Pin name query) given q → LeavesPins tells p (Pin name query) given q
+pins_then tells p mid q name query (answer.Pinned pin told about count tail) quiet made = record {
+  own = made.own;
+  made = made.made;
+  pieces = made.pieces;
+  same_lists = λ settled.
+      let still = quiet settled in
+      let same = made.same_lists (subst IsSettled (sym still) settled) in
+      (same.0 ∙ ap (λ (s : Seen). s.catalogue) still, same.1 ∙ ap (λ (s : Seen). s.manifests) still);
+}
+pins_then tells p mid q name query _ quiet made = made
+
+-- no pin was made
+pub pins_failed : (tells : Bool) (p q : Parts) (name : List ℕ) (query : Query) (e : DiskErr) → LeavesPins tells p (Pin name query) (disk_reply e) q
+pins_failed tells p q name query Fault = tt
+pins_failed tells p q name query Memory = tt
+
+-- A PIECE IS OPENED
+
+-- a pin that is granted is there
+granted : (who : ℕ) (found : Option PinOf) (own : PinOf) → asked who found ≡ Ok own → found ≡ Some own
+granted who None own is = absurd (cc (is))
+granted who (Some pin) own is = by_test (nat_eq pin.owner who) is
+  where
+    by_test : (b : Bool) → ◌≡◌ {A = Result PinOf PinErr} (cond b (Ok pin) (Err (err.NotYours pin.owner))) (Ok own) → Some pin ≡ Some own
+    by_test true is = let same : pin ≡ own = cc in ap (λ (x : PinOf). Some x) same
+    by_test false is = absurd (cc (is))
+
+module _ (R : Type 0) (tells reader_tells : Bool) (bytes : R → List ℕ) (faults : R → ℕ) (p q : Parts) (who pin i : ℕ) (given : Answer R) (still : q.pinned ≡ p.pinned) (stand : PinsStand tells (beside p.at p.limbo) p.pinned) where
+  -- how it is answered
+  abbrev Opened : Answer R → Type 0
+  Opened answer = LeavesPins tells p (OpenPiece pin i) (reply_of reader_tells bytes faults answer) q
+
+  refused_opening : (e : PinErr) → Opened (refusal e)
+  refused_opening err.NoPin = still
+  refused_opening (err.NotYours owner) = still
+
+  module _ (own : PinOf) (file : PinnedFile) (there : get p.pinned pin ≡ Some own) (here : slice_get own.pieces i ≡ Some file) where
+    read_file : (reader : R) (name : Name) (head_len len : ℕ) → IsReaderOf tells reader_tells bytes faults (beside p.at p.limbo) file reader → name ≡ file.name → len ≡ file.len → Opened (answer.Piece reader name head_len len)
+    read_file reader name head_len len is name_is len_is = (
+      still,
+      record {
+        own = own;
+        there = there;
+        piece = file;
+        here = here;
+        named = name_is;
+        len_is = len_is;
+        told = λ told. let read = reads told in (read.0, ap length read.1 ∙ (shown.len ∙ sym len_is));
+        bytes = λ told.
+            let f = begins_there p.at.files file.name shown.bytes (shown.shown.front told) in
+            record { bytes = f.bytes; file = ap p.at.files name_is ∙ f.file; holds = (reads told).1 ∙ (sym f.holds.1 ∙ ap (λ (n : ℕ). take n f.bytes) (shown.len ∙ sym len_is)) };
+      },
+    )
+      where
+        shown : IsShown tells (beside p.at p.limbo) file
+        shown = stand pin i own file there here
+
+        reads : IsTrue tells → IsTrue reader_tells × (bytes reader ≡ shown.bytes)
+        reads told = is.shows told shown.bytes shown.len shown.shown
+
+    by_kind : OpenedAs tells reader_tells bytes faults (beside p.at p.limbo) file given → Opened given
+    by_kind (as_piece reader name head_len len same is) = subst Opened (sym same) (read_file reader name head_len len is.0 is.1 is.3)
+    by_kind (as_fault same) = subst Opened (sym same) still
+    by_kind (as_memory same) = subst Opened (sym same) still
+
+  pub opens_file : ((e : PinErr) → asked who (get p.pinned pin) ≡ Err e → given ≡ refusal e) → ((own : PinOf) → asked who (get p.pinned pin) ≡ Ok own → slice_get own.pieces i ≡ None → given ≡ answer.NoPiece (length own.pieces))
+      → ((own : PinOf) (file : PinnedFile) → asked who (get p.pinned pin) ≡ Ok own → slice_get own.pieces i ≡ Some file → IsOpened tells reader_tells bytes faults (beside p.at p.limbo) file given) → Opened given
+  opens_file refused lacks opened = by_asked (asked who (get p.pinned pin)) refl
+    where
+      by_piece : (own : PinOf) → asked who (get p.pinned pin) ≡ Ok own → (o : Option PinnedFile) → slice_get own.pieces i ≡ o → Opened given
+      by_piece own is None none = subst Opened (sym (lacks own is none)) still
+      by_piece own is (Some file) here = by_kind own file (granted who (get p.pinned pin) own is) here (opened_as tells reader_tells bytes faults (beside p.at p.limbo) file given (opened own file is here))
+
+      by_asked : (r : Result PinOf PinErr) → asked who (get p.pinned pin) ≡ r → Opened given
+      by_asked (Err e) is = subst Opened (sym (refused e is)) (refused_opening e)
+      by_asked (Ok own) is = by_piece own is (slice_get own.pieces i) refl

@@ -37,9 +37,9 @@ use Rattle.act_model.specs.Rows.{RowState, Store, Short, Medium, Long}
 use Rattle.act_model.specs.Rule.{index_of}
 use Rattle.archive_core.specs.Pins.{IsPieceOf, HasFileOf, IsPinOf, HasPinOf, ArePinsOf}
 use Rattle.archive_core.specs.Stands.{HoldsDurable}
-use Rattle.archive_core.proofs.Lists.{element}
+use Rattle.archive_core.proofs.Lists.{element, get_map}
 use Rattle.archive_core.proofs.Making.{kept_to}
-use Rattle.archive_core.proofs.Pieces.{index_low}
+use Rattle.archive_core.proofs.Windows.{index_low}
 
 -- ONE PIN MORE
 
@@ -74,11 +74,6 @@ bytes_same i p = ap (λ (rest : List ℕ). p.file.head ++ (10 ∷ rest)) (lines_
 pub same_front : (a b : List ℕ) (c : Content) → length a ≡ length b → Begins a c → Begins b c → a ≡ b
 same_front a b None same one two = absurd one
 same_front a b (Some bytes) same one two = sym one ∙ (ap (λ (n : ℕ). take n bytes) same ∙ two)
-
-get_map : {A B : Type 0} (f : A → B) (xs : List A) (j : ℕ) (x : A) → slice_get xs j ≡ Some x → slice_get (map f xs) j ≡ Some (f x)
-get_map {A} {B} f [] j x here = absurd (cc (here))
-get_map {A} {B} f (y ∷ xs) zero x here = ap (λ (w : A). Some (f w)) (same_Some y x here)
-get_map {A} {B} f (y ∷ xs) (suc j) x here = get_map f xs j x here
 
 all_get : (P : Placed → Type 0) (xs : List Placed) (j : ℕ) (x : Placed) → AllByRecursion P xs → slice_get xs j ≡ Some x → P x
 all_get P [] j x all here = absurd (cc (here))

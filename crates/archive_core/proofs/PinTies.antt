@@ -14,8 +14,8 @@ use Rattle.act_model.specs.Machine.{Machine, PinState, Change, SetsState}
 use Rattle.act_model.specs.OpenPiece.{name_of}
 use Rattle.act_model.specs.Rows.{RowState}
 use Rattle.archive_core.specs.Pins.{HasFileOf, ArePinsOf}
-use Rattle.archive_core.proofs.KeptRows.{each_to}
 use Rattle.archive_core.proofs.Lists.{get_front}
+use Rattle.act_model.proofs.Onward.{each_forward}
 
 -- the row of this number has a row of the same name
 pub record HasNamed (later : List RowState) (i : ℕ) (r : RowState) : Type 0 where
@@ -46,7 +46,7 @@ pins_stay tells old new told rows later pins pinned keeps names are = record {
 
 -- rows that change by their numbers keep their names where each does
 pub names_each : (f : ℕ → RowState → RowState) (rows : List RowState) → ((i : ℕ) (r : RowState) → (f i r).name ≡ r.name) → KeepsNames rows (each f 0 rows)
-names_each f rows same = λ i r here. record { row = f (0 + i) r; here = each_to f 0 rows i r here; name = same (0 + i) r }
+names_each f rows same = λ i r here. record { row = f (0 + i) r; here = each_forward f 0 rows i r here; name = same (0 + i) r }
 
 at_name : (k : ℕ) (f : RowState → RowState) → ((r : RowState) → (f r).name ≡ r.name) → (i : ℕ) (r : RowState) → (at k f i r).name ≡ r.name
 at_name k f same i r = by_test (i == k) refl

@@ -13,7 +13,7 @@ use Rattle.act_model.specs.Machine.{PinState}
 use Rattle.act_model.specs.OpenPiece.{bytes_of}
 use Rattle.act_model.specs.Rows.{RowState}
 use Rattle.archive_core.specs.Pins.{HasFileOf, ArePinsOf}
-use Rattle.archive_core.proofs.LimboPinned.{at_named}
+use Rattle.archive_core.proofs.LimboSwept.{at_named}
 
 -- whatever is pinned, and was shown, is so still
 abbrev pub KeepsPinned : Bool → FinMap nat_cmp PinOf → SeenAll → SeenAll → Type 0

@@ -1,7 +1,7 @@
 -- What a batch puts behind a row's list: what comes back before its first sample, and the batch.
-use Rattle.std.proofs.Common.{◌≡◌, ◌⊎◌, inl, inr, ℕ, ◌+◌, ◌<◌, ◌≤◌, List, [], ◌∷◌, ◌++◌, Bool, true, false, cond, sym, refl, ◌∙◌, ap, arith, append_assoc, append-nil}
+use Rattle.std.proofs.Common.{◌≡◌, ℕ, ◌+◌, ◌<◌, ◌≤◌, List, [], ◌∷◌, ◌++◌, Bool, true, false, cond, sym, refl, ◌∙◌, ap, arith, append_assoc, append-nil}
 use Rattle.std.specs.List.{AllByRecursion}
-use Rattle.std.specs.Prelude.{Contains, nat_le, nat_lt}
+use Rattle.std.specs.Prelude.{nat_le, nat_lt}
 use Rattle.std.proofs.lemmas.Bool.Decides.{nat_tests}
 use Rattle.partition_names.specs.declared.part.Part.{Part}
 use Rattle.series_model.specs.declared.sample.Sample.{Sample}
@@ -10,7 +10,6 @@ use Rattle.series_model.proofs.RisingLists.{RisesFrom-lower}
 use Rattle.act_model.specs.Limbo.{FileState, revived, put}
 use Rattle.act_model.specs.Rows.{window, holds, is_empty}
 use Rattle.act_model.proofs.Puts.{window-append}
-use Rattle.archive_core.proofs.SameNames.{contains_cases, contains_head, contains_tail}
 
 -- a sample is listed: whatever partition it lies in has samples
 abbrev IsSeen : Sample → List Sample → Type 0
@@ -72,22 +71,3 @@ put_first s xs files listed starts rises =
     let back = revived files listed s in
     put_behind xs files (listed ++ (back ++ s ∷ [])) s starts rises (seen_last s listed back)
     ∙ (append_assoc listed (back ++ s ∷ []) xs ∙ ap (λ (ys : List Sample). listed ++ ys) (append_assoc back (s ∷ []) xs))
-
--- what comes back is the file in whose partition the sample lies, or nothing where there is none
-abbrev pub ComesBack : List FileState → Sample → List Sample → Type 0
-ComesBack files s xs = ((f : FileState) × Contains files f × (holds f.part s.t ≡ true) × (xs ≡ f.samples)) ⊎ (((f : FileState) → Contains files f → holds f.part s.t ≡ true → ⊥) × (xs ≡ []))
-
-pub comes_back : (files : List FileState) (listed : List Sample) (s : Sample) → AllByRecursion (λ (f : FileState). is_empty (window f.part listed) ≡ true) files → ComesBack files s (revived files listed s)
-comes_back [] listed s free = inr ((λ f there is. absurd (let low = there.1 in omega (arith, low))), refl)
-comes_back (f ∷ files) listed s free = by_test (holds f.part s.t) refl (comes_back files listed s free.1)
-  where
-    by_test : (b : Bool) → holds f.part s.t ≡ b → ComesBack files s (revived files listed s) → ComesBack (f ∷ files) s (cond b (cond (is_empty (window f.part listed)) f.samples []) (revived files listed s))
-    by_test true is rest = inl (f, contains_head f files, is, ap (λ (b : Bool). cond b f.samples []) free.0)
-    by_test false is (inl (g, there, lies, same)) = inl (g, contains_tail f files g there, lies, same)
-    by_test false is (inr (none, same)) = inr (
-      (λ g there lies. elim (contains_cases f files g there) [
-        | inl own ↦ (let yes : holds f.part s.t ≡ true = ap (λ (x : FileState). holds x.part s.t) own ∙ lies in let both : true ≡ false = sym yes ∙ is in cc (both))
-        | inr later ↦ none g later lies
-      ]),
-      same,
-    )

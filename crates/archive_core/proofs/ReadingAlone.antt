@@ -6,10 +6,10 @@ use Rattle.disk_model.proofs.Passing.{passes_none, passes_then}
 use Rattle.pv_catalog.specs.Catalogue.{CatalogueState}
 use Rattle.store_manifest.specs.Manifest.{ManifestState}
 use Rattle.durable_write.specs.Ends.{End}
-use Rattle.tier_store.specs.Change.{OnlySettles}
 use Rattle.tier_store.specs.Pinned.{SeenAll, LeavesFronts}
 use Rattle.tier_store.specs.Seen.{AtEach, IsSettled}
 use Rattle.tier_store.proofs.LeavingFronts.{fronts_on, fronts_read, nothing_fronts}
+use Rattle.archive_core.specs.Acting.{Settling}
 use Rattle.archive_core.specs.Leaving.{ReadsAlone, files_of}
 use Rattle.archive_core.specs.Parts.{Parts}
 
@@ -33,9 +33,9 @@ reads_then tells p q r first second = record {
       (two.0, λ told. ((two.1 told).0 ∙ (one.1 told).0, passes_then (λ a b. b ≡ a) (λ a b. b ≡ a) p.at.past q.at.past r.at.past (one.1 told).1 (two.1 told).1 (λ a b image was within left holds. holds ∙ within)));
 }
 
--- a doubt was settled
-pub reads_settling : {A E : Type 0} (tells : Bool) (p q : Parts) (end : End A E) → OnlySettles tells p.at q.at end → LeavesFronts tells (files_of p) (files_of q) → (IsSettled p.at → q.at ≡ p.at) → ReadsAlone tells p q
-reads_settling {A} {E} tells p q end settles fronts same = record { fronts = fronts; quiet = λ settled. (subst IsSettled (sym (same settled)) settled, settles.quiet settled) }
+-- a doubt was settled, or it couldn't be
+pub reads_settling : {A E : Type 0} (tells : Bool) (p q : Parts) (end : End A E) → Settling tells p q end → (IsSettled p.at → files_of q ≡ files_of p) → ReadsAlone tells p q
+reads_settling {A} {E} tells p q end settling same = record { fronts = settling.fronts; quiet = λ settled. (subst (λ (all : SeenAll). IsSettled all.stores) (sym (same settled)) settled, settling.settles.quiet settled) }
 
 -- the memory of the stores is as it was
 pub reads_beside : (tells : Bool) (p q : Parts) → (q.at.catalogue ≡ p.at.catalogue) × (q.at.manifests ≡ p.at.manifests) → q.limbo ≡ p.limbo → (IsTrue tells → (q.at.files ≡ p.at.files) × Passes (λ a b. b ≡ a) p.at.past q.at.past) → ReadsAlone tells p q

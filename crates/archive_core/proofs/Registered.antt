@@ -1,11 +1,9 @@
--- A row is added: as the machine has it, and in memory.
-use Rattle.std.proofs.Common.{◌≡◌, ◌⊎◌, inl, ℕ, zero, suc, ◌≤◌, ◌<◌, List, [], ◌∷◌, ◌++◌, length, take, Bool, true, false, Option, Some, None, Ok, Err, refl, sym, ◌∙◌, ap, subst, arith, append-nil}
-use Rattle.std.specs.Prelude.{◌&&◌, slice_get, nat_le}
+-- A row is added: as the machine has it, in memory, and as an act.
+use Rattle.std.proofs.Common.{◌≡◌, zero, suc, ◌≤◌, ◌<◌, List, [], ◌∷◌, ◌++◌, length, take, Bool, true, false, Option, Some, None, Err, refl, sym, ◌∙◌, ap, subst, arith, append-nil, Result, ℕ}
+use Rattle.std.specs.Prelude.{slice_get, nat_le}
 use Rattle.std.proofs.lemmas.Bool.Decides.{nat_tests}
 use Rattle.std.proofs.lemmas.Option.{slice_get_within}
 use Rattle.append_buffer.specs.Tails.{TailState}
-use Rattle.disk_model.proofs.Passing.{passes_none}
-use Rattle.disk_model.specs.declared.disk.DiskErr.TheVariants.{Fault, Memory}
 use Rattle.event_types.specs.declared.about.About.{About}
 use Rattle.pv_name.specs.Key.{key_of}
 use Rattle.pv_catalog.specs.Catalogue.{Refuses}
@@ -13,33 +11,32 @@ use Rattle.pv_catalog.specs.Rows.{HasName, HasKey}
 use Rattle.pv_catalog.specs.declared.error.RegisterErr.{RegisterErr}
 use Rattle.pv_catalog.specs.declared.error.RegisterErr.TheVariants.{NameTaken, KeyTaken, Full, Disk}
 use Rattle.pv_catalog.specs.declared.row.Row.{Row}
-use Rattle.durable_write.specs.Ends.{Done, Refused, Failed, Spent}
-use Rattle.tier_store.specs.Change.{Acts, Has, EndsFrom, registering}
-use Rattle.tier_store.specs.Pinned.{beside}
-use Rattle.tier_store.specs.Seen.{Seen, granularities}
+use Rattle.durable_write.specs.Ends.{Done, Refused}
+use Rattle.tier_store.specs.Change.{registering, Changes}
+use Rattle.tier_store.specs.Seen.{Seen}
 use Rattle.tier_store.specs.Stores.{Stores}
-use Rattle.tier_store.proofs.Left.{has_left}
-use Rattle.act_model.specs.Changes.{made}
-use Rattle.act_model.specs.Machine.{Machine, Change, AddsRow, place, find_row, with_key, same_bytes}
-use Rattle.act_model.specs.Register.{register_refused}
+use Rattle.act_model.specs.Machine.{Machine, AddsRow, place, find_row, with_key, same_bytes}
+use Rattle.act_model.specs.Register.{register_refused, Registers}
 use Rattle.act_model.specs.Rows.{RowState}
 use Rattle.act_model.proofs.RowActs.{register_may}
 use Rattle.act_model.proofs.StepLaws.{with_doubt}
-use Rattle.archive_core.specs.declared.memory.Doubt.{Doubt}
 use Rattle.archive_core.specs.declared.memory.Doubt.TheVariants as kind
 use Rattle.archive_core.specs.declared.memory.RowMemory.{RowMemory}
-use Rattle.archive_core.specs.Ends.{ChangesTo, HoldsChanged, register_reply}
+use Rattle.archive_core.specs.Ends.{register_reply}
 use Rattle.archive_core.specs.Memory.{AreRowsOf, IsCleared, fresh_memory}
 use Rattle.archive_core.specs.Parts.{Parts}
-use Rattle.archive_core.specs.Stands.{Stands, Rests, IsDoubtOf, IsReady, StoresGrow, InDoubt, HoldsDurable}
-use Rattle.archive_core.proofs.Keeping.{Keeps, keeps_itself}
+use Rattle.archive_core.specs.Stands.{Stands, Rests}
 use Rattle.archive_core.proofs.Growth.{register_grows}
-use Rattle.archive_core.proofs.Batches.{told_stands}
-use Rattle.archive_core.proofs.Changing.{call_passes, call_failed}
+use Rattle.archive_core.proofs.Changing.{Makes}
 use Rattle.archive_core.proofs.KeptRows.{Placed, placed, place_some, place_none, same_bytes_is, same_bytes_self, row_at}
 use Rattle.archive_core.proofs.Lists.{element}
 use Rattle.archive_core.proofs.Making.{register_holds}
-use Rattle.archive_core.proofs.Settled.{rests_has, doubt_stands, made_stands, open_rows, no_own, grew}
+use Rattle.archive_core.proofs.Settled.{rests_has}
+use Rattle.act_model.specs.Reply.{Reply}
+use Rattle.archive_core.proofs.Acting.{IsAct, Went, acted}
+use Rattle.archive_core.specs.Acting.{Acted}
+use Rattle.act_model.specs.declared.acts.Act.TheVariants.{Register}
+use Rattle.act_model.specs.declared.acts.Answer.TheVariants as answer
 
 -- PLACES
 
@@ -189,104 +186,85 @@ many_kept rows kept ts rs are = by_count (length rows) refl
 -- THE STORES' CALL
 
 module _ (tells : Bool) (p : Parts) (m : Machine) (r : Rests tells p m) (name : List ℕ) (about : About) (free : (e : RegisterErr) → Refuses p.at.catalogue.rows name e → ⊥) where
-  abbrev change : Change
-  change = AddsRow name about
-
   -- with the memory of one row more
   abbrev pub more_kept : List RowMemory
   more_kept = take (length p.at.catalogue.rows) p.kept ++ fresh_memory about ∷ []
 
-  more_rows : AreRowsOf p.at.catalogue.rows more_kept p.tails m.rows
-  more_rows = rows_cut p.at.catalogue.rows p.kept (fresh_memory about ∷ []) p.tails m.rows r.stands.rows
-
-  fresh_there : slice_get more_kept (length m.rows) ≡ Some (fresh_memory about)
-  fresh_there =
+  pub makes_row : Makes tells (registering name about) (AddsRow name about) kind.Row more_kept p m r.stands.store.before
+  makes_row =
+      let held = r.stands.store.before in
+      let known = (rests_has tells p m r).known in
       let count : length p.at.catalogue.rows ≡ length m.rows = sym r.stands.rows.count in
-      ap (slice_get more_kept) (sym count) ∙ take_last (length p.at.catalogue.rows) p.kept (fresh_memory about) (many_kept p.at.catalogue.rows p.kept p.tails m.rows r.stands.rows)
-
-  durable : (after : Stores) → (registering name about).by r.stands.store.before after → HoldsDurable after (made [] change m)
-  durable after by = register_holds p.at.catalogue p.at.manifests name about r.stands.store.before after m (rests_has tells p m r).known by r.stands.store.holds
-
-  stand : (after : Stores) → (registering name about).by r.stands.store.before after → after.stands ≡ r.stands.store.before.stands
-  stand after by = ap (λ (s : Stores). s.stands) by.1
-
-  grow : (after : Stores) → (registering name about).by r.stands.store.before after → StoresGrow m.moves r.stands.store.before after
-  grow after by = register_grows m.moves p.at name about r.stands.store.before after (rests_has tells p m r).known by
-
-  doubting : (new : Seen) → granularities new.manifests ≡ granularities p.at.manifests → Keeps tells (beside p.at p.limbo) (beside new p.limbo) → Has tells new r.stands.store.before ⊎ InDoubt tells new p.limbo r.stands.store.before (record m { doubt = Some change; faults = new.faults })
-      → Stands tells (record p { at = new; kept = more_kept; doubt = Some kind.Row }) (record m { doubt = Some change; faults = new.faults })
-  doubting new same_g shown is_open =
-      let s = r.stands in
-      let sound = with_doubt m.rule m.told m.rows m.limbo m.pins m.moves m.doubt change s.sound (register_may name m (free_as tells p m s name free), tt) in
-      doubt_stands tells p m s new more_kept (Some kind.Row) (Some change) same_g shown sound more_rows (name, about, refl) fresh_there is_open
-
-  -- nothing stands in doubt: of the machine's doubt
-  undoubted : (kept : List RowMemory) → IsReady kept m.rows m.moves m.doubt
-  undoubted kept = subst (λ (o : Option Change). IsReady kept m.rows m.moves o) (sym r.settled) tt
-
-  unclear : (rows : List Row) → IsCleared rows (Some kind.Row) more_kept more_kept
-  unclear rows = record { other = λ none. refl; own = λ k state is. absurd (cc (is)) }
-
-  abbrev parts_with : Seen → Option Doubt → Parts
-  parts_with new d = record { at = new; limbo = p.limbo; pinned = p.pinned; tails = p.tails; kept = more_kept; doubt = d; doors = p.doors; config = p.config; slots = p.slots }
-
-  pub row_done : (new : Seen) → Keeps tells (beside p.at p.limbo) (beside new p.limbo) → (id : ℕ) → Acts tells (registering name about) p.at new (Done id) → ChangesTo tells change p m (record p { at = new; kept = more_kept }) (Ok id) × (id ≡ length p.at.catalogue.rows)
-  row_done new shown id acts = (
-    record {
-      ends = own_doubt;
-      any_moment = call_passes tells (registering name about) change p m r durable stand new (Done id) acts;
-      faults = acts.costs.faults;
-      cause = λ is. absurd (cc (is));
-    },
-    end.2 ∙ ap length (sym (open_rows tells p.at held m r.stands.store.is_open)),
-  )
-    where
-      held : Stores
-      held = r.stands.store.before
-
-      end : EndsFrom tells (registering name about) new held (Done id)
-      end = acts.settled held (rests_has tells p m r)
-
-      stands : Stands tells (parts_with new None) (record (made [] change m) { doubt = None; faults = new.faults })
-      stands =
-          let was = doubting p.at refl (keeps_itself tells (beside p.at p.limbo)) (inl (rests_has tells p m r)) in
-          (made_stands tells (record p { kept = more_kept; doubt = Some kind.Row }) (record m { doubt = Some change; faults = p.at.faults }) was new more_kept acts.costs.granularity shown p.tails change refl end.0 (grew tells p m r.stands new acts.costs.granularity shown end.0 (stand end.0 end.1) (grow end.0 end.1)) (r.stands.store.told ∙ ap (λ (b : Bool). tells && b) (sym (stand end.0 end.1))) (durable end.0 end.1) (unclear new.catalogue.rows) refl end.3).stands
-
-      machines : Stands tells (parts_with new None) (record (made [] change m) { faults = new.faults })
-      machines = subst (λ (o : Option Change). Stands tells (parts_with new None) (record (made [] change m) { doubt = o; faults = new.faults })) (sym r.settled) stands
-
-      own_doubt : Stands tells (parts_with new p.doubt) (record (made [] change m) { faults = new.faults })
-      own_doubt = subst (λ (d : Option Doubt). Stands tells (parts_with new d) (record (made [] change m) { faults = new.faults })) (sym (no_own p.doubt (subst (λ (o : Option Change). IsDoubtOf p.doubt o) r.settled r.stands.doubt))) machines
-
-  pub row_failed : (new : Seen) → Keeps tells (beside p.at p.limbo) (beside new p.limbo) → Acts tells (registering name about) p.at new Failed → ChangesTo {A = ℕ} tells change p m (record p { at = new; kept = more_kept; doubt = Some kind.Row }) (Err Fault)
-  row_failed new shown acts = record {
-    ends = doubting new acts.costs.granularity shown (call_failed tells (registering name about) change p m r durable stand new grow (acts.settled r.stands.store.before (rests_has tells p m r)));
-    any_moment = call_passes tells (registering name about) change p m r durable stand new Failed acts;
-    faults = acts.costs.faults;
-    cause = λ is. acts.costs.cause tt;
-  }
-
-  pub row_spent : (new : Seen) → Keeps tells (beside p.at p.limbo) (beside new p.limbo) → Acts tells (registering name about) p.at new Spent → ChangesTo {A = ℕ} tells change p m (record p { at = new; kept = more_kept }) (Err Memory)
-  row_spent new shown acts =
-      let s = r.stands in
       record {
-        ends = doubt_stands tells p m s new more_kept p.doubt m.doubt acts.costs.granularity shown s.sound more_rows s.doubt (undoubted more_kept) (inl (acts.settled s.store.before (rests_has tells p m r)));
-        any_moment = call_passes tells (registering name about) change p m r durable stand new Spent acts;
-        faults = acts.costs.faults;
-        cause = λ is. absurd (cc (is));
+        sound = with_doubt m.rule m.told m.rows m.limbo m.pins m.moves m.doubt (AddsRow name about) r.stands.sound (register_may name m (free_as tells p m r.stands name free), tt);
+        rows = rows_cut p.at.catalogue.rows p.kept (fresh_memory about ∷ []) p.tails m.rows r.stands.rows;
+        is = (name, about, refl);
+        ready = ap (slice_get more_kept) (sym count) ∙ take_last (length p.at.catalogue.rows) p.kept (fresh_memory about) (many_kept p.at.catalogue.rows p.kept p.tails m.rows r.stands.rows);
+        stand = λ after by. ap (λ (s : Stores). s.stands) by.1;
+        grow = λ after by filed. register_grows m.moves p.at name about held after known by;
+        holds = λ after by filed. register_holds p.at.catalogue p.at.manifests name about held after m known by r.stands.store.holds;
       }
+
+  -- of that doubt nothing is cleared in memory
+  pub row_unclear : (rows : List Row) → IsCleared rows (Some kind.Row) more_kept more_kept
+  row_unclear rows = record { other = λ none. refl; own = λ k state is. absurd (cc (is)) }
 
   -- there was no memory for the row's
-  pub row_unkept : ChangesTo {A = ℕ} tells change p m (record p { kept = take (length p.at.catalogue.rows) p.kept }) (Err Memory)
-  row_unkept =
-      let s = r.stands in
-      let cut = subst (λ (ks : List RowMemory). AreRowsOf p.at.catalogue.rows ks p.tails m.rows) (append-nil (take (length p.at.catalogue.rows) p.kept)) (rows_cut p.at.catalogue.rows p.kept [] p.tails m.rows s.rows) in
-      record {
-        ends = doubt_stands tells p m s p.at (take (length p.at.catalogue.rows) p.kept) p.doubt m.doubt refl (keeps_itself tells (beside p.at p.limbo)) s.sound cut s.doubt (undoubted (take (length p.at.catalogue.rows) p.kept)) (inl (rests_has tells p m r));
-        any_moment = λ told. passes_none (λ a image. HoldsChanged (granularities p.at.manifests) change m image) p.at.past (λ image left. inl (record { stores = s.store.before; holds = has_left tells p.at s.store.before (rests_has tells p m r) told image left; durable = s.store.holds; stands = told_stands tells m.told s.store.before.stands s.store.told }));
-        faults = omega arith;
-        cause = λ is. absurd (cc (is));
-      }
+  pub row_unkept : AreRowsOf p.at.catalogue.rows (take (length p.at.catalogue.rows) p.kept) p.tails m.rows
+  row_unkept = subst (λ (ks : List RowMemory). AreRowsOf p.at.catalogue.rows ks p.tails m.rows) (append-nil (take (length p.at.catalogue.rows) p.kept)) (rows_cut p.at.catalogue.rows p.kept [] p.tails m.rows r.stands.rows)
 
-  pub row_unrefused : (new : Seen) (e : RegisterErr) → Acts tells (registering name about) p.at new (Refused e) → ⊥
-  row_unrefused new e acts = free e (subst (λ (rs : List Row). Refuses rs name e) (sym (open_rows tells p.at r.stands.store.before m r.stands.store.is_open)) (acts.settled r.stands.store.before (rests_has tells p m r)).1)
+  -- what the call tells of a row that was added, and that it refuses none that may be added
+  pub row_number : (new : Seen) (id : ℕ) → Changes tells (registering name about) p.at new (Done id) → id ≡ length p.at.catalogue.rows
+  row_number new id changes = (changes.ends r.stands.store.before (rests_has tells p m r)).2 ∙ ap length (sym (rests_has tells p m r).known.rows)
+
+  pub row_unrefused : (new : Seen) (e : RegisterErr) → Changes tells (registering name about) p.at new (Refused e) → ⊥
+  row_unrefused new e changes = free e (subst (λ (rs : List Row). Refuses rs name e) (sym (rests_has tells p m r).known.rows) (changes.ends r.stands.store.before (rests_has tells p m r)).1)
+
+-- THE ACT
+
+-- the count of faults is nothing to the refusals
+counted : (name : List ℕ) (m : Machine) (f : ℕ) → register_refused name (record m { faults = f }) ≡ register_refused name m
+counted name m f = by_found (find_row m name) refl
+  where
+    by_key : find_row m name ≡ None → (o : Option ℕ) → with_key m name ≡ o → register_refused name (record m { faults = f }) ≡ register_refused name m
+    by_key is None key = rw (is, key) refl
+    by_key is (Some i) key = rw (is, key) refl
+
+    by_found : (o : Option ℕ) → find_row m name ≡ o → register_refused name (record m { faults = f }) ≡ register_refused name m
+    by_found None is = by_key is (with_key m name) refl
+    by_found (Some i) is = rw is refl
+
+-- no refusal is want of memory
+never_wants : (name : List ℕ) (m : Machine) → register_refused name m ≡ Some answer.Memory → ⊥
+never_wants name m is = by_found (find_row m name) refl
+  where
+    by_room : (b : Bool) → nat_le 65536 (length m.rows) ≡ b → find_row m name ≡ None → with_key m name ≡ None → ⊥
+    by_room true full none free = let told : register_refused name m ≡ Some answer.CatalogueFull = rw (none, free, full) refl in let both = sym told ∙ is in cc (both)
+    by_room false full none free = let told : register_refused name m ≡ None = rw (none, free, full) refl in let both = sym told ∙ is in cc (both)
+
+    by_key : (o : Option ℕ) → with_key m name ≡ o → find_row m name ≡ None → ⊥
+    by_key None key none = by_room (nat_le 65536 (length m.rows)) refl none key
+    by_key (Some i) key none = let told : register_refused name m ≡ Some (answer.KeyTaken i) = rw (none, key) refl in let both = sym told ∙ is in cc (both)
+
+    by_found : (o : Option ℕ) → find_row m name ≡ o → ⊥
+    by_found None found = by_key (with_key m name) refl found
+    by_found (Some i) found = let told : register_refused name m ≡ Some (answer.NameTaken i) = rw found refl in let both = sym told ∙ is in cc (both)
+
+-- nor is the answer that a row was added
+registers_tells : (name : List ℕ) (about : About) (m : Machine) (given : Reply) (new : Machine) → Registers name about m given new → given ≡ answer.Memory → ⊥
+registers_tells name about m given new ran told = let both = sym ran.0 ∙ told in cc (both)
+
+pub registers_act : (who : ℕ) (name : List ℕ) (about : About) → IsAct who (Register name about) (Registers name about)
+registers_act who name about = record { refuses = counted name; changes = λ m f. refl; goes = λ m f given new ran. ran; never = never_wants name; tells_more = registers_tells name about; steps = λ m given new acts. acts; wants = λ m n none. none }
+
+-- how it is answered
+abbrev pub RegisterEnds : Bool → ℕ → List ℕ → About → Parts → Result ℕ RegisterErr → Parts → Type 0
+RegisterEnds tells who name about p r q = Acted tells who (Register name about) p (register_reply r) q
+
+-- as the machine's act goes
+pub registered_so : (tells : Bool) (who : ℕ) (name : List ℕ) (about : About) (p q : Parts) (r : Result ℕ RegisterErr) → Went tells who (Register name about) p (register_reply r) q → RegisterEnds tells who name about p r q
+registered_so tells who name about p q r went = acted tells who (Register name about) p (register_reply r) q went went.fronts tt tt
+
+-- nothing refuses the name
+abbrev pub IsFree : List ℕ → Parts → Type 0
+IsFree name q = (e : RegisterErr) → Refuses q.at.catalogue.rows name e → ⊥

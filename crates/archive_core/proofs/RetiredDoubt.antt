@@ -39,14 +39,13 @@ use Rattle.archive_core.specs.MoveTies.{ends_from}
 use Rattle.archive_core.specs.Retiring.{IsRetiring, SettlesRetired}
 use Rattle.archive_core.specs.Stands.{IsRuleOf, HoldsDurable}
 use Rattle.archive_core.proofs.Growth.{no_moves, rows_go_on, same_grow, stays_listed}
-use Rattle.archive_core.proofs.LeavingFiles.{leaving, leaving_differ, leaving_listed, listed_after, map_in, map_out, named, one_named, differ_both, part_leaves, part_of, part_own}
+use Rattle.archive_core.proofs.LeavingFiles.{leaving, leaving_differ, leaving_listed, listed_after, named, one_named, differ_both, part_leaves, part_of, part_own}
 use Rattle.archive_core.proofs.LimboEnters.{listed_is}
-use Rattle.archive_core.proofs.LimboMade.{GoesOn, limbo_made}
+use Rattle.archive_core.proofs.LimboTying.{GoesOn, limbo_made, KeepsFiles, retired_stays, untold_retires}
 use Rattle.archive_core.proofs.LimboSwept.{stay_differ}
-use Rattle.archive_core.proofs.LimboTying.{KeepsFiles, retired_stays, untold_retires}
-use Rattle.archive_core.proofs.Lists.{element}
+use Rattle.archive_core.proofs.Lists.{element, map_in, map_out}
 use Rattle.archive_core.proofs.MoveRetires.{own, own_name, owns_differ, retires_with}
-use Rattle.archive_core.proofs.Pieces.{index_low}
+use Rattle.archive_core.proofs.Windows.{index_low}
 use Rattle.archive_core.proofs.PinTies.{names_stay}
 use Rattle.archive_core.proofs.RetiredLimbo.{names_unlisted, untold_limbo}
 

@@ -3,7 +3,7 @@ use Rattle.std.proofs.Common.{◌≡◌, ◌≢◌, ◌⊎◌, inl, inr, ℕ, �
 use Rattle.std.specs.FinMap.{FinMap}
 use Rattle.std.specs.List.{AllByRecursion, list_any}
 use Rattle.std.specs.Ordering.{nat_cmp}
-use Rattle.std.specs.Prelude.{◌==◌, Contains, IsTrue, Result, filter, slice_get}
+use Rattle.std.specs.Prelude.{Contains, IsTrue, Result, filter, slice_get}
 use Rattle.std.proofs.lemmas.List.Elements.{Contains-append_cases, Contains-append_left, Contains-append_right}
 use Rattle.disk_model.specs.Files.{Name}
 use Rattle.disk_model.specs.Past.{MayLeave}
@@ -23,11 +23,11 @@ use Rattle.tier_store.specs.Stores.{Stores}
 use Rattle.tier_store.specs.declared.limbo.Retired.{Retired}
 use Rattle.tier_store.proofs.Handing.{name_left}
 use Rattle.tier_store.proofs.Staying.{among_is, is_among, stay_cases, stay_from}
-use Rattle.act_model.specs.Changes.{at, made, retired, Retires}
+use Rattle.act_model.specs.Changes.{made, retired, Retires}
 use Rattle.act_model.specs.Limbo.{FileState, unlisted}
 use Rattle.act_model.specs.Machine.{Machine, Change, Unlists}
 use Rattle.act_model.specs.OpenPiece.{name_of}
-use Rattle.act_model.specs.Rows.{RowState, Store, Short, Medium, Long}
+use Rattle.act_model.specs.Rows.{RowState, Store, Long}
 use Rattle.act_model.specs.Rule.{IsPartition, index_of}
 use Rattle.act_model.specs.Sound.{IsSound}
 use Rattle.act_model.specs.Sweep.{IsPinned}
@@ -37,36 +37,25 @@ use Rattle.archive_core.specs.MoveTies.{ends_from}
 use Rattle.archive_core.specs.Pins.{ArePinsOf}
 use Rattle.archive_core.specs.Retiring.{LimboRetires}
 use Rattle.archive_core.specs.Stands.{IsRuleOf, HoldsDurable}
-use Rattle.archive_core.proofs.LeavingFiles.{leaving, leaving_differ, leaving_listed, listed_after, listed_before, map_in, map_out, named, differ_both, part_leaves, part_of, part_own}
+use Rattle.archive_core.proofs.LeavingFiles.{leaving, leaving_differ, leaving_listed, listed_after, listed_before, named, differ_both, part_leaves, part_of, part_own}
 use Rattle.archive_core.proofs.LimboEnters.{listed_is}
 use Rattle.archive_core.proofs.LimboLists.{contains_filter, from_filter}
-use Rattle.archive_core.proofs.LimboMade.{GoesOn, limbo_made}
-use Rattle.archive_core.proofs.LimboPinned.{pinned_there, there_pinned}
-use Rattle.archive_core.proofs.LimboSwept.{stay_differ}
-use Rattle.archive_core.proofs.LimboTying.{KeepsFiles, bare_made, retired_stays, untold_retires}
-use Rattle.archive_core.proofs.Lists.{element}
+use Rattle.archive_core.proofs.LimboTying.{GoesOn, limbo_made, KeepsFiles, bare_made, retired_stays, untold_retires}
+use Rattle.archive_core.proofs.LimboSwept.{pinned_there, there_pinned, stay_differ}
+use Rattle.archive_core.proofs.Lists.{element, map_in, map_out}
 use Rattle.archive_core.proofs.MoveChanges.{retire_holds}
 use Rattle.archive_core.proofs.MoveCovers.{ends_move}
-use Rattle.archive_core.proofs.MoveRetires.{filter_apart, own, own_name, owns_differ, part_partition, retires_with}
-use Rattle.archive_core.proofs.Pieces.{index_low}
+use Rattle.archive_core.proofs.MoveRetires.{own, own_name, owns_differ, part_partition, retires_with, filter_apart}
+use Rattle.archive_core.proofs.Windows.{index_low}
 use Rattle.archive_core.proofs.PinsSwept.{pinned_stay}
 use Rattle.archive_core.proofs.PinTies.{KeepsNames, names_made, pins_stay}
 use Rattle.archive_core.proofs.SameNames.{all_of}
+use Rattle.archive_core.proofs.RetiredRows.{unlisted_there}
 
 -- ROWS KEEP THEIR NAMES
 
-left_name : (told : Bool) (store : Store) (to : ℕ) (r : RowState) → (retired told store to r).name ≡ r.name
-left_name false store to r = refl
-left_name true Short to r = refl
-left_name true Medium to r = refl
-left_name true Long to r = refl
-
 pub names_unlisted : (m : Machine) (k : ℕ) (store : Store) (to : ℕ) → KeepsNames m.rows (made [] (Unlists k store to) m).rows
-names_unlisted m k store to = names_made m (Unlists k store to) (λ i r. by_test i r (i == k) refl)
-  where
-    by_test : (i : ℕ) (r : RowState) (b : Bool) → (i == k) ≡ b → (at k (retired m.told store to) i r).name ≡ r.name
-    by_test i r true is = rw is (left_name m.told store to r)
-    by_test i r false is = rw is refl
+names_unlisted m k store to = names_made m (Unlists k store to) (λ i r. (unlisted_there m k store to i r).name)
 
 -- WHAT COMES OF LIMBO
 

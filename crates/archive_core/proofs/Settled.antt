@@ -1,5 +1,5 @@
 -- The archive once a doubt is settled.
-use Rattle.std.proofs.Common.{◌≡◌, ◌≢◌, ◌⊎◌, inl, inr, ℕ, zero, suc, ◌+◌, ◌<◌, ◌≤◌, List, [], ◌∷◌, length, Bool, true, false, Option, Some, None, refl, sym, ◌∙◌, ap, subst, arith}
+use Rattle.std.proofs.Common.{◌≡◌, ◌≢◌, ◌⊎◌, inl, inr, zero, suc, ◌+◌, ◌<◌, ◌≤◌, List, [], ◌∷◌, length, Bool, true, false, Option, Some, None, refl, sym, ◌∙◌, ap, subst, arith, ℕ}
 use Rattle.std.specs.FinMap.{FinMap}
 use Rattle.std.specs.List.{AllByRecursion}
 use Rattle.std.specs.Ordering.{nat_cmp}
@@ -18,13 +18,12 @@ use Rattle.series_model.specs.Series.{end_of, since, IsRising}
 use Rattle.series_model.specs.declared.batch.RowSamples.{RowSamples}
 use Rattle.series_model.specs.declared.sample.Sample.{Sample}
 use Rattle.series_model.proofs.RisingLists.{RisesFrom-lower}
-use Rattle.etl_rules.specs.Config.{ConfigState}
 use Rattle.etl_mover.specs.Move.{MoveState as Moving}
 use Rattle.running_moves.specs.declared.table.Running.{Running}
 use Rattle.durable_write.specs.Held.{Filed}
 use Rattle.durable_write.specs.Plan.{of_row as files_in}
-use Rattle.tier_store.specs.Beginning.{AreNested}
 use Rattle.tier_store.specs.Change.{Has, IsKnown, IsOpen, HasEither}
+use Rattle.tier_store.specs.Frame.{Frame}
 use Rattle.tier_store.specs.Pinned.{beside}
 use Rattle.tier_store.specs.Revival.{AreWhole}
 use Rattle.tier_store.specs.Seen.{Seen, IsSettled, granularities}
@@ -36,24 +35,21 @@ use Rattle.act_model.specs.Limbo.{FileState}
 use Rattle.act_model.specs.Machine.{Machine, MoveState, PinState, Change, AddsRow, SetsState, Appends, Publishes, Unlists}
 use Rattle.act_model.specs.Rows.{RowState, Store, fresh_row, next_store, period_of}
 use Rattle.act_model.proofs.Rows.{Came, from_row, is_new, came, more_rows}
-use Rattle.act_model.specs.Rule.{Rule, index_of}
+use Rattle.act_model.specs.Rule.{index_of}
 use Rattle.act_model.specs.Sound.{IsSound, MayMake}
 use Rattle.act_model.proofs.StepLaws.{settled_sound, settled_none}
 use Rattle.archive_core.specs.declared.memory.RowMemory.{RowMemory}
 use Rattle.archive_core.specs.declared.memory.Doubt.{Doubt}
 use Rattle.archive_core.specs.declared.memory.Doubt.TheVariants as kind
-use Rattle.archive_core.proofs.Keeping.{Keeps, KeepsLimbo, limbo_of_keeps}
+use Rattle.archive_core.proofs.After.{stands_after, KeepsLimbo, limbo_of_frame}
 use Rattle.archive_core.proofs.Batches.{none_beyond, lists_or_not, holds_with, holds_without, told_stands}
 use Rattle.archive_core.proofs.Growth.{same_grow}
-use Rattle.archive_core.proofs.KeptRows.{sampling_period, sampling_cell, each_to}
-use Rattle.archive_core.proofs.LimboKept.{limbo_beside, limbo_changed, limbo_held}
+use Rattle.archive_core.proofs.KeptRows.{sampling_period, sampling_cell}
+use Rattle.archive_core.proofs.LimboTying.{limbo_beside, limbo_changed, limbo_held}
 use Rattle.archive_core.proofs.Making.{kept_to, taken_later}
-use Rattle.archive_core.proofs.ListedRows.{listed_same}
-use Rattle.archive_core.proofs.MoveEnds.{reach_ends, source_ends}
-use Rattle.archive_core.proofs.MoveRows.{next_high, next_low, store_low}
-use Rattle.archive_core.proofs.MovesKept.{SameLater, leaves_ahead, moves_stay, same_later, same_put}
-use Rattle.archive_core.proofs.StageKept.{reach, source_on}
-use Rattle.archive_core.proofs.MovesMade.{same_made}
+use Rattle.archive_core.proofs.RetiredRows.{listed_same, same_made, moves_settled, row_came, unlisted_there}
+use Rattle.archive_core.proofs.MovesKept.{reach_ends, source_ends, SameLater, leaves_ahead, moves_stay, same_later, same_put, reach, source_on}
+use Rattle.archive_core.proofs.MoveChoice.{next_high, next_low, store_low}
 use Rattle.archive_core.proofs.PinTies.{KeepsNames, names_stay, names_made, state_name, pins_stay}
 use Rattle.archive_core.specs.Flushing.{GivesUp, ListsBatch, IsTrimmed}
 use Rattle.archive_core.specs.Growing.{HasRunning}
@@ -62,14 +58,14 @@ use Rattle.archive_core.specs.MoveTies.{AreMovesOf}
 use Rattle.archive_core.specs.Memory.{IsRowAt, AreRowsOf, cell_in, period_in, fresh_memory, cleared, IsCleared}
 use Rattle.archive_core.specs.Parts.{Parts}
 use Rattle.archive_core.specs.Pins.{ArePinsOf}
-use Rattle.archive_core.specs.Stands.{Stands, Rests, HasSettings, TellsHeaders, StoresGo, StoresGrow, InDoubt, IsPartOf, IsReady, IsDoubtOf, AreDurable, HoldsDurable}
+use Rattle.archive_core.specs.Stands.{Stands, Rests, StoresGo, StoresGrow, InDoubt, IsPartOf, IsReady, IsDoubtOf, AreDurable, HoldsDurable}
 use Rattle.archive_core.specs.Retiring.{IsRetiring, SettlesRetired}
-use Rattle.archive_core.proofs.RetiredBeside.{moves_settled}
 use Rattle.archive_core.proofs.RetiredDoubt.{settled_retired}
 use Rattle.archive_core.proofs.RetiredLimbo.{names_unlisted}
-use Rattle.archive_core.proofs.RetiredRows.{row_came, unlisted_there}
 use Rattle.archive_core.proofs.StoresGoing.{go_beside}
-use Rattle.archive_core.proofs.Lists.{same_or_not, get_set_same, get_set_other, get_front}
+use Rattle.archive_core.proofs.Lists.{same_or_not, get_set_same, get_front}
+use Rattle.durable_write.proofs.Three.{get_set_other}
+use Rattle.act_model.proofs.Onward.{each_forward}
 
 -- WHAT IS KEPT IN MEMORY ALONE
 
@@ -231,7 +227,7 @@ open_rows {limbo} tells at before m (inl has) = has.known.rows
 open_rows {limbo} tells at before m (inr d) = d.doubts.known.rows
 
 -- so they do from what was before a doubt
-pub grew : (tells : Bool) (p : Parts) (m : Machine) (s : Stands tells p m) (new : Seen) → granularities new.manifests ≡ granularities p.at.manifests → Keeps tells (beside p.at p.limbo) (beside new p.limbo) → (after : Stores) → after.stands ≡ s.store.before.stands → StoresGrow m.moves s.store.before after → GrewFrom tells p.at new p.limbo p.slots m.told m.rows m.limbo m.moves after
+pub grew : (tells : Bool) (p : Parts) (m : Machine) (s : Stands tells p m) (new : Seen) → granularities new.manifests ≡ granularities p.at.manifests → Frame tells (beside p.at p.limbo) (beside new p.limbo) → (after : Stores) → after.stands ≡ s.store.before.stands → StoresGrow m.moves s.store.before after → GrewFrom tells p.at new p.limbo p.slots m.told m.rows m.limbo m.moves after
 grew tells p m s new same_g keeps after stand grow =
     let stands_now = told_stands tells m.told s.store.before.stands s.store.told in
     record {
@@ -257,18 +253,14 @@ grew tells p m s new same_g keeps after stand grow =
     }
 
 -- where the stores stay, so do the moves
-pub moves_kept : (tells : Bool) (p : Parts) (m : Machine) (s : Stands tells p m) (new : Seen) → granularities new.manifests ≡ granularities p.at.manifests → Keeps tells (beside p.at p.limbo) (beside new p.limbo) → AreMovesOf tells (beside new p.limbo) m.told m.rows m.limbo s.store.before m.moves p.slots
+pub moves_kept : (tells : Bool) (p : Parts) (m : Machine) (s : Stands tells p m) (new : Seen) → granularities new.manifests ≡ granularities p.at.manifests → Frame tells (beside p.at p.limbo) (beside new p.limbo) → AreMovesOf tells (beside new p.limbo) m.told m.rows m.limbo s.store.before m.moves p.slots
 moves_kept tells p m s new same_g keeps = (grew tells p m s new same_g keeps s.store.before refl (same_grow m.moves s.store.before)).moves m.rows m.limbo (same_later (HasRunning m.moves) m.rows m.limbo)
-
--- and the settings
-pub settings_kept : (at new : Seen) (config : ConfigState) (rule : Rule) → granularities new.manifests ≡ granularities at.manifests → HasSettings at config rule → HasSettings new config rule
-settings_kept at new config rule same_g s = record { hold = s.hold; gather = s.gather; nested = λ place low. subst (AreNested place) (sym same_g) (s.nested place low) }
 
 -- the archive after the settling: other stores, memory and tails, and no doubt
 abbrev pub settled_parts : Parts → Seen → List RowMemory → List TailState → Parts
 settled_parts p at kept tails = record { at = at; limbo = p.limbo; pinned = p.pinned; tails = tails; kept = kept; doubt = None; doors = p.doors; config = p.config; slots = p.slots }
 
-module _ (tells : Bool) (p : Parts) (m : Machine) (s : Stands tells p m) (new : Seen) (kept : List RowMemory) (same_g : granularities new.manifests ≡ granularities p.at.manifests) (shown : Keeps tells (beside p.at p.limbo) (beside new p.limbo)) where
+module _ (tells : Bool) (p : Parts) (m : Machine) (s : Stands tells p m) (new : Seen) (kept : List RowMemory) (same_g : granularities new.manifests ≡ granularities p.at.manifests) (shown : Frame tells (beside p.at p.limbo) (beside new p.limbo)) where
   -- what is left to show of the machine that the archive comes to
   pub record Reaches (tails : List TailState) (mid : Machine) (held : Stores) : Type 0 where
     pub settles : Settles m mid
@@ -290,19 +282,9 @@ module _ (tells : Bool) (p : Parts) (m : Machine) (s : Stands tells p m) (new : 
   pub rests_at : (tails : List TailState) (mid : Machine) (held : Stores) → Reaches tails mid held → (r : Rests tells (settled_parts p new kept tails) (record mid { faults = new.faults })) × (r.stands.store.before ≡ held)
   rests_at tails mid held r = (
     record {
-      stands = record {
-        sound = settled_sound r.settles s.sound;
-        rule = record { granularity = ap (λ w. w.granularity) r.rule ∙ (s.rule.granularity ∙ sym same_g); headers = subst (λ (rule : Rule). TellsHeaders rule) (sym r.rule) s.rule.headers };
-        limbo = r.limbo;
-        settings = subst (λ (rule : Rule). HasSettings new p.config rule) (sym r.rule) (settings_kept p.at new p.config m.rule same_g s.settings);
-        pins = own_pins;
-        faults = refl;
-        doors = r.doors ∙ s.doors;
-        rows = subst (λ (rows : List Row). AreRowsOf rows kept tails mid.rows) (sym r.has.known.rows) (rows_of mid.told held kept tails mid.rows r.memory r.holds);
-        doubt = subst (λ (d : Option Change). IsDoubtOf None d) (sym none) tt;
-        ready = subst (λ (d : Option Change). IsReady kept mid.rows mid.moves d) (sym none) tt;
-        store = record { before = held; told = r.told; disk = r.disk; holds = r.holds; whole = r.whole; moves = r.moves; is_open = inl r.has };
-      };
+      stands = stands_after tells p m s (settled_parts p new kept tails) (record mid { faults = new.faults }) (record { config = refl; doors = refl; rule = r.rule; own_doors = r.doors; faults = refl; granularity = same_g }) (settled_sound r.settles s.sound) r.limbo own_pins
+          (subst (λ (rows : List Row). AreRowsOf rows kept tails mid.rows) (sym r.has.known.rows) (rows_of mid.told held kept tails mid.rows r.memory r.holds)) (subst (λ (d : Option Change). IsDoubtOf None d) (sym none) tt) (subst (λ (d : Option Change). IsReady kept mid.rows mid.moves d) (sym none) tt)
+          (record { before = held; told = r.told; disk = r.disk; holds = r.holds; whole = r.whole; moves = r.moves; is_open = inl r.has });
       settled = none;
     },
     refl,
@@ -396,7 +378,7 @@ module _ (tells : Bool) (p : Parts) (m : Machine) (s : Stands tells p m) (new : 
       set_row = changed m.told m.limbo (SetsState k to) (0 + k) ready.0
 
       set_here : slice_get (made [] (SetsState k to) m).rows k ≡ Some set_row
-      set_here = get_front (each (changed m.told m.limbo (SetsState k to)) 0 m.rows) [] k set_row (each_to (changed m.told m.limbo (SetsState k to)) 0 m.rows k ready.0 ready.1)
+      set_here = get_front (each (changed m.told m.limbo (SetsState k to)) 0 m.rows) [] k set_row (each_forward (changed m.told m.limbo (SetsState k to)) 0 m.rows k ready.0 ready.1)
 
       set_state : set_row.state ≡ to
       set_state = let test : (0 + k == k) ≡ true = grind (arith, nat_tests) in rw test refl
@@ -574,30 +556,11 @@ module _ (tells : Bool) (p : Parts) (m : Machine) (s : Stands tells p m) (new : 
     -- the stores have what was before the doubted change
     as_before : (d : Option Change) → m.doubt ≡ d → Has tells new s.store.before → Ends
     as_before (Some (Appends batch)) is has = flush_ends batch is s.store.before still_grown has s.store.told (inl s.store.holds)
-    as_before None is has = plain_before (other_change None is (λ batch wrong. cc (wrong))) has
-    as_before (Some (AddsRow name about)) is has = plain_before (other_change (Some (AddsRow name about)) is (λ batch wrong. cc (wrong))) has
-    as_before (Some (SetsState k to)) is has = plain_before (other_change (Some (SetsState k to)) is (λ batch wrong. cc (wrong))) has
-    as_before (Some (Publishes i store copied)) is has = plain_before (other_change (Some (Publishes i store copied)) is (λ batch wrong. cc (wrong))) has
-    as_before (Some (Unlists i store to)) is has = plain_before (other_change (Some (Unlists i store to)) is (λ batch wrong. cc (wrong))) has
+    as_before d is has = plain_before (other_change d is (λ batch wrong. cc (wrong))) has
 
     -- they have what is after it
     as_after : (c : Change) → m.doubt ≡ Some c → (after : Stores) → after.stands ≡ s.store.before.stands → StoresGo tells (beside p.at p.limbo) m.told m.rows m.moves s.store.before after c → m.told ≡ (tells && after.stands) → HoldsDurable after (made [] c m) → IsReady p.kept m.rows m.moves (Some c) → Has tells new after → Ends
     as_after (Appends batch) is after stand go told holds ready has = flush_ends batch is after (grown after stand go) has told (inr holds)
-    as_after (AddsRow name about) is after stand go told holds ready has = (
-      with_change (AddsRow name about),
-      as_made (AddsRow name about) [] is refl,
-      made_stands tails (AddsRow name about) is after (grown after stand go) told holds memory (same_tails (other_change (Some (AddsRow name about)) is (λ batch wrong. cc (wrong)))) has,
-    )
-    as_after (SetsState k to) is after stand go told holds ready has = (
-      with_change (SetsState k to),
-      as_made (SetsState k to) [] is refl,
-      made_stands tails (SetsState k to) is after (grown after stand go) told holds memory (same_tails (other_change (Some (SetsState k to)) is (λ batch wrong. cc (wrong)))) has,
-    )
-    as_after (Publishes i store copied) is after stand go told holds ready has = (
-      with_change (Publishes i store copied),
-      as_made (Publishes i store copied) [] is refl,
-      made_stands tails (Publishes i store copied) is after (grown after stand go) told holds memory (same_tails (other_change (Some (Publishes i store copied)) is (λ batch wrong. cc (wrong)))) has,
-    )
     as_after (Unlists i store to) is after stand go told holds ready has =
         let change = Unlists i store to in
         let left = unlisted_settles i store to is after stand go holds has in
@@ -607,6 +570,7 @@ module _ (tells : Bool) (p : Parts) (m : Machine) (s : Stands tells p m) (new : 
           as_made change left.into is left.retires,
           rests tails (with_files left.into change) after (subst (λ (ts : List TailState). Reaches ts (with_files left.into change) after) (sym same) (made_unlisted i store to is after stand go told holds ready rows has)),
         )
+    as_after c is after stand go told holds ready has = (with_change c, as_made c [] is refl, made_stands tails c is after (grown after stand go) told holds memory (same_tails (other_change (Some c) is (λ batch wrong. cc (wrong)))) has)
 
     -- once the stores have settled their doubt, so has the archive
     pub settled_ends : ((before after : Stores) → IsOpen tells p.at before after → HasEither tells new before after) → Ends
@@ -628,26 +592,19 @@ module _ (tells : Bool) (p : Parts) (m : Machine) (s : Stands tells p m) (new : 
 pub doubt_beside : (tells : Bool) (p : Parts) (m : Machine) (s : Stands tells p m) (new : Seen) (kept : List RowMemory) (d : Option Doubt) (c : Option Change) → granularities new.manifests ≡ granularities p.at.manifests → KeepsLimbo tells (beside p.at p.limbo) (beside new p.limbo)
     → AreMovesOf tells (beside new p.limbo) m.told m.rows m.limbo s.store.before m.moves p.slots → IsSound (record m { doubt = c }) → AreRowsOf p.at.catalogue.rows kept p.tails m.rows → IsDoubtOf d c → IsReady kept m.rows m.moves c
     → Has tells new s.store.before ⊎ InDoubt tells new p.limbo s.store.before (record m { doubt = c; faults = new.faults }) → Stands tells (record p { at = new; kept = kept; doubt = d }) (record m { doubt = c; faults = new.faults })
-doubt_beside tells p m s new kept d c same_g shown moves sound rows doubt ready is_open = record {
-  sound = sound;
-  rule = record { granularity = s.rule.granularity ∙ sym same_g; headers = s.rule.headers };
-  limbo = limbo_beside tells p.at new p.limbo s.store.before m.told m.rows m.limbo (open_known tells p.at s.store.before m s.store.is_open) (open_known tells new s.store.before (record m { doubt = c; faults = new.faults }) is_open) same_g shown.shown s.limbo;
-  settings = settings_kept p.at new p.config m.rule same_g s.settings;
-  pins = pins_stay tells (beside p.at p.limbo) (beside new p.limbo) m.told m.rows m.rows m.pins p.pinned shown.shown (names_stay m.rows) s.pins;
-  faults = refl;
-  doors = s.doors;
-  rows = subst (λ (rows : List Row). AreRowsOf rows kept p.tails m.rows) (open_rows tells p.at s.store.before m s.store.is_open ∙ sym (open_rows tells new s.store.before (record m { doubt = c; faults = new.faults }) is_open)) rows;
-  doubt = doubt;
-  ready = ready;
-  store = record { before = s.store.before; told = s.store.told; disk = s.store.disk; holds = s.store.holds; whole = λ i low. (let was = s.store.whole i low in shown.whole i s.store.before.stands was.0 low was.1); moves = moves; is_open = is_open };
-}
+doubt_beside tells p m s new kept d c same_g shown moves sound rows doubt ready is_open =
+    stands_after tells p m s (record p { at = new; kept = kept; doubt = d }) (record m { doubt = c; faults = new.faults }) (record { config = refl; doors = refl; rule = refl; own_doors = refl; faults = refl; granularity = same_g }) sound
+    (limbo_beside tells p.at new p.limbo s.store.before m.told m.rows m.limbo (open_known tells p.at s.store.before m s.store.is_open) (open_known tells new s.store.before (record m { doubt = c; faults = new.faults }) is_open) same_g shown.shown s.limbo)
+    (pins_stay tells (beside p.at p.limbo) (beside new p.limbo) m.told m.rows m.rows m.pins p.pinned shown.shown (names_stay m.rows) s.pins)
+    (subst (λ (rows : List Row). AreRowsOf rows kept p.tails m.rows) (open_rows tells p.at s.store.before m s.store.is_open ∙ sym (open_rows tells new s.store.before (record m { doubt = c; faults = new.faults }) is_open)) rows)
+    doubt ready (record { before = s.store.before; told = s.store.told; disk = s.store.disk; holds = s.store.holds; whole = λ i low. (let was = s.store.whole i low in shown.whole i s.store.before.stands was.0 low was.1); moves = moves; is_open = is_open })
 
-pub doubt_stands : (tells : Bool) (p : Parts) (m : Machine) (s : Stands tells p m) (new : Seen) (kept : List RowMemory) (d : Option Doubt) (c : Option Change) → granularities new.manifests ≡ granularities p.at.manifests → Keeps tells (beside p.at p.limbo) (beside new p.limbo) → IsSound (record m { doubt = c }) → AreRowsOf p.at.catalogue.rows kept p.tails m.rows → IsDoubtOf d c → IsReady kept m.rows m.moves c
+pub doubt_stands : (tells : Bool) (p : Parts) (m : Machine) (s : Stands tells p m) (new : Seen) (kept : List RowMemory) (d : Option Doubt) (c : Option Change) → granularities new.manifests ≡ granularities p.at.manifests → Frame tells (beside p.at p.limbo) (beside new p.limbo) → IsSound (record m { doubt = c }) → AreRowsOf p.at.catalogue.rows kept p.tails m.rows → IsDoubtOf d c → IsReady kept m.rows m.moves c
     → Has tells new s.store.before ⊎ InDoubt tells new p.limbo s.store.before (record m { doubt = c; faults = new.faults }) → Stands tells (record p { at = new; kept = kept; doubt = d }) (record m { doubt = c; faults = new.faults })
-doubt_stands tells p m s new kept d c same_g keeps sound rows doubt ready is_open = doubt_beside tells p m s new kept d c same_g (limbo_of_keeps tells (beside p.at p.limbo) (beside new p.limbo) keeps) (moves_kept tells p m s new same_g keeps) sound rows doubt ready is_open
+doubt_stands tells p m s new kept d c same_g keeps sound rows doubt ready is_open = doubt_beside tells p m s new kept d c same_g (limbo_of_frame tells (beside p.at p.limbo) (beside new p.limbo) keeps) (moves_kept tells p m s new same_g keeps) sound rows doubt ready is_open
 
 -- the doubt stands as it stood, since the stores couldn't settle it
-pub still_doubted : (tells : Bool) (p : Parts) (m : Machine) (new : Seen) → Stands tells p m → (IsSettled p.at → ⊥) → ((before after : Stores) → IsOpen tells p.at before after → IsOpen tells new before after) → granularities new.manifests ≡ granularities p.at.manifests → Keeps tells (beside p.at p.limbo) (beside new p.limbo) → Stands tells (record p { at = new }) (record m { faults = new.faults })
+pub still_doubted : (tells : Bool) (p : Parts) (m : Machine) (new : Seen) → Stands tells p m → (IsSettled p.at → ⊥) → ((before after : Stores) → IsOpen tells p.at before after → IsOpen tells new before after) → granularities new.manifests ≡ granularities p.at.manifests → Frame tells (beside p.at p.limbo) (beside new p.limbo) → Stands tells (record p { at = new }) (record m { faults = new.faults })
 still_doubted tells p m new s doubted still same_g shown = doubt_stands tells p m s new p.kept p.doubt m.doubt same_g shown s.sound s.rows s.doubt s.ready (by_open s.store.is_open)
   where
     by_open : Has tells p.at s.store.before ⊎ InDoubt tells p.at p.limbo s.store.before m → Has tells new s.store.before ⊎ InDoubt tells new p.limbo s.store.before (record m { faults = new.faults })

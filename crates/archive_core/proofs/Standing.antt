@@ -20,12 +20,11 @@ use Rattle.archive_core.specs.Memory.{IsRowOf}
 use Rattle.archive_core.specs.Parts.{Parts}
 use Rattle.archive_core.specs.Pins.{ArePinsOf}
 use Rattle.archive_core.specs.Stands.{Stands, IsPartOf, IsReady, InDoubt, IsBetween, AreDurable}
-use Rattle.archive_core.proofs.Lists.{get_set_other, set_same}
-use Rattle.archive_core.proofs.KeptRows.{each_to, rows_at, rows_spared}
-use Rattle.archive_core.proofs.Durable.{kept_each, kept_changed}
-use Rattle.archive_core.proofs.LimboKept.{limbo_rows, bare_each, tier_kept}
+use Rattle.archive_core.proofs.Lists.{set_same}
+use Rattle.archive_core.proofs.KeptRows.{rows_at, rows_spared}
+use Rattle.archive_core.proofs.Making.{kept_each, kept_changed, count_of}
+use Rattle.archive_core.proofs.LimboTying.{limbo_rows, bare_each, tier_kept}
 use Rattle.archive_core.proofs.Batches.{told_stands}
-use Rattle.archive_core.proofs.Making.{count_of}
 use Rattle.archive_core.proofs.MovesKept.{SameLater, moves_left}
 use Rattle.etl_mover.specs.Move.{MoveState as Moving}
 use Rattle.running_moves.specs.declared.table.Running.{Running}
@@ -36,6 +35,8 @@ use Rattle.tier_store.specs.Pinned.{beside}
 use Rattle.tier_store.specs.Change.{Has}
 use Rattle.tier_store.specs.Seen.{Seen}
 use Rattle.tier_store.specs.declared.limbo.Retired.{Retired}
+use Rattle.durable_write.proofs.Three.{get_set_other}
+use Rattle.act_model.proofs.Onward.{each_forward}
 
 -- the stores are as much those of the machine
 between_rows : (tells : Bool) (at : Seen) (limbo : List Retired) (slots : List (Option (Running Moving))) (m : Machine) (g : ℕ → RowState → RowState) → KeepsNames m.rows (each g 0 m.rows) → ((i : ℕ) (r : RowState) → kept_of (g i r) ≡ kept_of r) → IsBetween tells at limbo slots m → IsBetween tells at limbo slots (with_rows m g)
@@ -74,7 +75,7 @@ still_ready kept rows i f memory low stays moves (Some (AddsRow name about)) rea
     ap (slice_get (slice_set kept i memory)) (length-each (at i f) 0 rows) ∙ (get_set_other kept i (length rows) memory (λ same. omega (arith, low, same)) ∙ ready)
 still_ready kept rows i f memory low stays moves (Some (SetsState k state)) ready =
     let same : (at i f (0 + k) ready.0).state ≡ ready.0.state = ap (λ (d : DurableRow). d.state) (at_stays i f stays (0 + k) ready.0) in
-    (at i f (0 + k) ready.0, each_to (at i f) 0 rows k ready.0 ready.1, λ is. ready.2 (sym same ∙ is))
+    (at i f (0 + k) ready.0, each_forward (at i f) 0 rows k ready.0 ready.1, λ is. ready.2 (sym same ∙ is))
 still_ready kept rows i f memory low stays moves (Some (Appends batch)) ready = subst (λ (n : ℕ). AllByRecursion (IsPartOf n) batch) (sym (length-each (at i f) 0 rows)) ready
 still_ready kept rows i f memory low stays moves (Some (Publishes k store copied)) ready = ready
 still_ready kept rows i f memory low stays moves (Some (Unlists k store to)) ready = ready

@@ -1,6 +1,6 @@
 -- What acts leave of strays: whatever is one afterwards was one before.
 use Rattle.std.proofs.Common.{◌≡◌, ◌≢◌, ◌⊎◌, inl, inr, Bool, true, false, ℕ, List, [], Option, None, Some, Ok, Err, Result, refl, sym, ◌∙◌, ap, subst, arith}
-use Rattle.std.specs.Prelude.{◌==◌, Contains, IfOk, if◌then◌else◌}
+use Rattle.std.specs.Prelude.{◌==◌, Contains, IfOk, if◌then◌else◌, OnOk}
 use Rattle.std.proofs.lemmas.Bool.Decides.{nat_tests}
 use Rattle.std.proofs.lemmas.Option.{same_Some}
 use Rattle.disk_model.specs.Files.{Name, Files}
@@ -16,12 +16,14 @@ use Rattle.tier_store.specs.Seen.{IsSettled}
 use Rattle.tier_store.specs.Strays.{IsKnownName, IsStray, LeavesNoStray, MakesNoStray, targets}
 use Rattle.tier_store.specs.declared.removing.Swept.{Swept}
 use Rattle.tier_store.proofs.Strays.{fronts_strays, no_strays}
-use Rattle.act_model.specs.Reply.{Reply}
+use Rattle.act_model.specs.Reply.{reply_of}
 use Rattle.archive_core.specs.Ends.{disk_reply}
 use Rattle.archive_core.specs.Leaving.{ReadsAlone, files_of}
 use Rattle.archive_core.specs.Parts.{Parts}
-use Rattle.archive_core.specs.Strays.{ActsTidily, IsStrayIn, IsTarget, IsWell, Tidies}
+use Rattle.archive_core.specs.Strays.{IsStrayIn, IsTarget, IsWell, Tidies}
 use Rattle.archive_core.specs.Sweeping.{removal_reply, sweep_reply}
+use Rattle.act_model.specs.declared.acts.Answer.{Answer}
+use Rattle.tier_store.specs.Opening.{answer_of}
 
 -- WITH THE FILES OF MOVES
 
@@ -78,14 +80,15 @@ tidy_then tells p q r same slots tidy = record {
   };
 }
 
--- what an act is answered
-pub tidy_as : (tells : Bool) (p : Parts) (answer given : Reply) (q : Parts) → answer ≡ given → ActsTidily tells p given q → ActsTidily tells p answer q
-tidy_as tells p answer given q answered tidy = subst (λ (r : Reply). ActsTidily tells p r q) (sym answered) tidy
-
 -- after a fault and for want of memory nothing is said
 pub disk_not_well : (e : DiskErr) → IsWell (disk_reply e) → ⊥
 disk_not_well Fault well = well
 disk_not_well Memory well = well
+
+pub ok_tidy : (R : Type 0) (tells reader_tells : Bool) (bytes : R → List ℕ) (faults : R → ℕ) (p q : Parts) (r : Result (Answer R) DiskErr) → OnOk r (Tidies tells p q) → IsWell (reply_of reader_tells bytes faults (answer_of r)) → Tidies tells p q
+ok_tidy R tells reader_tells bytes faults p q (Ok given) tidy well = tidy
+ok_tidy R tells reader_tells bytes faults p q (Err Fault) tidy well = absurd well
+ok_tidy R tells reader_tells bytes faults p q (Err Memory) tidy well = absurd well
 
 -- THE TABLE OF MOVES
 

@@ -12,14 +12,14 @@ use Rattle.partition_names.specs.declared.granularity.Granularity.{Granularity}
 use Rattle.pinned_pieces.specs.Pieces.{PinOf}
 use Rattle.pv_catalog.specs.Catalogue.{CatalogueState}
 use Rattle.pv_catalog.specs.Rows.{KeepsRows}
-use Rattle.durable_write.specs.Ends.{end_of_disk, IsFailed}
+use Rattle.durable_write.specs.Ends.{end_of_disk}
 use Rattle.durable_write.proofs.Rises.{rose_after}
-use Rattle.tier_store.specs.Change.{Acts as StoreActs, EndsFrom, Has, HoldsChange, IsEither, OnlySettles}
-use Rattle.tier_store.specs.Limbo.{IsListedName, IsNeeded, IsSwept as IsSweptOf, LeavesKeptFiles, LimboStands, staying}
+use Rattle.tier_store.specs.Change.{EndsFrom, Has, Changes, HoldsBy}
+use Rattle.tier_store.specs.Limbo.{IsListedName, IsNeeded, IsSwept as IsSweptOf, LimboStands, staying, LeavesKept, IsKeptName, IsPinnedFile}
 use Rattle.tier_store.specs.Moving.{LeavesLater, LeavesNames}
-use Rattle.tier_store.specs.Pinned.{SeenAll, beside, KeepsShown}
+use Rattle.tier_store.specs.Pinned.{SeenAll, beside, KeepsShown, LeavesFronts}
 use Rattle.tier_store.specs.Revival.{KeepsWhole}
-use Rattle.tier_store.specs.Seen.{IsSettled, granularities}
+use Rattle.tier_store.specs.Seen.{granularities}
 use Rattle.tier_store.specs.Stored.{HoldsAll}
 use Rattle.tier_store.specs.Stores.{Stores}
 use Rattle.tier_store.specs.declared.limbo.Retired.{Retired}
@@ -29,48 +29,54 @@ use Rattle.act_model.specs.Crash.{settled_there}
 use Rattle.act_model.specs.Limbo.{FileState}
 use Rattle.act_model.specs.Machine.{Machine}
 use Rattle.act_model.specs.OpenPiece.{name_of}
-use Rattle.act_model.specs.Outcome.{runs, faults_first, faults_between, faults_removing, wants_memory, wants_memory_settled}
+use Rattle.act_model.specs.Outcome.{runs, faults_between, faults_removing, wants_memory_settled}
 use Rattle.act_model.specs.Reply.{Reply}
 use Rattle.act_model.specs.Rows.{RowState}
 use Rattle.act_model.specs.Sweep.{IsPinned, IsCopiedInto, IsSwept, Sweeps, SweepStep}
 use Rattle.act_model.specs.declared.acts.Answer.TheVariants as answer
 use Rattle.act_model.proofs.MoveActs.{sweep_sound}
-use Rattle.archive_core.specs.Ends.{Steps, SettlesTo, StandsStill, HoldsMachine, LeavesByAct, LeavesWithin, disk_reply}
+use Rattle.archive_core.specs.Ends.{Steps, SettlesTo, HoldsMachine, LeavesByAct, LeavesWithin}
 use Rattle.archive_core.specs.LimboTies.{AreRetired, AreUnlisted, IsLimboOf, NamesDiffer}
 use Rattle.archive_core.specs.Memory.{AreRowsOf}
 use Rattle.archive_core.specs.MoveTies.{AreMovesOf}
 use Rattle.archive_core.specs.Parts.{Parts}
 use Rattle.archive_core.specs.Pins.{ArePinsOf}
-use Rattle.archive_core.specs.Stands.{Stands, Rests}
+use Rattle.archive_core.specs.Stands.{Stands, Rests, IsDoubtOf, IsReady}
 use Rattle.archive_core.specs.Sweeping.{removal_reply, sweep_reply}
 use Rattle.archive_core.specs.Written.{AreWritten}
 use Rattle.archive_core.proofs.Crashes.{HoldsDoubted}
-use Rattle.archive_core.proofs.Acting.{crash_settling}
-use Rattle.archive_core.proofs.Changing.{rests_again, stands_so}
+use Rattle.archive_core.proofs.Acting.{crash_settling, IsAct, Went, acted}
 use Rattle.archive_core.proofs.Growth.{rows_go_on, same_grow, stays_listed}
 use Rattle.archive_core.proofs.LimboSwept.{just, left_is, stay_differ, stays, swept_count, swept_ties}
 use Rattle.archive_core.proofs.LimboTying.{KeepsFiles, ListsSame}
 use Rattle.archive_core.proofs.Batches.{told_stands}
-use Rattle.archive_core.proofs.MovesKept.{goes_still, moves_stay}
+use Rattle.archive_core.proofs.MovesKept.{goes_still, moves_stay, moves_left, same_later}
 use Rattle.archive_core.proofs.SweptMoves.{copied_named, names_left, swept_put}
 use Rattle.archive_core.proofs.Opens.{undoubted}
 use Rattle.archive_core.proofs.PinTies.{names_stay}
 use Rattle.archive_core.proofs.PinsSwept.{pinned_stay}
-use Rattle.archive_core.proofs.Settled.{rests_has, settings_kept}
+use Rattle.archive_core.proofs.Settled.{rests_has, doubt_beside}
+use Rattle.archive_core.proofs.After.{KeepsLimbo, stands_after, with_same}
+use Rattle.archive_core.proofs.Making.{count_of}
+use Rattle.archive_core.specs.Growing.{HasRunning}
+use Rattle.archive_core.specs.Acting.{Acted, Settling}
+use Rattle.archive_core.specs.Strays.{ActsTidily}
+use Rattle.act_model.specs.declared.acts.Act.TheVariants.{Sweep}
+use Rattle.tier_store.proofs.LeavingFronts.{fronts_shown}
+use Rattle.archive_core.specs.Leaving.{KeepsListed, files_of}
 
 -- WHAT THE STORES' SWEEP COMES TO
 
 -- What the stores say of a sweep, with these files copied into. Where it fails, limbo and all that was shown are as before.
 pub record StoresSwept (tells : Bool) (copied : List Name) (q new : Parts) (result : Result Swept DiskErr) : Type 0 where
-  pub acts : StoreActs tells staying q.at new.at (end_of_disk result)
+  pub changes : Changes tells staying q.at new.at (end_of_disk result)
   pub swept : IfOk result (λ (s : Swept). IsSweptOf new.at q.pinned copied q.limbo new.limbo s.files)
   pub failed : OnErr result ((new.limbo ≡ q.limbo) × KeepsShown tells (beside q.at q.limbo) (beside new.at q.limbo) × LeavesLater tells (beside q.at q.limbo) (beside new.at q.limbo))
-  pub leaves : LeavesKeptFiles tells q.pinned copied (beside q.at q.limbo) (beside new.at new.limbo)
+  pub leaves : LeavesKept tells q.pinned copied (beside q.at q.limbo) (beside new.at new.limbo)
   pub left : LeavesNames copied tells (beside q.at q.limbo) (beside new.at new.limbo)
   pub whole : KeepsWhole tells (beside q.at q.limbo) (beside new.at new.limbo)
   pub stands : LimboStands new.at new.limbo
-  pub pins : new.pinned ≡ q.pinned
-  pub nothing : IsSettled q.at → (new.at.catalogue ≡ q.at.catalogue) × (new.at.manifests ≡ q.at.manifests)
+  pub same : (new.at.catalogue ≡ q.at.catalogue) × (new.at.manifests ≡ q.at.manifests) × (new.pinned ≡ q.pinned)
   pub cause : IfOk result (λ (s : Swept). IsErr s.removed → Rose q.at.faults new.at.faults)
 
 -- these are just the files that running moves have copied into
@@ -84,38 +90,33 @@ module _ (tells : Bool) (copied : List Name) (q new : Parts) (result : Result Sw
   has : Has tells q.at held
   has = rests_has tells q m r
 
-  same_memory : (new.at.catalogue ≡ q.at.catalogue) × (new.at.manifests ≡ q.at.manifests)
-  same_memory = s.nothing has.settled
-
   -- the stores have what they had
   has_by : (given : Result Swept DiskErr) → EndsFrom {A = Swept} tells staying new.at held (end_of_disk given) → Has tells new.at held
   has_by (Ok said) (made, is, says, now) = subst (λ (x : Stores). Has tells new.at x) is now
   has_by (Err Fault) (inl now) = now
-  has_by (Err Fault) (inr (made, is, doubts)) = absurd (undoubted tells q.at new.at held made has.settled same_memory.0 same_memory.1 doubts)
+  has_by (Err Fault) (inr (made, is, doubts)) = absurd (undoubted tells q.at new.at held made has.settled s.same.0 s.same.1 doubts)
   has_by (Err Memory) now = now
 
   has_still : Has tells new.at held
-  has_still = has_by result (s.acts.settled held has)
+  has_still = has_by result (s.changes.ends held has)
+
+  stands_now : m.told ≡ true → IsTrue held.stands
+  stands_now = told_stands tells m.told held.stands r.stands.store.told
 
   -- where limbo and all that was shown stay, the archive stands for the same machine
   stands_still : (new.limbo ≡ q.limbo) × KeepsShown tells (beside q.at q.limbo) (beside new.at q.limbo) × LeavesLater tells (beside q.at q.limbo) (beside new.at q.limbo) → Stands tells new (record m { faults = new.at.faults })
   stands_still stay =
-      let again = rests_again tells q m r new.at s.acts.costs.granularity (record { shown = stay.1; whole = subst (λ (l : List Retired). KeepsWhole tells (beside q.at q.limbo) (beside new.at l)) stay.0 s.whole; leaves = stay.2 }) has_still in
-      subst (λ (p : Parts). Stands tells p (record m { faults = new.at.faults })) (sym same) (stands_so tells (record q { at = new.at }) (record m { faults = new.at.faults }) new.limbo new.pinned stay.0 s.pins again)
+      let limbo : KeepsLimbo tells (beside q.at q.limbo) (beside new.at q.limbo) = record { shown = stay.1; whole = subst (λ (l : List Retired). KeepsWhole tells (beside q.at q.limbo) (beside new.at l)) stay.0 s.whole } in
+      let moves = moves_left tells (beside q.at q.limbo) (beside new.at q.limbo) m.told m.rows m.rows m.limbo m.limbo held s.changes.costs.granularity stands_now m.moves q.slots (same_later (HasRunning m.moves) m.rows m.limbo) (count_of held m r.stands.store.holds) stay.2 r.stands.store.moves in
+      let again = doubt_beside tells q m r.stands new.at q.kept q.doubt m.doubt s.changes.costs.granularity limbo moves r.stands.sound r.stands.rows r.stands.doubt r.stands.ready (inl has_still) in
+      subst (λ (p : Parts). Stands tells p (record m { faults = new.at.faults })) (sym same) (with_same (λ (p : Parts). Stands tells p (record m { faults = new.at.faults })) (record q { at = new.at }) new.limbo new.pinned stay.0 s.same.2 again)
 
   -- at each moment the disk has what is durable
   pub sweep_passes : IsTrue tells → Passes (λ a image. HoldsMachine (granularities q.at.manifests) image m) q.at.past new.at.past
-  sweep_passes told = passes_weaker (HoldsChange (granularities q.at.manifests) (staying {A = Swept}).by held held) (λ a image. HoldsMachine (granularities q.at.manifests) image m) q.at.past new.at.past (s.acts.any_moment told held held (inl has)) (λ a image left holds. elim holds [
-    | inl one ↦ record { stores = held; holds = elim one [ inl it ↦ it | inr it ↦ it ]; durable = r.stands.store.holds; stands = stands_now }
-    | inr made ↦ record { stores = held; holds = subst (λ (x : Stores). HoldsAll (granularities q.at.manifests) image x) (made.1.by ∙ own made.1.from made.1.either) made.2; durable = r.stands.store.holds; stands = stands_now }
+  sweep_passes told = passes_weaker (HoldsBy (granularities q.at.manifests) (staying {A = Swept}).by held) (λ a image. HoldsMachine (granularities q.at.manifests) image m) q.at.past new.at.past (s.changes.any_moment told held has) (λ a image left holds. elim holds [
+    | inl one ↦ record { stores = held; holds = one; durable = r.stands.store.holds; stands = stands_now }
+    | inr made ↦ record { stores = held; holds = subst (λ (x : Stores). HoldsAll (granularities q.at.manifests) image x) made.1 made.2; durable = r.stands.store.holds; stands = stands_now }
   ])
-    where
-      stands_now : m.told ≡ true → IsTrue held.stands
-      stands_now = told_stands tells m.told held.stands r.stands.store.told
-
-      own : (from : Stores) → IsEither held held from → from ≡ held
-      own from (inl is) = is
-      own from (inr is) = is
 
 module _ (tells : Bool) (copied : List Name) (q new : Parts) (said : Swept) (s : StoresSwept tells copied q new (Ok said)) (same : new ≡ record q { at = new.at; limbo = new.limbo; pinned = new.pinned }) (m : Machine) (r : Rests tells q m) (written : AreWritten q.at.catalogue.rows q.slots copied) where
   copied_is : AreCopied copied m
@@ -192,7 +193,7 @@ module _ (tells : Bool) (copied : List Name) (q new : Parts) (said : Swept) (s :
         shown = λ file bytes there. s.leaves.shown file.name bytes (inr (left_is tells old_all new_all m r.stands.sound on ties free r.stands.limbo.differ q.pinned r.stands.pins lists copied copied_is files swept file there).1);
         variables = variables;
         names = names_stay m.rows;
-        granularity = s.acts.costs.granularity;
+        granularity = s.changes.costs.granularity;
       }
 
       both : AreRetired tells new_all m.rows (filter (stays tells old_all new_all m r.stands.sound on ties free r.stands.limbo.differ q.pinned r.stands.pins lists copied copied_is files swept) m.limbo) × AreUnlisted new_all m.rows (filter (stays tells old_all new_all m r.stands.sound on ties free r.stands.limbo.differ q.pinned r.stands.pins lists copied copied_is files swept) m.limbo)
@@ -235,25 +236,18 @@ module _ (tells : Bool) (copied : List Name) (q new : Parts) (said : Swept) (s :
   moves_then : AreMovesOf tells new_all m.told m.rows (filter left.stays m.limbo) before m.moves q.slots
   moves_then =
       let stands_now = told_stands tells m.told before.stands r.stands.store.told in
-      moves_stay tells old_all new_all m.told m.rows m.rows m.limbo (filter left.stays m.limbo) before before s.acts.costs.granularity stands_now m.moves q.slots
-      (λ n move running here there is. goes_still tells old_all new_all m.told m.rows m.rows m.limbo (filter left.stays m.limbo) before s.acts.costs.granularity stands_now move running is.files
+      moves_stay tells old_all new_all m.told m.rows m.rows m.limbo (filter left.stays m.limbo) before before s.changes.costs.granularity stands_now m.moves q.slots
+      (λ n move running here there is. goes_still tells old_all new_all m.told m.rows m.rows m.limbo (filter left.stays m.limbo) before s.changes.costs.granularity stands_now move running is.files
       (λ on copying. swept_put m left.stays n move here left.just) (names_left tells q m r copied written new_all s.left n move running there is))
       r.stands.store.moves
 
   pub swept_stands : Stands tells new swept_machine
-  swept_stands = subst (λ (p : Parts). Stands tells p swept_machine) (sym same) (record {
-    sound = sweep_sound m swept_machine (answer.Swept files) r.stands.sound (runs (answer.Swept files) refl (no_doubt r.settled) refl sweeps (let same_faults : m.faults ≡ q.at.faults = r.stands.faults in let more = s.acts.costs.faults in omega (arith, same_faults, more)));
-    rule = record { granularity = r.stands.rule.granularity ∙ sym s.acts.costs.granularity; headers = r.stands.rule.headers };
-    limbo = left.tie;
-    settings = settings_kept q.at new.at q.config m.rule s.acts.costs.granularity r.stands.settings;
-    pins = subst (λ (pinned : FinMap nat_cmp PinOf). ArePinsOf tells new_all m.told m.rows m.pins pinned) (sym s.pins) pins_kept;
-    faults = refl;
-    doors = r.stands.doors;
-    rows = subst (λ (c : CatalogueState). AreRowsOf c.rows q.kept q.tails m.rows) (sym (s.nothing was.settled).0) r.stands.rows;
-    doubt = r.stands.doubt;
-    ready = r.stands.ready;
-    store = record { before = before; told = r.stands.store.told; disk = r.stands.store.disk; holds = r.stands.store.holds; whole = λ i low. (let limbo_was = r.stands.store.whole i low in s.whole i before.stands limbo_was.0 low limbo_was.1); moves = moves_then; is_open = inl now };
-  })
+  swept_stands = stands_after tells q m r.stands new swept_machine (record { config = ap (λ (p : Parts). p.config) same; doors = ap (λ (p : Parts). p.doors) same; rule = refl; own_doors = refl; faults = refl; granularity = s.changes.costs.granularity })
+      (sweep_sound m swept_machine (answer.Swept files) r.stands.sound (runs (answer.Swept files) refl (no_doubt r.settled) refl sweeps (let same_faults : m.faults ≡ q.at.faults = r.stands.faults in let more = s.changes.costs.faults in omega (arith, same_faults, more))))
+      left.tie (subst (λ (pinned : FinMap nat_cmp PinOf). ArePinsOf tells new_all m.told m.rows m.pins pinned) (sym s.same.2) pins_kept)
+      (subst (λ (p : Parts). AreRowsOf new.at.catalogue.rows p.kept p.tails m.rows) (sym same) (subst (λ (c : CatalogueState). AreRowsOf c.rows q.kept q.tails m.rows) (sym s.same.0) r.stands.rows))
+      (subst (λ (p : Parts). IsDoubtOf p.doubt m.doubt) (sym same) r.stands.doubt) (subst (λ (p : Parts). IsReady p.kept m.rows m.moves m.doubt) (sym same) r.stands.ready)
+      (record { before = before; told = r.stands.store.told; disk = r.stands.store.disk; holds = r.stands.store.holds; whole = λ i low. (let limbo_was = r.stands.store.whole i low in s.whole i before.stands limbo_was.0 low limbo_was.1); moves = subst (λ (p : Parts). AreMovesOf tells new_all m.told m.rows (filter left.stays m.limbo) before m.moves p.slots) (sym same) moves_then; is_open = inl now })
 
 -- THE ACT
 
@@ -270,67 +264,86 @@ swept_goes m k stays (f ∷ limbo) each = ((λ test. forth (each.0.0 test), λ n
     back (inl is) = inl (record { number = is.number; pin = is.pin; here = is.here; names = is.names })
     back (inr is) = inr (record { number = is.number; move = is.move; here = is.here; place = is.place; some = is.some })
 
-module _ (tells : Bool) (p : Parts) where
-  abbrev pub SweepEnds : Reply → Parts → Type 0
-  SweepEnds given q = Steps tells SweepStep p given q
+-- it isn't told as want of memory
+sweeps_tell : (m : Machine) (given : Reply) (new : Machine) → Sweeps m given new → given ≡ answer.Memory → ⊥
+sweeps_tell m given new is told = let both = sym is.answered ∙ told in cc (both)
 
-  -- the doubt couldn't be settled
-  pub sweep_cut : (q : Parts) (r : Result (Unit {0}) DiskErr) (e : DiskErr) → r ≡ Err e → StandsStill tells p q → OnlySettles tells p.at q.at (end_of_disk r) → SweepEnds (disk_reply e) q
-  sweep_cut q r Fault is still reads = λ m s.
-      let rises : Rose m.faults q.at.faults = rw s.faults (reads.cause (subst (λ (x : Result (Unit {0}) DiskErr). IsFailed (end_of_disk x)) (sym is) tt)) in
-      (record m { faults = q.at.faults }, faults_first refl refl rises, still m s)
-  sweep_cut q r Memory is still reads = λ m s.
-      let was : m.faults ≡ p.at.faults = s.faults in
-      let more = reads.faults in
-      (record m { faults = q.at.faults }, wants_memory refl (omega (arith, was, more)), still m s)
+pub sweeps_act : (who : ℕ) → IsAct who Sweep Sweeps
+sweeps_act who = record {
+  refuses = λ m f. refl;
+  changes = λ m f. refl;
+  goes = λ m f given new is. record { stays = is.stays; just = swept_goes m f is.stays m.limbo is.just; files = is.files; number = is.number; answered = is.answered; same = is.same };
+  never = λ m none. cc (none);
+  tells_more = sweeps_tell;
+  steps = λ m given new acts. acts;
+  wants = λ m n none. tt;
+}
 
-  -- there was no memory for the names
-  pub sweep_unnamed : (q : Parts) → SettlesTo tells p q → p.at.faults ≤ q.at.faults → SweepEnds answer.Memory q
-  sweep_unnamed q settles more = λ m s.
+-- whatever was shown is shown still where all is listed still or in limbo
+fronts_kept : (tells : Bool) (p q : Parts) → LeavesFronts tells (files_of p) (files_of q) → KeepsListed tells p q
+fronts_kept tells p q fronts name bytes kept was = fronts_shown tells (files_of p) (files_of q) fronts name bytes was
+
+-- as the machine's act goes
+pub swept_so : (tells : Bool) (who : ℕ) (p q : Parts) (r : Result Swept DiskErr) → Went tells who Sweep p (sweep_reply r) q → Acted tells who Sweep p (sweep_reply r) q
+swept_so tells who p q r went = acted tells who Sweep p (sweep_reply r) q went (fronts_kept tells p q went.fronts) tt tt
+
+module _ (tells : Bool) (p q : Parts) (settles : SettlesTo tells p q) (more : p.at.faults ≤ q.at.faults) (new : Parts) (copied : List Name) (same : new ≡ record q { at = new.at; limbo = new.limbo; pinned = new.pinned }) (written : AreWritten q.at.catalogue.rows q.slots copied) where
+  sweep_ends : (result : Result Swept DiskErr) → StoresSwept tells copied q new result → Steps tells SweepStep p (sweep_reply result) new
+  sweep_ends (Ok said) swept = λ m s.
       let mid = settles m s in
+      let n : Machine = record mid.0 { faults = q.at.faults } in
+      let own = left tells copied q new said swept same n mid.2 written in
+      let after = swept_machine tells copied q new said swept same n mid.2 written in
+      let ran : Sweeps mid.0 (answer.Swept said.files) after = record { stays = own.stays; just = swept_goes mid.0 q.at.faults own.stays mid.0.limbo own.just; files = said.files; number = own.number; answered = refl; same = refl } in
+      by_removal m s said.removed mid.1 ran (swept_stands tells copied q new said swept same n mid.2 written) swept.changes.costs.faults swept.cause
+    where
+      by_removal : (m : Machine) (s : Stands tells p m) (removed : Result (Unit {0}) DiskErr) {mid after : Machine} → Settles m mid → Sweeps mid (answer.Swept said.files) after → Stands tells new after → q.at.faults ≤ new.at.faults → (IsErr removed → Rose q.at.faults new.at.faults)
+          → (next : Machine) × SweepStep m (removal_reply said.files removed) next × Stands tells new next
+      by_removal m s (Ok done) {mid} {after} settled ran stands later cause =
+          let was : m.faults ≡ p.at.faults = s.faults in
+          let now : after.faults ≡ new.at.faults = stands.faults in
+          (after, runs (answer.Swept said.files) refl settled refl ran (omega (arith, was, now, more, later)), stands)
+      by_removal m s (Err e) {mid} {after} settled ran stands later cause =
+          let rises : Rose m.faults new.at.faults = rw s.faults (rose_after p.at.faults q.at.faults new.at.faults more (cause refl)) in
+          let now : after.faults ≡ new.at.faults = stands.faults in
+          (after, faults_removing (answer.Swept said.files) refl refl settled refl ran (subst (λ (k : ℕ). Rose m.faults k) (sym now) rises), stands)
+  sweep_ends (Err Fault) swept = λ m s.
+      let mid = settles m s in
+      let n : Machine = record mid.0 { faults = q.at.faults } in
+      let rises : Rose m.faults new.at.faults = rw s.faults (rose_after p.at.faults q.at.faults new.at.faults more (swept.changes.costs.cause tt)) in
+      (record mid.0 { faults = new.at.faults }, faults_between refl mid.1 refl rises, stands_still tells copied q new (Err Fault) swept same n mid.2 swept.failed)
+  sweep_ends (Err Memory) swept = λ m s.
+      let mid = settles m s in
+      let n : Machine = record mid.0 { faults = q.at.faults } in
       let was : m.faults ≡ p.at.faults = s.faults in
-      (record mid.0 { faults = q.at.faults }, wants_memory_settled refl mid.1 refl (omega (arith, was, more)), mid.2.stands)
+      let later = swept.changes.costs.faults in
+      (record mid.0 { faults = new.at.faults }, wants_memory_settled refl mid.1 refl (omega (arith, was, more, later)), stands_still tells copied q new (Err Memory) swept same n mid.2 swept.failed)
 
-  module _ (q : Parts) (settles : SettlesTo tells p q) (more : p.at.faults ≤ q.at.faults) (new : Parts) (copied : List Name) (same : new ≡ record q { at = new.at; limbo = new.limbo; pinned = new.pinned }) (written : AreWritten q.at.catalogue.rows q.slots copied) where
-    pub sweep_ends : (result : Result Swept DiskErr) → StoresSwept tells copied q new result → SweepEnds (sweep_reply result) new
-    sweep_ends (Ok said) swept = λ m s.
-        let mid = settles m s in
-        let n : Machine = record mid.0 { faults = q.at.faults } in
-        let own = left tells copied q new said swept same n mid.2 written in
-        let after = swept_machine tells copied q new said swept same n mid.2 written in
-        let ran : Sweeps mid.0 (answer.Swept said.files) after = record { stays = own.stays; just = swept_goes mid.0 q.at.faults own.stays mid.0.limbo own.just; files = said.files; number = own.number; answered = refl; same = refl } in
-        by_removal m s said.removed mid.1 ran (swept_stands tells copied q new said swept same n mid.2 written) swept.acts.costs.faults swept.cause
-      where
-        by_removal : (m : Machine) (s : Stands tells p m) (removed : Result (Unit {0}) DiskErr) {mid after : Machine} → Settles m mid → Sweeps mid (answer.Swept said.files) after → Stands tells new after → q.at.faults ≤ new.at.faults → (IsErr removed → Rose q.at.faults new.at.faults)
-            → (next : Machine) × SweepStep m (removal_reply said.files removed) next × Stands tells new next
-        by_removal m s (Ok done) {mid} {after} settled ran stands later cause =
-            let was : m.faults ≡ p.at.faults = s.faults in
-            let now : after.faults ≡ new.at.faults = stands.faults in
-            (after, runs (answer.Swept said.files) refl settled refl ran (omega (arith, was, now, more, later)), stands)
-        by_removal m s (Err e) {mid} {after} settled ran stands later cause =
-            let rises : Rose m.faults new.at.faults = rw s.faults (rose_after p.at.faults q.at.faults new.at.faults more (cause refl)) in
-            let now : after.faults ≡ new.at.faults = stands.faults in
-            (after, faults_removing (answer.Swept said.files) refl refl settled refl ran (subst (λ (k : ℕ). Rose m.faults k) (sym now) rises), stands)
-    sweep_ends (Err Fault) swept = λ m s.
-        let mid = settles m s in
-        let n : Machine = record mid.0 { faults = q.at.faults } in
-        let rises : Rose m.faults new.at.faults = rw s.faults (rose_after p.at.faults q.at.faults new.at.faults more (swept.acts.costs.cause tt)) in
-        (record mid.0 { faults = new.at.faults }, faults_between refl mid.1 refl rises, stands_still tells copied q new (Err Fault) swept same n mid.2 swept.failed)
-    sweep_ends (Err Memory) swept = λ m s.
-        let mid = settles m s in
-        let n : Machine = record mid.0 { faults = q.at.faults } in
-        let was : m.faults ≡ p.at.faults = s.faults in
-        let later = swept.acts.costs.faults in
-        (record mid.0 { faults = new.at.faults }, wants_memory_settled refl mid.1 refl (omega (arith, was, more, later)), stands_still tells copied q new (Err Memory) swept same n mid.2 swept.failed)
+  -- at each moment a crash leaves what was there, or what is settled
+  crash_sweep : (result : Result Swept DiskErr) → StoresSwept tells copied q new result → HoldsDoubted tells p q → granularities q.at.manifests ≡ granularities p.at.manifests → LeavesByAct tells (λ m. None) (λ m. None) p new
+  crash_sweep result swept reads same_g = λ m told s.
+      let mid = settles m s in
+      let n : Machine = record mid.0 { faults = q.at.faults } in
+      let second = subst (λ (gs : List Granularity). Passes (λ a image. HoldsMachine gs image n) q.at.past new.at.past) same_g (sweep_passes tells copied q new result swept same n mid.2 told) in
+      let first = crash_settling tells (λ m. None) (λ m. None) (λ m f. refl) (λ m f. refl) p q reads m told s in
+      passes_then (λ a image. LeavesWithin (λ m. None) (λ m. None) (granularities p.at.manifests) m image) (λ a image. HoldsMachine (granularities p.at.manifests) image n) p.at.past q.at.past new.at.past first second (λ a b image was within left holds. (mid.0, settled_there mid.1, holds))
 
-    -- at each moment a crash leaves what was there, or what is settled
-    pub crash_sweep : (result : Result Swept DiskErr) → StoresSwept tells copied q new result → HoldsDoubted tells p q → granularities q.at.manifests ≡ granularities p.at.manifests → LeavesByAct tells (λ m. None) (λ m. None) p new
-    crash_sweep result swept reads same_g = λ m told s.
-        let mid = settles m s in
-        let n : Machine = record mid.0 { faults = q.at.faults } in
-        let second = subst (λ (gs : List Granularity). Passes (λ a image. HoldsMachine gs image n) q.at.past new.at.past) same_g (sweep_passes tells copied q new result swept same n mid.2 told) in
-        let first = crash_settling tells (λ m. None) (λ m. None) (λ m f. refl) (λ m f. refl) p q reads m told s in
-        passes_then (λ a image. LeavesWithin (λ m. None) (λ m. None) (granularities p.at.manifests) m image) (λ a image. HoldsMachine (granularities p.at.manifests) image n) p.at.past q.at.past new.at.past first second (λ a b image was within left holds. (mid.0, settled_there mid.1, holds))
+  -- what is listed then or pinned is shown still
+  kept_files : (result : Result Swept DiskErr) → StoresSwept tells copied q new result → LeavesFronts tells (files_of p) (files_of q) → q.pinned ≡ p.pinned → KeepsListed tells p new
+  kept_files result swept fronts pins name bytes kept was = swept.leaves.shown name bytes (by_kind kept) (fronts_shown tells (files_of p) (files_of q) fronts name bytes was)
+    where
+      by_kind : IsKeptName new.at p.pinned [] name → IsKeptName new.at q.pinned copied name
+      by_kind (inl listed) = inl listed
+      by_kind (inr (inl pinned)) = inr (inl (subst (λ (x : FinMap nat_cmp PinOf). IsPinnedFile x name) (sym pins) pinned))
+      by_kind (inr (inr (k, lt, is))) = absurd (omega (arith, lt))
 
-  pub crash_sweep_cut : (q : Parts) → HoldsDoubted tells p q → LeavesByAct tells (λ m. None) (λ m. None) p q
-  crash_sweep_cut q reads = crash_settling tells (λ m. None) (λ m. None) (λ m f. refl) (λ m f. refl) p q reads
+  -- the act, where a doubt was settled
+  pub sweep_acts : (who : ℕ) (done : Result (Unit {0}) DiskErr) → Settling tells p q (end_of_disk done) → (result : Result Swept DiskErr) → StoresSwept tells copied q new result → ActsTidily tells p (sweep_reply result) new → Acted tells who Sweep p (sweep_reply result) new
+  sweep_acts who done settling result swept tidy = record {
+    step = λ m s. (let one = sweep_ends result swept m s in (one.0, (one.1, λ told. tt), one.2));
+    crash = crash_sweep result swept settling.settles.any_moment settling.granularity;
+    files = kept_files result swept settling.fronts settling.pins;
+    pins = tt;
+    moves = tt;
+    tidy = tidy;
+  }

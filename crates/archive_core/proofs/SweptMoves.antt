@@ -1,8 +1,8 @@
 -- What running moves have written stays through a sweep, which is told its names, and so does what the machine makes of their copies.
-use Rattle.std.proofs.Common.{◌≡◌, inl, inr, ℕ, zero, suc, ◌+◌, ◌≤◌, List, [], ◌∷◌, ◌++◌, length, get_or, Bool, true, false, cond, Some, None, refl, sym, ◌∙◌, ap, subst, arith}
+use Rattle.std.proofs.Common.{◌≡◌, inl, inr, ℕ, zero, suc, ◌+◌, List, [], ◌∷◌, ◌++◌, length, Bool, true, false, cond, Some, None, refl, sym, ◌∙◌, ap, subst, arith}
 use Rattle.std.specs.FinMap.{get}
 use Rattle.std.specs.List.{AllByRecursion, list_any}
-use Rattle.std.specs.Prelude.{◌↔◌, ◌==◌, ◌&&◌, All, Contains, filter, slice_get}
+use Rattle.std.specs.Prelude.{◌↔◌, ◌==◌, ◌&&◌, Contains, filter, slice_get}
 use Rattle.std.proofs.lemmas.Bool.Decides.{nat_tests}
 use Rattle.std.proofs.lemmas.List.Elements.{All-contains}
 use Rattle.std.proofs.lemmas.List.Folds.{Any-from_list_any, list_any-from_Any}
@@ -29,8 +29,7 @@ use Rattle.tier_store.specs.Change.{Has, IsKnownAt}
 use Rattle.tier_store.specs.Limbo.{IsListedName}
 use Rattle.tier_store.specs.Moving.{LeavesNames, names_of}
 use Rattle.tier_store.specs.Pinned.{SeenAll, beside}
-use Rattle.tier_store.specs.Stores.{Stores, list_at}
-use Rattle.tier_store.specs.Stores.{tier as tier_at}
+use Rattle.tier_store.specs.Stores.{Stores, list_at, tier as tier_at}
 use Rattle.tier_store.proofs.Dropped.{entry_in}
 use Rattle.tier_store.proofs.LeavingNames.{fewer_names}
 use Rattle.tier_store.proofs.Places.{granularity_at, manifest_at}
@@ -47,10 +46,10 @@ use Rattle.archive_core.specs.MoveTies.{AreMovesOf, GetsOne, IsMoveOf}
 use Rattle.archive_core.specs.Parts.{Parts}
 use Rattle.archive_core.specs.Stands.{Rests}
 use Rattle.archive_core.specs.Written.{AreWritten, IsListable, IsWritten, written_name}
-use Rattle.archive_core.proofs.LimboPinned.{IsSamePlace, named_place, place_named}
+use Rattle.archive_core.proofs.LimboSwept.{IsSamePlace, named_place, place_named}
 use Rattle.archive_core.proofs.Lists.{element}
-use Rattle.archive_core.proofs.MoveBegun.{moves_at}
-use Rattle.archive_core.proofs.MoveRows.{next_high, next_place, source_low}
+use Rattle.archive_core.proofs.MoveTable.{moves_at}
+use Rattle.archive_core.proofs.MoveChoice.{next_high, next_place, source_low}
 use Rattle.archive_core.proofs.MovesKept.{SamePut}
 use Rattle.archive_core.proofs.SameNames.{of_all}
 use Rattle.archive_core.proofs.Settled.{open_rows, rests_has}
@@ -168,14 +167,6 @@ module _ (tells : Bool) (p : Parts) (m : Machine) (r : Rests tells p m) (names :
 
   same_rows : p.at.catalogue.rows ≡ before.rows
   same_rows = open_rows tells p.at before m r.stands.store.is_open
-
-  -- all are of later stores
-  pub names_later : All (λ (n : Name). 2 ≤ n.0) names
-  names_later k d lt =
-      let is = written.just k d lt in
-      let store = (moves_at tells all m before p.slots are is.number is.running is.runs).2.store in
-      let number : is.running.store + 1 ≡ (get_or names k d).0 = ap (λ (n : Name). n.0) is.named in
-      omega (arith, number, store)
 
   -- the files of each move are among them
   pub names_there : (n : ℕ) (move : MoveState) (running : Running Moving) → at p.slots n ≡ Some running → (is : IsMoveOf tells all m.told m.rows m.limbo before move running) → (name : Name) → Contains (names_of (index_of (next_store move.store) + 1, before.rows) is.files) name → Contains names name

@@ -1,8 +1,7 @@
--- A row's state is set: as the machine has it, and in memory.
-use Rattle.std.proofs.Common.{◌≡◌, ◌≢◌, ◌⊎◌, inl, ℕ, zero, suc, List, [], ◌∷◌, Bool, Option, Some, None, Ok, Err, refl, sym, ◌∙◌, ap, subst}
-use Rattle.std.specs.Prelude.{◌&&◌, slice_get, slice_set}
+-- A row's state is set: as the machine has it, in memory, and as an act.
+use Rattle.std.proofs.Common.{◌≡◌, ◌≢◌, zero, suc, List, [], ◌∷◌, Bool, Option, Some, None, Err, refl, sym, ◌∙◌, ap, subst, Result, ℕ}
+use Rattle.std.specs.Prelude.{slice_get, slice_set}
 use Rattle.std.proofs.lemmas.Option.{same_Some}
-use Rattle.disk_model.specs.declared.disk.DiskErr.TheVariants.{Fault, Memory}
 use Rattle.event_types.specs.declared.about.State.{State}
 use Rattle.event_types.specs.declared.about.State.TheVariants.{Running, Paused, Retired}
 use Rattle.pv_catalog.specs.Catalogue.{HasState}
@@ -10,33 +9,36 @@ use Rattle.pv_catalog.specs.Rows.{switched}
 use Rattle.pv_catalog.specs.declared.error.StateErr.{StateErr}
 use Rattle.pv_catalog.specs.declared.error.StateErr.TheVariants as of_state
 use Rattle.pv_catalog.specs.declared.row.Row.{Row}
-use Rattle.durable_write.specs.Ends.{Done, Refused, Failed, Spent}
-use Rattle.tier_store.specs.Change.{Acts, Has, EndsFrom, Switches}
-use Rattle.tier_store.specs.Pinned.{beside}
-use Rattle.tier_store.specs.Seen.{Seen, granularities}
+use Rattle.durable_write.specs.Ends.{Done, Refused}
+use Rattle.tier_store.specs.Change.{EndsFrom, Switches, Changes}
+use Rattle.tier_store.specs.Seen.{Seen}
 use Rattle.tier_store.specs.Stores.{Stores}
-use Rattle.act_model.specs.Changes.{made}
-use Rattle.act_model.specs.Machine.{Machine, Change, SetsState, find_row}
-use Rattle.act_model.specs.Pause.{state_refused}
+use Rattle.act_model.specs.Machine.{Machine, SetsState, find_row}
+use Rattle.act_model.specs.Pause.{state_refused, Sets, sets_of, not_running}
 use Rattle.act_model.proofs.StepLaws.{with_doubt}
-use Rattle.archive_core.specs.declared.memory.Doubt.{Doubt}
 use Rattle.archive_core.specs.declared.memory.Doubt.TheVariants as kind
 use Rattle.archive_core.specs.declared.memory.RowMemory.{RowMemory}
 use Rattle.archive_core.specs.declared.switching.Switch.{Switch}
 use Rattle.archive_core.specs.declared.switching.Switch.TheVariants.{Pause, Resume}
 use Rattle.archive_core.specs.declared.switching.Unset.{Unset}
 use Rattle.archive_core.specs.declared.switching.Unset.TheVariants as unset
-use Rattle.archive_core.specs.Ends.{ChangesTo}
 use Rattle.archive_core.specs.Memory.{IsCleared, cleared}
 use Rattle.archive_core.specs.Parts.{Parts}
-use Rattle.archive_core.specs.Stands.{Stands, Rests, IsDoubtOf, StoresGrow, InDoubt, HoldsDurable}
-use Rattle.archive_core.proofs.Keeping.{Keeps, keeps_itself}
+use Rattle.archive_core.specs.Stands.{Stands, Rests}
 use Rattle.archive_core.proofs.Growth.{switch_grows}
-use Rattle.archive_core.specs.Switching.{IsFound, IsUnset, from_of, to_of, wrong_of, wrong_reply, switching, switch_reply}
-use Rattle.archive_core.proofs.Changing.{call_passes, call_failed, rests_again}
+use Rattle.archive_core.specs.Switching.{IsFound, IsUnset, act_of, from_of, to_of, wrong_of, wrong_reply, switching, switch_reply}
+use Rattle.archive_core.proofs.Changing.{Makes}
 use Rattle.archive_core.proofs.KeptRows.{find_is, row_at}
 use Rattle.archive_core.proofs.Making.{switch_holds}
-use Rattle.archive_core.proofs.Settled.{rests_has, doubt_stands, made_stands, open_rows, no_own, grew}
+use Rattle.archive_core.proofs.Settled.{rests_has}
+use Rattle.act_model.specs.Reply.{Reply}
+use Rattle.act_model.specs.Rows.{RowState}
+use Rattle.archive_core.proofs.Acting.{IsAct, Went, acted}
+use Rattle.archive_core.specs.Acting.{Acted}
+use Rattle.act_model.specs.Step.{refuse_by, change_by}
+use Rattle.act_model.specs.declared.acts.Act.TheVariants.{Pause as PauseAct, Resume as ResumeAct}
+use Rattle.act_model.specs.Resume.{not_paused}
+use Rattle.act_model.specs.declared.acts.Answer.TheVariants as answer
 
 -- REFUSALS
 
@@ -112,80 +114,103 @@ switched_has zero to (x ∷ rows) row here = ap (λ (w : Row). Some (record w { 
 switched_has (suc i) to (x ∷ rows) row here = switched_has i to rows row here
 
 module _ (tells : Bool) (p : Parts) (m : Machine) (r : Rests tells p m) (i : ℕ) (switch : Switch) (state : HasState p.at.catalogue.rows i (from_of switch)) where
-  abbrev change : Change
-  change = SetsState i (to_of switch)
+  pub makes_switch : Makes tells (switching switch i) (SetsState i (to_of switch)) (kind.State i (to_of switch)) p.kept p m r.stands.store.before
+  makes_switch =
+      let held = r.stands.store.before in
+      let known = (rests_has tells p m r).known in
+      let at = row_at p.at.catalogue.rows p.kept p.tails m.rows r.stands.rows i state.row state.here in
+      record {
+        sound = with_doubt m.rule m.told m.rows m.limbo m.pins m.moves m.doubt (SetsState i (to_of switch)) r.stands.sound (tt, tt);
+        rows = r.stands.rows;
+        is = refl;
+        ready = (at.0, at.1, λ is. apart switch (sym state.is ∙ (sym at.4.state ∙ is)));
+        stand = λ after by. ap (λ (s : Stores). s.stands) (switches_by switch i held after by).1;
+        grow = λ after by filed. switch_grows m.moves p.at i (from_of switch) (to_of switch) held after known (switches_by switch i held after by);
+        holds = λ after by filed. switch_holds i (from_of switch) (to_of switch) held after m (switches_by switch i held after by) r.stands.store.holds;
+      }
 
-  durable : (after : Stores) → (switching switch i).by r.stands.store.before after → HoldsDurable after (made [] change m)
-  durable after by = switch_holds i (from_of switch) (to_of switch) r.stands.store.before after m (switches_by switch i r.stands.store.before after by) r.stands.store.holds
-
-  stand : (after : Stores) → (switching switch i).by r.stands.store.before after → after.stands ≡ r.stands.store.before.stands
-  stand after by = ap (λ (s : Stores). s.stands) (switches_by switch i r.stands.store.before after by).1
-
-  grow : (after : Stores) → (switching switch i).by r.stands.store.before after → StoresGrow m.moves r.stands.store.before after
-  grow after by = switch_grows m.moves p.at i (from_of switch) (to_of switch) r.stands.store.before after (rests_has tells p m r).known (switches_by switch i r.stands.store.before after by)
-
-  -- with the change in doubt
-  doubting : (new : Seen) → granularities new.manifests ≡ granularities p.at.manifests → Keeps tells (beside p.at p.limbo) (beside new p.limbo) → Has tells new r.stands.store.before ⊎ InDoubt tells new p.limbo r.stands.store.before (record m { doubt = Some change; faults = new.faults })
-      → Stands tells (record p { at = new; doubt = Some (kind.State i (to_of switch)) }) (record m { doubt = Some change; faults = new.faults })
-  doubting new same_g shown is_open =
-      let s = r.stands in
-      let at = row_at p.at.catalogue.rows p.kept p.tails m.rows s.rows i state.row state.here in
-      let other : at.0.state ≢ to_of switch = λ is. apart switch (sym state.is ∙ (sym at.4.state ∙ is)) in
-      let sound = with_doubt m.rule m.told m.rows m.limbo m.pins m.moves m.doubt change s.sound (tt, tt) in
-      doubt_stands tells p m s new p.kept (Some (kind.State i (to_of switch))) (Some change) same_g shown sound s.rows refl (at.0, at.1, other) is_open
-
-  pub switch_done : (new : Seen) → Keeps tells (beside p.at p.limbo) (beside new p.limbo) → (a : Unit {0}) (memory : RowMemory) → slice_get p.kept i ≡ Some memory → Acts tells (switching switch i) p.at new (Done a) → ChangesTo tells change p m (record p { at = new; kept = slice_set p.kept i (cleared memory) }) (Ok a)
-  switch_done new shown a memory there acts = record {
-    ends = own_doubt;
-    any_moment = call_passes tells (switching switch i) change p m r durable stand new (Done a) acts;
-    faults = acts.costs.faults;
-    cause = λ is. absurd (cc (is));
-  }
+  -- the memory of the row is cleared then
+  pub switch_clears : (new : Seen) (a : Unit {0}) (memory : RowMemory) → slice_get p.kept i ≡ Some memory → Changes tells (switching switch i) p.at new (Done a) → IsCleared new.catalogue.rows (Some (kind.State i (to_of switch))) p.kept (slice_set p.kept i (cleared memory))
+  switch_clears new a memory there changes = clears new.catalogue.rows i (to_of switch) p.kept memory there (record {
+    row = record state.row { state = to_of switch };
+    here = ap (λ (rs : List Row). slice_get rs i) (end.3.known.rows ∙ ap (λ (s : Stores). s.rows) (switches_by switch i held end.0 end.1).1) ∙ switched_has i (to_of switch) held.rows state.row (ap (λ (rs : List Row). slice_get rs i) (sym (rests_has tells p m r).known.rows) ∙ state.here);
+    is = refl;
+  })
     where
       held : Stores
       held = r.stands.store.before
 
       end : EndsFrom tells (switching switch i) new held (Done a)
-      end = acts.settled held (rests_has tells p m r)
+      end = changes.ends held (rests_has tells p m r)
 
-      has_it : HasState new.catalogue.rows i (to_of switch)
-      has_it = record {
-        row = record state.row { state = to_of switch };
-        here = ap (λ (rs : List Row). slice_get rs i) (end.3.known.rows ∙ ap (λ (s : Stores). s.rows) (switches_by switch i held end.0 end.1).1) ∙ switched_has i (to_of switch) held.rows state.row (ap (λ (rs : List Row). slice_get rs i) (sym (open_rows tells p.at held m r.stands.store.is_open)) ∙ state.here);
-        is = refl;
-      }
+  pub switch_unrefused : (new : Seen) (e : StateErr) → Changes tells (switching switch i) p.at new (Refused e) → ⊥
+  switch_unrefused new e changes =
+      let has = rests_has tells p m r in
+      not_refused switch i r.stands.store.before.rows e (subst (λ (rs : List Row). HasState rs i (from_of switch)) has.known.rows state) (changes.ends r.stands.store.before has).1
 
-      set : List RowMemory
-      set = slice_set p.kept i (cleared memory)
+-- THE ACT
 
-      stands : Stands tells (record { at = new; limbo = p.limbo; pinned = p.pinned; tails = p.tails; kept = set; doubt = None; doors = p.doors; config = p.config; slots = p.slots }) (record (made [] change m) { doubt = None; faults = new.faults })
-      stands =
-          let was = doubting p.at refl (keeps_itself tells (beside p.at p.limbo)) (inl (rests_has tells p m r)) in
-          (made_stands tells (record p { doubt = Some (kind.State i (to_of switch)) }) (record m { doubt = Some change; faults = p.at.faults }) was new set acts.costs.granularity shown p.tails change refl end.0 (grew tells p m r.stands new acts.costs.granularity shown end.0 (stand end.0 end.1) (grow end.0 end.1)) (r.stands.store.told ∙ ap (λ (b : Bool). tells && b) (sym (stand end.0 end.1))) (durable end.0 end.1) (clears new.catalogue.rows i (to_of switch) p.kept memory there has_it) refl end.3).stands
+-- the count of faults is nothing to the refusals
+counted : (wrong : State → Option Reply) (name : List ℕ) (m : Machine) (f : ℕ) → state_refused wrong name (record m { faults = f }) ≡ state_refused wrong name m
+counted wrong name m f = by_found (find_row m name) refl
+  where
+    by_row : (i : ℕ) → find_row m name ≡ Some i → (o : Option RowState) → slice_get m.rows i ≡ o → state_refused wrong name (record m { faults = f }) ≡ state_refused wrong name m
+    by_row i is None here = rw (is, here) refl
+    by_row i is (Some r) here = rw (is, here) refl
 
-      machines : Stands tells (record { at = new; limbo = p.limbo; pinned = p.pinned; tails = p.tails; kept = set; doubt = None; doors = p.doors; config = p.config; slots = p.slots }) (record (made [] change m) { faults = new.faults })
-      machines = subst (λ (o : Option Change). Stands tells (record { at = new; limbo = p.limbo; pinned = p.pinned; tails = p.tails; kept = set; doubt = None; doors = p.doors; config = p.config; slots = p.slots }) (record (made [] change m) { doubt = o; faults = new.faults })) (sym r.settled) stands
+    by_found : (o : Option ℕ) → find_row m name ≡ o → state_refused wrong name (record m { faults = f }) ≡ state_refused wrong name m
+    by_found None is = rw is refl
+    by_found (Some i) is = by_row i is (slice_get m.rows i) refl
 
-      own_doubt : Stands tells (record p { at = new; kept = set }) (record (made [] change m) { faults = new.faults })
-      own_doubt = subst (λ (d : Option Doubt). Stands tells (record { at = new; limbo = p.limbo; pinned = p.pinned; tails = p.tails; kept = set; doubt = d; doors = p.doors; config = p.config; slots = p.slots }) (record (made [] change m) { faults = new.faults })) (sym (no_own p.doubt (subst (λ (o : Option Change). IsDoubtOf p.doubt o) r.settled r.stands.doubt))) machines
+-- no refusal is want of memory
+wrong_never : (switch : Switch) (state : State) → wrong_of switch state ≡ Some answer.Memory → ⊥
+wrong_never Pause Running is = cc (is)
+wrong_never Pause Paused is = cc (is)
+wrong_never Pause Retired is = cc (is)
+wrong_never Resume Running is = cc (is)
+wrong_never Resume Paused is = cc (is)
+wrong_never Resume Retired is = cc (is)
 
-  pub switch_failed : (new : Seen) → Keeps tells (beside p.at p.limbo) (beside new p.limbo) → Acts tells (switching switch i) p.at new Failed → ChangesTo {A = Unit {0}} tells change p m (record p { at = new; doubt = Some (kind.State i (to_of switch)) }) (Err Fault)
-  switch_failed new shown acts = record {
-    ends = doubting new acts.costs.granularity shown (call_failed tells (switching switch i) change p m r durable stand new grow (acts.settled r.stands.store.before (rests_has tells p m r)));
-    any_moment = call_passes tells (switching switch i) change p m r durable stand new Failed acts;
-    faults = acts.costs.faults;
-    cause = λ is. acts.costs.cause tt;
-  }
+never_wants : (switch : Switch) (name : List ℕ) (m : Machine) → state_refused (wrong_of switch) name m ≡ Some answer.Memory → ⊥
+never_wants switch name m is = by_found (find_row m name) refl
+  where
+    by_row : (i : ℕ) → find_row m name ≡ Some i → (o : Option RowState) → slice_get m.rows i ≡ o → ⊥
+    by_row i found None here = let told : state_refused (wrong_of switch) name m ≡ Some answer.NoSuchVariable = rw (found, here) refl in let both = sym told ∙ is in cc (both)
+    by_row i found (Some row) here = let told : state_refused (wrong_of switch) name m ≡ wrong_of switch row.state = rw (found, here) refl in wrong_never switch row.state (sym told ∙ is)
 
-  pub switch_spent : (new : Seen) → Keeps tells (beside p.at p.limbo) (beside new p.limbo) → Acts tells (switching switch i) p.at new Spent → ChangesTo {A = Unit {0}} tells change p m (record p { at = new }) (Err Memory)
-  switch_spent new shown acts = record {
-    ends = rests_again tells p m r new acts.costs.granularity shown (acts.settled r.stands.store.before (rests_has tells p m r));
-    any_moment = call_passes tells (switching switch i) change p m r durable stand new Spent acts;
-    faults = acts.costs.faults;
-    cause = λ is. absurd (cc (is));
-  }
+    by_found : (o : Option ℕ) → find_row m name ≡ o → ⊥
+    by_found None found = let told : state_refused (wrong_of switch) name m ≡ Some answer.NoSuchVariable = rw found refl in let both = sym told ∙ is in cc (both)
+    by_found (Some i) found = by_row i found (slice_get m.rows i) refl
 
-  pub switch_unrefused : (new : Seen) (e : StateErr) → Acts tells (switching switch i) p.at new (Refused e) → ⊥
-  switch_unrefused new e acts =
-      let same = open_rows tells p.at r.stands.store.before m r.stands.store.is_open in
-      not_refused switch i r.stands.store.before.rows e (subst (λ (rs : List Row). HasState rs i (from_of switch)) same state) (acts.settled r.stands.store.before (rests_has tells p m r)).1
+-- nor is the answer that the state was set
+sets_tells : (to : State) (name : List ℕ) (m : Machine) (given : Reply) (new : Machine) → Sets to name m given new → given ≡ answer.Memory → ⊥
+sets_tells to name m given new ran told = let both = sym ran.0 ∙ told in cc (both)
+
+pub sets_act : (who : ℕ) (switch : Switch) (name : List ℕ) → IsAct who (act_of switch name) (Sets (to_of switch) name)
+sets_act who Pause name = record { refuses = counted not_running name; changes = λ m f. refl; goes = λ m f given new ran. ran; never = never_wants Pause name; tells_more = sets_tells Paused name; steps = λ m given new acts. acts; wants = λ m n none. none }
+sets_act who Resume name = record { refuses = counted not_paused name; changes = λ m f. refl; goes = λ m f given new ran. ran; never = never_wants Resume name; tells_more = sets_tells Running name; steps = λ m given new acts. acts; wants = λ m n none. none }
+
+-- how it is answered
+abbrev pub SetEnds : Bool → ℕ → Switch → List ℕ → Parts → Result (Unit {0}) Unset → Parts → Type 0
+SetEnds tells who switch name p r q = Acted tells who (act_of switch name) p (switch_reply switch r) q
+
+-- as the machine's act goes
+pub set_so : (tells : Bool) (who : ℕ) (switch : Switch) (name : List ℕ) (p q : Parts) (r : Result (Unit {0}) Unset) → Went tells who (act_of switch name) p (switch_reply switch r) q → SetEnds tells who switch name p r q
+set_so tells who Pause name p q r went = acted tells who (PauseAct name) p (switch_reply Pause r) q went went.fronts tt tt
+set_so tells who Resume name p q r went = acted tells who (ResumeAct name) p (switch_reply Resume r) q went went.fronts tt tt
+
+-- a row of the name has the state before
+abbrev pub CanSet : Switch → List ℕ → Parts → ℕ → Type 0
+CanSet switch name q i = IsFound q.at.catalogue.rows name (Some i) × HasState q.at.catalogue.rows i (from_of switch)
+
+pub can_set : (tells : Bool) (switch : Switch) (name : List ℕ) (q : Parts) (i : ℕ) → CanSet switch name q i → (m : Machine) → Stands tells q m → refuse_by (act_of switch name) m ≡ None
+can_set tells Pause name q i can m s = set_as tells q m name Pause i s can.0 can.1
+can_set tells Resume name q i can m s = set_as tells q m name Resume i s can.0 can.1
+
+pub refused_set : (tells : Bool) (switch : Switch) (name : List ℕ) (q : Parts) (e : Unset) → IsUnset q.at.catalogue.rows name switch e → (m : Machine) → Stands tells q m → refuse_by (act_of switch name) m ≡ Some (switch_reply switch (Err e))
+refused_set tells Pause name q e is m s = unset_as tells q m name Pause e s is
+refused_set tells Resume name q e is m s = unset_as tells q m name Resume e s is
+
+pub set_change : (tells : Bool) (switch : Switch) (name : List ℕ) (q : Parts) (i : ℕ) → CanSet switch name q i → (m : Machine) → Stands tells q m → change_by (act_of switch name) m ≡ Some (SetsState i (to_of switch))
+set_change tells Pause name q i can m s = ap (sets_of Paused) (found_row tells q m name (Some i) s can.0)
+set_change tells Resume name q i can m s = ap (sets_of Running) (found_row tells q m name (Some i) s can.0)

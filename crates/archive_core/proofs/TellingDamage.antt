@@ -26,10 +26,10 @@ use Rattle.act_model.specs.declared.acts.Answer.TheVariants.{Damaged}
 use Rattle.archive_core.specs.Leaving.{TellsDamage}
 use Rattle.archive_core.specs.Parts.{Parts}
 use Rattle.archive_core.specs.Stepping.{with_slots}
-use Rattle.archive_core.proofs.LeavingFiles.{map_in, map_out}
 use Rattle.archive_core.proofs.MoveChanges.{take_own}
 use Rattle.archive_core.proofs.MoveParts.{parts_are}
 use Rattle.archive_core.proofs.SameNames.{of_all}
+use Rattle.archive_core.proofs.Lists.{map_in, map_out}
 
 -- an answer tells one file and one place
 pub told_alone : (Says : Name → ℕ → Parts → Type 0) (q : Parts) (name : Name) (place : ℕ) → Says name place q → (other : Name) (elsewhere : ℕ) → ◌≡◌ {A = Reply} (Damaged name place) (Damaged other elsewhere) → Says other elsewhere q
@@ -42,7 +42,7 @@ told_alone Says q name place says other elsewhere told =
 module _ (tells : Bool) (q : Parts) (slots left : List (Option (Running Moving))) (n : ℕ) (running : Running Moving) (ran : at slots n ≡ Some running)
     (to from : ℕ) (next : to ≡ from + 1) (low : from < 3) (store : running.store ≡ from + 1) (own : running.moving.series ≡ running.series)
     (files : List Filed) (held : Stores) (runs : RunsBeside to tells (beside q.at q.limbo) running.moving files held) (was : Has tells q.at held) (new : Seen) (now : Has tells new held)
-    (name : Name) (place : ℕ) (is : IsDamaged from running.moving held name place) where
+    (name : Name) (place : ℕ) (is : IsDamaged from tells new.files running.moving held name place) where
   abbrev moving : Moving
   moving = running.moving
 
@@ -65,7 +65,7 @@ module _ (tells : Bool) (q : Parts) (slots left : List (Option (Running Moving))
   own_row : is.file.entry.series ≡ moving.series
   own_row = of_all (λ (f : Filed). f.entry.series ≡ moving.series) (oldest from moving.series (length moving.parts) held) is.file (take_own moving.series (length moving.parts) (of_row moving.series (list_at from held)) (own_series moving.series (list_at from held))) is.part
 
-  pub of_part : TellsDamage (with_slots slots q) n name place (record q { at = new; slots = left })
+  pub of_part : TellsDamage tells (with_slots slots q) n name place (record q { at = new; slots = left })
   of_part = record {
     running = running;
     ran = ran;
@@ -79,6 +79,9 @@ module _ (tells : Bool) (q : Parts) (slots left : List (Option (Running Moving))
     own_part = sym part.2;
     named = is.named ∙ (λ j. file_of (sym store j, sym now.known.rows j) is.file.entry);
     within = is.within;
+    bad = is.bad;
+    numbered = omega (arith, store);
+    settled = now.settled;
     same_rows = λ settled. now.known.rows ∙ sym was.known.rows;
     same_list = λ settled before there. lists ∙ sym (was.known.each from before (sym (ap (slice_get q.at.manifests) from_store) ∙ there)).entries;
   }

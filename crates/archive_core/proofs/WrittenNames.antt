@@ -1,5 +1,5 @@
 -- The names of what the moves of a table are to list.
-use Rattle.std.proofs.Common.{◌≡◌, ℕ, zero, suc, List, [], ◌∷◌, ◌++◌, map, get_or, Option, None, Some, refl, sym, ap, subst, arith}
+use Rattle.std.proofs.Common.{◌≡◌, ℕ, zero, suc, List, [], ◌∷◌, ◌++◌, map, get_or, Option, None, Some, refl, sym, subst, arith}
 use Rattle.std.specs.List.{flat_map}
 use Rattle.std.specs.Prelude.{All, Contains}
 use Rattle.std.proofs.lemmas.List.Elements.{All-append, All-cons, All-nil, Contains-append_left, Contains-append_right, Contains-get_or}
@@ -10,11 +10,7 @@ use Rattle.running_moves.specs.Table.{at}
 use Rattle.running_moves.specs.declared.table.Running.{Running}
 use Rattle.store_manifest.specs.declared.entry.Entry.{Entry}
 use Rattle.archive_core.specs.Written.{AreWritten, IsWritten, names_of_slot, written_name}
-
-map_in : (f : Entry → Name) (es : List Entry) (e : Entry) → Contains es e → Contains (map f es) (f e)
-map_in f [] e (k, low, is) = absurd (omega (arith, low))
-map_in f (x ∷ es) e (zero, low, is) = (zero, omega arith, ap f is)
-map_in f (x ∷ es) e (suc k, low, is) = let rest = map_in f es e (k, omega (arith, low), is) in (suc rest.0, omega (arith, rest.1), rest.2)
+use Rattle.archive_core.proofs.Lists.{map_in}
 
 -- each name is there
 each_there : (rows : List Row) (slots : List (Option (Running Moving))) (n : ℕ) (running : Running Moving) → at slots n ≡ Some running → (e : Entry) → Contains running.moving.pending e → Contains (flat_map (names_of_slot rows) slots) (written_name rows running e)

@@ -1,7 +1,7 @@
 -- What an act leaves: what a crash at any moment within it may leave, what becomes of the files on the disk, which files the pieces of pins
 -- are, which file a step of a move tells as damaged, and for what memory was wanting. It is said of every archive, also of one whose listed files somebody else has damaged.
 use Rattle.std.specs.FinMap.{get}
-use Rattle.std.specs.Prelude.{◌≡◌, ◌≤◌, ℕ, ◌+◌, ◌-◌, Bool, List, All, Contains, length, take, IsTrue, Some, slice_get}
+use Rattle.std.specs.Prelude.{◌≡◌, ◌≤◌, ℕ, ◌+◌, ◌-◌, Bool, List, [], All, Contains, length, take, IsTrue, Some, slice_get}
 use Rattle.disk_model.specs.Files.{Name, HasFile}
 use Rattle.disk_model.specs.Past.{Passes}
 use Rattle.etl_mover.specs.Move.{MoveState as Moving}
@@ -13,7 +13,8 @@ use Rattle.running_moves.specs.declared.table.Running.{Running}
 use Rattle.store_manifest.specs.Manifest.{ManifestState}
 use Rattle.store_manifest.specs.declared.entry.Entry.{Entry as FileEntry}
 use Rattle.durable_write.specs.Held.{file_of}
-use Rattle.tier_store.specs.Pinned.{SeenAll, beside, LeavesFronts}
+use Rattle.tier_store.specs.Limbo.{IsKeptName}
+use Rattle.tier_store.specs.Pinned.{SeenAll, beside, LeavesFronts, Shows}
 use Rattle.tier_store.specs.Pinning.{piece_of}
 use Rattle.tier_store.specs.Seen.{Seen, IsSettled}
 use Rattle.act_model.specs.History.{Entry}
@@ -27,6 +28,7 @@ use Rattle.archive_core.specs.Ends.{LeavesByAct}
 use Rattle.archive_core.specs.Parts.{Parts}
 use Rattle.archive_core.specs.Stands.{Stands}
 use Rattle.archive_core.specs.Wanting.{Wants}
+use Rattle.tier_store.specs.Finding.{IsBadPart}
 
 -- THE FILES
 
@@ -40,15 +42,19 @@ pub record ReadsAlone (tells : Bool) (p q : Parts) : Type 0 where
   pub fronts : LeavesFronts tells (files_of p) (files_of q)
   pub quiet : IsSettled p.at → IsSettled q.at × (IsTrue tells → (q.at.files ≡ p.at.files) × Passes (λ a b. b ≡ a) p.at.past q.at.past)
 
--- A change of rows and a flush leave whatever is listed or in limbo. A step of a move and a sweep may take files away. Every other act settles a doubt
--- and only reads the disk, if it calls it at all.
+-- whatever a store lists then or a pin names, and was shown, is shown still
+abbrev pub KeepsListed : Bool → Parts → Parts → Type 0
+KeepsListed tells p q = (name : Name) (bytes : List ℕ) → IsKeptName q.at p.pinned [] name → Shows tells (files_of p) name bytes → Shows tells (files_of q) name bytes
+
+-- A change of rows and a flush leave whatever is listed or in limbo. A step of a move and a sweep may take files away that no store lists then and no
+-- pin names. Every other act settles a doubt and only reads the disk, if it calls it at all.
 abbrev pub LeavesFiles : Bool → Act → Parts → Parts → Type 0
 LeavesFiles tells (Register name about) p q = LeavesFronts tells (files_of p) (files_of q)
 LeavesFiles tells (Pause name) p q = LeavesFronts tells (files_of p) (files_of q)
 LeavesFiles tells (Resume name) p q = LeavesFronts tells (files_of p) (files_of q)
 LeavesFiles tells (Flush limit) p q = LeavesFronts tells (files_of p) (files_of q)
-LeavesFiles tells (MoveStep m) p q = Unit {0}
-LeavesFiles tells Sweep p q = Unit {0}
+LeavesFiles tells (MoveStep m) p q = KeepsListed tells p q
+LeavesFiles tells Sweep p q = KeepsListed tells p q
 LeavesFiles tells _ p q = ReadsAlone tells p q
 
 -- THE PIECES OF PINS
@@ -92,8 +98,9 @@ LeavesPins tells p _ _ q = Unit {0}
 
 -- A step of the move of this number tells a file as damaged at a place. It is the file of a part of that move: the manifest of the store that the
 -- move takes its parts from lists it as a file of the move's row and of the part's partition, and the place is not beyond the length that is
--- listed of it. Where nothing stood in doubt before the act, the rows and that list are what they were.
-pub record TellsDamage (p : Parts) (number : ℕ) (name : Name) (place : ℕ) (q : Parts) : Type 0 where
+-- listed of it. No line of a sample begins there, or the file has no header. Nothing stands in doubt then, and where nothing did before the act,
+-- the rows and that list are what they were.
+pub record TellsDamage (tells : Bool) (p : Parts) (number : ℕ) (name : Name) (place : ℕ) (q : Parts) : Type 0 where
   pub running : Running Moving
   pub ran : move_at p.slots number ≡ Some running
   pub part : FileEntry
@@ -106,13 +113,16 @@ pub record TellsDamage (p : Parts) (number : ℕ) (name : Name) (place : ℕ) (q
   pub own_part : entry.part ≡ part.part
   pub named : name ≡ file_of (running.store, q.at.catalogue.rows) entry
   pub within : place ≤ entry.len
+  pub bad : IsTrue tells → HasFile q.at.files name (λ b. IsBadPart entry.head_len (take entry.len b) place)
+  pub numbered : 1 ≤ running.store
+  pub settled : IsSettled q.at
   pub same_rows : IsSettled p.at → q.at.catalogue.rows ≡ p.at.catalogue.rows
   pub same_list : IsSettled p.at → (before : ManifestState) → slice_get p.at.manifests (running.store - 1) ≡ Some before → manifest.entries ≡ before.entries
 
 -- what is known of the file that a step of a move tells as damaged
-abbrev pub LeavesMove : Parts → Act → Reply → Parts → Type 0
-LeavesMove p (MoveStep m) answer q = (name : Name) (place : ℕ) → answer ≡ Damaged name place → TellsDamage p m name place q
-LeavesMove p _ answer q = Unit {0}
+abbrev pub LeavesMove : Bool → Parts → Act → Reply → Parts → Type 0
+LeavesMove tells p (MoveStep m) answer q = (name : Name) (place : ℕ) → answer ≡ Damaged name place → TellsDamage tells p m name place q
+LeavesMove tells p _ answer q = Unit {0}
 
 -- WANT OF MEMORY
 
@@ -126,5 +136,5 @@ pub record Leaves (tells : Bool) (p : Parts) (e : Entry) (q : Parts) : Type 0 wh
   pub crash : LeavesByAct tells (refuse_by e.act) (change_by e.act) p q
   pub files : LeavesFiles tells e.act p q
   pub pins : LeavesPins tells p e.act e.answer q
-  pub moves : LeavesMove p e.act e.answer q
+  pub moves : LeavesMove tells p e.act e.answer q
   pub memory : LeavesWanting tells p e q

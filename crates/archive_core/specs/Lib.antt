@@ -9,8 +9,6 @@ pub mod Trying
 pub mod Switching
 pub mod Opening
 pub mod Flushing
-pub mod Pinning
-pub mod Describing
 pub mod Sweeping
 pub mod LimboTies
 pub mod MoveChoice
@@ -21,5 +19,6 @@ pub mod Moving
 pub mod Taking
 pub mod Stepping
 pub mod Strays
+pub mod Acting
 pub mod Retiring
 pub mod Running

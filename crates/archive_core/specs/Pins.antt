@@ -5,8 +5,6 @@ use Rattle.std.specs.Prelude.{◌≡◌, ◌+◌, ℕ, List, length, Bool, true,
 use Rattle.pinned_pieces.specs.Pieces.{PinOf}
 use Rattle.pinned_pieces.specs.declared.piece.PinnedFile.{PinnedFile}
 use Rattle.tier_store.specs.Pinned.{SeenAll, Shows, PinsStand}
-use Rattle.act_model.specs.declared.acts.Answer.{Answer}
-use Rattle.act_model.specs.declared.acts.Answer.TheVariants as answer
 use Rattle.act_model.specs.Limbo.{FileState}
 use Rattle.act_model.specs.Machine.{PinState}
 use Rattle.act_model.specs.OpenPiece.{bytes_of, name_of}
@@ -44,13 +42,3 @@ pub record ArePinsOf (tells : Bool) (all : SeenAll) (told : Bool) (rows : List R
   pub none : (n : ℕ) → get pins n ≡ None → get pinned n ≡ None
   pub each : (n : ℕ) (pin : PinState) → get pins n ≡ Some pin → HasPinOf tells all told rows pinned n pin
   pub stand : PinsStand tells all pinned
-
--- it answers one who opens a piece
-abbrev pub IsOpening : {R : Type 0} → Answer R → Type 0
-IsOpening answer.NoPin = Unit {0}
-IsOpening (answer.NotYours owner) = Unit {0}
-IsOpening (answer.NoPiece pieces) = Unit {0}
-IsOpening (answer.Piece reader name head_len len) = Unit {0}
-IsOpening answer.DiskFault = Unit {0}
-IsOpening answer.Memory = Unit {0}
-IsOpening _ = ⊥

@@ -6,8 +6,7 @@
 use Rattle.std.specs.FinMap.{FinMap, get}
 use Rattle.std.specs.List.{AllByRecursion}
 use Rattle.std.specs.Ordering.{nat_cmp}
-use Rattle.std.specs.Prelude.{◌≡◌, ◌≢◌, ◌<◌, ℕ, List, Bool, true, Contains, Some, length, map, slice_get}
-use Rattle.series_model.specs.Series.{end_of}
+use Rattle.std.specs.Prelude.{◌≡◌, ◌≢◌, ℕ, List, Bool, true, Contains, Some, length, map, slice_get}
 use Rattle.store_manifest.specs.declared.entry.Entry.{Entry}
 use Rattle.durable_write.specs.Held.{Filed, entry_of}
 use Rattle.tier_store.specs.Pinned.{SeenAll}
@@ -16,8 +15,8 @@ use Rattle.tier_store.specs.Retiring.{oldest, without_oldest}
 use Rattle.tier_store.specs.Stores.{Stores}
 use Rattle.act_model.specs.Changes.{Retires, made}
 use Rattle.act_model.specs.Limbo.{FileState}
-use Rattle.act_model.specs.Machine.{Machine, MoveState, HasPublished, Unlists}
-use Rattle.act_model.specs.Rows.{RowState, Store, next_store, tier}
+use Rattle.act_model.specs.Machine.{Machine, MoveState, Unlists}
+use Rattle.act_model.specs.Rows.{RowState, Store}
 use Rattle.act_model.specs.Rule.{index_of}
 use Rattle.act_model.specs.Sweep.{IsPinned}
 use Rattle.archive_core.specs.LimboTies.{HasRetired, IsLimboOf}
@@ -29,14 +28,6 @@ use Rattle.archive_core.specs.MoveTies.{IsCopiedTo, ends_from}
 pub record AreCopiedTo (n : ℕ) (parts : List Entry) (files : List Filed) : Type 0 where
   pub number : length files ≡ length parts
   pub each : (k : ℕ) (part : Entry) (f : Filed) → slice_get parts k ≡ Some part → slice_get files k ≡ Some f → IsCopiedTo n part f
-
--- A move of this number has published these parts: they end where it does, and of each the next store lists a front.
-pub record IsToRetire (s : Stores) (m : Machine) (n : ℕ) (move : MoveState) (parts : List Entry) : Type 0 where
-  pub here : get m.moves n ≡ Some move
-  pub stage : move.stage ≡ HasPublished
-  pub row : move.row < length m.rows
-  pub to : m.told ≡ true → move.to ≡ ends_from 0 parts
-  pub copied : m.told ≡ true → (row : RowState) → slice_get m.rows move.row ≡ Some row → AreCopiedTo (end_of (tier row (next_store move.store))) parts (oldest (index_of move.store) move.row (length parts) s)
 
 -- the lengths up to which they are published
 abbrev pub lengths_of : List Entry → List ℕ

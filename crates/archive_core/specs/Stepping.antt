@@ -1,15 +1,13 @@
 -- How a move of an archive goes on, and what a crash within that leaves.
 use Rattle.std.specs.FinMap.{get}
-use Rattle.std.specs.Prelude.{◌≡◌, ◌⊎◌, ◌≤◌, ◌==◌, ℕ, List, [], Bool, true, Option, Some, None, Result, Ok, Err, IsTrue, if◌then◌else◌}
+use Rattle.std.specs.Prelude.{◌≡◌, ◌⊎◌, ◌≤◌, ◌==◌, ℕ, List, [], Bool, true, Option, Some, None, IsTrue, if◌then◌else◌}
 use Rattle.disk_model.specs.Files.{Files, Rose}
 use Rattle.disk_model.specs.Past.{Passes}
-use Rattle.disk_model.specs.declared.disk.DiskErr.{DiskErr}
 use Rattle.etl_mover.specs.Move.{MoveState}
 use Rattle.partition_names.specs.declared.granularity.Granularity.{Granularity}
 use Rattle.running_moves.specs.Table.{at}
 use Rattle.running_moves.specs.declared.table.Running.{Running}
 use Rattle.tier_store.specs.Seen.{granularities}
-use Rattle.act_model.specs.Asks.{move_stepped_reply}
 use Rattle.act_model.specs.Changes.{made}
 use Rattle.act_model.specs.Machine.{Machine, Change}
 use Rattle.act_model.specs.MoveStep.{GoesOn, change_of, without_move}
@@ -17,16 +15,11 @@ use Rattle.act_model.specs.Outcome.{removes_files}
 use Rattle.act_model.specs.Reply.{Reply}
 use Rattle.act_model.specs.declared.acts.Act.TheVariants.{MoveStep}
 use Rattle.act_model.specs.declared.acts.Answer.TheVariants as answer
-use Rattle.act_model.specs.declared.answers.MoveStepped.{MoveStepped}
-use Rattle.archive_core.specs.Ends.{HoldsMachine, disk_reply}
-use Rattle.archive_core.specs.Leaving.{LeavesMove}
+use Rattle.archive_core.specs.Ends.{HoldsMachine}
+use Rattle.archive_core.specs.Leaving.{KeepsListed, LeavesMove}
 use Rattle.archive_core.specs.Parts.{Parts}
 use Rattle.archive_core.specs.Stands.{Stands, Rests}
-
--- what is answered who asks that a move goes on, or where the disk failed or memory was wanting
-abbrev pub stepped_reply : Result MoveStepped DiskErr → Reply
-stepped_reply (Ok stepped) = move_stepped_reply stepped
-stepped_reply (Err e) = disk_reply e
+use Rattle.archive_core.specs.Strays.{IsWell, Tidies}
 
 -- the move of this number was taken out of the table
 pub record TakesMove (n : ℕ) (running : Running MoveState) (slots left : List (Option (Running MoveState))) : Type 0 where
@@ -51,18 +44,19 @@ abbrev pub HoldsStep : List Granularity → ℕ → Machine → Files → Type 0
 HoldsStep gs n m image = HoldsMachine gs image m ⊎ ((change : Change) × (change_of m (get m.moves n) ≡ Some change) × HoldsMachine gs image (made [] change m))
 
 -- So it ends, and so a crash at any moment of it. A fault comes only where the disk's count rose, and what is told as damaged is the file of a
--- part of the move.
+-- part of the move. What a store lists then or a pin names is shown still, and where it went well no file is a stray that wasn't one.
 pub record StepsOn (tells : Bool) (n : ℕ) (old : Parts) (m : Machine) (new : Parts) (reply : Reply) : Type 0 where
   pub ends : StepEnds tells n m new reply
   pub any_moment : IsTrue tells → Passes (λ a image. HoldsStep (granularities old.at.manifests) n m image) old.at.past new.at.past
   pub faults : old.at.faults ≤ new.at.faults
   pub cause : reply ≡ answer.DiskFault → Rose old.at.faults new.at.faults
-  pub moves : LeavesMove old (MoveStep n) reply new
+  pub moves : LeavesMove tells old (MoveStep n) reply new
+  pub files : KeepsListed tells old new
+  pub tidy : IsWell reply → Tidies tells old new
 
 -- so it does from whatever the archive stood for before the move was taken out
-abbrev pub GoesOnWith : Bool → ℕ → Running MoveState → Parts → Parts → Result MoveStepped DiskErr → Type 0
-GoesOnWith tells n running old new result =
-    (slots : List (Option (Running MoveState))) (m : Machine) → TakesMove n running slots old.slots → Rests tells (with_slots slots old) m → StepsOn tells n (with_slots slots old) m new (stepped_reply result)
+abbrev pub GoesOnWith : Bool → ℕ → Running MoveState → Parts → Parts → Reply → Type 0
+GoesOnWith tells n running old new reply = (slots : List (Option (Running MoveState))) (m : Machine) → TakesMove n running slots old.slots → Rests tells (with_slots slots old) m → StepsOn tells n (with_slots slots old) m new reply
 
 -- it stood for something then
 abbrev pub HasTaken : Bool → ℕ → Running MoveState → Parts → Type 0

@@ -11,7 +11,6 @@ use Rattle.act_model.specs.Reply.{Reply}
 use Rattle.act_model.specs.declared.acts.Answer.TheVariants.{Damaged, DiskFault, Memory}
 use Rattle.archive_core.specs.Leaving.{files_of}
 use Rattle.archive_core.specs.Parts.{Parts}
-use Rattle.archive_core.specs.Stepping.{TakesMove, with_slots}
 
 -- a running move has written the file, and is to list it
 pub record IsTarget (slots : List (Option (Running Moving))) (n : Name) : Type 0 where
@@ -41,8 +40,3 @@ IsWell _ = Unit {0}
 -- what an act leaves of strays, where nothing stood in doubt
 abbrev pub ActsTidily : Bool → Parts → Reply → Parts → Type 0
 ActsTidily tells p answer q = IsSettled p.at → IsWell answer → Tidies tells p q
-
--- The same of a step on the move of this number that was taken out of the table, where nothing stood in doubt.
-abbrev pub GoesOnTidily : Bool → ℕ → Running Moving → Parts → Parts → Reply → Type 0
-GoesOnTidily tells number running old new answer =
-    (slots : List (Option (Running Moving))) → TakesMove number running slots old.slots → IsWell answer → Tidies tells (with_slots slots old) new

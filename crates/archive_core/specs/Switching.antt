@@ -7,6 +7,8 @@ use Rattle.pv_catalog.specs.Rows.{HasName}
 use Rattle.pv_catalog.specs.declared.error.StateErr.{StateErr}
 use Rattle.pv_catalog.specs.declared.row.Row.{Row}
 use Rattle.tier_store.specs.Change.{Call, pausing, resuming}
+use Rattle.act_model.specs.declared.acts.Act.{Act}
+use Rattle.act_model.specs.declared.acts.Act.TheVariants.{Pause as PauseAct, Resume as ResumeAct}
 use Rattle.act_model.specs.declared.acts.Answer.TheVariants as answer
 use Rattle.act_model.specs.Pause.{not_running}
 use Rattle.act_model.specs.Reply.{Reply}
@@ -29,6 +31,11 @@ to_of Resume = Running
 abbrev pub wrong_of : Switch → State → Option Reply
 wrong_of Pause = not_running
 wrong_of Resume = not_paused
+
+-- the act that sets a state so
+abbrev pub act_of : Switch → List ℕ → Act
+act_of Pause name = PauseAct name
+act_of Resume name = ResumeAct name
 
 abbrev pub switching : Switch → ℕ → Call (Unit {0}) StateErr
 switching Pause row = pausing row

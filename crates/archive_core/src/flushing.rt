@@ -1,27 +1,22 @@
 // Flushing: what is accepted becomes durable, and the intake gives it up.
-ghost use Rattle.std.specs.Prelude.{◌≡◌, ◌≤◌, ◌∷◌, ◌↔◌, [], ℕ, length, true, IfOk, IsTrue, Ok, OnOk};
+ghost use Rattle.std.specs.Prelude.{◌≡◌, ◌≤◌, ◌∷◌, ◌↔◌, [], ℕ, length, true, IfOk, IsTrue};
 ghost use Rattle.append_buffer.specs.Tails.{tail_at, batch_of};
 ghost use Rattle.series_model.specs.Series.{end_of, since};
-ghost use Rattle.tier_store.specs.Pinned.{LeavesFronts};
-ghost use Rattle.act_model.specs.Asks.{flushed_reply};
 ghost use Rattle.act_model.specs.Changes.{of_row};
-ghost use Rattle.act_model.specs.Flush.{FlushStep, count_in};
+ghost use Rattle.act_model.specs.Flush.{count_in};
 ghost use Rattle.act_model.specs.Machine.{Machine, Appends};
-ghost use Rattle.act_model.specs.Step.{refuse_by, change_by};
+ghost use Rattle.act_model.specs.Reply.{reply_of};
 ghost use Rattle.act_model.specs.declared.acts.Act.TheVariants.{Flush as FlushAct};
-ghost use Rattle.archive_core.specs.Ends.{Steps, LeavesByAct, ChangesTo};
+ghost use Rattle.archive_core.specs.Acting.{Acted, Changed};
 ghost use Rattle.archive_core.specs.Flushing.{GivesUp, ListsBatch, IsTrimmed, flush_reply};
-ghost use Rattle.archive_core.specs.Leaving.{files_of};
 ghost use Rattle.archive_core.specs.Opening.{end_at};
 ghost use Rattle.archive_core.specs.Parts.{parts};
 ghost use Rattle.archive_core.specs.Stands.{Stands, Rests};
-ghost use Rattle.archive_core.specs.Strays.{ActsTidily, Tidies};
-ghost use Rattle.tier_store.specs.Seen.{seen, IsSettled};
 
 use crate::Archive;
 use crate::memory::Doubt;
 use crate::opening::end_in;
-use act_model::Flushed;
+use act_model::Answer;
 use append_buffer::Intake;
 use disk_model::{Disk, DiskErr};
 use series_model::{Batch, RowSamples};
@@ -91,10 +86,8 @@ impl<D: Disk> Archive<D> {
     fn flush_settled(&mut self, limit: u64) -> Result<u64, DiskErr>
         requires limit { 1 ≤ limit }
         requires rests { (m : Machine) × Rests D.tells (parts D.Disk self.old) m }
-        ensures changes { (m : Machine) → Rests D.tells (parts D.Disk self.old) m → ChangesTo D.tells (Appends (batch_of limit self.old.intake)) (parts D.Disk self.old) m (parts D.Disk self.new) result }
+        ensures changed { Changed D.tells (Appends (batch_of limit self.old.intake)) (parts D.Disk self.old) (parts D.Disk self.new) result }
         ensures count { IfOk result (λ samples. (m : Machine) → Rests D.tells (parts D.Disk self.old) m → m.told ≡ true → samples ≡ count_in (batch_of limit self.old.intake)) }
-        ensures fronts { LeavesFronts D.tells (files_of (parts D.Disk self.old)) (files_of (parts D.Disk self.new)) }
-        ensures tidy { OnOk result (Tidies D.tells (parts D.Disk self.old) (parts D.Disk self.new)) }
     {
         let batch = self.intake.batch(limit)?;
         match self.store.flush(&batch) {
@@ -113,10 +106,7 @@ impl<D: Disk> Archive<D> {
     fn flush_tails(&mut self, limit: u64) -> Result<u64, DiskErr>
         requires limit { 1 ≤ limit }
         requires stands { (m : Machine) × Stands D.tells (parts D.Disk self.old) m }
-        ensures step { Steps D.tells (FlushStep limit) (parts D.Disk self.old) (flush_reply (parts D.Disk self.new) result) (parts D.Disk self.new) }
-        ensures crash { LeavesByAct D.tells (refuse_by (FlushAct limit)) (change_by (FlushAct limit)) (parts D.Disk self.old) (parts D.Disk self.new) }
-        ensures fronts { LeavesFronts D.tells (files_of (parts D.Disk self.old)) (files_of (parts D.Disk self.new)) }
-        ensures tidy { IsSettled (seen D.Disk self.old.store) → OnOk result (Tidies D.tells (parts D.Disk self.old) (parts D.Disk self.new)) }
+        ensures { (who : ℕ) → Acted D.tells who (FlushAct limit) (parts D.Disk self.old) (flush_reply (parts D.Disk self.new) result) (parts D.Disk self.new) }
     {
         self.settle()?;
         self.flush_settled(limit)
@@ -128,22 +118,19 @@ impl<D: Disk> Archive<D> {
     ///
     /// `DiskFault` comes only where the disk's count of faults rose in the call. The intake gives nothing up then: whether the samples are
     /// durable may stand in doubt, and the next act that settles it finds out.
-    pub fn flush(&mut self, limit: u64) -> Flushed
+    pub fn flush(&mut self, limit: u64) -> Answer<D::Reader>
         requires limit { 1 ≤ limit }
         requires stands { (m : Machine) × Stands D.tells (parts D.Disk self.old) m }
-        ensures step { Steps D.tells (FlushStep limit) (parts D.Disk self.old) (flushed_reply result) (parts D.Disk self.new) }
-        ensures crash { LeavesByAct D.tells (refuse_by (FlushAct limit)) (change_by (FlushAct limit)) (parts D.Disk self.old) (parts D.Disk self.new) }
-        ensures fronts { LeavesFronts D.tells (files_of (parts D.Disk self.old)) (files_of (parts D.Disk self.new)) }
-        ensures tidy { ActsTidily D.tells (parts D.Disk self.old) (flushed_reply result) (parts D.Disk self.new) }
+        ensures { (who : ℕ) → Acted D.tells who (FlushAct limit) (parts D.Disk self.old) (reply_of D.Reader.tells D.Reader.bytes D.Reader.faults result) (parts D.Disk self.new) }
     {
         match self.flush_tails(limit) {
-            Ok(samples) => Flushed::Flushed {
+            Ok(samples) => Answer::Flushed {
                 samples,
                 left: self.intake.held(),
                 doors: self.doors,
             },
-            Err(DiskErr::Fault) => Flushed::DiskFault,
-            Err(DiskErr::Memory) => Flushed::Memory,
+            Err(DiskErr::Fault) => Answer::DiskFault,
+            Err(DiskErr::Memory) => Answer::Memory,
         }
     }
 }

@@ -32,7 +32,6 @@ mod sweeping;
 mod switching;
 mod telling;
 mod trying;
-mod widening;
 mod written;
 
 pub use archive::Archive;

@@ -1,22 +1,21 @@
 //! Moves: one begins, of a row's oldest files in store 1 or 2.
-ghost use Rattle.std.specs.Prelude.{◌≡◌, ◌⊎◌, ◌≤◌, ◌-◌, IfOk, IfErr, OnErr, slice_index, Ok, OnOk};
-ghost use Rattle.disk_model.specs.Files.{Rose};
+ghost use Rattle.std.specs.Prelude.{◌≡◌, ◌≤◌, ◌-◌, ℕ, IfOk, IfErr, OnErr, OnOk, slice_index};
 ghost use Rattle.disk_model.specs.declared.disk.DiskErr.TheVariants.{Memory};
+ghost use Rattle.tier_store.specs.Opening.{answer_of};
 ghost use Rattle.tier_store.specs.Seen.{seen, IsSettled};
-ghost use Rattle.act_model.specs.Asks.{move_begun_reply};
 ghost use Rattle.act_model.specs.Machine.{Machine};
-ghost use Rattle.act_model.specs.MoveBegin.{Begins, MoveBeginStep};
-ghost use Rattle.act_model.specs.Step.{refuse_by, change_by, store_of};
+ghost use Rattle.act_model.specs.Reply.{reply_of};
+ghost use Rattle.act_model.specs.Step.{store_of};
 ghost use Rattle.act_model.specs.declared.acts.Act.TheVariants.{MoveBegin as MoveBeginAct};
-ghost use Rattle.archive_core.specs.Ends.{Steps, LeavesByAct};
-ghost use Rattle.archive_core.specs.Leaving.{ReadsAlone};
-ghost use Rattle.archive_core.specs.Moving.{BeginsThere, begun_reply};
+ghost use Rattle.archive_core.specs.Acting.{Acted};
+ghost use Rattle.archive_core.specs.Moving.{BeginsThere};
 ghost use Rattle.archive_core.specs.Parts.{parts};
 ghost use Rattle.archive_core.specs.Stands.{Stands, Rests};
-ghost use Rattle.archive_core.specs.Strays.{ActsTidily, Tidies};
+ghost use Rattle.archive_core.specs.Strays.{Tidies};
 
 use crate::Archive;
-use act_model::MoveBegun;
+use crate::answering::answered;
+use act_model::Answer;
 use disk_model::{Disk, DiskErr};
 use etl_rules::Config;
 use move_choice::MoveRule;
@@ -37,13 +36,14 @@ fn rule_at(config: &Config, store: u8, now: u64) -> MoveRule
 
 impl<D: Disk> Archive<D> {
     // Begins the move that is to be made, where nothing stands in doubt. It makes no call of the disk.
-    fn begin_chosen(&mut self, store: u8, now: u64) -> Result<MoveBegun, DiskErr>
+    fn begin_chosen(&mut self, store: u8, now: u64) -> Result<Answer<D::Reader>, DiskErr>
         requires first { 1 ≤ store }
         requires last { store ≤ 2 }
         requires rests { (m : Machine) × Rests D.tells (parts D.Disk self.old) m }
-        ensures begins { IfOk result (λ begun. (m : Machine) → Rests D.tells (parts D.Disk self.old) m → BeginsThere D.tells (store_of store) now m (move_begun_reply begun) (parts D.Disk self.new)) }
+        ensures begins { IfOk result (λ begun. (m : Machine) → Rests D.tells (parts D.Disk self.old) m
+            → BeginsThere D.tells (store_of store) now m (reply_of D.Reader.tells D.Reader.bytes D.Reader.faults begun) (parts D.Disk self.new)) }
         ensures spent { OnErr result ((m : Machine) → Rests D.tells (parts D.Disk self.old) m → Stands D.tells (parts D.Disk self.new) m) }
-        ensures cause { IfErr result (λ e. (e ≡ Memory) ⊎ Rose (D.faults self.old.store.disk) (D.faults self.new.store.disk)) }
+        ensures memory { IfErr result (λ e. e ≡ Memory) }
         ensures store { self.new.store ≡ self.old.store }
         ensures tidy { OnOk result (Tidies D.tells (parts D.Disk self.old) (parts D.Disk self.new)) }
     {
@@ -59,22 +59,19 @@ impl<D: Disk> Archive<D> {
                     store,
                     moving,
                 })?;
-                Ok(MoveBegun::Begun { m, row, parts })
+                Ok(Answer::Begun { m, row, parts })
             }
-            tier_store::MoveBegun::Running { number } => Ok(MoveBegun::Busy { m: number }),
-            tier_store::MoveBegun::Nothing => Ok(MoveBegun::Nothing { doors: self.doors }),
+            tier_store::MoveBegun::Running { number } => Ok(Answer::Busy { m: number }),
+            tier_store::MoveBegun::Nothing => Ok(Answer::Nothing { doors: self.doors }),
         }
     }
 
-    fn begin_due(&mut self, store: u8, now: u64) -> Result<MoveBegun, DiskErr>
+    fn begin_due(&mut self, store: u8, now: u64) -> Result<Answer<D::Reader>, DiskErr>
         requires first { 1 ≤ store }
         requires last { store ≤ 2 }
         requires stands { (m : Machine) × Stands D.tells (parts D.Disk self.old) m }
-        ensures step { Steps D.tells (MoveBeginStep (store_of store) now) (parts D.Disk self.old) (begun_reply result) (parts D.Disk self.new) }
-        ensures crash { LeavesByAct D.tells (refuse_by (MoveBeginAct store now)) (change_by (MoveBeginAct store now)) (parts D.Disk self.old) (parts D.Disk self.new) }
-        ensures reads { ReadsAlone D.tells (parts D.Disk self.old) (parts D.Disk self.new) }
+        ensures acted { (who : ℕ) → Acted D.tells who (MoveBeginAct store now) (parts D.Disk self.old) (reply_of D.Reader.tells D.Reader.bytes D.Reader.faults (answer_of result)) (parts D.Disk self.new) }
         ensures quiet { IsSettled (seen D.Disk self.old.store) → self.new.store.disk ≡ self.old.store.disk }
-        ensures tidy { IsSettled (seen D.Disk self.old.store) → OnOk result (Tidies D.tells (parts D.Disk self.old) (parts D.Disk self.new)) }
     {
         self.settle()?;
         self.begin_chosen(store, now)
@@ -86,20 +83,13 @@ impl<D: Disk> Archive<D> {
     ///
     /// A change that stands in doubt is settled first, for which the disk is read. `DiskFault` comes only where the disk's count of faults
     /// rose in the call.
-    pub fn begin_move(&mut self, store: u8, now: u64) -> MoveBegun
+    pub fn begin_move(&mut self, store: u8, now: u64) -> Answer<D::Reader>
         requires first { 1 ≤ store }
         requires last { store ≤ 2 }
         requires stands { (m : Machine) × Stands D.tells (parts D.Disk self.old) m }
-        ensures step { Steps D.tells (MoveBeginStep (store_of store) now) (parts D.Disk self.old) (move_begun_reply result) (parts D.Disk self.new) }
-        ensures crash { LeavesByAct D.tells (refuse_by (MoveBeginAct store now)) (change_by (MoveBeginAct store now)) (parts D.Disk self.old) (parts D.Disk self.new) }
-        ensures reads { ReadsAlone D.tells (parts D.Disk self.old) (parts D.Disk self.new) }
+        ensures acted { (who : ℕ) → Acted D.tells who (MoveBeginAct store now) (parts D.Disk self.old) (reply_of D.Reader.tells D.Reader.bytes D.Reader.faults result) (parts D.Disk self.new) }
         ensures quiet { IsSettled (seen D.Disk self.old.store) → self.new.store.disk ≡ self.old.store.disk }
-        ensures tidy { ActsTidily D.tells (parts D.Disk self.old) (move_begun_reply result) (parts D.Disk self.new) }
     {
-        match self.begin_due(store, now) {
-            Ok(begun) => begun,
-            Err(DiskErr::Fault) => MoveBegun::DiskFault,
-            Err(DiskErr::Memory) => MoveBegun::Memory,
-        }
+        answered(self.begin_due(store, now))
     }
 }

@@ -1,18 +1,21 @@
 // Samples that come: an offer, and a tick of a row that is sampled. No file is touched.
-ghost use Rattle.std.specs.Prelude.{◌≡◌, ◌<◌, ℕ, List, length, Some};
-ghost use Rattle.act_model.specs.Asks.{offered_reply, ticked_reply};
+ghost use Rattle.std.specs.Prelude.{◌≡◌, ◌<◌, ℕ, length};
+ghost use Rattle.act_model.specs.Asks.{offered_reply};
 ghost use Rattle.act_model.specs.Event.{IsEvent};
-ghost use Rattle.act_model.specs.Machine.{Machine, find_row};
+ghost use Rattle.act_model.specs.Machine.{Machine};
 ghost use Rattle.act_model.specs.Offer.{OfferStep};
-ghost use Rattle.act_model.specs.Tick.{TickStep};
-ghost use Rattle.archive_core.specs.Ends.{Steps, EndsNamed};
+ghost use Rattle.act_model.specs.Reply.{reply_of};
+ghost use Rattle.act_model.specs.declared.acts.Act.TheVariants.{Offer as OfferAct, Tick as TickAct};
+ghost use Rattle.archive_core.specs.Acting.{Acted};
+ghost use Rattle.archive_core.specs.Ends.{EndsNamed};
 ghost use Rattle.archive_core.specs.Parts.{parts};
 ghost use Rattle.archive_core.specs.Stands.{Stands};
-ghost use Rattle.archive_core.specs.Wanting.{WithWants, WouldKeep, WouldTick};
+ghost use Rattle.archive_core.specs.Wanting.{WithWants, WouldKeep};
 
 use crate::Archive;
+use crate::answering::{offered, ticked};
 use crate::trying::{offer_row, reason_by_row, runs, tick_row};
-use act_model::{Offered, Ticked};
+use act_model::{Answer, Offered};
 use disk_model::Disk;
 use event_types::PayloadType;
 use series_model::{Reason, Sample};
@@ -36,37 +39,43 @@ impl<D: Disk> Archive<D> {
 
     /// Offers a sample: its line is an event of the type at its moment, escaped and without its newline. It makes no call of the disk,
     /// and takes no memory but for the row's tail, and that only where the tail has none to spare.
-    pub fn offer(&mut self, name: &[u8], ty: PayloadType, sample: Sample, now: u64) -> Offered
+    pub fn offer(
+        &mut self,
+        name: &[u8],
+        ty: PayloadType,
+        sample: Sample,
+        now: u64,
+    ) -> Answer<D::Reader>
         requires stands { (m : Machine) × Stands D.tells (parts D.Disk self.old) m }
         requires event { IsEvent ty sample }
-        ensures step { Steps D.tells (WithWants (WouldKeep name.now ty sample now) (OfferStep name.now ty sample now)) (parts D.Disk self.old) (offered_reply result) (parts D.Disk self.new) }
+        ensures acted { (who : ℕ) → Acted D.tells who (OfferAct name.now ty sample.t sample.line now) (parts D.Disk self.old) (reply_of D.Reader.tells D.Reader.bytes D.Reader.faults result) (parts D.Disk self.new) }
         ensures store { self.new.store ≡ self.old.store }
         ensures moves { self.new.moves ≡ self.old.moves }
     {
         match self.store.catalogue().find(name) {
-            None => Offered::Dropped(Reason::Unknown),
-            Some(row) => self.offer_to(row, ty, sample, now),
+            None => Answer::Dropped(Reason::Unknown),
+            Some(row) => offered(self.offer_to(row, ty, sample, now)),
         }
     }
 
     /// Tries what a sampled row holds, where its period is over. It makes no call of the disk, and takes no memory but for the row's
     /// tail.
-    pub fn tick(&mut self, row: u32, now: u64) -> Ticked
+    pub fn tick(&mut self, row: u32, now: u64) -> Answer<D::Reader>
         requires stands { (m : Machine) × Stands D.tells (parts D.Disk self.old) m }
-        ensures step { Steps D.tells (WithWants (WouldTick row now) (TickStep row now)) (parts D.Disk self.old) (ticked_reply result) (parts D.Disk self.new) }
+        ensures acted { (who : ℕ) → Acted D.tells who (TickAct row now) (parts D.Disk self.old) (reply_of D.Reader.tells D.Reader.bytes D.Reader.faults result) (parts D.Disk self.new) }
         ensures store { self.new.store ≡ self.old.store }
         ensures moves { self.new.moves ≡ self.old.moves }
     {
         let Some(variable) = self.store.catalogue().row(row) else {
-            return Ticked::NoRow;
+            return Answer::NoRow;
         };
         let is_running = runs(variable);
-        tick_row(
+        ticked(tick_row(
             &mut self.intake,
             &mut self.rows[row as usize],
             row,
             is_running,
             now,
-        )
+        ))
     }
 }

@@ -1,26 +1,21 @@
 // Registering: a variable gets a row.
-ghost use Rattle.std.specs.Prelude.{◌≡◌, ◌≤◌, ◌++◌, ◌∷◌, [], ℕ, length, take, IfOk, IfErr, OnOk, OnErr, Some, Ok};
+ghost use Rattle.std.specs.Prelude.{◌≡◌, ◌++◌, ◌∷◌, [], ℕ, length, take, IfOk, IfErr, OnOk, OnErr};
 ghost use Rattle.pv_catalog.specs.Catalogue.{Refuses};
 ghost use Rattle.pv_catalog.specs.declared.error.RegisterErr.{RegisterErr};
-ghost use Rattle.tier_store.specs.Pinned.{LeavesFronts};
-ghost use Rattle.act_model.specs.Asks.{registered_reply};
 ghost use Rattle.act_model.specs.Machine.{Machine, AddsRow};
-ghost use Rattle.act_model.specs.Register.{RegisterStep, register_refused};
-ghost use Rattle.act_model.specs.Step.{refuse_by, change_by};
+ghost use Rattle.act_model.specs.Reply.{reply_of};
 ghost use Rattle.act_model.specs.declared.acts.Act.TheVariants.{Register as RegisterAct};
-ghost use Rattle.archive_core.specs.Ends.{Steps, LeavesByAct, ChangesTo, register_reply};
-ghost use Rattle.archive_core.specs.Leaving.{files_of};
+ghost use Rattle.archive_core.specs.Acting.{Acted, Changed};
+ghost use Rattle.archive_core.specs.Ends.{register_reply};
 ghost use Rattle.archive_core.specs.Memory.{fresh_memory};
 ghost use Rattle.archive_core.specs.Parts.{parts};
 ghost use Rattle.archive_core.specs.Stands.{Stands, Rests};
-ghost use Rattle.archive_core.specs.Wanting.{NoneRefuses, WithWants};
-ghost use Rattle.archive_core.specs.Strays.{ActsTidily, Tidies};
 
 use crate::Archive;
 use crate::memory::{Doubt, RowMemory};
 use crate::opening::sampling;
-use act_model::Registered;
-use disk_model::{Disk, DiskErr};
+use act_model::Answer;
+use disk_model::{Disk, DiskErr, ReadAt};
 use event_types::About;
 use pv_catalog::{Catalogue, RegisterErr};
 use pv_name::PvName;
@@ -53,15 +48,27 @@ fn add_memory(
     })
 }
 
+// What is answered where a name was registered, or wasn't.
+fn registered<R: ReadAt>(done: Result<u32, RegisterErr>) -> Answer<R>
+    ensures { reply_of R.tells R.bytes R.faults result ≡ register_reply done }
+{
+    match done {
+        Ok(row) => Answer::Registered { row },
+        Err(RegisterErr::NameTaken { row }) => Answer::NameTaken { row },
+        Err(RegisterErr::KeyTaken { row }) => Answer::KeyTaken { row },
+        Err(RegisterErr::Full) => Answer::CatalogueFull,
+        Err(RegisterErr::Disk(DiskErr::Fault)) => Answer::DiskFault,
+        Err(RegisterErr::Disk(DiskErr::Memory)) => Answer::Memory,
+    }
+}
+
 impl<D: Disk> Archive<D> {
     // Adds a row, where it may be added and nothing stands in doubt. The memory for what is kept of it is taken before.
     fn add_row(&mut self, name: &PvName, about: &About) -> Result<u32, DiskErr>
         requires rests { (m : Machine) × Rests D.tells (parts D.Disk self.old) m }
         requires free { (e : RegisterErr) → Refuses self.old.store.catalogue.rows name.now e → ⊥ }
-        ensures changes { (m : Machine) → Rests D.tells (parts D.Disk self.old) m → ChangesTo D.tells (AddsRow name.now about.now) (parts D.Disk self.old) m (parts D.Disk self.new) result }
+        ensures changed { Changed D.tells (AddsRow name.now about.now) (parts D.Disk self.old) (parts D.Disk self.new) result }
         ensures number { IfOk result (λ row. row ≡ length self.old.store.catalogue.rows) }
-        ensures fronts { LeavesFronts D.tells (files_of (parts D.Disk self.old)) (files_of (parts D.Disk self.new)) }
-        ensures tidy { OnOk result (Tidies D.tells (parts D.Disk self.old) (parts D.Disk self.new)) }
     {
         let count = self.store.catalogue().rows().len();
         add_memory(&mut self.rows, count, about)?;
@@ -80,10 +87,7 @@ impl<D: Disk> Archive<D> {
 
     fn register_name(&mut self, name: &PvName, about: &About) -> Result<u32, RegisterErr>
         requires stands { (m : Machine) × Stands D.tells (parts D.Disk self.old) m }
-        ensures step { Steps D.tells (WithWants (NoneRefuses (register_refused name.now)) (RegisterStep name.now about.now)) (parts D.Disk self.old) (register_reply result) (parts D.Disk self.new) }
-        ensures crash { LeavesByAct D.tells (register_refused name.now) (λ m. Some (AddsRow name.now about.now)) (parts D.Disk self.old) (parts D.Disk self.new) }
-        ensures fronts { LeavesFronts D.tells (files_of (parts D.Disk self.old)) (files_of (parts D.Disk self.new)) }
-        ensures tidy { ActsTidily D.tells (parts D.Disk self.old) (register_reply result) (parts D.Disk self.new) }
+        ensures { (who : ℕ) → Acted D.tells who (RegisterAct name.now about.now) (parts D.Disk self.old) (register_reply result) (parts D.Disk self.new) }
     {
         refuse_taken(self.store.catalogue(), name)?;
         self.settle()?;
@@ -93,20 +97,10 @@ impl<D: Disk> Archive<D> {
 
     /// Registers a variable, whose row is running and has no samples, and answers the row's number. A change that stands in doubt is
     /// settled first. `DiskFault` comes only where the disk's count of faults rose in the call.
-    pub fn register(&mut self, name: &PvName, about: &About) -> Registered
+    pub fn register(&mut self, name: &PvName, about: &About) -> Answer<D::Reader>
         requires stands { (m : Machine) × Stands D.tells (parts D.Disk self.old) m }
-        ensures step { Steps D.tells (WithWants (NoneRefuses (refuse_by (RegisterAct name.now about.now))) (RegisterStep name.now about.now)) (parts D.Disk self.old) (registered_reply result) (parts D.Disk self.new) }
-        ensures crash { LeavesByAct D.tells (refuse_by (RegisterAct name.now about.now)) (change_by (RegisterAct name.now about.now)) (parts D.Disk self.old) (parts D.Disk self.new) }
-        ensures fronts { LeavesFronts D.tells (files_of (parts D.Disk self.old)) (files_of (parts D.Disk self.new)) }
-        ensures tidy { ActsTidily D.tells (parts D.Disk self.old) (registered_reply result) (parts D.Disk self.new) }
+        ensures { (who : ℕ) → Acted D.tells who (RegisterAct name.now about.now) (parts D.Disk self.old) (reply_of D.Reader.tells D.Reader.bytes D.Reader.faults result) (parts D.Disk self.new) }
     {
-        match self.register_name(name, about) {
-            Ok(row) => Registered::Registered { row },
-            Err(RegisterErr::NameTaken { row }) => Registered::NameTaken { row },
-            Err(RegisterErr::KeyTaken { row }) => Registered::KeyTaken { row },
-            Err(RegisterErr::Full) => Registered::CatalogueFull,
-            Err(RegisterErr::Disk(DiskErr::Fault)) => Registered::DiskFault,
-            Err(RegisterErr::Disk(DiskErr::Memory)) => Registered::Memory,
-        }
+        registered(self.register_name(name, about))
     }
 }

@@ -2,12 +2,10 @@
 ghost use Rattle.std.specs.Prelude.{◌≡◌, ◌↔◌, IsTrue, OnOk, OnErr};
 ghost use Rattle.pv_catalog.specs.Catalogue.{HasState};
 ghost use Rattle.durable_write.specs.Ends.{end_of_disk};
-ghost use Rattle.tier_store.specs.Change.{OnlySettles};
-ghost use Rattle.tier_store.specs.Pinned.{LeavesFronts};
-ghost use Rattle.tier_store.specs.Seen.{seen, IsSettled, granularities};
+ghost use Rattle.tier_store.specs.Seen.{seen, IsSettled};
 ghost use Rattle.act_model.specs.Machine.{Machine};
+ghost use Rattle.archive_core.specs.Acting.{Settling};
 ghost use Rattle.archive_core.specs.Ends.{SettlesTo, StandsStill};
-ghost use Rattle.archive_core.specs.Leaving.{files_of};
 ghost use Rattle.archive_core.specs.Memory.{cleared, IsCleared};
 ghost use Rattle.archive_core.specs.Parts.{parts};
 ghost use Rattle.archive_core.specs.Stands.{Stands};
@@ -60,11 +58,9 @@ impl<D: Disk> Archive<D> {
         requires stands { (m : Machine) × Stands D.tells (parts D.Disk self.old) m }
         ensures settled { OnOk result (SettlesTo D.tells (parts D.Disk self.old) (parts D.Disk self.new)) }
         ensures still { OnErr result (StandsStill D.tells (parts D.Disk self.old) (parts D.Disk self.new)) }
-        ensures granularity { granularities self.new.store.manifests.items ≡ granularities self.old.store.manifests.items }
-        ensures settles { OnlySettles D.tells (seen D.Disk self.old.store) (seen D.Disk self.new.store) (end_of_disk result) }
-        ensures fronts { LeavesFronts D.tells (files_of (parts D.Disk self.old)) (files_of (parts D.Disk self.new)) }
         ensures quiet { IsSettled (seen D.Disk self.old.store) → self.new.store ≡ self.old.store }
         ensures moves { self.new.moves ≡ self.old.moves }
+        ensures settling { Settling D.tells (parts D.Disk self.old) (parts D.Disk self.new) (end_of_disk result) }
     {
         self.store.review()?;
         clear_set(self.store.catalogue().rows(), &mut self.rows, &self.doubt);

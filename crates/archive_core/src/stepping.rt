@@ -1,24 +1,21 @@
 // The act by which a move goes on: it copies, lists what it has copied, and retires its parts.
-ghost use Rattle.std.specs.Prelude.{◌≡◌, ◌≢◌, ◌<◌, IfOk, length};
-ghost use Rattle.act_model.specs.Asks.{move_stepped_reply};
+ghost use Rattle.std.specs.Prelude.{◌≡◌, ◌≢◌, ◌<◌, ℕ, IfOk, length};
+ghost use Rattle.tier_store.specs.Opening.{answer_of};
 ghost use Rattle.act_model.specs.Machine.{Machine};
-ghost use Rattle.act_model.specs.MoveStep.{MoveStepStep};
-ghost use Rattle.act_model.specs.Step.{refuse_by, change_by};
+ghost use Rattle.act_model.specs.Reply.{reply_of};
 ghost use Rattle.act_model.specs.declared.acts.Act.TheVariants.{MoveStep as MoveStepAct};
 ghost use Rattle.etl_mover.specs.Move.{IsCopied};
 ghost use Rattle.etl_mover.specs.declared.moving.Stage.TheVariants.{Copying as IsCopying, Published as IsPublished};
-ghost use Rattle.archive_core.specs.Ends.{Steps, LeavesByAct};
-ghost use Rattle.archive_core.specs.Leaving.{LeavesMove};
+ghost use Rattle.archive_core.specs.Acting.{Acted};
 ghost use Rattle.archive_core.specs.Parts.{parts};
 ghost use Rattle.archive_core.specs.Retiring.{lengths_of};
 ghost use Rattle.archive_core.specs.Stands.{Stands};
-ghost use Rattle.archive_core.specs.Stepping.{GoesOnWith, HasTaken, stepped_reply};
-ghost use Rattle.archive_core.specs.Wanting.{NoneRefuses, WithWants};
-ghost use Rattle.archive_core.specs.Strays.{ActsTidily, GoesOnTidily};
+ghost use Rattle.archive_core.specs.Stepping.{GoesOnWith, HasTaken};
 
 use crate::Archive;
+use crate::answering::answered;
 use crate::memory::Doubt;
-use act_model::MoveStepped;
+use act_model::Answer;
 use disk_model::{Disk, DiskErr};
 use etl_mover::{Move, Stage};
 use running_moves::Running;
@@ -39,25 +36,25 @@ impl<D: Disk> Archive<D> {
         &mut self,
         number: u32,
         mut running: Running<Move>,
-    ) -> Result<MoveStepped, DiskErr>
+    ) -> Result<Answer<D::Reader>, DiskErr>
         requires taken { HasTaken D.tells number running (parts D.Disk self.old) }
         requires copies { running.moving.stage ≡ IsCopying }
         requires left { running.moving.at ≢ length running.moving.parts }
         requires room { number < length self.old.moves.slots.items }
-        ensures on { GoesOnWith D.tells number running (parts D.Disk self.old) (parts D.Disk self.new) result }
-        ensures tidy { GoesOnTidily D.tells number running (parts D.Disk self.old) (parts D.Disk self.new) (stepped_reply result) }
+        ensures { GoesOnWith D.tells number running (parts D.Disk self.old) (parts D.Disk self.new)
+            (reply_of D.Reader.tells D.Reader.bytes D.Reader.faults (answer_of result)) }
     {
         let place = usize::from(running.store) - 1;
         match self.store.copy(place, &mut running.moving) {
             Ok(CopyEnd::More) => {
                 self.moves.put_back(number, running);
-                Ok(MoveStepped::Copying)
+                Ok(Answer::Copying)
             }
             Ok(CopyEnd::Copied) => {
                 self.moves.put_back(number, running);
-                Ok(MoveStepped::Copied)
+                Ok(Answer::Copied)
             }
-            Ok(CopyEnd::Damaged { name, at }) => Ok(MoveStepped::Damaged { name, at }),
+            Ok(CopyEnd::Damaged { name, at }) => Ok(Answer::Damaged { name, at }),
             Err(DiskErr::Fault) => Err(DiskErr::Fault),
             Err(DiskErr::Memory) => {
                 self.moves.put_back(number, running);
@@ -72,12 +69,12 @@ impl<D: Disk> Archive<D> {
         &mut self,
         number: u32,
         mut running: Running<Move>,
-    ) -> Result<MoveStepped, DiskErr>
+    ) -> Result<Answer<D::Reader>, DiskErr>
         requires taken { HasTaken D.tells number running (parts D.Disk self.old) }
         requires copied { IsCopied running.moving }
         requires room { number < length self.old.moves.slots.items }
-        ensures on { GoesOnWith D.tells number running (parts D.Disk self.old) (parts D.Disk self.new) result }
-        ensures tidy { GoesOnTidily D.tells number running (parts D.Disk self.old) (parts D.Disk self.new) (stepped_reply result) }
+        ensures { GoesOnWith D.tells number running (parts D.Disk self.old) (parts D.Disk self.new)
+            (reply_of D.Reader.tells D.Reader.bytes D.Reader.faults (answer_of result)) }
     {
         match self
             .store
@@ -85,7 +82,7 @@ impl<D: Disk> Archive<D> {
         {
             Ok(()) => {
                 self.moves.put_back(number, running);
-                Ok(MoveStepped::Published)
+                Ok(Answer::Published)
             }
             Err(DiskErr::Fault) => {
                 self.doubt = Some(Doubt::Published);
@@ -101,12 +98,16 @@ impl<D: Disk> Archive<D> {
     // Retires the parts of a move that was taken out of the table and whose copies are listed, where nothing stands in doubt. The move has
     // ended then, whether its parts have left their store or one of them has grown, and after a fault, be it that of a removal behind the
     // commit. Where memory was wanting it is put back. Of a doubted retirement nothing is kept: all that it changes in memory is the stores'.
-    fn retire_taken(&mut self, number: u32, running: Running<Move>) -> Result<MoveStepped, DiskErr>
+    fn retire_taken(
+        &mut self,
+        number: u32,
+        running: Running<Move>,
+    ) -> Result<Answer<D::Reader>, DiskErr>
         requires taken { HasTaken D.tells number running (parts D.Disk self.old) }
         requires published { running.moving.stage ≡ IsPublished }
         requires room { number < length self.old.moves.slots.items }
-        ensures on { GoesOnWith D.tells number running (parts D.Disk self.old) (parts D.Disk self.new) result }
-        ensures tidy { GoesOnTidily D.tells number running (parts D.Disk self.old) (parts D.Disk self.new) (stepped_reply result) }
+        ensures { GoesOnWith D.tells number running (parts D.Disk self.old) (parts D.Disk self.new)
+            (reply_of D.Reader.tells D.Reader.bytes D.Reader.faults (answer_of result)) }
     {
         let Ok(lengths) = published_lengths(self.alloc, &running.moving) else {
             self.moves.put_back(number, running);
@@ -116,11 +117,11 @@ impl<D: Disk> Archive<D> {
             .store
             .retire(usize::from(running.store) - 1, running.series, &lengths)
         {
-            Ok(RetireEnd::Retired { removed: Ok(()) }) => Ok(MoveStepped::Retired {
+            Ok(RetireEnd::Retired { removed: Ok(()) }) => Ok(Answer::Retired {
                 parts: lengths.len() as u64,
             }),
             Ok(RetireEnd::Retired { removed: Err(_) }) => Err(DiskErr::Fault),
-            Ok(RetireEnd::Again { len, copied }) => Ok(MoveStepped::Again { len, copied }),
+            Ok(RetireEnd::Again { len, copied }) => Ok(Answer::Again { len, copied }),
             Err(DiskErr::Fault) => Err(DiskErr::Fault),
             Err(DiskErr::Memory) => {
                 self.moves.put_back(number, running);
@@ -130,11 +131,11 @@ impl<D: Disk> Archive<D> {
     }
 
     // Goes on with a move that was taken out of the table, where nothing stands in doubt.
-    fn go_on(&mut self, number: u32, running: Running<Move>) -> Result<MoveStepped, DiskErr>
+    fn go_on(&mut self, number: u32, running: Running<Move>) -> Result<Answer<D::Reader>, DiskErr>
         requires taken { HasTaken D.tells number running (parts D.Disk self.old) }
         requires room { number < length self.old.moves.slots.items }
-        ensures on { GoesOnWith D.tells number running (parts D.Disk self.old) (parts D.Disk self.new) result }
-        ensures tidy { GoesOnTidily D.tells number running (parts D.Disk self.old) (parts D.Disk self.new) (stepped_reply result) }
+        ensures { GoesOnWith D.tells number running (parts D.Disk self.old) (parts D.Disk self.new)
+            (reply_of D.Reader.tells D.Reader.bytes D.Reader.faults (answer_of result)) }
     {
         match running.moving.stage() {
             Stage::Published => self.retire_taken(number, running),
@@ -143,15 +144,13 @@ impl<D: Disk> Archive<D> {
         }
     }
 
-    fn step_move(&mut self, number: u32) -> Result<MoveStepped, DiskErr>
+    fn step_move(&mut self, number: u32) -> Result<Answer<D::Reader>, DiskErr>
         requires stands { (m : Machine) × Stands D.tells (parts D.Disk self.old) m }
-        ensures step { Steps D.tells (WithWants (NoneRefuses (refuse_by (MoveStepAct number))) (MoveStepStep number)) (parts D.Disk self.old) (stepped_reply result) (parts D.Disk self.new) }
-        ensures crash { LeavesByAct D.tells (refuse_by (MoveStepAct number)) (change_by (MoveStepAct number)) (parts D.Disk self.old) (parts D.Disk self.new) }
-        ensures moves { LeavesMove (parts D.Disk self.old) (MoveStepAct number) (stepped_reply result) (parts D.Disk self.new) }
-        ensures tidy { ActsTidily D.tells (parts D.Disk self.old) (stepped_reply result) (parts D.Disk self.new) }
+        ensures { (who : ℕ) → Acted D.tells who (MoveStepAct number) (parts D.Disk self.old)
+            (reply_of D.Reader.tells D.Reader.bytes D.Reader.faults (answer_of result)) (parts D.Disk self.new) }
     {
         if !self.moves.runs(number) {
-            return Ok(MoveStepped::NoMove);
+            return Ok(Answer::NoMove);
         }
         match self.settle() {
             Ok(()) => {}
@@ -162,7 +161,7 @@ impl<D: Disk> Archive<D> {
             Err(DiskErr::Memory) => return Err(DiskErr::Memory),
         }
         let Some(running) = self.moves.take(number) else {
-            return Ok(MoveStepped::NoMove);
+            return Ok(Answer::NoMove);
         };
         self.go_on(number, running)
     }
@@ -175,17 +174,11 @@ impl<D: Disk> Archive<D> {
     ///
     /// A change that stands in doubt is settled first. `DiskFault` comes only where the disk's count of faults rose in the call; the move
     /// has ended then. Where only the removal of a part failed, all parts have left their store. `Memory` leaves it as it was.
-    pub fn move_step(&mut self, number: u32) -> MoveStepped
+    pub fn move_step(&mut self, number: u32) -> Answer<D::Reader>
         requires stands { (m : Machine) × Stands D.tells (parts D.Disk self.old) m }
-        ensures step { Steps D.tells (WithWants (NoneRefuses (refuse_by (MoveStepAct number))) (MoveStepStep number)) (parts D.Disk self.old) (move_stepped_reply result) (parts D.Disk self.new) }
-        ensures crash { LeavesByAct D.tells (refuse_by (MoveStepAct number)) (change_by (MoveStepAct number)) (parts D.Disk self.old) (parts D.Disk self.new) }
-        ensures moves { LeavesMove (parts D.Disk self.old) (MoveStepAct number) (move_stepped_reply result) (parts D.Disk self.new) }
-        ensures tidy { ActsTidily D.tells (parts D.Disk self.old) (move_stepped_reply result) (parts D.Disk self.new) }
+        ensures { (who : ℕ) → Acted D.tells who (MoveStepAct number) (parts D.Disk self.old)
+            (reply_of D.Reader.tells D.Reader.bytes D.Reader.faults result) (parts D.Disk self.new) }
     {
-        match self.step_move(number) {
-            Ok(stepped) => stepped,
-            Err(DiskErr::Fault) => MoveStepped::DiskFault,
-            Err(DiskErr::Memory) => MoveStepped::Memory,
-        }
+        answered(self.step_move(number))
     }
 }

@@ -1,36 +1,34 @@
 // Sweeping: files that were retired, and that nothing needs any more, are removed.
-ghost use Rattle.std.specs.Prelude.{◌≡◌, IfOk};
-ghost use Rattle.act_model.specs.Asks.{swept_reply};
+ghost use Rattle.std.specs.Prelude.{◌≡◌, ℕ, IfOk};
 ghost use Rattle.act_model.specs.Machine.{Machine};
-ghost use Rattle.act_model.specs.Step.{refuse_by, change_by};
-ghost use Rattle.act_model.specs.Sweep.{SweepStep};
+ghost use Rattle.act_model.specs.Reply.{reply_of};
 ghost use Rattle.act_model.specs.declared.acts.Act.TheVariants.{Sweep as SweepAct};
-ghost use Rattle.archive_core.specs.Ends.{Steps, LeavesByAct};
+ghost use Rattle.archive_core.specs.Acting.{Acted};
 ghost use Rattle.archive_core.specs.Parts.{parts};
 ghost use Rattle.archive_core.specs.Stands.{Stands, Rests};
 ghost use Rattle.archive_core.specs.Sweeping.{sweep_reply};
 ghost use Rattle.archive_core.specs.Written.{AreWritten};
-ghost use Rattle.archive_core.specs.Strays.{ActsTidily};
 
 use crate::Archive;
 use crate::written::written_names;
-use act_model::Swept;
-use disk_model::{Disk, DiskErr, FileName};
+use act_model::Answer;
+use disk_model::{Disk, DiskErr, FileName, ReadAt};
 use std::alloc::AllocError;
+use tier_store::Swept;
 
-// The stores' answer to a sweep, in the act's own type.
-fn swept(done: Result<tier_store::Swept, DiskErr>) -> Swept
-    ensures { swept_reply result ≡ sweep_reply done }
+// What is answered after the stores' sweep.
+fn swept<R: ReadAt>(done: Result<Swept, DiskErr>) -> Answer<R>
+    ensures { reply_of R.tells R.bytes R.faults result ≡ sweep_reply done }
 {
     match done {
         Ok(
-            tier_store::Swept {
+            Swept {
                 files,
                 removed: Ok(()),
             },
-        ) => Swept::Swept { files },
-        Ok(_) | Err(DiskErr::Fault) => Swept::DiskFault,
-        Err(DiskErr::Memory) => Swept::Memory,
+        ) => Answer::Swept { files },
+        Ok(_) | Err(DiskErr::Fault) => Answer::DiskFault,
+        Err(DiskErr::Memory) => Answer::Memory,
     }
 }
 
@@ -48,11 +46,9 @@ impl<D: Disk> Archive<D> {
     }
 
     // Sweeps the stores, but for the files that running moves have written to.
-    fn sweep_stores(&mut self) -> Result<tier_store::Swept, DiskErr>
+    fn sweep_stores(&mut self) -> Result<Swept, DiskErr>
         requires stands { (m : Machine) × Stands D.tells (parts D.Disk self.old) m }
-        ensures step { Steps D.tells SweepStep (parts D.Disk self.old) (sweep_reply result) (parts D.Disk self.new) }
-        ensures crash { LeavesByAct D.tells (refuse_by SweepAct) (change_by SweepAct) (parts D.Disk self.old) (parts D.Disk self.new) }
-        ensures tidy { ActsTidily D.tells (parts D.Disk self.old) (sweep_reply result) (parts D.Disk self.new) }
+        ensures { (who : ℕ) → Acted D.tells who SweepAct (parts D.Disk self.old) (sweep_reply result) (parts D.Disk self.new) }
     {
         self.settle()?;
         let written = self.written_names()?;
@@ -63,11 +59,9 @@ impl<D: Disk> Archive<D> {
     /// into which no running move has copied. A change that stands in doubt is settled first. `DiskFault` comes only where the disk's count
     /// of faults rose in the call: from the settling, or where a removal failed. Then the act has done all else, and the file counts for
     /// nothing any more. `Memory` leaves all as it was, but for a doubt that is settled.
-    pub fn sweep(&mut self) -> Swept
+    pub fn sweep(&mut self) -> Answer<D::Reader>
         requires stands { (m : Machine) × Stands D.tells (parts D.Disk self.old) m }
-        ensures step { Steps D.tells SweepStep (parts D.Disk self.old) (swept_reply result) (parts D.Disk self.new) }
-        ensures crash { LeavesByAct D.tells (refuse_by SweepAct) (change_by SweepAct) (parts D.Disk self.old) (parts D.Disk self.new) }
-        ensures tidy { ActsTidily D.tells (parts D.Disk self.old) (swept_reply result) (parts D.Disk self.new) }
+        ensures { (who : ℕ) → Acted D.tells who SweepAct (parts D.Disk self.old) (reply_of D.Reader.tells D.Reader.bytes D.Reader.faults result) (parts D.Disk self.new) }
     {
         swept(self.sweep_stores())
     }

@@ -1,35 +1,28 @@
 // Pausing and resuming: a row's state is set, and what a sampled row holds is given up.
-ghost use Rattle.std.specs.Prelude.{◌≡◌, ◌<◌, ℕ, length, IfOk, IfErr, Some, Ok, OnOk};
+ghost use Rattle.std.specs.Prelude.{◌≡◌, ◌<◌, ℕ, length, IfOk, IfErr, Some, OnOk};
 ghost use Rattle.event_types.specs.declared.about.State.{State};
 ghost use Rattle.pv_catalog.specs.Catalogue.{HasState};
 ghost use Rattle.durable_write.specs.Ends.{end_of_switch};
-ghost use Rattle.tier_store.specs.Change.{Has, Acts};
-ghost use Rattle.tier_store.specs.Moving.{LeavesLater};
-ghost use Rattle.tier_store.specs.Pinned.{seen_all, KeepsShown, LeavesFronts};
-ghost use Rattle.tier_store.specs.Revival.{KeepsWhole};
-ghost use Rattle.tier_store.specs.Seen.{seen, IsSettled};
+ghost use Rattle.tier_store.specs.Change.{Has, Changes};
+ghost use Rattle.tier_store.specs.Frame.{Frame};
+ghost use Rattle.tier_store.specs.Pinned.{seen_all};
+ghost use Rattle.tier_store.specs.Seen.{seen};
 ghost use Rattle.tier_store.specs.Stores.{Stores};
-ghost use Rattle.act_model.specs.Asks.{paused_reply, resumed_reply};
-ghost use Rattle.act_model.specs.Machine.{Machine, SetsState, find_row};
-ghost use Rattle.act_model.specs.Pause.{PauseStep, StateStep, state_refused, sets_of};
-ghost use Rattle.act_model.specs.Resume.{ResumeStep};
-ghost use Rattle.act_model.specs.Step.{refuse_by, change_by};
+ghost use Rattle.tier_store.specs.Strays.{LeavesTidy};
+ghost use Rattle.act_model.specs.Machine.{Machine, SetsState};
+ghost use Rattle.act_model.specs.Reply.{reply_of};
 ghost use Rattle.act_model.specs.declared.acts.Act.TheVariants.{Pause as PauseAct, Resume as ResumeAct};
-ghost use Rattle.archive_core.specs.Ends.{Steps, LeavesByAct, ChangesTo};
-ghost use Rattle.archive_core.specs.Leaving.{files_of};
+ghost use Rattle.archive_core.specs.Acting.{Acted, Changed};
 ghost use Rattle.archive_core.specs.Parts.{parts};
 ghost use Rattle.archive_core.specs.Stands.{Stands, Rests};
-ghost use Rattle.archive_core.specs.Switching.{IsFound, IsUnset, from_of, to_of, wrong_of, switching, switch_reply};
+ghost use Rattle.archive_core.specs.Switching.{IsFound, IsUnset, act_of, from_of, to_of, switching, switch_reply};
 ghost use Rattle.archive_core.specs.declared.switching.Unset.TheVariants.{Disk as UnsetDisk};
-ghost use Rattle.archive_core.specs.Wanting.{NoneRefuses, WithWants};
-ghost use Rattle.archive_core.specs.Strays.{ActsTidily, IsWell, Tidies};
-ghost use Rattle.tier_store.specs.Strays.{LeavesTidy};
 
 use crate::Archive;
 use crate::memory::Doubt;
 use crate::settling::{clear, has_state};
-use act_model::{Paused, Resumed};
-use disk_model::{Disk, DiskErr};
+use act_model::Answer;
+use disk_model::{Disk, DiskErr, ReadAt};
 use event_types::State;
 use pv_catalog::{Catalogue, StateErr};
 use tier_store::TierStore;
@@ -98,18 +91,31 @@ fn row_to_switch(catalogue: &Catalogue, name: &[u8], switch: Switch) -> Result<u
 fn switch_in<D: Disk>(store: &mut TierStore<D>, row: u32, switch: Switch) -> Result<(), StateErr>
     requires row { row < length store.old.catalogue.rows }
     requires has { (held : Stores) × Has D.tells (seen D.Disk store.old) held }
-    ensures acts { Acts D.tells (switching switch row) (seen D.Disk store.old) (seen D.Disk store.new) (end_of_switch result) }
+    ensures changes { Changes D.tells (switching switch row) (seen D.Disk store.old) (seen D.Disk store.new) (end_of_switch result) }
+    ensures frame { Frame D.tells (seen_all D.Disk store.old) (seen_all D.Disk store.new) }
+    ensures tidy { OnOk result (LeavesTidy D.tells (seen_all D.Disk store.old) (seen_all D.Disk store.new)) }
     ensures limbo { store.new.limbo ≡ store.old.limbo }
     ensures pins { store.new.pinned ≡ store.old.pinned }
-    ensures shown { KeepsShown D.tells (seen_all D.Disk store.old) (seen_all D.Disk store.new) }
-    ensures fronts { LeavesFronts D.tells (seen_all D.Disk store.old) (seen_all D.Disk store.new) }
-    ensures whole { KeepsWhole D.tells (seen_all D.Disk store.old) (seen_all D.Disk store.new) }
-    ensures leaves { LeavesLater D.tells (seen_all D.Disk store.old) (seen_all D.Disk store.new) }
-    ensures tidy { IsSettled (seen D.Disk store.old) → OnOk result (LeavesTidy D.tells (seen_all D.Disk store.old) (seen_all D.Disk store.new)) }
 {
     match switch {
         Switch::Pause => store.pause(row),
         Switch::Resume => store.resume(row),
+    }
+}
+
+// What is answered where a state was set, or wasn't.
+fn set<R: ReadAt>(switch: Switch, done: Result<(), Unset>) -> Answer<R>
+    ensures { reply_of R.tells R.bytes R.faults result ≡ switch_reply switch done }
+{
+    match done {
+        Ok(()) => Answer::Done,
+        Err(Unset::NoSuchVariable) => Answer::NoSuchVariable,
+        Err(Unset::WrongState) => match switch {
+            Switch::Pause => Answer::NotRunning,
+            Switch::Resume => Answer::NotPaused,
+        },
+        Err(Unset::Disk(DiskErr::Fault)) => Answer::DiskFault,
+        Err(Unset::Disk(DiskErr::Memory)) => Answer::Memory,
     }
 }
 
@@ -118,9 +124,7 @@ impl<D: Disk> Archive<D> {
     fn switch(&mut self, row: u32, switch: Switch) -> Result<(), DiskErr>
         requires rests { (m : Machine) × Rests D.tells (parts D.Disk self.old) m }
         requires state { HasState self.old.store.catalogue.rows row (from_of switch) }
-        ensures changes { (m : Machine) → Rests D.tells (parts D.Disk self.old) m → ChangesTo D.tells (SetsState row (to_of switch)) (parts D.Disk self.old) m (parts D.Disk self.new) result }
-        ensures fronts { LeavesFronts D.tells (files_of (parts D.Disk self.old)) (files_of (parts D.Disk self.new)) }
-        ensures tidy { OnOk result (Tidies D.tells (parts D.Disk self.old) (parts D.Disk self.new)) }
+        ensures { Changed D.tells (SetsState row (to_of switch)) (parts D.Disk self.old) (parts D.Disk self.new) result }
     {
         match switch_in(&mut self.store, row, switch) {
             Ok(()) => {
@@ -140,10 +144,7 @@ impl<D: Disk> Archive<D> {
 
     fn set_state(&mut self, name: &[u8], switch: Switch) -> Result<(), Unset>
         requires stands { (m : Machine) × Stands D.tells (parts D.Disk self.old) m }
-        ensures step { Steps D.tells (WithWants (NoneRefuses (state_refused (wrong_of switch) name.now)) (StateStep (wrong_of switch) (to_of switch) name.now)) (parts D.Disk self.old) (switch_reply switch result) (parts D.Disk self.new) }
-        ensures crash { LeavesByAct D.tells (state_refused (wrong_of switch) name.now) (λ m. sets_of (to_of switch) (find_row m name.now)) (parts D.Disk self.old) (parts D.Disk self.new) }
-        ensures fronts { LeavesFronts D.tells (files_of (parts D.Disk self.old)) (files_of (parts D.Disk self.new)) }
-        ensures tidy { IsSettled (seen D.Disk self.old.store) → IsWell (switch_reply switch result) → Tidies D.tells (parts D.Disk self.old) (parts D.Disk self.new) }
+        ensures { (who : ℕ) → Acted D.tells who (act_of switch name.now) (parts D.Disk self.old) (switch_reply switch result) (parts D.Disk self.new) }
     {
         row_to_switch(self.store.catalogue(), name, switch)?;
         self.settle()?;
@@ -154,37 +155,19 @@ impl<D: Disk> Archive<D> {
 
     /// Drops a running variable's samples from now on, until it is resumed, and gives up what a sampled row holds. A change that stands
     /// in doubt is settled first. `DiskFault` comes only where the disk's count of faults rose in the call.
-    pub fn pause(&mut self, name: &[u8]) -> Paused
+    pub fn pause(&mut self, name: &[u8]) -> Answer<D::Reader>
         requires stands { (m : Machine) × Stands D.tells (parts D.Disk self.old) m }
-        ensures step { Steps D.tells (WithWants (NoneRefuses (refuse_by (PauseAct name.now))) (PauseStep name.now)) (parts D.Disk self.old) (paused_reply result) (parts D.Disk self.new) }
-        ensures crash { LeavesByAct D.tells (refuse_by (PauseAct name.now)) (change_by (PauseAct name.now)) (parts D.Disk self.old) (parts D.Disk self.new) }
-        ensures fronts { LeavesFronts D.tells (files_of (parts D.Disk self.old)) (files_of (parts D.Disk self.new)) }
-        ensures tidy { ActsTidily D.tells (parts D.Disk self.old) (paused_reply result) (parts D.Disk self.new) }
+        ensures { (who : ℕ) → Acted D.tells who (PauseAct name.now) (parts D.Disk self.old) (reply_of D.Reader.tells D.Reader.bytes D.Reader.faults result) (parts D.Disk self.new) }
     {
-        match self.set_state(name, Switch::Pause) {
-            Ok(()) => Paused::Done,
-            Err(Unset::NoSuchVariable) => Paused::NoSuchVariable,
-            Err(Unset::WrongState) => Paused::NotRunning,
-            Err(Unset::Disk(DiskErr::Fault)) => Paused::DiskFault,
-            Err(Unset::Disk(DiskErr::Memory)) => Paused::Memory,
-        }
+        set(Switch::Pause, self.set_state(name, Switch::Pause))
     }
 
     /// Takes a paused variable's samples again; a sampled row's next tick is due at once. A change that stands in doubt is settled
     /// first. `DiskFault` comes only where the disk's count of faults rose in the call.
-    pub fn resume(&mut self, name: &[u8]) -> Resumed
+    pub fn resume(&mut self, name: &[u8]) -> Answer<D::Reader>
         requires stands { (m : Machine) × Stands D.tells (parts D.Disk self.old) m }
-        ensures step { Steps D.tells (WithWants (NoneRefuses (refuse_by (ResumeAct name.now))) (ResumeStep name.now)) (parts D.Disk self.old) (resumed_reply result) (parts D.Disk self.new) }
-        ensures crash { LeavesByAct D.tells (refuse_by (ResumeAct name.now)) (change_by (ResumeAct name.now)) (parts D.Disk self.old) (parts D.Disk self.new) }
-        ensures fronts { LeavesFronts D.tells (files_of (parts D.Disk self.old)) (files_of (parts D.Disk self.new)) }
-        ensures tidy { ActsTidily D.tells (parts D.Disk self.old) (resumed_reply result) (parts D.Disk self.new) }
+        ensures { (who : ℕ) → Acted D.tells who (ResumeAct name.now) (parts D.Disk self.old) (reply_of D.Reader.tells D.Reader.bytes D.Reader.faults result) (parts D.Disk self.new) }
     {
-        match self.set_state(name, Switch::Resume) {
-            Ok(()) => Resumed::Done,
-            Err(Unset::NoSuchVariable) => Resumed::NoSuchVariable,
-            Err(Unset::WrongState) => Resumed::NotPaused,
-            Err(Unset::Disk(DiskErr::Fault)) => Resumed::DiskFault,
-            Err(Unset::Disk(DiskErr::Memory)) => Resumed::Memory,
-        }
+        set(Switch::Resume, self.set_state(name, Switch::Resume))
     }
 }

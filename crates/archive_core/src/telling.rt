@@ -1,15 +1,13 @@
 // What an archive tells without its disk: names of rows, and doors.
 ghost use Rattle.std.specs.Prelude.{◌≡◌, ◌≤◌, ℕ, IfOk, take, drop, map};
 ghost use Rattle.pv_catalog.specs.declared.row.Row.{Row};
-ghost use Rattle.act_model.specs.Asks.{names_told_reply, doors_left_reply};
-ghost use Rattle.act_model.specs.Doors.{DoorsStep, DoorDoneStep};
-ghost use Rattle.act_model.specs.Machine.{Machine};
-ghost use Rattle.act_model.specs.Names.{NamesStep};
-ghost use Rattle.archive_core.specs.Ends.{Steps};
+ghost use Rattle.act_model.specs.Reply.{reply_of};
+ghost use Rattle.act_model.specs.declared.acts.Act.TheVariants.{DoorDone as DoorDoneAct, Doors as DoorsAct, Names as NamesAct};
+ghost use Rattle.archive_core.specs.Acting.{Acted};
 ghost use Rattle.archive_core.specs.Parts.{parts};
 
 use crate::Archive;
-use act_model::{DoorsLeft, NamesTold};
+use act_model::Answer;
 use disk_model::Disk;
 use pv_catalog::Row;
 use series_model::{Blob, Blobs};
@@ -30,33 +28,33 @@ fn names_of(alloc: Global, rows: &[Row], from: usize, most: usize) -> Result<Blo
 
 impl<D: Disk> Archive<D> {
     /// The names of rows from a number on, at most `most`, and whether a row stands behind them. It makes no call of the disk.
-    pub fn names(&self, from: u32, most: u32) -> NamesTold
-        ensures step { Steps D.tells (NamesStep from most) (parts D.Disk self.now) (names_told_reply result) (parts D.Disk self.now) }
+    pub fn names(&self, from: u32, most: u32) -> Answer<D::Reader>
+        ensures { (who : ℕ) → Acted D.tells who (NamesAct from most) (parts D.Disk self.now) (reply_of D.Reader.tells D.Reader.bytes D.Reader.faults result) (parts D.Disk self.now) }
     {
         let rows = self.store.catalogue().rows();
         match names_of(self.alloc, rows, from as usize, most as usize) {
-            Ok(names) => NamesTold::NamesAre {
+            Ok(names) => Answer::NamesAre {
                 names,
                 more: u64::from(from) + u64::from(most) < rows.len() as u64,
             },
-            Err(_) => NamesTold::Memory,
+            Err(_) => Answer::Memory,
         }
     }
 
     /// How many doors are open. It makes no call of the disk.
-    pub fn doors(&self) -> DoorsLeft
-        ensures step { Steps D.tells DoorsStep (parts D.Disk self.now) (doors_left_reply result) (parts D.Disk self.now) }
+    pub fn doors(&self) -> Answer<D::Reader>
+        ensures { (who : ℕ) → Acted D.tells who DoorsAct (parts D.Disk self.now) (reply_of D.Reader.tells D.Reader.bytes D.Reader.faults result) (parts D.Disk self.now) }
     {
-        DoorsLeft { doors: self.doors }
+        Answer::DoorsLeft { doors: self.doors }
     }
 
     /// Counts a door off that has ended, and tells how many are open. It makes no call of the disk.
-    pub fn door_done(&mut self) -> DoorsLeft
-        ensures step { Steps D.tells DoorDoneStep (parts D.Disk self.old) (doors_left_reply result) (parts D.Disk self.new) }
+    pub fn door_done(&mut self) -> Answer<D::Reader>
+        ensures acted { (who : ℕ) → Acted D.tells who DoorDoneAct (parts D.Disk self.old) (reply_of D.Reader.tells D.Reader.bytes D.Reader.faults result) (parts D.Disk self.new) }
         ensures store { self.new.store ≡ self.old.store }
         ensures moves { self.new.moves ≡ self.old.moves }
     {
         self.doors = self.doors.saturating_sub(1);
-        DoorsLeft { doors: self.doors }
+        Answer::DoorsLeft { doors: self.doors }
     }
 }

@@ -1,12 +1,10 @@
 -- A move that is chosen by what the memory lists, and begun: what is said of it by what is held.
 use Rattle.std.proofs.Common.{◌≡◌, Bool, true, false, cond, ℕ, ◌+◌, ◌-◌, ◌≤◌, ◌<◌, List, length, map, get_or, min, max, Some, refl, sym, ◌∙◌, ap, subst, arith}
-use Rattle.std.specs.Prelude.{◌==◌, nat_le, Option, All, IfOk, IfErr, Result, Ok, Err, slice_get}
+use Rattle.std.specs.Prelude.{◌==◌, nat_le, Option, All, slice_get}
 use Rattle.std.proofs.lemmas.List.{length-map}
 use Rattle.std.proofs.lemmas.List.Elements.{All-map}
 use Rattle.std.proofs.lemmas.List.Sums.{count_by-le-length}
 use Rattle.std.proofs.lemmas.Option.{slice_get-get_or}
-use Rattle.disk_model.specs.declared.disk.DiskErr.{DiskErr}
-use Rattle.disk_model.specs.declared.disk.DiskErr.TheVariants.{Fault, Memory}
 use Rattle.etl_mover.specs.Move.{MoveState}
 use Rattle.etl_rules.specs.Choosing.{chosen, ripe}
 use Rattle.move_choice.specs.Parts.{covered, end_of, is_covered}
@@ -20,12 +18,10 @@ use Rattle.pv_catalog.specs.declared.row.Row.{Row}
 use Rattle.store_manifest.specs.declared.entry.Entry.{Entry}
 use Rattle.store_manifest.specs.Entries.{AreEntries}
 use Rattle.store_manifest.specs.Manifest.{ManifestState}
-use Rattle.durable_write.specs.Ends.{end_of_disk, IsFailed}
 use Rattle.durable_write.specs.Held.{entry_of}
 use Rattle.tier_store.specs.Beginning.{AreNested, IsChoice, BeginsRow, IsBegun, BeginsMove, SaysBegun, parts_at}
 use Rattle.tier_store.specs.Change.{Has}
 use Rattle.tier_store.specs.Seen.{Seen, granularities}
-use Rattle.tier_store.specs.Settling.{SaysOf}
 use Rattle.tier_store.specs.Stores.{Stores, list_at}
 use Rattle.tier_store.specs.declared.moving.MoveBegun.{MoveBegun}
 use Rattle.tier_store.specs.declared.moving.MoveBegun.TheVariants.{Begun, Running, Nothing}
@@ -132,16 +128,3 @@ module _ (tells : Bool) (at : Seen) (held : Stores) (has : Has tells at held) (i
   says_held rule running (Begun row n move) nested is = (choice_held rule running (length at.catalogue.rows) (Begin row n) refl is.0, begins_held row n move nested is.1)
   says_held rule running (Running number) nested is = choice_held rule running (length at.catalogue.rows) (to_move.Running number) refl is
   says_held rule running Nothing nested is = choice_held rule running (length at.catalogue.rows) to_move.Nothing refl is
-
--- HOW THE CALL ENDS
-
--- an answer says what is so of what is held, and a failure is want of memory
-pub told : {A : Type 0} (says : A → Stores → Type 0) (held : Stores) (r : Result A DiskErr) → IfOk r (λ a. says a held) → IfErr r (λ e. e ≡ Memory) → SaysOf {A = A} {E = ⊥} says (end_of_disk r) held
-told {A} says held (Ok a) ok err = ok
-told {A} says held (Err Fault) ok err = absurd (cc (err))
-told {A} says held (Err Memory) ok err = tt
-
-pub not_failed : {A : Type 0} (r : Result A DiskErr) → IfErr r (λ e. e ≡ Memory) → IsFailed (end_of_disk r) → ⊥
-not_failed {A} (Ok a) err failed = failed
-not_failed {A} (Err Fault) err failed = absurd (cc (err))
-not_failed {A} (Err Memory) err failed = failed

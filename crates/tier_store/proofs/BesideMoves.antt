@@ -27,7 +27,7 @@ use Rattle.tier_store.specs.Seen.{granularities}
 use Rattle.tier_store.specs.Change.{Has}
 use Rattle.tier_store.specs.Moving.{of_files, ListsParts, RunsBeside, LeavesNames, GoesBeside, names_of, parts_in}
 use Rattle.tier_store.specs.Pinned.{SeenAll}
-use Rattle.tier_store.proofs.CopyPending.{put_all_in}
+use Rattle.tier_store.proofs.CopyFiles.{put_all_in}
 use Rattle.tier_store.proofs.Dropped.{contains_filter, entry_in, from_filter, none_at, one_file}
 use Rattle.tier_store.proofs.LeavingNames.{name_in}
 use Rattle.tier_store.proofs.Places.{granularity_at, list_other, list_set, within_three}

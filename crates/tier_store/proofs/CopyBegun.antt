@@ -2,13 +2,11 @@
 use Rattle.std.proofs.Common.{◌≡◌, Bool, ℕ, zero, suc, ◌≤◌, ◌+◌, List, [], ◌∷◌, ◌++◌, Some, length, map, get_or, take, refl, sym, ◌∙◌, ap, subst, arith}
 use Rattle.std.specs.Prelude.{All, Contains, IsTrue, nat_eq, slice_get}
 use Rattle.std.proofs.lemmas.List.Elements.{All-contains, All-head, All-tail, Contains-get_or}
-use Rattle.std.specs.List.{flat_map}
 use Rattle.etl_mover.specs.Copying.{last_of}
 use Rattle.etl_mover.specs.Move.{MoveState, HasBegun, IsMove, StillLists, of_series}
 use Rattle.partition_names.specs.Part.{IsPart}
 use Rattle.pv_catalog.specs.declared.row.Row.{Row}
 use Rattle.series_model.specs.Series.{end_of, since}
-use Rattle.series_model.specs.declared.sample.Sample.{Sample}
 use Rattle.store_manifest.specs.Entries.{put}
 use Rattle.store_manifest.specs.Manifest.{ManifestState}
 use Rattle.store_manifest.specs.declared.entry.Entry.{Entry}
@@ -17,6 +15,7 @@ use Rattle.durable_write.specs.Held.{Filed, entry_of, filed_at}
 use Rattle.durable_write.specs.Plan.{IsLastOf, of_row}
 use Rattle.durable_write.proofs.Ending.{filter-map}
 use Rattle.durable_write.proofs.PutFile.{later, put_own, sooner}
+use Rattle.durable_write.proofs.Steps.{of_files as of_parts}
 use Rattle.tier_store.specs.Stores.{Stores, list_at}
 use Rattle.tier_store.specs.Seen.{granularities}
 use Rattle.tier_store.specs.Change.{Has}
@@ -26,9 +25,6 @@ use Rattle.tier_store.specs.Pinned.{SeenAll}
 use Rattle.tier_store.specs.Retiring.{oldest}
 use Rattle.tier_store.proofs.BesideMoves.{last_same, row_entries, runs_begun, runs_still}
 use Rattle.tier_store.proofs.Dropped.{entry_in}
-
-abbrev of_parts : List Filed → List Sample
-of_parts fs = flat_map (λ (f : Filed). f.samples) fs
 
 -- THE BEGINNING
 

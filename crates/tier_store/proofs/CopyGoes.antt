@@ -1,11 +1,11 @@
 -- One step of copying, which may go on in a file of limbo, by what the move's own call says.
-use Rattle.std.proofs.Common.{◌≡◌, ◌≢◌, ◌⊎◌, inl, inr, Bool, ℕ, ◌<◌, ◌≤◌, ◌+◌, List, [], length, Option, Some, None, Ok, Err, Result, refl, sym, ◌∙◌, ap, subst, arith}
+use Rattle.std.proofs.Common.{◌≡◌, ◌≢◌, ◌⊎◌, inl, inr, Bool, ℕ, ◌<◌, ◌≤◌, ◌+◌, List, [], length, Option, Some, None, Err, Result, refl, sym, ◌∙◌, ap, subst, arith, Ok}
 use Rattle.std.specs.Prelude.{All, Contains, IfSome, IsTrue, slice_get}
 use Rattle.std.proofs.lemmas.List.Elements.{All-contains}
 use Rattle.disk_model.specs.Files.{Name, Files, Rose}
 use Rattle.disk_model.specs.Past.{Past, MayLeave}
 use Rattle.disk_model.specs.declared.disk.DiskErr.{DiskErr}
-use Rattle.disk_model.specs.declared.disk.DiskErr.TheVariants.{Fault}
+use Rattle.disk_model.specs.declared.disk.DiskErr.TheVariants.{Fault, Memory}
 use Rattle.etl_mover.specs.Copying.{anew, behind, last_of, starts}
 use Rattle.etl_mover.specs.Move.{MoveState, IsMove}
 use Rattle.etl_mover.specs.Reading.{OnlyReads}
@@ -15,13 +15,12 @@ use Rattle.etl_mover.proofs.Advancing.{IsOfPart, advances_keep}
 use Rattle.partition_names.specs.declared.granularity.Granularity.{Granularity}
 use Rattle.partition_names.specs.declared.part.Part.{Part}
 use Rattle.partition_names.specs.Part.{HoldsMoment, IsPart}
-use Rattle.partition_names.proofs.PartLemmas as parts
 use Rattle.pv_catalog.specs.Catalogue.{CatalogueState}
 use Rattle.pv_catalog.specs.declared.row.Row.{Row}
 use Rattle.store_manifest.specs.Entries.{Place}
 use Rattle.store_manifest.specs.Manifest.{ManifestState}
 use Rattle.store_manifest.specs.declared.entry.Entry.{Entry}
-use Rattle.durable_write.specs.Ends.{Done, end_of_disk}
+use Rattle.durable_write.specs.Ends.{Done, IsFailed, end_of_disk}
 use Rattle.durable_write.specs.Held.{Filed, IsListed, file_of, filed_at}
 use Rattle.durable_write.specs.Stored.{KeysDiffer}
 use Rattle.durable_write.proofs.Names.{same_place}
@@ -29,25 +28,34 @@ use Rattle.tier_store.specs.Stores.{Stores}
 use Rattle.tier_store.specs.Seen.{seen_on}
 use Rattle.tier_store.specs.Change.{Has}
 use Rattle.tier_store.specs.Copied.{end_after}
-use Rattle.tier_store.specs.Copying.{CopiesFurther, FindsLine, IsDamaged, LeavesOthers, SaysLines}
-use Rattle.tier_store.specs.Given.{ChangesGiven}
-use Rattle.tier_store.specs.Limbo.{IsOfPlace, LimboStands, staying}
+use Rattle.tier_store.specs.Copying.{CopiesFurther, CopyLeaves, FindsLine, IsDamaged, SaysLines, StaysHeld}
+use Rattle.tier_store.specs.Limbo.{IsOfPlace, LimboStands}
 use Rattle.tier_store.specs.Pinned.{SeenAll, beside, KeepsShown}
-use Rattle.tier_store.specs.Revival.{KeepsWhole}
 use Rattle.tier_store.specs.Reviving.{GoesBehind, IsNotRevived, IsRevived, pending_with, reviving}
-use Rattle.tier_store.specs.declared.copying.CopyEnd.TheVariants as ends
+use Rattle.tier_store.specs.declared.copying.CopyEnd.{CopyEnd}
 use Rattle.tier_store.specs.declared.limbo.Retired.{Retired}
-use Rattle.tier_store.proofs.CopiedFiles.{after_split}
-use Rattle.tier_store.proofs.CopyFrames.{listed_here, of_part}
-use Rattle.tier_store.proofs.CopyParts.{next_part}
-use Rattle.tier_store.proofs.CopyPlaces.{Start}
+use Rattle.tier_store.proofs.CopyFiles.{Start, after_split}
+use Rattle.tier_store.proofs.CopyWrites.{listed_here, of_part, Stays, Wrote, all_said, damaged_said, goes_whole, keeps_whole, kept_still, leaves_others, more_said, on_store, shown_still, stays, wrote_it}
+use Rattle.tier_store.proofs.CopyParts.{next_part, runs_by}
 use Rattle.tier_store.proofs.CopyRevived.{Becomes, Copies, becomes, begins_plain, from_none, placed_none, to_none}
-use Rattle.tier_store.proofs.CopyStep.{step_all, step_changes, step_damaged, step_has, step_leaves, step_more, step_shown, step_still, step_whole}
-use Rattle.tier_store.proofs.Places.{manifest_of}
+use Rattle.tier_store.proofs.Places.{manifest_of, within_three}
 use Rattle.tier_store.proofs.Staying.{as_filed, retired_listed}
+use Rattle.pv_catalog.proofs.Standing.{keeps_same}
+use Rattle.tier_store.specs.Revival.{AreWhole, KeepsWhole}
+use Rattle.tier_store.proofs.RevivalShown.{read_whole}
+use Rattle.tier_store.proofs.Showing.{held_same}
+use Rattle.partition_names.proofs.PartLemmas as parts
+use Rattle.tier_store.specs.declared.copying.CopyEnd.TheVariants as ends
 
 same_last : (a b : List Entry) (x y : Option Entry) → a ≡ b → x ≡ y → last_of a x ≡ last_of b y
 same_last a b x y one two = ap (λ (l : List Entry). last_of l x) one ∙ ap (λ (o : Option Entry). last_of b o) two
+
+-- What a step does, whatever it answers: what is held stays so, the move runs as it did, and all else is left.
+pub record Went (from : ℕ) (tells : Bool) (old new : SeenAll) (move : MoveState) (revived : Option Entry) (faults later : ℕ) : Type 0 where
+  pub stays : (files : List Filed) (held : Stores) → Has tells old.stores held → CopiesFurther from tells old (reviving move revived) files held → StaysHeld tells old.stores new.stores held
+  pub still : (files : List Filed) (held : Stores) → Has tells old.stores held → CopiesFurther from tells old (reviving move revived) files held → CopiesFurther from tells new (reviving move revived) files held
+  pub rest : (r : Result CopyEnd DiskErr) → (r ≡ Err Fault → Rose faults later) → CopyLeaves move tells old new (end_of_disk r)
+  pub done : (end : CopyEnd) → CopyLeaves {A = CopyEnd} {E = ⊥} move tells old new (Done end)
 
 module _ {S : Type 0} (files_of : S → Files) (opened_of : S → Name → ℕ) (past_of : S → Past) (faults_of : S → ℕ) (tells : Bool) (c : CatalogueState) (ms : List ManifestState) (limbo : List Retired) (from : ℕ) (d after : S) (seen_it : IsTrue tells → MayLeave (past_of d) (files_of d)) (move : MoveState) (revived : Option Entry) (name : Name) (at len : ℕ) where
   abbrev old : SeenAll
@@ -59,7 +67,7 @@ module _ {S : Type 0} (files_of : S → Files) (opened_of : S → Name → ℕ) 
   abbrev m : MoveState
   m = reviving move revived
 
-  module _ (begun : (files : List Filed) × (held : Stores) × Has tells old.stores held × CopiesFurther from tells old m files held × FindsLine from m held name at len) (stand : LimboStands old.stores limbo) (goes_behind : GoesBehind limbo (from + 2) move revived)
+  module _ (begun : (files : List Filed) × (held : Stores) × Has tells old.stores held × CopiesFurther from tells old m files held × FindsLine from tells (files_of d) m held name at len) (stand : LimboStands old.stores limbo) (goes_behind : GoesBehind limbo (from + 2) move revived)
       (either : (part : Entry) → slice_get move.parts move.at ≡ Some part → at < len → IsPlacedOrNot move revived part)
       (leaves : IsTrue tells → (p : Entry) (start : Start) → GoesTo move revived p start → LeavesFile (target_file move start) start.at (files_of d) (files_of after) (opened_of d) (opened_of after) (past_of d) (past_of after))
       (nowhere : IsTrue tells → ((p : Entry) (start : Start) → GoesTo move revived p start → ⊥) → OnlyReads (files_of d) (files_of after) (opened_of d) (opened_of after) (past_of d) (past_of after)) where
@@ -160,31 +168,75 @@ module _ {S : Type 0} (files_of : S → Files) (opened_of : S → Name → ℕ) 
     nowhere_none : IsTrue tells → ((p : Entry) (start : Start) → GoesTo m None p start → ⊥) → OnlyReads (files_of d) (files_of after) (opened_of d) (opened_of after) (past_of d) (past_of after)
     nowhere_none told never = nowhere told (λ p s goes. never p s (from_none limbo (from + 2) move revived goes_behind all p s goes))
 
-    pub go_changes : {A : Type 0} (files : List Filed) (r : Result A DiskErr) → faults_of d ≤ faults_of after → (r ≡ Err Fault → Rose (faults_of d) (faults_of after)) → ChangesGiven (CopiesFurther from tells old m files) tells (staying {A = A}) old.stores new.stores (end_of_disk r)
-    go_changes {A} files r faults cause = step_changes files_of opened_of past_of faults_of tells c ms limbo from d after seen_it m name at len begun apart_from either_none leaves_none nowhere_none files r faults cause
+    part : (p : Entry) × (slice_get m.parts m.at ≡ Some p)
+    part = next_part tells old from m begun.0 begun.1 begun.2 begun.3
 
-    pub go_changes_ok : {A : Type 0} (files : List Filed) (a : A) → faults_of d ≤ faults_of after → ChangesGiven (CopiesFurther from tells old m files) tells (staying {A = A}) old.stores new.stores (Done a)
-    go_changes_ok {A} files a faults = go_changes files (Ok a) faults (λ is. let no : ◌≡◌ {A = Result A DiskErr} (Ok a) (Err Fault) = is in absurd (cc (no)))
+    wrote : Wrote files_of opened_of past_of faults_of tells c ms limbo from to.0 to.1 d after seen_it m part.0
+    wrote = wrote_it files_of opened_of past_of faults_of tells c ms limbo from to.0 to.1 d after seen_it m part.0 part.1 (either_none part.0 part.1 begun.4.low) leaves_none nowhere_none
 
-    pub go_has : (files : List Filed) (held : Stores) → faults_of d ≤ faults_of after → Has tells old.stores held → CopiesFurther from tells old m files held → Has tells new.stores held
-    go_has = step_has files_of opened_of past_of faults_of tells c ms limbo from d after seen_it m name at len begun apart_from either_none leaves_none nowhere_none
+    stays_in : (files : List Filed) (held : Stores) → Has tells old.stores held → CopiesFurther from tells old m files held → IsTrue tells → Stays files_of opened_of past_of faults_of tells c ms limbo from to.0 to.1 d after seen_it files held
+    stays_in files held has is told = stays files_of opened_of past_of faults_of tells c ms limbo from to.0 to.1 d after seen_it m part.0 files held has is wrote told
 
-    pub go_shown : KeepsShown tells old new
-    go_shown = step_shown files_of opened_of past_of faults_of tells c ms limbo from d after seen_it m name at len begun apart_from either_none leaves_none nowhere_none
+    -- what is held stays so
+    stays_held : (files : List Filed) (held : Stores) → faults_of d ≤ faults_of after → Has tells old.stores held → CopiesFurther from tells old m files held → StaysHeld tells old.stores new.stores held
+    stays_held files held faults has is =
+        kept_still files_of opened_of past_of faults_of tells c ms limbo from to.0 to.1 d after seen_it (CopiesFurther from tells old m files) files (begun.2.settled.manifests (from + 1) to.0 to.1) (λ held has is told. stays_in files held has is told)
+        (λ told. on_store files_of opened_of past_of faults_of tells c ms limbo from to.0 to.1 d after seen_it m part.0 begun.0 begun.1 begun.2 begun.3 wrote told) faults held has is
 
-    pub go_leaves : LeavesOthers move tells old new
-    go_leaves = step_leaves files_of opened_of past_of faults_of tells c ms limbo from d after seen_it m name at len begun apart_from either_none leaves_none nowhere_none
+    step_shown : KeepsShown tells old new
+    step_shown = shown_still files_of opened_of past_of faults_of tells c ms limbo from to.0 to.1 d after seen_it m part.0 begun.0 begun.1 begun.2 begun.3 wrote apart_from
 
-    pub go_whole : KeepsWhole tells old new
-    go_whole = step_whole files_of opened_of past_of faults_of tells c ms limbo from d after seen_it m name at len begun apart_from either_none leaves_none nowhere_none stand
+    step_whole : KeepsWhole tells old new
+    step_whole =
+        keeps_whole files_of opened_of past_of faults_of tells c ms limbo from to.0 to.1 d after seen_it (λ stands were whole. own wrote stands were whole)
+        (λ told. on_store files_of opened_of past_of faults_of tells c ms limbo from to.0 to.1 d after seen_it m part.0 begun.0 begun.1 begun.2 begun.3 wrote told)
+      where
+        own : Wrote files_of opened_of past_of faults_of tells c ms limbo from to.0 to.1 d after seen_it m part.0 → (stands : Bool) (were : List Filed) → AreWhole (from + 1) tells old.stores limbo stands were → (left : List Filed) × AreWhole (from + 1) tells new.stores limbo stands left
+        own (inl (start, goes, wrote_so)) stands were whole = goes_whole files_of opened_of past_of faults_of tells c ms limbo from to.0 to.1 d after seen_it m part.0 begun.0 begun.1 begun.2 begun.3 stand start goes wrote_so apart_from stands were whole
+        own (inr (went_nowhere, reads)) stands were whole = (
+          were,
+          read_whole tells old.stores new.stores limbo begun.2.known.three (λ n h. held_same files_of opened_of past_of faults_of c ms d after n 0 h) (keeps_same c.rows) refl (λ told. (reads told).same) (λ told. (reads told).same_opened) (λ told. (reads told).any_moment) (from + 1) stands were
+              (within_three ms (from + 1) to.0 begun.2.known.three to.1) whole,
+        )
 
     -- after an error the move runs as it did
-    pub go_still : (files : List Filed) (held : Stores) → Has tells old.stores held → CopiesFurther from tells old m files held → CopiesFurther from tells new m files held
-    go_still = step_still files_of opened_of past_of faults_of tells c ms limbo from d after seen_it m name at len begun apart_from either_none leaves_none nowhere_none
+    step_still : (files : List Filed) (held : Stores) → Has tells old.stores held → CopiesFurther from tells old m files held → CopiesFurther from tells new m files held
+    step_still files held has is = record {
+      runs = runs_by (from + 1) tells old new m m files files held refl refl is.runs is.runs.running is.runs.parts (λ some. some) is.runs.pending
+          (record { rise = is.runs.ahead.rise; filed = is.runs.ahead.filed; safe = λ told. (stays_in files held has is told).safe; longer = is.runs.ahead.longer; longer_retired = is.runs.ahead.longer_retired });
+      stage = is.stage;
+      left = is.left;
+      heads = is.heads;
+      lengths = is.lengths;
+      last = is.last;
+      told = is.told;
+    }
+
+    -- the step, whatever it answers
+    pub went : faults_of d ≤ faults_of after → Went from tells old new move revived (faults_of d) (faults_of after)
+    went faults = record {
+      stays = λ files held has is. stays_held files held faults has is;
+      still = step_still;
+      rest = leaves_so;
+      done = λ end. leaves_so (Ok end) (λ is. let no : ◌≡◌ {A = Result CopyEnd DiskErr} (Ok end) (Err Fault) = is in absurd (cc (no)));
+    }
+      where
+        by_end : (r : Result CopyEnd DiskErr) → (r ≡ Err Fault → Rose (faults_of d) (faults_of after)) → IsFailed (end_of_disk r) → Rose (faults_of d) (faults_of after)
+        by_end (Ok end) cause failed = absurd failed
+        by_end (Err Fault) cause failed = cause refl
+        by_end (Err Memory) cause failed = absurd failed
+
+        leaves_so : (r : Result CopyEnd DiskErr) → (r ≡ Err Fault → Rose (faults_of d) (faults_of after)) → CopyLeaves move tells old new (end_of_disk r)
+        leaves_so r cause = record {
+          shown = step_shown;
+          leaves = leaves_others files_of opened_of past_of faults_of tells c ms limbo from to.0 to.1 d after seen_it m part.0 wrote;
+          whole = step_whole;
+          costs = record { granularity = refl; faults = faults; cause = by_end r cause };
+        }
 
     -- WHAT IT ANSWERS
 
-    module _ (most : ℕ) (nm : MoveState) (adv : Advances move nm revived len) (copies : Copies (files_of d) (files_of after) (opened_of after) (past_of after) (IsTrue tells) at len most begun.3.runs.fine limbo (from + 2) move nm move revived nm) (files : List Filed) (held : Stores) (has : Has tells old.stores held) (is : CopiesFurther from tells old m files held) (line : FindsLine from m held name at len) where
+    module _ (most : ℕ) (nm : MoveState) (adv : Advances move nm revived len) (copies : Copies (files_of d) (files_of after) (opened_of after) (past_of after) (IsTrue tells) at len most begun.3.runs.fine limbo (from + 2) move nm move revived nm) (files : List Filed) (held : Stores) (has : Has tells old.stores held) (is : CopiesFurther from tells old m files held) (line : FindsLine from tells (files_of d) m held name at len) where
       abbrev n : ℕ
       n = end_after (last_of m.pending m.listed)
 
@@ -224,18 +276,18 @@ module _ {S : Type 0} (files_of : S → Files) (opened_of : S → Name → ℕ) 
       go_more on ahead not_all =
           let same = moved on ahead in
           subst (λ (x : MoveState). SaysLines most from tells new m x files held ends.More) same
-          (step_more files_of opened_of past_of faults_of tells c ms limbo from d after seen_it m name at len begun apart_from either_none leaves_none nowhere_none most then_is.new run then_is.adv then_is.copies files held has is line
+          (more_said files_of opened_of past_of faults_of tells c ms limbo from to.0 to.1 d after seen_it m part.0 part.1 files held has is name at len most line apart_from then_is.new (run is.runs.fine is.runs.running) then_is.adv wrote then_is.copies
           (subst (λ (x : MoveState). n < end_after (last_of x.pending x.listed)) (sym same) ahead) (subst (λ (x : MoveState). x.at ≢ length x.parts) (sym same) not_all))
 
       pub go_all : IsRevived (last_of nm.pending nm.listed) revived → n < ends_now → nm.at ≡ length nm.parts → SaysLines most from tells new m nm files held ends.Copied
       go_all on ahead whole =
           let same = moved on ahead in
           subst (λ (x : MoveState). SaysLines most from tells new m x files held ends.Copied) same
-          (step_all files_of opened_of past_of faults_of tells c ms limbo from d after seen_it m name at len begun apart_from either_none leaves_none nowhere_none most then_is.new run then_is.adv then_is.copies files held has is line
+          (all_said files_of opened_of past_of faults_of tells c ms limbo from to.0 to.1 d after seen_it m part.0 part.1 files held has is name at len most line apart_from then_is.new (run is.runs.fine is.runs.running) then_is.adv wrote then_is.copies
           (subst (λ (x : MoveState). n < end_after (last_of x.pending x.listed)) (sym same) ahead) (subst (λ (x : MoveState). x.at ≡ length x.parts) (sym same) whole))
 
-      pub go_damaged : IsNotRevived (last_of nm.pending nm.listed) revived ⊎ (ends_now ≤ n) → IsDamaged from m held name at
-      go_damaged why = step_damaged files_of opened_of past_of faults_of tells c ms limbo from d after seen_it m name at len begun apart_from either_none leaves_none nowhere_none most then_is.new run then_is.adv then_is.copies files held has is line (high why)
+      pub go_damaged : IsNotRevived (last_of nm.pending nm.listed) revived ⊎ (ends_now ≤ n) → IsDamaged from tells (files_of after) m held name at
+      go_damaged why = damaged_said files_of opened_of past_of faults_of tells c ms limbo from to.0 to.1 d after seen_it m part.0 part.1 files held has is name at len most line apart_from then_is.new (run is.runs.fine is.runs.running) then_is.adv wrote then_is.copies (high why)
         where
           high : IsNotRevived (last_of nm.pending nm.listed) revived ⊎ (ends_now ≤ n) → end_after (last_of then_is.new.pending then_is.new.listed) ≤ n
           high why = elim then_is.same [

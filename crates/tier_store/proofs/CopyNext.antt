@@ -1,7 +1,7 @@
 -- What copying lines of a part copies of all that is left, beside files in limbo.
 use Rattle.std.proofs.Common.{◌≡◌, ◌≢◌, true, Bool, ℕ, ◌<◌, ◌≤◌, ◌+◌, List, [], ◌∷◌, ◌++◌, length, take, drop, Some, None, refl, sym, ◌∙◌, ap, subst, arith, append_assoc}
 use Rattle.std.specs.Prelude.{Contains, IsTrue, nat_le, slice_get}
-use Rattle.std.specs.List.{AllByRecursion, flat_map}
+use Rattle.std.specs.List.{AllByRecursion}
 use Rattle.std.proofs.lemmas.Bool.Decides.{nat_tests}
 use Rattle.std.proofs.lemmas.List.{append_cancel_left, take-take, take-append-drop}
 use Rattle.std.proofs.lemmas.List.Elements.{All-from_recursion, recursion_from_All}
@@ -19,6 +19,7 @@ use Rattle.durable_write.specs.Held.{Filed, IsFiled}
 use Rattle.durable_write.specs.Plan.{of_row}
 use Rattle.durable_write.specs.Stored.{AreHeld}
 use Rattle.durable_write.proofs.Steps.{of_last}
+use Rattle.durable_write.proofs.Steps.{of_files as of_parts}
 use Rattle.tier_store.specs.Stores.{Stores, list_at, tier}
 use Rattle.tier_store.specs.Change.{Has}
 use Rattle.tier_store.specs.Copied.{end_after}
@@ -29,14 +30,10 @@ use Rattle.tier_store.specs.Retiring.{oldest}
 use Rattle.tier_store.specs.Revival.{AreWhole, revived, samples_at}
 use Rattle.tier_store.specs.Reviving.{IsBehind, SaysBehind, past, reviving}
 use Rattle.tier_store.specs.declared.limbo.Retired.{Retired}
-use Rattle.tier_store.proofs.CopyLimbo.{row_with}
-use Rattle.tier_store.proofs.CopyLists.{IsLater, IsOfRowIn, SplitsHere, first_files, later_all, left_all, rise_front, rise_rest, rise_row, since_files, splits_here}
+use Rattle.tier_store.proofs.CopyLimbo.{back, backs, before_it, f_behind, f_end, f_some, limbo_f, none_of_part, passes, passes_if, past_all, past_append, past_since, row_with, since_low, some_of_part}
+use Rattle.tier_store.proofs.CopyFiles.{IsLater, IsOfRowIn, SplitsHere, first_files, later_all, left_all, rise_front, rise_rest, rise_row, since_files, splits_here}
 use Rattle.tier_store.proofs.CopyParts.{low, q_filed, source, take_at}
-use Rattle.tier_store.proofs.CopyPast.{back, backs, before_it, f, f_behind, f_end, f_some, none_of_part, passes, passes_if, past_all, past_append, past_since, since_low, some_of_part}
 use Rattle.tier_store.proofs.Revived.{none_revived}
-
-abbrev of_parts : List Filed → List Sample
-of_parts fs = flat_map (λ (x : Filed). x.samples) fs
 
 module _ (tells : Bool) (all : SeenAll) (from : ℕ) (move : MoveState) (files : List Filed) (held : Stores) (has : Has tells all.stores held) (is : CopiesFurther from tells all move files held) (stand : LimboStands all.stores all.limbo) (retired : List Filed) (whole : AreWhole (from + 1) tells all.stores all.limbo held.stands retired) (stands : IsTrue held.stands)
     (q : Filed) (q_next : IsNextPart from move held q) (part : Entry) (at_hand : slice_get move.parts move.at ≡ Some part) where
@@ -100,7 +97,7 @@ module _ (tells : Bool) (all : SeenAll) (from : ℕ) (move : MoveState) (files :
 
     module _ (r : Retired) (within : Contains all.limbo r) (behind : IsBehind (from + 2) move.series (last_of move.pending move.listed) q.entry.part.start r) where
       abbrev pub x : Filed
-      x = f tells all from move files held has is.runs is.last stand retired whole stands is.runs.fine q filed refl r within behind
+      x = limbo_f tells all from move files held has is.runs is.last stand retired whole stands is.runs.fine q filed refl r within behind
 
       -- the row with it
       pub ahead_with : samples_ahead (from + 1) move (files ++ x ∷ []) held ≡ samples_ahead (from + 1) move files held ++ x.samples

@@ -1,14 +1,14 @@
 -- The part that a move copies next, as its store holds it.
-use Rattle.std.proofs.Common.{◌≡◌, inl, inr, Bool, ℕ, zero, suc, ◌<◌, ◌≤◌, ◌+◌, List, [], ◌∷◌, ◌++◌, length, map, take, Option, Some, true, refl, sym, ◌∙◌, ap, subst, arith}
+use Rattle.std.proofs.Common.{◌≡◌, ◌≢◌, inl, inr, Bool, ℕ, zero, suc, ◌<◌, ◌≤◌, ◌+◌, List, [], ◌∷◌, ◌++◌, length, map, take, Option, Some, None, true, refl, sym, ◌∙◌, ap, subst, arith}
 use Rattle.std.specs.Prelude.{Contains, IsTrue, nat_eq, slice_get}
 use Rattle.std.proofs.lemmas.Bool.{cases_lt, eqb-true}
 use Rattle.std.proofs.lemmas.List.{length-append, length-map}
 use Rattle.std.proofs.lemmas.List.Elements.{All-contains, filter_passes}
 use Rattle.std.proofs.lemmas.Option.{same_Some}
-use Rattle.disk_model.specs.Files.{Name, HasFile}
+use Rattle.disk_model.specs.Files.{Files, HasFile, Name}
 use Rattle.disk_model.specs.Past.{MayLeave}
 use Rattle.etl_mover.specs.Copying.{last_of}
-use Rattle.etl_mover.specs.Move.{MoveState, StillLists, of_series}
+use Rattle.etl_mover.specs.Move.{IsMove, MoveState, StillLists, of_series}
 use Rattle.etl_mover.specs.Step.{source_file}
 use Rattle.partition_names.specs.declared.granularity.Granularity.{Granularity}
 use Rattle.partition_names.specs.declared.part.Part.{Part}
@@ -18,15 +18,16 @@ use Rattle.store_manifest.specs.Entries.{Place}
 use Rattle.store_manifest.specs.Manifest.{ManifestState}
 use Rattle.store_manifest.specs.declared.entry.Entry.{Entry}
 use Rattle.durable_write.specs.Held.{Filed, IsFiled, IsIn, bytes_of, entry_of, file_of, name_of}
-use Rattle.durable_write.specs.Plan.{of_row}
+use Rattle.durable_write.specs.Plan.{IsLastOf, of_row}
 use Rattle.durable_write.proofs.Ending.{filter-map}
 use Rattle.tier_store.specs.Stores.{Stores, list_at}
 use Rattle.tier_store.specs.Seen.{granularities}
 use Rattle.tier_store.specs.Change.{Has, IsListedIn}
 use Rattle.tier_store.specs.Copied.{IsPartFile, end_after}
 use Rattle.tier_store.specs.Copying.{CopiesBeside, CopiesFurther, FindsPart, IsNextPart}
-use Rattle.tier_store.specs.Finding.{IsFrom, IsNext, IsUpTo}
+use Rattle.tier_store.specs.Finding.{IsFrom, IsNext, IsUpTo, SaysFile}
 use Rattle.tier_store.specs.declared.finding.LaterLines.{LaterLines}
+use Rattle.tier_store.specs.Moving.{ListsParts, MayBeListed, RunsBeside}
 use Rattle.tier_store.specs.Pinned.{SeenAll}
 use Rattle.tier_store.specs.Retiring.{oldest}
 use Rattle.tier_store.proofs.Dropped.{entry_in, from_filter, one_file}
@@ -35,6 +36,26 @@ use Rattle.tier_store.proofs.Places.{manifest_of}
 -- a move that copies beside the stores copies further
 abbrev pub further : (from : ℕ) (tells : Bool) (all : SeenAll) (move : MoveState) (files : List Filed) (held : Stores) → CopiesBeside from tells all move files held → CopiesFurther from tells all move files held
 further from tells all move files held is = record { runs = is.runs; stage = is.stage; left = is.left; heads = is.heads; lengths = is.lengths; last = is.last; told = is.told }
+
+-- a move of which no more changed than its parts and what it is to list runs beside the stores as before
+pub runs_by : (i : ℕ) (tells : Bool) (old new : SeenAll) (move nm : MoveState) (files more : List Filed) (held : Stores) → granularities new.stores.manifests ≡ granularities old.stores.manifests → nm ≡ record move { parts = nm.parts; at = nm.at; pending = nm.pending } → (runs : RunsBeside i tells old move files held) → IsMove runs.fine nm → ListsParts (list_at runs.from held) nm
+    → (nm.at ≢ length nm.parts → move.at ≢ length move.parts) → nm.pending ≡ map entry_of more → MayBeListed i tells new held more → RunsBeside i tells new nm more held
+runs_by i tells old new move nm files more held same is runs running parts left pending ahead = record {
+  from = runs.from;
+  next = runs.next;
+  fine = runs.fine;
+  from_fine = ap (λ (gs : List Granularity). slice_get gs runs.from) same ∙ runs.from_fine;
+  to_coarse = ap (λ (gs : List Granularity). slice_get gs i) same ∙ (runs.to_coarse ∙ ap (λ (x : MoveState). Some x.granularity) (sym is));
+  running = running;
+  numbers = λ told. (ap (λ (x : MoveState). x.source) is ∙ (runs.numbers told).0, ap (λ (x : MoveState). x.destination) is ∙ (runs.numbers told).1);
+  row = runs.row;
+  stands = ap (λ (x : MoveState). slice_get held.rows x.series) is ∙ runs.stands;
+  name = runs.name ∙ ap (λ (x : MoveState). x.name) (sym is);
+  parts = parts;
+  last = λ some. subst (λ (x : MoveState). IsLastOf (map entry_of (list_at i held)) x.series x.listed) (sym is) (runs.last (left some));
+  pending = pending;
+  ahead = ahead;
+}
 
 -- LISTS AT A PLACE
 
@@ -116,6 +137,16 @@ module _ (tells : Bool) (all : SeenAll) (from : ℕ) (move : MoveState) (files :
   pub enough : length move.parts ≤ length parts_of
   enough = let same = ap length entries_are in let long = long_now in omega (arith, same, long, length-append lists.now lists.others, length-map parts_of entry_of)
 
+  -- the memory lists them in their order
+  pub entry_here : (m : ManifestState) → slice_get all.stores.manifests from ≡ Some m → (i : ℕ) (f : Filed) → slice_get parts_of i ≡ Some f → slice_get (of_series move.series m.entries) i ≡ Some f.entry
+  entry_here m here i f at =
+      ap (λ (es : List Entry). slice_get (of_series move.series es) i) (has.known.each from m here).entries
+      ∙ (ap (λ (es : List Entry). slice_get es i) (filter-map (λ (e : Entry). nat_eq e.series move.series) (list_at from held)) ∙ entry_at parts_of i f at)
+
+  pub filed_here : IsTrue held.stands → (i : ℕ) (f : Filed) → slice_get parts_of i ≡ Some f → IsFiled is.runs.fine held.rows f
+  filed_here stands i f at = subst (λ (g : Granularity). IsFiled g held.rows f) source.2
+      (All-contains (IsFiled source.0.granularity held.rows) (list_at from held) f ((has.known.each from source.0 source.1).valid.filed.filed stands) (from_filter (λ (x : Filed). nat_eq x.entry.series move.series) (list_at from held) f (in_list parts_of i f at)))
+
   pub next_file : (q : Filed) × IsNextPart from move held q
   next_file =
       let q = some_at parts_of move.at (let few = enough in let less = low in omega (arith, few, less)) in
@@ -151,7 +182,7 @@ module _ (tells : Bool) (all : SeenAll) (from : ℕ) (move : MoveState) (files :
           subst (λ (n : Name). HasFile all.stores.files n (λ b. q.entry.len ≤ length b)) (source_is told) there
 
       pub q_filed : IsTrue held.stands → IsFiled is.runs.fine held.rows q
-      q_filed stands = subst (λ (g : Granularity). IsFiled g held.rows q) source.2 (All-contains (IsFiled source.0.granularity held.rows) (list_at from held) q ((has.known.each from source.0 source.1).valid.filed.filed stands) next.within)
+      q_filed stands = filed_here stands move.at q next.here
 
       pub part_file_is : IsTrue tells → IsTrue held.stands → MayLeave all.stores.past all.stores.files → (b : List ℕ) → all.stores.files (source_file move part) ≡ Some b → IsPartFile is.runs.fine held.rows move part b q
       part_file_is told stands seen_it b file = record {
@@ -166,11 +197,8 @@ module _ (tells : Bool) (all : SeenAll) (from : ℕ) (move : MoveState) (files :
       }
 
     -- what the code finds in the memory of it
-    pub next_entry : (m : ManifestState) → slice_get all.stores.manifests from ≡ Some m → (o : Option Entry) → o ≡ slice_get (of_series move.series m.entries) move.at → o ≡ Some q.entry
-    next_entry m here o is =
-        is
-        ∙ (ap (λ (es : List Entry). slice_get (of_series move.series es) move.at) (has.known.each from m here).entries
-        ∙ (ap (λ (es : List Entry). slice_get es move.at) (filter-map (λ (e : Entry). nat_eq e.series move.series) (list_at from held)) ∙ entry_at parts_of move.at q next.here))
+    next_entry : (m : ManifestState) → slice_get all.stores.manifests from ≡ Some m → (o : Option Entry) → o ≡ slice_get (of_series move.series m.entries) move.at → o ≡ Some q.entry
+    next_entry m here o is_o = is_o ∙ entry_here m here move.at q next.here
 
     pub lists_it : (entry : Entry) → entry ≡ q.entry → IsListedIn all.stores.manifests (from + 1) entry
     lists_it entry same = record {
@@ -184,8 +212,8 @@ module _ (tells : Bool) (all : SeenAll) (from : ℕ) (move : MoveState) (files :
     -- the place that was found in its file
     pub part_finds : (name : Name) (len : ℕ) (later : LaterLines) (entry : Entry) → entry ≡ q.entry → name ≡ file_of (from + 1, held.rows) entry → len ≡ entry.len → IsFrom entry.head_len later → IsUpTo entry.len later
         → (IsTrue held.stands → (i : ℕ) × (from + 1 ≡ i + 1) × (f : Filed) × Contains (list_at i held) f × (f.entry ≡ entry) × IsNext f.samples (end_after (last_of move.pending move.listed)) entry.head_len later)
-        → FindsPart from move held (record { name = name; len = len; later = later })
-    part_finds name len later entry same named long behind within found = record {
+        → (now : Files) → (IsTrue tells → HasFile now name (λ b. SaysFile entry.head_len (take entry.len b) later)) → FindsPart from tells now move held (record { name = name; len = len; later = later })
+    part_finds name len later entry same named long behind within found now told = record {
       file = q;
       next = next;
       long = sym (long ∙ ap (λ (e : Entry). e.len) same);
@@ -193,6 +221,7 @@ module _ (tells : Bool) (all : SeenAll) (from : ℕ) (move : MoveState) (files :
       behind = subst (λ (e : Entry). IsFrom e.head_len later) same behind;
       within = subst (λ (e : Entry). IsUpTo e.len later) same within;
       splits = λ stands. go (found stands);
+      told = λ tell. subst (λ (e : Entry). HasFile now name (λ b. SaysFile e.head_len (take e.len b) later)) same (told tell);
     }
       where
         go : (i : ℕ) × (from + 1 ≡ i + 1) × (f : Filed) × Contains (list_at i held) f × (f.entry ≡ entry) × IsNext f.samples (end_after (last_of move.pending move.listed)) entry.head_len later → IsNext q.samples (end_after (last_of move.pending move.listed)) q.entry.head_len later
@@ -201,3 +230,13 @@ module _ (tells : Bool) (all : SeenAll) (from : ℕ) (move : MoveState) (files :
             let there : Contains (list_at from held) f = subst (λ (k : ℕ). Contains (list_at k held) f) place within in
             let one : f ≡ q = one_file (list_at from held) q f (has.known.each from source.0 source.1).valid.apart next.within there (ap (λ (e : Entry). let p : Place = (e.series, e.part.start) in p) (is_entry ∙ same)) in
             subst (λ (x : Filed). IsNext x.samples (end_after (last_of move.pending move.listed)) q.entry.head_len later) one (subst (λ (e : Entry). IsNext f.samples (end_after (last_of move.pending move.listed)) e.head_len later) same at)
+
+  -- what the code finds is the next part
+  pub next_found : (m : ManifestState) → slice_get all.stores.manifests from ≡ Some m → (o : Option Entry) → o ≡ slice_get (of_series move.series m.entries) move.at → (e : Entry) → o ≡ Some e → (q : Filed) × IsNextPart from move held q × (e ≡ q.entry)
+  next_found m here o is e found =
+      let q = next_file in
+      let both : ◌≡◌ {A = Option Entry} (Some e) (Some q.0.entry) = sym found ∙ next_entry q.0 q.1 m here o is in
+      (q.0, q.1, cc (both))
+
+  pub next_never : (m : ManifestState) → slice_get all.stores.manifests from ≡ Some m → (o : Option Entry) → o ≡ slice_get (of_series move.series m.entries) move.at → o ≡ None → ⊥
+  next_never m here o is none = let some = next_entry next_file.0 next_file.1 m here o is in absurd (cc (some, none))

@@ -1,12 +1,14 @@
 -- A part of which nothing is left is passed.
-use Rattle.std.proofs.Common.{◌≡◌, ◌≢◌, inl, inr, true, false, Bool, Bor, ℕ, zero, suc, ◌<◌, ◌≤◌, ◌+◌, List, [], ◌∷◌, ◌++◌, length, map, set, take, Option, Some, None, refl, sym, ◌∙◌, ap, subst, arith, append-nil}
+use Rattle.std.proofs.Common.{◌≡◌, ◌≢◌, inl, inr, true, false, Bool, Bor, ℕ, ℤ, zero, suc, ◌<◌, ◌≤◌, ◌+◌, List, [], ◌∷◌, ◌++◌, length, map, set, take, Option, Some, None, refl, sym, ◌∙◌, ap, subst, arith, append-nil}
 use Rattle.std.specs.Prelude.{All, IsTrue, drop, nat_lt, is_some, option_copied, slice_get}
 use Rattle.std.proofs.lemmas.Bool.{cases_lt, cond-false, cond-true}
 use Rattle.std.proofs.lemmas.Bool.Decides.{nat_tests}
 use Rattle.std.proofs.lemmas.List.{length-append, length-set, length-take}
 use Rattle.std.proofs.lemmas.List.Elements.{All-nil}
 use Rattle.std.proofs.lemmas.Option.{get_or_from_slice_get, same_Some, slice_get_within}
+use Rattle.std.proofs.Math.ListN.{drop_of_length-le}
 use Rattle.std.proofs.Math.Seq.{map-set_same}
+use Rattle.disk_model.specs.Files.{Files, HasFile}
 use Rattle.etl_mover.specs.Copying.{last_of}
 use Rattle.etl_mover.specs.Move.{MoveState, IsMove}
 use Rattle.etl_mover.specs.Step.{finished}
@@ -14,6 +16,7 @@ use Rattle.etl_mover.proofs.Onward.{still_lists}
 use Rattle.etl_mover.proofs.StepEnds.{advances_covered}
 use Rattle.partition_names.specs.declared.granularity.Granularity.{Granularity}
 use Rattle.pb_lines.specs.File.{lines_of}
+use Rattle.pb_wire.specs.declared.payload.PayloadType.{PayloadType}
 use Rattle.pb_lines.proofs.FileLines.{lines_of-append}
 use Rattle.pv_catalog.specs.declared.row.Row.{Row}
 use Rattle.series_model.specs.Series.{end_of, since}
@@ -28,7 +31,8 @@ use Rattle.tier_store.specs.Stores.{Stores, list_at, tier}
 use Rattle.tier_store.specs.Change.{Has}
 use Rattle.tier_store.specs.Copied.{end_after}
 use Rattle.tier_store.specs.Copying.{CopiesBeside, CopiesFurther, CopiesOrHas, FindsLine, FindsPart, HasLater, IsDamaged, SaysLine, line_of, of_line, with_heads, HasPassedAll, IsAllLater, IsNextPart, KnowsCopied, KnowsHeads, KnowsLengths, PassesParts, PassesRest, left_of, samples_ahead}
-use Rattle.tier_store.specs.Finding.{IsFrom, IsNext, IsUpTo, SplitsAt}
+use Rattle.tier_store.specs.Counting.{IsSampleStart}
+use Rattle.tier_store.specs.Finding.{IsBadPart, IsFrom, IsNext, IsUpTo, SaysFile, SplitsAt, no_line}
 use Rattle.tier_store.specs.declared.copying.NextLine.{NextLine}
 use Rattle.tier_store.specs.declared.copying.NextLine.TheVariants as next
 use Rattle.tier_store.specs.declared.copying.PartLines.{PartLines}
@@ -37,9 +41,8 @@ use Rattle.tier_store.specs.declared.finding.LaterLines.TheVariants.{At, Damaged
 use Rattle.tier_store.specs.Moving.{RunsBeside}
 use Rattle.tier_store.specs.Pinned.{SeenAll}
 use Rattle.tier_store.specs.Retiring.{oldest}
-use Rattle.tier_store.proofs.CopyLists.{left_more, lines_none, splits_here}
-use Rattle.tier_store.proofs.CopyParts.{further, part_in, q_filed, some_at}
-use Rattle.tier_store.proofs.CopyPlaces.{end_is}
+use Rattle.tier_store.proofs.CopyFiles.{end_is, left_more, lines_none, splits_here}
+use Rattle.tier_store.proofs.CopyParts.{further, part_in, q_filed, runs_by, some_at}
 use Rattle.tier_store.proofs.MovedFiles.{valid_with}
 use Rattle.tier_store.proofs.Places.{manifest_of}
 
@@ -111,22 +114,7 @@ module _ (tells : Bool) (all : SeenAll) (from : ℕ) (move : MoveState) (files :
   long_then = length-set move.parts move.at (record part { len = len })
 
   runs_then : RunsBeside (from + 1) tells all nm files held
-  runs_then = record {
-    from = is.runs.from;
-    next = is.runs.next;
-    fine = is.runs.fine;
-    from_fine = is.runs.from_fine;
-    to_coarse = is.runs.to_coarse;
-    running = run;
-    numbers = is.runs.numbers;
-    row = is.runs.row;
-    stands = is.runs.stands;
-    name = is.runs.name;
-    parts = λ x are. still_lists move nm None len x (advances_covered move None part len next) (is.runs.parts x are);
-    last = λ left. is.runs.last is.left;
-    pending = is.runs.pending;
-    ahead = is.runs.ahead;
-  }
+  runs_then = runs_by (from + 1) tells all all move nm files files held refl refl is.runs run (λ x are. still_lists move nm None len x (advances_covered move None part len next) (is.runs.parts x are)) (λ some. is.left) is.runs.pending is.runs.ahead
 
   heads_then : KnowsHeads from nm held
   heads_then =
@@ -189,18 +177,19 @@ further_finished tells all from move new files held has is part next q q_next le
     subst (λ (x : MoveState). CopiesFurther from tells all x files held) (sym same) (further_then tells all from move files held has is part next q q_next len long (subst (IsMove is.runs.fine) same run) apart)
 
 -- a damaged place is told only where nothing stands
-pub damaged_part : (from : ℕ) (move : MoveState) (held : Stores) (lines : PartLines) (at : ℕ) → move.at < length move.parts → lines.later ≡ Damaged at → FindsPart from move held lines → IsDamaged from move held lines.name at
-damaged_part from move held lines at few is finds = record {
+pub damaged_part : (from : ℕ) (tells : Bool) (now : Files) (move : MoveState) (held : Stores) (lines : PartLines) (at : ℕ) → move.at < length move.parts → lines.later ≡ Damaged at → FindsPart from tells now move held lines → IsDamaged from tells now move held lines.name at
+damaged_part from tells now move held lines at few is finds = record {
   file = finds.file;
   part = part_in from move held finds.file few finds.next;
   named = finds.named;
   within = subst (IsUpTo finds.file.entry.len) is finds.within;
   never = λ stands. subst (IsNext finds.file.samples (end_after (last_of move.pending move.listed)) finds.file.entry.head_len) is (finds.splits stands);
+  bad = λ told. subst (λ (l : LaterLines). HasFile now lines.name (λ b. SaysFile finds.file.entry.head_len (take finds.file.entry.len b) l)) is (finds.told told);
 }
 
 -- a line is left at a place that isn't the end
-pub line_left : (from : ℕ) (move : MoveState) (held : Stores) (lines : PartLines) (at : ℕ) → lines.later ≡ At at → at < lines.len → FindsPart from move held lines → FindsLine from move held lines.name at lines.len
-line_left from move held lines at is low finds = record {
+pub line_left : (from : ℕ) (tells : Bool) (now : Files) (move : MoveState) (held : Stores) (lines : PartLines) (at : ℕ) → lines.later ≡ At at → at < lines.len → FindsPart from tells now move held lines → FindsLine from tells now move held lines.name at lines.len
+line_left from tells now move held lines at is low finds = record {
   file = finds.file;
   next = finds.next;
   long = finds.long;
@@ -208,14 +197,22 @@ line_left from move held lines at is low finds = record {
   named = finds.named;
   behind = subst (IsFrom finds.file.entry.head_len) is finds.behind;
   splits = λ stands. subst (IsNext finds.file.samples (end_after (last_of move.pending move.listed)) finds.file.entry.head_len) is (finds.splits stands);
+  good = λ told. subst (λ (l : LaterLines). HasFile now lines.name (λ b. SaysFile finds.file.entry.head_len (take finds.file.entry.len b) l)) is (finds.told told);
 }
 
+-- no line begins at the end of bytes
+none_behind : (at : ℕ) (bytes : List ℕ) → length bytes ≤ at → (ty : PayloadType) (year : ℤ) → IsSampleStart ty year (drop at bytes) → ⊥
+none_behind at bytes end ty year start = let are = ap length (sym (drop_of_length-le bytes end) ∙ start.are) in omega (arith, are, length-append start.sample.line (10 ∷ start.rest))
+
 -- the same, of a part of which some is left
-line_says : (from : ℕ) (move : MoveState) (held : Stores) (lines : PartLines) (l : LaterLines) → lines.later ≡ l → move.at < length move.parts → (IsTrue held.stands → HasLater from move held) → (g : Granularity) → (IsTrue held.stands → (q : Filed) → IsNextPart from move held q → IsFiled g held.rows q) → FindsPart from move held lines → (line : NextLine) → of_line lines l ≡ line → SaysLine from move held line
-line_says from move held lines (Damaged at) is few some g filed finds line same = subst (SaysLine from move held) same (damaged_part from move held lines at few is finds)
-line_says from move held lines (At at) is few some g filed finds line same = by_test (nat_lt at lines.len) refl
+line_says : (from : ℕ) (tells : Bool) (now : Files) (move : MoveState) (held : Stores) (lines : PartLines) (l : LaterLines) → lines.later ≡ l → move.at < length move.parts → (IsTrue held.stands → HasLater from move held) → (g : Granularity) → (IsTrue held.stands → (q : Filed) → IsNextPart from move held q → IsFiled g held.rows q) → FindsPart from tells now move held lines → (line : NextLine) → of_line lines l ≡ line → SaysLine from tells now move held line
+line_says from tells now move held lines (Damaged at) is few some g filed finds line same = subst (SaysLine from tells now move held) same (damaged_part from tells now move held lines at few is finds)
+line_says from tells now move held lines (At at) is few some g filed finds line same = by_test (nat_lt at lines.len) refl
   where
-    over : nat_lt at lines.len ≡ false → IsDamaged from move held lines.name lines.len
+    at_least : nat_lt at lines.len ≡ false → lines.len ≤ at
+    at_least high = grind (arith, nat_tests, high)
+
+    over : nat_lt at lines.len ≡ false → IsDamaged from tells now move held lines.name lines.len
     over high = record {
       file = finds.file;
       part = part_in from move held finds.file few finds.next;
@@ -225,19 +222,29 @@ line_says from move held lines (At at) is few some g filed finds line same = by_
           some stands finds.file finds.next
           (none_left g held.rows finds.file (end_after (last_of move.pending move.listed)) at lines.len (filed stands finds.file finds.next) finds.long (grind (arith, nat_tests, high))
           (subst (IsNext finds.file.samples (end_after (last_of move.pending move.listed)) finds.file.entry.head_len) is (finds.splits stands)));
+      bad = λ told.
+          let good = subst (λ (l : LaterLines). HasFile now lines.name (λ b. SaysFile finds.file.entry.head_len (take finds.file.entry.len b) l)) is (finds.told told) in
+          let up = subst (IsUpTo finds.file.entry.len) is finds.within in
+          let long = finds.long in
+          let end : at ≡ lines.len = omega (arith, up, long, at_least high) in
+          record {
+            bytes = good.bytes;
+            file = good.file;
+            holds = subst (λ (k : ℕ). IsBadPart finds.file.entry.head_len (take finds.file.entry.len good.bytes) k) end (no_line good.holds (λ start. none_behind at (take finds.file.entry.len good.bytes) (omega (arith, end, long, length-take finds.file.entry.len good.bytes)) _ _ start));
+          };
     }
 
-    by_test : (b : Bool) → nat_lt at lines.len ≡ b → SaysLine from move held line
-    by_test true low = subst (SaysLine from move held) (sym (cond-true (nat_lt at lines.len) (next.Line lines.name at lines.len) (next.Damaged lines.name lines.len) low) ∙ same) (line_left from move held lines at is (grind (arith, nat_tests, low)) finds)
-    by_test false high = subst (SaysLine from move held) (sym (cond-false (nat_lt at lines.len) (next.Line lines.name at lines.len) (next.Damaged lines.name lines.len) high) ∙ same) (over high)
+    by_test : (b : Bool) → nat_lt at lines.len ≡ b → SaysLine from tells now move held line
+    by_test true low = subst (SaysLine from tells now move held) (sym (cond-true (nat_lt at lines.len) (next.Line (record { name = lines.name; at = at; len = lines.len })) (next.Damaged lines.name lines.len) low) ∙ same) (line_left from tells now move held lines at is (grind (arith, nat_tests, low)) finds)
+    by_test false high = subst (SaysLine from tells now move held) (sym (cond-false (nat_lt at lines.len) (next.Line (record { name = lines.name; at = at; len = lines.len })) (next.Damaged lines.name lines.len) high) ∙ same) (over high)
 
-pub says_line : (from : ℕ) (move : MoveState) (held : Stores) (lines : PartLines) → move.at < length move.parts → (IsTrue held.stands → HasLater from move held) → (g : Granularity) → (IsTrue held.stands → (q : Filed) → IsNextPart from move held q → IsFiled g held.rows q) → FindsPart from move held lines → (line : NextLine) → line_of lines ≡ line → SaysLine from move held line
-says_line from move held lines few some g filed finds line same = line_says from move held lines lines.later refl few some g filed finds line same
+pub says_line : (from : ℕ) (tells : Bool) (now : Files) (move : MoveState) (held : Stores) (lines : PartLines) → move.at < length move.parts → (IsTrue held.stands → HasLater from move held) → (g : Granularity) → (IsTrue held.stands → (q : Filed) → IsNextPart from move held q → IsFiled g held.rows q) → FindsPart from tells now move held lines → (line : NextLine) → line_of lines ≡ line → SaysLine from tells now move held line
+says_line from tells now move held lines few some g filed finds line same = line_says from tells now move held lines lines.later refl few some g filed finds line same
 
 -- none is left at the end
-pub part_passed : (tells : Bool) (all : SeenAll) (from : ℕ) (move new : MoveState) (files : List Filed) (held : Stores) → Has tells all.stores held → (is : CopiesBeside from tells all move files held) → (part : Entry) → slice_get move.parts move.at ≡ Some part → (lines : PartLines) (at : ℕ) → lines.later ≡ At at → (at < lines.len → ⊥) → FindsPart from move held lines
+pub part_passed : {now : Files} (tells : Bool) (all : SeenAll) (from : ℕ) (move new : MoveState) (files : List Filed) (held : Stores) → Has tells all.stores held → (is : CopiesBeside from tells all move files held) → (part : Entry) → slice_get move.parts move.at ≡ Some part → (lines : PartLines) (at : ℕ) → lines.later ≡ At at → (at < lines.len → ⊥) → FindsPart from tells now move held lines
     → new ≡ finished move part lines.len → IsMove is.runs.fine new → CopiesOrHas from tells all new files held
-part_passed tells all from move new files held has is part next lines at later over finds same run =
+part_passed {now} tells all from move new files held has is part next lines at later over finds same run =
     subst (λ (x : MoveState). CopiesOrHas from tells all x files held) (sym same)
     (passes_on tells all from move files held has (further from tells all move files held is) part next finds.file finds.next lines.len finds.long (subst (IsMove is.runs.fine) same run) at (elim (cases_lt at lines.len) [ inl low ↦ absurd (over low) | inr end ↦ end ])
     (λ stands. subst (IsNext finds.file.samples (end_after (last_of move.pending move.listed)) finds.file.entry.head_len) later (finds.splits stands)) is.passed)

@@ -17,8 +17,8 @@ use Rattle.partition_names.proofs.PartLemmas as parts
 use Rattle.store_manifest.specs.declared.entry.Entry.{Entry}
 use Rattle.tier_store.specs.Reviving.{GoesBehind, IsRevived, pending_with, reviving}
 use Rattle.tier_store.specs.declared.limbo.Retired.{Retired}
-use Rattle.tier_store.proofs.CopyCall.{last_pushed}
-use Rattle.tier_store.proofs.CopyPlaces.{Start}
+use Rattle.tier_store.proofs.CopyWrites.{last_pushed}
+use Rattle.tier_store.proofs.CopyFiles.{Start}
 
 -- WHERE LINES GO
 

@@ -27,7 +27,7 @@ module _ {S : Type 0} (files_of : S → Files) (opened_of : S → Name → ℕ) 
   abbrev old : SeenAll
   old = beside (seen_on files_of opened_of past_of faults_of c ms d) limbo
 
-  module _ (has : Has tells old.stores held) (is : CopiesFurther from tells old move files held) (name : Name) (at len : ℕ) (line : FindsLine from move held name at len) where
+  module _ (has : Has tells old.stores held) (is : CopiesFurther from tells old move files held) (name : Name) (at len : ℕ) (line : FindsLine from tells (files_of d) move held name at len) where
     -- the header's line ends before them
     pub head_low : (part : Entry) → slice_get move.parts move.at ≡ Some part → part.head_len ≤ len
     head_low part next =

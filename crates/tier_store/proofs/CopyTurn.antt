@@ -1,11 +1,11 @@
 -- A step of copying by the files in limbo: with the one in which lines go on, and without it.
 use Rattle.std.proofs.Common.{◌≡◌, ◌≢◌, inl, inr, true, false, Bool, ℕ, ◌<◌, ◌≤◌, ◌+◌, List, [], ◌∷◌, ◌++◌, length, get_or, Option, Some, None, refl, sym, ◌∙◌, ap, subst, arith}
-use Rattle.std.specs.Prelude.{Contains, IsTrue, nat_le, slice_get}
+use Rattle.std.specs.Prelude.{Contains, IfSome, IsTrue, nat_le, slice_get}
 use Rattle.std.specs.List.{AllByRecursion}
 use Rattle.std.proofs.lemmas.Bool.{cond-false, cond-true}
 use Rattle.std.proofs.lemmas.Bool.Decides.{nat_tests}
 use Rattle.std.proofs.lemmas.List.Elements.{All-contains, Contains-append_left, Contains-get_or}
-use Rattle.disk_model.specs.Files.{HasFile, Name}
+use Rattle.disk_model.specs.Files.{Files, HasFile, Name}
 use Rattle.etl_mover.specs.Copying.{last_of}
 use Rattle.etl_mover.specs.Move.{MoveState}
 use Rattle.partition_names.specs.declared.granularity.Granularity.{Granularity}
@@ -24,25 +24,25 @@ use Rattle.tier_store.specs.Copied.{end_after}
 use Rattle.pv_catalog.specs.Catalogue.{CatalogueState}
 use Rattle.durable_write.specs.Stored.{AreSafe}
 use Rattle.durable_write.proofs.Reading.{safe_read}
-use Rattle.tier_store.proofs.CopyLooks.{held_kept}
-use Rattle.tier_store.specs.Copying.{OnlyLooks, CopiesBeside, CopiesFurther, CopiesNext, FindsLine, HasLater, IsNextPart, SaysLines, SaysPart, left_of}
-use Rattle.tier_store.specs.Given.{ChangesGiven}
-use Rattle.tier_store.specs.Limbo.{LimboStands, staying}
+use Rattle.tier_store.proofs.CopySteps.{held_kept}
+use Rattle.tier_store.specs.Copying.{CopiesFurther, CopiesNext, FindsLine, HasLater, HasLine, IsNextPart, OnlyLooks, PassesParts, SaysLines, SaysPart, left_of}
+use Rattle.tier_store.specs.Limbo.{LimboStands}
 use Rattle.tier_store.specs.Pinned.{SeenAll}
 use Rattle.tier_store.specs.Revival.{AreWhole, store_with}
-use Rattle.tier_store.specs.Reviving.{AreBack, IsBehind, IsUncovered, SaysBehind, past, pending_with, reviving}
-use Rattle.tier_store.specs.Seen.{Seen, granularities}
+use Rattle.tier_store.specs.Reviving.{AreBack, GoesBehind, IsBehind, IsUncovered, SaysBehind, past, pending_with, reviving}
+use Rattle.tier_store.specs.Seen.{granularities}
 use Rattle.durable_write.specs.Ends.{End}
 use Rattle.tier_store.specs.declared.copying.CopyEnd.{CopyEnd}
 use Rattle.tier_store.specs.declared.copying.CopyEnd.TheVariants as ends
+use Rattle.tier_store.specs.declared.copying.LineLeft.{LineLeft}
 use Rattle.tier_store.specs.declared.limbo.Retired.{Retired}
 use Rattle.std.proofs.lemmas.Option.{same_Some}
-use Rattle.tier_store.proofs.CopyCall.{last_pushed}
+use Rattle.tier_store.proofs.CopyWrites.{last_pushed}
 use Rattle.tier_store.proofs.CopyLimbo.{f, file_is, last_with, runs_with}
-use Rattle.tier_store.proofs.CopyLists.{inside_until, part_left}
+use Rattle.tier_store.proofs.CopyFiles.{inside_until, part_left}
 use Rattle.tier_store.proofs.CopyNext.{B, n_low, next_none, next_some}
-use Rattle.tier_store.proofs.CopyParts.{further, q_filed, q_part}
-use Rattle.tier_store.proofs.CopyPast as past_files
+use Rattle.tier_store.proofs.CopyParts.{next_part, q_filed, q_part, runs_by}
+use Rattle.tier_store.proofs.CopyLimbo as past_files
 
 -- something is left where the samples end later
 since_all_before : (k : ℕ) (xs : List Sample) → since k xs ≡ [] → AllByRecursion (λ (s : Sample). s.t < k) xs
@@ -106,34 +106,19 @@ module _ (tells : Bool) (all : SeenAll) (from : ℕ) (move : MoveState) (files :
 -- a call that leaves the files with one more leaves those without it
 pub further_without : (tells : Bool) (old new : SeenAll) (from : ℕ) (move : MoveState) (files : List Filed) (x : Filed) (m : MoveState) (held : Stores) → granularities new.stores.manifests ≡ granularities old.stores.manifests → new.limbo ≡ old.limbo → CopiesFurther from tells old move files held → CopiesFurther from tells new m (files ++ x ∷ []) held → CopiesFurther from tells new move files held
 further_without tells old new from move files x m held same limbo is then = record {
-  runs = record {
-    from = is.runs.from;
-    next = is.runs.next;
-    fine = is.runs.fine;
-    from_fine = ap (λ (gs : List Granularity). slice_get gs is.runs.from) same ∙ is.runs.from_fine;
-    to_coarse = ap (λ (gs : List Granularity). slice_get gs (from + 1)) same ∙ is.runs.to_coarse;
-    running = is.runs.running;
-    numbers = is.runs.numbers;
-    row = is.runs.row;
-    stands = is.runs.stands;
-    name = is.runs.name;
-    parts = is.runs.parts;
-    last = is.runs.last;
-    pending = is.runs.pending;
-    ahead = record {
-      rise = is.runs.ahead.rise;
-      filed = λ g here. is.runs.ahead.filed g (ap (λ (gs : List Granularity). slice_get gs (from + 1)) (sym same) ∙ here);
-      safe = λ told.
-          let safe = then.runs.ahead.safe told in
-          record {
-            long = λ k d lt. All-contains (λ (y : Filed). HasFile new.stores.files (file_of ((from + 1) + 1, held.rows) y.entry) (λ b. y.entry.len ≤ length b)) (files ++ x ∷ []) (get_or files k d) safe.long (Contains-append_left files (x ∷ []) (get_or files k d) (Contains-get_or files k d lt));
-            unopened = λ k d lt. All-contains (λ (y : Filed). new.stores.opened (file_of ((from + 1) + 1, held.rows) y.entry) ≤ y.entry.len) (files ++ x ∷ []) (get_or files k d) safe.unopened (Contains-append_left files (x ∷ []) (get_or files k d) (Contains-get_or files k d lt));
-            left = λ image left stands k d lt. All-contains (IsIn ((from + 1) + 1, held.rows) image) (files ++ x ∷ []) (get_or files k d) (safe.left image left stands) (Contains-append_left files (x ∷ []) (get_or files k d) (Contains-get_or files k d lt));
-          };
-      longer = is.runs.ahead.longer;
-      longer_retired = λ r y r_in y_in named none. is.runs.ahead.longer_retired r y (subst (λ (l : List Retired). Contains l r) limbo r_in) y_in named none;
-    };
-  };
+  runs = runs_by (from + 1) tells old new move move files files held same refl is.runs is.runs.running is.runs.parts (λ some. some) is.runs.pending (record {
+    rise = is.runs.ahead.rise;
+    filed = λ g here. is.runs.ahead.filed g (ap (λ (gs : List Granularity). slice_get gs (from + 1)) (sym same) ∙ here);
+    safe = λ told.
+        let safe = then.runs.ahead.safe told in
+        record {
+          long = λ k d lt. All-contains (λ (y : Filed). HasFile new.stores.files (file_of ((from + 1) + 1, held.rows) y.entry) (λ b. y.entry.len ≤ length b)) (files ++ x ∷ []) (get_or files k d) safe.long (Contains-append_left files (x ∷ []) (get_or files k d) (Contains-get_or files k d lt));
+          unopened = λ k d lt. All-contains (λ (y : Filed). new.stores.opened (file_of ((from + 1) + 1, held.rows) y.entry) ≤ y.entry.len) (files ++ x ∷ []) (get_or files k d) safe.unopened (Contains-append_left files (x ∷ []) (get_or files k d) (Contains-get_or files k d lt));
+          left = λ image left stands k d lt. All-contains (IsIn ((from + 1) + 1, held.rows) image) (files ++ x ∷ []) (get_or files k d) (safe.left image left stands) (Contains-append_left files (x ∷ []) (get_or files k d) (Contains-get_or files k d lt));
+        };
+    longer = is.runs.ahead.longer;
+    longer_retired = λ r y r_in y_in named none. is.runs.ahead.longer_retired r y (subst (λ (l : List Retired). Contains l r) limbo r_in) y_in named none;
+  });
   stage = is.stage;
   left = is.left;
   heads = is.heads;
@@ -141,13 +126,6 @@ further_without tells old new from move files x m held same limbo is then = reco
   last = is.last;
   told = is.told;
 }
-
--- and leaves them without it where there is none
-pub beside_again : (tells : Bool) (old new : SeenAll) (from : ℕ) (move : MoveState) (files : List Filed) (held : Stores) → CopiesBeside from tells old move files held → CopiesFurther from tells new move files held → CopiesBeside from tells new move files held
-beside_again tells old new from move files held is then = record { runs = then.runs; stage = then.stage; left = then.left; heads = then.heads; lengths = then.lengths; last = then.last; passed = is.passed; told = then.told }
-
-pub without_last : (tells : Bool) (old new : SeenAll) (from : ℕ) (move : MoveState) (files : List Filed) (x : Filed) (m : MoveState) (held : Stores) → granularities new.stores.manifests ≡ granularities old.stores.manifests → new.limbo ≡ old.limbo → CopiesBeside from tells old move files held → CopiesFurther from tells new m (files ++ x ∷ []) held → CopiesBeside from tells new move files held
-without_last tells old new from move files x m held same limbo is then = beside_again tells old new from move files held is (further_without tells old new from move files x m held same limbo (further from tells old move files held is) then)
 
 -- WHAT THE ANSWER SAYS
 
@@ -198,24 +176,24 @@ module _ (tells : Bool) (all new : SeenAll) (limbo : new.limbo ≡ all.limbo) (f
           let s = said stands in
           (s.0, (limbo_on more s.0 [] (next_some tells all from move files held has is stand retired whole stands q q_next part at_hand most nm (skipped stands) r within behind more s.0 [] s.1)).0),
     )
-    part_some (ends.Damaged name at) damaged = record { file = damaged.file; part = damaged.part; named = damaged.named; within = damaged.within; never = damaged.never }
+    part_some (ends.Damaged name at) damaged = record { file = damaged.file; part = damaged.part; named = damaged.named; within = damaged.within; never = damaged.never; bad = damaged.bad }
 
 -- BY WHAT WAS FOUND
 
+-- The part that is copied next, with the file in limbo in which its lines go on, if there is one: what is to be listed with that, and what a step over
+-- it leaves and says of the move without it.
+pub record Turn (tells : Bool) (all : SeenAll) (from : ℕ) (move : MoveState) (files retired : List Filed) (held : Stores) (revived : Option Entry) (most : ℕ) : Type 1 where
+  pub those : List Filed
+  pub further : CopiesFurther from tells all (reviving move revived) those held
+  pub later : IsTrue held.stands → HasLater from (reviving move revived) held
+  pub goes : GoesBehind all.limbo (from + 2) move revived
+  pub back : (new : SeenAll) → granularities new.stores.manifests ≡ granularities all.stores.manifests → new.limbo ≡ all.limbo → CopiesFurther from tells new (reviving move revived) those held → CopiesFurther from tells new move files held
+  pub says : (new : SeenAll) (nm : MoveState) (end : CopyEnd) → new.limbo ≡ all.limbo → SaysLines most from tells new (reviving move revived) nm those held end → SaysPart most from tells new move.at retired move nm files held end
+
 module _ (tells : Bool) (all : SeenAll) (from : ℕ) (move : MoveState) (files : List Filed) (held : Stores) (has : Has tells all.stores held) (is : CopiesFurther from tells all move files held) (stand : LimboStands all.stores all.limbo) (retired : List Filed) (whole : AreWhole (from + 1) tells all.stores all.limbo held.stands retired)
     (q : Filed) (q_next : IsNextPart from move held q) (part : Entry) (at_hand : slice_get move.parts move.at ≡ Some part) where
-  -- the files that are to be listed, with the one in limbo
-  abbrev pub turn_files : (revived : Option Entry) → SaysBehind all.limbo (from + 2) move.series (last_of move.pending move.listed) q.entry.part.start revived → List Filed
-  turn_files None says = files
-  turn_files (Some e) says = files ++ x tells all from move files held has is stand retired whole q q_next part at_hand says.0 says.1 says.2 ∷ []
-
-  pub turn_further : (revived : Option Entry) (says : SaysBehind all.limbo (from + 2) move.series (last_of move.pending move.listed) q.entry.part.start revived) → CopiesFurther from tells all (reviving move revived) (turn_files revived says) held
-  turn_further None says = is
-  turn_further (Some e) says = subst (λ (y : Entry). CopiesFurther from tells all (reviving move (Some y)) (turn_files (Some e) says) held) (x_entry tells all from move files held has is stand retired whole q q_next part at_hand says.0 says.1 says.2 ∙ says.3)
-      (further_with tells all from move files held has is stand retired whole q q_next part at_hand says.0 says.1 says.2)
-
   -- something of the part is left
-  pub turn_later : (revived : Option Entry) → SaysBehind all.limbo (from + 2) move.series (last_of move.pending move.listed) q.entry.part.start revived → IsUncovered all.limbo (from + 2) move.series (last_of move.pending move.listed) q.entry → (IsTrue held.stands → since (end_after (last_of move.pending move.listed)) q.samples ≢ []) → IsTrue held.stands → HasLater from (reviving move revived) held
+  turn_later : (revived : Option Entry) → SaysBehind all.limbo (from + 2) move.series (last_of move.pending move.listed) q.entry.part.start revived → IsUncovered all.limbo (from + 2) move.series (last_of move.pending move.listed) q.entry → (IsTrue held.stands → since (end_after (last_of move.pending move.listed)) q.samples ≢ []) → IsTrue held.stands → HasLater from (reviving move revived) held
   turn_later revived says uncovered first stands p p_next = go revived says
     where
       one : q ≡ p
@@ -228,32 +206,41 @@ module _ (tells : Bool) (all : SeenAll) (from : ℕ) (move : MoveState) (files :
           let ends : says.0.entry.last + 1 ≡ end_after (last_of (move.pending ++ e ∷ []) move.listed) = ap (λ (y : Entry). y.last + 1) says.3 ∙ sym (ap end_after (last_pushed move.pending e move.listed)) in
           subst (λ (k : ℕ). since k p.samples ≢ []) ends (subst (λ (y : Filed). since (says.0.entry.last + 1) y.samples ≢ []) one later)
 
-  -- what the call leaves
-  pub turn_beside : (new : SeenAll) (revived : Option Entry) (says : SaysBehind all.limbo (from + 2) move.series (last_of move.pending move.listed) q.entry.part.start revived) → granularities new.stores.manifests ≡ granularities all.stores.manifests → new.limbo ≡ all.limbo → CopiesBeside from tells all move files held → CopiesFurther from tells new (reviving move revived) (turn_files revived says) held → CopiesBeside from tells new move files held
-  turn_beside new None says same limbo beside then = beside_again tells all new from move files held beside then
-  turn_beside new (Some e) says same limbo beside then = without_last tells all new from move files (x tells all from move files held has is stand retired whole q q_next part at_hand says.0 says.1 says.2) (reviving move (Some e)) held same limbo beside then
+  pub turn : (most : ℕ) → IsUncovered all.limbo (from + 2) move.series (last_of move.pending move.listed) q.entry → (IsTrue held.stands → since (end_after (last_of move.pending move.listed)) q.samples ≢ [])
+      → ((stands : IsTrue held.stands) → past (B tells all from move files held has is stand retired whole stands q q_next part at_hand) move.series (left_of from move move.at files held) ≡ [])
+      → (revived : Option Entry) → SaysBehind all.limbo (from + 2) move.series (last_of move.pending move.listed) q.entry.part.start revived → Turn tells all from move files retired held revived most
+  turn most uncovered first skipped None says = record {
+    those = files;
+    further = is;
+    later = turn_later None says uncovered first;
+    goes = goes_behind tells all from move files held has is stand retired whole q q_next part at_hand None says;
+    back = λ new same limbo then. then;
+    says = λ new nm end limbo said. part_none tells all new limbo from move files held has is stand retired whole q q_next part at_hand most nm skipped says end said;
+  }
+  turn most uncovered first skipped (Some e) says =
+      let y = x tells all from move files held has is stand retired whole q q_next part at_hand says.0 says.1 says.2 in
+      let same : y.entry ≡ e = x_entry tells all from move files held has is stand retired whole q q_next part at_hand says.0 says.1 says.2 ∙ says.3 in
+      record {
+        those = files ++ y ∷ [];
+        further = subst (λ (o : Entry). CopiesFurther from tells all (reviving move (Some o)) (files ++ y ∷ []) held) same (further_with tells all from move files held has is stand retired whole q q_next part at_hand says.0 says.1 says.2);
+        later = turn_later (Some e) says uncovered first;
+        goes = goes_behind tells all from move files held has is stand retired whole q q_next part at_hand (Some e) says;
+        back = λ new granularity limbo then. further_without tells all new from move files y (reviving move (Some e)) held granularity limbo is then;
+        says = λ new nm end limbo said.
+            part_some tells all new limbo from move files held has is stand retired whole q q_next part at_hand most nm skipped says.0 says.1 says.2 end
+            (subst (λ (o : Entry). SaysLines most from tells new (reviving move (Some o)) nm (files ++ y ∷ []) held end) (sym same) said);
+      }
 
-  pub turn_back : (new : SeenAll) (revived : Option Entry) (says : SaysBehind all.limbo (from + 2) move.series (last_of move.pending move.listed) q.entry.part.start revived) → granularities new.stores.manifests ≡ granularities all.stores.manifests → new.limbo ≡ all.limbo → CopiesFurther from tells new (reviving move revived) (turn_files revived says) held → CopiesFurther from tells new move files held
-  turn_back new None says same limbo then = then
-  turn_back new (Some e) says same limbo then = further_without tells all new from move files (x tells all from move files held has is stand retired whole q q_next part at_hand says.0 says.1 says.2) (reviving move (Some e)) held same limbo is then
+-- FROM A LINE THAT WAS FOUND
 
-  -- and what it says
-  module _ (new : SeenAll) (limbo : new.limbo ≡ all.limbo) (most : ℕ) (nm : MoveState) (skipped : (stands : IsTrue held.stands) → past (B tells all from move files held has is stand retired whole stands q q_next part at_hand) move.series (left_of from move move.at files held) ≡ []) where
-    pub turn_part : (revived : Option Entry) (says : SaysBehind all.limbo (from + 2) move.series (last_of move.pending move.listed) q.entry.part.start revived) (end : CopyEnd) → SaysLines most from tells new (reviving move revived) nm (turn_files revived says) held end → SaysPart most from tells new move.at retired move nm files held end
-    turn_part None says end said = part_none tells all new limbo from move files held has is stand retired whole q q_next part at_hand most nm skipped says end said
-    turn_part (Some e) says end said =
-        part_some tells all new limbo from move files held has is stand retired whole q q_next part at_hand most nm skipped says.0 says.1 says.2 end
-        (subst (λ (y : Entry). SaysLines most from tells new (reviving move (Some y)) nm (turn_files (Some e) says) held end) (sym (x_entry tells all from move files held has is stand retired whole q q_next part at_hand says.0 says.1 says.2 ∙ says.3)) said)
-
--- FOR A FIRST PART
-
-module _ (tells : Bool) (all : SeenAll) (from : ℕ) (move : MoveState) (files : List Filed) (held : Stores) (has : Has tells all.stores held) (is : CopiesFurther from tells all move files held) (q : Filed) (q_next : IsNextPart from move held q) (part : Entry) (at_hand : slice_get move.parts move.at ≡ Some part) where
+module _ (tells : Bool) (all : SeenAll) (from : ℕ) (move : MoveState) (files : List Filed) (held : Stores) (has : Has tells all.stores held) (is : CopiesFurther from tells all move files held) where
   -- a line that is left is a sample that is
-  pub line_later : (name : Name) (at len : ℕ) → FindsLine from move held name at len → IsTrue held.stands → since (end_after (last_of move.pending move.listed)) q.samples ≢ []
-  line_later name at len line stands none =
+  pub line_later : (name : Name) (at len : ℕ) → FindsLine from tells all.stores.files move held name at len → IsTrue held.stands → HasLater from move held
+  line_later name at len line stands q q_next none =
       let both : ◌≡◌ {A = Option Filed} (Some line.file) (Some q) = sym line.next.here ∙ q_next.here in
       let one : line.file ≡ q = same_Some line.file q both in
-      let filed = q_filed tells all from move files held has is line.file line.next part at_hand stands in
+      let part = next_part tells all from move files held has is in
+      let filed = q_filed tells all from move files held has is line.file line.next part.0 part.1 stands in
       let split = line.splits stands in
       let left = part_left is.runs.fine held.rows line.file (end_after (last_of move.pending move.listed)) at filed split (let low = line.low in let long = line.long in omega (arith, low, long)) in
       let all_since : since (end_after (last_of move.pending move.listed)) split.back ≡ split.back = since_all (end_after (last_of move.pending move.listed)) (end_after (last_of move.pending move.listed)) split.back left.rises (omega arith) in
@@ -264,19 +251,16 @@ module _ (tells : Bool) (all : SeenAll) (from : ℕ) (move : MoveState) (files :
       rest_none [] ys is = is
       rest_none (s ∷ xs) ys is = absurd (cc (is))
 
-module _ (tells : Bool) (all : SeenAll) (from : ℕ) (move : MoveState) (files : List Filed) (held : Stores) (has : Has tells all.stores held) (is : CopiesFurther from tells all move files held) (stand : LimboStands all.stores all.limbo) (retired : List Filed) (whole : AreWhole (from + 1) tells all.stores all.limbo held.stands retired)
-    (q : Filed) (q_next : IsNextPart from move held q) (part : Entry) (at_hand : slice_get move.parts move.at ≡ Some part) (stands : IsTrue held.stands) where
-  pub passed_none : left_of from move move.at files held ≡ [] → past (B tells all from move files held has is stand retired whole stands q q_next part at_hand) move.series (left_of from move move.at files held) ≡ []
-  passed_none none = ap (past (B tells all from move files held has is stand retired whole stands q q_next part at_hand) move.series) none
+-- it is the line of the part that is copied next where no part was passed
+line_still : (from : ℕ) (tells : Bool) (now : Files) (move mid : MoveState) (held : Stores) (line : LineLeft) → PassesParts move mid → mid.at ≡ move.at → FindsLine from tells now move held line.name line.at line.len → FindsLine from tells now mid held line.name line.at line.len
+line_still from tells now move mid held line passes same found = subst (λ (x : MoveState). FindsLine from tells now x held line.name line.at line.len) (sym (passes.is ∙ ap (λ (k : ℕ). record move { parts = mid.parts; at = k }) same))
+    (record { file = found.file; next = record { here = found.next.here; within = found.next.within }; long = found.long; low = found.low; behind = found.behind; named = found.named; splits = found.splits; good = found.good })
 
--- A CALL OF STORES OF WHICH MORE IS KNOWN
-
-pub changes_by : {A : Type 0} (tells : Bool) (Is : Stores → Type 0) (Then : List Filed → Stores → Type 0) (old new : Seen) (end : End A ⊥) → ((held : Stores) → Has tells old held → Is held → (fs : List Filed) × Then fs held) → ((fs : List Filed) → ChangesGiven (Then fs) tells (staying {A = A}) old new end) → ChangesGiven Is tells (staying {A = A}) old new end
-changes_by {A} tells Is Then old new end to change = record {
-  ends = λ held has is. let t = to held has is in (change t.0).ends held has t.1;
-  any_moment = λ told held has is. let t = to held has is in (change t.0).any_moment told held has t.1;
-  costs = (change []).costs;
-}
+pub has_line : (from : ℕ) (tells : Bool) (now : Files) (move mid : MoveState) (held : Stores) (line : LineLeft) (own : Bool) (revived : Option Entry) (kept : Option LineLeft) → PassesParts move mid → (IsTrue own → mid.at ≡ move.at) → IfSome kept (λ k. (k ≡ line) × IsTrue own × (revived ≡ None))
+    → FindsLine from tells now move held line.name line.at line.len → (IsTrue held.stands → HasLater from (reviving mid revived) held) → HasLine from tells now (reviving mid revived) held kept
+has_line from tells now move mid held line own revived None passes same says found later = later
+has_line from tells now move mid held line own revived (Some k) passes same says found later =
+    subst (λ (l : LineLeft). FindsLine from tells now (reviving mid revived) held l.name l.at l.len) (sym says.0) (subst (λ (o : Option Entry). FindsLine from tells now (reviving mid o) held line.name line.at line.len) (sym says.2) (line_still from tells now move mid held line passes (same says.1) found))
 
 -- WHERE FILES WERE READ ALONE
 

@@ -2,11 +2,15 @@
 use Rattle.std.proofs.Common.{◌≡◌, ℕ, ℤ, suc, ◌+◌, ◌-◌, ◌≤◌, ◌<◌, List, [], ◌∷◌, ◌++◌, length, take, drop, get_or, Bool, true, false, cond, Option, Some, refl, sym, ◌∙◌, ap, subst, arith, append_assoc}
 use Rattle.std.specs.Prelude.{nat_le, IfOk, Result, Ok, Err}
 use Rattle.std.proofs.lemmas.Bool.Decides.{nat_tests}
-use Rattle.std.proofs.lemmas.List.{length-append, length-take, length-drop, take-append-drop, take-take}
+use Rattle.std.proofs.lemmas.List.{length-append, length-take, length-drop, drop-drop, drop-take, take-append-drop, take-take}
+use Rattle.std.proofs.lemmas.Option.{same_Some}
+use Rattle.std.proofs.Math.Seq.{take-add, take-append_seam}
 use Rattle.disk_model.specs.Files.{Name, Files, HasFile}
+use Rattle.disk_model.specs.declared.disk.DiskErr.{DiskErr}
 use Rattle.line_escape.specs.Unescaping.{HasNoNewline}
 use Rattle.payload_info.specs.declared.info.PayloadInfo.{PayloadInfo}
 use Rattle.pb_lines.specs.File.{IsSample, AreSamples, lines_of}
+use Rattle.pb_lines.specs.Header.{IsHeaderLine}
 use Rattle.pb_lines.specs.Sample.{IsSampleLine}
 use Rattle.pb_lines.proofs.FileLines.{all-append, lines_of-append}
 use Rattle.pb_wire.specs.declared.payload.PayloadType.{PayloadType}
@@ -14,7 +18,9 @@ use Rattle.series_model.specs.Series.{since}
 use Rattle.series_model.specs.declared.sample.Sample.{Sample}
 use Rattle.series_model.proofs.RisingLists.{since-append}
 use Rattle.tier_store.specs.Counting.{IsSampleStart}
-use Rattle.tier_store.specs.Finding.{BeginsWithHeader, GoesOnWith, IsLaterStart, SkipsLines, SplitsAt}
+use Rattle.tier_store.specs.Finding.{AreLinesFrom, BeginsWithHeader, GoesOnWith, IsGoodUpTo, IsLaterStart, IsNoSooner, IsTold, IsUpTo, SaysFile, SkipsLines, SplitsAt, no_line}
+use Rattle.tier_store.specs.declared.finding.LaterLines.{LaterLines}
+use Rattle.tier_store.specs.declared.finding.LaterLines.TheVariants.{At, Damaged}
 use Rattle.tier_store.proofs.CountingLines.{IsCounting, line_at, rest_is, sample_at}
 use Rattle.tier_store.proofs.CountingPieces.{IsBetween, IsPiece, front_of, no_length, piece_of}
 
@@ -136,13 +142,82 @@ damaged_here files name at end w ty year n len bytes there all piece zero skips 
 
 -- WHAT IS TOLD
 
-pub both_ok : {A E : Type 0} (r : Result A E) (P Q : A → Type 0) → IfOk r P → IfOk r Q → IfOk r (λ a. P a × Q a)
-both_ok {A} {E} (Ok a) P Q one two = (one, two)
-both_ok {A} {E} (Err e) P Q one two = tt
-
 -- the header's line at the front of a file
 pub header_front : (b line : List ℕ) (head_len len : ℕ) (info : PayloadInfo) → BeginsWithHeader head_len (take len b) line info → take head_len (drop 0 b) ≡ line ++ 10 ∷ []
 header_front b line head_len len info begins = sym (take-take head_len len b within) ∙ begins.text
   where
     within : head_len ≤ len
     within = let long = ap length begins.text in let own = begins.long in omega (arith, long, own, length-take head_len (take len b), length-take len b, length-append line (10 ∷ []))
+
+-- LINES UP TO A PLACE
+
+pub both_file : (files : Files) (name : Name) (P Q : List ℕ → Type 0) → HasFile files name P → HasFile files name Q → HasFile files name (λ b. P b × Q b)
+both_file files name P Q one two =
+    let same : ◌≡◌ {A = Option (List ℕ)} (Some two.bytes) (Some one.bytes) = sym two.file ∙ one.file in
+    record { bytes = one.bytes; file = one.file; holds = (one.holds, subst Q (same_Some two.bytes one.bytes same) two.holds) }
+
+pub lines_begun : (ty : PayloadType) (year : ℤ) (from : ℕ) (b : List ℕ) → AreLinesFrom ty year from from b
+lines_begun ty year from b = record { samples = []; are = tt; text = ap (λ (k : ℕ). take k (drop from b)) none }
+  where
+    none : from - from ≡ 0
+    none = omega arith
+
+-- those that were skipped of a piece stand behind them
+pub lines_more : (ty : PayloadType) (year : ℤ) (from at w n len : ℕ) (found : Bool) (bytes b : List ℕ) → from ≤ at → len ≤ w → bytes ≡ take w (drop at b) → SkipsLines ty year bytes n len found → AreLinesFrom ty year from at b → AreLinesFrom ty year from (at + len) b
+lines_more ty year from at w n len found bytes b low within piece skips is = record {
+  samples = is.samples ++ skips.samples;
+  are = all-append (IsSample ty year) is.samples skips.samples is.are skips.are;
+  text = ap (λ (k : ℕ). take k (drop from b)) further ∙ (take-add (at - from) len (drop from b) ∙ (ap (λ (l : List ℕ). l ++ take len (drop (at - from) (drop from b))) is.text ∙ (ap (λ (l : List ℕ). lines_of is.samples ++ l) behind ∙ sym (lines_of-append is.samples skips.samples))));
+}
+  where
+    further : (at + len) - from ≡ (at - from) + len
+    further = omega (arith, low)
+
+    place : from + (at - from) ≡ at
+    place = omega (arith, low)
+
+    behind : take len (drop (at - from) (drop from b)) ≡ lines_of skips.samples
+    behind =
+        ap (take len) (drop-drop (at - from) from b ∙ ap (λ (k : ℕ). drop k b) place)
+        ∙ (sym (take-take len w (drop at b) within)
+        ∙ (ap (take len) (sym piece ∙ skips.begin) ∙ (ap (λ (k : ℕ). take k (lines_of skips.samples ++ skips.rest)) skips.long ∙ take-append_seam (lines_of skips.samples) skips.rest)))
+
+-- WHAT IS TOLD OF THE FILE
+
+good_from : (b line : List ℕ) (info : PayloadInfo) (head_len len at : ℕ) → len ≤ length b → head_len ≤ at → at ≤ len → take head_len b ≡ line ++ 10 ∷ [] → HasNoNewline line → IsHeaderLine line info → AreLinesFrom info.ty info.year head_len at b → (good : IsGoodUpTo head_len (take len b) at) × (good.info ≡ info)
+good_from b line info head_len len at long low high text whole header is = (
+  record {
+    line = line;
+    info = info;
+    samples = is.samples;
+    header = record {
+      long = let size = ap length text in omega (arith, size, long, low, high, length-take head_len b, length-append line (10 ∷ []));
+      text = take-take head_len len b (omega (arith, low, high)) ∙ text;
+      whole = whole;
+      header = header;
+    };
+    are = is.are;
+    text = take-take at len b high ∙ (ap (λ (k : ℕ). take k b) place ∙ (take-add head_len (at - head_len) b ∙ (ap (λ (l : List ℕ). l ++ take (at - head_len) (drop head_len b)) text ∙ (ap (λ (l : List ℕ). (line ++ 10 ∷ []) ++ l) is.text ∙ append_assoc line (10 ∷ []) (lines_of is.samples)))));
+  },
+  refl,
+)
+  where
+    place : at ≡ head_len + (at - head_len)
+    place = omega (arith, low)
+
+pub says_file : (files : Files) (name : Name) (line : List ℕ) (info : PayloadInfo) (head_len len : ℕ) (r : Result LaterLines DiskErr) → HasFile files name (λ b. (len ≤ length b) × (take head_len b ≡ line ++ 10 ∷ [])) → HasNoNewline line → IsHeaderLine line info
+    → IfOk r (IsTold files name head_len len info.ty info.year) → IfOk r (IsNoSooner head_len) → IfOk r (IsUpTo len) → IfOk r (λ later. HasFile files name (λ b. SaysFile head_len (take len b) later))
+says_file files name line info head_len len (Ok (At at)) has whole header told low high =
+    let both = both_file files name _ _ has told in
+    record { bytes = both.bytes; file = both.file; holds = (good_from both.bytes line info head_len len at both.holds.0.0 low high both.holds.0.1 whole header both.holds.1).0 }
+says_file files name line info head_len len (Ok (Damaged at)) has whole header told low high =
+    let both = both_file files name _ _ has told in
+    let b = both.bytes in
+    let to : at + (len - at) ≡ len = omega (arith, high) in
+    let good = good_from b line info head_len len at both.holds.0.0 low high both.holds.0.1 whole header both.holds.1.0 in
+    record {
+      bytes = b;
+      file = both.file;
+      holds = no_line good.0 (λ start. both.holds.1.1 (subst (IsSampleStart info.ty info.year) (ap (λ (k : ℕ). drop at (take k b)) (sym to) ∙ drop-take at (len - at) b) (subst (λ (i : PayloadInfo). IsSampleStart i.ty i.year (drop at (take len b))) good.1 start)));
+    }
+says_file files name line info head_len len (Err e) has whole header told low high = tt

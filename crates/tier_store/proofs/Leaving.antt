@@ -33,7 +33,7 @@ use Rattle.tier_store.specs.Stores.{Stores, list_at}
 use Rattle.tier_store.specs.declared.limbo.Retired.{Retired}
 use Rattle.tier_store.specs.declared.retirement.RetireEnd.{RetireEnd}
 use Rattle.tier_store.proofs.Acting.{nothing_changes}
-use Rattle.tier_store.proofs.Differing.{names_apart, pairs_both, rise_take, stay_differ}
+use Rattle.tier_store.proofs.Removals.{names_apart, pairs_both, rise_take, stay_differ}
 use Rattle.tier_store.proofs.Dropped.{entry_in, from_oldest, same_entries, stays_or}
 use Rattle.tier_store.proofs.Places.{granularity_at, list_other, list_set, manifest_at, within_three}
 use Rattle.tier_store.proofs.Sparing.{listed_name}

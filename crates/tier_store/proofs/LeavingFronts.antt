@@ -7,7 +7,6 @@ use Rattle.disk_model.specs.Past.{Passes}
 use Rattle.disk_model.specs.declared.disk.DiskErr.{DiskErr}
 use Rattle.disk_model.proofs.Passing.{passes_none, passes_then, passes_weaker}
 use Rattle.gate_journal.specs.Generations.{IsOwn, AtOwn}
-use Rattle.pv_catalog.specs.Rows.{KeepsRows}
 use Rattle.pv_catalog.specs.declared.row.Row.{Row}
 use Rattle.series_model.specs.declared.batch.RowSamples.{RowSamples}
 use Rattle.store_files.specs.Fronts.{Begins, Keeps}
@@ -22,15 +21,15 @@ use Rattle.durable_write.proofs.Ahead.{contains_entry}
 use Rattle.durable_write.proofs.Revival.{listed_stays}
 use Rattle.durable_write.proofs.There.{contains_map}
 use Rattle.durable_write.proofs.Three.{same_cases}
-use Rattle.tier_store.specs.Stores.{Stores, tier, with_rows}
+use Rattle.tier_store.specs.Stores.{Stores, tier}
 use Rattle.tier_store.specs.Seen.{Seen}
-use Rattle.tier_store.specs.Change.{IsKnownAt, Has, IsOpen, HasEither, SameFiles, Call, EndsFrom, Changes}
+use Rattle.tier_store.specs.Change.{IsKnownAt, Has, IsOpen, HasEither, SameFiles, EndsFrom}
 use Rattle.tier_store.specs.Limbo.{LimboStands}
 use Rattle.tier_store.specs.Pinned.{SeenAll, beside, IsThereTo, KeepsShown, LeavesFronts}
 use Rattle.tier_store.specs.Revival.{AreInLimbo, flushing_over}
 use Rattle.tier_store.proofs.Places.{one_manifest}
 use Rattle.tier_store.proofs.RevivalShown.{IsHere, is_here, over_on, over_spares}
-use Rattle.tier_store.proofs.Showing.{Spares, ends_held, ends_spares, fronts_beside, grown_spares, known_spares, name_listed, not_own, numbered, settled_held, settled_spares, still_held, still_spares, there_still}
+use Rattle.tier_store.proofs.Showing.{ends_held, ends_spares, fronts_beside, known_spares, name_listed, not_own, numbered, settled_held, settled_spares, still_held, still_spares, there_still}
 use Rattle.tier_store.proofs.Sparing.{after_disk, same_memory}
 
 -- the files of a store that are listed or in limbo begin as they did
@@ -99,28 +98,17 @@ review_fronts {B} tells old new r limbo begun settled still = only_settled tells
     go (Ok a) settled still = there_still old new limbo (λ name len h. settled_held tells old.stores new.stores begun.0 begun.1 name len begun.2 settled h) (λ name len r. settled_spares tells old.stores new.stores begun.0 begun.1 name len begun.2 settled r.no_shorter)
     go (Err e) settled still = there_still old new limbo (λ name len h. still_held tells old.stores new.stores begun.0 begun.1 name len begun.2 still h) (λ name len r. still_spares tells old.stores new.stores begun.0 begun.1 name len begun.2 still r.no_shorter)
 
--- A CHANGE OF THE ROWS
+-- A COMMIT
 
--- the rows go on, and only the catalogue's files are written
-pub rows_fronts : {A E : Type 0} (tells : Bool) (call : Call A E) (old new : SeenAll) (end : End A E) (R : Files → Files → Type 0) → new.limbo ≡ old.limbo → (held : Stores) × Has tells old.stores held → ((held made : Stores) → call.by held made → (made ≡ with_rows held made.rows) × KeepsRows held.rows made.rows) → Changes tells call old.stores new.stores end
-    → (IsTrue tells → (n : Name) → (IsOwn old.stores.catalogue.journal.name n → ⊥) → new.stores.files n ≡ old.stores.files n) → (IsTrue tells → Passes (AtOwn old.stores.catalogue.journal.name R) old.stores.past new.stores.past) → LeavesFronts tells old new
-rows_fronts {A} {E} tells call old new end R limbo has goes change elsewhere passes = record {
-  there = there_still old new limbo (λ name len h. ends_held tells call old.stores new.stores has.0 end name len has.1 (λ made by. inr (goes has.0 made by)) ends h)
-      (λ name len r. ends_spares tells call old.stores new.stores has.0 end name len has.1
-      (λ made by spares. let on = goes has.0 made by in subst (λ (s : Stores). Spares s name len) (sym on.0) (grown_spares old.stores has.0 made.rows name len has.1.known on.1 spares)) ends r.no_shorter);
+-- only a journal's files are written
+pub commit_fronts : (tells : Bool) (old new : SeenAll) (journal : Name) (R : Files → Files → Type 0) → (IsTrue tells → journal.0 ≡ 0) → ((name : Name) (len : ℕ) → IsThereTo old name len → IsThereTo new name len) → (IsTrue tells → (n : Name) → (IsOwn journal n → ⊥) → new.stores.files n ≡ old.stores.files n)
+    → (IsTrue tells → Passes (AtOwn journal R) old.stores.past new.stores.past) → LeavesFronts tells old new
+commit_fronts tells old new journal R zero_store there elsewhere passes = record {
+  there = there;
   now = λ told. fronts_beside old new journal (zero_store told) (elsewhere told);
   any_moment = λ told store numbered. passes_weaker (AtOwn journal R) (KeepsOf old store) old.stores.past new.stores.past (passes told)
       (λ a c left step name len of was. keeps_same len (a name) (c name) (step.elsewhere name (not_own old journal (zero_store told) name len was)));
 }
-  where
-    journal : Name
-    journal = old.stores.catalogue.journal.name
-
-    zero_store : IsTrue tells → journal.0 ≡ 0
-    zero_store told = ap (λ (n : Name). n.0) (has.1.disk told).rows.named
-
-    ends : EndsFrom tells call new.stores has.0 end
-    ends = change.ends has.0 has.1
 
 -- A FLUSH
 

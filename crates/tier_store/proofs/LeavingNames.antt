@@ -5,19 +5,17 @@ use Rattle.std.specs.Ordering.{nat_cmp}
 use Rattle.std.specs.Prelude.{All, Contains, IsTrue}
 use Rattle.std.proofs.lemmas.List.Elements.{All-contains, All-map}
 use Rattle.disk_model.specs.Files.{Name, Files}
-use Rattle.disk_model.specs.Past.{Past, Passes}
+use Rattle.disk_model.specs.Past.{Passes}
 use Rattle.disk_model.proofs.Passing.{passes_none, passes_then, passes_weaker}
 use Rattle.gate_journal.specs.Generations.{IsOwn, AtOwn}
 use Rattle.gate_journal.proofs.Owning.{own_store}
 use Rattle.pinned_pieces.specs.Pieces.{PinOf}
-use Rattle.pv_catalog.specs.Catalogue.{CatalogueState}
-use Rattle.store_manifest.specs.Manifest.{ManifestState}
 use Rattle.durable_write.specs.Held.{Filed, Shelf, file_of}
 use Rattle.durable_write.specs.Three.{Beside}
 use Rattle.tier_store.specs.Limbo.{IsNeeded, Removes, Spares}
 use Rattle.tier_store.specs.Moving.{LeavesNames, LeavesLater, LeavesFiles, names_of}
 use Rattle.tier_store.specs.Pinned.{SeenAll, beside}
-use Rattle.tier_store.specs.Seen.{Seen, seen_on}
+use Rattle.tier_store.specs.Seen.{Seen}
 use Rattle.tier_store.specs.declared.limbo.Retired.{Retired}
 
 -- every one of these names has what it had
@@ -42,13 +40,6 @@ nothing_names names tells all = read_names names tells all all refl (λ told. re
 
 pub nothing_leaves : (tells : Bool) (all : SeenAll) → LeavesLater tells all all
 nothing_leaves tells all = read_leaves tells all all refl (λ told. refl) (λ told. refl) (λ told. passes_none (λ a b. b ≡ a) all.stores.past (λ a left. refl))
-
--- the disk is the same
-pub same_disk : {S : Type 0} (files_of : S → Files) (opened_of : S → Name → ℕ) (past_of : S → Past) (faults_of : S → ℕ) (tells : Bool) (c later : CatalogueState) (ms ns : List ManifestState) (limbo left : List Retired) (d after : S) → after ≡ d → left ≡ limbo
-    → LeavesLater tells (beside (seen_on files_of opened_of past_of faults_of c ms d) limbo) (beside (seen_on files_of opened_of past_of faults_of later ns after) left)
-same_disk {S} files_of opened_of past_of faults_of tells c later ms ns limbo left d after same same_limbo =
-    read_leaves tells (beside (seen_on files_of opened_of past_of faults_of c ms d) limbo) (beside (seen_on files_of opened_of past_of faults_of later ns after) left) same_limbo (λ told. ap files_of same) (λ told. ap opened_of same)
-    (λ told. subst (λ (x : S). Passes (λ a b. b ≡ a) (past_of d) (past_of x)) (sym same) (passes_none (λ a b. b ≡ a) (past_of d) (λ a left. refl)))
 
 -- one call after another
 pub names_then : (names : List Name) (tells : Bool) (old mid new : SeenAll) → LeavesNames names tells old mid → LeavesNames names tells mid new → LeavesNames names tells old new

@@ -1,36 +1,126 @@
 -- A doubt whether a change of one list was made, and how the review of that manifest ends it.
-use Rattle.std.proofs.Common.{◌≡◌, ◌≢◌, ◌⊎◌, inl, inr, true, false, Bool, ℕ, ◌+◌, List, map, length, Some, refl, sym, ◌∙◌, ap, subst, arith}
+use Rattle.std.proofs.Common.{◌≡◌, ◌⊎◌, inl, inr, true, false, Bool, ℕ, ◌+◌, List, map, length, Some, refl, sym, ◌∙◌, ap, subst, ◌≢◌, arith}
 use Rattle.std.specs.Prelude.{IsTrue, slice_get, slice_set}
 use Rattle.disk_model.specs.Files.{Name, Files}
 use Rattle.disk_model.specs.Past.{Past, MayLeave, Passes}
-use Rattle.disk_model.proofs.Passing.{passes_weaker}
-use Rattle.gate_journal.specs.Generations.{IsOwn, AtOwn}
-use Rattle.gate_journal.specs.Kept.{Says, SaysEither, IsKept, IsUnsure}
-use Rattle.gate_journal.proofs.Keeping.{says_stays}
-use Rattle.gate_journal.proofs.Owning.{own_store}
-use Rattle.partition_names.specs.declared.granularity.Granularity.{Granularity}
+use Rattle.gate_journal.specs.Journal.{JournalState}
+use Rattle.gate_journal.specs.Kept.{IsKept, IsUnsure, Says, SaysEither}
 use Rattle.pv_catalog.specs.Catalogue.{CatalogueState, catalogue_name}
 use Rattle.pv_catalog.specs.declared.row.Row.{Row}
 use Rattle.pv_catalog.specs.Rows.{IsCatalogue}
 use Rattle.store_manifest.specs.declared.entry.Entry.{Entry}
 use Rattle.store_manifest.specs.Batches.{Configured}
-use Rattle.store_manifest.specs.Manifest as manifest
 use Rattle.store_manifest.specs.Manifest.{ManifestState, manifest_name}
 use Rattle.durable_write.specs.Held.{Held, entry_of}
-use Rattle.durable_write.specs.Stored.{Holds, AreHeld, AreSafe, CatalogueStored, TierStored, TierUnsure}
-use Rattle.durable_write.specs.Three.{Anything, Beside}
-use Rattle.durable_write.proofs.Quiet.{Alone}
-use Rattle.durable_write.proofs.Ending.{other_journal}
-use Rattle.durable_write.proofs.Holding.{not_in, says_listed}
-use Rattle.durable_write.proofs.Stays.{own_long, own_stay, safe_stays}
+use Rattle.durable_write.specs.Stored.{AreSafe, CatalogueStored, TierStored, Holds, AreHeld, TierUnsure}
+use Rattle.durable_write.proofs.Quiet.{Quiet, Alone}
+use Rattle.durable_write.proofs.Reading.{Reads, reads_all, catalogue_read, tier_read, safe_read, unopened_same}
 use Rattle.durable_write.proofs.Three.{same_cases, set_long, get_set_same}
 use Rattle.tier_store.specs.Stores.{Stores, list_at, tier, with_list}
 use Rattle.tier_store.specs.Seen.{Seen, seen_on, AtEach, granularities}
-use Rattle.tier_store.specs.Stored.{HoldsAll, IsStoredAt, PlaceUnsure}
-use Rattle.tier_store.specs.Change.{IsKnownAt, Has, PlaceInDoubt, Doubts, IsOpen, HasEither, HoldsEither, SameFiles}
+use Rattle.tier_store.specs.Stored.{IsStoredAt, AllStored, PlaceUnsure, HoldsAll}
+use Rattle.tier_store.specs.Change.{IsKnownAt, Has, RowsInDoubt, PlaceInDoubt, Doubts, IsOpen, HasEither, HoldsEither, SameFiles}
+use Rattle.tier_store.proofs.Places.{one_manifest, within_three, set_cases, tier_other}
+use Rattle.disk_model.proofs.Passing.{passes_weaker}
+use Rattle.gate_journal.specs.Generations.{IsOwn, AtOwn}
+use Rattle.gate_journal.proofs.Keeping.{says_stays}
+use Rattle.gate_journal.proofs.Owning.{own_store}
+use Rattle.partition_names.specs.declared.granularity.Granularity.{Granularity}
+use Rattle.durable_write.specs.Three.{Anything, Beside}
+use Rattle.durable_write.proofs.Ending.{other_journal}
+use Rattle.durable_write.proofs.Holding.{not_in, says_listed}
+use Rattle.durable_write.proofs.Stays.{own_long, own_stay, safe_stays}
 use Rattle.tier_store.proofs.Beside.{OnStore, holds_beside, in_out, rows_beside, tier_beside}
 use Rattle.tier_store.proofs.Left.{all_hold, rows_say, tier_holds}
-use Rattle.tier_store.proofs.Places.{within_three, one_manifest, set_cases, tier_other}
+use Rattle.pv_catalog.specs.Catalogue as catalogue
+use Rattle.store_manifest.specs.Manifest as manifest
+
+-- A doubt, and how it ends
+
+-- ON THE DISK
+
+module _ (files later : Files) (opened after : Name → ℕ) (old new : Past) (reads : Quiet files later opened after old new) where
+  all : Reads files later opened after old new
+  all = reads_all files later opened after old new reads.passes reads.same reads.unopened
+
+  rows_still : (c : JournalState) (rows : List Row) → CatalogueStored c files opened old rows → CatalogueStored c later after new rows
+  rows_still c rows stored = catalogue_read files later opened after old new all c rows stored
+
+  tier_still : (m : ManifestState) (t : Held) → TierStored m.granularity m.journal files opened old t → TierStored m.granularity m.journal later after new t
+  tier_still m t stored = tier_read files later opened after old new all m.granularity m.journal t stored (unopened_same t files opened after old reads.unopened stored.safe)
+
+  safe_still : (t : Held) → AreSafe t files opened old → AreSafe t later after new
+  safe_still t safe = safe_read t files later opened after old new safe all.passes all.same (unopened_same t files opened after old reads.unopened safe)
+
+-- IN MEMORY TOO
+
+module _ {S : Type 0} (files_of : S → Files) (opened_of : S → Name → ℕ) (past_of : S → Past) (faults_of : S → ℕ) (tells : Bool) (d after : S)
+    (reads : IsTrue tells → Quiet (files_of d) (files_of after) (opened_of d) (opened_of after) (past_of d) (past_of after)) (c : CatalogueState) (ms : List ManifestState) (before next : Stores) where
+  abbrev seen_at : CatalogueState → List ManifestState → S → Seen
+  seen_at catalogue manifests x = seen_on files_of opened_of past_of faults_of catalogue manifests x
+
+  each_still : IsTrue tells → (s : Stores) → AtEach ms (λ i m. IsStoredAt (seen_at c ms d) m (tier i s)) → AtEach ms (λ i m. IsStoredAt (seen_at c ms after) m (tier i s))
+  each_still told s each i m here = tier_still _ _ _ _ _ _ (reads told) m (tier i s) (each i m here)
+
+  all_still : IsTrue tells → (s : Stores) → AllStored (seen_at c ms d) s → AllStored (seen_at c ms after) s
+  all_still told s stored = record { rows = rows_still _ _ _ _ _ _ (reads told) c.journal s.rows stored.rows; each = each_still told s stored.each }
+
+  -- THE ROWS
+
+  -- the catalogue has one of the two
+  rows_are : (made : CatalogueState) (s : Stores) → RowsInDoubt tells (seen_at c ms d) before next → made.journal.name ≡ c.journal.name → made.journal.sound ≡ true → made.rows ≡ s.rows → length ms ≡ 3 → AtEach ms (λ i m. IsKnownAt m (tier i s))
+      → (IsTrue tells → catalogue.IsStored made (files_of after) (opened_of after) (past_of after)) → (IsTrue tells → (c.journal.name ≡ catalogue_name) × AtEach ms (λ i m. IsStoredAt (seen_at c ms d) m (tier i s))) → Has tells (seen_at made ms after) s
+  rows_are made s doubt name sound rows three known kept disk = record {
+    known = record { three = three; rows = rows; each = known };
+    settled = record { catalogue = sound; manifests = doubt.sound };
+    disk = λ told. record {
+      rows = record { named = name ∙ (disk told).0; sound = sound; kept = subst (IsKept IsCatalogue made.journal (files_of after) (opened_of after) (past_of after)) rows (kept told) };
+      each = each_still told s (disk told).1;
+    };
+  }
+
+  rows_known : (made : CatalogueState) → Doubts tells (seen_at c ms d) before next → RowsInDoubt tells (seen_at c ms d) before next → made.journal.name ≡ c.journal.name → made.journal.sound ≡ true → (made.rows ≡ c.rows) ⊎ (made.rows ≡ c.next)
+      → (IsTrue tells → catalogue.IsStored made (files_of after) (opened_of after) (past_of after)) → HasEither tells (seen_at made ms after) before next
+  rows_known made doubt r name sound (inl old) kept = inl (rows_are made before r name sound (old ∙ doubt.known.rows) doubt.known.three doubt.known.each kept (λ told. ((r.disk told).rows.named, (r.disk told).each)))
+  rows_known made doubt r name sound (inr new) kept =
+      let entries : AtEach ms (λ i m. IsKnownAt m (tier i next)) = λ i m here. record { entries = (doubt.known.each i m here).entries ∙ ap (λ (s : Stores). map entry_of (list_at i s)) (sym r.same); valid = doubt.valid_after i m here } in
+      inr (rows_are made next r name sound (new ∙ r.next) doubt.known.three entries kept (λ told. ((r.disk told).rows.named, (r.disk told).each_after)))
+
+  pub rows_settled : (made : CatalogueState) → c.journal.sound ≡ false → IsOpen tells (seen_at c ms d) before next → made.journal.name ≡ c.journal.name → made.journal.sound ≡ true → (made.rows ≡ c.rows) ⊎ (made.rows ≡ c.next)
+      → (IsTrue tells → catalogue.IsStored made (files_of after) (opened_of after) (past_of after)) → HasEither tells (seen_at made ms after) before next
+  rows_settled made unsound (inl has) name sound rows kept = absurd (cc (unsound, has.settled.catalogue))
+  rows_settled made unsound (inr doubt) name sound rows kept = elim doubt.change [
+    | inl r ↦ rows_known made doubt r name sound rows kept
+    | inr p ↦ absurd (cc (unsound, p.1.sound))
+  ]
+
+-- WHAT THE REVIEWS NEED
+
+pub rows_in_doubt : (tells : Bool) (at : Seen) (before next : Stores) → IsOpen tells at before next → at.catalogue.journal.sound ≡ false → IsTrue tells → catalogue.IsInDoubt at.catalogue at.files at.opened at.past
+rows_in_doubt tells at before next (inl has) unsound told = absurd (cc (unsound, has.settled.catalogue))
+rows_in_doubt tells at before next (inr doubt) unsound told = elim doubt.change [
+  | inl r ↦ subst (λ (rows : List Row). IsUnsure IsCatalogue at.catalogue.journal at.files at.opened at.past rows at.catalogue.next) (sym doubt.known.rows)
+      (subst (IsUnsure IsCatalogue at.catalogue.journal at.files at.opened at.past before.rows) (sym r.next) (r.disk told).rows.unsure)
+  | inr p ↦ absurd (cc (unsound, p.1.sound))
+]
+
+pub list_in_doubt : (tells : Bool) (at : Seen) (before next : Stores) (i : ℕ) (m : ManifestState) → slice_get at.manifests i ≡ Some m → IsOpen tells at before next → m.journal.sound ≡ false → IsTrue tells → manifest.IsUnsure m at.files at.opened at.past
+list_in_doubt tells at before next i m here (inl has) unsound told = absurd (cc (unsound, has.settled.manifests i m here))
+list_in_doubt tells at before next i m here (inr doubt) unsound told = elim doubt.change [
+  | inl r ↦ absurd (cc (unsound, r.sound i m here))
+  | inr p ↦ elim (same_cases i p.0) [
+    | inl is ↦
+        let own : p.1.manifest ≡ m = one_manifest at.manifests i p.0 m p.1.manifest (sym is) here p.1.here in
+        subst (λ (x : ManifestState). manifest.IsUnsure x at.files at.opened at.past) own (place_unsure p.0 p.1 told)
+    | inr apart ↦ absurd (cc (unsound, p.1.others i m here apart))
+  ]
+]
+  where
+    place_unsure : (k : ℕ) (p : PlaceInDoubt k tells at before next) → IsTrue tells → manifest.IsUnsure p.manifest at.files at.opened at.past
+    place_unsure k p told =
+        let n = p.manifest in
+        subst (λ (es : List Entry). IsUnsure (Configured n.granularity) n.journal at.files at.opened at.past es n.next) (sym (doubt.known.each k n p.here).entries)
+        (subst (IsUnsure (Configured n.granularity) n.journal at.files at.opened at.past (map entry_of (list_at k before))) (sym p.next) (p.disk told).list.unsure)
 
 -- the review is a call on the files of one manifest alone
 module _ {S : Type 0} (files_of : S → Files) (opened_of : S → Name → ℕ) (past_of : S → Past) (faults_of : S → ℕ) (tells : Bool) (d after : S) (c : CatalogueState) (ms : List ManifestState) (before next : Stores) (i : ℕ) (m made : ManifestState) (here : slice_get ms i ≡ Some m)

@@ -1,19 +1,17 @@
 -- What a running move has written stands ahead of what its destination lists, and may be listed.
-use Rattle.std.proofs.Common.{◌≡◌, inl, inr, Bool, ℕ, ◌<◌, ◌≤◌, ◌+◌, List, length, get_or, take, None, Some, refl, sym, ◌∙◌, ap, subst, arith}
-use Rattle.std.specs.Prelude.{Contains, IsTrue, slice_get}
+use Rattle.std.proofs.Common.{◌≡◌, inl, inr, Bool, ℕ, ◌<◌, ◌≤◌, ◌+◌, List, length, get_or, take, None, Some, refl, sym, ◌∙◌, ap, subst, arith, true, false, map, Ok, Err}
+use Rattle.std.specs.Prelude.{Contains, IsTrue, slice_get, Result, slice_set}
 use Rattle.std.proofs.lemmas.List.{take-take, take_all}
 use Rattle.std.proofs.lemmas.List.Elements.{All-contains, All-map, Contains-get_or}
 use Rattle.std.proofs.lemmas.Option.{same_Some, slice_get_within}
-use Rattle.disk_model.specs.Files.{Name, Content}
-use Rattle.disk_model.specs.Past.{MayLeave}
-use Rattle.etl_mover.specs.Move.{MoveState, IsAhead}
-use Rattle.gate_journal.specs.Generations.{IsOwn}
+use Rattle.disk_model.specs.Files.{Name, Content, Files, Rose}
+use Rattle.disk_model.specs.Past.{MayLeave, Past}
+use Rattle.etl_mover.specs.Move.{MoveState, IsAhead, set_entry}
 use Rattle.pv_catalog.specs.declared.row.Row.{Row}
 use Rattle.store_files.specs.Fronts.{Begins}
 use Rattle.store_manifest.specs.Manifest.{ManifestState}
 use Rattle.store_manifest.specs.declared.entry.Entry.{Entry}
 use Rattle.durable_write.specs.Ahead.{Leads, HasCopied}
-use Rattle.durable_write.specs.Ends.{End}
 use Rattle.durable_write.specs.Flush.{put_all, with_files}
 use Rattle.durable_write.specs.Held.{Filed, Held, Shelf, AreFiled, IsFiled, IsIn, IsListed, IsListedTo, ListsStill, bytes_of, entry_of, file_of, filed_at, listing_of}
 use Rattle.durable_write.specs.Stored.{AreHeld}
@@ -23,14 +21,27 @@ use Rattle.durable_write.proofs.Names.{same_file}
 use Rattle.durable_write.proofs.Stays.{safe_both}
 use Rattle.durable_write.proofs.Three.{same_cases}
 use Rattle.tier_store.specs.Stores.{Stores, list_at, tier}
-use Rattle.tier_store.specs.Change.{IsKnownAt, Has, EndsFrom}
+use Rattle.tier_store.specs.Change.{IsKnownAt, Has}
 use Rattle.tier_store.specs.Moving.{of_files, MayBeListed, RunsBeside, ListsAlso, publishing}
-use Rattle.tier_store.specs.Pinned.{SeenAll, NoneShorter, IsRetiredTo, KeepsShown}
+use Rattle.tier_store.specs.Pinned.{SeenAll, NoneShorter, IsRetiredTo, beside}
 use Rattle.tier_store.specs.declared.limbo.Retired.{Retired}
 use Rattle.tier_store.proofs.Dropped.{Longer, by_files, entry_in, to_files}
-use Rattle.tier_store.proofs.FlushCall.{stored_as}
+use Rattle.tier_store.proofs.FlushCall.{stored_as, list_unsure}
 use Rattle.tier_store.proofs.Places.{granularity_at, manifest_of, tier_other, tier_set, within_three}
-use Rattle.tier_store.proofs.Showing.{GoesOn, Spares, ends_held, ends_spares, fronts_beside, shown, still_itself}
+use Rattle.tier_store.proofs.Showing.{GoesOn, Spares, still_itself}
+use Rattle.disk_model.specs.declared.disk.DiskErr.{DiskErr}
+use Rattle.disk_model.specs.declared.disk.DiskErr.TheVariants.{Fault, Memory}
+use Rattle.etl_mover.specs.Lists.{Relists, Commits, Knows, Stands, published}
+use Rattle.etl_mover.proofs.Listing.{entries_with}
+use Rattle.gate_journal.specs.Journal.{JournalState}
+use Rattle.pv_catalog.specs.Catalogue.{CatalogueState}
+use Rattle.store_manifest.specs.Entries.{all_changed}
+use Rattle.durable_write.specs.Ends.{end_of_disk, end_of_error}
+use Rattle.durable_write.specs.Writing.{IsStoredAs, IsDoubtedAs}
+use Rattle.tier_store.specs.Seen.{Seen, seen_on}
+use Rattle.tier_store.specs.Given.{ChangesGiven}
+use Rattle.tier_store.proofs.Beside.{OnStore}
+use Rattle.tier_store.proofs.OnePlace.{given_done, given_cut}
 
 -- of two fronts of one file the shorter begins the longer
 one_front : (short long : List ℕ) (c : Content) → length short ≤ length long → Begins short c → Begins long c → take (length short) long ≡ short
@@ -154,18 +165,11 @@ module _ (i : ℕ) (tells : Bool) (all : SeenAll) (held : Stores) (files : List 
     ],
   )
 
-  spares_then : (made : Stores) → ListsAlso i files held made → (name : Name) (len : ℕ) → IsRetiredTo all name len → Spares held name len → Spares made name len
+  pub spares_then : (made : Stores) → ListsAlso i files held made → (name : Name) (len : ℕ) → IsRetiredTo all name len → Spares held name len → Spares made name len
   spares_then made by name len r spares k lo = elim (same_cases k i) [
     | inl is ↦ subst (λ (j : ℕ). NoneShorter (listing_of (tier j made)) name len) (sym is) (subst (λ (t : Held). NoneShorter (listing_of t) name len) (sym (then_is made by)) (spares_with name len r.file r.within r.named r.longer (spares i low)))
     | inr apart ↦ subst (λ (t : Held). NoneShorter (listing_of t) name len) (sym (others_are made by k lo apart)) (spares k lo)
   ]
-
-  -- all that was shown is shown then
-  pub listed_shown : (new : SeenAll) (end : End (Unit {0}) ⊥) → new.limbo ≡ all.limbo → EndsFrom tells (publishing i files) new.stores held end → (IsTrue tells → (n : Name) → (IsOwn m.journal.name n → ⊥) → new.stores.files n ≡ all.stores.files n) → KeepsShown tells all new
-  listed_shown new end limbo ends elsewhere =
-      shown tells all new limbo (λ name len h. ends_held tells (publishing i files) all.stores new.stores held end name len has goes_on ends h)
-      (λ name len r. ends_spares tells (publishing i files) all.stores new.stores held end name len has (λ made by. spares_then made by name len r) ends r.no_shorter)
-      (λ told. fronts_beside all new m.journal.name (ap (λ (n : Name). n.0) ((has.disk told).each i m here).named) (elsewhere told))
 
 -- THE MOVE
 
@@ -178,3 +182,76 @@ same_size i tells all move files held m here runs = same_Some m.granularity move
 
 pub is_ahead : (i : ℕ) (tells : Bool) (all : SeenAll) (move : MoveState) (files : List Filed) (held : Stores) → RunsBeside i tells all move files held → IsAhead move (tier i held) (with_files (tier i held) files)
 is_ahead i tells all move files held runs = record { files = files; are = refl; pending = runs.pending }
+
+-- A publication where nothing stands in doubt, by what the move's commit says
+
+-- WHAT A FAILED COMMIT SAYS
+
+unchanged_by : (m made : ManifestState) (next : List Entry) (e : DiskErr) (b : Bool) → Knows m made next (published (Err e) b) → made.entries ≡ m.entries
+unchanged_by m made next e true knows = knows.0
+unchanged_by m made next e false knows = knows.0
+
+next_by : (m made : ManifestState) (next : List Entry) (e : DiskErr) (b : Bool) → b ≡ false → Knows m made next (published (Err e) b) → made.next ≡ next
+next_by m made next e true is knows = absurd (cc (is))
+next_by m made next e false is knows = knows.1
+
+unmade_by : (catalogue : JournalState) (made : ManifestState) (shelf : Shelf) (files : Files) (opened : Name → ℕ) (past : Past) (held next : Held) (e : DiskErr) (b : Bool) → b ≡ true → Stands catalogue made shelf files opened past held next (published (Err e) b) → IsStoredAs catalogue made shelf files opened past held
+unmade_by catalogue made shelf files opened past held next e true is stands = stands
+unmade_by catalogue made shelf files opened past held next e false is stands = absurd (cc (is))
+
+doubted_by : (catalogue : JournalState) (made : ManifestState) (shelf : Shelf) (files : Files) (opened : Name → ℕ) (past : Past) (held next : Held) (e : DiskErr) (b : Bool) → b ≡ false → Stands catalogue made shelf files opened past held next (published (Err e) b) → IsDoubtedAs catalogue made shelf files opened past held next
+doubted_by catalogue made shelf files opened past held next e true is stands = absurd (cc (is))
+doubted_by catalogue made shelf files opened past held next e false is stands = stands
+
+-- THE CALL
+
+module _ {S : Type 0} (files_of : S → Files) (opened_of : S → Name → ℕ) (past_of : S → Past) (faults_of : S → ℕ) (tells : Bool) (c : CatalogueState) (ms : List ManifestState) (limbo : List Retired) (i : ℕ) (m made : ManifestState) (here : slice_get ms i ≡ Some m) (d after : S)
+    (seen_it : IsTrue tells → MayLeave (past_of d) (files_of d)) (move : MoveState) (fs : List Filed) where
+  abbrev before : Seen
+  before = seen_on files_of opened_of past_of faults_of c ms d
+
+  abbrev behind : Seen
+  behind = seen_on files_of opened_of past_of faults_of c (slice_set ms i made) after
+
+  abbrev Is : Stores → Type 0
+  Is held = RunsBeside i tells (beside before limbo) move fs held
+
+  abbrev shelf : Shelf
+  shelf = (i + 1, c.rows)
+
+  abbrev next : (held : Stores) → Has tells before held → Is held → List Filed
+  next held has is = put_all (list_at i held) fs
+
+  abbrev then : Stores → Held
+  then held = with_files (tier i held) fs
+
+  copied : (held : Stores) → Has tells before held → Is held → IsTrue tells → HasCopied c.journal m shelf (files_of d) (opened_of d) (past_of d) (tier i held) (then held)
+  copied held has is told = has_copied i tells (beside before limbo) held fs is.ahead m here has told (seen_it told)
+
+  lists : (held : Stores) → Has tells before held → Is held → all_changed m.entries (map set_entry move.pending) ≡ map entry_of (put_all (list_at i held) fs)
+  lists held has is =
+      ap (λ (es : List Entry). all_changed es (map set_entry move.pending)) (has.known.each i m here).entries
+      ∙ ap (λ (es : List Entry). all_changed (map entry_of (list_at i held)) (map set_entry es)) is.pending
+      ∙ entries_with (list_at i held) fs
+
+  abbrev Relisted : Result (Unit {0}) DiskErr → Type 0
+  Relisted r = (catalogue : JournalState) (s : Shelf) (held ahead : Held) → HasCopied catalogue m s (files_of d) (opened_of d) (past_of d) held ahead → IsAhead move held ahead → Relists catalogue m made s (files_of after) (opened_of after) (past_of d) (past_of after) held ahead (published r made.journal.sound)
+
+  pub publish_ends : (r : Result (Unit {0}) DiskErr) → Commits m made (all_changed m.entries (map set_entry move.pending)) (published r made.journal.sound) → (IsTrue tells → Relisted r)
+      → (IsTrue tells → OnStore (i + 1) m.journal.name (files_of d) (files_of after) (opened_of d) (opened_of after) (past_of d) (past_of after)) → faults_of d ≤ faults_of after
+      → (r ≡ Err Memory → made.journal.sound ≡ true) → (r ≡ Err Fault → Rose (faults_of d) (faults_of after)) → ChangesGiven Is tells (publishing i fs) before behind (end_of_disk r)
+  publish_ends (Ok a) commits relisted on_store faults memory cause =
+      given_done files_of opened_of past_of faults_of tells c ms i m made here d after commits.granularity on_store faults Is (publishing i fs) next (λ held has is. refl) (λ held has is. valid_with i tells (beside before limbo) held fs is.ahead m here has)
+      (λ told held has is. (relisted told c.journal shelf (tier i held) (then held) (copied held has is told) (is_ahead i tells (beside before limbo) move fs held is)).any_moment) a (λ held has is. tt) commits.knows.1 (λ held has is. commits.knows.0 ∙ lists held has is)
+      (λ told held has is. (relisted told c.journal shelf (tier i held) (then held) (copied held has is told) (is_ahead i tells (beside before limbo) move fs held is)).stands.stored.tier)
+  publish_ends (Err e) commits relisted on_store faults memory cause =
+      given_cut files_of opened_of past_of faults_of tells c ms i m made here d after commits.granularity on_store faults Is (publishing i fs) next (λ held has is. refl) (λ held has is. valid_with i tells (beside before limbo) held fs is.ahead m here has)
+      (λ told held has is. (relisted told c.journal shelf (tier i held) (then held) (copied held has is told) (is_ahead i tells (beside before limbo) move fs held is)).any_moment)
+      (unchanged_by m made (all_changed m.entries (map set_entry move.pending)) e made.journal.sound commits.knows)
+      (λ held has is unsound. next_by m made (all_changed m.entries (map set_entry move.pending)) e made.journal.sound unsound commits.knows ∙ lists held has is)
+      (λ told held has is sound.
+      (unmade_by c.journal made shelf (files_of after) (opened_of after) (past_of after) (tier i held) (then held) e made.journal.sound sound (relisted told c.journal shelf (tier i held) (then held) (copied held has is told) (is_ahead i tells (beside before limbo) move fs held is)).stands).stored.tier)
+      (λ told held has is unsound.
+      list_unsure c.journal made shelf (files_of after) (opened_of after) (past_of after) (tier i held) (then held)
+      (doubted_by c.journal made shelf (files_of after) (opened_of after) (past_of after) (tier i held) (then held) e made.journal.sound unsound (relisted told c.journal shelf (tier i held) (then held) (copied held has is told) (is_ahead i tells (beside before limbo) move fs held is)).stands) unsound)
+      e (end_of_error e) refl (λ is. memory (ap (λ (x : DiskErr). Err x) is)) (λ is. cause (ap (λ (x : DiskErr). Err x) is))

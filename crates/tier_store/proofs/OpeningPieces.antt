@@ -1,5 +1,5 @@
 -- A file that is listed to its pinned length may be opened at it, also where a change stands in doubt.
-use Rattle.std.proofs.Common.{◌≡◌, ◌≢◌, inl, inr, Bool, true, false, cond, nat_eq, ℕ, ◌≤◌, ◌<◌, ◌+◌, max, List, length, map, take, get_or, Some, None, Ok, Err, refl, sym, ◌∙◌, ap, subst, arith}
+use Rattle.std.proofs.Common.{◌≡◌, ◌≢◌, inl, inr, Bool, true, false, cond, nat_eq, ℕ, ◌≤◌, ◌<◌, ◌+◌, max, List, [], length, map, take, get_or, Some, None, Ok, Err, refl, sym, ◌∙◌, ap, subst, arith}
 use Rattle.std.specs.Prelude.{IsTrue, Option, Result, slice_get}
 use Rattle.std.specs.FinMap.{FinMap, get, get-empty, get-remove, empty, remove}
 use Rattle.std.specs.Ordering.{nat_cmp, eq_by_cmp}
@@ -232,8 +232,41 @@ module _ {S : Type 0} (files_of : S → Files) (opened_of : S → Name → ℕ) 
     ];
   }
 
+  pub has_opened : (limbo : List Retired) (one : Stores) → IsThereTo (beside old limbo) name len → Has tells old one → Has tells new one
+  has_opened limbo one (inl h) has = has_still one (λ told. listed_stays told one h.place (known_to old one h.place h.manifest name len has.known h.here h.listed)) has
+  has_opened limbo one (inr r) has = has_still one (λ told. spared_stays told one (known_spares old one name len has.known r.no_shorter)) has
+
   pub piece_opened : (limbo : List Retired) (one other : Stores) → IsThereTo (beside old limbo) name len → IsOpen tells old one other → IsOpen tells new one other
-  piece_opened limbo one other (inl h) (inl has) = inl (has_still one (λ told. listed_stays told one h.place (known_to old one h.place h.manifest name len has.known h.here h.listed)) has)
+  piece_opened limbo one other there (inl has) = inl (has_opened limbo one there has)
   piece_opened limbo one other (inl h) (inr doubt) = inr (doubts_still one other (λ told. listed_stays told one h.place (known_to old one h.place h.manifest name len doubt.known h.here h.listed)) (λ told. listed_stays told other h.place (after_to tells old one other name len doubt h)) doubt)
-  piece_opened limbo one other (inr r) (inl has) = inl (has_still one (λ told. spared_stays told one (known_spares old one name len has.known r.no_shorter)) has)
   piece_opened limbo one other (inr r) (inr doubt) = inr (doubts_still one other (λ told. spared_stays told one (known_spares old one name len doubt.known r.no_shorter)) (λ told. spared_stays told other (after_spares tells old one other name len doubt r.no_shorter)) doubt)
+
+-- HOW FAR
+
+pub unopened_most : (opened after : Name → ℕ) (name : Name) (len : ℕ) → after ≡ opened → after name ≤ max (opened name) len
+unopened_most opened after name len is = let here : after name ≡ opened name = ap (λ (o : Name → ℕ). o name) is in omega (arith, here)
+
+pub opened_most : (was now len : ℕ) → now ≡ max was len → now ≤ max was len
+opened_most was now len is = omega (arith, is)
+
+-- CALLS THAT ONLY READ
+
+-- whatever stood so does so still
+module _ {S : Type 0} (files_of : S → Files) (opened_of : S → Name → ℕ) (past_of : S → Past) (faults_of : S → ℕ) (tells : Bool) (c : CatalogueState) (ms : List ManifestState) (d after : S) (passes : IsTrue tells → Passes (λ a b. b ≡ a) (past_of d) (past_of after)) (same : IsTrue tells → files_of after ≡ files_of d) (unopened : IsTrue tells → opened_of after ≡ opened_of d) where
+  abbrev any : Name
+  any = (1, [])
+
+  unopened_at : IsTrue tells → (n : Name) → opened_of after n ≡ opened_of d n
+  unopened_at told n = ap (λ (o : Name → ℕ). o n) (unopened told)
+
+  all_stay : (s : Stores) → IsTrue tells → (g : Granularity) (k : ℕ) → k < 3 → AreHeld g (tier k s) → AreSafe (tier k s) (files_of d) (opened_of d) (past_of d) → AreUnopened (tier k s) (opened_of after)
+  all_stay s told g k low valid safe j f lt =
+      let is = unopened_at told (file_of (shelf_of (tier k s)) (get_or (list_at k s) j f).entry) in
+      let le = safe.unopened j f lt in omega (arith, is, le)
+
+  pub read_has : (one : Stores) → Has tells (seen_on files_of opened_of past_of faults_of c ms d) one → Has tells (seen_on files_of opened_of past_of faults_of c ms after) one
+  read_has one has = has_still files_of opened_of past_of faults_of tells c ms d after any 0 (omega arith) passes same (λ told. unopened_most (opened_of d) (opened_of after) any 0 (unopened told)) (λ told n apart. unopened_at told n) one (all_stay one) has
+
+  pub read_open : (one other : Stores) → IsOpen tells (seen_on files_of opened_of past_of faults_of c ms d) one other → IsOpen tells (seen_on files_of opened_of past_of faults_of c ms after) one other
+  read_open one other (inl has) = inl (read_has one has)
+  read_open one other (inr doubt) = inr (doubts_still files_of opened_of past_of faults_of tells c ms d after any 0 (omega arith) passes same (λ told. unopened_most (opened_of d) (opened_of after) any 0 (unopened told)) (λ told n apart. unopened_at told n) one other (all_stay one) (all_stay other) doubt)

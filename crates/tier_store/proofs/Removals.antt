@@ -1,20 +1,32 @@
 -- What a sweep finds in lists and in limbo, and how files are removed one after another.
-use Rattle.std.proofs.Common.{◌≡◌, ◌≢◌, inl, inr, Bool, true, false, cond, ◌==◌, ℕ, ◌<◌, ◌≤◌, ◌+◌, List, [], ◌∷◌, length, map, filter, get_or, Some, None, Ok, Err, refl, sym, ◌∙◌, ap, subst, arith}
-use Rattle.std.specs.Prelude.{All, Contains, IsTrue, ◌↔◌, not, nat_lt, slice_get, Result, OnOk, OnErr}
+use Rattle.std.proofs.Common.{◌≡◌, ◌≢◌, inl, inr, ℕ, zero, suc, ◌<◌, List, [], ◌∷◌, ◌++◌, length, map, take, get_or, refl, sym, ◌∙◌, ap, subst, arith, Bool, true, false, cond, ◌==◌, ◌≤◌, ◌+◌, filter, Some, None, Ok, Err, ◌⊎◌}
+use Rattle.std.specs.List.{AllPairs, AllByRecursion, items_where_true, list_any}
+use Rattle.std.specs.Prelude.{All, Contains, IsTrue, ◌↔◌, not, nat_lt, slice_get, Result, OnOk, OnErr, IsErr, IsSome}
+use Rattle.std.proofs.lemmas.List.Elements.{All-append, All-contains, All-head, All-tail, All-take, Contains-get_or, All-more, Contains-append_left, Contains-append_right, All-nil, All-push, Contains-push, Contains-push_cases}
+use Rattle.std.proofs.lemmas.List.Kept.{AllPairs-cons}
+use Rattle.partition_names.specs.declared.granularity.Granularity.{Granularity}
+use Rattle.pv_catalog.specs.declared.row.Row.{Row}
+use Rattle.durable_write.specs.Flush.{PlacesRise}
+use Rattle.durable_write.specs.Held.{Filed, IsListed, filed_at, entry_of}
+use Rattle.durable_write.specs.Stored.{KeysDiffer}
+use Rattle.durable_write.proofs.Listed.{before_apart}
+use Rattle.durable_write.proofs.Names.{same_place, name_cases}
+use Rattle.durable_write.proofs.PutFile.{Comes}
+use Rattle.tier_store.specs.Limbo.{NamesDiffer, Stay, IsNeeded, ListsPlace, StayNeeded, LeaveListed, Elsewhere, Spares, Removes, AreFree, AreRemovable, IsLeftOver, IsUseless, RemovesNames, SparesNames}
+use Rattle.tier_store.specs.Retiring.{retired_of}
+use Rattle.tier_store.specs.declared.limbo.Retired.{Retired}
+use Rattle.tier_store.proofs.Staying.{stay_from, among_is, is_among, lists_any, not_both, not_false, pinned_from, stay_cases, spares_then, none_still}
 use Rattle.std.specs.FinMap.{FinMap}
 use Rattle.std.specs.Ordering.{nat_cmp}
 use Rattle.std.specs.Result.{result_and}
-use Rattle.std.specs.List.{AllByRecursion, items_where_true, list_any}
 use Rattle.std.specs.List.Retain.{IsFiltered, ReturnsInTurn}
 use Rattle.std.specs.List.Sorted.{IsPartitionPoint}
 use Rattle.std.proofs.lemmas.Bool.Decides.{Decides-eqb}
-use Rattle.std.proofs.lemmas.List.{get_or_default}
-use Rattle.std.proofs.lemmas.List.Elements.{All-head, All-tail}
-use Rattle.disk_model.specs.Files.{Name, Content, Files, At, Becomes, KeptOr, Rose, size_of}
+use Rattle.std.proofs.lemmas.List.{get_or_default, take_more}
+use Rattle.disk_model.specs.Files.{Name, Content, Files, At, Becomes, KeptOr, Rose, HasFile}
 use Rattle.disk_model.specs.Past.{Past, Passes, Only}
 use Rattle.disk_model.specs.declared.disk.DiskErr.{DiskErr}
-use Rattle.disk_model.specs.declared.disk.DiskErr.TheVariants.{Fault}
-use Rattle.disk_model.proofs.Passing.{passes_weaker}
+use Rattle.disk_model.proofs.Passing.{passes_weaker, passes_none, passes_then}
 use Rattle.disk_model.specs.Record.{is_same}
 use Rattle.pin_table.specs.Pinned.{PinState, IsPinned}
 use Rattle.pinned_pieces.specs.Pieces.{PinOf, Agree}
@@ -24,15 +36,76 @@ use Rattle.store_manifest.specs.Entries.{place, comes_before, is_listed, InOrder
 use Rattle.store_manifest.specs.Listing.{OfSeries}
 use Rattle.store_manifest.specs.Manifest.{ManifestState}
 use Rattle.store_manifest.proofs.Around.{not_listed, is_there}
-use Rattle.durable_write.specs.Flush.{PlacesRise}
-use Rattle.durable_write.specs.Held.{Filed, entry_of, filed_at}
-use Rattle.durable_write.proofs.Names.{name_cases}
 use Rattle.tier_store.specs.Stores.{Stores, list_at}
 use Rattle.tier_store.specs.Seen.{Seen, AtEach}
 use Rattle.tier_store.specs.Change.{IsKnown}
-use Rattle.tier_store.specs.Limbo.{IsNeeded, ListsPlace, Stay, StayNeeded, LeaveListed, Elsewhere, Spares, Removes, AreFree}
-use Rattle.tier_store.specs.declared.limbo.Retired.{Retired}
-use Rattle.tier_store.proofs.Staying.{among_is, is_among, lists_any, not_both, not_false, pinned_from, stay_cases, stay_from, spares_then, spares_none, elsewhere_passes, one_spared}
+use Rattle.std.proofs.lemmas.List.Quantifiers.{all_pairs_push}
+use Rattle.tier_store.specs.Revival.{IsOfUnlisted, IsUnlistedOf, AreUnlistedIn}
+
+-- Files of limbo whose names differ
+
+abbrev Apart : Retired → Retired → Type 0
+Apart a b = a.name ≢ b.name
+
+-- PAIRS OF A LIST
+
+pairs_head : {X : Type 0} (R : X → X → Type 0) (x : X) (xs : List X) → AllPairs R (x ∷ xs) → All (R x) xs
+pairs_head {X} R x xs pairs k d low = pairs 0 (suc k) d (omega arith) (omega (arith, low))
+
+pairs_tail : {X : Type 0} (R : X → X → Type 0) (x : X) (xs : List X) → AllPairs R (x ∷ xs) → AllPairs R xs
+pairs_tail {X} R x xs pairs i j d less low = pairs (suc i) (suc j) d (omega (arith, less)) (omega (arith, low))
+
+pub pairs_none : {X : Type 0} (R : X → X → Type 0) → AllPairs R []
+pairs_none {X} R i j d less low = absurd (omega (arith, low))
+
+pub pairs_both : {X : Type 0} (R : X → X → Type 0) (xs ys : List X) → AllPairs R xs → AllPairs R ys → ((x y : X) → Contains xs x → Contains ys y → R x y) → AllPairs R (xs ++ ys)
+pairs_both {X} R [] ys one two apart = two
+pairs_both {X} R (x ∷ xs) ys one two apart =
+    AllPairs-cons R x (xs ++ ys)
+    (All-append (R x) xs ys (pairs_head R x xs one) (λ k d low. apart x (get_or ys k d) (0, omega arith, refl) (Contains-get_or ys k d low)))
+    (pairs_both R xs ys (pairs_tail R x xs one) two (λ a b in_a in_b. apart a b (suc in_a.0, (let low = in_a.1 in omega (arith, low)), in_a.2) in_b))
+
+-- the first of files that rise
+pub rise_take : (n : ℕ) (xs : List Filed) → PlacesRise xs → PlacesRise (take n xs)
+rise_take zero xs rise = tt
+rise_take (suc n) [] rise = tt
+rise_take (suc n) (x ∷ xs) rise = (All-take (Comes x) n xs rise.0, rise_take n xs rise.1)
+
+-- LIMBO
+
+-- what stays of them differs still
+pub stay_differ : (P Q : Retired → Type 0) (xs ys : List Retired) → Stay P Q xs ys → NamesDiffer xs → NamesDiffer ys
+stay_differ P Q [] ys stay differ = subst NamesDiffer (sym stay) differ
+stay_differ P Q (x ∷ xs) ys (inl s) differ =
+    subst NamesDiffer (sym s.2)
+    (AllPairs-cons Apart x s.0 (λ k d low. All-contains (Apart x) xs (get_or s.0 k d) (pairs_head Apart x xs differ) (stay_from P Q xs s.0 (get_or s.0 k d) s.3 (Contains-get_or s.0 k d low)).0)
+    (stay_differ P Q xs s.0 s.3 (pairs_tail Apart x xs differ)))
+stay_differ P Q (x ∷ xs) ys (inr s) differ = stay_differ P Q xs ys s.1 (pairs_tail Apart x xs differ)
+
+-- files of a row that leave its store's list differ
+pub names_apart : (g : Granularity) (store : ℕ) (rows : List Row) (fs : List Filed) → KeysDiffer rows → All (IsListed g rows) fs → PlacesRise fs → NamesDiffer (map (λ (f : Filed). retired_of (store, rows) f.entry) fs)
+names_apart g store rows [] keys listed rise = pairs_none Apart
+names_apart g store rows (f ∷ fs) keys listed rise = AllPairs-cons Apart (own f) (map own fs) (behind fs (All-tail (IsListed g rows) f fs listed) rise.0) (names_apart g store rows fs keys (All-tail (IsListed g rows) f fs listed) rise.1)
+  where
+    own : Filed → Retired
+    own h = retired_of (store, rows) h.entry
+
+    is : IsListed g rows f
+    is = All-head (IsListed g rows) f fs listed
+
+    behind : (hs : List Filed) → All (IsListed g rows) hs → All (Comes f) hs → All (Apart (own f)) (map own hs)
+    behind [] all comes k d low = absurd (omega (arith, low))
+    behind (h ∷ hs) all comes zero d low = λ same. before_apart (filed_at f) (filed_at h) (All-head (Comes f) h hs comes) (same_place g store rows f h keys is (All-head (IsListed g rows) h hs all) same)
+    behind (h ∷ hs) all comes (suc k) d low = behind hs (All-tail (IsListed g rows) h hs all) (All-tail (Comes f) h hs comes) k d (omega (arith, low))
+
+-- a file's name isn't among those of the files before it
+pub named_once : (xs : List Retired) (i : ℕ) (r x : Retired) → NamesDiffer xs → i < length xs → r ≡ get_or xs i r → Contains (take i xs) x → x.name ≢ r.name
+named_once [] i r x differ low is there same = omega (arith, low)
+named_once (y ∷ xs) zero r x differ low is (k, lt, at) same = omega (arith, lt)
+named_once (y ∷ xs) (suc i) r x differ low is (zero, lt, at) same =
+    let in_rest : Contains xs r = (i, omega (arith, low), sym is) in
+    All-contains (Apart y) xs r (pairs_head Apart y xs differ) in_rest (ap (λ (z : Retired). z.name) at ∙ same)
+named_once (y ∷ xs) (suc i) r x differ low is (suc k, lt, at) same = named_once xs i r x (pairs_tail Apart y xs differ) (omega (arith, low)) is (k, omega (arith, lt), at) same
 
 -- LISTS
 
@@ -121,14 +194,6 @@ retained {F} R P Q f says xs ys k = subst (λ (l : List Retired). Stay P Q xs l)
 
 -- ONE FILE
 
--- a name without a size has no file
-pub none_there : (files : Files) (name : Name) → None ≡ size_of (files name) → files name ≡ None
-none_there files name is = go (files name) refl is
-  where
-    go : (content : Content) → files name ≡ content → None ≡ size_of content → files name ≡ None
-    go None here is = here
-    go (Some b) here is = absurd (cc (is))
-
 pub removed_none : {B : Type 0} (r : Result B DiskErr) (name : Name) (a b : Files) → OnOk r (At name (Becomes None) a b) → OnOk r (b name ≡ None)
 removed_none {B} (Ok x) name a b step = step.here
 removed_none {B} (Err e) name a b step = tt
@@ -137,9 +202,6 @@ removed_none {B} (Err e) name a b step = tt
 pub removed_elsewhere : {B : Type 0} (r : Result B DiskErr) (name : Name) (files a b : Files) → a ≡ files → OnOk r (At name (Becomes None) a b) → OnErr r (At name (KeptOr None) a b) → Elsewhere name files b
 removed_elsewhere {B} (Ok x) name files a b same done failed n apart = done.elsewhere n apart ∙ ap (λ (f : Files). f n) same
 removed_elsewhere {B} (Err e) name files a b same done failed n apart = failed.elsewhere n apart ∙ ap (λ (f : Files). f n) same
-
-pub read_elsewhere : (name : Name) (files later : Files) → later ≡ files → Elsewhere name files later
-read_elsewhere name files later same n apart = ap (λ (f : Files). f n) same
 
 pub removed_fewer : (name : Name) (opened mid after : Name → ℕ) → mid ≡ opened → ((n : Name) → n ≢ name → after n ≡ mid n) → after name ≤ mid name → (n : Name) → after n ≤ opened n
 removed_fewer name opened mid after same others here n =
@@ -155,18 +217,7 @@ read_fewer opened after same n = let is : after n ≡ opened n = ap (λ (o : Nam
 -- ONE AFTER ANOTHER
 
 module _ (pins : FinMap nat_cmp PinOf) (copied : List Name) (limbo : List Retired) where
-  pub removes_none : (files : Files) (opened : Name → ℕ) (past : Past) → Removes pins copied limbo files files opened opened past past
-  removes_none files opened past = record { any_moment = spares_none pins copied limbo past; spares = λ n other. refl; fewer = λ n. omega arith }
-
   module _ (files mid later : Files) (opened between after : Name → ℕ) (old now new : Past) (so_far : Removes pins copied limbo files mid opened between old now) where
-    -- one that isn't needed is removed, or not
-    pub removes_one : (r : Retired) → Contains limbo r → (IsNeeded pins copied r.name → ⊥) → Elsewhere r.name mid later → Passes (Elsewhere r.name) now new → ((n : Name) → after n ≤ between n) → Removes pins copied limbo files later opened after old new
-    removes_one r within free elsewhere passes fewer = record {
-      any_moment = spares_then pins copied limbo old now new so_far.any_moment (elsewhere_passes pins copied limbo r now new within free passes);
-      spares = λ n other. one_spared pins copied limbo r mid later within free elsewhere n other ∙ so_far.spares n other;
-      fewer = λ n. let a = fewer n in let b = so_far.fewer n in omega (arith, a, b);
-    }
-
     pub removes_read : later ≡ mid → after ≡ between → Passes (λ a b. b ≡ a) now new → Removes pins copied limbo files later opened after old new
     removes_read same opened_same passes = record {
       any_moment = spares_then pins copied limbo old now new so_far.any_moment (passes_weaker (λ a b. b ≡ a) (Spares pins copied limbo) now new passes (λ a c left step n other. ap (λ (f : Files). f n) step));
@@ -210,10 +261,6 @@ both_done (Ok u) (Ok v) P Q S to one two = to one two
 both_done (Ok u) (Err e) P Q S to one two = tt
 both_done (Err e) b P Q S to one two = tt
 
-pub both_cause : (a b : Result (Unit {0}) DiskErr) (P : Type 0) → (a ≡ Err Fault → P) → (b ≡ Err Fault → P) → result_and a b ≡ Err Fault → P
-both_cause (Ok u) b P one two is = two is
-both_cause (Err e) b P one two is = one is
-
 module _ (pins : FinMap nat_cmp PinOf) (copied : List Name) (retired left : List Retired) (needed : StayNeeded pins copied retired left) where
   -- what is needed is in limbo still
   pub needed_stays : (x : Retired) → Contains retired x → IsNeeded pins copied x.name → Contains left x
@@ -230,3 +277,193 @@ none_left at xs ys same = subst (LeaveListed at xs) (sym same) (go xs)
     go : (xs : List Retired) → LeaveListed at xs xs
     go [] = refl
     go (x ∷ xs) = inl (xs, tt, refl, go xs)
+
+-- The files that are to be removed and are there: how they are found, and what is left once they are removed
+
+-- WHAT IS THERE
+
+pub some_file : (files : Files) (name : Name) → IsSome (files name) → HasFile files name (λ b. Unit {0})
+some_file files name some = go (files name) refl some
+  where
+    go : (content : Content) → files name ≡ content → IsSome content → HasFile files name (λ b. Unit {0})
+    go None here some = absurd (cc (some))
+    go (Some b) here some = record { bytes = b; file = here; holds = tt }
+
+pub none_not_some : (content : Content) → content ≡ None → IsSome content → ⊥
+none_not_some None is some = cc (some)
+none_not_some (Some b) is some = cc (is)
+
+pub not_some_none : (content : Content) → (IsSome content → ⊥) → content ≡ None
+not_some_none None not = refl
+not_some_none (Some b) not = absurd (not refl)
+
+-- THE SEARCH
+
+in_more : (xs : List Retired) (i : ℕ) (r x : Retired) → i < length xs → Contains (take i xs) x → Contains (take (i + 1) xs) x
+in_more xs i r x low there = subst (λ (l : List Retired). Contains l x) (sym (take_more xs i r low)) (Contains-append_left (take i xs) (get_or xs i r ∷ []) x there)
+
+this_more : (xs : List Retired) (i : ℕ) (r : Retired) → i < length xs → r ≡ get_or xs i r → Contains (take (i + 1) xs) r
+this_more xs i r low is = subst (λ (l : List Retired). Contains l r) (sym (take_more xs i r low)) (Contains-append_right (take i xs) (get_or xs i r ∷ []) r (0, omega arith, sym is))
+
+module _ (Goes : Retired → Type 0) (xs : List Retired) (files : Files) where
+  module _ (i : ℕ) (r : Retired) (low : i < length xs) (is : r ≡ get_or xs i r) (names : List Name) (so_far : AreRemovable Goes (take i xs) files names) where
+    own_more : All (λ (n : Name). (x : Retired) × Contains (take (i + 1) xs) x × (x.name ≡ n) × Goes x) names
+    own_more k d lt = let o = so_far.own k d lt in (o.0, in_more xs i r o.0 low o.1, o.2, o.3)
+
+    -- one that doesn't go, or isn't there
+    pub found_other : (Goes r → files r.name ≡ None) → AreRemovable Goes (take (i + 1) xs) files names
+    found_other absent = record {
+      once = so_far.once;
+      there = so_far.there;
+      own = own_more;
+      each = All-more (λ (x : Retired). Goes x → Contains names x.name ⊎ (files x.name ≡ None)) xs i r low so_far.each
+          (subst (λ (x : Retired). Goes x → Contains names x.name ⊎ (files x.name ≡ None)) is (λ goes. inr (absent goes)));
+    }
+
+    -- one that goes and is there
+    pub found_more : NamesDiffer xs → Goes r → IsSome (files r.name) → AreRemovable Goes (take (i + 1) xs) files (names ++ r.name ∷ [])
+    found_more differ goes some = record {
+      once = all_pairs_push (λ (a b : Name). a ≢ b) names r.name so_far.once (λ k d lt same.
+          let o = so_far.own k d lt in named_once xs i r o.0 differ low is o.1 (o.2 ∙ same));
+      there = All-append (λ (n : Name). IsSome (files n)) names (r.name ∷ []) so_far.there (one (λ (n : Name). IsSome (files n)) some);
+      own = All-append (λ (n : Name). (x : Retired) × Contains (take (i + 1) xs) x × (x.name ≡ n) × Goes x) names (r.name ∷ []) own_more
+          (one (λ (n : Name). (x : Retired) × Contains (take (i + 1) xs) x × (x.name ≡ n) × Goes x) (r, this_more xs i r low is, refl, goes));
+      each = All-more (λ (x : Retired). Goes x → Contains (names ++ r.name ∷ []) x.name ⊎ (files x.name ≡ None)) xs i r low
+          (λ k d lt there. elim (so_far.each k d lt there) [
+            | inl in_names ↦ inl (Contains-append_left names (r.name ∷ []) (get_or (take i xs) k d).name in_names)
+            | inr none ↦ inr none
+          ])
+          (subst (λ (x : Retired). Goes x → Contains (names ++ r.name ∷ []) x.name ⊎ (files x.name ≡ None)) is
+          (λ goes_too. inl (Contains-append_right names (r.name ∷ []) r.name (0, omega arith, refl))));
+    }
+      where
+        one : (P : Name → Type 0) → P r.name → All P (r.name ∷ [])
+        one P p zero d lt = p
+        one P p (suc k) d lt = absurd (omega (arith, lt))
+
+-- those of limbo that no manifest lists, among all
+pub found_unlisted : (ms : List ManifestState) (pins : FinMap nat_cmp PinOf) (copied : List Name) (limbo left : List Retired) (files : Files) (names : List Name) → Stay (λ r. ListsPlace ms r → ⊥) (ListsPlace ms) limbo left → AreRemovable (IsLeftOver ms pins copied) limbo files names → AreRemovable (IsUseless pins copied) left files names
+found_unlisted ms pins copied limbo left files names stay found = record {
+  once = found.once;
+  there = found.there;
+  own = λ k d lt.
+      let o = found.own k d lt in
+      elim (stay_cases (λ r. ListsPlace ms r → ⊥) (ListsPlace ms) limbo left o.0 stay o.1) [
+        | inl within ↦ (o.0, within, o.2, o.3.1)
+        | inr listed ↦ absurd (o.3.0 listed)
+      ];
+  each = λ k d lt useless.
+      let r : Retired = get_or left k d in
+      let from = stay_from (λ x. ListsPlace ms x → ⊥) (ListsPlace ms) limbo left r stay (Contains-get_or left k d lt) in
+      All-contains (λ (x : Retired). IsLeftOver ms pins copied x → Contains names x.name ⊎ (files x.name ≡ None)) limbo r found.each from.0 (from.1, useless);
+}
+
+-- where no manifest is asked
+pub found_useless : (pins : FinMap nat_cmp PinOf) (copied : List Name) (limbo : List Retired) (files : Files) (names : List Name) → AreRemovable (IsLeftOver [] pins copied) limbo files names → AreRemovable (IsUseless pins copied) limbo files names
+found_useless pins copied limbo files names found = record {
+  once = found.once;
+  there = found.there;
+  own = λ k d lt. let o = found.own k d lt in (o.0, o.1, o.2, o.3.1);
+  each = λ k d lt useless. found.each k d lt (λ (listed : ListsPlace [] (get_or limbo k d)). no_place listed.place listed.manifest listed.here, useless);
+}
+  where
+    no_place : (i : ℕ) (m : ManifestState) → slice_get [] i ≡ Some m → ⊥
+    no_place i m is = cc (is)
+
+-- the same of files that have these names still
+pub found_still : (Goes : Retired → Type 0) (limbo : List Retired) (files later : Files) (names : List Name) → ((r : Retired) → Contains limbo r → later r.name ≡ files r.name) → AreRemovable Goes limbo files names → AreRemovable Goes limbo later names
+found_still Goes limbo files later names same found = record {
+  once = found.once;
+  there = λ k d lt.
+      let o = found.own k d lt in
+      let is : later (get_or names k d) ≡ files (get_or names k d) = subst (λ (n : Name). later n ≡ files n) o.2 (same o.0 o.1) in
+      subst IsSome (sym is) (found.there k d lt);
+  own = found.own;
+  each = λ k d lt goes. elim (found.each k d lt goes) [
+    | inl within ↦ inl within
+    | inr none ↦ inr (same (get_or limbo k d) (Contains-get_or limbo k d lt) ∙ none)
+  ];
+}
+
+-- THE REMOVAL
+
+pub names_none : (names : List Name) (files : Files) (opened : Name → ℕ) (past : Past) → RemovesNames names files files opened opened past past
+names_none names files opened past = record {
+  any_moment = passes_none (SparesNames names) past (λ a left n other. refl);
+  spares = λ n other. refl;
+  fewer = λ n. omega arith;
+}
+
+pub names_more : (names : List Name) (files mid later : Files) (opened between after : Name → ℕ) (old now new : Past) (name : Name) → Contains names name → RemovesNames names files mid opened between old now → Elsewhere name mid later → Passes (Elsewhere name) now new → ((n : Name) → after n ≤ between n) → RemovesNames names files later opened after old new
+names_more names files mid later opened between after old now new name within so_far elsewhere passes fewer = record {
+  any_moment = passes_then (SparesNames names) (SparesNames names) old now new so_far.any_moment (passes_weaker (Elsewhere name) (SparesNames names) now new passes (λ a c left step. apart a c step)) (λ a b c was one left two n other. two n other ∙ one n other);
+  spares = λ n other. apart mid later elsewhere n other ∙ so_far.spares n other;
+  fewer = λ n. let a = fewer n in let b = so_far.fewer n in omega (arith, a, b);
+}
+  where
+    apart : (a b : Files) → Elsewhere name a b → SparesNames names a b
+    apart a b step n other = step n (λ is. other (subst (Contains names) (sym is) within))
+
+-- what is removed so far is gone still
+pub gone_more : (names : List Name) (i : ℕ) (name : Name) (mid later : Files) → i < length names → name ≡ get_or names i name → Elsewhere name mid later → later name ≡ None → All (λ (n : Name). mid n ≡ None) (take i names) → All (λ (n : Name). later n ≡ None) (take (i + 1) names)
+gone_more names i name mid later low is elsewhere none gone =
+    All-more (λ (n : Name). later n ≡ None) names i name low (λ k d lt. none_still name mid later none elsewhere (get_or (take i names) k d) (gone k d lt)) (subst (λ (n : Name). later n ≡ None) is none)
+
+-- and those behind it are there
+pub there_more : (names : List Name) (i : ℕ) (name : Name) (mid later : Files) → AllPairs (λ (a b : Name). a ≢ b) names → name ≡ get_or names i name → Elsewhere name mid later → ((k : ℕ) (d : Name) → i ≤ k → k < length names → IsSome (mid (get_or names k d))) → (k : ℕ) (d : Name) → i + 1 ≤ k → k < length names → IsSome (later (get_or names k d))
+there_more names i name mid later once is elsewhere there k d behind low =
+    let own : get_or names i d ≡ name = get_or_default names i d name (omega (arith, behind, low)) ∙ sym is in
+    let apart : get_or names k d ≢ name = λ same. once i k d (omega (arith, behind)) low (own ∙ sym same) in
+    subst IsSome (sym (elsewhere (get_or names k d) apart)) (there k d (omega (arith, behind)) low)
+
+pub both_err : (a b : Result (Unit {0}) DiskErr) (P : Type 0) → (IsErr a → P) → (IsErr b → P) → IsErr (result_and a b) → P
+both_err (Ok u) b P one two is = two is
+both_err (Err e) b P one two is = one refl
+
+module _ (pins : FinMap nat_cmp PinOf) (copied : List Name) (limbo : List Retired) (names : List Name) (files later : Files) (opened after : Name → ℕ) (old new : Past) (found : AreRemovable (IsUseless pins copied) limbo files names) (removes : RemovesNames names files later opened after old new) where
+  own_spared : (a b : Files) → SparesNames names a b → Spares pins copied limbo a b
+  own_spared a b step n other = step n (λ within.
+      let o = All-contains (λ (m : Name). (r : Retired) × Contains limbo r × (r.name ≡ m) × IsUseless pins copied r) names n found.own within in
+      o.3 (subst (IsNeeded pins copied) (sym o.2) (other o.0 o.1 o.2)))
+
+  pub own_removed : Removes pins copied limbo files later opened after old new
+  own_removed = record {
+    any_moment = passes_weaker (SparesNames names) (Spares pins copied limbo) old new removes.any_moment (λ a c left step. own_spared a c step);
+    spares = own_spared files later removes.spares;
+    fewer = removes.fewer;
+  }
+
+  pub own_gone : All (λ (n : Name). later n ≡ None) names → AreFree pins copied (λ n. later n ≡ None) limbo
+  own_gone gone k d lt useless =
+      let n : Name = (get_or limbo k d).name in
+      elim (found.each k d lt useless) [
+        | inl within ↦ All-contains (λ (m : Name). later m ≡ None) names n gone within
+        | inr none ↦ removes.spares n (λ within. none_not_some (files n) none (All-contains (λ (m : Name). IsSome (files m)) names n found.there within)) ∙ none
+      ]
+
+-- The entries of files in limbo that their store doesn't list, one after another
+
+pub unlisted_none : (ms : List ManifestState) (store : ℕ) → AreUnlistedIn ms store [] []
+unlisted_none ms store = record { from = All-nil (IsOfUnlisted ms store []); every = λ r within unlisted. let low = within.1 in absurd (omega (arith, low)) }
+
+module _ (ms : List ManifestState) (store : ℕ) (xs : List Retired) (es : List Entry) (r : Retired) (so_far : AreUnlistedIn ms store xs es) where
+  from_more : All (IsOfUnlisted ms store (xs ++ r ∷ [])) es
+  from_more k d lt = let was = so_far.from k d lt in record { file = was.file; within = Contains-append_left xs (r ∷ []) was.file was.within; unlisted = was.unlisted; is = was.is }
+
+  pub unlisted_with : IsUnlistedOf ms store r → AreUnlistedIn ms store (xs ++ r ∷ []) (es ++ r.entry ∷ [])
+  unlisted_with unlisted = record {
+    from = All-push (IsOfUnlisted ms store (xs ++ r ∷ [])) es r.entry from_more (record { file = r; within = Contains-push xs r; unlisted = unlisted; is = refl });
+    every = λ x within is. elim (Contains-push_cases xs r x within) [
+      | inl there ↦ Contains-append_left es (r.entry ∷ []) x.entry (so_far.every x there is)
+      | inr same ↦ subst (λ (y : Retired). Contains (es ++ r.entry ∷ []) y.entry) same (Contains-push es r.entry)
+    ];
+  }
+
+  pub unlisted_without : (IsUnlistedOf ms store r → ⊥) → AreUnlistedIn ms store (xs ++ r ∷ []) es
+  unlisted_without not_unlisted = record {
+    from = from_more;
+    every = λ x within is. elim (Contains-push_cases xs r x within) [
+      | inl there ↦ so_far.every x there is
+      | inr same ↦ absurd (not_unlisted (subst (IsUnlistedOf ms store) (sym same) is))
+    ];
+  }

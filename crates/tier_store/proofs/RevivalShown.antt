@@ -163,12 +163,6 @@ pub settled_whole : (tells : Bool) (old new : Seen) (limbo : List Retired) (befo
 settled_whole tells old new limbo before after was settled keeps same_g same fewer passes =
     whole_out tells old new limbo (known_open tells old before after was).three (λ name h. settled_held tells old new before after name 0 was settled h) keeps same_g same fewer passes
 
--- or where that failed
-pub still_whole : (tells : Bool) (old new : Seen) (limbo : List Retired) (before after : Stores) → IsOpen tells old before after → ((x y : Stores) → IsOpen tells old x y → IsOpen tells new x y) → KeepsRows old.catalogue.rows new.catalogue.rows → granularities new.manifests ≡ granularities old.manifests
-    → (IsTrue tells → SameFiles old.files new.files) → (IsTrue tells → (n : Name) → new.opened n ≤ old.opened n) → (IsTrue tells → Passes SameFiles old.past new.past) → (i : ℕ) (stands : Bool) (files : List Filed) → i < 3 → AreWhole i tells old limbo stands files → AreWhole i tells new limbo stands files
-still_whole tells old new limbo before after was still keeps same_g same fewer passes =
-    whole_out tells old new limbo (known_open tells old before after was).three (λ name h. still_held tells old new before after name 0 was still h) keeps same_g same fewer passes
-
 -- so they do whatever comes of the settling
 pub review_whole : {B : Type 0} (tells : Bool) (old new : SeenAll) (r : Result B DiskErr) → new.limbo ≡ old.limbo → (before : Stores) × (after : Stores) × IsOpen tells old.stores before after → ((x y : Stores) → IsOpen tells old.stores x y → OnOk r (HasEither tells new.stores x y))
     → ((x y : Stores) → IsOpen tells old.stores x y → OnErr r (IsOpen tells new.stores x y)) → KeepsRows old.stores.catalogue.rows new.stores.catalogue.rows → granularities new.stores.manifests ≡ granularities old.stores.manifests → (IsTrue tells → SameFiles old.stores.files new.stores.files) → (IsTrue tells → (n : Name) → new.stores.opened n ≤ old.stores.opened n)
@@ -177,4 +171,4 @@ review_whole {B} tells old new r limbo begun settled still keeps same_g same few
   where
     go : (r : Result B DiskErr) → ((x y : Stores) → IsOpen tells old.stores x y → OnOk r (HasEither tells new.stores x y)) → ((x y : Stores) → IsOpen tells old.stores x y → OnErr r (IsOpen tells new.stores x y)) → AreWhole i tells new.stores old.limbo stands files
     go (Ok a) settled still = settled_whole tells old.stores new.stores old.limbo begun.0 begun.1 begun.2 settled keeps same_g same fewer passes i stands files low whole
-    go (Err e) settled still = still_whole tells old.stores new.stores old.limbo begun.0 begun.1 begun.2 still keeps same_g same fewer passes i stands files low whole
+    go (Err e) settled still = whole_out tells old.stores new.stores old.limbo (known_open tells old.stores begun.0 begun.1 begun.2).three (λ name h. still_held tells old.stores new.stores begun.0 begun.1 name 0 begun.2 still h) keeps same_g same fewer passes i stands files low whole

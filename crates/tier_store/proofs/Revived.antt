@@ -36,6 +36,7 @@ use Rattle.tier_store.specs.Seen.{Seen, granularities}
 use Rattle.tier_store.specs.Stores.{Stores}
 use Rattle.tier_store.specs.declared.limbo.Retired.{Retired}
 use Rattle.tier_store.proofs.Places.{granularity_at, manifest_at}
+use Rattle.tier_store.proofs.Dropped.{contains_filter}
 
 abbrev Comes : Filed → Filed → Type 0
 Comes f h = IsTrue (comes_before (filed_at f) (filed_at h))
@@ -197,17 +198,6 @@ found_at (l ∷ limbo) row t x within own holds one = by_test (holds_at l row t)
     by_test false is (zero, low, at) rest = absurd (let yes : holds_at x row t ≡ true = true_holds x row t own holds.0 holds.1 in let no : holds_at x row t ≡ false = ap (λ (f : Filed). holds_at f row t) (sym at) ∙ is in cc (yes, no))
     by_test false is (suc k, low, at) rest = rest (k, omega (arith, low), at)
 
--- a file of the row is among the row's files
-passes_in : (row : ℕ) (xs : List Filed) (f : Filed) → nat_eq f.entry.series row ≡ true → Contains xs f → Contains (of_row row xs) f
-passes_in row [] f own (k, low, is) = absurd (omega (arith, low))
-passes_in row (x ∷ xs) f own within = by_test (nat_eq x.entry.series row) refl within (λ rest. passes_in row xs f own rest)
-  where
-    by_test : (b : Bool) → nat_eq x.entry.series row ≡ b → Contains (x ∷ xs) f → (Contains xs f → Contains (of_row row xs) f) → Contains (cond b (x ∷ of_row row xs) (of_row row xs)) f
-    by_test true is (zero, low, at) rest = (0, omega arith, at)
-    by_test true is (suc k, low, at) rest = Contains-append_right (x ∷ []) (of_row row xs) f (rest (k, omega (arith, low), at))
-    by_test false is (zero, low, at) rest = absurd (let yes : nat_eq x.entry.series row ≡ true = ap (λ (y : Filed). nat_eq y.entry.series row) at ∙ own in cc (yes, is))
-    by_test false is (suc k, low, at) rest = rest (k, omega (arith, low), at)
-
 -- what is true of all is true of those behind
 all_behind : (P : Sample → Type 0) (xs ys : List Sample) → All P (xs ++ ys) → All P ys
 all_behind P [] ys all = all
@@ -253,7 +243,7 @@ module _ (g : Granularity) (rows : List Row) (listed limbo written : List Filed)
   )
 
   of_its_row : (xs : List Filed) (f : Filed) → Contains xs f → f.entry.series ≡ row → Contains (of_row row xs) f
-  of_its_row xs f within own = passes_in row xs f (grind (arith, nat_tests, own)) within
+  of_its_row xs f within own = contains_filter (λ (x : Filed). nat_eq x.entry.series row) xs f within (grind (arith, nat_tests, own))
 
   listed_in : (f : Filed) → Contains listed f → Contains both f
   listed_in f within = listed_stays listed limbo f is_over.rise is_over.unlisted within

@@ -1,30 +1,202 @@
 -- The samples of a row are tallied store by store, and told.
-use Rattle.std.proofs.Common.{◌≡◌, ℕ, ◌+◌, ◌-◌, ◌<◌, List, [], ◌∷◌, ◌++◌, length, map, get_or, Bool, Option, Some, None, refl, sym, ◌∙◌, ap, subst, arith}
-use Rattle.std.specs.Prelude.{All, IsTrue, filter, nat_eq, slice_get}
-use Rattle.std.proofs.lemmas.Bool.Decides.{Decides-eqb}
-use Rattle.std.proofs.lemmas.List.Elements.{All-filter, All-map, filter_passes}
-use Rattle.act_model.specs.Details.{last_time}
-use Rattle.disk_model.specs.Files.{Files}
-use Rattle.disk_model.specs.Past.{MayLeave}
+use Rattle.std.proofs.Common.{◌≡◌, ℕ, ◌+◌, ◌≤◌, ◌<◌, List, [], ◌∷◌, ◌++◌, length, map, take, drop, get_or, max, Option, Some, None, refl, sym, ◌∙◌, ap, subst, arith, append-nil, ◌-◌, Bool}
+use Rattle.std.specs.Prelude.{Contains, IfOk, Result, Ok, Err, All, IsTrue, filter, nat_eq, slice_get}
+use Rattle.std.specs.List.{flat_map}
+use Rattle.std.proofs.lemmas.Grind.{flat_map-append}
+use Rattle.std.proofs.lemmas.List.{length-append, length-map, take_more, take-append-drop, get_or-map}
+use Rattle.std.proofs.lemmas.List.Elements.{Contains-get_or, All-filter, All-map, filter_passes}
+use Rattle.act_model.specs.Details.{first_time, last_time}
+use Rattle.disk_model.specs.Files.{Files, HasFile}
 use Rattle.partition_names.specs.declared.granularity.Granularity.{Granularity}
-use Rattle.pv_catalog.specs.declared.row.Row.{Row}
+use Rattle.pb_lines.specs.File.{IsFile}
 use Rattle.series_model.specs.declared.sample.Sample.{Sample}
-use Rattle.series_model.specs.Series.{IsRising, end_from, end_of}
-use Rattle.series_model.proofs.RisingLists.{end_from-append, end_of_last}
-use Rattle.store_manifest.specs.Manifest.{ManifestState}
+use Rattle.series_model.specs.Series.{IsRising, RisesFrom, end_of, over, since, end_from}
+use Rattle.series_model.proofs.OverLemmas.{end_of-over, over_flushed}
+use Rattle.series_model.proofs.RisingLists.{RisesFrom-front, since_all, since_none, end_from-append, end_of_last}
 use Rattle.store_manifest.specs.declared.entry.Entry.{Entry}
+use Rattle.durable_write.specs.Held.{Filed, Shelf, bytes_of, entry_of, file_of, Held, IsFiled, IsIn, samples_of, shelf_of}
+use Rattle.tier_store.specs.Counting.{behind}
+use Rattle.tier_store.specs.Details.{IsTally, IsWhole, IsLong}
+use Rattle.tier_store.specs.declared.tallying.Tally.{Tally}
+use Rattle.tier_store.proofs.OpeningPieces.{begins_there}
+use Rattle.std.proofs.lemmas.List.Sums.{sum_by-append, sum_by_more}
+use Rattle.tier_store.specs.Tallying.{Adds, RiseFrom, end_of_files, listed_count}
+use Rattle.std.proofs.lemmas.Bool.Decides.{Decides-eqb}
+use Rattle.disk_model.specs.Past.{MayLeave}
+use Rattle.pv_catalog.specs.declared.row.Row.{Row}
+use Rattle.store_manifest.specs.Manifest.{ManifestState}
 use Rattle.durable_write.proofs.Ending.{filter-map}
-use Rattle.durable_write.specs.Held.{Filed, Held, IsFiled, IsIn, Shelf, entry_of, samples_of, shelf_of}
 use Rattle.durable_write.specs.Plan.{of_row}
 use Rattle.tier_store.specs.Change.{Has}
-use Rattle.tier_store.specs.Counting.{behind}
-use Rattle.tier_store.specs.Details.{IsLong, IsWhole}
 use Rattle.tier_store.specs.Pinning.{entries_of}
 use Rattle.tier_store.specs.Seen.{Seen}
 use Rattle.tier_store.specs.Stores.{Stores, list_at, tier}
 use Rattle.tier_store.proofs.PinnedFiles.{all_none}
 use Rattle.tier_store.proofs.Places.{manifest_at}
 use Rattle.tier_store.proofs.Rising.{row_rises}
+
+-- Samples are tallied file by file
+
+-- ONE FILE
+
+module _ (g : Granularity) (shelf : Shelf) (files : Files) (f : Filed) (is : IsWhole g shelf files f) where
+  rising : IsRising f.samples
+  rising = is.filed.file.rising
+
+  from_first : RisesFrom f.entry.first f.samples
+  from_first =
+      let s = is.filed.first in
+      let xs = is.filed.others in
+      let all : IsRising (s ∷ xs) = subst IsRising is.filed.some rising in
+      let low : RisesFrom s.t (s ∷ xs) = (omega arith, all.1) in
+      subst (λ (l : List Sample). RisesFrom f.entry.first l) (sym is.filed.some) (subst (λ (n : ℕ). RisesFrom n (s ∷ xs)) (sym is.filed.from) low)
+
+  -- all of its samples are later, or none is
+  pub all_later : (n : ℕ) → n ≤ f.entry.first → f.entry.count ≡ length (since n f.samples)
+  all_later n low = is.filed.count ∙ ap length (sym (since_all n f.entry.first f.samples from_first low))
+
+  pub none_later : (n : ℕ) → f.entry.last + 1 ≤ n → 0 ≡ length (since n f.samples)
+  none_later n high = let to = is.filed.to in ap length (sym (since_none n 0 f.samples rising (omega (arith, to, high))))
+
+  -- what is read of it
+  pub file_read : HasFile files (file_of shelf f.entry) (λ b. IsFile (take f.entry.len b) f.head is.filed.info f.samples)
+  file_read =
+      let there = begins_there files (file_of shelf f.entry) (bytes_of f) is.inside in
+      let b = there.bytes in
+      let same : bytes_of f ≡ take f.entry.len b = sym (there.holds.1) ∙ ap (λ (n : ℕ). take n b) (sym is.filed.len) in
+      record { bytes = b; file = there.file; holds = subst (λ (l : List ℕ). IsFile l f.head is.filed.info f.samples) same is.filed.file }
+
+  pub tally_more : (samples : List Sample) (t : Tally) (count more first : ℕ) (last : Option ℕ) → IsTally samples t → more ≡ length (since (behind t.last) f.samples) → count ≡ t.count + more → ((x : ℕ) → t.first ≡ Some x → first ≡ x) → (t.first ≡ None → first ≡ f.entry.first)
+      → behind last ≡ max (behind t.last) (f.entry.last + 1) → IsTally (over samples f.samples) (record { count = count; first = Some first; last = last })
+  tally_more samples t count more first last was number sum some none end = record {
+    count =
+        let new : more ≡ length (since (end_of samples) f.samples) = number ∙ ap (λ (n : ℕ). length (since n f.samples)) was.last in
+        let old = was.count in
+        omega (arith, sum, new, old, length-append samples (since (end_of samples) f.samples));
+    first = first_is samples refl;
+    last =
+        let old = was.last in
+        let to = is.filed.to in
+        let both = end_of-over samples f.samples rising in
+        omega (arith, end, old, to, both);
+  }
+    where
+      first_is : (xs : List Sample) → xs ≡ samples → Some first ≡ first_time (over samples f.samples)
+      first_is [] same =
+          let mine : first ≡ is.filed.first.t = none (was.first ∙ ap first_time (sym same)) ∙ is.filed.from in
+          let all : over samples f.samples ≡ is.filed.first ∷ is.filed.others = ap (λ (l : List Sample). over l f.samples) (sym same) ∙ (since_all 0 0 f.samples rising (omega arith) ∙ is.filed.some) in
+          ap (λ (n : ℕ). Some n) mine ∙ sym (ap first_time all)
+      first_is (x ∷ xs) same =
+          let mine : first ≡ x.t = some x.t (was.first ∙ ap first_time (sym same)) in
+          ap (λ (n : ℕ). Some n) mine ∙ ap (λ (l : List Sample). first_time (over l f.samples)) same
+
+-- ONE AFTER ANOTHER
+
+abbrev pub flat : List Filed → List Sample
+flat files = flat_map (λ (f : Filed). f.samples) files
+
+-- the file at a place of the list
+pub record IsFileAt (files : List Filed) (i : ℕ) (e : Entry) (samples : List Sample) : Type 0 where
+  pub file : Filed
+  pub within : Contains files file
+  pub entry : file.entry ≡ e
+  pub adds : over samples (flat (take (i + 1) files)) ≡ over (over samples (flat (take i files))) file.samples
+
+pub file_at : (files : List Filed) (entries : List Entry) (i : ℕ) (e : Entry) (samples : List Sample) → entries ≡ map entry_of files → i < length entries → e ≡ get_or entries i e → IsRising (flat files) → IsFileAt files i e samples
+file_at files entries i e samples are low is rises = go files refl
+  where
+    within : i < length files
+    within = let long = ap length are in omega (arith, low, long, length-map files entry_of)
+
+    go : (fs : List Filed) → fs ≡ files → IsFileAt files i e samples
+    go [] same = let long = ap length same in absurd (omega (arith, long, within))
+    go (d ∷ ds) same =
+        let f : Filed = get_or files i d in
+        let more : flat (take (i + 1) files) ≡ flat (take i files) ++ f.samples =
+        ap flat (take_more files i d within) ∙ (flat_map-append (λ (h : Filed). h.samples) (take i files) (f ∷ []) ∙ ap (λ (l : List Sample). flat (take i files) ++ l) (append-nil f.samples)) in
+        let split : flat files ≡ flat (take (i + 1) files) ++ flat (drop (i + 1) files) = ap flat (sym (take-append-drop (i + 1) files)) ∙ flat_map-append (λ (h : Filed). h.samples) (take (i + 1) files) (drop (i + 1) files) in
+        let front : IsRising (flat (take i files) ++ f.samples) = subst IsRising more (RisesFrom-front 0 (flat (take (i + 1) files)) (flat (drop (i + 1) files)) (subst IsRising split rises)) in
+        record {
+          file = f;
+          within = Contains-get_or files i d within;
+          entry = sym (is ∙ (ap (λ (l : List Entry). get_or l i e) are ∙ get_or-map entry_of files i d e within));
+          adds = ap (over samples) more ∙ sym (over_flushed samples (flat (take i files)) f.samples front);
+        }
+
+-- Tallies by what the entries alone say
+
+rise_both : (n : ℕ) (xs ys : List Entry) → RiseFrom n (xs ++ ys) → RiseFrom n xs × RiseFrom (end_of_files n xs) ys
+rise_both n [] ys rise = (tt, rise)
+rise_both n (x ∷ xs) ys rise = let both = rise_both (max n (x.last + 1)) xs ys rise.1 in ((rise.0, both.0), both.1)
+
+end_both : (n : ℕ) (xs ys : List Entry) → end_of_files n (xs ++ ys) ≡ end_of_files (end_of_files n xs) ys
+end_both n [] ys = refl
+end_both n (x ∷ xs) ys = end_both (max n (x.last + 1)) xs ys
+
+count_both : (xs ys : List Entry) → listed_count (xs ++ ys) ≡ listed_count xs + listed_count ys
+count_both xs ys = sum_by-append (λ (e : Entry). e.count) xs ys
+
+-- the file at a place of the list
+pub record IsNext (n i : ℕ) (es : List Entry) (e : Entry) : Type 0 where
+  pub low : end_of_files n (take i es) ≤ e.first
+  pub count : listed_count (take (i + 1) es) ≡ listed_count (take i es) + e.count
+  pub end : end_of_files n (take (i + 1) es) ≡ max (end_of_files n (take i es)) (e.last + 1)
+
+pub next_listed : (n i : ℕ) (es : List Entry) (e : Entry) → i < length es → e ≡ get_or es i e → RiseFrom n es → IsNext n i es e
+next_listed n i es e within is rise =
+    let one : take (i + 1) es ≡ take i es ++ e ∷ [] = take_more es i e within ∙ ap (λ (x : Entry). take i es ++ x ∷ []) (sym is) in
+    let split : es ≡ (take i es ++ e ∷ []) ++ drop (i + 1) es = sym (take-append-drop (i + 1) es) ∙ ap (λ (l : List Entry). l ++ drop (i + 1) es) one in
+    let front : RiseFrom n (take i es ++ e ∷ []) = (rise_both n (take i es ++ e ∷ []) (drop (i + 1) es) (subst (RiseFrom n) split rise)).0 in
+    record {
+      low = (rise_both n (take i es) (e ∷ []) front).1.0;
+      count = sum_by_more (λ (x : Entry). x.count) es i e within ∙ ap (λ (x : Entry). listed_count (take i es) + x.count) (sym is);
+      end = ap (end_of_files n) one ∙ end_both n (take i es) (e ∷ []);
+    }
+
+-- one file more
+pub adds_more : (old was new : Tally) (es : List Entry) (i : ℕ) (e : Entry) → i < length es → e ≡ get_or es i e → (RiseFrom (behind old.last) es → (was.count ≡ old.count + listed_count (take i es)) × (behind was.last ≡ end_of_files (behind old.last) (take i es)))
+    → (behind was.last ≤ e.first → (new.count ≡ was.count + e.count) × (behind new.last ≡ max (behind was.last) (e.last + 1)))
+    → RiseFrom (behind old.last) es → (new.count ≡ old.count + listed_count (take (i + 1) es)) × (behind new.last ≡ end_of_files (behind old.last) (take (i + 1) es))
+adds_more old was new es i e within is before step rise =
+    let known = before rise in
+    let next = next_listed (behind old.last) i es e within is rise in
+    let sum = known.0 in
+    let end = known.1 in
+    let low = next.low in
+    let made = step (omega (arith, end, low)) in
+    let more = made.0 in
+    let count = next.count in
+    (omega (arith, sum, more, count), made.1 ∙ ap (λ (n : ℕ). max n (e.last + 1)) end ∙ sym next.end)
+
+pub ends_more : (n : ℕ) (es : List Entry) (i : ℕ) (e : Entry) (was new : Tally) → i < length es → e ≡ get_or es i e → behind was.last ≡ end_of_files n (take i es) → behind new.last ≡ max (behind was.last) (e.last + 1) → behind new.last ≡ end_of_files n (take (i + 1) es)
+ends_more n es i e was new within is before step =
+    let one : take (i + 1) es ≡ take i es ++ e ∷ [] = take_more es i e within ∙ ap (λ (x : Entry). take i es ++ x ∷ []) (sym is) in
+    step ∙ (ap (λ (k : ℕ). max k (e.last + 1)) before ∙ sym (ap (end_of_files n) one ∙ end_both n (take i es) (e ∷ [])))
+
+-- three lists, one after another
+pub ends_three : (none one two three : Tally) (xs ys zs : List Entry) → behind none.last ≡ 0 → behind one.last ≡ end_of_files (behind none.last) xs → behind two.last ≡ end_of_files (behind one.last) ys → behind three.last ≡ end_of_files (behind two.last) zs → behind three.last ≡ end_of_files 0 ((xs ++ ys) ++ zs)
+ends_three none one two three xs ys zs zero first second third =
+    let a : behind one.last ≡ end_of_files 0 xs = first ∙ ap (λ (n : ℕ). end_of_files n xs) zero in
+    let b : behind two.last ≡ end_of_files 0 (xs ++ ys) = second ∙ (ap (λ (n : ℕ). end_of_files n ys) a ∙ sym (end_both 0 xs ys)) in
+    third ∙ (ap (λ (n : ℕ). end_of_files n zs) b ∙ sym (end_both 0 (xs ++ ys) zs))
+
+pub adds_three : (none one two three : Tally) (xs ys zs : List Entry) → none.count ≡ 0 → behind none.last ≡ 0 → Adds none xs one → Adds one ys two → Adds two zs three → RiseFrom 0 ((xs ++ ys) ++ zs) → three.count ≡ listed_count ((xs ++ ys) ++ zs)
+adds_three none one two three xs ys zs zero start first second third rise =
+    let outer = rise_both 0 (xs ++ ys) zs rise in
+    let inner = rise_both 0 xs ys outer.0 in
+    let a = first (subst (λ (n : ℕ). RiseFrom n xs) (sym start) inner.0) in
+    let a_end : behind one.last ≡ end_of_files 0 xs = a.1 ∙ ap (λ (n : ℕ). end_of_files n xs) start in
+    let b = second (subst (λ (n : ℕ). RiseFrom n ys) (sym a_end) inner.1) in
+    let b_end : behind two.last ≡ end_of_files 0 (xs ++ ys) = b.1 ∙ (ap (λ (n : ℕ). end_of_files n ys) a_end ∙ sym (end_both 0 xs ys)) in
+    let c = third (subst (λ (n : ℕ). RiseFrom n zs) (sym b_end) outer.1) in
+    let one_count = a.0 in
+    let two_count = b.0 in
+    let three_count = c.0 in
+    omega (arith, zero, one_count, two_count, three_count, count_both xs ys, count_both (xs ++ ys) zs)
+
+pub ok_weaker : {A E : Type 0} (P Q : A → Type 0) (r : Result A E) → ((a : A) → P a → Q a) → IfOk r P → IfOk r Q
+ok_weaker P Q (Ok a) step is = step a is
+ok_weaker P Q (Err e) step is = tt
 
 -- THE LAST MOMENT
 

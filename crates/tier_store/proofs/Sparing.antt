@@ -7,14 +7,13 @@ use Rattle.std.proofs.lemmas.List.Elements.{All-contains, Contains-get_or, Conta
 use Rattle.std.proofs.lemmas.Option.{same_Some}
 use Rattle.disk_model.specs.Files.{Name, Files, Rose}
 use Rattle.disk_model.specs.Past.{Past, Passes, Only}
-use Rattle.disk_model.proofs.Passing.{passes_then, passes_weaker}
+use Rattle.disk_model.proofs.Passing.{passes_weaker}
 use Rattle.gate_journal.specs.Generations.{IsOwn}
 use Rattle.gate_journal.specs.Journal.{JournalState}
 use Rattle.gate_journal.proofs.Keeping.{says_stays}
 use Rattle.gate_journal.proofs.Owning.{own_store}
 use Rattle.partition_names.specs.declared.granularity.Granularity.{Granularity}
-use Rattle.pinned_pieces.specs.Pieces.{PinOf}
-use Rattle.pinned_pieces.specs.Pieces.{file_of as piece_file}
+use Rattle.pinned_pieces.specs.Pieces.{PinOf, file_of as piece_file}
 use Rattle.pinned_pieces.specs.declared.piece.PinnedFile.{PinnedFile}
 use Rattle.pv_catalog.specs.declared.row.Row.{Row}
 use Rattle.pv_catalog.specs.Catalogue.{CatalogueState, catalogue_name}
@@ -32,9 +31,9 @@ use Rattle.tier_store.specs.Stores.{Stores, list_at, tier}
 use Rattle.tier_store.specs.Seen.{Seen, granularities, seen, seen_on}
 use Rattle.tier_store.specs.declared.store.TierStore.{TierStore}
 use Rattle.disk_model.specs.declared.disk.Disk.{Ghosts}
-use Rattle.tier_store.specs.Change.{IsKnown, Has, HoldsBy, SameFiles, EndsFrom, Changes}
+use Rattle.tier_store.specs.Change.{IsKnown, Has, HoldsBy, EndsFrom, Changes}
 use Rattle.tier_store.specs.Pinned.{SeenAll, beside, IsHeldTo, IsNoShorter, IsThereTo, KeepsShown, PinsStand}
-use Rattle.tier_store.specs.Limbo.{IsOfPlace, LimboStands, NamesDiffer, IsListedName, IsPinnedFile, IsNeeded, IsKeptName, IsSwept, StayUnlisted, StayNeeded, AreGone, AreFree, Spares, SparesKept, SparesFiles, LeavesKept, LeavesKeptFiles, staying}
+use Rattle.tier_store.specs.Limbo.{IsOfPlace, LimboStands, NamesDiffer, IsListedName, IsPinnedFile, IsNeeded, IsKeptName, IsSwept, StayUnlisted, StayNeeded, AreGone, AreFree, Removes, Spares, SparesKept, LeavesKept, staying}
 use Rattle.tier_store.specs.declared.limbo.Retired.{Retired}
 use Rattle.tier_store.proofs.Left.{has_left}
 use Rattle.tier_store.proofs.Showing.{shown, fronts_same}
@@ -133,7 +132,7 @@ listed_name at s k m f known here within = record {
 -- THE SWEEP
 
 module _ (tells : Bool) (at : Seen) (pins : FinMap nat_cmp PinOf) (copied : List Name) (limbo retired : List Retired) (stands : LimboStands at limbo) (unlisted : StayUnlisted at limbo retired) (files : Files) (opened : Name → ℕ) (past : Past) (faults : ℕ)
-    (passes : IsTrue tells → Passes (Spares pins copied retired) at.past past) (same : IsTrue tells → Spares pins copied retired at.files files) (fewer : IsTrue tells → (n : Name) → opened n ≤ at.opened n) where
+    (removes : IsTrue tells → Removes pins copied retired at.files files at.opened opened at.past past) where
   abbrev Spared : Name → Type 0
   Spared n = (r : Retired) → Contains retired r → r.name ≡ n → IsNeeded pins copied n
 
@@ -159,13 +158,13 @@ module _ (tells : Bool) (at : Seen) (pins : FinMap nat_cmp PinOf) (copied : List
     disk = λ told.
         let stored = has.disk told in
         record {
-          rows = rows_spared Spared journals at.files files at.opened opened at.past past (passes told) (same told) (fewer told) at.catalogue.journal held.rows stored.rows;
-          each = λ k m here. tier_spared Spared journals at.files files at.opened opened at.past past (passes told) (same told) (fewer told) m.granularity m.journal (tier k held) (listed_spared held k m has.known here) (stored.each k m here);
+          rows = rows_spared Spared journals at.files files at.opened opened at.past past (removes told).any_moment (removes told).spares (removes told).fewer at.catalogue.journal held.rows stored.rows;
+          each = λ k m here. tier_spared Spared journals at.files files at.opened opened at.past past (removes told).any_moment (removes told).spares (removes told).fewer m.granularity m.journal (tier k held) (listed_spared held k m has.known here) (stored.each k m here);
         };
   }
 
   pub swept_holds : (held : Stores) → Has tells at held → IsTrue tells → Passes (HoldsBy (granularities at.manifests) (λ old made. made ≡ old) held) at.past past
-  swept_holds held has told = passes_weaker (Spares pins copied retired) (HoldsBy (granularities at.manifests) (λ old made. made ≡ old) held) at.past past (passes told) (λ a c left step.
+  swept_holds held has told = passes_weaker (Spares pins copied retired) (HoldsBy (granularities at.manifests) (λ old made. made ≡ old) held) at.past past (removes told).any_moment (λ a c left step.
       let was = has_left tells at held has told a left in
       inl (λ k g here. let m = manifest_of at.manifests k g here in holds_spared Spared journals g (tier k held) a c (listed_spared held k m.0 has.known m.1) step (was k g here)))
 
@@ -238,10 +237,10 @@ module _ (tells : Bool) (at : Seen) (pins : FinMap nat_cmp PinOf) (copied : List
     shown = λ name bytes kept was. record {
       held = there_kept held left name (length bytes) has stays kept was.held;
       some = was.some;
-      front = λ told. subst (Begins bytes) (sym (same told name (λ r within is. kept_needed name r within is kept))) (was.front told);
+      front = λ told. subst (Begins bytes) (sym ((removes told).spares name (λ r within is. kept_needed name r within is kept))) (was.front told);
     };
-    files = λ told. spares_kept at.files files (same told);
-    any_moment = λ told. passes_weaker (Spares pins copied retired) (SparesKept swept pins copied limbo) at.past past (passes told) (λ a c left step. spares_kept a c step);
+    files = λ told. spares_kept at.files files (removes told).spares;
+    any_moment = λ told. passes_weaker (Spares pins copied retired) (SparesKept swept pins copied limbo) at.past past (removes told).any_moment (λ a c left step. spares_kept a c step);
   }
 
   -- WHAT LEAVES LIMBO
@@ -281,32 +280,19 @@ slice_contains (y ∷ xs) zero x is = (zero, omega arith, ap piece_file (same_So
 slice_contains (y ∷ xs) (suc i) x is =
     let rest = slice_contains xs i x is in (suc rest.0, omega (arith, rest.1), rest.2)
 
-pub pins_kept : (tells : Bool) (pins : FinMap nat_cmp PinOf) (copied : List Name) (old new : SeenAll) → LeavesKeptFiles tells pins copied old new → PinsStand tells old pins → PinsStand tells new pins
+pub pins_kept : (tells : Bool) (pins : FinMap nat_cmp PinOf) (copied : List Name) (old new : SeenAll) → LeavesKept tells pins copied old new → PinsStand tells old pins → PinsStand tells new pins
 pins_kept tells pins copied old new leaves stand n i pin piece here there =
     let was = stand n i pin piece here there in
     let pinned : IsPinnedFile pins piece.name = record { number = n; pin = pin; stands = here; names = slice_contains pin.pieces i piece there } in
     record { bytes = was.bytes; len = was.len; shown = leaves.shown piece.name was.bytes (inr (inl pinned)) was.shown }
 
--- THE SETTLING BEFORE IT
+-- Stores whose memory and disk are the same
 
--- a settling that kept what is shown
-pub settles_leave : (tells : Bool) (pins : FinMap nat_cmp PinOf) (copied : List Name) (old mid : SeenAll) → KeepsShown tells old mid → (IsTrue tells → SameFiles old.stores.files mid.stores.files) → (IsTrue tells → Passes SameFiles old.stores.past mid.stores.past) → LeavesKeptFiles tells pins copied old mid
-settles_leave tells pins copied old mid shown same passes = record {
-  shown = λ name bytes kept was. shown name bytes was;
-  files = λ told n other kept. same told n other;
-  any_moment = λ told. passes_weaker SameFiles (SparesFiles mid.stores pins copied old.limbo) old.stores.past mid.stores.past (passes told) (λ a c left step n other kept. step n other);
-}
+-- the memory and the disk are the same
+pub same_seen : {S : Type 0} (files_of : S → Files) (opened_of : S → Name → ℕ) (past_of : S → Past) (faults_of : S → ℕ) (c later : CatalogueState) (ms ns : List ManifestState) (d after : S) → later ≡ c → ns ≡ ms → after ≡ d
+    → seen_on files_of opened_of past_of faults_of c ms d ≡ seen_on files_of opened_of past_of faults_of later ns after
+same_seen {S} files_of opened_of past_of faults_of c later ms ns d after is is₂ is₃ = λ i. seen_on files_of opened_of past_of faults_of (sym is i) (sym is₂ i) (sym is₃ i)
 
-pub settles_then : (tells : Bool) (pins : FinMap nat_cmp PinOf) (copied : List Name) (old mid new : SeenAll) → mid.limbo ≡ old.limbo → KeepsShown tells old mid → (IsTrue tells → SameFiles old.stores.files mid.stores.files) → (IsTrue tells → Passes SameFiles old.stores.past mid.stores.past) → LeavesKept tells pins copied mid new
-    → LeavesKeptFiles tells pins copied old new
-settles_then tells pins copied old mid new limbo shown same passes leaves = record {
-  shown = λ name bytes kept was. leaves.shown name bytes kept (shown name bytes was);
-  files = λ told n other kept. leaves.files told n (λ r within is. kept r (from r within) is) ∙ same told n other;
-  any_moment = λ told.
-      passes_then (SparesFiles new.stores pins copied old.limbo) (SparesKept new.stores pins copied mid.limbo) old.stores.past mid.stores.past new.stores.past
-      (passes_weaker SameFiles (SparesFiles new.stores pins copied old.limbo) old.stores.past mid.stores.past (passes told) (λ a b left step n other kept. step n other)) (leaves.any_moment told)
-      (λ a b c was one now two n other kept. two n (λ r within is. kept r (from r within) is) ∙ one n other kept);
-}
-  where
-    from : (r : Retired) → Contains mid.limbo r → Contains old.limbo r
-    from r within = subst (λ (l : List Retired). Contains l r) limbo within
+-- and what is in limbo too
+pub same_all : (at later : Seen) (limbo rest : List Retired) → at ≡ later → rest ≡ limbo → beside at limbo ≡ beside later rest
+same_all at later limbo rest is same = λ i. beside (is i) (sym same i)

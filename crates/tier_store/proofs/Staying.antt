@@ -1,5 +1,5 @@
 -- What stays of limbo, and what the removal of files leaves of the stores.
-use Rattle.std.proofs.Common.{◌≡◌, ◌≢◌, ◌⊎◌, inl, inr, Bool, true, false, cond, ◌||◌, nat_eq, ℕ, zero, suc, ◌<◌, ◌+◌, List, [], ◌∷◌, length, map, take, get_or, Some, None, refl, sym, ◌∙◌, ap, subst, arith}
+use Rattle.std.proofs.Common.{◌≡◌, ◌⊎◌, inl, inr, Bool, true, false, cond, ◌||◌, nat_eq, ℕ, zero, suc, ◌<◌, ◌+◌, List, [], ◌∷◌, length, map, take, get_or, Some, None, refl, sym, ◌∙◌, ap, subst, arith}
 use Rattle.std.specs.Prelude.{All, Contains, slice_get, IsTrue}
 use Rattle.std.specs.FinMap.{FinMap}
 use Rattle.std.specs.Ordering.{nat_cmp}
@@ -12,9 +12,9 @@ use Rattle.disk_model.specs.Record.{is_same}
 use Rattle.std.specs.Prelude.{◌==◌, ◌↔◌, not}
 use Rattle.store_manifest.specs.declared.entry.Entry.{Entry}
 use Rattle.std.proofs.lemmas.List.Elements.{All-contains, All-head, All-tail, All-more}
-use Rattle.disk_model.specs.Files.{Name, Content, Files, At, HasFile, size_of}
+use Rattle.disk_model.specs.Files.{Name, Content, Files, HasFile, size_of}
 use Rattle.disk_model.specs.Past.{Past, Passes, Only}
-use Rattle.disk_model.proofs.Passing.{passes_then, passes_weaker, passes_none}
+use Rattle.disk_model.proofs.Passing.{passes_then}
 use Rattle.partition_names.specs.declared.granularity.Granularity.{Granularity}
 use Rattle.pinned_pieces.specs.Pieces.{PinOf, named, Agree}
 use Rattle.pinned_pieces.specs.Pieces.{file_of as piece_file}
@@ -202,13 +202,6 @@ pinned_from table pins name agree p = record { number = p.number; pin = record {
 pub spares_then : (pins : FinMap nat_cmp PinOf) (copied : List Name) (limbo : List Retired) (old mid new : Past) → Passes (Spares pins copied limbo) old mid → Passes (Spares pins copied limbo) mid new → Passes (Spares pins copied limbo) old new
 spares_then pins copied limbo old mid new first second = passes_then (Spares pins copied limbo) (Spares pins copied limbo) old mid new first second (λ a b c was one now two n other. two n other ∙ one n other)
 
-pub spares_none : (pins : FinMap nat_cmp PinOf) (copied : List Name) (limbo : List Retired) (past : Past) → Passes (Spares pins copied limbo) past past
-spares_none pins copied limbo past = passes_none (Spares pins copied limbo) past (λ a left n other. refl)
-
--- one that isn't needed is removed, or not
-pub one_spared : (pins : FinMap nat_cmp PinOf) (copied : List Name) (limbo : List Retired) (r : Retired) (a b : Files) → Contains limbo r → (IsNeeded pins copied r.name → ⊥) → ((n : Name) → n ≢ r.name → b n ≡ a n) → Spares pins copied limbo a b
-one_spared pins copied limbo r a b within free elsewhere n other = elsewhere n (λ is. free (subst (IsNeeded pins copied) is (other r within (sym is))))
-
 -- LIMBO STANDS
 
 pub limbo_kept : (old new : Seen) (limbo : List Retired) → KeepsRows old.catalogue.rows new.catalogue.rows → granularities new.manifests ≡ granularities old.manifests → LimboStands old limbo → LimboStands new limbo
@@ -258,13 +251,6 @@ not_false false t = absurd (cc (t))
 
 -- CALLS
 
-pub reads_elsewhere : (name : Name) (old new : Past) → Passes (λ a b. b ≡ a) old new → Passes (Elsewhere name) old new
-reads_elsewhere name old new passes = passes_weaker (λ a b. b ≡ a) (Elsewhere name) old new passes (λ a c left same n apart. ap (λ (f : Files). f n) same)
-
-pub then_elsewhere : (name : Name) (R : Content → Content → Type 0) (old mid new : Past) → Passes (λ a b. b ≡ a) old mid → Passes (At name R) mid new → Passes (Elsewhere name) old new
-then_elsewhere name R old mid new first second =
-    passes_then (Elsewhere name) (Elsewhere name) old mid new (reads_elsewhere name old mid first) (passes_weaker (At name R) (Elsewhere name) mid new second (λ a c left step. step.elsewhere)) (λ a b c was one now two n apart. two n apart ∙ one n apart)
-
 -- a file that has a size is there
 pub size_there : (files : Files) (name : Name) (size : ℕ) → Some size ≡ size_of (files name) → HasFile files name (λ b. Unit {0})
 size_there files name size is = go (files name) refl is
@@ -272,9 +258,6 @@ size_there files name size is = go (files name) refl is
     go : (content : Content) → files name ≡ content → Some size ≡ size_of content → HasFile files name (λ b. Unit {0})
     go None here is = absurd (cc (is))
     go (Some b) here is = record { bytes = b; file = here; holds = tt }
-
-pub elsewhere_passes : (pins : FinMap nat_cmp PinOf) (copied : List Name) (limbo : List Retired) (r : Retired) (old new : Past) → Contains limbo r → (IsNeeded pins copied r.name → ⊥) → Passes (Elsewhere r.name) old new → Passes (Spares pins copied limbo) old new
-elsewhere_passes pins copied limbo r old new within free passes = passes_weaker (Elsewhere r.name) (Spares pins copied limbo) old new passes (λ a c was step. one_spared pins copied limbo r a c within free step)
 
 -- one more is needed, or this is true of its name
 pub free_needed : (pins : FinMap nat_cmp PinOf) (copied : List Name) (P : Name → Type 0) (rs : List Retired) (i : ℕ) (r : Retired) → i < length rs → r ≡ get_or rs i r → IsNeeded pins copied r.name → AreFree pins copied P (take i rs) → AreFree pins copied P (take (i + 1) rs)

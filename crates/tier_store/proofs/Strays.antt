@@ -48,7 +48,7 @@ use Rattle.tier_store.specs.declared.copying.CopyEnd.{CopyEnd}
 use Rattle.tier_store.specs.declared.copying.CopyEnd.TheVariants as copied
 use Rattle.tier_store.specs.declared.limbo.Retired.{Retired}
 use Rattle.tier_store.specs.declared.retirement.RetireEnd.TheVariants as ends
-use Rattle.tier_store.proofs.CopyPlaces.{Start}
+use Rattle.tier_store.proofs.CopyFiles.{Start}
 use Rattle.tier_store.proofs.Dropped.{from_oldest, stays_or}
 use Rattle.tier_store.proofs.Handing.{name_left, named_in, pinned_by}
 use Rattle.tier_store.proofs.Places.{list_set, list_other}

@@ -19,7 +19,6 @@ use Rattle.store_files.specs.Fronts.{Begins}
 use Rattle.store_manifest.specs.Entries.{place}
 use Rattle.store_manifest.specs.Manifest.{ManifestState}
 use Rattle.store_manifest.specs.declared.entry.Entry.{Entry}
-use Rattle.durable_write.specs.Ends.{End}
 use Rattle.durable_write.specs.Flush.{PlacesRise, file_at, is_place, put_all}
 use Rattle.durable_write.specs.Held.{Filed, Held, AreFiled, AreIn, IsFiled, IsIn, IsListed, bytes_of, entry_of, file_of, filed_at}
 use Rattle.durable_write.specs.Stored.{AreSafe}
@@ -28,9 +27,9 @@ use Rattle.durable_write.proofs.Listed.{all_put_all, is_place-same, is_place-tru
 use Rattle.durable_write.proofs.Revival.{listed_stays, put_all_new}
 use Rattle.durable_write.proofs.Stays.{safe_both}
 use Rattle.durable_write.proofs.There.{contains_map}
-use Rattle.tier_store.specs.Stores.{Stores, list_at, tier, with_rows}
+use Rattle.tier_store.specs.Stores.{Stores, list_at, tier}
 use Rattle.tier_store.specs.Seen.{Seen, granularities}
-use Rattle.tier_store.specs.Change.{Has, Call, Changes}
+use Rattle.tier_store.specs.Change.{Has}
 use Rattle.tier_store.specs.Pinned.{SeenAll, beside, IsHeldTo}
 use Rattle.tier_store.specs.Limbo.{LimboStands, IsListedName, IsNeeded, Removes, StayUnlisted}
 use Rattle.tier_store.specs.Moving.{LeavesFiles, LeavesLater, LeavesNames, names_of}
@@ -43,7 +42,6 @@ use Rattle.tier_store.proofs.LeavingNames.{later_names, name_in, read_names}
 use Rattle.tier_store.proofs.Places.{granularity_at, manifest_at, manifest_of}
 use Rattle.tier_store.proofs.RevivalShown.{limbo_name, place_named}
 use Rattle.tier_store.proofs.RevivalWhole.{free_of, is_free, is_none, none_is, store_of}
-use Rattle.tier_store.proofs.Showing.{ends_held, rows_keep}
 use Rattle.tier_store.proofs.Sparing.{after_disk, listed_name, same_memory}
 use Rattle.tier_store.proofs.Staying.{stay_from}
 
@@ -211,12 +209,6 @@ first_whole tells old new three limbo held keeps same_g leaves first (suc i) sta
 -- one call after another
 pub whole_then : (tells : Bool) (old mid new : SeenAll) → KeepsWhole tells old mid → KeepsWhole tells mid new → KeepsWhole tells old new
 whole_then tells old mid new first second i stands files low whole = let then = first i stands files low whole in second i stands then.0 low then.1
-
--- a change of the rows, which go on
-pub rows_whole : {A E : Type 0} (tells : Bool) (call : Call A E) (old new : SeenAll) (end : End A E) → new.limbo ≡ old.limbo → (held : Stores) × Has tells old.stores held → ((held made : Stores) → call.by held made → (made ≡ with_rows held made.rows) × KeepsRows held.rows made.rows) → Changes tells call old.stores new.stores end → LeavesFiles tells old new
-    → KeepsWhole tells old new
-rows_whole {A} {E} tells call old new end limbo has goes change leaves =
-    call_whole tells old new has.1.known.three limbo (λ name h. ends_held tells call old.stores new.stores has.0 end name 0 has.1 (λ made by. inr (goes has.0 made by)) (change.ends has.0 has.1) h) (rows_keep tells call old.stores new.stores end has goes change) change.costs.granularity leaves
 
 -- the disk was only read, and the memory is the same
 pub same_whole : (tells : Bool) (old new : SeenAll) → length old.stores.manifests ≡ 3 → new.stores.catalogue ≡ old.stores.catalogue → new.stores.manifests ≡ old.stores.manifests → new.limbo ≡ old.limbo → (IsTrue tells → new.stores.files ≡ old.stores.files) → (IsTrue tells → new.stores.opened ≡ old.stores.opened)

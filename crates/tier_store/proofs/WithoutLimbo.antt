@@ -11,8 +11,8 @@ use Rattle.durable_write.specs.Flush.{IsFlushed, put_all, with_files}
 use Rattle.durable_write.specs.Held.{Filed, Held, count_of}
 use Rattle.tier_store.specs.Stores.{Stores, tier}
 use Rattle.tier_store.specs.Seen.{Seen, granularities}
-use Rattle.tier_store.specs.Change.{EndsFrom, HoldsChange, Acts, Flushes, flushing}
-use Rattle.tier_store.specs.Given.{ActsGiven}
+use Rattle.tier_store.specs.Change.{EndsFrom, HoldsBy, Changes, Flushes, flushing}
+use Rattle.tier_store.specs.Given.{ChangesGiven}
 use Rattle.tier_store.specs.Pinned.{NoneOf}
 use Rattle.tier_store.specs.Revival.{IsOfLimbo, AreWhole, FlushesOver, CountsOver, flushing_over}
 use Rattle.tier_store.specs.declared.limbo.Retired.{Retired}
@@ -51,19 +51,15 @@ module _ (tells : Bool) (limbo : List Retired) (files : List Filed) (batch : Lis
   plain_ends new held Failed (inr (made, by, doubt)) = inr (made, plain_by limbo files batch held made none by, doubt)
   plain_ends new held Spent has = has
 
-  plain_change : (gs : List Granularity) (before after : Stores) (a c : Files) → HoldsChange gs (FlushesOver limbo files batch) before after a c → HoldsChange gs (Flushes batch) before after a c
-  plain_change gs before after a c (inl holds) = inl holds
-  plain_change gs before after a c (inr (made, comes, holds)) = inr (made, record { from = comes.from; either = comes.either; by = plain_by limbo files batch comes.from made none comes.by }, holds)
+  plain_moment : (gs : List Granularity) (held : Stores) (a c : Files) → HoldsBy gs (FlushesOver limbo files batch) held a c → HoldsBy gs (Flushes batch) held a c
+  plain_moment gs held a c (inl holds) = inl holds
+  plain_moment gs held a c (inr (made, by, holds)) = inr (made, plain_by limbo files batch held made none by, holds)
 
-  pub plain_acts : (P : Stores → Type 0) → ((s : Stores) → P s) → (old new : Seen) (end : End ℕ ⊥) → ActsGiven P tells (flushing_over limbo files batch) old new end → Acts tells (flushing batch) old new end
-  plain_acts P all old new end acts = record {
-    ends = λ before after was. elim (acts.ends before after was (all before) (all after)) [
-      | inl cut ↦ inl cut
-      | inr done ↦ inr (done.0, done.1, plain_ends new done.0 end done.2)
-    ];
-    settled = λ held has. plain_ends new held end (acts.settled held has (all held));
-    any_moment = λ told before after was.
-        passes_weaker (HoldsChange (granularities old.manifests) (FlushesOver limbo files batch) before after) (HoldsChange (granularities old.manifests) (Flushes batch) before after) old.past new.past (acts.any_moment told before after was (all before) (all after))
-        (λ a c left step. plain_change (granularities old.manifests) before after a c step);
-    costs = acts.costs;
+  pub plain_changes : (P : Stores → Type 0) → ((s : Stores) → P s) → (old new : Seen) (end : End ℕ ⊥) → ChangesGiven P tells (flushing_over limbo files batch) old new end → Changes tells (flushing batch) old new end
+  plain_changes P all old new end change = record {
+    ends = λ held has. plain_ends new held end (change.ends held has (all held));
+    any_moment = λ told held has.
+        passes_weaker (HoldsBy (granularities old.manifests) (FlushesOver limbo files batch) held) (HoldsBy (granularities old.manifests) (Flushes batch) held) old.past new.past (change.any_moment told held has (all held))
+        (λ a c left step. plain_moment (granularities old.manifests) held a c step);
+    costs = change.costs;
   }

@@ -1,7 +1,9 @@
 -- A running move that copies: what stays true of it between its steps, and what one step copies.
-use Rattle.std.specs.Prelude.{◌≡◌, ◌≢◌, ◌⊎◌, ◌<◌, ◌≤◌, ◌++◌, ◌+◌, ℕ, zero, suc, Bool, List, [], ◌∷◌, All, Contains, IsTrue, length, map, take, drop, nat_lt, if◌then◌else◌, Option, None, Some, slice_get}
+use Rattle.std.specs.Prelude.{◌≡◌, ◌≢◌, ◌⊎◌, ◌<◌, ◌≤◌, ◌++◌, ◌+◌, ℕ, zero, suc, Bool, List, [], ◌∷◌, All, Contains, IfOk, IsTrue, OnErr, Result, length, map, take, drop, nat_lt, if◌then◌else◌, Option, None, Some, slice_get}
 use Rattle.std.specs.List.{flat_map}
-use Rattle.disk_model.specs.Files.{Name}
+use Rattle.disk_model.specs.Files.{Files, HasFile, Name}
+use Rattle.disk_model.specs.Past.{Passes}
+use Rattle.disk_model.specs.declared.disk.DiskErr.{DiskErr}
 use Rattle.etl_mover.specs.Copying.{last_of}
 use Rattle.etl_mover.specs.Move.{MoveState, part_file}
 use Rattle.etl_mover.specs.Step.{AreFew}
@@ -15,17 +17,19 @@ use Rattle.durable_write.specs.Ends.{End}
 use Rattle.durable_write.specs.Flush.{put_all}
 use Rattle.durable_write.specs.Held.{Filed, entry_of, file_of, samples_of}
 use Rattle.durable_write.specs.Plan.{IsLastOf, of_row}
-use Rattle.tier_store.specs.Change.{Has, IsEither, IsOpen, OnlyReads}
+use Rattle.tier_store.specs.Change.{Costs, Has, HoldsBy, OnlyReads}
 use Rattle.tier_store.specs.Copied.{end_after}
-use Rattle.tier_store.specs.Finding.{BeginsAt, SplitsAt, IsFrom, IsNext, IsUpTo}
+use Rattle.tier_store.specs.Finding.{BeginsAt, IsBadPart, IsFrom, IsGoodUpTo, IsNext, IsUpTo, SaysFile, SplitsAt}
 use Rattle.tier_store.specs.Moving.{RunsBeside, LeavesNames, LeavesLater}
 use Rattle.tier_store.specs.Pinned.{SeenAll, KeepsShown}
 use Rattle.tier_store.specs.Retiring.{oldest}
-use Rattle.tier_store.specs.Revival.{AreWhole, revived}
+use Rattle.tier_store.specs.Revival.{AreWhole, KeepsWhole, revived}
 use Rattle.tier_store.specs.Reviving.{AreBack, free_of, past}
+use Rattle.tier_store.specs.Seen.{Seen, granularities}
 use Rattle.tier_store.specs.Stores.{Stores, list_at}
 use Rattle.tier_store.specs.declared.copying.CopyEnd.{CopyEnd}
 use Rattle.tier_store.specs.declared.copying.CopyEnd.TheVariants as ends
+use Rattle.tier_store.specs.declared.copying.LineLeft.{LineLeft}
 use Rattle.tier_store.specs.declared.copying.NextLine.{NextLine}
 use Rattle.tier_store.specs.declared.copying.NextLine.TheVariants as next
 use Rattle.tier_store.specs.declared.copying.PartLines.{PartLines}
@@ -143,7 +147,7 @@ pub record IsNextPart (from : ℕ) (move : MoveState) (held : Stores) (q : Filed
   pub within : Contains (list_at from held) q
 
 -- the place of the first line of the next part that is later than all that is listed of the row or is to be
-pub record FindsPart (from : ℕ) (move : MoveState) (held : Stores) (lines : PartLines) : Type 0 where
+pub record FindsPart (from : ℕ) (tells : Bool) (files : Files) (move : MoveState) (held : Stores) (lines : PartLines) : Type 0 where
   pub file : Filed
   pub next : IsNextPart from move held file
   pub long : file.entry.len ≡ lines.len
@@ -151,10 +155,11 @@ pub record FindsPart (from : ℕ) (move : MoveState) (held : Stores) (lines : Pa
   pub behind : IsFrom file.entry.head_len lines.later
   pub within : IsUpTo file.entry.len lines.later
   pub splits : IsTrue held.stands → IsNext file.samples (end_after (last_of move.pending move.listed)) file.entry.head_len lines.later
+  pub told : IsTrue tells → HasFile files lines.name (λ b. SaysFile file.entry.head_len (take file.entry.len b) lines.later)
 
 -- the line with which a part goes on, of which one is left
 abbrev pub of_line : PartLines → LaterLines → NextLine
-of_line part (At at) = if nat_lt at part.len then next.Line part.name at part.len else next.Damaged part.name part.len
+of_line part (At at) = if nat_lt at part.len then next.Line (record { name = part.name; at = at; len = part.len }) else next.Damaged part.name part.len
 of_line part (Damaged at) = next.Damaged part.name at
 
 abbrev pub line_of : PartLines → NextLine
@@ -165,7 +170,7 @@ abbrev pub HasLater : ℕ → MoveState → Stores → Type 0
 HasLater from move held = (q : Filed) → IsNextPart from move held q → since (end_after (last_of move.pending move.listed)) q.samples ≢ []
 
 -- a line is left of the next part, and it begins here
-pub record FindsLine (from : ℕ) (move : MoveState) (held : Stores) (name : Name) (at len : ℕ) : Type 0 where
+pub record FindsLine (from : ℕ) (tells : Bool) (files : Files) (move : MoveState) (held : Stores) (name : Name) (at len : ℕ) : Type 0 where
   pub file : Filed
   pub next : IsNextPart from move held file
   pub long : file.entry.len ≡ len
@@ -173,25 +178,32 @@ pub record FindsLine (from : ℕ) (move : MoveState) (held : Stores) (name : Nam
   pub behind : file.entry.head_len ≤ at
   pub named : name ≡ file_of (from + 1, held.rows) file.entry
   pub splits : IsTrue held.stands → SplitsAt file.samples (end_after (last_of move.pending move.listed)) file.entry.head_len at
+  pub good : IsTrue tells → HasFile files name (λ b. IsGoodUpTo file.entry.head_len (take file.entry.len b) at)
 
 -- the file of one of the move's parts is told as damaged at a place of it, which comes only where what is held doesn't stand
-pub record IsDamaged (from : ℕ) (move : MoveState) (held : Stores) (name : Name) (at : ℕ) : Type 0 where
+pub record IsDamaged (from : ℕ) (tells : Bool) (files : Files) (move : MoveState) (held : Stores) (name : Name) (at : ℕ) : Type 0 where
   pub file : Filed
   pub part : Contains (oldest from move.series (length move.parts) held) file
   pub named : name ≡ file_of (from + 1, held.rows) file.entry
   pub within : at ≤ file.entry.len
   pub never : IsTrue held.stands → ⊥
+  pub bad : IsTrue tells → HasFile files name (λ b. IsBadPart file.entry.head_len (take file.entry.len b) at)
+
+-- the line was found, or something of the part is left
+abbrev pub HasLine : ℕ → Bool → Files → MoveState → Stores → Option LineLeft → Type 0
+HasLine from tells files move held None = IsTrue held.stands → HasLater from move held
+HasLine from tells files move held (Some line) = FindsLine from tells files move held line.name line.at line.len
 
 -- such a line is left, or damaged
-abbrev pub SaysLine : ℕ → MoveState → Stores → NextLine → Type 0
-SaysLine from move held (next.Line name at len) = FindsLine from move held name at len
-SaysLine from move held next.End = Unit {0}
-SaysLine from move held (next.Damaged name at) = IsDamaged from move held name at
+abbrev pub SaysLine : ℕ → Bool → Files → MoveState → Stores → NextLine → Type 0
+SaysLine from tells files move held (next.Line line) = FindsLine from tells files move held line.name line.at line.len
+SaysLine from tells files move held next.End = ⊥
+SaysLine from tells files move held (next.Damaged name at) = IsDamaged from tells files move held name at
 
 abbrev pub SaysNext : ℕ → Bool → SeenAll → MoveState → List Filed → Stores → NextLine → Type 0
-SaysNext from tells all move files held (next.Line name at len) = CopiesBeside from tells all move files held × FindsLine from move held name at len
+SaysNext from tells all move files held (next.Line line) = CopiesBeside from tells all move files held × FindsLine from tells all.stores.files move held line.name line.at line.len
 SaysNext from tells all move files held next.End = HasPassedAll from tells all move files held
-SaysNext from tells all move files held (next.Damaged name at) = IsDamaged from move held name at
+SaysNext from tells all move files held (next.Damaged name at) = IsDamaged from tells all.stores.files move held name at
 
 -- the next part was passed, or it has a line that is left or is damaged
 abbrev pub SaysPassed : ℕ → Bool → SeenAll → MoveState → List Filed → Stores → Option NextLine → Type 0
@@ -234,7 +246,7 @@ SaysLines most from tells all move new files held ends.More =
     × (move.at < new.at → All (IsAllLater (from + 1) new more held) (drop new.at (oldest from new.series (length new.parts) held))))
 SaysLines most from tells all move new files held ends.Copied =
     (more : List Filed) × HasCopiedAll from tells all new more held × (IsTrue held.stands → (copied : List Sample) × CopiesLines most from move new files more held copied [])
-SaysLines most from tells all move new files held (ends.Damaged name at) = IsDamaged from move held name at
+SaysLines most from tells all move new files held (ends.Damaged name at) = IsDamaged from tells all.stores.files move held name at
 
 -- These samples were copied, the first of those that were left, and these are left still. Where the first of them comes into the partition of a file
 -- in limbo, what that has comes in front of it. Their lines take so many bytes at most, or are one.
@@ -254,7 +266,7 @@ SaysPart most from tells all k retired move new files held ends.More =
     × (k < new.at → All (IsAllLater (from + 1) new more held) (drop new.at (oldest from new.series (length new.parts) held))) × (end_of (samples_ahead (from + 1) move files held) ≤ end_of (samples_ahead (from + 1) new more held)))
 SaysPart most from tells all k retired move new files held ends.Copied =
     (more : List Filed) × HasCopiedAll from tells all new more held × (IsTrue held.stands → (copied : List Sample) × CopiesNext most from all.limbo retired move files more held copied [])
-SaysPart most from tells all k retired move new files held (ends.Damaged name at) = IsDamaged from move held name at
+SaysPart most from tells all k retired move new files held (ends.Damaged name at) = IsDamaged from tells all.stores.files move held name at
 
 -- What an answer says: some samples were copied and some are left, or all that was left was copied. A file is told as damaged only where
 -- what is held doesn't stand.
@@ -264,17 +276,21 @@ SaysCopied most from tells all retired move new files held ends.More =
     × (IsTrue held.stands → (copied : List Sample) × (rest : List Sample) × CopiesNext most from all.limbo retired move files more held copied rest × (copied ≢ []) × (rest ≢ []))
 SaysCopied most from tells all retired move new files held ends.Copied =
     (more : List Filed) × HasCopiedAll from tells all new more held × (IsTrue held.stands → (copied : List Sample) × CopiesNext most from all.limbo retired move files more held copied [])
-SaysCopied most from tells all retired move new files held (ends.Damaged name at) = IsDamaged from move held name at
+SaysCopied most from tells all retired move new files held (ends.Damaged name at) = IsDamaged from tells all.stores.files move held name at
 
 -- a move copies beside the stores, and these are their files in limbo of the store to which it copies
 abbrev pub CopiesAmong : ℕ → Bool → SeenAll → List Filed → MoveState → List Filed → Stores → Type 0
 CopiesAmong from tells all retired move files held = CopiesBeside from tells all move files held × AreWhole (from + 1) tells all.stores all.limbo held.stands retired
 
--- After an error the move copies beside the stores still: under the doubt that stood before, or beside what was found when that was settled.
-abbrev pub StillCopies : ℕ → Bool → SeenAll → MoveState → List Filed → Stores → Stores → Type 0
-StillCopies from tells all move files before after =
-    (IsOpen tells all.stores before after × CopiesBeside from tells all move files before × CopiesBeside from tells all move files after)
-    ⊎ ((held : Stores) × IsEither before after held × Has tells all.stores held × CopiesBeside from tells all move files held)
+-- what is held stays so, at every moment of a call
+abbrev pub StaysHeld : Bool → Seen → Seen → Stores → Type 0
+StaysHeld tells old new held = Has tells new held × (IsTrue tells → Passes (HoldsBy (granularities old.manifests) (λ before made. made ≡ before) held) old.past new.past)
+
+-- It does so in a step, which says this where it answers, and after an error this is so.
+pub record StepsOn {A : Type 0} (tells : Bool) (old new : Seen) (held : Stores) (Says : A → Type 0) (Still : Type 0) (r : Result A DiskErr) : Type 0 where
+  pub stays : StaysHeld tells old new held
+  pub says : IfOk r Says
+  pub still : OnErr r Still
 
 -- none of these is a file of the move's row in the store to which it moves
 abbrev pub NoneOfMove : MoveState → List Name → Type 0
@@ -283,3 +299,10 @@ NoneOfMove move names = (e : Entry) → Contains names (part_file move.destinati
 -- all other names of the stores that moves copy to have what they had
 abbrev pub LeavesOthers : MoveState → Bool → SeenAll → SeenAll → Type 0
 LeavesOthers move tells old new = (names : List Name) → All (λ (n : Name). 2 ≤ n.0) names → NoneOfMove move names → LeavesNames names tells old new
+
+-- What a step of copying leaves beside the move: what is shown, other names, and files in limbo, which stay whole.
+pub record CopyLeaves {A E : Type 0} (move : MoveState) (tells : Bool) (old new : SeenAll) (end : End A E) : Type 0 where
+  pub shown : KeepsShown tells old new
+  pub leaves : LeavesOthers move tells old new
+  pub whole : KeepsWhole tells old new
+  pub costs : Costs old.stores new.stores end

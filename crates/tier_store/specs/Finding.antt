@@ -64,10 +64,16 @@ abbrev pub IsFrom : ℕ → LaterLines → Type 0
 IsFrom from (At at) = from ≤ at
 IsFrom from (Damaged at) = Unit {0}
 
--- a place is told as damaged only where no line of a sample of this type and year begins, up to the end
-abbrev pub IsTold : Files → Name → ℕ → PayloadType → ℤ → LaterLines → Type 0
-IsTold files name end ty year (At at) = Unit {0}
-IsTold files name end ty year (Damaged at) = HasFile files name (λ b. IsSampleStart ty year (take (end - at) (drop at b)) → ⊥)
+-- between two places of bytes stand lines of samples of this type and year
+pub record AreLinesFrom (ty : PayloadType) (year : ℤ) (from at : ℕ) (bytes : List ℕ) : Type 0 where
+  pub samples : List Sample
+  pub are : AreSamples ty year samples
+  pub text : take (at - from) (drop from bytes) ≡ lines_of samples
+
+-- Up to the place that is told stand lines of samples. Where it is damaged, none begins there, up to the end.
+abbrev pub IsTold : Files → Name → ℕ → ℕ → PayloadType → ℤ → LaterLines → Type 0
+IsTold files name from end ty year (At at) = HasFile files name (AreLinesFrom ty year from at)
+IsTold files name from end ty year (Damaged at) = HasFile files name (λ b. AreLinesFrom ty year from at b × (IsSampleStart ty year (take (end - at) (drop at b)) → ⊥))
 
 -- no place is told sooner than this one
 abbrev pub IsNoSooner : ℕ → LaterLines → Type 0
@@ -80,3 +86,26 @@ pub record BeginsWithHeader (head_len : ℕ) (bytes line : List ℕ) (info : Pay
   pub text : take head_len bytes ≡ line ++ 10 ∷ []
   pub whole : HasNoNewline line
   pub header : IsHeaderLine line info
+
+-- WHERE A FILE IS DAMAGED
+
+-- a header's line of this length, and lines of samples of its type and year, stand up to the place
+pub record IsGoodUpTo (head_len : ℕ) (bytes : List ℕ) (at : ℕ) : Type 0 where
+  pub line : List ℕ
+  pub info : PayloadInfo
+  pub samples : List Sample
+  pub header : BeginsWithHeader head_len bytes line info
+  pub are : AreSamples info.ty info.year samples
+  pub text : take at bytes ≡ line ++ 10 ∷ lines_of samples
+
+-- A file is damaged, told at this place: it doesn't begin with a header's line of this length, which is told at 0; no line of a sample begins here, behind
+-- the header's line and lines of samples; or one does, and can't be copied behind what the next store has.
+pub data IsBadPart (head_len : ℕ) (bytes : List ℕ) (at : ℕ) : Type 0 where
+  no_header : at ≡ 0 → ((line : List ℕ) (info : PayloadInfo) → BeginsWithHeader head_len bytes line info → ⊥) → IsBadPart head_len bytes at
+  no_line : (good : IsGoodUpTo head_len bytes at) → (IsSampleStart good.info.ty good.info.year (drop at bytes) → ⊥) → IsBadPart head_len bytes at
+  no_file : IsGoodUpTo head_len bytes at → IsBadPart head_len bytes at
+
+-- what a search tells of a file that is listed so long
+abbrev pub SaysFile : ℕ → List ℕ → LaterLines → Type 0
+SaysFile head_len bytes (At at) = IsGoodUpTo head_len bytes at
+SaysFile head_len bytes (Damaged at) = IsBadPart head_len bytes at

@@ -114,16 +114,6 @@ pub record LeavesKept (tells : Bool) (pins : FinMap nat_cmp PinOf) (copied : Lis
   pub files : IsTrue tells → SparesKept new.stores pins copied old.limbo old.stores.files new.stores.files
   pub any_moment : IsTrue tells → Passes (SparesKept new.stores pins copied old.limbo) old.stores.past new.stores.past
 
--- whatever isn't in limbo, and what is listed or needed, has what it had, but for the journals of store 0
-abbrev pub SparesFiles : Seen → FinMap nat_cmp PinOf → List Name → List Retired → Files → Files → Type 0
-SparesFiles at pins copied limbo old new = (n : Name) → n.0 ≢ 0 → ((r : Retired) → Contains limbo r → r.name ≡ n → IsKeptName at pins copied n) → new n ≡ old n
-
--- Where a doubt is settled first, so much is left: the journals alone may change too.
-pub record LeavesKeptFiles (tells : Bool) (pins : FinMap nat_cmp PinOf) (copied : List Name) (old new : SeenAll) : Type 0 where
-  pub shown : (name : Name) (bytes : List ℕ) → IsKeptName new.stores pins copied name → Shows tells old name bytes → Shows tells new name bytes
-  pub files : IsTrue tells → SparesFiles new.stores pins copied old.limbo old.stores.files new.stores.files
-  pub any_moment : IsTrue tells → Passes (SparesFiles new.stores pins copied old.limbo) old.stores.past new.stores.past
-
 -- THE REMOVAL
 
 -- Just the names of those of the files that go and that are there, each once.

@@ -68,10 +68,12 @@ pub(crate) fn header_of(
     work: &mut Vec<u8>,
 ) -> Result<Option<PayloadInfo>, AllocError>
     ensures header { IfOk result (λ o. (line : List ℕ) (info : PayloadInfoValue) → head.now ≡ line ++ 10 ∷ [] → HasNoNewline line → IsHeaderLine line info → o ≡ Some info) }
+    ensures line { IfOk result (λ o. IfSome o (λ info. (line : List ℕ) × (head.now ≡ line ++ 10 ∷ []) × HasNoNewline line × IsHeaderLine line info)) }
     ensures year { IfOk result (λ o. IfSome o (λ info. IsSampleYear info.year)) }
 {
     let end = line_len(head);
-    if end == head.len() {
+    let whole = end + 1 == head.len();
+    if !whole {
         return Ok(None);
     }
     match header_of_line(alloc, &head[..end], work) {

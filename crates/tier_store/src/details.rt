@@ -1,21 +1,19 @@
 // What is told of a variable.
-ghost use Rattle.std.specs.Prelude.{◌≡◌, ◌≤◌, ◌<◌, ◌++◌, [], ℕ, List, All, Some, None, filter, length, slice_get, map, IfOk, OnOk, IsErrOf, IsTrue};
+ghost use Rattle.std.specs.Prelude.{◌≡◌, ◌≤◌, ◌<◌, ◌++◌, List, Ok, Some, None, length, slice_get, map, IfOk, IsErrOf, IsTrue};
 ghost use Rattle.act_model.specs.Details.{first_time, last_time};
 ghost use Rattle.act_model.specs.declared.acts.Answer.TheVariants.{NoSuchVariable};
 ghost use Rattle.disk_model.specs.Files.{Rose};
-ghost use Rattle.pv_catalog.specs.Rows.{HasName};
-ghost use Rattle.durable_write.specs.Ends.{IsCut, end_of_disk};
+ghost use Rattle.durable_write.specs.Ends.{end_of_disk};
 ghost use Rattle.tier_store.specs.Stores.{Stores, samples_in};
 ghost use Rattle.tier_store.specs.Seen.{seen};
-ghost use Rattle.tier_store.specs.Change.{Has, IsOpen, OnlyReads};
+ghost use Rattle.tier_store.specs.Change.{Has, OnlyReads};
 ghost use Rattle.tier_store.specs.Counting.{ReadsDisk, behind};
-ghost use Rattle.tier_store.specs.Details.{AreCounted, IsDescribed, IsTally, SaysDescribed};
-ghost use Rattle.tier_store.specs.Moving.{LeavesLater};
-ghost use Rattle.tier_store.specs.Opening.{answer_of, end_of_answer};
-ghost use Rattle.tier_store.specs.Pinned.{seen_all, KeepsShown};
+ghost use Rattle.tier_store.specs.Details.{IsDescribed, IsTally, SaysDescribed};
+ghost use Rattle.tier_store.specs.Frame.{Frame};
+ghost use Rattle.tier_store.specs.Opening.{end_of_answer};
+ghost use Rattle.tier_store.specs.Pinned.{seen_all};
 ghost use Rattle.tier_store.specs.Pinning.{HasNoName, entries_of};
-ghost use Rattle.tier_store.specs.Revival.{KeepsWhole};
-ghost use Rattle.tier_store.specs.Settling.{SettlesAndReads};
+ghost use Rattle.tier_store.specs.Telling.{ReadsOf};
 ghost use Rattle.tier_store.specs.Tallying.{RiseFrom, end_of_files, entries_in, listed_count};
 
 use crate::TierStore;
@@ -98,8 +96,7 @@ impl<D: Disk> TierStore<D> {
         ensures ends { IfOk result (λ t. behind t.last ≡ end_of_files 0 (entries_in row self.old.manifests.items)) }
         ensures kept { (held : Stores) → Has D.tells (seen D.Disk self.old) held → Has D.tells (seen D.Disk self.new) held }
         ensures same { (self.new.catalogue ≡ self.old.catalogue) × (self.new.manifests ≡ self.old.manifests) × (self.new.pinned ≡ self.old.pinned) × (self.new.limbo ≡ self.old.limbo) }
-        ensures shown { KeepsShown D.tells (seen_all D.Disk self.old) (seen_all D.Disk self.new) }
-        ensures leaves { LeavesLater D.tells (seen_all D.Disk self.old) (seen_all D.Disk self.new) }
+        ensures frame { Frame D.tells (seen_all D.Disk self.old) (seen_all D.Disk self.new) }
         ensures reads { OnlyReads D.tells (seen D.Disk self.old) (seen D.Disk self.new) (end_of_disk result) }
     {
         self.tally_row(row)
@@ -145,6 +142,7 @@ impl<D: Disk> TierStore<D> {
         requires has { (held : Stores) × Has D.tells (seen D.Disk self.old) held }
 
         ensures says { (held : Stores) → Has D.tells (seen D.Disk self.old) held → IfOk result (λ a. SaysDescribed D.tells name.now tail.now a held) }
+        ensures unknown { HasNoName self.old.catalogue.rows name.now → (result ≡ Ok NoSuchVariable) × (self.new ≡ self.old) }
         ensures same { (self.new.catalogue ≡ self.old.catalogue) × (self.new.manifests ≡ self.old.manifests) × (self.new.pinned ≡ self.old.pinned) × (self.new.limbo ≡ self.old.limbo) }
         ensures reads { IsTrue D.tells → ReadsDisk (D.files self.old.disk) (D.files self.new.disk) (D.opened self.old.disk) (D.opened self.new.disk) (D.past self.old.disk) (D.past self.new.disk) }
         ensures faults { D.faults self.old.disk ≤ D.faults self.new.disk }
@@ -157,50 +155,26 @@ impl<D: Disk> TierStore<D> {
         Ok(Answer::Described(details))
     }
 
-    // Settles what stands in doubt, and then tells of a variable.
-    fn describe_settled(
-        &mut self,
-        name: &[u8],
-        tail: &Samples,
-    ) -> Result<Answer<D::Reader>, DiskErr>
-        requires begun { (before : Stores) × (after : Stores) × IsOpen D.tells (seen D.Disk self.old) before after }
-
-        ensures settles { SettlesAndReads D.tells (SaysDescribed D.tells name.now tail.now) (seen D.Disk self.old) (seen D.Disk self.new) (end_of_answer (answer_of result)) }
-        ensures shown { KeepsShown D.tells (seen_all D.Disk self.old) (seen_all D.Disk self.new) }
-        ensures leaves { LeavesLater D.tells (seen_all D.Disk self.old) (seen_all D.Disk self.new) }
-        ensures whole { KeepsWhole D.tells (seen_all D.Disk self.old) (seen_all D.Disk self.new) }
-        ensures pins { self.new.pinned ≡ self.old.pinned }
-        ensures limbo { self.new.limbo ≡ self.old.limbo }
-    {
-        self.review()?;
-        self.describe_named(name, tail)
-    }
-
     /// Tells of a variable: its name, what else the catalogue has of it, its state, how many files each store lists of it, how many of its
     /// samples are durable and how many are accepted, and the moments of the first and the last of these. `tail` stands for the accepted samples that no store
-    /// lists yet, which are behind all that is durable.
+    /// lists yet, which are behind all that is durable. It needs that nothing stands in doubt, as after `review`.
     ///
     /// By the entries alone the samples that two stores list, as while a move is half done, would count twice; so the file of an earlier
     /// store is read that a later store's samples reach into. Where the disk doesn't tell its files, or somebody has damaged listed ones,
     /// nothing is said of the four numbers.
     ///
-    /// `NoSuchVariable` comes exactly where no row has the name, before or after a change that stands in doubt is settled. `DiskFault`
-    /// comes only where the disk's count of faults rose in the call. `Memory` comes also where no `u64` has a number of samples.
+    /// `NoSuchVariable` comes exactly where no row has the name. `DiskFault` comes only where the disk's count of faults rose in the call.
+    /// `Memory` comes also where no `u64` has a number of samples.
     pub fn details(&mut self, name: &[u8], tail: &Samples) -> Answer<D::Reader>
-        requires begun { (before : Stores) × (after : Stores) × IsOpen D.tells (seen D.Disk self.old) before after }
+        requires has { (held : Stores) × Has D.tells (seen D.Disk self.old) held }
 
+        ensures says { (held : Stores) → Has D.tells (seen D.Disk self.old) held → ReadsOf (SaysDescribed D.tells name.now tail.now) (end_of_answer result) held }
         ensures unknown { HasNoName self.old.catalogue.rows name.now → (result ≡ NoSuchVariable) × (self.new ≡ self.old) }
-        ensures settles { (i : ℕ) → HasName self.old.catalogue.rows i name.now
-            → SettlesAndReads D.tells (SaysDescribed D.tells name.now tail.now) (seen D.Disk self.old) (seen D.Disk self.new) (end_of_answer result) }
-        ensures shown { KeepsShown D.tells (seen_all D.Disk self.old) (seen_all D.Disk self.new) }
-        ensures leaves { LeavesLater D.tells (seen_all D.Disk self.old) (seen_all D.Disk self.new) }
-        ensures whole { KeepsWhole D.tells (seen_all D.Disk self.old) (seen_all D.Disk self.new) }
-        ensures pins { self.new.pinned ≡ self.old.pinned }
-        ensures limbo { self.new.limbo ≡ self.old.limbo }
+        ensures kept { (held : Stores) → Has D.tells (seen D.Disk self.old) held → Has D.tells (seen D.Disk self.new) held }
+        ensures same { (self.new.catalogue ≡ self.old.catalogue) × (self.new.manifests ≡ self.old.manifests) × (self.new.pinned ≡ self.old.pinned) × (self.new.limbo ≡ self.old.limbo) }
+        ensures frame { Frame D.tells (seen_all D.Disk self.old) (seen_all D.Disk self.new) }
+        ensures reads { OnlyReads D.tells (seen D.Disk self.old) (seen D.Disk self.new) (end_of_answer result) }
     {
-        let Some(_) = self.catalogue.find(name) else {
-            return Answer::NoSuchVariable;
-        };
-        told(self.describe_settled(name, tail))
+        told(self.describe_named(name, tail))
     }
 }

@@ -6,11 +6,11 @@ ghost use Rattle.pb_lines.specs.File.{IsFile};
 ghost use Rattle.series_model.specs.declared.sample.Sample.{Sample};
 ghost use Rattle.durable_write.specs.Ends.{end_of_disk};
 ghost use Rattle.durable_write.specs.Held.{Filed, file_of};
-ghost use Rattle.tier_store.specs.Change.{Has, IsListedIn, OnlyReads};
+ghost use Rattle.tier_store.specs.Change.{Has, IsListedIn};
+ghost use Rattle.tier_store.specs.Copying.{OnlyLooks};
 ghost use Rattle.tier_store.specs.Counting.{HasLines, ReadsDisk, behind};
-ghost use Rattle.tier_store.specs.Finding.{BeginsWithHeader, IsFrom, IsNext, IsNoSooner, IsTold, IsUpTo, SkipsLines};
-ghost use Rattle.tier_store.specs.Moving.{LeavesLater};
-ghost use Rattle.tier_store.specs.Pinned.{seen_all, KeepsShown};
+ghost use Rattle.tier_store.specs.Finding.{IsFrom, IsNext, IsNoSooner, IsTold, IsUpTo, SaysFile, SkipsLines};
+ghost use Rattle.tier_store.specs.Pinned.{seen_all};
 ghost use Rattle.tier_store.specs.Seen.{seen};
 ghost use Rattle.tier_store.specs.Stores.{Stores, list_at};
 
@@ -95,12 +95,14 @@ fn next_between<D: Disk>(
 ) -> Result<LaterLines, DiskErr>
     requires within { from ≤ end }
     requires there { IsTrue D.tells → HasFile (D.files disk.old) name.now (λ b. end ≤ length b) }
-    ensures next { IsTrue D.tells → (samples : List Sample) → HasLines (D.files disk.old) name.now from end ty year.now.year samples → IfOk result (IsNext samples (behind last) from) }
-    ensures told { IsTrue D.tells → IfOk result (IsTold (D.files disk.old) name.now end ty year.now.year) }
+    ensures next { IsTrue D.tells → (samples : List Sample) → HasLines (D.files disk.old) name.now from end ty year.now.year samples
+        → IfOk result (IsNext samples (behind last) from) }
+    ensures told { IsTrue D.tells → IfOk result (IsTold (D.files disk.old) name.now from end ty year.now.year) }
     ensures no_sooner { IfOk result (IsNoSooner from) }
     ensures within { IfOk result (IsUpTo end) }
     ensures behind { IfOk result (IsFrom from) }
-    ensures reads { IsTrue D.tells → ReadsDisk (D.files disk.old) (D.files disk.new) (D.opened disk.old) (D.opened disk.new) (D.past disk.old) (D.past disk.new) }
+    ensures reads { IsTrue D.tells
+        → ReadsDisk (D.files disk.old) (D.files disk.new) (D.opened disk.old) (D.opened disk.new) (D.past disk.old) (D.past disk.new) }
     ensures faults { D.faults disk.old ≤ D.faults disk.new }
     ensures cause { IsErrOf result DiskErr.Fault → Rose (D.faults disk.old) (D.faults disk.new) }
 {
@@ -135,13 +137,14 @@ fn find_next<D: Disk>(
     last: Option<u64>,
 ) -> Result<LaterLines, DiskErr>
     requires there { IsTrue D.tells → HasFile (D.files disk.old) name.now (λ b. len ≤ length b) }
-    ensures next { IsTrue D.tells → (head : List ℕ) (info : PayloadInfoValue) (samples : List Sample) → HasFile (D.files disk.old) name.now (λ b. IsFile (take len b) head info samples) → head_len ≡ length head + 1
+    ensures next { IsTrue D.tells → (head : List ℕ) (info : PayloadInfoValue) (samples : List Sample)
+        → HasFile (D.files disk.old) name.now (λ b. IsFile (take len b) head info samples) → head_len ≡ length head + 1
         → IfOk result (IsNext samples (behind last) head_len) }
-    ensures told { IsTrue D.tells → (line : List ℕ) (info : PayloadInfoValue) → HasFile (D.files disk.old) name.now (λ b. BeginsWithHeader head_len (take len b) line info)
-        → IfOk result (λ later. IsTold (D.files disk.old) name.now len info.ty info.year later × IsNoSooner head_len later) }
+    ensures told { IsTrue D.tells → IfOk result (λ later. HasFile (D.files disk.old) name.now (λ b. SaysFile head_len (take len b) later)) }
     ensures within { IfOk result (IsUpTo len) }
     ensures behind { IfOk result (IsFrom head_len) }
-    ensures reads { IsTrue D.tells → ReadsDisk (D.files disk.old) (D.files disk.new) (D.opened disk.old) (D.opened disk.new) (D.past disk.old) (D.past disk.new) }
+    ensures reads { IsTrue D.tells
+        → ReadsDisk (D.files disk.old) (D.files disk.new) (D.opened disk.old) (D.opened disk.new) (D.past disk.old) (D.past disk.new) }
     ensures faults { D.faults disk.old ≤ D.faults disk.new }
     ensures cause { IsErrOf result DiskErr.Fault → Rose (D.faults disk.old) (D.faults disk.new) }
 {
@@ -164,8 +167,8 @@ impl<D: Disk> TierStore<D> {
     /// Finds the place in a file that a store lists, from 1 to 3, where the lines of samples begin that are later than the moment `after`,
     /// in nanoseconds since 1970-01-01T00:00:00Z; without a moment, those of all samples. It is where a move of the file goes on behind
     /// what the next store has. It needs that no change stands in doubt. `Damaged` comes only where what is held doesn't stand, or the
-    /// disk doesn't tell its files. Where the file has its header, no line of a sample begins at the place that it tells, which isn't
-    /// before the header's end.
+    /// disk doesn't tell its files. It tells 0 where the file doesn't begin with its header's line; otherwise lines of samples stand up to
+    /// the place that it tells, and none begins there.
     ///
     /// `Fault` comes only where the disk's count of faults rose in the call.
     pub fn find_later(
@@ -178,19 +181,15 @@ impl<D: Disk> TierStore<D> {
         requires has { (held : Stores) × Has D.tells (seen D.Disk self.old) held }
 
         ensures found { IsTrue D.tells → (held : Stores) → IsTrue held.stands → Has D.tells (seen D.Disk self.old) held
-            → IfOk result (λ later. (i : ℕ) × (store ≡ i + 1) × (f : Filed) × Contains (list_at i held) f × (f.entry ≡ entry.now) × IsNext f.samples (behind after) entry.now.head_len later) }
-        ensures told { IsTrue D.tells → (line : List ℕ) (info : PayloadInfoValue) → HasFile (D.files self.old.disk) (file_of (store, self.old.catalogue.rows) entry.now) (λ b. BeginsWithHeader entry.now.head_len (take entry.now.len b) line info)
-            → IfOk result (λ later. IsTold (D.files self.old.disk) (file_of (store, self.old.catalogue.rows) entry.now) entry.now.len info.ty info.year later × IsNoSooner entry.now.head_len later) }
+            → IfOk result (λ later. (i : ℕ) × (store ≡ i + 1) × (f : Filed) × Contains (list_at i held) f × (f.entry ≡ entry.now)
+            × IsNext f.samples (behind after) entry.now.head_len later) }
+        ensures told { IsTrue D.tells
+            → IfOk result (λ later. HasFile (D.files self.old.disk) (file_of (store, self.old.catalogue.rows) entry.now)
+            (λ b. SaysFile entry.now.head_len (take entry.now.len b) later)) }
         ensures within { IfOk result (IsUpTo entry.now.len) }
         ensures behind { IfOk result (IsFrom entry.now.head_len) }
-        ensures kept { (held : Stores) → Has D.tells (seen D.Disk self.old) held → Has D.tells (seen D.Disk self.new) held }
-        ensures same { (self.new.catalogue ≡ self.old.catalogue) × (self.new.manifests ≡ self.old.manifests) }
-        ensures shown { KeepsShown D.tells (seen_all D.Disk self.old) (seen_all D.Disk self.new) }
-        ensures leaves { LeavesLater D.tells (seen_all D.Disk self.old) (seen_all D.Disk self.new) }
-        ensures pins { self.new.pinned ≡ self.old.pinned }
-        ensures limbo { self.new.limbo ≡ self.old.limbo }
-        ensures reads { OnlyReads D.tells (seen D.Disk self.old) (seen D.Disk self.new) (end_of_disk result) }
-        ensures opened { IsTrue D.tells → D.opened self.new.disk ≡ D.opened self.old.disk }
+        ensures looks { OnlyLooks D.tells (seen_all D.Disk self.old) (seen_all D.Disk self.new) (end_of_disk result) }
+        ensures same { (self.new.pinned ≡ self.old.pinned) × (self.new.limbo ≡ self.old.limbo) }
     {
         let name = file_name(self.alloc, store, self.catalogue.rows(), entry)?;
         let later = find_next(

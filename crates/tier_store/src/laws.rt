@@ -29,12 +29,12 @@ ghost use Rattle.tier_store.specs.Copied.{IsPartFile, WritesNext, end_after};
 ghost use Rattle.tier_store.specs.Copying.{CopiesBeside, KnowsHeads};
 ghost use Rattle.tier_store.specs.Finding.{SplitsAt};
 ghost use Rattle.tier_store.specs.Retiring.{oldest};
-ghost use Rattle.tier_store.specs.Limbo.{LimboStands, LeavesKeptFiles};
+ghost use Rattle.tier_store.specs.Limbo.{LimboStands, LeavesKept};
 ghost use Rattle.tier_store.specs.Moving.{GoesBeside, LeavesNames, RunsBeside, names_of};
 ghost use Rattle.tier_store.specs.Pinned.{beside, NoneOf, PinsStand, KeepsShown};
 ghost use Rattle.tier_store.specs.declared.limbo.Retired.{Retired};
-ghost use Rattle.tier_store.specs.Change.{IsKnown, Has, HasEither, IsOpen, Acts, Flushes, CanList, flushing, SameFiles};
-ghost use Rattle.tier_store.specs.Given.{ActsGiven};
+ghost use Rattle.tier_store.specs.Change.{IsKnown, Has, HasEither, IsOpen, Changes, Flushes, CanList, flushing, SameFiles};
+ghost use Rattle.tier_store.specs.Given.{ChangesGiven};
 ghost use Rattle.tier_store.specs.Revival.{AreWhole, FlushesOver, flushing_over, revived, fresh};
 
 use disk_model::Disk;
@@ -78,9 +78,9 @@ pub fn a_flush_revives<D: Disk>()
 /// Where no file of store 1 is in limbo nothing need be known of limbo, and a flush is one of what is listed alone.
 pub fn a_flush_without_limbo<D: Disk>()
     ensures whole { (disk : D) (catalogue : CatalogueState) (ms : List ManifestState) (limbo : List Retired) (stands : Bool) → NoneOf 1 limbo → AreWhole 0 D.tells (seen_on D.files D.opened D.past D.faults catalogue ms disk) limbo stands [] }
-    ensures acts { (disk after : D) (catalogue later : CatalogueState) (ms ns : List ManifestState) (limbo : List Retired) (batch : List RowSamples) (end : End ℕ ⊥) → NoneOf 1 limbo
-        → ActsGiven (λ held. AreWhole 0 D.tells (seen_on D.files D.opened D.past D.faults catalogue ms disk) limbo held.stands []) D.tells (flushing_over limbo [] batch) (seen_on D.files D.opened D.past D.faults catalogue ms disk) (seen_on D.files D.opened D.past D.faults later ns after) end
-        → Acts D.tells (flushing batch) (seen_on D.files D.opened D.past D.faults catalogue ms disk) (seen_on D.files D.opened D.past D.faults later ns after) end }
+    ensures changes { (disk after : D) (catalogue later : CatalogueState) (ms ns : List ManifestState) (limbo : List Retired) (batch : List RowSamples) (end : End ℕ ⊥) → NoneOf 1 limbo
+        → ChangesGiven (λ held. AreWhole 0 D.tells (seen_on D.files D.opened D.past D.faults catalogue ms disk) limbo held.stands []) D.tells (flushing_over limbo [] batch) (seen_on D.files D.opened D.past D.faults catalogue ms disk) (seen_on D.files D.opened D.past D.faults later ns after) end
+        → Changes D.tells (flushing batch) (seen_on D.files D.opened D.past D.faults catalogue ms disk) (seen_on D.files D.opened D.past D.faults later ns after) end }
 {}
 
 /// Files in limbo of each store stay whole while a doubt is settled.
@@ -106,7 +106,7 @@ pub fn pins_stand<D: Disk>()
         → KeepsShown D.tells (beside (seen_on D.files D.opened D.past D.faults catalogue ms old) limbo) (beside (seen_on D.files D.opened D.past D.faults later ns new) left)
         → PinsStand D.tells (beside (seen_on D.files D.opened D.past D.faults catalogue ms old) limbo) pins → PinsStand D.tells (beside (seen_on D.files D.opened D.past D.faults later ns new) left) pins }
     ensures swept { (old new : D) (catalogue later : CatalogueState) (ms ns : List ManifestState) (limbo left : List Retired) (pins : FinMap nat_cmp PinOf) (copied : List Name)
-        → LeavesKeptFiles D.tells pins copied (beside (seen_on D.files D.opened D.past D.faults catalogue ms old) limbo) (beside (seen_on D.files D.opened D.past D.faults later ns new) left)
+        → LeavesKept D.tells pins copied (beside (seen_on D.files D.opened D.past D.faults catalogue ms old) limbo) (beside (seen_on D.files D.opened D.past D.faults later ns new) left)
         → PinsStand D.tells (beside (seen_on D.files D.opened D.past D.faults catalogue ms old) limbo) pins → PinsStand D.tells (beside (seen_on D.files D.opened D.past D.faults later ns new) left) pins }
     ensures fewer { (disk : D) (catalogue : CatalogueState) (ms : List ManifestState) (limbo : List Retired) (pins : FinMap nat_cmp PinOf) (n : ℕ)
         → PinsStand D.tells (beside (seen_on D.files D.opened D.past D.faults catalogue ms disk) limbo) pins → PinsStand D.tells (beside (seen_on D.files D.opened D.past D.faults catalogue ms disk) limbo) (remove pins n) }

@@ -3,15 +3,10 @@ ghost use Rattle.std.specs.Prelude.{◌≡◌, ◌≤◌, ◌<◌, length, IfOk,
 ghost use Rattle.std.specs.BTreeMap.{get};
 ghost use Rattle.std.specs.Ordering.{nat_cmp};
 ghost use Rattle.disk_model.specs.declared.disk.DiskErr.TheVariants.{Memory};
-ghost use Rattle.durable_write.specs.Ends.{end_of_disk};
 ghost use Rattle.tier_store.specs.Beginning.{AreNested, IsBegun, SaysBegun};
 ghost use Rattle.tier_store.specs.Stores.{Stores};
-ghost use Rattle.tier_store.specs.Seen.{seen, IsSettled, granularities};
-ghost use Rattle.tier_store.specs.Change.{Has, IsOpen};
-ghost use Rattle.tier_store.specs.Moving.{LeavesLater};
-ghost use Rattle.tier_store.specs.Pinned.{seen_all, KeepsShown};
-ghost use Rattle.tier_store.specs.Revival.{KeepsWhole};
-ghost use Rattle.tier_store.specs.Settling.{Settles};
+ghost use Rattle.tier_store.specs.Seen.{seen, granularities};
+ghost use Rattle.tier_store.specs.Change.{Has};
 
 use crate::TierStore;
 use disk_model::{Disk, DiskErr};
@@ -63,16 +58,21 @@ fn begin_chosen(
 }
 
 impl<D: Disk> TierStore<D> {
-    // Begins the move that is to be made where no change stands in doubt.
-    fn begin_settled(
+    /// Begins the move that is to be made from the store at a place, which is its number less one, to the next: of the least row that has
+    /// one to make and none running. `running` tells by its row the number of each move that runs. How many files of a row are to move is
+    /// said by `rule`, which has the moment that counts as now, and by what both stores list of it.
+    ///
+    /// It needs that nothing stands in doubt, as after `review`, and calls no disk. Nothing is copied yet, and what is held stays. There is no
+    /// error but want of memory.
+    pub fn begin_move(
         &self,
         place: usize,
         rule: &MoveRule,
         running: &BTreeMap<u32, u32>,
     ) -> Result<MoveBegun, DiskErr>
         requires within { place < 2 }
-        requires three { length self.now.manifests.items ≡ 3 }
         requires nested { AreNested place (granularities self.now.manifests.items) }
+        requires has { (held : Stores) × Has D.tells (seen D.Disk self.now) held }
 
         ensures says { (held : Stores) → Has D.tells (seen D.Disk self.now) held → IfOk result (λ b. SaysBegun D.tells place rule.now (get nat_cmp running.now) self.now.manifests.items b held) }
         ensures memory { IfErr result (λ e. e ≡ Memory) }
@@ -83,34 +83,5 @@ impl<D: Disk> TierStore<D> {
         let rows = self.catalogue.rows();
         let begun = begin_chosen(self.alloc, rows, source, destination, rule, running)?;
         Ok(begun)
-    }
-
-    /// Begins the move that is to be made from the store at a place, which is its number less one, to the next: of the least row that has
-    /// one to make and none running. `running` tells by its row the number of each move that runs. How many files of a row are to move is
-    /// said by `rule`, which has the moment that counts as now, and by what both stores list of it.
-    ///
-    /// A change that stands in doubt is settled first, for which the disk is read; else the disk isn't called. Nothing is copied yet, and
-    /// what is held stays. `Fault` comes only where the disk's count of faults rose in the call, which then settled nothing. `Memory` comes
-    /// where memory is wanting, for the settling or for the choice behind it: a doubt stands as before then, or it is settled.
-    pub fn begin_move(
-        &mut self,
-        place: usize,
-        rule: &MoveRule,
-        running: &BTreeMap<u32, u32>,
-    ) -> Result<MoveBegun, DiskErr>
-        requires within { place < 2 }
-        requires nested { AreNested place (granularities self.old.manifests.items) }
-        requires begun { (before : Stores) × (after : Stores) × IsOpen D.tells (seen D.Disk self.old) before after }
-
-        ensures settles { Settles D.tells (SaysBegun D.tells place rule.now (get nat_cmp running.now) self.new.manifests.items) (seen D.Disk self.old) (seen D.Disk self.new) (end_of_disk result) }
-        ensures shown { KeepsShown D.tells (seen_all D.Disk self.old) (seen_all D.Disk self.new) }
-        ensures leaves { LeavesLater D.tells (seen_all D.Disk self.old) (seen_all D.Disk self.new) }
-        ensures whole { KeepsWhole D.tells (seen_all D.Disk self.old) (seen_all D.Disk self.new) }
-        ensures pins { self.new.pinned ≡ self.old.pinned }
-        ensures limbo { self.new.limbo ≡ self.old.limbo }
-        ensures nothing { IsSettled (seen D.Disk self.old) → self.new ≡ self.old }
-    {
-        self.review()?;
-        self.begin_settled(place, rule, running)
     }
 }

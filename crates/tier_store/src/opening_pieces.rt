@@ -1,8 +1,7 @@
 // The opening of pinned pieces, and the end of pins.
-ghost use Rattle.std.specs.Prelude.{◌≡◌, ◌≤◌, ◌+◌, ℕ, List, length, slice_get, Some, None, Ok, Err, IsTrue, true};
-ghost use Rattle.std.specs.FinMap.{get, remove};
+ghost use Rattle.std.specs.Prelude.{◌≡◌, length, slice_get, Some, None, Ok, Err};
+ghost use Rattle.std.specs.FinMap.{get};
 ghost use Rattle.act_model.specs.declared.acts.Answer.TheVariants.{NoPiece};
-ghost use Rattle.disk_model.specs.declared.disk.DiskErr.{DiskErr as DiskErrValue};
 ghost use Rattle.pin_table.specs.declared.table.PinErr.{PinErr as PinErrValue};
 ghost use Rattle.pinned_pieces.specs.Pieces.{PinOf, asked};
 ghost use Rattle.pinned_pieces.specs.declared.piece.PinnedFile.{PinnedFile as Piece};

@@ -1,5 +1,5 @@
 // The pinning of a row's files for a query.
-ghost use Rattle.std.specs.Prelude.{◌≡◌, ◌<◌, ◌++◌, ◌∷◌, [], ℕ, List, All, length, map, filter, IfOk, OnOk, OnErr, IfErr};
+ghost use Rattle.std.specs.Prelude.{◌≡◌, ◌<◌, ◌++◌, ◌∷◌, [], ℕ, List, All, Ok, length, map, filter, IfOk, OnOk, OnErr, IfErr};
 ghost use Rattle.act_model.specs.declared.acts.Answer.TheVariants.{NoSuchVariable};
 ghost use Rattle.disk_model.specs.declared.disk.DiskErr.TheVariants.{Memory};
 ghost use Rattle.piece_choice.specs.Choosing.{IsChoice};
@@ -8,13 +8,11 @@ ghost use Rattle.pv_catalog.specs.Rows.{HasName};
 ghost use Rattle.durable_write.specs.Ends.{IsCut};
 ghost use Rattle.tier_store.specs.Stores.{Stores};
 ghost use Rattle.tier_store.specs.Seen.{seen};
-ghost use Rattle.tier_store.specs.Change.{IsOpen};
-ghost use Rattle.tier_store.specs.Opening.{answer_of, end_of_answer};
-ghost use Rattle.tier_store.specs.Moving.{LeavesLater};
-ghost use Rattle.tier_store.specs.Pinned.{seen_all, PinsStand, KeepsShown};
+ghost use Rattle.tier_store.specs.Change.{Has};
+ghost use Rattle.tier_store.specs.Opening.{end_of_answer};
+ghost use Rattle.tier_store.specs.Pinned.{seen_all, PinsStand};
 ghost use Rattle.tier_store.specs.Pinning.{HasNoName, PinsOf, SaysPinned, files_to, listed_in, has_bytes, piece_of};
-ghost use Rattle.tier_store.specs.Revival.{KeepsWhole};
-ghost use Rattle.tier_store.specs.Settling.{Settles};
+ghost use Rattle.tier_store.specs.Telling.{SaysOf};
 
 use crate::TierStore;
 use crate::opening_pieces::told;
@@ -157,6 +155,7 @@ impl<D: Disk> TierStore<D> {
         requires three { length self.old.manifests.items ≡ 3 }
 
         ensures pinned { IfOk result (PinsOf self.old.catalogue.rows (λ i. listed_in i self.old.manifests.items) who name.now query tail self.old.pinned self.new.pinned) }
+        ensures unknown { HasNoName self.old.catalogue.rows name.now → (result ≡ Ok NoSuchVariable) × (self.new ≡ self.old) }
         ensures memory { IfErr result (λ e. (e ≡ Memory) × (self.new.pinned ≡ self.old.pinned)) }
         ensures same { (self.new.catalogue ≡ self.old.catalogue) × (self.new.manifests ≡ self.old.manifests) × (self.new.disk ≡ self.old.disk) }
         ensures limbo { self.new.limbo ≡ self.old.limbo }
@@ -168,53 +167,24 @@ impl<D: Disk> TierStore<D> {
         Ok(answer)
     }
 
-    // Settles what stands in doubt, and then pins.
-    fn pin_settled(
-        &mut self,
-        who: u64,
-        name: &[u8],
-        query: Query,
-        tail: Samples,
-    ) -> Result<Answer<D::Reader>, DiskErr>
-        requires begun { (before : Stores) × (after : Stores) × IsOpen D.tells (seen D.Disk self.old) before after }
-
-        ensures settles { Settles D.tells (SaysPinned who name.now query tail self.old.pinned self.new.pinned) (seen D.Disk self.old) (seen D.Disk self.new) (end_of_answer (answer_of result)) }
-        ensures unchanged { IsCut (end_of_answer (answer_of result)) → self.new.pinned ≡ self.old.pinned }
-        ensures shown { KeepsShown D.tells (seen_all D.Disk self.old) (seen_all D.Disk self.new) }
-        ensures leaves { LeavesLater D.tells (seen_all D.Disk self.old) (seen_all D.Disk self.new) }
-        ensures whole { KeepsWhole D.tells (seen_all D.Disk self.old) (seen_all D.Disk self.new) }
-        ensures limbo { self.new.limbo ≡ self.old.limbo }
-        ensures stand { PinsStand D.tells (seen_all D.Disk self.old) self.old.pinned → PinsStand D.tells (seen_all D.Disk self.new) self.new.pinned }
-    {
-        self.review()?;
-        self.pin_named(who, name, query, tail)
-    }
-
     /// Pins the files of a variable that its samples of an interval need, as long as they are listed now, for an owner: under the least
     /// number that no pin has. It tells how many these are; `tail` is told with them, and stands for the samples that no store lists yet.
     /// The files, read in the order in which they are pinned, and the tail over them answer the query as all samples do. Where the tail is
     /// empty or begins later than both ends of the interval, the last files stay closed, as many as begin so late. A file of which no byte
     /// is listed, as only damaged stores have one, isn't pinned.
     ///
-    /// `NoSuchVariable` comes exactly where no row has the name, before or after a change that stands in doubt is settled.
-    /// `DiskFault` comes only where the disk's count of faults rose in the call, which then settled nothing. After every answer but
-    /// `Pinned` the pins are as they were.
+    /// It needs that nothing stands in doubt, as after `review`, and calls no disk. `NoSuchVariable` comes exactly where no row has the name,
+    /// and else only want of memory is answered in place of `Pinned`; the pins are as they were after both.
     pub fn pin(&mut self, who: u64, name: &[u8], query: Query, tail: Samples) -> Answer<D::Reader>
-        requires begun { (before : Stores) × (after : Stores) × IsOpen D.tells (seen D.Disk self.old) before after }
+        requires has { (held : Stores) × Has D.tells (seen D.Disk self.old) held }
 
+        ensures says { (held : Stores) → Has D.tells (seen D.Disk self.old) held → SaysOf (SaysPinned who name.now query tail self.old.pinned self.new.pinned) (end_of_answer result) held }
         ensures unknown { HasNoName self.old.catalogue.rows name.now → (result ≡ NoSuchVariable) × (self.new ≡ self.old) }
-        ensures settles { (i : ℕ) → HasName self.old.catalogue.rows i name.now
-            → Settles D.tells (SaysPinned who name.now query tail self.old.pinned self.new.pinned) (seen D.Disk self.old) (seen D.Disk self.new) (end_of_answer result) }
         ensures unchanged { IsCut (end_of_answer result) → self.new.pinned ≡ self.old.pinned }
-        ensures shown { KeepsShown D.tells (seen_all D.Disk self.old) (seen_all D.Disk self.new) }
-        ensures leaves { LeavesLater D.tells (seen_all D.Disk self.old) (seen_all D.Disk self.new) }
-        ensures whole { KeepsWhole D.tells (seen_all D.Disk self.old) (seen_all D.Disk self.new) }
+        ensures same { (self.new.catalogue ≡ self.old.catalogue) × (self.new.manifests ≡ self.old.manifests) × (self.new.disk ≡ self.old.disk) }
         ensures limbo { self.new.limbo ≡ self.old.limbo }
         ensures stand { PinsStand D.tells (seen_all D.Disk self.old) self.old.pinned → PinsStand D.tells (seen_all D.Disk self.new) self.new.pinned }
     {
-        let Some(_) = self.catalogue.find(name) else {
-            return Answer::NoSuchVariable;
-        };
-        told(self.pin_settled(who, name, query, tail))
+        told(self.pin_named(who, name, query, tail))
     }
 }

@@ -3,13 +3,12 @@
 // They go to limbo first, so that what is pinned is there whatever comes of the commit. Those that no pin names are removed behind it.
 ghost use Rattle.std.specs.Prelude.{◌≡◌, ◌≤◌, ◌<◌, ◌+◌, ℕ, List, All, Ok, Some, None, IfOk, OnErr, IsErr, IsErrOf, IsTrue, Contains, [], length, map, slice_get};
 ghost use Rattle.disk_model.specs.Files.{Name, Rose};
-ghost use Rattle.pv_catalog.specs.Rows.{KeepsRows};
 ghost use Rattle.store_manifest.specs.Manifest.{ManifestState};
 ghost use Rattle.durable_write.specs.Ends.{end_of_disk};
 ghost use Rattle.durable_write.specs.Held.{Filed};
 ghost use Rattle.tier_store.specs.Stores.{Stores};
 ghost use Rattle.tier_store.specs.Seen.{seen, IsSettled};
-ghost use Rattle.tier_store.specs.Change.{Has, IsKnown, IsOpen, Changes, Acts};
+ghost use Rattle.tier_store.specs.Change.{Has, IsKnown, Changes};
 ghost use Rattle.tier_store.specs.Limbo.{LimboStands, AreRemovable, IsUseless, NamesDiffer};
 ghost use Rattle.tier_store.specs.Pinned.{seen_all, KeepsShown};
 ghost use Rattle.tier_store.specs.Retiring.{FailsRetired, AreApart, oldest, oldest_entries, drop_entry, retired_of, dropping, retiring, HasGrown, HasNotGrown, Remain, ShowsKept, HandedOver, StayOrEnter};
@@ -104,8 +103,20 @@ impl<D: Disk> TierStore<D> {
         Ok(removable)
     }
 
-    // Retires where no change stands in doubt.
-    fn retire_settled(
+    /// Takes the oldest files of a row, as many as lengths are given, from the list at a place, which is a store's number less one: of
+    /// store 1 or 2. `published` has the lengths in bytes up to which these files were copied to the next store, which lists that, oldest
+    /// first. It needs that nothing stands in doubt, as after `review`. `Again` comes exactly where a file is listed longer than it was
+    /// copied; it tells of the first of these, and nothing has changed then.
+    ///
+    /// Else the files go to limbo, one commit drops them from the list, and those that no pin names leave limbo and are removed. A crash at
+    /// any moment leaves what was held, or that without the files. What is pinned stays as it is, whatever is answered, and so do all
+    /// names of stores 1 to 3 but those of the files. Which of the files are there is asked before the commit. A removal that fails is no
+    /// failure of the retirement; it is told, as `Fault` alone.
+    ///
+    /// After `Fault`, which comes only where the disk's count of faults rose in the call, it may not be known whether the commit was
+    /// made; `review` finds out. The files are in limbo till then, and count for nothing while they are listed. After `Memory` what was
+    /// held is still held.
+    pub fn retire(
         &mut self,
         place: usize,
         row: u32,
@@ -138,48 +149,5 @@ impl<D: Disk> TierStore<D> {
         let removable = self.drop_asked(place, row, n, &leaving)?;
         let removed = self.remove_handed(&leaving.files, &removable);
         Ok(RetireEnd::Retired { removed })
-    }
-
-    /// Takes the oldest files of a row, as many as lengths are given, from the list at a place, which is a store's number less one: of
-    /// store 1 or 2. `published` has the lengths in bytes up to which these files were copied to the next store, which lists that, oldest
-    /// first. A change that stands in doubt is settled first. `Again` comes exactly where a file is listed longer than it was copied; it
-    /// tells of the first of these, and nothing has changed then.
-    ///
-    /// Else the files go to limbo, one commit drops them from the list, and those that no pin names leave limbo and are removed. A crash at
-    /// any moment leaves what was held, or that without the files. What is pinned stays as it is, whatever is answered, and so do all
-    /// names of stores 2 and 3 but those of the files. Which of the files are there is asked before the commit. A removal that fails is no
-    /// failure of the retirement; it is told, as `Fault` alone.
-    ///
-    /// After `Fault`, which comes only where the disk's count of faults rose in the call, it may not be known whether the commit was
-    /// made; the next call that changes the stores finds out. The files are in limbo till then, and count for nothing while they are listed.
-    /// After `Memory` what was held is still held.
-    pub fn retire(
-        &mut self,
-        place: usize,
-        row: u32,
-        published: &[u64],
-    ) -> Result<RetireEnd, DiskErr>
-        requires within { place < 2 }
-        requires few { length published.now ≤ 65_536 }
-        requires begun { (before : Stores) × (after : Stores) × IsOpen D.tells (seen D.Disk self.old) before after }
-        requires stands { LimboStands (seen D.Disk self.old) self.old.limbo.items }
-
-        ensures acts { Acts D.tells (retiring place row published.now (Remain D.tells (seen D.Disk self.new) self.old.pinned self.old.limbo.items self.new.limbo.items)) (seen D.Disk self.old) (seen D.Disk self.new) (end_of_disk result) }
-        ensures again { (len copied : ℕ) → result ≡ Ok (Again len copied) → self.new.limbo ≡ self.old.limbo }
-        ensures failed { OnErr result (StayOrEnter (seen D.Disk self.new) place row (length published.now) self.old.limbo.items self.new.limbo.items) }
-        ensures doubted { (held : Stores) → Has D.tells (seen D.Disk self.old) held → IsErrOf result DiskErr.Fault → FailsRetired place row published.now D.tells (seen D.Disk self.new) held }
-        ensures handed { IsSettled (seen D.Disk self.old) → IsErrOf result DiskErr.Fault → HandedOver (seen D.Disk self.new) place row (length published.now) self.old.limbo.items self.new.limbo.items }
-        ensures cause { (removed : _) → result ≡ Ok (IsRetired removed) → IsErr removed → Rose (D.faults self.old.disk) (D.faults self.new.disk) }
-        ensures shown { ShowsKept D.tells self.old.pinned (seen_all D.Disk self.old) (seen_all D.Disk self.new) }
-        ensures leaves { (before after : Stores) (names : List Name) → IsOpen D.tells (seen D.Disk self.old) before after → All (λ (n : Name). 2 ≤ n.0) names
-            → AreApart place row (length published.now) before names → AreApart place row (length published.now) after names → LeavesNames names D.tells (seen_all D.Disk self.old) (seen_all D.Disk self.new) }
-        ensures whole { (before after : Stores) → IsOpen D.tells (seen D.Disk self.old) before after → KeepsWholeOf D.tells (seen_all D.Disk self.old) (seen_all D.Disk self.new) before }
-        ensures tidy { IsSettled (seen D.Disk self.old) → IfOk result (λ end. IsSettled (seen D.Disk self.new) × (HasRemoved end → LeavesNoStray D.tells (seen_all D.Disk self.old) (seen_all D.Disk self.new))) }
-        ensures stands { LimboStands (seen D.Disk self.new) self.new.limbo.items }
-        ensures keeps { KeepsRows self.old.catalogue.rows self.new.catalogue.rows }
-        ensures pins { self.new.pinned ≡ self.old.pinned }
-    {
-        self.review()?;
-        self.retire_settled(place, row, published)
     }
 }

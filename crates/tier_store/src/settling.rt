@@ -1,5 +1,5 @@
 // The settling of a change that stands in doubt: it changes no file outside store 0.
-ghost use Rattle.std.specs.Prelude.{◌≡◌, ◌≤◌, ◌<◌, ℕ, length, slice_get, Some, None, IfSome, OnOk, OnErr, IsTrue, true, false, Ok};
+ghost use Rattle.std.specs.Prelude.{◌≡◌, ◌≤◌, ◌<◌, length, slice_get, Some, None, IfSome, OnOk, OnErr, IsTrue, true, false, Ok};
 ghost use Rattle.disk_model.specs.Files.{Name};
 ghost use Rattle.pv_catalog.specs.Rows.{KeepsRows};
 ghost use Rattle.store_manifest.specs.Manifest.{ManifestState};
@@ -7,9 +7,9 @@ ghost use Rattle.durable_write.specs.Ends.{end_of_disk};
 ghost use Rattle.tier_store.specs.Stores.{Stores};
 ghost use Rattle.tier_store.specs.Seen.{seen, AtEach, IsSettled, granularities};
 ghost use Rattle.tier_store.specs.Change.{IsOpen, HasEither, OnlySettles};
+ghost use Rattle.tier_store.specs.Frame.{Frame};
 ghost use Rattle.tier_store.specs.Moving.{LeavesLater};
-ghost use Rattle.tier_store.specs.Pinned.{seen_all, KeepsShown, LeavesFronts};
-ghost use Rattle.tier_store.specs.Revival.{KeepsWhole};
+ghost use Rattle.tier_store.specs.Pinned.{seen_all};
 
 use crate::TierStore;
 use disk_model::{Disk, DiskErr};
@@ -62,7 +62,8 @@ impl<D: Disk> TierStore<D> {
     }
 
     /// After a fault in a call that changes the stores: finds out whether its change was made, and takes it in if it was. Where
-    /// nothing is in doubt it makes no call of the disk. Every call that changes the stores does this first.
+    /// nothing is in doubt it makes no call of the disk. It is the one call that settles a doubt: all others but `open_piece` and `unpin`
+    /// need that there is none.
     ///
     /// After an error the doubt stands as before. `Fault` comes only where the disk's count of faults rose in the call.
     pub fn review(&mut self) -> Result<(), DiskErr>
@@ -73,15 +74,12 @@ impl<D: Disk> TierStore<D> {
         ensures keeps { KeepsRows self.old.catalogue.rows self.new.catalogue.rows }
         ensures granularity { granularities self.new.manifests.items ≡ granularities self.old.manifests.items }
         ensures rows { IsTrue self.old.catalogue.journal.sound → self.new.catalogue ≡ self.old.catalogue }
-        ensures shown { KeepsShown D.tells (seen_all D.Disk self.old) (seen_all D.Disk self.new) }
-        ensures fronts { LeavesFronts D.tells (seen_all D.Disk self.old) (seen_all D.Disk self.new) }
+        ensures frame { Frame D.tells (seen_all D.Disk self.old) (seen_all D.Disk self.new) }
         ensures pins { self.new.pinned ≡ self.old.pinned }
         ensures limbo { self.new.limbo ≡ self.old.limbo }
         ensures nothing { IsSettled (seen D.Disk self.old) → (result ≡ Ok tt) × (self.new ≡ self.old) }
         ensures settles { OnlySettles D.tells (seen D.Disk self.old) (seen D.Disk self.new) (end_of_disk result) }
-        ensures leaves { LeavesLater D.tells (seen_all D.Disk self.old) (seen_all D.Disk self.new) }
         ensures opened { IsTrue D.tells → (n : Name) → D.opened self.new.disk n ≤ D.opened self.old.disk n }
-        ensures whole { KeepsWhole D.tells (seen_all D.Disk self.old) (seen_all D.Disk self.new) }
     {
         if !self.catalogue.is_sound() {
             return self.settle_rows();

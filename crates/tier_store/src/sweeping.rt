@@ -1,15 +1,14 @@
 // The sweep: retired files that nothing needs any more are removed, and leave limbo.
-ghost use Rattle.std.specs.Prelude.{◌≡◌, ◌≤◌, All, Ok, IfOk, OnOk, OnErr, IsErr, IsTrue};
-ghost use Rattle.disk_model.specs.Files.{Name, Rose};
-ghost use Rattle.pv_catalog.specs.Rows.{KeepsRows};
+ghost use Rattle.std.specs.Prelude.{◌≡◌, Ok, IfOk, OnOk, OnErr, IsErr, IsTrue};
+ghost use Rattle.disk_model.specs.Files.{Rose};
 ghost use Rattle.durable_write.specs.Ends.{Done, end_of_disk};
 ghost use Rattle.tier_store.specs.Stores.{Stores};
 ghost use Rattle.tier_store.specs.Seen.{seen, IsSettled};
-ghost use Rattle.tier_store.specs.Change.{Has, IsOpen, Changes, Acts};
+ghost use Rattle.tier_store.specs.Change.{Has, Changes};
 ghost use Rattle.tier_store.specs.Copying.{OnlyLooks};
 ghost use Rattle.tier_store.specs.Moving.{LeavesLater, LeavesNames};
 ghost use Rattle.tier_store.specs.Pinned.{seen_all, KeepsShown};
-ghost use Rattle.tier_store.specs.Limbo.{LimboStands, IsSwept, AreGone, AreRemovable, IsLeftOver, LeavesKept, LeavesKeptFiles, staying};
+ghost use Rattle.tier_store.specs.Limbo.{LimboStands, IsSwept, AreGone, AreRemovable, IsLeftOver, LeavesKept, staying};
 ghost use Rattle.tier_store.specs.Revival.{KeepsWhole};
 ghost use Rattle.tier_store.specs.Strays.{LeavesNoStray};
 
@@ -65,8 +64,15 @@ impl<D: Disk> TierStore<D> {
         )
     }
 
-    // Sweeps where no change stands in doubt.
-    fn sweep_settled(&mut self, copied: &[FileName]) -> Result<Swept, DiskErr>
+    /// Removes the files of limbo that nothing needs any more, and answers how many these are. `copied` names the files into which running
+    /// moves have copied. It needs that nothing stands in doubt, as after `review`. Two kinds of files leave limbo: those that their store
+    /// lists again, which aren't counted, and those that no pin names and into which no running move has copied, which are removed from the
+    /// disk. What is listed, pinned or copied into stays as it is, at every moment of the call.
+    ///
+    /// A removal that fails is no failure of the sweep: such a file leaves limbo too, and it is told, as `Fault` alone. Which files are there is
+    /// asked before any leaves limbo: `Fault`, which comes only where the disk's count of faults rose in the call, and `Memory` come from that
+    /// alone, and limbo is as it was then.
+    pub fn sweep(&mut self, copied: &[FileName]) -> Result<Swept, DiskErr>
         requires has { (held : Stores) × Has D.tells (seen D.Disk self.old) held }
         requires stands { LimboStands (seen D.Disk self.old) self.old.limbo.items }
 
@@ -77,42 +83,12 @@ impl<D: Disk> TierStore<D> {
         ensures failed { OnErr result ((self.new.limbo ≡ self.old.limbo) × KeepsShown D.tells (seen_all D.Disk self.old) (seen_all D.Disk self.new) × LeavesLater D.tells (seen_all D.Disk self.old) (seen_all D.Disk self.new)) }
         ensures leaves { LeavesKept D.tells self.old.pinned copied.now (seen_all D.Disk self.old) (seen_all D.Disk self.new) }
         ensures whole { KeepsWhole D.tells (seen_all D.Disk self.old) (seen_all D.Disk self.new) }
+        ensures tidy { IfOk result (λ swept. IsSettled (seen D.Disk self.new) × (swept.removed ≡ Ok tt → LeavesNoStray D.tells (seen_all D.Disk self.old) (seen_all D.Disk self.new))) }
         ensures copied { LeavesNames copied.now D.tells (seen_all D.Disk self.old) (seen_all D.Disk self.new) }
         ensures stands { LimboStands (seen D.Disk self.new) self.new.limbo.items }
         ensures same { (self.new.catalogue ≡ self.old.catalogue) × (self.new.manifests ≡ self.old.manifests) × (self.new.pinned ≡ self.old.pinned) }
     {
         let removable = self.find_swept(copied)?;
         Ok(self.sweep_names(copied, &removable))
-    }
-
-    /// Removes the files of limbo that nothing needs any more, and answers how many these are. `copied` names the files into which running
-    /// moves have copied. A change that stands in doubt is settled first. Then two kinds of files leave limbo: those that their store lists
-    /// again, which aren't counted, and those that no pin names and into which no running move has copied, which are removed from the disk. What
-    /// is listed, pinned or copied into stays as it is, at every moment of the call.
-    ///
-    /// A removal that fails is no failure of the sweep: such a file leaves limbo too, and it is told, as `Fault` alone. Which files are there is
-    /// asked before any leaves limbo: `Fault`, which comes only where the disk's count of faults rose in the call, and `Memory` come from that and
-    /// from the settling alone, and limbo is as it was then. Where no change stood in doubt before the call, none does then.
-    pub fn sweep(&mut self, copied: &[FileName]) -> Result<Swept, DiskErr>
-        requires begun { (before : Stores) × (after : Stores) × IsOpen D.tells (seen D.Disk self.old) before after }
-        requires stands { LimboStands (seen D.Disk self.old) self.old.limbo.items }
-
-        ensures acts { Acts D.tells staying (seen D.Disk self.old) (seen D.Disk self.new) (end_of_disk result) }
-        ensures swept { IfOk result (λ swept. IsSwept (seen D.Disk self.new) self.old.pinned copied.now self.old.limbo.items self.new.limbo.items swept.files) }
-        ensures gone { IsTrue D.tells → IfOk result (λ swept. OnOk swept.removed (AreGone (seen D.Disk self.new) self.old.pinned copied.now self.old.limbo.items)) }
-        ensures cause { IfOk result (λ swept. IsErr swept.removed → Rose (D.faults self.old.disk) (D.faults self.new.disk)) }
-        ensures failed { OnErr result ((self.new.limbo ≡ self.old.limbo) × KeepsShown D.tells (seen_all D.Disk self.old) (seen_all D.Disk self.new) × LeavesLater D.tells (seen_all D.Disk self.old) (seen_all D.Disk self.new)) }
-        ensures leaves { LeavesKeptFiles D.tells self.old.pinned copied.now (seen_all D.Disk self.old) (seen_all D.Disk self.new) }
-        ensures kept { IsSettled (seen D.Disk self.old) → LeavesKept D.tells self.old.pinned copied.now (seen_all D.Disk self.old) (seen_all D.Disk self.new) }
-        ensures whole { KeepsWhole D.tells (seen_all D.Disk self.old) (seen_all D.Disk self.new) }
-        ensures tidy { IsSettled (seen D.Disk self.old) → IfOk result (λ swept. IsSettled (seen D.Disk self.new) × (swept.removed ≡ Ok tt → LeavesNoStray D.tells (seen_all D.Disk self.old) (seen_all D.Disk self.new))) }
-        ensures copied { All (λ (n : Name). 2 ≤ n.0) copied.now → LeavesNames copied.now D.tells (seen_all D.Disk self.old) (seen_all D.Disk self.new) }
-        ensures stands { LimboStands (seen D.Disk self.new) self.new.limbo.items }
-        ensures keeps { KeepsRows self.old.catalogue.rows self.new.catalogue.rows }
-        ensures pins { self.new.pinned ≡ self.old.pinned }
-        ensures nothing { IsSettled (seen D.Disk self.old) → (self.new.catalogue ≡ self.old.catalogue) × (self.new.manifests ≡ self.old.manifests) }
-    {
-        self.review()?;
-        self.sweep_settled(copied)
     }
 }

@@ -1,6 +1,6 @@
 // How many samples are held of a row, by what the stores list of it. Where a later store's samples reach into an earlier store's file, as
 // while a move is half done, that file is read.
-ghost use Rattle.std.specs.Prelude.{◌≡◌, ◌≤◌, ◌<◌, ◌+◌, ℕ, List, [], All, Some, length, map, max, IfOk, IsErrOf, IsTrue};
+ghost use Rattle.std.specs.Prelude.{◌≡◌, ◌≤◌, ◌<◌, ◌+◌, List, [], All, Some, length, map, max, IfOk, IsErrOf, IsTrue};
 ghost use Rattle.std.specs.List.{flat_map};
 ghost use Rattle.disk_model.specs.Files.{Rose};
 ghost use Rattle.partition_names.specs.declared.granularity.Granularity.{Granularity};

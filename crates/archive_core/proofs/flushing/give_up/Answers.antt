@@ -1,5 +1,5 @@
 use Rattle.std.proofs.Common.{sym}
-use Rattle.archive_core.proofs.Trimming.{since_start, gives_more, gives_all}
+use Rattle.archive_core.proofs.Batches.{since_start, gives_more, gives_all}
 use Rattle.archive_core.proofs.flushing.give_up.Goals as goal
 
 pub loop-part-init : goal.loop-part-init

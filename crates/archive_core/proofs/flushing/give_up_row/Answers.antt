@@ -1,7 +1,7 @@
 use Rattle.std.proofs.Common.{◌-◌, length, sym, ap, ◌∙◌}
 use Rattle.std.specs.Option.{option_copied}
 use Rattle.std.specs.Prelude.{slice_get}
-use Rattle.archive_core.proofs.Trimming.{gives_none, gives_part}
+use Rattle.archive_core.proofs.Batches.{gives_none, gives_part}
 use Rattle.archive_core.proofs.flushing.give_up_row.Goals as goal
 
 pub returns-in_default : goal.returns-in_default

@@ -1,7 +1,7 @@
 use Rattle.std.proofs.Common.{◌-◌, length, refl, sym, ap, ◌∙◌}
 use Rattle.std.specs.Option.{option_copied}
 use Rattle.std.specs.Prelude.{slice_get}
-use Rattle.archive_core.proofs.Trimming.{lists_none, lists_part}
+use Rattle.archive_core.proofs.Batches.{lists_none, lists_part}
 use Rattle.archive_core.proofs.flushing.lists_row.Goals as goal
 
 pub returns-in-Some : goal.returns-in-Some

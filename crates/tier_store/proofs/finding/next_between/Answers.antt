@@ -1,11 +1,46 @@
-use Rattle.std.proofs.Common.{◌≤◌, ◌-◌, ℕ, List, Bool, length, ◌∙◌, ap, subst, arith}
-use Rattle.disk_model.specs.Files.{Files}
+use Rattle.std.proofs.Common.{◌≡◌, ◌≤◌, ◌-◌, ◌+◌, ℕ, List, [], Bool, length, refl, ◌∙◌, ap, subst, arith}
+use Rattle.std.specs.Prelude.{IsTrue}
+use Rattle.disk_model.specs.Files.{Files, HasFile}
+use Rattle.disk_model.proofs.Passing.{passes_none}
 use Rattle.tier_store.specs.Counting.{behind}
-use Rattle.tier_store.specs.Finding.{SkipsLines}
+use Rattle.tier_store.specs.Finding.{AreLinesFrom, SkipsLines}
 use Rattle.tier_store.proofs.CountingPieces.{IsPiece, goes_on, then_reads}
-use Rattle.tier_store.proofs.FindingLines.{damaged_here, not_damaged, skipped_counting, splits_end, splits_here}
+use Rattle.tier_store.proofs.FindingLines.{both_file, damaged_here, lines_begun, lines_more, not_damaged, skipped_counting, splits_end, splits_here}
 use Rattle.tier_store.proofs.finding.next_between.Goals as goal
-use Rattle.tier_store.proofs.finding.next_between.Goals.{then-skipped-eq0+else-want-rest, else-skipped-eq0}
+use Rattle.tier_store.proofs.finding.next_between.Goals.{In_ok-skipped, then-skipped-eq0+else-want-rest, else-skipped-eq0}
+
+pub loop-at-init : goal.loop-at-init
+loop-at-init g c = record {
+  some = omega arith;
+  low = omega arith;
+  high = c.requires.within;
+  between = λ tells samples has. record { done = []; left = samples; split = refl; here = has; counted = refl; place = omega arith };
+  told = λ tells. let there = c.requires.there tells in record { bytes = there.bytes; file = there.file; holds = lines_begun c.args.ty c.args.year.now.year c.args.from there.bytes };
+  reads = λ tells. record { same = refl; same_opened = refl; any_moment = passes_none (λ (a b : Files). b ≡ a) _ (λ image left. refl) };
+  faults = omega arith;
+}
+
+-- the lines that were skipped stand behind those before them
+skipped_told : (g : _) (c : In_ok-skipped g) → IsTrue g.D.Disk.tells → HasFile (g.D.Disk.files c.args.disk.now) c.args.name.now (AreLinesFrom c.args.ty c.args.year.now.year c.args.from (c.loop-at.at + c.in_ok-skipped.skipped.len))
+skipped_told g c tells =
+    let told = c.loop-at.invariant.told tells in
+    let long = ap length c.deref.ensures.value in
+    let same = (c.loop-at.invariant.reads tells).same in
+    let piece = c.in_ok-bytes.ensures.bytes tells told.bytes (ap (λ (f : Files). f c.args.name.now) same ∙ told.file) in
+    let skips = subst (λ (l : List ℕ). SkipsLines c.args.ty c.args.year.now.year l (behind c.args.last) c.in_ok-skipped.skipped.len c.in_ok-skipped.skipped.found) c.deref.ensures.value c.in_ok-skipped.ensures.skips in
+    record {
+      bytes = told.bytes;
+      file = told.file;
+      holds = lines_more c.args.ty c.args.year.now.year c.args.from c.loop-at.at c.min.result (behind c.args.last) c.in_ok-skipped.skipped.len c.in_ok-skipped.skipped.found c.in_ok-bytes.bytes.items told.bytes c.loop-at.invariant.low
+          (omega (arith, long, c.in_ok-skipped.ensures.within, c.in_ok-bytes.ensures.long)) piece skips told.holds;
+    }
+
+pub returns-then-skipped-clause-told : goal.returns-then-skipped-clause-told
+returns-then-skipped-clause-told g c tells = skipped_told g (goal.at.returns-then-skipped-clause-told g c).In_ok-skipped tells
+
+pub returns-clause-told : goal.returns-clause-told
+returns-clause-told g c tells =
+    subst (λ (k : ℕ). HasFile (g.D.Disk.files c.args.disk.now) c.args.name.now (AreLinesFrom c.args.ty c.args.year.now.year c.args.from k)) (omega (arith, c.loop-at-test.false, c.loop-at.invariant.high)) (c.loop-at.invariant.told tells)
 
 pub returns-then-skipped-clause-next : goal.returns-then-skipped-clause-next
 returns-then-skipped-clause-next g c tells samples has =
@@ -50,7 +85,7 @@ returns-then-want-rest-clause-told g c tells =
     let same = (c.loop-at.invariant.reads tells).same in
     let piece : IsPiece files name at c.min.result bytes = λ b is. c.in_ok-bytes.ensures.bytes tells b (ap (λ (f : Files). f name) same ∙ is) in
     let skips = subst (λ (f : Bool). SkipsLines c.args.ty c.args.year.now.year bytes n skipped.len f) c.if-skipped.false (subst (λ (l : List ℕ). SkipsLines c.args.ty c.args.year.now.year l n skipped.len skipped.found) c.deref.ensures.value c.in_ok-skipped.ensures.skips) in
-    damaged_here files name at c.args.end c.min.result c.args.ty c.args.year.now.year n skipped.len bytes (c.requires.there tells) (omega (arith, c.min.ensures, c.if-want-rest.true)) piece c.if-skipped-eq0.true skips
+    both_file files name _ _ (c.loop-at.invariant.told tells) (damaged_here files name at c.args.end c.min.result c.args.ty c.args.year.now.year n skipped.len bytes (c.requires.there tells) (omega (arith, c.min.ensures, c.if-want-rest.true)) piece c.if-skipped-eq0.true skips)
 
 pub returns-clause-next : goal.returns-clause-next
 returns-clause-next g c tells samples has =
@@ -79,6 +114,7 @@ loop-at-preserved g c =
           let piece : IsPiece files name at c.min.result bytes = λ b is. c.in_ok-bytes.ensures.bytes tells b (ap (λ (f : Files). f name) same ∙ is) in
           let skips = subst (λ (l : List ℕ). SkipsLines c.args.ty c.args.year.now.year l n skipped.len skipped.found) c.deref.ensures.value c.in_ok-skipped.ensures.skips in
           goes_on files name c.args.from at c.args.end c.min.result c.args.ty c.args.year.now.year n samples 0 skipped.len 0 bytes (c.loop-at.invariant.between tells samples has) within piece low (skipped_counting c.args.ty c.args.year.now.year bytes n skipped.len skipped.found skips);
+      told = λ tells. skipped_told g (goal.at.loop-at-preserved g c).In_ok-skipped tells;
       reads = λ tells. then_reads _ _ _ _ _ _ _ _ _ (c.loop-at.invariant.reads tells) (c.in_ok-bytes.ensures.reads tells);
       faults = omega (arith, c.loop-at.invariant.faults, c.in_ok-bytes.ensures.faults);
     }

@@ -1,4 +1,4 @@
-use Rattle.tier_store.proofs.CopiedFiles.{writes_next}
+use Rattle.tier_store.proofs.CopyFiles.{writes_next}
 use Rattle.tier_store.proofs.laws.a_copy_writes_the_next_samples.Goals as goal
 
 pub returns : goal.returns

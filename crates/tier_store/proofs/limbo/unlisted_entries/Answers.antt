@@ -2,7 +2,7 @@ use Rattle.std.proofs.Common.{◌≡◌, ◌∷◌, [], ◌++◌, ◌+◌, ◌�
 use Rattle.std.proofs.lemmas.List.{take_all, take_more}
 use Rattle.tier_store.specs.Revival.{AreUnlistedIn}
 use Rattle.tier_store.specs.declared.limbo.Retired.{Retired}
-use Rattle.tier_store.proofs.Unlisted.{unlisted_none, unlisted_with, unlisted_without}
+use Rattle.tier_store.proofs.Removals.{unlisted_none, unlisted_with, unlisted_without}
 use Rattle.tier_store.proofs.limbo.unlisted_entries.Goals as goal
 use Rattle.tier_store.proofs.limbo.unlisted_entries.Goals.{then-unlisted+in_ok-push, else-unlisted}
 

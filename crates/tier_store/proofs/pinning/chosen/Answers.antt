@@ -2,7 +2,7 @@ use Rattle.std.proofs.Common.{◌≡◌, ◌++◌, [], List, subst, arith}
 use Rattle.piece_choice.specs.Choosing.{IsChoice, listed}
 use Rattle.piece_choice.specs.declared.choosing.Listed.{Listed}
 use Rattle.tier_store.specs.Pinning.{listed_in}
-use Rattle.tier_store.proofs.PinsMore.{entries_at}
+use Rattle.tier_store.proofs.PinnedFiles.{entries_at}
 use Rattle.tier_store.proofs.pinning.chosen.Goals as goal
 
 pub returns-clause-told : goal.returns-clause-told

@@ -2,8 +2,7 @@ use Rattle.std.proofs.Common.{None, refl}
 use Rattle.disk_model.specs.Files.{At, KeptOr}
 use Rattle.disk_model.proofs.Passing.{passes_weaker}
 use Rattle.tier_store.specs.Limbo.{Elsewhere}
-use Rattle.tier_store.proofs.Removable.{some_file}
-use Rattle.tier_store.proofs.Removals.{removed_none, removed_elsewhere, removed_fewer}
+use Rattle.tier_store.proofs.Removals.{some_file, removed_none, removed_elsewhere, removed_fewer}
 use Rattle.tier_store.proofs.removing.remove_file.Goals as goal
 
 pub remove-requires : goal.remove-requires

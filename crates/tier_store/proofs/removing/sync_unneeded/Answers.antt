@@ -8,8 +8,7 @@ use Rattle.durable_write.proofs.Rises.{rose_after}
 use Rattle.durable_write.proofs.Stays.{same_then}
 use Rattle.tier_store.specs.Limbo.{AreFree}
 use Rattle.tier_store.specs.declared.limbo.Retired.{Retired}
-use Rattle.tier_store.proofs.Removable.{both_err}
-use Rattle.tier_store.proofs.Removals.{on_ok, both_done, rose_until}
+use Rattle.tier_store.proofs.Removals.{both_err, on_ok, both_done, rose_until}
 use Rattle.tier_store.proofs.Staying.{free_needed, free_more, only_read}
 use Rattle.tier_store.proofs.removing.sync_unneeded.Goals as goal
 

@@ -1,7 +1,7 @@
 use Rattle.std.proofs.Common.{◌≡◌, ◌+◌, ℕ, max, Option, Some, None, sym, ◌∙◌, ap, arith}
 use Rattle.store_manifest.specs.declared.entry.Entry.{Entry}
 use Rattle.tier_store.specs.Counting.{behind}
-use Rattle.tier_store.proofs.Tallies.{tally_more}
+use Rattle.tier_store.proofs.RowTallies.{tally_more}
 use Rattle.tier_store.proofs.tallying.add_file.Goals as goal
 use Rattle.tier_store.proofs.tallying.add_file.Goals.{in-Some-first, in-None}
 

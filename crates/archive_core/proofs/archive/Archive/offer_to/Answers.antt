@@ -3,8 +3,7 @@ use Rattle.pv_catalog.specs.Catalogue.{CatalogueState}
 use Rattle.archive_core.specs.Parts.{parts}
 use Rattle.archive_core.proofs.Lists.{read_in, read_at}
 use Rattle.archive_core.proofs.KeptRows.{row_at, row_with}
-use Rattle.archive_core.proofs.Offering.{offer_dropped, offer_ends}
-use Rattle.archive_core.proofs.Times.{event_time}
+use Rattle.archive_core.proofs.Offering.{offer_dropped, offer_ends, event_time}
 use Rattle.archive_core.proofs.archive.Archive.offer_to.Goals as goal
 
 pub returns-in-Some-clause-step : goal.returns-in-Some-clause-step

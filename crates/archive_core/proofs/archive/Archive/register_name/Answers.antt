@@ -1,43 +1,60 @@
-use Rattle.std.proofs.Common.{refl, ℕ, Result, Err, sym, ◌∙◌, ap, subst}
+use Rattle.tier_store.specs.Pinned.{seen_all}
+use Rattle.std.proofs.Common.{ℕ, Ok, Err, Result, refl, sym, ◌∙◌, ap, subst}
 use Rattle.std.proofs.lemmas.Result.{err_from_is_err_and}
 use Rattle.disk_model.specs.declared.disk.DiskErr.{DiskErr}
 use Rattle.pv_catalog.specs.Catalogue.{CatalogueState, Refuses}
 use Rattle.pv_catalog.specs.declared.error.RegisterErr.{RegisterErr}
-use Rattle.tier_store.proofs.LeavingFronts.{fronts_on, nothing_fronts}
-use Rattle.act_model.specs.Machine.{AddsRow}
-use Rattle.archive_core.specs.Ends.{ChangesTo, register_reply}
-use Rattle.archive_core.specs.Leaving.{files_of}
-use Rattle.archive_core.specs.Parts.{parts}
-use Rattle.archive_core.proofs.Entering.{RegisterEnds, register_refused_first, register_cut, register_refused_then, register_done, register_failed, crash_register, crash_register_refused, crash_register_cut}
-use Rattle.tier_store.specs.Pinned.{seen_all}
-use Rattle.archive_core.specs.Strays.{IsWell}
+use Rattle.pv_catalog.specs.declared.error.RegisterErr.TheVariants.{Disk}
+use Rattle.act_model.specs.Machine.{Machine, AddsRow}
+use Rattle.act_model.specs.Register.{Registers}
+use Rattle.act_model.specs.declared.acts.Act.TheVariants.{Register}
+use Rattle.act_model.specs.declared.acts.Answer.TheVariants.{Registered}
+use Rattle.archive_core.specs.Acting.{Changed}
 use Rattle.archive_core.specs.Ends.{register_reply}
-use Rattle.archive_core.proofs.Strays.{disk_not_well, tidy_none, tidy_then}
+use Rattle.archive_core.specs.Parts.{parts}
+use Rattle.archive_core.specs.Stands.{Rests, Stands}
+use Rattle.archive_core.proofs.Acting.{cut, done_then, failed_then, refused_first, refused_then}
+use Rattle.archive_core.proofs.Registered.{IsFree, RegisterEnds, free_as, refused_as, registered_so, registers_act}
+use Rattle.archive_core.proofs.archive.Archive.register_name.Goals.{After-settle, After-add_row}
 use Rattle.archive_core.proofs.archive.Archive.register_name.Goals as goal
 
-pub returns-in_err-refuse_taken-clause-step : goal.returns-in_err-refuse_taken-clause-step
-returns-in_err-refuse_taken-clause-step g c =
-    let p = err_from_is_err_and c.from_residual.result c.from_residual.ensures.1 in
-    subst (λ (x : Result ℕ RegisterErr). RegisterEnds g.D.Disk.tells c.args.name.now c.args.about.now (parts g.D.Disk c.args.self.now) (register_reply x) (parts g.D.Disk c.args.self.now)) (sym (p.1 ∙ ap (λ (e : RegisterErr). Err e) p.2)) (register_refused_first g.D.Disk.tells c.args.name.now c.args.about.now (parts g.D.Disk c.args.self.now) c.in_err-refuse_taken.field-0.0 (subst (λ (x : CatalogueState). Refuses x.rows c.args.name.now c.in_err-refuse_taken.field-0.0) c.catalogue.ensures c.in_err-refuse_taken.ensures.refuses))
+-- nothing refuses the name before a doubt is settled
+free : (g : _) (c : After-settle g) → IsFree c.args.name.now (parts g.D.Disk c.args.self.now)
+free g c = subst (λ (x : CatalogueState). (e : RegisterErr) → Refuses x.rows c.args.name.now e → ⊥) c.catalogue.ensures c.in_ok-refuse_taken.ensures.free
 
-pub returns-in_err-refuse_taken-clause-crash : goal.returns-in_err-refuse_taken-clause-crash
-returns-in_err-refuse_taken-clause-crash g c = crash_register_refused g.D.Disk.tells c.args.name.now c.args.about.now (parts g.D.Disk c.args.self.now)
+-- nor then
+free_then : (g : _) (c : After-add_row g) → IsFree c.args.name.now (parts g.D.Disk c.settle.new.self)
+free_then g c = subst (λ (x : CatalogueState). (e : RegisterErr) → Refuses x.rows c.args.name.now e → ⊥) c.catalogue-2.ensures c.in_ok-refuse_taken-2.ensures.free
 
-pub returns-in_err-settle-clause-step : goal.returns-in_err-settle-clause-step
-returns-in_err-settle-clause-step g c =
-    let p = err_from_is_err_and c.from_residual-in_err-settle.result c.from_residual-in_err-settle.ensures.1 in
-    subst (λ (x : Result ℕ RegisterErr). RegisterEnds g.D.Disk.tells c.args.name.now c.args.about.now (parts g.D.Disk c.args.self.now) (register_reply x) (parts g.D.Disk c.settle.new.self)) (sym (p.1 ∙ ap (λ (e : RegisterErr). Err e) p.2)) (register_cut g.D.Disk.tells c.args.name.now c.args.about.now (parts g.D.Disk c.args.self.now) (parts g.D.Disk c.settle.new.self) c.settle.result c.in_err-settle.field-0.0 (subst (λ (x : CatalogueState). (e : RegisterErr) → Refuses x.rows c.args.name.now e → ⊥) c.catalogue.ensures c.in_ok-refuse_taken.ensures.free) c.in_err-settle.was c.in_err-settle.ensures.still c.settle.ensures.settles)
+pub returns-in_err-refuse_taken : goal.returns-in_err-refuse_taken
+returns-in_err-refuse_taken g c who =
+    let e = err_from_is_err_and c.from_residual.result c.from_residual.ensures.1 in
+    let p = parts g.D.Disk c.args.self.now in
+    let refuses = subst (λ (x : CatalogueState). Refuses x.rows c.args.name.now c.in_err-refuse_taken.field-0.0) c.catalogue.ensures c.in_err-refuse_taken.ensures.refuses in
+    subst (λ (x : Result ℕ RegisterErr). RegisterEnds g.D.Disk.tells who c.args.name.now c.args.about.now p x p) (sym (e.1 ∙ ap (λ (d : RegisterErr). Err d) e.2))
+    (registered_so g.D.Disk.tells who c.args.name.now c.args.about.now p p (Err c.in_err-refuse_taken.field-0.0) (refused_first g.D.Disk.tells who (Register c.args.name.now c.args.about.now) (Registers c.args.name.now c.args.about.now) (registers_act who c.args.name.now c.args.about.now) p (register_reply (Err c.in_err-refuse_taken.field-0.0))
+    (λ m s. refused_as g.D.Disk.tells p m s c.args.name.now c.in_err-refuse_taken.field-0.0 refuses)))
 
-pub returns-in_err-settle-clause-crash : goal.returns-in_err-settle-clause-crash
-returns-in_err-settle-clause-crash g c = crash_register_cut g.D.Disk.tells c.args.name.now c.args.about.now (parts g.D.Disk c.args.self.now) (parts g.D.Disk c.settle.new.self) c.settle.ensures.settles.any_moment
+pub returns-in_err-settle : goal.returns-in_err-settle
+returns-in_err-settle g c who =
+    let e = err_from_is_err_and c.from_residual-in_err-settle.result c.from_residual-in_err-settle.ensures.1 in
+    let p = parts g.D.Disk c.args.self.now in
+    let q = parts g.D.Disk c.settle.new.self in
+    let free_now = free g (goal.at.returns-in_err-settle g c).After-settle in
+    subst (λ (x : Result ℕ RegisterErr). RegisterEnds g.D.Disk.tells who c.args.name.now c.args.about.now p x q) (sym (e.1 ∙ ap (λ (d : RegisterErr). Err d) e.2))
+    (registered_so g.D.Disk.tells who c.args.name.now c.args.about.now p q (Err (Disk c.in_err-settle.field-0.0)) (cut g.D.Disk.tells who (Register c.args.name.now c.args.about.now) (Registers c.args.name.now c.args.about.now) (registers_act who c.args.name.now c.args.about.now) p q c.settle.result c.settle.ensures.settling (λ settled. ap (seen_all g.D.Disk) (c.settle.ensures.quiet settled))
+    (λ m s. free_as g.D.Disk.tells p m s c.args.name.now free_now) c.in_err-settle.field-0.0 c.in_err-settle.was c.in_err-settle.ensures.still))
 
-pub returns-in_err-refuse_taken-2-clause-step : goal.returns-in_err-refuse_taken-2-clause-step
-returns-in_err-refuse_taken-2-clause-step g c =
-    let p = err_from_is_err_and c.from_residual-in_err-refuse_taken-2.result c.from_residual-in_err-refuse_taken-2.ensures.1 in
-    subst (λ (x : Result ℕ RegisterErr). RegisterEnds g.D.Disk.tells c.args.name.now c.args.about.now (parts g.D.Disk c.args.self.now) (register_reply x) (parts g.D.Disk c.settle.new.self)) (sym (p.1 ∙ ap (λ (e : RegisterErr). Err e) p.2)) (register_refused_then g.D.Disk.tells c.args.name.now c.args.about.now (parts g.D.Disk c.args.self.now) (parts g.D.Disk c.settle.new.self) (subst (λ (x : CatalogueState). (e : RegisterErr) → Refuses x.rows c.args.name.now e → ⊥) c.catalogue.ensures c.in_ok-refuse_taken.ensures.free) c.in_ok-settle.ensures.settled c.settle.ensures.settles.faults c.in_err-refuse_taken-2.field-0.0 (subst (λ (x : CatalogueState). Refuses x.rows c.args.name.now c.in_err-refuse_taken-2.field-0.0) c.catalogue-2.ensures c.in_err-refuse_taken-2.ensures.refuses))
-
-pub returns-in_err-refuse_taken-2-clause-crash : goal.returns-in_err-refuse_taken-2-clause-crash
-returns-in_err-refuse_taken-2-clause-crash g c = crash_register_cut g.D.Disk.tells c.args.name.now c.args.about.now (parts g.D.Disk c.args.self.now) (parts g.D.Disk c.settle.new.self) c.settle.ensures.settles.any_moment
+pub returns-in_err-refuse_taken-2 : goal.returns-in_err-refuse_taken-2
+returns-in_err-refuse_taken-2 g c who =
+    let e = err_from_is_err_and c.from_residual-in_err-refuse_taken-2.result c.from_residual-in_err-refuse_taken-2.ensures.1 in
+    let p = parts g.D.Disk c.args.self.now in
+    let q = parts g.D.Disk c.settle.new.self in
+    let free_now = free g (goal.at.returns-in_err-refuse_taken-2 g c).After-settle in
+    let refuses = subst (λ (x : CatalogueState). Refuses x.rows c.args.name.now c.in_err-refuse_taken-2.field-0.0) c.catalogue-2.ensures c.in_err-refuse_taken-2.ensures.refuses in
+    subst (λ (x : Result ℕ RegisterErr). RegisterEnds g.D.Disk.tells who c.args.name.now c.args.about.now p x q) (sym (e.1 ∙ ap (λ (d : RegisterErr). Err d) e.2))
+    (registered_so g.D.Disk.tells who c.args.name.now c.args.about.now p q (Err c.in_err-refuse_taken-2.field-0.0) (refused_then g.D.Disk.tells who (Register c.args.name.now c.args.about.now) (Registers c.args.name.now c.args.about.now) (registers_act who c.args.name.now c.args.about.now) p q c.settle.result c.settle.ensures.settling (λ settled. ap (seen_all g.D.Disk) (c.settle.ensures.quiet settled))
+    (λ m s. free_as g.D.Disk.tells p m s c.args.name.now free_now) c.in_ok-settle.ensures.settled (register_reply (Err c.in_err-refuse_taken-2.field-0.0)) (λ m s. refused_as g.D.Disk.tells q m s c.args.name.now c.in_err-refuse_taken-2.field-0.0 refuses)))
 
 pub add_row-requires-clause-rests : goal.add_row-requires-clause-rests
 add_row-requires-clause-rests g c =
@@ -48,62 +65,27 @@ add_row-requires-clause-rests g c =
 pub add_row-requires-clause-free : goal.add_row-requires-clause-free
 add_row-requires-clause-free g c = subst (λ (x : CatalogueState). (e : RegisterErr) → Refuses x.rows c.args.name.now e → ⊥) c.catalogue-2.ensures c.in_ok-refuse_taken-2.ensures.free
 
-pub returns-in_err-add_row-clause-step : goal.returns-in_err-add_row-clause-step
-returns-in_err-add_row-clause-step g c =
-    let p = err_from_is_err_and c.from_residual-in_err-add_row.result c.from_residual-in_err-add_row.ensures.1 in
-    subst (λ (x : Result ℕ RegisterErr). RegisterEnds g.D.Disk.tells c.args.name.now c.args.about.now (parts g.D.Disk c.args.self.now) (register_reply x) (parts g.D.Disk c.add_row.new.self)) (sym (p.1 ∙ ap (λ (e : RegisterErr). Err e) p.2)) (register_failed g.D.Disk.tells c.args.name.now c.args.about.now (parts g.D.Disk c.args.self.now) (parts g.D.Disk c.settle.new.self) (subst (λ (x : CatalogueState). (e : RegisterErr) → Refuses x.rows c.args.name.now e → ⊥) c.catalogue.ensures c.in_ok-refuse_taken.ensures.free) c.in_ok-settle.ensures.settled c.settle.ensures.settles.faults (subst (λ (x : CatalogueState). (e : RegisterErr) → Refuses x.rows c.args.name.now e → ⊥) c.catalogue-2.ensures c.in_ok-refuse_taken-2.ensures.free) (parts g.D.Disk c.add_row.new.self) c.in_err-add_row.field-0.0
-    (λ m r. subst (λ (x : Result ℕ DiskErr). ChangesTo g.D.Disk.tells (AddsRow c.args.name.now c.args.about.now) (parts g.D.Disk c.settle.new.self) m (parts g.D.Disk c.add_row.new.self) x) c.in_err-add_row.was (c.add_row.ensures.changes m r)))
-
-pub returns-in_err-add_row-clause-crash : goal.returns-in_err-add_row-clause-crash
-returns-in_err-add_row-clause-crash g c =
-    crash_register g.D.Disk.tells c.args.name.now c.args.about.now (parts g.D.Disk c.args.self.now) (parts g.D.Disk c.settle.new.self) (subst (λ (x : CatalogueState). (e : RegisterErr) → Refuses x.rows c.args.name.now e → ⊥) c.catalogue.ensures c.in_ok-refuse_taken.ensures.free) c.in_ok-settle.ensures.settled c.settle.ensures.settles.faults (subst (λ (x : CatalogueState). (e : RegisterErr) → Refuses x.rows c.args.name.now e → ⊥) c.catalogue-2.ensures c.in_ok-refuse_taken-2.ensures.free) (parts g.D.Disk c.add_row.new.self) c.add_row.result c.settle.ensures.settles.any_moment c.settle.ensures.granularity c.add_row.ensures.changes
-
-pub returns-clause-step : goal.returns-clause-step
-returns-clause-step g c =
-    register_done g.D.Disk.tells c.args.name.now c.args.about.now (parts g.D.Disk c.args.self.now) (parts g.D.Disk c.settle.new.self) (subst (λ (x : CatalogueState). (e : RegisterErr) → Refuses x.rows c.args.name.now e → ⊥) c.catalogue.ensures c.in_ok-refuse_taken.ensures.free) c.in_ok-settle.ensures.settled c.settle.ensures.settles.faults (subst (λ (x : CatalogueState). (e : RegisterErr) → Refuses x.rows c.args.name.now e → ⊥) c.catalogue-2.ensures c.in_ok-refuse_taken-2.ensures.free) (parts g.D.Disk c.add_row.new.self) c.in_ok-add_row.field-0 c.in_ok-add_row.ensures.number
-    (λ m r. subst (λ (x : Result ℕ DiskErr). ChangesTo g.D.Disk.tells (AddsRow c.args.name.now c.args.about.now) (parts g.D.Disk c.settle.new.self) m (parts g.D.Disk c.add_row.new.self) x) c.in_ok-add_row.was (c.add_row.ensures.changes m r))
-
-pub returns-clause-crash : goal.returns-clause-crash
-returns-clause-crash g c =
-    crash_register g.D.Disk.tells c.args.name.now c.args.about.now (parts g.D.Disk c.args.self.now) (parts g.D.Disk c.settle.new.self) (subst (λ (x : CatalogueState). (e : RegisterErr) → Refuses x.rows c.args.name.now e → ⊥) c.catalogue.ensures c.in_ok-refuse_taken.ensures.free) c.in_ok-settle.ensures.settled c.settle.ensures.settles.faults (subst (λ (x : CatalogueState). (e : RegisterErr) → Refuses x.rows c.args.name.now e → ⊥) c.catalogue-2.ensures c.in_ok-refuse_taken-2.ensures.free) (parts g.D.Disk c.add_row.new.self) c.add_row.result c.settle.ensures.settles.any_moment c.settle.ensures.granularity c.add_row.ensures.changes
-
-pub returns-in_err-refuse_taken-clause-fronts : goal.returns-in_err-refuse_taken-clause-fronts
-returns-in_err-refuse_taken-clause-fronts g c = nothing_fronts g.D.Disk.tells (files_of (parts g.D.Disk c.args.self.now))
-
-pub returns-in_err-add_row-clause-fronts : goal.returns-in_err-add_row-clause-fronts
-returns-in_err-add_row-clause-fronts g c = fronts_on g.D.Disk.tells (files_of (parts g.D.Disk c.args.self.now)) (files_of (parts g.D.Disk c.settle.new.self)) (files_of (parts g.D.Disk c.add_row.new.self)) c.settle.ensures.fronts c.add_row.ensures.fronts
-
-pub returns-clause-fronts : goal.returns-clause-fronts
-returns-clause-fronts g c = fronts_on g.D.Disk.tells (files_of (parts g.D.Disk c.args.self.now)) (files_of (parts g.D.Disk c.settle.new.self)) (files_of (parts g.D.Disk c.add_row.new.self)) c.settle.ensures.fronts c.add_row.ensures.fronts
-
-pub returns-in_err-refuse_taken-clause-tidy : goal.returns-in_err-refuse_taken-clause-tidy
-returns-in_err-refuse_taken-clause-tidy g c settled well = tidy_none g.D.Disk.tells (parts g.D.Disk c.args.self.now) (parts g.D.Disk c.args.self.now) refl refl settled
-
-pub returns-in_err-settle-clause-tidy : goal.returns-in_err-settle-clause-tidy
-returns-in_err-settle-clause-tidy g c settled well =
-    let p = parts g.D.Disk c.args.self.now in
-    let q = parts g.D.Disk c.settle.new.self in
-    let same = ap (seen_all g.D.Disk) (c.settle.ensures.quiet settled) in
-    let slots = ap (λ t. t.slots.items) c.settle.ensures.moves in
-    tidy_none g.D.Disk.tells p q same slots settled
-
-pub returns-in_err-refuse_taken-2-clause-tidy : goal.returns-in_err-refuse_taken-2-clause-tidy
-returns-in_err-refuse_taken-2-clause-tidy g c settled well =
-    let p = parts g.D.Disk c.args.self.now in
-    let q = parts g.D.Disk c.settle.new.self in
-    let same = ap (seen_all g.D.Disk) (c.settle.ensures.quiet settled) in
-    let slots = ap (λ t. t.slots.items) c.settle.ensures.moves in
-    tidy_none g.D.Disk.tells p q same slots settled
-
-pub returns-in_err-add_row-clause-tidy : goal.returns-in_err-add_row-clause-tidy
-returns-in_err-add_row-clause-tidy g c settled well =
+pub returns-in_err-add_row : goal.returns-in_err-add_row
+returns-in_err-add_row g c who =
     let e = err_from_is_err_and c.from_residual-in_err-add_row.result c.from_residual-in_err-add_row.ensures.1 in
-    absurd (disk_not_well c.in_err-add_row.field-0.0 (subst (λ (r : Result ℕ RegisterErr). IsWell (register_reply r)) (e.1 ∙ ap (λ (x : RegisterErr). Err x) e.2) well))
-
-pub returns-clause-tidy : goal.returns-clause-tidy
-returns-clause-tidy g c settled well =
     let p = parts g.D.Disk c.args.self.now in
     let q = parts g.D.Disk c.settle.new.self in
-    let same = ap (seen_all g.D.Disk) (c.settle.ensures.quiet settled) in
-    let slots = ap (λ t. t.slots.items) c.settle.ensures.moves in
-    tidy_then g.D.Disk.tells p q (parts g.D.Disk c.add_row.new.self) same slots c.in_ok-add_row.ensures.tidy
+    let new = parts g.D.Disk c.add_row.new.self in
+    let free_now = free g (goal.at.returns-in_err-add_row g c).After-settle in
+    let free_later = free_then g (goal.at.returns-in_err-add_row g c).After-add_row in
+    let changed = subst (λ (x : Result ℕ DiskErr). Changed g.D.Disk.tells (AddsRow c.args.name.now c.args.about.now) q new x) c.in_err-add_row.was c.add_row.ensures.changed in
+    subst (λ (x : Result ℕ RegisterErr). RegisterEnds g.D.Disk.tells who c.args.name.now c.args.about.now p x new) (sym (e.1 ∙ ap (λ (d : RegisterErr). Err d) e.2))
+    (registered_so g.D.Disk.tells who c.args.name.now c.args.about.now p new (Err (Disk c.in_err-add_row.field-0.0)) (failed_then g.D.Disk.tells who (Register c.args.name.now c.args.about.now) (Registers c.args.name.now c.args.about.now) (registers_act who c.args.name.now c.args.about.now) p q c.settle.result c.settle.ensures.settling (λ settled. ap (seen_all g.D.Disk) (c.settle.ensures.quiet settled))
+    (λ m s. free_as g.D.Disk.tells p m s c.args.name.now free_now) c.in_ok-settle.ensures.settled (λ m s. free_as g.D.Disk.tells q m s c.args.name.now free_later) new (AddsRow c.args.name.now c.args.about.now) (λ m s. refl) c.in_err-add_row.field-0.0 changed))
+
+pub returns : goal.returns
+returns g c who =
+    let p = parts g.D.Disk c.args.self.now in
+    let q = parts g.D.Disk c.settle.new.self in
+    let new = parts g.D.Disk c.add_row.new.self in
+    let free_now = free g (goal.at.returns g c).After-settle in
+    let free_later = free_then g (goal.at.returns g c).After-add_row in
+    let changed = subst (λ (x : Result ℕ DiskErr). Changed g.D.Disk.tells (AddsRow c.args.name.now c.args.about.now) q new x) c.in_ok-add_row.was c.add_row.ensures.changed in
+    registered_so g.D.Disk.tells who c.args.name.now c.args.about.now p new (Ok c.in_ok-add_row.field-0) (done_then g.D.Disk.tells who (Register c.args.name.now c.args.about.now) (Registers c.args.name.now c.args.about.now) (registers_act who c.args.name.now c.args.about.now) p q c.settle.result c.settle.ensures.settling (λ settled. ap (seen_all g.D.Disk) (c.settle.ensures.quiet settled))
+    (λ m s. free_as g.D.Disk.tells p m s c.args.name.now free_now) c.in_ok-settle.ensures.settled (λ m s. free_as g.D.Disk.tells q m s c.args.name.now free_later) new (AddsRow c.args.name.now c.args.about.now) (λ m s. refl) c.in_ok-add_row.field-0 (register_reply (Ok c.in_ok-add_row.field-0)) changed
+    (λ m r. (ap (λ (n : ℕ). Registered n) (c.in_ok-add_row.ensures.number ∙ sym r.stands.rows.count), refl)))

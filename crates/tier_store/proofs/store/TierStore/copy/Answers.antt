@@ -1,147 +1,161 @@
-use Rattle.std.proofs.Common.{Err, inl, inr, Result, List, ◌+◌, ◌∙◌, ap, refl, subst, sym, arith}
+use Rattle.std.proofs.Common.{Ok, Err, List, ◌+◌, ◌∙◌, ap, subst, sym}
 use Rattle.std.proofs.lemmas.Result.{err_from_is_err_and}
+use Rattle.std.specs.Prelude.{IsTrue}
 use Rattle.disk_model.specs.declared.disk.DiskErr.{DiskErr}
-use Rattle.pv_catalog.specs.Catalogue.{CatalogueState}
-use Rattle.pv_catalog.specs.Rows.{KeepsRows}
-use Rattle.durable_write.specs.Ends.{end_of_disk}
-use Rattle.tier_store.specs.Copying.{CopiesAmong}
-use Rattle.tier_store.specs.Limbo.{LimboStands, staying}
-use Rattle.tier_store.specs.Pinned.{beside}
-use Rattle.tier_store.specs.Revival.{AreWhole}
-use Rattle.tier_store.specs.Seen.{IsSettled, seen, seen_on}
-use Rattle.tier_store.specs.declared.copying.CopyEnd.{CopyEnd}
-use Rattle.tier_store.specs.declared.limbo.Retired.{Retired}
-use Rattle.tier_store.proofs.Acting.{cut_given, is_one, settled_one, then_given}
-use Rattle.tier_store.proofs.CopyLooks.{copies_on, says_err}
-use Rattle.tier_store.proofs.CopyPass.{passes_none}
-use Rattle.tier_store.proofs.CopySteps.{moves_none, on_err, on_err_then, on_ok, others_then}
-use Rattle.tier_store.proofs.RevivalShown.{settled_whole, still_whole}
-use Rattle.tier_store.proofs.Staying.{limbo_kept}
-use Rattle.tier_store.specs.Strays.{MakesNoStray, targets}
+use Rattle.durable_write.specs.Flush.{put_all}
+use Rattle.durable_write.specs.Held.{Filed}
+use Rattle.tier_store.specs.Change.{Has}
+use Rattle.tier_store.specs.Copying.{CopiesAmong, CopiesBeside, SaysCopied, SaysNext, StepsOn}
 use Rattle.tier_store.specs.Pinned.{seen_all}
-use Rattle.std.specs.Prelude.{OnOk}
+use Rattle.tier_store.specs.Reviving.{AreBack}
+use Rattle.tier_store.specs.Seen.{IsSettled, seen}
+use Rattle.tier_store.specs.Stores.{Stores, list_at}
+use Rattle.tier_store.specs.Strays.{MakesNoStray, targets}
+use Rattle.tier_store.specs.declared.copying.CopyEnd.TheVariants as ends
+use Rattle.tier_store.specs.declared.limbo.Retired.{Retired}
+use Rattle.tier_store.proofs.CopyLimbo.{are_back, back_of}
+use Rattle.tier_store.proofs.CopySteps.{damaged_same, err_says, look_then_leaves, look_then_steps, looks_ends, looks_err, looks_held, looks_leave, looks_stands, moves_passed, moves_then, on_err, on_err_then, on_ok, says_ended, says_from, stays_changes}
+use Rattle.tier_store.proofs.CopyPass.{passes_then}
+use Rattle.tier_store.proofs.CopyTurn.{whole_read}
+use Rattle.tier_store.proofs.Strays.{copied_strays, ok_then, targets_same, targets_then}
+use Rattle.tier_store.proofs.store.TierStore.copy.Goals.{After-copy_left, In_ok-next}
 use Rattle.tier_store.proofs.store.TierStore.copy.Goals as goal
 
-pub copy_settled-requires-clause-runs : goal.copy_settled-requires-clause-runs
-copy_settled-requires-clause-runs g c =
-    let disk = g.D.Disk in
-    let old = c.args.self.now in
-    let mid = c.review.new.self in
-    let was = c.requires.begun in
-    let all = beside (seen_on disk.files disk.opened disk.past disk.faults old.catalogue old.manifests.items old.disk) old.limbo.items in
-    let between = beside (seen_on disk.files disk.opened disk.past disk.faults mid.catalogue mid.manifests.items mid.disk) mid.limbo.items in
-    let held = settled_one disk.tells between.stores was.2 was.3 (c.in_ok-review.ensures.settled was.2 was.3 was.4) in
-    let runs = is_one (λ s. CopiesAmong c.args.place disk.tells all was.1 c.args.moving.now was.0 s) was.2 was.3 held.0 held.1 was.5 was.6 in
-    (was.0, was.1, held.0, held.2, (copies_on c.args.place disk.tells all between c.args.moving.now was.0 held.0 c.review.ensures.granularity c.review.ensures.leaves runs.0, subst (λ (l : List Retired). AreWhole (c.args.place + 1) disk.tells between.stores l (held.0).stands was.1) (sym (ap (λ l. l.items) c.review.ensures.limbo)) (settled_whole disk.tells all.stores between.stores old.limbo.items was.2 was.3 was.4 c.in_ok-review.ensures.settled c.review.ensures.keeps c.review.ensures.granularity c.review.ensures.settles.files c.review.ensures.opened c.review.ensures.settles.frame (c.args.place + 1) (held.0).stands was.1 (omega (arith, c.requires.within)) runs.1)))
+pub pass_parts-requires-clause-runs : goal.pass_parts-requires-clause-runs
+pass_parts-requires-clause-runs g c = let runs = c.requires.runs in (runs.0, runs.2, runs.3, runs.4.0)
 
-pub copy_settled-requires-clause-stands : goal.copy_settled-requires-clause-stands
-copy_settled-requires-clause-stands g c = subst (LimboStands _) (sym (ap (λ v. v.items) c.review.ensures.limbo)) (limbo_kept _ _ c.args.self.now.limbo.items c.review.ensures.keeps c.review.ensures.granularity c.requires.stands)
+pub copy_left-requires-clause-runs : goal.copy_left-requires-clause-runs
+copy_left-requires-clause-runs g c =
+    let runs = c.requires.runs in
+    let said = subst (SaysNext c.args.place g.D.Disk.tells _ c.pass_parts.new.moving runs.0 runs.2) c.in-Line.is (c.in_ok-next.ensures.finds runs.0 runs.2 runs.3 runs.4.0).0 in
+    (runs.0, runs.1, runs.2, c.in_ok-next.ensures.looks.kept runs.2 runs.3, (said.0, whole_read (c.args.place + 1) g.D.Disk.tells _ _ _ runs.2.stands runs.1 c.in_ok-next.ensures.looks runs.4.1), said.1)
 
-pub returns-in_err-review-clause-copies : goal.returns-in_err-review-clause-copies
-returns-in_err-review-clause-copies g c files retired before after was one two =
+pub copy_left-requires-clause-stands : goal.copy_left-requires-clause-stands
+copy_left-requires-clause-stands g c = looks_stands g.D.Disk.tells _ _ _ c.in_ok-next.ensures.looks c.requires.stands
+
+-- AFTER AN ERROR OF THE LOOK
+
+pub returns-in_err-next-clause-copies : goal.returns-in_err-next-clause-copies
+returns-in_err-next-clause-copies g c files retired held has among =
     let p = err_from_is_err_and c.from_residual.result c.from_residual.ensures.1 in
-    says_err _ c.from_residual.result _ (p.1 ∙ ap (λ (x : DiskErr). Err x) p.2)
+    let both = err_says _ _ c.from_residual.result _ (p.1 ∙ ap (λ (x : DiskErr). Err x) p.2) (c.in_err-next.ensures.finds files held has among.0).1 in
+    (c.pass_parts.ensures.looks.kept held has, both.0, both.1)
 
-pub returns-in_err-review-clause-unfinished : goal.returns-in_err-review-clause-unfinished
-returns-in_err-review-clause-unfinished g c files retired before after was one two =
-    let disk = g.D.Disk in
-    let old = c.args.self.now in
-    let mid = c.review.new.self in
-    let all = beside (seen_on disk.files disk.opened disk.past disk.faults old.catalogue old.manifests.items old.disk) old.limbo.items in
-    let between = beside (seen_on disk.files disk.opened disk.past disk.faults mid.catalogue mid.manifests.items mid.disk) mid.limbo.items in
-    on_err _ c.from_residual.result (inl (
-      c.in_err-review.ensures.still before after was,
-      copies_on c.args.place disk.tells all between c.args.moving.now files before c.review.ensures.granularity c.review.ensures.leaves one.0,
-      copies_on c.args.place disk.tells all between c.args.moving.now files after c.review.ensures.granularity c.review.ensures.leaves two.0,
-    ))
-
-pub returns-in_err-review-clause-acts : goal.returns-in_err-review-clause-acts
-returns-in_err-review-clause-acts g c files retired =
+pub returns-in_err-next-clause-rest : goal.returns-in_err-next-clause-rest
+returns-in_err-next-clause-rest g c =
     let p = err_from_is_err_and c.from_residual.result c.from_residual.ensures.1 in
-    cut_given _ g.D.Disk.tells (staying {A = CopyEnd}) _ _ c.review.result c.in_err-review.field-0.0 _ c.in_err-review.was (ap (λ (r : Result CopyEnd DiskErr). end_of_disk r) (p.1 ∙ ap (λ (x : DiskErr). Err x) p.2)) (λ settled. (tt, (c.review.ensures.nothing settled).0)) c.in_err-review.ensures.still c.review.ensures.granularity c.review.ensures.settles
+    looks_leave g.D.Disk.tells _ _ c.args.moving.now _ c.requires.runs.3.known.three (looks_err g.D.Disk.tells _ _ c.pass_parts.result c.from_residual.result _ (c.in_err-next.was ∙ ap (λ (x : DiskErr). Err x) (sym p.2)) p.1 c.pass_parts.ensures.looks)
 
-pub returns-in_err-review-clause-leaves : goal.returns-in_err-review-clause-leaves
-returns-in_err-review-clause-leaves g c names later none = c.review.ensures.leaves names later
+pub returns-in_err-next-clause-changes : goal.returns-in_err-next-clause-changes
+returns-in_err-next-clause-changes g c files retired = stays_changes g.D.Disk.tells _ _ _ c.from_residual.result (λ held has among. looks_held g.D.Disk.tells _ _ _ held c.pass_parts.ensures.looks has) (returns-in_err-next-clause-rest g c).costs
 
-pub returns-clause-copies : goal.returns-clause-copies
-returns-clause-copies g c files retired before after was one two =
+pub returns-in_err-next-clause-same : goal.returns-in_err-next-clause-same
+returns-in_err-next-clause-same g c = (c.pass_parts.ensures.looks.catalogue, c.pass_parts.ensures.same.0, c.pass_parts.ensures.same.1)
+
+pub returns-in_err-next-clause-moves_on : goal.returns-in_err-next-clause-moves_on
+returns-in_err-next-clause-moves_on g c = moves_passed c.args.moving.now c.pass_parts.new.moving c.pass_parts.ensures.passes
+
+pub returns-in_err-next-clause-passes : goal.returns-in_err-next-clause-passes
+returns-in_err-next-clause-passes g c = on_err _ c.from_residual.result c.pass_parts.ensures.passes
+
+-- A LINE IS LEFT
+
+step : (g : _) (c : After-copy_left g) (files retired : List Filed) (held : Stores) → Has g.D.Disk.tells (seen g.D.Disk c.args.self.now) held → CopiesAmong c.args.place g.D.Disk.tells (seen_all g.D.Disk c.args.self.now) retired c.args.moving.now files held
+    → StepsOn g.D.Disk.tells (seen g.D.Disk c.args.self.now) (seen g.D.Disk c.copy_left.new.self) held (SaysCopied 1_048_576 c.args.place g.D.Disk.tells (seen_all g.D.Disk c.copy_left.new.self) retired c.pass_parts.new.moving c.copy_left.new.moving files held)
+    (CopiesBeside c.args.place g.D.Disk.tells (seen_all g.D.Disk c.copy_left.new.self) c.copy_left.new.moving files held) c.copy_left.result
+step g c files retired held has among =
+    let looks = c.in_ok-next.ensures.looks in
+    let said = subst (SaysNext c.args.place g.D.Disk.tells _ c.pass_parts.new.moving files held) c.in-Line.is (c.in_ok-next.ensures.finds files held has among.0).0 in
+    look_then_steps g.D.Disk.tells _ _ _ _ held _ _ _ looks has (c.copy_left.ensures.copies files retired held (looks.kept held has) (said.0, whole_read (c.args.place + 1) g.D.Disk.tells _ _ _ held.stands retired looks among.1) said.1)
+
+pub returns-in-Line-clause-copies : goal.returns-in-Line-clause-copies
+returns-in-Line-clause-copies g c files retired held has among =
+    let on = step g (goal.at.returns-in-Line-clause-copies g c).After-copy_left files retired held has among in
+    (on.stays.0, on_ok c.copy_left.result on.says (λ end says. says_from c.args.place c.args.moving.now c.pass_parts.new.moving files held c.in_ok-next.ensures.passes 1_048_576 g.D.Disk.tells _ retired c.copy_left.new.moving end says), on.still)
+
+pub returns-in-Line-clause-rest : goal.returns-in-Line-clause-rest
+returns-in-Line-clause-rest g c = look_then_leaves g.D.Disk.tells _ _ _ c.args.moving.now c.pass_parts.new.moving _ _ c.in_ok-next.ensures.passes c.requires.runs.3.known.three c.in_ok-next.ensures.looks c.copy_left.ensures.rest
+
+pub returns-in-Line-clause-changes : goal.returns-in-Line-clause-changes
+returns-in-Line-clause-changes g c files retired = stays_changes g.D.Disk.tells _ _ _ c.copy_left.result (λ held has among. (step g (goal.at.returns-in-Line-clause-changes g c).After-copy_left files retired held has among).stays) (returns-in-Line-clause-rest g c).costs
+
+pub returns-in-Line-clause-same : goal.returns-in-Line-clause-same
+returns-in-Line-clause-same g c =
+    let same = c.in_ok-next.ensures.same in
+    (c.copy_left.ensures.same.0 ∙ c.in_ok-next.ensures.looks.catalogue, c.copy_left.ensures.same.1 ∙ same.0, c.copy_left.ensures.same.2 ∙ same.1)
+
+pub returns-in-Line-clause-moves_on : goal.returns-in-Line-clause-moves_on
+returns-in-Line-clause-moves_on g c = moves_then c.args.moving.now c.pass_parts.new.moving c.copy_left.new.moving c.in_ok-next.ensures.passes c.copy_left.ensures.moves_on
+
+pub returns-in-Line-clause-passes : goal.returns-in-Line-clause-passes
+returns-in-Line-clause-passes g c = on_err_then c.copy_left.result c.copy_left.ensures.passes (λ passes. passes_then c.args.moving.now c.pass_parts.new.moving c.copy_left.new.moving c.in_ok-next.ensures.passes passes)
+
+pub returns-in-Line-clause-tidy : goal.returns-in-Line-clause-tidy
+returns-in-Line-clause-tidy g c =
     let disk = g.D.Disk in
-    let old = c.args.self.now in
-    let mid = c.review.new.self in
-    let all = beside (seen_on disk.files disk.opened disk.past disk.faults old.catalogue old.manifests.items old.disk) old.limbo.items in
-    let between = beside (seen_on disk.files disk.opened disk.past disk.faults mid.catalogue mid.manifests.items mid.disk) mid.limbo.items in
-    let held = settled_one disk.tells between.stores before after (c.in_ok-review.ensures.settled before after was) in
-    let those = is_one (λ s. CopiesAmong c.args.place disk.tells all retired c.args.moving.now files s) before after held.0 held.1 one two in
-    let runs : CopiesAmong c.args.place disk.tells between retired c.args.moving.now files held.0 = (copies_on c.args.place disk.tells all between c.args.moving.now files held.0 c.review.ensures.granularity c.review.ensures.leaves those.0, subst (λ (l : List Retired). AreWhole (c.args.place + 1) disk.tells between.stores l (held.0).stands retired) (sym (ap (λ l. l.items) c.review.ensures.limbo)) (settled_whole disk.tells all.stores between.stores old.limbo.items before after was c.in_ok-review.ensures.settled c.review.ensures.keeps c.review.ensures.granularity c.review.ensures.settles.files c.review.ensures.opened c.review.ensures.settles.frame (c.args.place + 1) (held.0).stands retired (omega (arith, c.requires.within)) those.1)) in
-    let said = c.copy_settled.ensures.copies files retired held.0 held.2 runs in
-    on_ok c.copy_settled.result said.1 (λ end says. (held.0, held.1, said.0, says))
+    let self = c.args.self.now in
+    let move = c.args.moving.now in
+    let mid = c.pass_parts.new.moving in
+    let was = c.requires.runs in
+    let now = (returns-in-Line-clause-copies g c was.0 was.1 was.2 was.3 was.4).0 in
+    let passed = λ (tells : IsTrue disk.tells). targets_same move mid (disk.files self.disk) (disk.files c.pass_parts.new.self.disk) (ap targets c.in_ok-next.ensures.passes.is) (c.in_ok-next.ensures.looks.reads.files tells) in
+    ok_then c.copy_left.result _ _ (λ writes. (now.settled, copied_strays disk.tells _ _ move c.copy_left.new.moving was.2 (ap (λ v. v.items) (returns-in-Line-clause-same g c).2) was.3 now (λ tells. targets_then move mid c.copy_left.new.moving _ _ _ (passed tells) (writes tells)))) c.copy_left.ensures.targets
 
-pub returns-clause-unfinished : goal.returns-clause-unfinished
-returns-clause-unfinished g c files retired before after was one two =
+-- NONE IS LEFT, OR ONE IS DAMAGED
+
+pub returns-in-End-clause-copies : goal.returns-in-End-clause-copies
+returns-in-End-clause-copies g c files retired held has among =
+    let all = seen_all g.D.Disk c.args.self.now in
+    let back = back_of g.D.Disk.tells all c.args.place c.args.moving.now files held has among.0.runs among.0.last c.requires.stands retired among.1 in
+    let are = are_back g.D.Disk.tells all c.args.place c.args.moving.now files held has among.0.runs among.0.last c.requires.stands retired among.1 in
+    let said = subst (SaysNext c.args.place g.D.Disk.tells _ c.pass_parts.new.moving files held) c.in-End.is (c.in_ok-next.ensures.finds files held has among.0).0 in (
+      c.in_ok-next.ensures.looks.kept held has,
+      says_ended c.args.place c.args.moving.now c.pass_parts.new.moving files held c.in_ok-next.ensures.passes 1_048_576 g.D.Disk.tells _ retired back
+          (subst (λ (l : List Retired). AreBack (c.args.place + 1) l retired (put_all (list_at (c.args.place + 1) held) files) back) (sym c.in_ok-next.ensures.looks.limbo) are) said,
+      tt,
+    )
+
+pub returns-in-End-clause-rest : goal.returns-in-End-clause-rest
+returns-in-End-clause-rest g c = looks_leave g.D.Disk.tells _ _ c.args.moving.now _ c.requires.runs.3.known.three (looks_ends g.D.Disk.tells _ _ _ _ (λ failed. failed) c.in_ok-next.ensures.looks)
+
+pub returns-in-End-clause-changes : goal.returns-in-End-clause-changes
+returns-in-End-clause-changes g c files retired = stays_changes g.D.Disk.tells _ _ _ (Ok ends.Copied) (λ held has among. looks_held g.D.Disk.tells _ _ _ held c.in_ok-next.ensures.looks has) (returns-in-End-clause-rest g c).costs
+
+pub returns-in-End-clause-same : goal.returns-in-End-clause-same
+returns-in-End-clause-same g c = (c.in_ok-next.ensures.looks.catalogue, c.in_ok-next.ensures.same.0, c.in_ok-next.ensures.same.1)
+
+pub returns-in-End-clause-moves_on : goal.returns-in-End-clause-moves_on
+returns-in-End-clause-moves_on g c = moves_passed c.args.moving.now c.pass_parts.new.moving c.in_ok-next.ensures.passes
+
+pub returns-in-Damaged-clause-copies : goal.returns-in-Damaged-clause-copies
+returns-in-Damaged-clause-copies g c files retired held has among =
+    let said = subst (SaysNext c.args.place g.D.Disk.tells _ c.pass_parts.new.moving files held) c.in-Damaged.is (c.in_ok-next.ensures.finds files held has among.0).0 in
+    (c.in_ok-next.ensures.looks.kept held has, damaged_same c.args.place c.args.moving.now c.pass_parts.new.moving files held c.in_ok-next.ensures.passes g.D.Disk.tells _ c.in-Damaged.name c.in-Damaged.at said, tt)
+
+pub returns-in-Damaged-clause-rest : goal.returns-in-Damaged-clause-rest
+returns-in-Damaged-clause-rest g c = looks_leave g.D.Disk.tells _ _ c.args.moving.now _ c.requires.runs.3.known.three (looks_ends g.D.Disk.tells _ _ _ _ (λ failed. failed) c.in_ok-next.ensures.looks)
+
+pub returns-in-Damaged-clause-changes : goal.returns-in-Damaged-clause-changes
+returns-in-Damaged-clause-changes g c files retired = stays_changes g.D.Disk.tells _ _ _ (Ok (ends.Damaged c.in-Damaged.name c.in-Damaged.at)) (λ held has among. looks_held g.D.Disk.tells _ _ _ held c.in_ok-next.ensures.looks has) (returns-in-Damaged-clause-rest g c).costs
+
+pub returns-in-Damaged-clause-same : goal.returns-in-Damaged-clause-same
+returns-in-Damaged-clause-same g c = (c.in_ok-next.ensures.looks.catalogue, c.in_ok-next.ensures.same.0, c.in_ok-next.ensures.same.1)
+
+pub returns-in-Damaged-clause-moves_on : goal.returns-in-Damaged-clause-moves_on
+returns-in-Damaged-clause-moves_on g c = moves_passed c.args.moving.now c.pass_parts.new.moving c.in_ok-next.ensures.passes
+
+passed_tidy : (g : _) (c : In_ok-next g) → IsSettled (seen g.D.Disk c.pass_parts.new.self) × MakesNoStray g.D.Disk.tells (seen_all g.D.Disk c.args.self.now) (targets c.args.moving.now) (seen_all g.D.Disk c.pass_parts.new.self) (targets c.pass_parts.new.moving)
+passed_tidy g c =
     let disk = g.D.Disk in
-    let old = c.args.self.now in
-    let mid = c.review.new.self in
-    let all = beside (seen_on disk.files disk.opened disk.past disk.faults old.catalogue old.manifests.items old.disk) old.limbo.items in
-    let between = beside (seen_on disk.files disk.opened disk.past disk.faults mid.catalogue mid.manifests.items mid.disk) mid.limbo.items in
-    let held = settled_one disk.tells between.stores before after (c.in_ok-review.ensures.settled before after was) in
-    let those = is_one (λ s. CopiesAmong c.args.place disk.tells all retired c.args.moving.now files s) before after held.0 held.1 one two in
-    let runs : CopiesAmong c.args.place disk.tells between retired c.args.moving.now files held.0 = (copies_on c.args.place disk.tells all between c.args.moving.now files held.0 c.review.ensures.granularity c.review.ensures.leaves those.0, subst (λ (l : List Retired). AreWhole (c.args.place + 1) disk.tells between.stores l (held.0).stands retired) (sym (ap (λ l. l.items) c.review.ensures.limbo)) (settled_whole disk.tells all.stores between.stores old.limbo.items before after was c.in_ok-review.ensures.settled c.review.ensures.keeps c.review.ensures.granularity c.review.ensures.settles.files c.review.ensures.opened c.review.ensures.settles.frame (c.args.place + 1) (held.0).stands retired (omega (arith, c.requires.within)) those.1)) in
-    let said = c.copy_settled.ensures.copies files retired held.0 held.2 runs in
-    on_err_then c.copy_settled.result said.2 (λ still. inr (held.0, held.1, said.0, still))
+    let move = c.args.moving.now in
+    let mid = c.pass_parts.new.moving in
+    let was = c.requires.runs in
+    let looks = c.in_ok-next.ensures.looks in
+    let now = looks.kept was.2 was.3 in
+    (now.settled, copied_strays disk.tells _ _ move mid was.2 looks.limbo was.3 now (λ tells. targets_same move mid _ _ (ap targets c.in_ok-next.ensures.passes.is) (looks.reads.files tells)))
 
-pub returns-clause-acts : goal.returns-clause-acts
-returns-clause-acts g c files retired =
-    let disk = g.D.Disk in
-    let old = c.args.self.now in
-    let mid = c.review.new.self in
-    let all = beside (seen_on disk.files disk.opened disk.past disk.faults old.catalogue old.manifests.items old.disk) old.limbo.items in
-    let between = beside (seen_on disk.files disk.opened disk.past disk.faults mid.catalogue mid.manifests.items mid.disk) mid.limbo.items in
-    then_given (CopiesAmong c.args.place disk.tells all retired c.args.moving.now files) (CopiesAmong c.args.place disk.tells between retired c.args.moving.now files) disk.tells (staying {A = CopyEnd}) _ _ _ (end_of_disk c.review.result) _
-    (λ held runs. let was = c.requires.begun in (copies_on c.args.place disk.tells all between c.args.moving.now files held c.review.ensures.granularity c.review.ensures.leaves runs.0, subst (λ (l : List Retired). AreWhole (c.args.place + 1) disk.tells between.stores l (held).stands retired) (sym (ap (λ l. l.items) c.review.ensures.limbo)) (settled_whole disk.tells all.stores between.stores old.limbo.items was.2 was.3 was.4 c.in_ok-review.ensures.settled c.review.ensures.keeps c.review.ensures.granularity c.review.ensures.settles.files c.review.ensures.opened c.review.ensures.settles.frame (c.args.place + 1) (held).stands retired (omega (arith, c.requires.within)) runs.1)))
-    c.in_ok-review.ensures.settled (λ held has. rw (c.review.ensures.nothing has.settled).1 has) c.review.ensures.granularity c.review.ensures.settles (c.copy_settled.ensures.changes files retired)
+pub returns-in-End-clause-tidy : goal.returns-in-End-clause-tidy
+returns-in-End-clause-tidy g c = passed_tidy g (goal.at.returns-in-End-clause-tidy g c).In_ok-next
 
-pub returns-clause-shown : goal.returns-clause-shown
-returns-clause-shown g c name bytes was = c.copy_settled.ensures.shown name bytes (c.review.ensures.shown name bytes was)
-
-pub returns-clause-leaves : goal.returns-clause-leaves
-returns-clause-leaves g c = others_then g.D.Disk.tells _ _ _ c.args.moving.now c.args.moving.now refl refl c.review.ensures.leaves c.copy_settled.ensures.leaves
-
-pub returns-clause-keeps : goal.returns-clause-keeps
-returns-clause-keeps g c = subst (λ (s : CatalogueState). KeepsRows c.args.self.now.catalogue.rows s.rows) (sym c.copy_settled.ensures.same.0) c.review.ensures.keeps
-
-pub returns-in_err-review-clause-moves_on : goal.returns-in_err-review-clause-moves_on
-returns-in_err-review-clause-moves_on g c = moves_none c.args.moving.now
-
-pub returns-in_err-review-clause-passes : goal.returns-in_err-review-clause-passes
-returns-in_err-review-clause-passes g c = on_err _ c.from_residual.result (passes_none c.args.moving.now)
-
-pub returns-in_err-review-clause-whole : goal.returns-in_err-review-clause-whole
-returns-in_err-review-clause-whole g c i stands files low whole =
-    let disk = g.D.Disk in
-    let old = c.args.self.now in
-    let mid = c.review.new.self in
-    let before = seen_on disk.files disk.opened disk.past disk.faults old.catalogue old.manifests.items old.disk in
-    let between = seen_on disk.files disk.opened disk.past disk.faults mid.catalogue mid.manifests.items mid.disk in
-    let was = c.requires.begun in
-    let says = c.review.ensures in
-    let limbo = old.limbo.items in
-    (files, subst (λ (l : List Retired). AreWhole i disk.tells between l stands files) (sym (ap (λ l. l.items) says.limbo)) (still_whole disk.tells before between limbo was.2 was.3 was.4 c.in_err-review.ensures.still says.keeps says.granularity says.settles.files says.opened says.settles.frame i stands files low whole))
-
-pub returns-clause-whole : goal.returns-clause-whole
-returns-clause-whole g c i stands files low whole =
-    let disk = g.D.Disk in
-    let old = c.args.self.now in
-    let mid = c.review.new.self in
-    let before = seen_on disk.files disk.opened disk.past disk.faults old.catalogue old.manifests.items old.disk in
-    let between = seen_on disk.files disk.opened disk.past disk.faults mid.catalogue mid.manifests.items mid.disk in
-    let was = c.requires.begun in
-    let says = c.review.ensures in
-    let limbo = old.limbo.items in
-    let settled = settled_whole disk.tells before between limbo was.2 was.3 was.4 c.in_ok-review.ensures.settled says.keeps says.granularity says.settles.files says.opened says.settles.frame i stands files low whole in
-    c.copy_settled.ensures.whole i stands files low (subst (λ (l : List Retired). AreWhole i disk.tells between l stands files) (sym (ap (λ l. l.items) says.limbo)) settled)
-
-pub returns-clause-settled : goal.returns-clause-settled
-returns-clause-settled g c sound = c.copy_settled.ensures.same.0 ∙ c.review.ensures.rows sound
-
-pub returns-clause-tidy : goal.returns-clause-tidy
-returns-clause-tidy g c settled = subst (λ s. OnOk c.copy_settled.result (IsSettled (seen g.D.Disk c.copy_settled.new.self) × MakesNoStray g.D.Disk.tells (seen_all g.D.Disk s) (targets c.args.moving.now) (seen_all g.D.Disk c.copy_settled.new.self) (targets c.copy_settled.new.moving))) (c.review.ensures.nothing settled).1 c.copy_settled.ensures.tidy
+pub returns-in-Damaged-clause-tidy : goal.returns-in-Damaged-clause-tidy
+returns-in-Damaged-clause-tidy g c = passed_tidy g (goal.at.returns-in-Damaged-clause-tidy g c).In_ok-next

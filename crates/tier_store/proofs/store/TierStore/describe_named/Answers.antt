@@ -3,7 +3,7 @@ use Rattle.pv_catalog.specs.Rows.{HasName}
 use Rattle.pv_catalog.specs.declared.row.Row.{Row}
 use Rattle.tier_store.specs.Details.{is_described, none_has}
 use Rattle.tier_store.specs.Pinning.{HasNoName}
-use Rattle.tier_store.proofs.PinsMore.{no_name, row_within}
+use Rattle.tier_store.proofs.PinnedFiles.{no_name, row_within}
 use Rattle.tier_store.proofs.store.TierStore.describe_named.Goals as goal
 
 pub returns-in_default-clause-says : goal.returns-in_default-clause-says

@@ -16,9 +16,9 @@ use Rattle.tier_store.specs.Retiring.{dropping, retired_of}
 use Rattle.tier_store.specs.Seen.{seen}
 use Rattle.tier_store.specs.declared.limbo.Retired.{Retired}
 use Rattle.tier_store.proofs.Asked.{drop_done, drop_fails, look_fails, look_then_call}
-use Rattle.tier_store.proofs.CopyLooks.{looks_err}
+use Rattle.tier_store.proofs.CopySteps.{looks_err}
 use Rattle.tier_store.proofs.LeavingNames.{names_then}
-use Rattle.tier_store.proofs.Removable.{found_still}
+use Rattle.tier_store.proofs.Removals.{found_still}
 use Rattle.tier_store.proofs.store.TierStore.drop_asked.Goals as goal
 
 pub drop_oldest-requires-clause-has : goal.drop_oldest-requires-clause-has

@@ -1,31 +1,40 @@
-use Rattle.std.proofs.Common.{◌+◌, Err, ◌∙◌, ap, refl, sym, subst, arith}
-use Rattle.std.specs.Prelude.{Result}
+use Rattle.std.proofs.Common.{◌≡◌, List, ◌+◌, Err, ◌∙◌, ap, refl, sym, subst, arith}
+use Rattle.std.specs.Prelude.{Result, Some, slice_get}
 use Rattle.std.proofs.lemmas.Result.{err_from_is_err_and}
 use Rattle.disk_model.specs.Files.{Name}
 use Rattle.disk_model.specs.declared.disk.DiskErr.{DiskErr}
 use Rattle.store_manifest.proofs.Written.{batch_length}
 use Rattle.store_manifest.specs.Entries.{AllCanFollow}
 use Rattle.durable_write.specs.Ends.{end_of_disk}
+use Rattle.durable_write.specs.Held.{Filed}
 use Rattle.durable_write.specs.Three.{Anything}
 use Rattle.tier_store.specs.Retiring.{dropping}
-use Rattle.tier_store.specs.Seen.{seen_on}
-use Rattle.tier_store.specs.Stores.{tier}
+use Rattle.tier_store.specs.Change.{CanList, Has}
+use Rattle.tier_store.specs.Seen.{seen}
+use Rattle.tier_store.specs.Stores.{Stores, tier}
 use Rattle.tier_store.proofs.Dropped.{can_drop, dropped_shown}
 use Rattle.tier_store.proofs.Drops.{oldest_follow}
 use Rattle.tier_store.proofs.Places.{manifest_here, holding, within_three}
 use Rattle.tier_store.proofs.RelistCall.{can_relist, beside_all, call_done, call_cut}
 use Rattle.tier_store.proofs.Removals.{lists_in_order}
 use Rattle.tier_store.proofs.LeavingNames.{commit_leaves_files}
+use Rattle.tier_store.proofs.store.TierStore.drop_oldest.Goals.{After-index_mut}
 use Rattle.tier_store.proofs.store.TierStore.drop_oldest.Goals as goal
 
+here : (g : _) (c : After-index_mut g) → slice_get c.args.self.now.manifests.items c.args.place ≡ Some c.index_mut.result.now
+here g c = manifest_here c.args.self.now.manifests.items c.args.place c.index_mut.result.now c.index_mut.ensures.value c.requires.within
+
+abbrev can : (g : _) (c : After-index_mut g) (held : Stores) → Has g.D.Disk.tells (seen g.D.Disk c.args.self.now) held → (files : List Filed) × CanList c.args.place g.D.Disk.tells (seen g.D.Disk c.args.self.now) c.args.drops.now held files
+can g c = can_drop g.D.Disk.tells (seen g.D.Disk c.args.self.now) c.args.place c.args.row c.args.n c.index_mut.result.now c.args.drops.now (here g c) (c.requires.drops c.index_mut.result.now (here g c))
+
 pub relist-requires-clause-sound : goal.relist-requires-clause-sound
-relist-requires-clause-sound g c = c.requires.has.1.settled.manifests c.args.place c.index_mut.result.now (manifest_here c.args.self.now.manifests.items c.args.place c.index_mut.result.now c.index_mut.ensures.value c.requires.within)
+relist-requires-clause-sound g c = c.requires.has.1.settled.manifests c.args.place c.index_mut.result.now (here g (goal.at.relist-requires-clause-sound g c).After-index_mut)
 
 pub relist-requires-clause-follow : goal.relist-requires-clause-follow
 relist-requires-clause-follow g c =
     let self = c.args.self.now in
     let m = c.index_mut.result.now in
-    let here = manifest_here self.manifests.items c.args.place m c.index_mut.ensures.value c.requires.within in
+    let here = here g (goal.at.relist-requires-clause-follow g c).After-index_mut in
     subst (AllCanFollow m.granularity m.entries) (sym (c.requires.drops m here)) (oldest_follow m.granularity c.args.row c.args.n m.entries (lists_in_order self.catalogue self.manifests.items c.requires.has.0 c.requires.has.1.known c.args.place m here))
 
 pub relist-requires-clause-few : goal.relist-requires-clause-few
@@ -34,84 +43,60 @@ relist-requires-clause-few g c = omega (arith, batch_length c.args.drops.now, c.
 pub relist-requires-clause-can : goal.relist-requires-clause-can
 relist-requires-clause-can g c tells =
     let self = c.args.self.now in
-    let disk = g.D.Disk in
     let was = c.requires.has in
-    let m = c.index_mut.result.now in
-    let at = seen_on disk.files disk.opened disk.past disk.faults self.catalogue self.manifests.items self.disk in
-    let here = manifest_here self.manifests.items c.args.place m c.index_mut.ensures.value c.requires.within in
-    let can = can_drop disk.tells at c.args.place c.args.row c.args.n m c.args.drops.now here (c.requires.drops m here) in (
+    let at = (goal.at.relist-requires-clause-can g c).After-index_mut in (
       self.catalogue.journal,
       (c.args.place + 1, self.catalogue.rows),
       tier c.args.place was.0,
-      holding c.args.place was.0 (can was.0 was.1).0,
-      can_relist disk.files disk.opened disk.past disk.faults disk.tells self.catalogue self.manifests.items c.args.place m m here self.disk self.disk c.args.drops.now can was.0 was.1 tells,
+      holding c.args.place was.0 (can g at was.0 was.1).0,
+      can_relist g.D.Disk.files g.D.Disk.opened g.D.Disk.past g.D.Disk.faults g.D.Disk.tells c.args.self.now.catalogue c.args.self.now.manifests.items c.args.place c.index_mut.result.now c.index_mut.result.now (here g at) self.disk self.disk c.args.drops.now (can g at) was.0 was.1 tells,
     )
 
 pub returns-clause-changes : goal.returns-clause-changes
 returns-clause-changes g c =
     let self = c.args.self.now in
-    let disk = g.D.Disk in
     let was = c.requires.has in
     let says = c.relist.ensures in
-    let m = c.index_mut.result.now in
-    let at = seen_on disk.files disk.opened disk.past disk.faults self.catalogue self.manifests.items self.disk in
-    let here = manifest_here self.manifests.items c.args.place m c.index_mut.ensures.value c.requires.within in
-    let can = can_drop disk.tells at c.args.place c.args.row c.args.n m c.args.drops.now here (c.requires.drops m here) in
-    call_done disk.files disk.opened disk.past disk.faults disk.tells self.catalogue self.manifests.items c.args.place m c.relist.new.manifest here self.disk c.relist.new.disk c.args.drops.now can
-    says.state.0 says.any_moment
-    (λ tells. beside_all disk.files disk.opened disk.past disk.faults disk.tells self.catalogue self.manifests.items c.args.place m c.relist.new.manifest here self.disk c.relist.new.disk c.args.drops.now can was.0 was.1 tells (says.frame tells) (says.elsewhere tells) (says.no_more tells))
+    let at = (goal.at.returns-clause-changes g c).After-index_mut in
+    call_done g.D.Disk.files g.D.Disk.opened g.D.Disk.past g.D.Disk.faults g.D.Disk.tells c.args.self.now.catalogue c.args.self.now.manifests.items c.args.place c.index_mut.result.now c.relist.new.manifest (here g at) self.disk c.relist.new.disk c.args.drops.now (can g at) says.state.0 says.any_moment
+    (λ tells. beside_all g.D.Disk.files g.D.Disk.opened g.D.Disk.past g.D.Disk.faults g.D.Disk.tells c.args.self.now.catalogue c.args.self.now.manifests.items c.args.place c.index_mut.result.now c.relist.new.manifest (here g at) self.disk c.relist.new.disk c.args.drops.now (can g at) was.0 was.1 tells (says.frame tells) (says.elsewhere tells) (says.no_more tells))
     says.faults (dropping c.args.place c.args.row c.args.n) (λ held has. refl) (λ held has. tt) c.in_ok-relist.ensures.entries c.in_ok-relist.ensures.sound c.in_ok-relist.ensures.made
 
 pub returns-in_err-relist-clause-changes : goal.returns-in_err-relist-clause-changes
 returns-in_err-relist-clause-changes g c =
     let self = c.args.self.now in
-    let disk = g.D.Disk in
     let was = c.requires.has in
     let says = c.relist.ensures in
-    let m = c.index_mut.result.now in
-    let at = seen_on disk.files disk.opened disk.past disk.faults self.catalogue self.manifests.items self.disk in
-    let here = manifest_here self.manifests.items c.args.place m c.index_mut.ensures.value c.requires.within in
-    let can = can_drop disk.tells at c.args.place c.args.row c.args.n m c.args.drops.now here (c.requires.drops m here) in
+    let at = (goal.at.returns-in_err-relist-clause-changes g c).After-index_mut in
+    let failed = c.in_err-relist in
     let p = err_from_is_err_and c.from_residual.result c.from_residual.ensures.1 in
-    call_cut disk.files disk.opened disk.past disk.faults disk.tells self.catalogue self.manifests.items c.args.place m c.relist.new.manifest here self.disk c.relist.new.disk c.args.drops.now can
-    says.state.0 says.any_moment
-    (λ tells. beside_all disk.files disk.opened disk.past disk.faults disk.tells self.catalogue self.manifests.items c.args.place m c.relist.new.manifest here self.disk c.relist.new.disk c.args.drops.now can was.0 was.1 tells (says.frame tells) (says.elsewhere tells) (says.no_more tells))
-    says.faults (dropping c.args.place c.args.row c.args.n) (λ held has. refl) (λ held has. tt) c.in_err-relist.ensures.unchanged c.in_err-relist.ensures.next c.in_err-relist.ensures.unmade c.in_err-relist.ensures.in_doubt
-    c.in_err-relist.field-0.0 _ (ap (λ (r : Result (Unit {0}) DiskErr). end_of_disk r) (p.1 ∙ ap (λ (x : DiskErr). Err x) p.2))
-    (λ is. says.memory (c.in_err-relist.was ∙ ap (λ (x : DiskErr). Err x) is)) (λ is. says.cause (c.in_err-relist.was ∙ ap (λ (x : DiskErr). Err x) is))
+    call_cut g.D.Disk.files g.D.Disk.opened g.D.Disk.past g.D.Disk.faults g.D.Disk.tells c.args.self.now.catalogue c.args.self.now.manifests.items c.args.place c.index_mut.result.now c.relist.new.manifest (here g at) self.disk c.relist.new.disk c.args.drops.now (can g at) says.state.0 says.any_moment
+    (λ tells. beside_all g.D.Disk.files g.D.Disk.opened g.D.Disk.past g.D.Disk.faults g.D.Disk.tells c.args.self.now.catalogue c.args.self.now.manifests.items c.args.place c.index_mut.result.now c.relist.new.manifest (here g at) self.disk c.relist.new.disk c.args.drops.now (can g at) was.0 was.1 tells (says.frame tells) (says.elsewhere tells) (says.no_more tells))
+    says.faults (dropping c.args.place c.args.row c.args.n) (λ held has. refl) (λ held has. tt) failed.ensures.unchanged failed.ensures.next failed.ensures.unmade failed.ensures.in_doubt failed.field-0.0 _ (ap (λ (r : Result (Unit {0}) DiskErr). end_of_disk r) (p.1 ∙ ap (λ (x : DiskErr). Err x) p.2))
+    (λ is. says.memory (failed.was ∙ ap (λ (x : DiskErr). Err x) is)) (λ is. says.cause (failed.was ∙ ap (λ (x : DiskErr). Err x) is))
 
 pub returns-clause-shown : goal.returns-clause-shown
 returns-clause-shown g c =
-    let self = c.args.self.now in
     let was = c.requires.has in
     let m = c.index_mut.result.now in
-    let here = manifest_here self.manifests.items c.args.place m c.index_mut.ensures.value c.requires.within in
-    dropped_shown g.D.Disk.tells c.args.place c.args.row c.args.n _ _ was.0 was.1 (within_three self.manifests.items c.args.place m was.1.known.three here) _ (returns-clause-changes g c) refl (λ f part. c.requires.handed was.0 f was.1.known part)
-    m here (λ tells. c.relist.ensures.elsewhere tells)
+    let here = here g (goal.at.returns-clause-shown g c).After-index_mut in
+    dropped_shown g.D.Disk.tells c.args.place c.args.row c.args.n _ _ was.0 was.1 (within_three c.args.self.now.manifests.items c.args.place m was.1.known.three here) _ (returns-clause-changes g c) refl (λ f part. c.requires.handed was.0 f was.1.known part) m here (λ tells. c.relist.ensures.elsewhere tells)
 
 pub returns-in_err-relist-clause-shown : goal.returns-in_err-relist-clause-shown
 returns-in_err-relist-clause-shown g c =
-    let self = c.args.self.now in
     let was = c.requires.has in
     let m = c.index_mut.result.now in
-    let here = manifest_here self.manifests.items c.args.place m c.index_mut.ensures.value c.requires.within in
-    dropped_shown g.D.Disk.tells c.args.place c.args.row c.args.n _ _ was.0 was.1 (within_three self.manifests.items c.args.place m was.1.known.three here) (end_of_disk c.from_residual.result) (returns-in_err-relist-clause-changes g c) refl (λ f part. c.requires.handed was.0 f was.1.known part)
-    m here (λ tells. c.relist.ensures.elsewhere tells)
+    let here = here g (goal.at.returns-in_err-relist-clause-shown g c).After-index_mut in
+    dropped_shown g.D.Disk.tells c.args.place c.args.row c.args.n _ _ was.0 was.1 (within_three c.args.self.now.manifests.items c.args.place m was.1.known.three here) (end_of_disk c.from_residual.result) (returns-in_err-relist-clause-changes g c) refl (λ f part. c.requires.handed was.0 f was.1.known part) m here (λ tells. c.relist.ensures.elsewhere tells)
 
 pub returns-clause-leaves : goal.returns-clause-leaves
 returns-clause-leaves g c =
-    let self = c.args.self.now in
-    let was = c.requires.has in
-    let m = c.index_mut.result.now in
-    let here = manifest_here self.manifests.items c.args.place m c.index_mut.ensures.value c.requires.within in
     let says = c.relist.ensures in
-    commit_leaves_files g.D.Disk.tells _ _ m.journal.name Anything refl (λ tells. ap (λ (n : Name). n.0) ((was.1.disk tells).each c.args.place m here).named) (λ tells n apart. says.elsewhere tells n apart) says.no_more says.frame
+    let m = c.index_mut.result.now in
+    commit_leaves_files g.D.Disk.tells _ _ m.journal.name Anything refl (λ tells. ap (λ (n : Name). n.0) ((c.requires.has.1.disk tells).each c.args.place m (here g (goal.at.returns-clause-leaves g c).After-index_mut)).named) (λ tells n apart. says.elsewhere tells n apart) says.no_more says.frame
 
 pub returns-in_err-relist-clause-leaves : goal.returns-in_err-relist-clause-leaves
 returns-in_err-relist-clause-leaves g c =
-    let self = c.args.self.now in
-    let was = c.requires.has in
-    let m = c.index_mut.result.now in
-    let here = manifest_here self.manifests.items c.args.place m c.index_mut.ensures.value c.requires.within in
     let says = c.relist.ensures in
-    commit_leaves_files g.D.Disk.tells _ _ m.journal.name Anything refl (λ tells. ap (λ (n : Name). n.0) ((was.1.disk tells).each c.args.place m here).named) (λ tells n apart. says.elsewhere tells n apart) says.no_more says.frame
+    let m = c.index_mut.result.now in
+    commit_leaves_files g.D.Disk.tells _ _ m.journal.name Anything refl (λ tells. ap (λ (n : Name). n.0) ((c.requires.has.1.disk tells).each c.args.place m (here g (goal.at.returns-in_err-relist-clause-leaves g c).After-index_mut)).named) (λ tells n apart. says.elsewhere tells n apart) says.no_more says.frame

@@ -4,7 +4,7 @@ use Rattle.disk_model.specs.Files.{Files}
 use Rattle.tier_store.specs.Limbo.{AreRemovable, IsLeftOver, IsUseless}
 use Rattle.tier_store.proofs.Asked.{if_ok_to, reads_look}
 use Rattle.tier_store.proofs.LeavingNames.{read_names}
-use Rattle.tier_store.proofs.Removable.{found_useless}
+use Rattle.tier_store.proofs.Removals.{found_useless}
 use Rattle.tier_store.proofs.store.TierStore.find_leaving.Goals as goal
 
 pub returns-clause-found : goal.returns-clause-found

@@ -4,7 +4,7 @@ use Rattle.disk_model.specs.declared.disk.DiskErr.{DiskErr}
 use Rattle.etl_mover.specs.Move.{MoveState}
 use Rattle.tier_store.specs.Pinned.{beside}
 use Rattle.tier_store.specs.Seen.{granularities, seen_on}
-use Rattle.tier_store.proofs.CopyLooks.{copies_on, copies_or_on, err_says, looks_ends, looks_err}
+use Rattle.tier_store.proofs.CopySteps.{copies_on, copies_or_on, err_says, looks_ends, looks_err}
 use Rattle.tier_store.proofs.CopyParts.{further, low, next_part}
 use Rattle.tier_store.proofs.CopyPass.{damaged_part, line_left, part_passed, passes_finished, passes_none}
 use Rattle.tier_store.proofs.store.TierStore.pass_next.Goals as goal
@@ -40,7 +40,7 @@ returns-in_err-part-clause-looks g c =
     looks_err g.D.Disk.tells _ _ c.part_lines.result c.from_residual.result _ (c.in_err-part.was ∙ ap (λ (x : DiskErr). Err x) (sym p.2)) p.1 c.part_lines.ensures.looks
 
 pub returns-in-Damaged-clause-finds : goal.returns-in-Damaged-clause-finds
-returns-in-Damaged-clause-finds g c files held has is = (damaged_part c.args.place c.args.moving.now held c.in_ok-part.part c.in-Damaged.at (low g.D.Disk.tells _ c.args.place c.args.moving.now files held has (further c.args.place g.D.Disk.tells _ c.args.moving.now files held is)) c.in-Damaged.is (c.in_ok-part.ensures.finds None files held c.last_moment-last.ensures has (further c.args.place g.D.Disk.tells _ c.args.moving.now files held is)), tt)
+returns-in-Damaged-clause-finds g c files held has is = (damaged_part c.args.place g.D.Disk.tells _ c.args.moving.now held c.in_ok-part.part c.in-Damaged.at (low g.D.Disk.tells _ c.args.place c.args.moving.now files held has (further c.args.place g.D.Disk.tells _ c.args.moving.now files held is)) c.in-Damaged.is (c.in_ok-part.ensures.finds None files held c.last_moment-last.ensures has (further c.args.place g.D.Disk.tells _ c.args.moving.now files held is)), tt)
 
 pub returns-in-Damaged-clause-passes : goal.returns-in-Damaged-clause-passes
 returns-in-Damaged-clause-passes g c = passes_none c.args.moving.now
@@ -53,7 +53,7 @@ returns-then-at-part-clause-finds g c files held has is =
     let looks = c.in_ok-part.ensures.looks in (
       (
         copies_on c.args.place g.D.Disk.tells _ _ c.args.moving.now files held (ap granularities looks.manifests) looks.leaves is,
-        line_left c.args.place c.args.moving.now held c.in_ok-part.part c.in-At.at c.in-At.is c.if-at-part.true (c.in_ok-part.ensures.finds None files held c.last_moment-last.ensures has (further c.args.place g.D.Disk.tells _ c.args.moving.now files held is)),
+        line_left c.args.place g.D.Disk.tells _ c.args.moving.now held c.in_ok-part.part c.in-At.at c.in-At.is c.if-at-part.true (c.in_ok-part.ensures.finds None files held c.last_moment-last.ensures has (further c.args.place g.D.Disk.tells _ c.args.moving.now files held is)),
       ),
       tt,
     )

@@ -1,9 +1,9 @@
-use Rattle.std.proofs.Common.{◌≡◌, Some, Option, refl, sym, ◌∙◌, ap, arith}
+use Rattle.std.proofs.Common.{refl, sym, ◌∙◌, ap, arith}
 use Rattle.etl_mover.specs.Move.{MoveState}
 use Rattle.store_manifest.specs.declared.entry.Entry.{Entry}
 use Rattle.tier_store.specs.Pinned.{beside}
 use Rattle.tier_store.specs.Seen.{seen_on}
-use Rattle.tier_store.proofs.CopyParts.{next_entry, next_file, next_part}
+use Rattle.tier_store.proofs.CopyParts.{next_found, next_never, next_part}
 use Rattle.tier_store.proofs.CopyPass.{fronts_finished, further_finished, parts_finished, passes_finished, passes_none, passes_then}
 use Rattle.tier_store.proofs.store.TierStore.pass_to.Goals as goal
 
@@ -15,15 +15,8 @@ loop-moving-init g c = record { further = λ files held has is. is; passes = pas
 
 pub unreachable-requires : goal.unreachable-requires
 unreachable-requires g c =
-    let disk = g.D.Disk in
-    let self = c.args.self.now in
     let runs = c.requires.runs in
-    let all = beside (seen_on disk.files disk.opened disk.past disk.faults self.catalogue self.manifests.items self.disk) self.limbo.items in
-    let move = c.loop-moving.moving in
-    let is = c.loop-moving.invariant.further runs.0 runs.1 runs.2 runs.3 in
-    let q = next_file disk.tells all c.args.place move runs.0 runs.1 runs.2 is in
-    let some = next_entry disk.tells all c.args.place move runs.0 runs.1 runs.2 is q.0 q.1 c.manifest.result.now (c.manifest.ensures c.args.place refl) c.next_entry.result c.next_entry.ensures in
-    absurd (cc (some, c.in_default.is))
+    next_never g.D.Disk.tells _ c.args.place c.loop-moving.moving runs.0 runs.1 runs.2 (c.loop-moving.invariant.further runs.0 runs.1 runs.2 runs.3) c.manifest.result.now (c.manifest.ensures c.args.place refl) c.next_entry.result c.next_entry.ensures c.in_default.is
 
 pub pass-requires-clause-running : goal.pass-requires-clause-running
 pass-requires-clause-running g c = let runs = c.requires.runs in let is = c.loop-moving.invariant.further runs.0 runs.1 runs.2 runs.3 in (is.runs.fine, is.runs.running)
@@ -33,11 +26,8 @@ pass-requires-clause-left g c = let runs = c.requires.runs in (c.loop-moving.inv
 
 pub loop-moving-smaller : goal.loop-moving-smaller
 loop-moving-smaller g c =
-    let disk = g.D.Disk in
-    let self = c.args.self.now in
     let runs = c.requires.runs in
-    let all = beside (seen_on disk.files disk.opened disk.past disk.faults self.catalogue self.manifests.items self.disk) self.limbo.items in
-    let part = next_part disk.tells all c.args.place c.loop-moving.moving runs.0 runs.1 runs.2 (c.loop-moving.invariant.further runs.0 runs.1 runs.2 runs.3) in
+    let part = next_part g.D.Disk.tells _ c.args.place c.loop-moving.moving runs.0 runs.1 runs.2 (c.loop-moving.invariant.further runs.0 runs.1 runs.2 runs.3) in
     let more = ap (λ (x : MoveState). x.at) (c.pass.ensures.passed part.0 part.1) in
     omega (arith, more, c.loop-moving-test.true, c.copied_parts.ensures)
 
@@ -56,11 +46,8 @@ loop-moving-preserved g c =
     record {
       further = λ files held has is.
           let is_now = inv.further files held has is in
-          let q = next_file disk.tells all c.args.place move files held has is_now in
-          let some = next_entry disk.tells all c.args.place move files held has is_now q.0 q.1 c.manifest.result.now (c.manifest.ensures c.args.place refl) c.next_entry.result c.next_entry.ensures in
-          let both : ◌≡◌ {A = Option Entry} (Some c.in-Some.entry) (Some q.0.entry) = sym c.in-Some.is ∙ some in
-          let same : c.in-Some.entry ≡ q.0.entry = cc (both) in
-          further_finished disk.tells all c.args.place move c.pass.new.self files held has is_now part.0 part.1 q.0 q.1 c.in-Some.entry.len (ap (λ (e : Entry). e.len) (sym same)) passed (c.pass.ensures.running is_now.runs.fine is_now.runs.running)
+          let q = next_found disk.tells all c.args.place move files held has is_now c.manifest.result.now (c.manifest.ensures c.args.place refl) c.next_entry.result c.next_entry.ensures c.in-Some.entry c.in-Some.is in
+          further_finished disk.tells all c.args.place move c.pass.new.self files held has is_now part.0 part.1 q.0 q.1 c.in-Some.entry.len (ap (λ (e : Entry). e.len) (sym q.2)) passed (c.pass.ensures.running is_now.runs.fine is_now.runs.running)
           (λ all. omega (arith, all, long, c.requires.high, c.loop-moving-test.true, c.copied_parts.ensures));
       passes = passes_then c.args.moving.now move c.pass.new.self inv.passes (passes_finished move c.pass.new.self part.0 c.in-Some.entry.len passed);
       most = omega (arith, more, c.loop-moving-test.true, c.copied_parts.ensures);

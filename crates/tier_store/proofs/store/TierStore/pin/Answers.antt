@@ -1,18 +1,35 @@
-use Rattle.tier_store.proofs.LeavingNames.{nothing_leaves}
-use Rattle.tier_store.proofs.PinsMore.{no_name}
+use Rattle.std.proofs.Common.{ap, subst}
+use Rattle.tier_store.specs.Opening.{end_of_answer}
+use Rattle.tier_store.specs.Pinned.{PinsStand, SeenAll}
+use Rattle.tier_store.specs.Seen.{seen}
+use Rattle.durable_write.specs.Ends.{IsCut}
+use Rattle.tier_store.proofs.PinnedFiles.{same_pins, says, stands}
+use Rattle.tier_store.proofs.Sparing.{same_all, same_seen}
 use Rattle.tier_store.proofs.store.TierStore.pin.Goals as goal
 
-pub returns-in_default-clause-settles : goal.returns-in_default-clause-settles
-returns-in_default-clause-settles g c i has = absurd (no_name c.args.self.now.catalogue.rows c.args.name.now i c.find.result c.in_default.is c.find.ensures.only has)
+pub pin_named-requires : goal.pin_named-requires
+pin_named-requires g c = record { three = c.requires.has.1.known.three }
 
-pub returns-in_default-clause-leaves : goal.returns-in_default-clause-leaves
-returns-in_default-clause-leaves g c = nothing_leaves g.D.Disk.tells _
+pub returns-clause-says : goal.returns-clause-says
+returns-clause-says g c held has =
+    let told = c.pin_named.ensures in
+    rw c.told.ensures (says g.D.Disk.tells (seen g.D.Disk c.args.self.now) held c.args.who c.args.name.now c.args.query c.args.tail c.args.self.now.pinned c.pin_named.new.self.pinned has c.pin_named.result told.pinned told.memory)
 
-pub returns-clause-leaves : goal.returns-clause-leaves
-returns-clause-leaves g c = c.pin_settled.ensures.leaves
+pub returns-clause-unchanged : goal.returns-clause-unchanged
+returns-clause-unchanged g c cut =
+    let told = c.pin_named.ensures in
+    let held = c.requires.has in
+    same_pins g.D.Disk.tells (seen g.D.Disk c.args.self.now) held.0 c.args.who c.args.name.now c.args.query c.args.tail c.args.self.now.pinned c.pin_named.new.self.pinned held.1 c.pin_named.result told.pinned told.memory
+    (subst (λ a. IsCut (end_of_answer a)) c.told.ensures cut)
 
-pub returns-in_default-clause-whole : goal.returns-in_default-clause-whole
-returns-in_default-clause-whole g c i stands files low whole = (files, whole)
-
-pub returns-clause-whole : goal.returns-clause-whole
-returns-clause-whole g c = c.pin_settled.ensures.whole
+pub returns-clause-stand : goal.returns-clause-stand
+returns-clause-stand g c stand =
+    let old = c.args.self.now in
+    let new = c.pin_named.new.self in
+    let disk = g.D.Disk in
+    let told = c.pin_named.ensures in
+    let same = told.same in
+    let held = c.requires.has in
+    subst (λ (s : SeenAll). PinsStand disk.tells s new.pinned)
+    (same_all (seen disk old) _ old.limbo.items new.limbo.items (same_seen disk.files disk.opened disk.past disk.faults old.catalogue new.catalogue old.manifests.items new.manifests.items old.disk new.disk same.0 (ap (λ m. m.items) same.1) same.2) (ap (λ l. l.items) told.limbo))
+    (stands disk.tells (seen disk old) held.0 c.args.who c.args.name.now c.args.query c.args.tail old.pinned new.pinned held.1 old.limbo.items c.pin_named.result told.pinned told.memory stand)

@@ -1,4 +1,4 @@
-use Rattle.tier_store.proofs.PinsMore.{none_named, row_within}
+use Rattle.tier_store.proofs.PinnedFiles.{none_named, row_within}
 use Rattle.tier_store.proofs.store.TierStore.pin_named.Goals as goal
 
 pub pin_row-requires-clause-row : goal.pin_row-requires-clause-row

@@ -1,8 +1,7 @@
 use Rattle.std.proofs.Common.{◌<◌, List, length, sym, subst, arith}
 use Rattle.pv_catalog.specs.declared.row.Row.{Row}
-use Rattle.tier_store.proofs.PinnedFiles.{opened_rows}
+use Rattle.tier_store.proofs.PinnedFiles.{opened_rows, chosen_for, pinned_row}
 use Rattle.tier_store.specs.Pinning.{listed_in}
-use Rattle.tier_store.proofs.PinsMore.{chosen_for, pinned_row}
 use Rattle.tier_store.proofs.store.TierStore.pin_row.Goals as goal
 
 pub pieces_of-requires : goal.pieces_of-requires

@@ -1,69 +1,90 @@
-use Rattle.std.proofs.Common.{[], Err, Result, List, ◌+◌, ◌≡◌, ℕ, ◌∙◌, ap, arith, refl, subst, sym}
-use Rattle.std.specs.Prelude.{OnOk, Bool}
-use Rattle.std.proofs.lemmas.Result.{err_from_is_err_and}
-use Rattle.disk_model.specs.declared.disk.DiskErr.{DiskErr}
-use Rattle.etl_mover.specs.Move.{MoveState}
-use Rattle.pv_catalog.specs.Catalogue.{CatalogueState}
-use Rattle.pv_catalog.specs.Rows.{KeepsRows}
+use Rattle.std.proofs.Common.{◌≡◌, ◌<◌, ◌+◌, Some, length, ap, refl, arith}
+use Rattle.disk_model.proofs.Passing.{passes_weaker}
+use Rattle.disk_model.specs.Files.{Name}
+use Rattle.gate_journal.specs.Generations.{AtOwn}
+use Rattle.pv_catalog.proofs.Standing.{keeps_same}
 use Rattle.durable_write.specs.Ends.{end_of_disk}
-use Rattle.durable_write.specs.Held.{Filed}
-use Rattle.tier_store.specs.Moving.{RunsBeside, LeavesLater, names_of, publishing}
-use Rattle.tier_store.specs.Pinned.{SeenAll, beside}
-use Rattle.tier_store.specs.Seen.{IsSettled, seen, granularities, seen_on}
-use Rattle.tier_store.specs.Stores.{Stores}
-use Rattle.tier_store.proofs.Acting.{cut_given, is_one, settled_one, then_given}
-use Rattle.tier_store.proofs.BesideMoves.{beside_itself, runs_still}
-use Rattle.tier_store.proofs.LeavingNames.{later_names, leaves_then}
-use Rattle.tier_store.proofs.WholeCalls.{whole_then}
-use Rattle.tier_store.specs.Strays.{MakesNoStray, targets}
+use Rattle.durable_write.specs.Flush.{with_files}
+use Rattle.durable_write.specs.Three.{Anything, Beside}
+use Rattle.tier_store.specs.Moving.{publishing}
 use Rattle.tier_store.specs.Pinned.{seen_all}
+use Rattle.tier_store.specs.Seen.{seen}
+use Rattle.std.specs.Prelude.{IsTrue, slice_get}
+use Rattle.tier_store.specs.Stores.{tier}
+use Rattle.tier_store.proofs.FlushCall.{on_store}
+use Rattle.tier_store.proofs.Framing.{commit_frame}
+use Rattle.tier_store.proofs.MovedFiles.{goes_on, has_copied, is_ahead, place_low, same_size, spares_then, publish_ends}
+use Rattle.tier_store.proofs.Places.{manifest_here}
+use Rattle.tier_store.proofs.Showing.{ends_held}
+use Rattle.tier_store.proofs.Strays.{file_apart, ok_both, ok_settled, published_strays}
+use Rattle.tier_store.proofs.store.TierStore.publish.Goals.{After-index_mut}
 use Rattle.tier_store.proofs.store.TierStore.publish.Goals as goal
 
--- the settling leaves what runs
-still : (i : ℕ) (tells : Bool) (old new : SeenAll) (move : MoveState) (files : List Filed) (held : Stores) → granularities new.stores.manifests ≡ granularities old.stores.manifests → LeavesLater tells old new → RunsBeside i tells old move files held → RunsBeside i tells new move files held
-still i tells old new move files held same leaves runs =
-    let next = runs.next in
-    runs_still i tells old new move files held held same (beside_itself i move.series held) (leaves (names_of (i + 1, held.rows) files) (later_names i (i + 1, held.rows) files refl (omega (arith, next)))) runs
+low : (g : _) (c : After-index_mut g) → c.args.place < length c.args.self.now.manifests.items
+low g c = let runs = c.requires.runs in place_low c.args.place g.D.Disk.tells (seen_all g.D.Disk c.args.self.now) c.args.moving.now runs.0 runs.1 runs.3
 
-pub publish_settled-requires-clause-runs : goal.publish_settled-requires-clause-runs
-publish_settled-requires-clause-runs g c =
-    let disk = g.D.Disk in
-    let old = c.args.self.now in
-    let mid = c.review.new.self in
-    let was = c.requires.begun in
-    let all = beside (seen_on disk.files disk.opened disk.past disk.faults old.catalogue old.manifests.items old.disk) old.limbo.items in
-    let between = beside (seen_on disk.files disk.opened disk.past disk.faults mid.catalogue mid.manifests.items mid.disk) mid.limbo.items in
-    let held = settled_one disk.tells between.stores was.1 was.2 (c.in_ok-review.ensures.settled was.1 was.2 was.3) in
-    let runs = is_one (λ s. RunsBeside c.args.place disk.tells all c.args.moving.now was.0 s) was.1 was.2 held.0 held.1 was.4 was.5 in
-    (was.0, held.0, held.2, still c.args.place disk.tells all between c.args.moving.now was.0 held.0 c.review.ensures.granularity c.review.ensures.leaves runs)
+here : (g : _) (c : After-index_mut g) → slice_get c.args.self.now.manifests.items c.args.place ≡ Some c.index_mut.result.now
+here g c = manifest_here c.args.self.now.manifests.items c.args.place c.index_mut.result.now c.index_mut.ensures.value (low g c)
 
-pub returns-in_err-review-clause-acts : goal.returns-in_err-review-clause-acts
-returns-in_err-review-clause-acts g c files =
-    let p = err_from_is_err_and c.from_residual.result c.from_residual.ensures.1 in
-    cut_given _ g.D.Disk.tells (publishing c.args.place files) _ _ c.review.result c.in_err-review.field-0.0 _ c.in_err-review.was (ap (λ (r : Result (Unit {0}) DiskErr). end_of_disk r) (p.1 ∙ ap (λ (x : DiskErr). Err x) p.2)) (λ settled. (tt, (c.review.ensures.nothing settled).0)) c.in_err-review.ensures.still c.review.ensures.granularity c.review.ensures.settles
+zero_store : (g : _) (c : After-index_mut g) → IsTrue g.D.Disk.tells → c.index_mut.result.now.journal.name.0 ≡ 0
+zero_store g c tells = ap (λ (n : Name). n.0) ((c.requires.runs.2.disk tells).each c.args.place c.index_mut.result.now (here g c)).named
 
-pub returns-clause-acts : goal.returns-clause-acts
-returns-clause-acts g c files =
-    let disk = g.D.Disk in
-    let old = c.args.self.now in
-    let mid = c.review.new.self in
-    let all = beside (seen_on disk.files disk.opened disk.past disk.faults old.catalogue old.manifests.items old.disk) old.limbo.items in
-    let between = beside (seen_on disk.files disk.opened disk.past disk.faults mid.catalogue mid.manifests.items mid.disk) mid.limbo.items in
-    then_given (RunsBeside c.args.place disk.tells all c.args.moving.now files) (RunsBeside c.args.place disk.tells between c.args.moving.now files) disk.tells (publishing c.args.place files) _ _ _ (end_of_disk c.review.result) _
-    (λ held runs. still c.args.place disk.tells all between c.args.moving.now files held c.review.ensures.granularity c.review.ensures.leaves runs)
-    c.in_ok-review.ensures.settled (λ held has. rw (c.review.ensures.nothing has.settled).1 has) c.review.ensures.granularity c.review.ensures.settles (c.publish_settled.ensures.changes files)
+pub index_mut-requires : goal.index_mut-requires
+index_mut-requires g c =
+    let runs = c.requires.runs in
+    let low = place_low c.args.place g.D.Disk.tells (seen_all g.D.Disk c.args.self.now) c.args.moving.now runs.0 runs.1 runs.3 in
+    omega (arith, low, c.args.self.now.manifests.ok.0)
 
-pub returns-clause-shown : goal.returns-clause-shown
-returns-clause-shown g c name bytes was = c.publish_settled.ensures.shown name bytes (c.review.ensures.shown name bytes was)
+pub publish-requires-clause-running : goal.publish-requires-clause-running
+publish-requires-clause-running g c = let runs = c.requires.runs.3 in (runs.fine, runs.running)
 
-pub returns-clause-leaves : goal.returns-clause-leaves
-returns-clause-leaves g c = leaves_then g.D.Disk.tells _ _ _ c.review.ensures.leaves c.publish_settled.ensures.leaves
+pub publish-requires-clause-sound : goal.publish-requires-clause-sound
+publish-requires-clause-sound g c = c.requires.runs.2.settled.manifests c.args.place c.index_mut.result.now (here g (goal.at.publish-requires-clause-sound g c).After-index_mut)
 
-pub returns-clause-keeps : goal.returns-clause-keeps
-returns-clause-keeps g c = subst (λ (s : CatalogueState). KeepsRows c.args.self.now.catalogue.rows s.rows) (sym c.publish_settled.ensures.same.0) c.review.ensures.keeps
+pub publish-requires-clause-same : goal.publish-requires-clause-same
+publish-requires-clause-same g c = let runs = c.requires.runs in same_size c.args.place g.D.Disk.tells _ c.args.moving.now runs.0 runs.1 c.index_mut.result.now (here g (goal.at.publish-requires-clause-same g c).After-index_mut) runs.3
 
-pub returns-clause-whole : goal.returns-clause-whole
-returns-clause-whole g c = whole_then g.D.Disk.tells _ _ _ c.review.ensures.whole c.publish_settled.ensures.whole
+pub publish-requires-clause-can : goal.publish-requires-clause-can
+publish-requires-clause-can g c tells =
+    let self = c.args.self.now in
+    let runs = c.requires.runs in (
+      self.catalogue.journal,
+      (c.args.place + 1, self.catalogue.rows),
+      tier c.args.place runs.1,
+      with_files (tier c.args.place runs.1) runs.0,
+      has_copied c.args.place g.D.Disk.tells (seen_all g.D.Disk c.args.self.now) runs.1 runs.0 runs.3.ahead c.index_mut.result.now (here g (goal.at.publish-requires-clause-can g c).After-index_mut) runs.2 tells (g.met.D.Disk.seen self.disk tells),
+      is_ahead c.args.place g.D.Disk.tells (seen_all g.D.Disk c.args.self.now) c.args.moving.now runs.0 runs.1 runs.3,
+    )
+
+pub returns-clause-changes : goal.returns-clause-changes
+returns-clause-changes g c files =
+    let self = c.args.self.now in
+    let runs = c.requires.runs in
+    let m = c.index_mut.result.now in
+    let says = c.publish.ensures in
+    let at = seen g.D.Disk c.args.self.now in
+    let here = here g (goal.at.returns-clause-changes g c).After-index_mut in
+    publish_ends g.D.Disk.files g.D.Disk.opened g.D.Disk.past g.D.Disk.faults g.D.Disk.tells self.catalogue self.manifests.items self.limbo.items c.args.place m c.publish.new.dest here self.disk c.publish.new.disk (λ tells. g.met.D.Disk.seen self.disk tells) c.args.moving.now files
+    c.publish.result says.commits says.relists
+    (λ tells. on_store g.D.Disk.tells at runs.1 c.args.place m here runs.2 tells _ _ _ (passes_weaker (AtOwn m.journal.name Anything) (Beside (c.args.place + 1) m.journal.name) _ _ (says.frame tells) (λ a x was step n other apart. step.elsewhere n apart)) (λ n other apart. says.elsewhere tells n apart) (says.no_more tells))
+    says.faults (λ is. says.memory is) (λ is. says.cause is)
+
+pub returns-clause-frame : goal.returns-clause-frame
+returns-clause-frame g c =
+    let at = (goal.at.returns-clause-frame g c).After-index_mut in
+    let runs = c.requires.runs in
+    let says = c.publish.ensures in
+    let change = returns-clause-changes g c runs.0 in
+    let by = c.index_mut.result.now in
+    commit_frame g.D.Disk.tells (publishing c.args.place runs.0) (seen_all g.D.Disk c.args.self.now) _ (end_of_disk c.publish.result) refl runs.1 runs.2 (change.ends runs.1 runs.2 runs.3) (goes_on c.args.place g.D.Disk.tells (seen_all g.D.Disk c.args.self.now) runs.1 runs.0 runs.3.ahead by (here g at) runs.2) (spares_then c.args.place g.D.Disk.tells (seen_all g.D.Disk c.args.self.now) runs.1 runs.0 runs.3.ahead by (here g at) runs.2)
+    by.journal.name Anything (keeps_same c.args.self.now.catalogue.rows) change.costs.granularity (zero_store g at) (λ tells n apart. says.elsewhere tells n apart) says.no_more says.frame
 
 pub returns-clause-tidy : goal.returns-clause-tidy
-returns-clause-tidy g c settled = subst (λ s. OnOk c.publish_settled.result (IsSettled (seen g.D.Disk c.publish_settled.new.self) × MakesNoStray g.D.Disk.tells (seen_all g.D.Disk s) (targets c.args.moving.now) (seen_all g.D.Disk c.publish_settled.new.self) [])) (c.review.ensures.nothing settled).1 c.publish_settled.ensures.tidy
+returns-clause-tidy g c =
+    let at = (goal.at.returns-clause-tidy g c).After-index_mut in
+    let runs = c.requires.runs in
+    let ends = (returns-clause-changes g c runs.0).ends runs.1 runs.2 runs.3 in
+    ok_both c.publish.result _ _ (ok_settled g.D.Disk.tells (publishing c.args.place runs.0) _ runs.1 (λ r. end_of_disk r) c.publish.result (λ a. refl) ends)
+    (published_strays g.D.Disk.tells (seen_all g.D.Disk c.args.self.now) _ c.args.place c.args.moving.now runs.0 runs.1 c.publish.result (let three = runs.2.known.three in let low = low g at in omega (arith, low, three)) refl runs.2 runs.3
+    (λ n h. ends_held g.D.Disk.tells (publishing c.args.place runs.0) (seen g.D.Disk c.args.self.now) _ runs.1 (end_of_disk c.publish.result) n 0 runs.2 (goes_on c.args.place g.D.Disk.tells (seen_all g.D.Disk c.args.self.now) runs.1 runs.0 runs.3.ahead c.index_mut.result.now (here g at) runs.2) ends h)
+    (λ tells n own. c.publish.ensures.elsewhere tells n (file_apart c.index_mut.result.now.journal.name n (zero_store g at tells) own)) ends)

@@ -3,9 +3,8 @@ use Rattle.tier_store.specs.Change.{Has}
 use Rattle.tier_store.specs.Seen.{Seen}
 use Rattle.tier_store.proofs.Acting.{only_reads}
 use Rattle.tier_store.proofs.ReadsThen.{has_read}
-use Rattle.tier_store.proofs.Settled.{same_seen}
-use Rattle.tier_store.proofs.Sparing.{same_shown}
-use Rattle.tier_store.proofs.LeavingNames.{read_leaves}
+use Rattle.tier_store.proofs.Sparing.{same_seen}
+use Rattle.tier_store.proofs.Framing.{read_frame}
 use Rattle.tier_store.proofs.store.TierStore.tally.Goals as goal
 
 pub tally_row-requires-clause-three : goal.tally_row-requires-clause-three
@@ -21,17 +20,12 @@ returns-clause-kept g c held has =
     (same_seen disk.files disk.opened disk.past disk.faults old.catalogue new.catalogue old.manifests.items new.manifests.items new.disk new.disk told.same.0 (ap (λ m. m.items) told.same.1) refl)
     (has_read disk.files disk.opened disk.past disk.faults disk.tells old.catalogue old.manifests.items old.disk new.disk told.reads held has)
 
-pub returns-clause-shown : goal.returns-clause-shown
-returns-clause-shown g c =
-    let told = c.tally_row.ensures in
-    same_shown g.D.Disk.tells _ _ told.same.0 (ap (λ v. v.items) told.same.1) (ap (λ v. v.items) told.same.3) (λ tells. (told.reads tells).same)
-
 pub returns-clause-reads : goal.returns-clause-reads
 returns-clause-reads g c =
     let told = c.tally_row.ensures in
     only_reads g.D.Disk.tells _ _ c.tally_row.result (λ tells. (told.reads tells).same) (λ tells. (told.reads tells).any_moment) told.faults told.cause
 
-pub returns-clause-leaves : goal.returns-clause-leaves
-returns-clause-leaves g c =
+pub returns-clause-frame : goal.returns-clause-frame
+returns-clause-frame g c =
     let says = c.tally_row.ensures in
-    read_leaves g.D.Disk.tells _ _ (ap (λ v. v.items) says.same.3) (λ told. (says.reads told).same) (λ told. (says.reads told).same_opened) (λ told. (says.reads told).any_moment)
+    read_frame g.D.Disk.tells _ _ c.requires.has.1.known.three says.same.0 (ap (λ v. v.items) says.same.1) (ap (λ v. v.items) says.same.3) (λ told. (says.reads told).same) (λ told. (says.reads told).same_opened) (λ told. (says.reads told).any_moment)

@@ -13,8 +13,7 @@ use Rattle.tier_store.specs.Pinning.{entries_of}
 use Rattle.tier_store.specs.Seen.{seen_on}
 use Rattle.tier_store.specs.Counting.{behind}
 use Rattle.tier_store.specs.Tallying.{Adds, end_of_files}
-use Rattle.tier_store.proofs.ListedTallies.{adds_three, ends_three, ok_weaker}
-use Rattle.tier_store.proofs.RowTallies.{own_rows, own_long, own_files, own_whole}
+use Rattle.tier_store.proofs.RowTallies.{adds_three, ends_three, ok_weaker, own_rows, own_long, own_files, own_whole}
 use Rattle.tier_store.proofs.store.TierStore.tally_row.Goals as goal
 
 pub add_files-requires-clause-rows : goal.add_files-requires-clause-rows
