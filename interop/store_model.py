@@ -435,8 +435,9 @@ def moment_at(data, at, header):
 
 
 def is_bad_line(data, type_number, at):
-    """Whether in a file of a type the line at a place is none that may stand there: it is no sample, or is one that isn't
-    later than the sample in front of it. Where the first line is no header of the type, that line is bad alone."""
+    """Whether in a file of a type the line at a place is the first bad one behind a sample, or behind the header: it is no
+    sample, or is one that isn't later than the sample in front of it. Where the first line is no header of the type, that
+    line is bad alone."""
     try:
         line, first = line_at(data, 0)
         header = pb_model.header(unescape(line))
@@ -447,8 +448,10 @@ def is_bad_line(data, type_number, at):
     if not first <= at < len(data) or data[at - 1] != ord("\n"):
         return False
     t = moment_at(data, at, header)
-    before = moment_at(data, data.rfind(b"\n", 0, at - 1) + 1, header) if at > first else None
-    return t is None or (before is not None and before >= t)
+    if at == first:
+        return t is None
+    before = moment_at(data, data.rfind(b"\n", 0, at - 1) + 1, header)
+    return before is not None and (t is None or before >= t)
 
 
 def damage_of(read, *parts):

@@ -15,7 +15,7 @@ use Rattle.pb_lines.specs.Sample.{IsSampleLine}
 use Rattle.pb_lines.proofs.Unique.{one_moment}
 use Rattle.pb_file.specs.declared.search.Found.{Found}
 use Rattle.pb_file.specs.declared.search.Parted.{Parted}
-use Rattle.pb_lines.specs.File.{IsFile, AreSamples, lines_of}
+use Rattle.pb_lines.specs.File.{IsFile, AreSamples, HasNoSample, lines_of}
 use Rattle.pb_file.specs.Search.{end_place, IsLastLine}
 use Rattle.pb_file.specs.Parting.{BeginsFrom, IsLineAt, IsFoundIn, IsPartedAt}
 use Rattle.pb_lines.proofs.FileLines.{all-append, all_rest, one_line}
@@ -232,6 +232,23 @@ found_later bytes head info samples n low high middle next last f file within h 
       begins = m.begins;
       last_is = h.last_is;
     }
+
+-- no line of a file is refused
+pub none_refused : (bytes head : List ℕ) (info : PayloadInfo) (samples : List Sample) (n low high middle next : ℕ) (last : Option ℕ) (at : ℕ) → IsFile bytes head info samples → middle ≤ length bytes → Narrowed head samples n low high next last → BeginsFrom bytes low middle at → HasNoSample info (λ t. Unit {0}) (drop at bytes) → ⊥
+none_refused bytes head info samples n low high middle next last at file within h begins bad =
+    let T : List Sample → Type 0 = λ l. bytes ≡ head ++ 10 ∷ lines_of l in
+    let A : List Sample → Type 0 = λ l. AreSamples info.ty info.year l in
+    let ys = h.between ++ h.later in
+    let text = subst T h.all file.text in
+    let are = all_rest _ h.earlier ys (subst A h.all file.lines) in
+    let a = aim bytes head info h.earlier ys low middle at text are h.low_is within begins in
+    let joined : h.earlier ++ ys ≡ (h.earlier ++ a.front) ++ a.rest = ap (λ (l : List Sample). h.earlier ++ l) a.list ∙ sym (append_assoc h.earlier a.front a.rest) in
+    let there : drop at bytes ≡ lines_of a.rest = ap (λ (m : ℕ). drop m bytes) a.place ∙ drop_front bytes head (h.earlier ++ a.front) a.rest (subst T joined text) in
+    by_rest a.rest there (all_rest _ a.front a.rest (subst A a.list are))
+  where
+    by_rest : (rest : List Sample) → drop at bytes ≡ lines_of rest → AreSamples info.ty info.year rest → ⊥
+    by_rest [] there are = bad.some there
+    by_rest (s ∷ more) there are = bad.none s (lines_of more) there are.0 tt
 
 -- NO LINE IS LEFT BETWEEN
 

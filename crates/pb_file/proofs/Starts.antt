@@ -1,5 +1,6 @@
--- Where lines begin, and what a search may refuse.
-use Rattle.std.proofs.Common.{◌≡◌, ℕ, ◌+◌, ◌-◌, ◌<◌, ◌≤◌, inl, inr, List, [], ◌∷◌, ◌++◌, Some, length, take, drop, arith, refl, sym, ap, ◌∙◌, subst, append_assoc, append-nil}
+-- Where lines begin, and where a search may end.
+use Rattle.std.proofs.Common.{◌≡◌, ℕ, ◌+◌, ◌-◌, ◌<◌, ◌≤◌, inl, inr, List, [], ◌∷◌, ◌++◌, Option, None, Some, length, take, drop, arith, refl, sym, ap, ◌∙◌, subst, append_assoc, append-nil}
+use Rattle.std.specs.Prelude.{IfSome}
 use Rattle.std.proofs.lemmas.List.{length-append, length-take-le, take-append-drop, take-take, take_at}
 use Rattle.std.proofs.lemmas.Bool.{cases_lt}
 use Rattle.line_escape.specs.Unescaping.{HasNoNewline}
@@ -9,9 +10,10 @@ use Rattle.pb_file.specs.declared.search.Found.{Found}
 use Rattle.pb_lines.specs.File.{IsFile, IsBadAt, HasNoHeader, lines_of}
 use Rattle.pb_file.specs.Walk.{Walk, Front, HasWalked}
 use Rattle.pb_file.specs.Skip.{HasHeader, BeginsBehind}
-use Rattle.pb_file.specs.Search.{IsLineStart, IsRefusedFor, IsNoSampleAt, IsRefusedAt}
+use Rattle.pb_file.specs.Search.{BeginsWithHeader, HasSampleAt, IsLineStart, MayBegin}
 use Rattle.pb_file.specs.Parting.{BeginsFrom, IsLineAt}
-use Rattle.pb_lines.proofs.FileMeaning.{begin_alike}
+use Rattle.pb_file.specs.declared.search.Parted.{Parted}
+use Rattle.pb_lines.proofs.FileMeaning.{begins, begin_alike}
 
 pub behind_start : (bytes : List ℕ) (first place at : ℕ) → place ≤ length bytes → BeginsBehind bytes place at → IsLineStart bytes first at
 behind_start bytes first place at within (inr h) = inr (inl h.1)
@@ -45,21 +47,6 @@ no_header_there bytes at zero (inr h) = absurd (no_file_of_none bytes h.head h.i
 within_len : (w : Walk) (bytes : List ℕ) (len : ℕ) (f : Front) → w.len ≡ len → HasWalked w bytes (Some f) → IsFile (take w.place (take len bytes)) f.head f.info f.samples
 within_len w bytes len f size h = let P : List ℕ → Type 0 = λ b. IsFile b f.head f.info f.samples in subst P (sym (take-take w.place len bytes (omega (arith, h.within, size)))) h.read.0
 
--- no sample's line stands there, though a header's stands at the front
-pub refused_behind : (w : Walk) (bytes : List ℕ) (len first at : ℕ) (f : Front) → w.len ≡ len → HasWalked w bytes (Some f) → IsRefusedFor f.info (take len bytes) first at → IsRefusedAt (take len bytes) first at
-refused_behind w bytes len first at f size h bad =
-    let all = take len bytes in
-    let file = within_len w bytes len f size h in
-    inr (record {
-      head = f.head;
-      rest = lines_of f.samples ++ drop w.place all;
-      info = f.info;
-      text = sym (take-append-drop w.place all) ∙ ap (λ (u : List ℕ). u ++ drop w.place all) file.text ∙ append_assoc f.head (10 ∷ lines_of f.samples) (drop w.place all);
-      whole = file.whole;
-      header = file.header;
-      bad = bad;
-    })
-
 -- the header that was read is that of the file
 pub header_of : (w : Walk) (bytes : List ℕ) (len : ℕ) (f : Front) (head : List ℕ) (info : PayloadInfo) (samples : List Sample) → w.len ≡ len → HasWalked w bytes (Some f) → IsFile (take len bytes) head info samples → HasHeader w bytes head info
 header_of w bytes len f head info samples size h file =
@@ -67,7 +54,32 @@ header_of w bytes len f head info samples size h file =
     let alike = begin_alike (take w.place all) all (drop w.place all) [] f.head head f.info info f.samples samples (within_len w bytes len f size h) file (take-append-drop w.place all ∙ sym (append-nil all)) in
     record { info_is = h.read.1 ∙ ap (λ (i : PayloadInfo). Some i) alike.infos; whole = file.whole; header = file.header; piece = h.piece }
 
+-- and of bytes that begin with it
+pub header_at : (w : Walk) (bytes : List ℕ) (len : ℕ) (f : Front) (head : List ℕ) (info : PayloadInfo) → w.len ≡ len → HasWalked w bytes (Some f) → BeginsWithHeader (take len bytes) head info → HasHeader w bytes head info
+header_at w bytes len f head info size h b =
+    let all = take len bytes in
+    let file = within_len w bytes len f size h in
+    let line = begins head info b.whole b.header in
+    let alike = begin_alike (take w.place all) (head ++ 10 ∷ []) (drop w.place all) b.rest f.head head f.info info f.samples [] file line (take-append-drop w.place all ∙ b.text ∙ sym (append_assoc head (10 ∷ []) b.rest)) in
+    record { info_is = h.read.1 ∙ ap (λ (i : PayloadInfo). Some i) alike.infos; whole = b.whole; header = b.header; piece = h.piece }
+
+-- a line that was found is that of a sample
+pub sample_there : (info : PayloadInfo) (bytes : List ℕ) (f : Found) → IsLineAt info bytes f → HasSampleAt info bytes f.at
+sample_there info bytes f h = record { sample = h.sample; rest = h.rest; is = h.is; text = h.text }
+
+-- so it is of both places of a search that stopped
+pub stops_so : (P Q : ℕ → Type 0) → ((n : ℕ) → Q n → P n) → (first : ℕ) (last : Option ℕ) (p : Parted) → p.last ≡ last → IfSome last (λ at. p.next ≡ at) → (last ≡ None → p.next ≡ first) → P first → IfSome last Q → P p.next × IfSome p.last Q
+stops_so P Q weaker first None p same some none here is = (subst P (sym (none refl)) here, subst (λ (o : Option ℕ). IfSome o Q) (sym same) tt)
+stops_so P Q weaker first (Some at) p same some none here is = (subst P (sym some) (weaker at is), subst (λ (o : Option ℕ). IfSome o Q) (sym same) is)
+
 -- where the samples are said to begin, or the end
+pub low_begins : (info : PayloadInfo) (bytes : List ℕ) (first len low : ℕ) → len ≡ length bytes → low ≤ first → (low < first → low ≡ len) → MayBegin info bytes first low
+low_begins info bytes first len low size below or_end =
+    elim (cases_lt low first) [
+      | inl less ↦ inr (inl (or_end less ∙ size))
+      | inr same ↦ inl (omega (arith, below, same))
+    ]
+
 pub low_start : (bytes : List ℕ) (first len low : ℕ) → len ≡ length bytes → low ≤ first → (low < first → low ≡ len) → IsLineStart bytes first low
 low_start bytes first len low size below or_end =
     elim (cases_lt low first) [

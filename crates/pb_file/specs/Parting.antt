@@ -7,7 +7,7 @@ use Rattle.pb_file.specs.declared.search.Parted.{Parted}
 use Rattle.pb_file.specs.declared.search.Found.{Found}
 use Rattle.pb_lines.specs.File.{IsSample}
 use Rattle.pb_file.specs.Skip.{BeginsBehind}
-use Rattle.pb_file.specs.Search.{place_from, IsLastLine, IsLineStart}
+use Rattle.pb_file.specs.Search.{place_from, IsLastLine, IsLineStart, HasSampleAt, MayBegin}
 
 -- the samples of the file part so at a moment
 abbrev pub IsPartedAt : List ℕ → List Sample → ℕ → Parted → Type 0
@@ -16,6 +16,10 @@ IsPartedAt head samples n p = (p.next ≡ place_from head samples n) × IsLastLi
 -- lines begin at both places, or it is the end
 abbrev pub AreLineStarts : List ℕ → ℕ → Parted → Type 0
 AreLineStarts bytes first p = IsLineStart bytes first p.next × IfSome p.last (λ at. IsLineStart bytes first at)
+
+-- from both places on a reading may begin, from the last line's with a sample
+abbrev pub AreBegins : PayloadInfo → List ℕ → ℕ → Parted → Type 0
+AreBegins info bytes first p = MayBegin info bytes first p.next × IfSome p.last (λ at. HasSampleAt info bytes at)
 
 -- where the first line begins from the middle on, if one begins at `low`
 abbrev pub BeginsFrom : List ℕ → ℕ → ℕ → ℕ → Type 0

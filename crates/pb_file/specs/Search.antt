@@ -1,11 +1,11 @@
--- Where the lines of a file part at a moment, and which lines a search may refuse.
-use Rattle.std.specs.Prelude.{◌≡◌, ◌⊎◌, ℕ, ◌+◌, List, [], ◌∷◌, ◌++◌, Option, None, Some, length, take, drop}
+-- Where the lines of a file part at a moment, and where a search of any bytes may end.
+use Rattle.std.specs.Prelude.{◌≡◌, ◌⊎◌, ℕ, List, [], ◌∷◌, ◌++◌, Option, None, Some, length, take, drop}
 use Rattle.line_escape.specs.Unescaping.{HasNoNewline}
 use Rattle.series_model.specs.declared.sample.Sample.{Sample}
 use Rattle.series_model.specs.Series.{before}
 use Rattle.payload_info.specs.declared.info.PayloadInfo.{PayloadInfo}
 use Rattle.pb_lines.specs.Header.{IsHeaderLine}
-use Rattle.pb_lines.specs.File.{HasNoHeader, HasNoSample, lines_of}
+use Rattle.pb_lines.specs.File.{IsSample, lines_of}
 
 -- how many bytes the file of a header's line and samples has
 abbrev pub end_place : List ℕ → List Sample → ℕ
@@ -25,20 +25,20 @@ IsLastLine head samples (Some at) = (front : List Sample) × (s : Sample) × (sa
 abbrev pub IsLineStart : List ℕ → ℕ → ℕ → Type 0
 IsLineStart bytes first at = (at ≡ first) ⊎ ((at ≡ length bytes) ⊎ ((front : List ℕ) × (take at bytes ≡ front ++ 10 ∷ [])))
 
--- At the place, where a line begins, bytes are left, but no line of a sample of the header's type and year.
-abbrev pub IsRefusedFor : PayloadInfo → List ℕ → ℕ → ℕ → Type 0
-IsRefusedFor info bytes first at = IsLineStart bytes first at × HasNoSample info (λ t. Unit {0}) (drop at bytes)
-
--- The bytes begin with a header's line, and at the place stands no line of a sample of its type and year.
-pub record IsNoSampleAt (bytes : List ℕ) (first at : ℕ) : Type 0 where
-  pub head : List ℕ
+-- the bytes begin with this line, which is a header's
+pub record BeginsWithHeader (bytes head : List ℕ) (info : PayloadInfo) : Type 0 where
   pub rest : List ℕ
-  pub info : PayloadInfo
   pub text : bytes ≡ head ++ 10 ∷ rest
   pub whole : HasNoNewline head
   pub header : IsHeaderLine head info
-  pub bad : IsRefusedFor info bytes first at
 
--- a line that no file has whose samples begin at `first`: no header's line stands at the front, or no sample's line stands there
-abbrev pub IsRefusedAt : List ℕ → ℕ → ℕ → Type 0
-IsRefusedAt bytes first at = ((at ≡ 0) × HasNoHeader bytes) ⊎ IsNoSampleAt bytes first at
+-- the line of a sample of the header's type and year stands at the place
+pub record HasSampleAt (info : PayloadInfo) (bytes : List ℕ) (at : ℕ) : Type 0 where
+  pub sample : Sample
+  pub rest : List ℕ
+  pub is : IsSample info.ty info.year sample
+  pub text : drop at bytes ≡ sample.line ++ 10 ∷ rest
+
+-- a reading may begin at the place: where the samples are said to begin, at the end of the bytes, or at the line of a sample
+abbrev pub MayBegin : PayloadInfo → List ℕ → ℕ → ℕ → Type 0
+MayBegin info bytes first at = (at ≡ first) ⊎ ((at ≡ length bytes) ⊎ HasSampleAt info bytes at)

@@ -5,12 +5,12 @@ ghost use Rattle.series_model.specs.declared.sample.Sample.{Sample as SampleValu
 ghost use Rattle.series_model.specs.Series.{before};
 ghost use Rattle.payload_info.specs.declared.info.PayloadInfo.{PayloadInfo as Info};
 ghost use Rattle.pb_file.specs.declared.search.SearchErr.TheVariants.{ReadFault, Damaged};
-ghost use Rattle.pb_lines.specs.File.{IsFile, IsBadAt, HasNoSample};
+ghost use Rattle.pb_lines.specs.File.{IsFile, IsBadAt, HasNoHeader, HasNoSample};
 ghost use Rattle.pb_file.specs.Block.{IsPieceOf};
 ghost use Rattle.pb_file.specs.Walk.{Front, HasWalked};
 ghost use Rattle.pb_file.specs.Skip.{HasHeader};
-ghost use Rattle.pb_file.specs.Search.{place_from, IsLastLine, IsLineStart, IsRefusedAt, IsRefusedFor};
-ghost use Rattle.pb_file.specs.Parting.{IsPartedAt, AreLineStarts, BeginsFrom, IsLineAt, IsFoundIn};
+ghost use Rattle.pb_file.specs.Search.{place_from, BeginsWithHeader, HasSampleAt, IsLastLine, IsLineStart, MayBegin};
+ghost use Rattle.pb_file.specs.Parting.{IsPartedAt, AreBegins, AreLineStarts, BeginsFrom, IsLineAt, IsFoundIn};
 
 use crate::steps::Steps;
 use crate::walk::{FileWalk, Walked};
@@ -23,7 +23,7 @@ use std::sync::ledger::Ledger;
 pub enum SearchErr {
     /// A read of the file failed.
     ReadFault,
-    /// A line that was looked at is no line of a file; it begins at this place.
+    /// The first line is no header's. It begins at this place, 0.
     Damaged { at: u64 },
     /// Memory ran out.
     Memory,
@@ -47,6 +47,9 @@ pub struct Found {
 /// The place of the first line of a file that is later than `t`, or `len`. The header's line with its newline has `head_len` bytes.
 /// Lines between are not read: at each halving of the range of places it reads the rest of one line, and one line.
 ///
+/// Of bytes that are no file it is a place from which they may be read on: `head_len`, `len`, or that of a sample's line. At a line
+/// that is none the search ends, with the last sample that it knows isn't later, or with `head_len`: so a reading from there meets that line.
+///
 /// What `work` had may be lost.
 pub fn first_after<H: ReadAt, L: Ledger>(
     alloc: Global,
@@ -62,7 +65,9 @@ pub fn first_after<H: ReadAt, L: Ledger>(
         → IfOk result (λ at. at ≡ place_from head samples (t + 1)) }
     ensures within { IfOk result (λ at. at ≤ len) }
     ensures start { IsTrue H.tells → IfOk result (λ at. IsLineStart (take len (H.bytes file.old)) head_len at) }
-    ensures refused { IsTrue H.tells → (at : ℕ) → result ≡ Err (Damaged at) → IsRefusedAt (take len (H.bytes file.old)) head_len at }
+    ensures begins { IsTrue H.tells → (head : List ℕ) (info : Info) → BeginsWithHeader (take len (H.bytes file.old)) head info
+        → IfOk result (λ at. MayBegin info (take len (H.bytes file.old)) head_len at) }
+    ensures refused { IsTrue H.tells → (at : ℕ) → result ≡ Err (Damaged at) → (at ≡ 0) × HasNoHeader (take len (H.bytes file.old)) }
     ensures same { IsTrue H.tells → H.bytes file.new ≡ H.bytes file.old }
     ensures faults { H.faults file.old ≤ H.faults file.new }
     ensures cause { result ≡ Err ReadFault → Rose (H.faults file.old) (H.faults file.new) }
@@ -73,7 +78,8 @@ pub fn first_after<H: ReadAt, L: Ledger>(
     Ok(parted.next)
 }
 
-/// The place of the last line of a file that is earlier than `t`, or `None` where no line is. For the rest it is as `first_after`.
+/// The place of the last line of a file that is earlier than `t`, or `None` where no line is. Of bytes that are no file it is that of a
+/// sample's line, or `None`. For the rest it is as `first_after`.
 pub fn last_before<H: ReadAt, L: Ledger>(
     alloc: Global,
     file: &mut H,
@@ -88,7 +94,9 @@ pub fn last_before<H: ReadAt, L: Ledger>(
         → IfOk result (λ last. IsLastLine head (before t samples) last) }
     ensures within { IfOk result (λ last. IfSome last (λ at. at ≤ len)) }
     ensures start { IsTrue H.tells → IfOk result (λ last. IfSome last (λ at. IsLineStart (take len (H.bytes file.old)) head_len at)) }
-    ensures refused { IsTrue H.tells → (at : ℕ) → result ≡ Err (Damaged at) → IsRefusedAt (take len (H.bytes file.old)) head_len at }
+    ensures begins { IsTrue H.tells → (head : List ℕ) (info : Info) → BeginsWithHeader (take len (H.bytes file.old)) head info
+        → IfOk result (λ last. IfSome last (λ at. HasSampleAt info (take len (H.bytes file.old)) at)) }
+    ensures refused { IsTrue H.tells → (at : ℕ) → result ≡ Err (Damaged at) → (at ≡ 0) × HasNoHeader (take len (H.bytes file.old)) }
     ensures same { IsTrue H.tells → H.bytes file.new ≡ H.bytes file.old }
     ensures faults { H.faults file.old ≤ H.faults file.new }
     ensures cause { result ≡ Err ReadFault → Rose (H.faults file.old) (H.faults file.new) }
@@ -117,7 +125,9 @@ fn part<H: ReadAt, L: Ledger>(
         → IfOk result (IsPartedAt head samples (until + 1)) }
     ensures within { IfOk result (λ p. (p.next ≤ len) × IfSome p.last (λ at. at ≤ len)) }
     ensures start { IsTrue H.tells → IfOk result (λ p. AreLineStarts (take len (H.bytes file.old)) head_len p) }
-    ensures refused { IsTrue H.tells → (at : ℕ) → result ≡ Err (Damaged at) → IsRefusedAt (take len (H.bytes file.old)) head_len at }
+    ensures begins { IsTrue H.tells → (head : List ℕ) (info : Info) → BeginsWithHeader (take len (H.bytes file.old)) head info
+        → IfOk result (λ p. AreBegins info (take len (H.bytes file.old)) head_len p) }
+    ensures refused { IsTrue H.tells → (at : ℕ) → result ≡ Err (Damaged at) → (at ≡ 0) × HasNoHeader (take len (H.bytes file.old)) }
     ensures same { IsTrue H.tells → H.bytes file.new ≡ H.bytes file.old }
     ensures faults { H.faults file.old ≤ H.faults file.new }
     ensures cause { result ≡ Err ReadFault → Rose (H.faults file.old) (H.faults file.new) }
@@ -159,7 +169,7 @@ fn read_header<H: ReadAt, L: Ledger>(
 }
 
 // Halves the range of places until no line begins in it. All lines that begin before it aren't later than `until`, and those from
-// `next` on are.
+// `next` on are. It stops at a line that is no sample's.
 fn halve<H: ReadAt, L: Ledger>(
     walk: &mut FileWalk,
     file: &mut H,
@@ -174,7 +184,9 @@ fn halve<H: ReadAt, L: Ledger>(
         → IfOk result (IsPartedAt head samples (until + 1)) }
     ensures within { IfOk result (λ p. (p.next ≤ walk.old.len) × IfSome p.last (λ at. at ≤ walk.old.len)) }
     ensures start { IsTrue H.tells → (head : List ℕ) (info : Info) → HasHeader walk.old (H.bytes file.old) head info → IfOk result (λ p. AreLineStarts (take walk.old.len (H.bytes file.old)) head_len p) }
-    ensures refused { IsTrue H.tells → (head : List ℕ) (info : Info) → HasHeader walk.old (H.bytes file.old) head info → (at : ℕ) → result ≡ Err (Damaged at) → IsRefusedFor info (take walk.old.len (H.bytes file.old)) head_len at }
+    ensures begins { IsTrue H.tells → (head : List ℕ) (info : Info) → HasHeader walk.old (H.bytes file.old) head info
+        → IfOk result (λ p. AreBegins info (take walk.old.len (H.bytes file.old)) head_len p) }
+    ensures never { (at : ℕ) → result ≡ Err (Damaged at) → ⊥ }
     ensures same { IsTrue H.tells → H.bytes file.new ≡ H.bytes file.old }
     ensures faults { H.faults file.old ≤ H.faults file.new }
     ensures cause { result ≡ Err ReadFault → Rose (H.faults file.old) (H.faults file.new) }
@@ -182,13 +194,19 @@ fn halve<H: ReadAt, L: Ledger>(
     ensures steps { (d : ℕ) → walk.old.len < 2 ^ d → steps.new ≤ steps.old + 2 * d }
 {
     let len = walk.len();
+    let first = head_len.min(len);
     let mut last = None;
     let mut next = len;
-    let mut low = head_len.min(len);
+    let mut low = first;
     let mut high = len;
     'halves: while low < high {
         let middle = low + (high - low) / 2;
-        let Some(found) = find(walk, file, low, middle, next, line, steps)? else {
+        let found = match find(walk, file, low, middle, next, line, steps) {
+            Ok(found) => found,
+            Err(SearchErr::Damaged { .. }) => return Ok(stopped(first, last)),
+            Err(err) => return Err(err),
+        };
+        let Some(found) = found else {
             high = middle;
             continue;
         };
@@ -201,6 +219,18 @@ fn halve<H: ReadAt, L: Ledger>(
         high = middle;
     }
     Ok(Parted { last, next })
+}
+
+// Where a search stops before its end: at the last line that it knows isn't later, or at the first one.
+fn stopped(first: u64, last: Option<u64>) -> Parted
+    ensures last { result.last ≡ last }
+    ensures some { IfSome last (λ at. result.next ≡ at) }
+    ensures none { last ≡ None → result.next ≡ first }
+{
+    Parted {
+        last,
+        next: last.unwrap_or(first),
+    }
 }
 
 // Reads the first line that begins from the middle on, if that is before `next`. A line begins at `low`.

@@ -38,8 +38,9 @@ use stream_merge::Merge;
 ///
 /// It pins the variable, opens the pin's pieces one by one, in order, by later acts, and reads them outside every act. Then it gives up
 /// the pin, at every answer, unless no act is left for that. At `Finished` the whole text was written, and at every other answer a front
-/// of it. Where no pin was made the output is untouched. Over files that somebody has damaged inside, `Finished` comes where no bad line was
-/// met, and the text is the answer over what was read.
+/// of it. Where no pin was made the output is untouched. Whatever somebody else has made of the files, the text at `Finished` is the answer
+/// over what was read: of each piece all from where its reading began, with none left, or as much as there is up to a sample behind the
+/// interval.
 pub fn retrieve<A: Actor, O: Out>(
     alloc: Global,
     actor: &mut A,

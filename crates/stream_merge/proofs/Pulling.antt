@@ -1,5 +1,5 @@
 -- What one read of the open piece, or of the next piece's header, comes to.
-use Rattle.std.proofs.Common.{◌≡◌, ℕ, ◌+◌, ◌≤◌, inl, inr, append_assoc, drop, Bool, List, [], ◌∷◌, ◌++◌, Option, None, Some, Result, Err, IsTrue, length, take, refl, sym, ap, ◌∙◌, subst, arith}
+use Rattle.std.proofs.Common.{◌≡◌, ◌⊎◌, ℕ, ◌+◌, ◌≤◌, inl, inr, append_assoc, drop, Bool, List, [], ◌∷◌, ◌++◌, Option, None, Some, Result, Err, IsTrue, length, take, refl, sym, ap, ◌∙◌, subst, arith}
 use Rattle.std.specs.Prelude.{IfNone}
 use Rattle.std.proofs.lemmas.List.{length-append, length-take, length-take-le, length-drop, take-append-drop, take-take, nil_from_length}
 use Rattle.std.proofs.lemmas.List.Elements.{Contains-push}
@@ -16,7 +16,7 @@ use Rattle.pb_file.specs.declared.search.SearchErr.TheVariants as refused
 use Rattle.pb_lines.specs.File.{IsFile, IsBadAt, HasNoSample, lines_of}
 use Rattle.pb_lines.proofs.FileMeaning.{begins}
 use Rattle.pb_file.specs.Walk.{Walk, Front, HasWalked, Walks, Gives, fresh, with_sample}
-use Rattle.pb_file.specs.Search.{IsLineStart, IsRefusedAt}
+use Rattle.pb_file.specs.Search.{HasSampleAt, IsLineStart, MayBegin}
 use Rattle.pb_file.specs.Skip.{HasSkipped, GoesOnFrom, from_place}
 use Rattle.pb_file.proofs.Walking.{bad_at, one_info}
 use Rattle.pb_file.proofs.Starts.{no_header_there}
@@ -27,7 +27,7 @@ use Rattle.stream_merge.specs.Pieces.{NamedBytes}
 use Rattle.stream_merge.specs.Reading.{IsReadAs, IsBadFor, IsDamaged}
 use Rattle.stream_merge.specs.Beginning.{IsAtLine, MovesOn, BeginsWell, TellsAs}
 use Rattle.stream_merge.specs.Source.{open_pieces, HasBegun, IsBegun, IsReady, GoesOnAs, IsOpenAs, BeginsAs, ReadsOpen, ClosesAs, HasRisen}
-use Rattle.stream_merge.proofs.Reading.{next_read, end_read, same_header, file_from, refused_bad}
+use Rattle.stream_merge.proofs.Reading.{next_read, end_read, same_header, file_from}
 
 -- OF THE OPEN PIECE
 
@@ -64,8 +64,9 @@ begun_on {R} tells bytes ty p file new line t b g within same skips = record {
       let P : List ℕ → Type 0 = λ l. HasBegun new l in
       let T : ℕ → Type 0 = λ n. take n (bytes p.reader) ≡ before.front.head ++ 10 ∷ before.rest in
       let L : ℕ → Type 0 = λ n. IsLineStart (take n (bytes p.reader)) (length before.front.head + 1) before.at in
+      let M : ℕ → Type 0 = λ n. MayBegin before.front.info (take n (bytes p.reader)) (length before.front.head + 1) before.at in
       let len : p.walk.len ≡ new.len = sym (ap (λ (v : Walk). v.len) g.4) in
-      subst P (sym (same told)) (record { at = before.at; front = with_sample before.front t line; rest = before.rest; skipped = skips told before.at before.front before.skipped; text = subst T len before.text; begins = subst L len before.begins });
+      subst P (sym (same told)) (record { at = before.at; front = with_sample before.front t line; rest = before.rest; skipped = skips told before.at before.front before.skipped; text = subst T len before.text; begins = subst L len before.begins; from = subst M len before.from });
 }
 
 pub line_read : {R : Type 0} (bytes : R → List ℕ) (p : OpenPiece R) (file : R) (new : Walk) (line : List ℕ) (t : ℕ) (xs : List Sample) → GoesOnAs bytes p xs → new.len ≡ p.walk.len → p.walk.len ≤ length (bytes p.reader) → bytes file ≡ bytes p.reader
@@ -83,6 +84,12 @@ line_read {R} bytes p file new line t xs now len long same skips =
 pub no_line_left : {R : Type 0} (bytes : R → List ℕ) (p : OpenPiece R) (new : Walk) (line : List ℕ) (xs : List Sample) → (now : GoesOnAs bytes p xs) → new.len ≡ p.walk.len → GoesOnFrom now.at now.front (bytes p.reader) line walked.End new → xs ≡ []
 no_line_left {R} bytes p new line xs now len end = end_read (bytes p.reader) now.at p.walk.len new now.front xs end len now.file
 
+-- a reading that comes upon a bad line didn't begin at the end
+not_at_end : (bytes : List ℕ) (info : PayloadInfo) (is_good : ℕ → Type 0) (first start bad : ℕ) → start ≤ bad → HasNoSample info is_good (drop bad bytes) → MayBegin info bytes first start → (start ≡ first) ⊎ HasSampleAt info bytes start
+not_at_end bytes info is_good first start bad order none (inl is) = inl is
+not_at_end bytes info is_good first start bad order none (inr (inl end)) = absurd (none.some (nil_from_length (drop bad bytes) (omega (arith, length-drop bad bytes, order, end))))
+not_at_end bytes info is_good first start bad order none (inr (inr sample)) = inr sample
+
 -- Its next line is bad.
 pub read_bad : (ty : PayloadType) (bytes line : List ℕ) (old new : Walk) (info : PayloadInfo) (bad : ℕ) → (b : HasBegun old bytes) → old.info ≡ Some info → info.ty ≡ ty → Gives old line (walked.Damaged bad) new → GoesOnFrom b.at b.front bytes line (walked.Damaged bad) new → IsBadFor ty (take old.len bytes) bad
 read_bad ty bytes line old new info bad b header type g goes =
@@ -90,6 +97,7 @@ read_bad ty bytes line old new info bad b header type g goes =
     let F : List ℕ → Type 0 = λ l. IsFile (from_place f.head b.at l) f.head f.info f.samples in
     let N : ℕ → Type 0 = λ n. IsFile (from_place f.head b.at (take n (take old.len bytes))) f.head f.info f.samples in
     let L : ℕ → Type 0 = λ n. HasNoSample f.info (λ t. end_of f.samples ≤ t) (drop bad (take n bytes)) in
+    let here = subst L (ap (λ (v : Walk). v.len) g.1) goes in
     inr (record {
       head = f.head;
       rest = b.rest;
@@ -99,9 +107,10 @@ read_bad ty bytes line old new info bad b header type g goes =
       text = b.text;
       type = ap (λ (i : PayloadInfo). i.ty) (one_info old.info f.info info b.skipped.header header) ∙ type;
       begins = b.begins;
+      from = not_at_end (take old.len bytes) f.info (λ t. end_of f.samples ≤ t) (length f.head + 1) b.at bad (omega (arith, b.skipped.begun, g.0)) here b.from;
       order = omega (arith, b.skipped.begun, g.0);
       lines = subst N (sym g.0) (subst F (sym (take-take old.place old.len bytes b.skipped.within)) b.skipped.read);
-      bad = subst L (ap (λ (v : Walk). v.len) g.1) goes;
+      bad = here;
     })
 
 -- The piece was closed.
@@ -187,12 +196,14 @@ at_header bytes line info w h long =
       text = sym (take-append-drop w.place all) ∙ ap (λ (u : List ℕ). u ++ rest) (take-take w.place w.len bytes h.within ∙ file.text) ∙ append_assoc line (10 ∷ []) rest;
       skipped = record { going = h.going; begun = omega arith; within = h.within; read = subst F (sym none) (begins line info file.whole file.header); header = h.read.1; earliest = h.read.2; piece = h.piece };
       begins = inl refl;
+      from = inl refl;
     }
 
 pub at_line_begun : (head_len : ℕ) (w : Walk) (bytes : List ℕ) → IsAtLine head_len w bytes → HasBegun w bytes
 at_line_begun head_len w bytes l =
     let L : ℕ → Type 0 = λ n. IsLineStart (take w.len bytes) n w.place in
-    record { at = w.place; front = record { head = l.head; info = l.info; samples = [] }; rest = l.rest; skipped = l.skipped; text = l.text; begins = subst L l.size l.begins }
+    let M : ℕ → Type 0 = λ n. MayBegin l.info (take w.len bytes) n w.place in
+    record { at = w.place; front = record { head = l.head; info = l.info; samples = [] }; rest = l.rest; skipped = l.skipped; text = l.text; begins = subst L l.size l.begins; from = subst M l.size l.from }
 
 pub begun_first : {R : Type 0} (tells : Bool) (bytes : R → List ℕ) (ty : PayloadType) (reader file : R) (name : Name) (line : List ℕ) (len : ℕ) (old new : Walk) → old ≡ fresh len → (g : Gives old line walked.Header new) → g.0.ty ≡ ty → new.place ≤ new.len
     → (IsTrue tells → len ≤ length (bytes reader)) → (IsTrue tells → bytes file ≡ bytes reader) → (IsTrue tells → IsAtLine new.place new (bytes reader))
@@ -245,12 +256,6 @@ head_place ty bytes head_len len w xs l same r =
     let T : ℕ → Type 0 = λ n. take n bytes ≡ l.head ++ 10 ∷ l.rest in
     let one = same_header (take len bytes) l.head r.head l.rest (lines_of xs) l.info r.info (subst T same l.text) r.file.text l.skipped.read.whole r.file.whole l.skipped.read.header r.file.header in
     l.size ∙ ap (λ (h : List ℕ). length h + 1) one.heads
-
--- A search refused a line of it.
-pub search_bad : (ty : PayloadType) (bytes : List ℕ) (head_len len at : ℕ) (w : Walk) (info : PayloadInfo) → w.info ≡ Some info → info.ty ≡ ty → w.len ≡ len → IsAtLine head_len w bytes → IsRefusedAt (take len bytes) head_len at → IsBadFor ty (take len bytes) at
-search_bad ty bytes head_len len at w info header type same l bad =
-    let T : ℕ → Type 0 = λ n. take n bytes ≡ l.head ++ 10 ∷ l.rest in
-    refused_bad ty (take len bytes) head_len at l.head l.rest l.info (subst T same l.text) l.skipped.read.whole l.skipped.read.header l.size (ap (λ (i : PayloadInfo). i.ty) (one_info w.info l.info info l.skipped.header header) ∙ type) bad
 
 -- what a failed search is told as
 pub told_damaged : {R : Type 0} (p : OpenPiece R) (e : SearchErr) (r : Merged R) (name : Name) (at : ℕ) → TellsAs p e r → r ≡ Damaged name at → (e ≡ refused.Damaged at) × (name ≡ p.name)

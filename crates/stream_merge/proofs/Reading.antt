@@ -16,7 +16,7 @@ use Rattle.pb_lines.specs.File.{IsFile, IsSample, HasNoSample, lines_of}
 use Rattle.pb_lines.proofs.FileLines.{all_rest, one_line, no_line}
 use Rattle.pb_lines.proofs.FileMeaning.{begins, begin_alike, excluded, one_file, some_left}
 use Rattle.pb_file.specs.Walk.{Walk, Front, HasWalked}
-use Rattle.pb_file.specs.Search.{end_place, IsLineStart, IsRefusedAt, IsNoSampleAt}
+use Rattle.pb_file.specs.Search.{end_place, IsLineStart}
 use Rattle.pb_file.specs.Skip.{HasSkipped, from_place}
 use Rattle.pb_file.proofs.Placing.{end_is, drop_front, locate, Located}
 use Rattle.stream_merge.specs.Reading.{IsBadFor, IsBadLine, IsReadAs}
@@ -149,28 +149,6 @@ none_bad ty bytes head info samples at file type (inl (zero, inr other)) = other
 none_bad ty bytes head info samples at file type (inr bad) = no_bad_line ty bytes head info samples at file bad
 
 -- WHAT A BAD LINE IS TOLD AS
-
--- a search refused a line
-pub refused_bad : (ty : PayloadType) (bytes : List ℕ) (first at : ℕ) (head rest : List ℕ) (info : PayloadInfo) → bytes ≡ head ++ 10 ∷ rest → HasNoNewline head → IsHeaderLine head info → first ≡ length head + 1 → info.ty ≡ ty → IsRefusedAt bytes first at → IsBadFor ty bytes at
-refused_bad ty bytes first at head rest info text whole header size type (inl none) = inl (none.0, inl none.1)
-refused_bad ty bytes first at head rest info text whole header size type (inr r) =
-    let one = same_header bytes head r.head rest r.rest info r.info text r.text whole r.whole header r.header in
-    let L : ℕ → Type 0 = λ n. IsLineStart bytes n at in
-    let F : List ℕ → Type 0 = λ l. IsFile (r.head ++ 10 ∷ l) r.head r.info [] in
-    let none : drop at (take at bytes) ≡ [] = nil_from_length (drop at (take at bytes)) (omega (arith, length-drop at (take at bytes), length-take at bytes)) in
-    inr (record {
-      head = r.head;
-      rest = r.rest;
-      info = r.info;
-      start = at;
-      samples = [];
-      text = r.text;
-      type = ap (λ (i : PayloadInfo). i.ty) (sym one.infos) ∙ type;
-      begins = subst L (size ∙ ap (λ (l : List ℕ). length l + 1) one.heads) r.bad.0;
-      order = omega arith;
-      lines = subst F (sym none) (begins r.head r.info r.whole r.header);
-      bad = record { some = r.bad.1.some; none = λ s more is sample good. r.bad.1.none s more is sample tt };
-    })
 
 -- the walk read a header of another type
 pub foreign_bad : (ty : PayloadType) (bytes line : List ℕ) (info : PayloadInfo) (w : Walk) (len : ℕ) → HasWalked w bytes (Some (record { head = line; info = info; samples = [] })) → w.len ≡ len → info.ty ≢ ty → IsBadFor ty (take len bytes) 0

@@ -10,7 +10,7 @@ use Rattle.series_model.proofs.RisingLists.{RisesFrom-front, RisesFrom-rest, Ris
 use Rattle.payload_info.specs.declared.info.PayloadInfo.{PayloadInfo}
 use Rattle.pb_lines.proofs.FileLines.{all_rest}
 use Rattle.pb_file.specs.Walk.{Walk, behind}
-use Rattle.pb_file.specs.Search.{end_place, place_from, IsLastLine, IsLineStart}
+use Rattle.pb_file.specs.Search.{end_place, place_from, BeginsWithHeader, IsLastLine, IsLineStart, MayBegin}
 use Rattle.pb_file.specs.Skip.{HasHeader, HasSkipped}
 use Rattle.pb_file.proofs.Placing.{end_is, end-append, split_two}
 use Rattle.pb_file.proofs.Skipping.{headed}
@@ -31,16 +31,18 @@ went old new at within moves stays =
       | inr past ↦ stayed past (stays (λ less more. omega (arith, less, past)))
     ]
 
-pub at_line : (head_len : ℕ) (old new : Walk) (bytes : List ℕ) (at : ℕ) → Went old new at → IsLineStart (take old.len bytes) head_len at
+pub at_line : (head_len : ℕ) (old new : Walk) (bytes : List ℕ) (at : ℕ) → Went old new at → IsLineStart (take old.len bytes) head_len at → ((head : List ℕ) (info : PayloadInfo) → BeginsWithHeader (take old.len bytes) head info → MayBegin info (take old.len bytes) head_len at)
     → (old.place < at → at ≤ old.len → (bytes head : List ℕ) (info : PayloadInfo) → HasHeader old bytes head info → HasSkipped new bytes at (record { head = head; info = info; samples = [] })) → at ≤ old.len → IsAtLine head_len old bytes → IsAtLine head_len new bytes
-at_line head_len old new bytes at (stayed past is) start skips within h = let P : Walk → Type 0 = λ w. IsAtLine head_len w bytes in subst P (sym is) h
-at_line head_len old new bytes at (moved less is) start skips within h =
+at_line head_len old new bytes at (stayed past is) start from skips within h = let P : Walk → Type 0 = λ w. IsAtLine head_len w bytes in subst P (sym is) h
+at_line head_len old new bytes at (moved less is) start from skips within h =
     let here : new.place ≡ at = ap (λ (w : Walk). w.place) is in
     let same : new.len ≡ old.len = ap (λ (w : Walk). w.len) is in
     let S : ℕ → Type 0 = λ n. HasSkipped new bytes n (record { head = h.head; info = h.info; samples = [] }) in
     let T : ℕ → Type 0 = λ n. take n bytes ≡ h.head ++ 10 ∷ h.rest in
     let L : ℕ → Type 0 = λ n. IsLineStart (take n bytes) head_len at in
     let A : ℕ → Type 0 = λ n. IsLineStart (take new.len bytes) head_len n in
+    let M : ℕ → Type 0 = λ n. MayBegin h.info (take n bytes) head_len at in
+    let N : ℕ → Type 0 = λ n. MayBegin h.info (take new.len bytes) head_len n in
     record {
       head = h.head;
       info = h.info;
@@ -49,6 +51,7 @@ at_line head_len old new bytes at (moved less is) start skips within h =
       text = subst T (sym same) h.text;
       skipped = subst S (sym here) (skips less within bytes h.head h.info (headed old bytes old.place (record { head = h.head; info = h.info; samples = [] }) h.skipped));
       begins = subst A (sym here) (subst L (sym same) start);
+      from = subst N (sym here) (subst M (sym same) (from h.head h.info (record { rest = h.rest; text = h.text; whole = h.skipped.read.whole; header = h.skipped.read.header })));
     }
 
 -- AT THE LAST ONE THAT IS EARLIER

@@ -10,7 +10,7 @@ use Rattle.payload_info.specs.declared.info.PayloadInfo.{PayloadInfo}
 use Rattle.pb_file.specs.declared.search.SearchErr.{SearchErr}
 use Rattle.pb_file.specs.declared.search.SearchErr.TheVariants as refused
 use Rattle.pb_file.specs.Walk.{Walk}
-use Rattle.pb_file.specs.Search.{IsLineStart, end_place}
+use Rattle.pb_file.specs.Search.{IsLineStart, MayBegin, end_place}
 use Rattle.pb_file.specs.Skip.{HasSkipped}
 use Rattle.stream_merge.specs.declared.pieces.Merged.{Merged}
 use Rattle.stream_merge.specs.declared.pieces.Merged.TheVariants.{ReadFault, Damaged, Memory}
@@ -32,7 +32,7 @@ AnswersAs n q xs ys = (kept : List Sample) → IsRising kept → end_of kept ≤
 
 -- THE WALK
 
--- The walk has read the header's line, of this length, and no sample since it went on at its place, where a line begins.
+-- The walk has read the header's line, of this length, and no sample since it went on at its place, from which a reading may begin.
 pub record IsAtLine (head_len : ℕ) (w : Walk) (bytes : List ℕ) : Type 0 where
   pub head : List ℕ
   pub info : PayloadInfo
@@ -41,6 +41,7 @@ pub record IsAtLine (head_len : ℕ) (w : Walk) (bytes : List ℕ) : Type 0 wher
   pub text : take w.len bytes ≡ head ++ 10 ∷ rest
   pub skipped : HasSkipped w bytes w.place (record { head = head; info = info; samples = [] })
   pub begins : IsLineStart (take w.len bytes) head_len w.place
+  pub from : MayBegin info (take w.len bytes) head_len w.place
 
 -- the walk goes on, at a place that it may have gone on to
 pub record MovesOn (old new : Walk) : Type 0 where

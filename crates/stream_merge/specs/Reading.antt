@@ -9,7 +9,7 @@ use Rattle.series_model.specs.Series.{end_of}
 use Rattle.payload_info.specs.declared.info.PayloadInfo.{PayloadInfo}
 use Rattle.pb_lines.specs.Header.{IsHeaderLine}
 use Rattle.pb_lines.specs.File.{IsFile, IsSample, HasNoHeader, HasNoSample}
-use Rattle.pb_file.specs.Search.{IsLineStart}
+use Rattle.pb_file.specs.Search.{HasSampleAt, IsLineStart}
 use Rattle.pb_file.specs.Skip.{from_place}
 use Rattle.stream_merge.specs.Pieces.{NamedBytes}
 
@@ -32,8 +32,8 @@ pub record HasForeignHeader (ty : PayloadType) (bytes : List ℕ) : Type 0 where
   pub header : IsHeaderLine head info
   pub other : info.ty ≢ ty
 
--- The bytes begin with a header of the type. From `start`, where a line begins, up to this place they are the lines of samples of the
--- header's year that rise, and here stands no such line that is later.
+-- The bytes begin with a header of the type. From the first line of samples, or from some later one at which such a line stands, up to
+-- this place they are the lines of samples of the header's year that rise, and here stands no such line that is later.
 pub record IsBadLine (ty : PayloadType) (bytes : List ℕ) (at : ℕ) : Type 0 where
   pub head : List ℕ
   pub rest : List ℕ
@@ -43,6 +43,7 @@ pub record IsBadLine (ty : PayloadType) (bytes : List ℕ) (at : ℕ) : Type 0 w
   pub text : bytes ≡ head ++ 10 ∷ rest
   pub type : info.ty ≡ ty
   pub begins : IsLineStart bytes (length head + 1) start
+  pub from : (start ≡ length head + 1) ⊎ HasSampleAt info bytes start
   pub order : start ≤ at
   pub lines : IsFile (from_place head start (take at bytes)) head info samples
   pub bad : HasNoSample info (λ t. end_of samples ≤ t) (drop at bytes)

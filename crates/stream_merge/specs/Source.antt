@@ -12,7 +12,7 @@ use Rattle.pb_file.specs.declared.walk.Walked.{Walked}
 use Rattle.pb_file.specs.declared.walk.Walked.TheVariants as walked
 use Rattle.pb_lines.specs.File.{IsFile}
 use Rattle.pb_file.specs.Walk.{Walk, Front, HoldsSample}
-use Rattle.pb_file.specs.Search.{IsLineStart}
+use Rattle.pb_file.specs.Search.{IsLineStart, MayBegin}
 use Rattle.pb_file.specs.Skip.{HasSkipped, from_place}
 use Rattle.stream_merge.specs.declared.pieces.Merged.{Merged}
 use Rattle.stream_merge.specs.declared.pieces.Merged.TheVariants.{Line, End, ReadFault, Damaged, Spent, Memory}
@@ -24,7 +24,7 @@ use Rattle.stream_merge.specs.Beginning.{early_count, IsPlaced, AnswersAs}
 
 -- THE OPEN PIECE
 
--- The bytes begin with the header's line. The walk went on at a place where a line begins, and since then has read samples.
+-- The bytes begin with the header's line. The walk went on at a place from which a reading may begin, and since then has read samples.
 pub record HasBegun (w : Walk) (bytes : List ℕ) : Type 0 where
   pub at : ℕ
   pub front : Front
@@ -32,6 +32,7 @@ pub record HasBegun (w : Walk) (bytes : List ℕ) : Type 0 where
   pub skipped : HasSkipped w bytes at front
   pub text : take w.len bytes ≡ front.head ++ 10 ∷ rest
   pub begins : IsLineStart (take w.len bytes) (length front.head + 1) at
+  pub from : MayBegin front.info (take w.len bytes) (length front.head + 1) at
 
 -- The header was read, which is of the type, and the walk goes on. The reader has the bytes of the piece.
 pub record IsBegun {R : Type 0} (tells : Bool) (bytes : R → List ℕ) (ty : PayloadType) (p : OpenPiece R) : Type 0 where

@@ -3,10 +3,9 @@ ghost use Rattle.std.specs.Prelude.{◌≡◌, ◌≤◌, ◌<◌, ◌+◌, ◌*
 ghost use Rattle.disk_model.specs.Files.{Rose};
 ghost use Rattle.series_model.specs.declared.sample.Sample.{Sample};
 ghost use Rattle.payload_info.specs.declared.info.PayloadInfo.{PayloadInfo};
-ghost use Rattle.pb_lines.specs.File.{IsFile};
+ghost use Rattle.pb_lines.specs.File.{IsFile, HasNoHeader};
 ghost use Rattle.pb_file.specs.declared.search.SearchErr.TheVariants.{ReadFault, Damaged};
 ghost use Rattle.pb_file.specs.Walk.{behind};
-ghost use Rattle.pb_file.specs.Search.{IsRefusedAt};
 ghost use Rattle.stream_merge.specs.Beginning.{IsAtLine, MovesOn, Splits, BeginsBefore, BeginsFrom, BeginsWell};
 
 use disk_model::ReadAt;
@@ -35,7 +34,7 @@ pub(crate) fn skip<R: ReadAt, L: Ledger>(
     ensures at_line { IsTrue R.tells → IsAtLine walk.old.place walk.old (R.bytes file.old) → IsAtLine walk.old.place walk.new (R.bytes file.old) }
     ensures begins { IsTrue R.tells → (head : List ℕ) (info : PayloadInfo) (samples : List Sample) → IsFile (take len (R.bytes file.old)) head info samples → walk.old.place ≡ length head + 1
         → OnOk result (BeginsWell (behind last) query head samples walk.new.place) }
-    ensures refused { IsTrue R.tells → (at : ℕ) → result ≡ Err (Damaged at) → IsRefusedAt (take len (R.bytes file.old)) walk.old.place at }
+    ensures refused { IsTrue R.tells → (at : ℕ) → result ≡ Err (Damaged at) → (at ≡ 0) × HasNoHeader (take len (R.bytes file.old)) }
     ensures same { IsTrue R.tells → R.bytes file.new ≡ R.bytes file.old }
     ensures cause { result ≡ Err ReadFault → Rose (R.faults file.old) (R.faults file.new) }
     ensures counts { steps.old ≤ steps.new }
@@ -69,7 +68,7 @@ fn skip_earlier<R: ReadAt, L: Ledger>(
     ensures at_line { IsTrue R.tells → IsAtLine head_len walk.old (R.bytes file.old) → IsAtLine head_len walk.new (R.bytes file.old) }
     ensures begins { IsTrue R.tells → (head : List ℕ) (info : PayloadInfo) (samples : List Sample) → IsFile (take len (R.bytes file.old)) head info samples → head_len ≡ length head + 1 → walk.old.place ≡ head_len
         → OnOk result (BeginsBefore from head samples walk.new.place) }
-    ensures refused { IsTrue R.tells → (at : ℕ) → result ≡ Err (Damaged at) → IsRefusedAt (take len (R.bytes file.old)) head_len at }
+    ensures refused { IsTrue R.tells → (at : ℕ) → result ≡ Err (Damaged at) → (at ≡ 0) × HasNoHeader (take len (R.bytes file.old)) }
     ensures same { IsTrue R.tells → R.bytes file.new ≡ R.bytes file.old }
     ensures faults { R.faults file.old ≤ R.faults file.new }
     ensures cause { result ≡ Err ReadFault → Rose (R.faults file.old) (R.faults file.new) }
@@ -103,7 +102,7 @@ fn skip_taken<R: ReadAt, L: Ledger>(
     ensures at_line { IsTrue R.tells → IsAtLine head_len walk.old (R.bytes file.old) → IsAtLine head_len walk.new (R.bytes file.old) }
     ensures begins { IsTrue R.tells → (head : List ℕ) (info : PayloadInfo) (samples here : List Sample) → IsFile (take len (R.bytes file.old)) head info samples → head_len ≡ length head + 1 → Splits head samples here walk.old.place
         → OnOk result (BeginsFrom (last + 1) head samples here walk.new.place) }
-    ensures refused { IsTrue R.tells → (at : ℕ) → result ≡ Err (Damaged at) → IsRefusedAt (take len (R.bytes file.old)) head_len at }
+    ensures refused { IsTrue R.tells → (at : ℕ) → result ≡ Err (Damaged at) → (at ≡ 0) × HasNoHeader (take len (R.bytes file.old)) }
     ensures same { IsTrue R.tells → R.bytes file.new ≡ R.bytes file.old }
     ensures cause { result ≡ Err ReadFault → Rose (R.faults file.old) (R.faults file.new) }
     ensures counts { steps.old ≤ steps.new }

@@ -230,12 +230,12 @@ fn lines_are_the_answer_over_all_pieces(rt: HostRuntime) -> Result<(), Fail> {
         // No moment, but the sample before it.
         (&[&[H, S1, S5]], 4, 2, "1 end", 1),
         (&[], 0, 99, "end", 0),
-        // Behind second 5 the line of second 9 is cut short, and looked at in the search.
+        // Behind second 5 the line of second 9 is cut short: what stands before it is told first.
         (
             &[&[H, S1, S5, b"\x08\x09"]],
             0,
             99,
-            "piece 1 damaged at 31",
+            "1 5 piece 1 damaged at 31",
             1,
         ),
         (&[&[H, S1], &[STRINGS]], 0, 99, "1 piece 2 damaged at 0", 2),

@@ -4,7 +4,7 @@ use Rattle.series_model.specs.declared.sample.Sample.{Sample}
 use Rattle.payload_info.specs.declared.info.PayloadInfo.{PayloadInfo}
 use Rattle.pb_lines.specs.File.{IsFile}
 use Rattle.pb_file.specs.Skip.{HasHeader}
-use Rattle.pb_file.specs.Search.{IsLineStart}
+use Rattle.pb_file.specs.Search.{HasSampleAt, IsLineStart, MayBegin}
 use Rattle.pb_file.proofs.Narrowing.{Narrowed}
 use Rattle.pb_file.proofs.search.halve.Given as goal
 
@@ -24,6 +24,7 @@ invariant-halves g l =
       counts : l.fn.steps ≤ l.steps;
       headed : tells → (head : List ℕ) (info : PayloadInfo) → HasHeader l.fn.walk bytes head info → HasHeader l.walk bytes head info;
       starts : tells → (head : List ℕ) (info : PayloadInfo) → HasHeader l.fn.walk bytes head info → IsLineStart all l.head_len l.low × IsLineStart all l.head_len l.next × IfSome l.last (λ at. IsLineStart all l.head_len at);
+      begins : tells → (head : List ℕ) (info : PayloadInfo) → HasHeader l.fn.walk bytes head info → MayBegin info all l.head_len l.next × IfSome l.last (λ at. HasSampleAt info all at);
       narrowed : tells → (head : List ℕ) (info : PayloadInfo) (samples : List Sample) → HasHeader l.fn.walk bytes head info → IsFile all head info samples → l.head_len ≡ length head + 1 → Narrowed head samples (l.until + 1) l.low l.high l.next l.last;
       cost : (d : ℕ) → l.fn.walk.len < 2 ^ d → (e : ℕ) × (l.high - l.low < 2 ^ e) × (l.steps + 2 * e ≤ l.fn.steps + 2 * d);
     }

@@ -1,15 +1,14 @@
-use Rattle.std.proofs.Common.{◌≡◌, ◌∙◌, Err, None, Some, inl, List, ℕ, refl, sym, ap, subst, arith, take}
+use Rattle.std.proofs.Common.{◌≡◌, ◌∙◌, Err, None, Some, List, ℕ, refl, sym, ap, subst, arith, take}
 use Rattle.std.specs.Prelude.{IfOk}
 use Rattle.std.proofs.lemmas.Result.{err_from_is_err_and}
 use Rattle.pb_file.specs.declared.search.SearchErr.{SearchErr}
 use Rattle.pb_file.specs.declared.search.SearchErr.TheVariants as search_err
-use Rattle.pb_lines.specs.File.{IsFile}
+use Rattle.pb_lines.specs.File.{IsFile, HasNoHeader}
 use Rattle.pb_file.specs.Walk.{Walk}
 use Rattle.pb_file.specs.Skip.{HasHeader}
-use Rattle.pb_file.specs.Search.{IsRefusedAt, IsRefusedFor}
-use Rattle.pb_file.specs.Parting.{AreLineStarts}
+use Rattle.pb_file.specs.Parting.{AreBegins, AreLineStarts}
 use Rattle.pb_file.proofs.Skipping.{walked_header}
-use Rattle.pb_file.proofs.Starts.{no_header_there, refused_behind, header_of}
+use Rattle.pb_file.proofs.Starts.{header_at, header_of, no_header_there}
 use Rattle.pb_file.proofs.Reading.{same_err}
 use Rattle.pb_file.proofs.search.part.Goals as goal
 
@@ -21,8 +20,8 @@ returns-in_err-read_header-clause-refused g c tells at is =
     let st : c.in_err-read_header.field-0.0 ≡ search_err.Damaged at = sym p.2 ∙ same_err c.from_residual.result p.0 (search_err.Damaged at) p.1 is in
     let bad = c.in_err-read_header.ensures.refused tells (c.new-walk.ensures.walked bytes) at (ap (λ (x : SearchErr). Err x) st) in
     let zero : at ≡ 0 = bad.1 ∙ ap (λ (w : Walk). w.place) start in
-    let L : ℕ → Type 0 = λ n. IsRefusedAt (take n bytes) c.args.head_len at in
-    subst L (ap (λ (w : Walk). w.len) start) (inl (zero, no_header_there (take c.new-walk.result.len bytes) at zero bad.0))
+    let L : ℕ → Type 0 = λ n. HasNoHeader (take n bytes) in
+    (zero, subst L (ap (λ (w : Walk). w.len) start) (no_header_there (take c.new-walk.result.len bytes) at zero bad.0))
 
 pub returns-clause-parted : goal.returns-clause-parted
 returns-clause-parted g c tells head info samples file first =
@@ -52,16 +51,18 @@ returns-clause-start g c tells =
     let L : ℕ → Type 0 = λ n. IfOk c.halve.result (λ p. AreLineStarts (take n bytes) c.args.head_len p) in
     subst L size (subst B same starts)
 
-pub returns-clause-refused : goal.returns-clause-refused
-returns-clause-refused g c tells at is =
+pub returns-clause-begins : goal.returns-clause-begins
+returns-clause-begins g c tells head info b =
     let bytes = g.H.ReadAt.bytes c.args.file.now in
     let e = c.in_ok-read_header.ensures in
     let w = c.read_header.new.walk in
     let size : w.len ≡ c.args.len = e.len ∙ ap (λ (v : Walk). v.len) c.new-walk.ensures.start in
     let begun = e.begun tells (c.new-walk.ensures.walked bytes) in
     let same = e.same tells in
-    let H : List ℕ → Type 0 = λ b. HasHeader w b begun.0.head begun.0.info in
-    let bad = c.halve.ensures.refused tells begun.0.head begun.0.info (subst H (sym same) (walked_header w bytes begun.0 begun.1)) at is in
-    let B : List ℕ → Type 0 = λ b. IsRefusedFor begun.0.info (take w.len b) c.args.head_len at in
-    let L : ℕ → Type 0 = λ n. IsRefusedFor begun.0.info (take n bytes) c.args.head_len at in
-    refused_behind w bytes c.args.len c.args.head_len at begun.0 size begun.1 (subst L size (subst B same bad))
+    let H : List ℕ → Type 0 = λ b. HasHeader w b head info in
+    let B : List ℕ → Type 0 = λ b. IfOk c.halve.result (λ p. AreBegins info (take w.len b) c.args.head_len p) in
+    let L : ℕ → Type 0 = λ n. IfOk c.halve.result (λ p. AreBegins info (take n bytes) c.args.head_len p) in
+    subst L size (subst B same (c.halve.ensures.begins tells head info (subst H (sym same) (header_at w bytes c.args.len begun.0 head info size begun.1 b))))
+
+pub returns-clause-refused : goal.returns-clause-refused
+returns-clause-refused g c tells at is = absurd (c.halve.ensures.never at is)

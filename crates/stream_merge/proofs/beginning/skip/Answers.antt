@@ -1,7 +1,10 @@
-use Rattle.std.proofs.Common.{◌≡◌, ℕ, ◌+◌, List, Option, Some, refl, sym, ap, subst, take, ◌∙◌}
+use Rattle.std.proofs.Common.{◌≡◌, ℕ, ◌+◌, List, Option, Some, refl, sym, ap, subst, take, ◌∙◌, Err}
+use Rattle.std.proofs.lemmas.Result.{err_from_is_err_and}
+use Rattle.pb_file.specs.declared.search.SearchErr.{SearchErr}
+use Rattle.pb_file.specs.declared.search.SearchErr.TheVariants as search_err
+use Rattle.pb_file.proofs.Reading.{same_err}
 use Rattle.std.specs.Prelude.{OnOk}
-use Rattle.pb_lines.specs.File.{IsFile}
-use Rattle.pb_file.specs.Search.{IsRefusedAt}
+use Rattle.pb_lines.specs.File.{IsFile, HasNoHeader}
 use Rattle.pb_file.specs.Walk.{behind}
 use Rattle.stream_merge.specs.Beginning.{BeginsWell, BeginsFrom}
 use Rattle.stream_merge.proofs.Starting.{begins_well_first, begins_well, behind_none, on_ok}
@@ -30,6 +33,12 @@ returns-clause-begins g c tells head info samples file first =
 pub returns-clause-refused : goal.returns-clause-refused
 returns-clause-refused g c tells at is =
     let R = g.R.ReadAt in
-    let B : List ℕ → Type 0 = λ l. IsRefusedAt (take c.args.len l) c.place-head_len.result at in
-    let P : ℕ → Type 0 = λ n. IsRefusedAt (take c.args.len (R.bytes c.args.file.now)) n at in
-    subst P c.place-head_len.ensures.place (subst B (c.in_ok-skip_earlier.ensures.same tells) (c.skip_taken.ensures.refused tells at is))
+    let B : List ℕ → Type 0 = λ l. HasNoHeader (take c.args.len l) in
+    let bad = c.skip_taken.ensures.refused tells at is in
+    (bad.0, subst B (c.in_ok-skip_earlier.ensures.same tells) bad.1)
+
+pub returns-in_err-skip_earlier-clause-refused : goal.returns-in_err-skip_earlier-clause-refused
+returns-in_err-skip_earlier-clause-refused g c tells at is =
+    let p = err_from_is_err_and c.from_residual.result c.from_residual.ensures.1 in
+    let st : c.in_err-skip_earlier.field-0.0 ≡ search_err.Damaged at = sym p.2 ∙ same_err c.from_residual.result p.0 (search_err.Damaged at) p.1 is in
+    c.in_err-skip_earlier.ensures.refused tells at (ap (λ (x : SearchErr). Err x) st)

@@ -1,12 +1,11 @@
-use Rattle.std.proofs.Common.{◌≡◌, ℕ, List, Err, take, sym, ap, ◌∙◌, subst}
+use Rattle.std.proofs.Common.{◌≡◌, ℕ, inl, List, Err, take, sym, ap, ◌∙◌, subst}
 use Rattle.std.proofs.lemmas.Result.{err_from_is_err_and}
-use Rattle.pb_lines.specs.File.{IsFile}
-use Rattle.pb_file.specs.Search.{IsRefusedAt}
+use Rattle.pb_lines.specs.File.{IsFile, HasNoHeader}
 use Rattle.pb_file.specs.Walk.{behind}
 use Rattle.stream_merge.specs.declared.pieces.Merged.TheVariants as merged
 use Rattle.stream_merge.specs.Reading.{IsReadAs, IsBadFor}
 use Rattle.stream_merge.specs.Beginning.{IsAtLine, BeginsWell}
-use Rattle.stream_merge.proofs.Pulling.{begun_there, begins_as, head_place, search_bad, told_damaged, err_same}
+use Rattle.stream_merge.proofs.Pulling.{begun_there, begins_as, head_place, told_damaged, err_same}
 use Rattle.stream_merge.proofs.SoFar.{unread_at}
 use Rattle.stream_merge.proofs.source.open_at.Goals as goal
 
@@ -61,8 +60,7 @@ returns-in-Err-clause-damaged g c tells found at is =
     let R = g.R.ReadAt in
     let p = c.in_ok-piece.piece in
     let b = c.in_ok-piece.ensures in
-    let bytes = R.bytes c.args.reader in
     let told = told_damaged (record { reader = c.skip.new.file; name = p.name; walk = c.skip.new.walk }) c.in-Err.err c.refuse.result found at c.refuse.ensures (err_same c.refuse.result (merged.Damaged found at) is) in
-    let B : List ℕ → Type 0 = λ l. IsRefusedAt (take c.args.len l) p.walk.place at in
-    let bad = subst B (b.bytes tells) (c.skip.ensures.refused tells at (c.in-Err.is ∙ ap (λ x. Err x) told.0)) in
-    (told.1 ∙ b.same.1, search_bad c.args.ty bytes p.walk.place c.args.len at p.walk b.ready.info b.ready.header b.ready.type b.same.0 (b.begun tells) bad)
+    let B : List ℕ → Type 0 = λ l. HasNoHeader (take c.args.len l) in
+    let bad = c.skip.ensures.refused tells at (c.in-Err.is ∙ ap (λ x. Err x) told.0) in
+    (told.1 ∙ b.same.1, inl (bad.0, inl (subst B (b.bytes tells) bad.1)))
