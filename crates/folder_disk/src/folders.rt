@@ -21,7 +21,8 @@ use std::str;
 pub enum Access {
     /// Read alone, beside others that read. No file and no folder is made but the site's lock, and none is changed.
     Read,
-    /// Read and write, and nobody else meanwhile.
+    /// Read and write, and nobody else meanwhile. It is refused while an adoption isn't finished, which the file `adopt` of the site's folder
+    /// tells.
     Write,
     /// As `Write`, where the site may be new to stores that have files and no mark: they become its own.
     Adopt,
@@ -35,6 +36,9 @@ impl Access {
 
 // The file of the site's folder that is locked. No file of a store has its name.
 const LOCK: &str = "lock";
+
+// The file of the site's folder that is there while an adoption isn't finished.
+const ADOPTION: &str = "adopt";
 
 // Whether the folders may be used.
 #[derive(Drop)]

@@ -10,4 +10,4 @@ mod path;
 mod reading;
 
 pub use finding::{Candidate, find_candidate};
-pub use path::part_in;
+pub use path::{has_path, part_in};

@@ -32,8 +32,8 @@ fn first_colon(path: &[u8]) -> Option<usize>
     path.iter().position(|byte| *byte == b':')
 }
 
-// Whether this is the path of the file of a name and a partition.
-pub(crate) fn has_path(
+/// Tells whether this is the path of the file of a variable and a partition. It builds that path, which wants memory.
+pub fn has_path(
     alloc: Global,
     name: &PvName,
     part: &PartName,

@@ -9,7 +9,6 @@ use Rattle.disk_model.specs.Past.{Passes}
 use Rattle.disk_model.specs.declared.disk.Disk.{Ghosts}
 use Rattle.disk_model.proofs.Passing.{passes_weaker}
 use Rattle.gate_journal.specs.Generations.{AtOwn, IsOwn}
-use Rattle.gate_journal.proofs.Owning.{own_store}
 use Rattle.disk_model.specs.declared.disk.DiskErr.TheVariants.{Memory}
 use Rattle.event_types.specs.declared.about.About.{About}
 use Rattle.partition_names.specs.declared.granularity.Granularity.{Granularity}
@@ -39,9 +38,10 @@ use Rattle.tier_store.specs.Seen.{Seen}
 use Rattle.tier_store.specs.Stores.{Stores, list_at, tier, with_list}
 use Rattle.tier_store.proofs.Places.{holding, same_granularities, set_cases, tier_set, within_three}
 use Rattle.store_reopen.specs.Marking.{LeavesOthers, Marks}
-use Rattle.store_reopen.specs.Reopen.{ChangesJournals, IsReady, OnlyJournals, SameStores, SparesStores}
-use Rattle.store_reopen.specs.Strays.{adoption_name}
+use Rattle.store_reopen.specs.Loading.{Journal, name_of}
+use Rattle.store_reopen.specs.Reopen.{ChangesJournals, ChangesSite, IsNoJournals, IsReady, OnlyJournals, OnlySite, SameStores}
 use Rattle.store_reopen.specs.Verdict.{HasRow}
+use Rattle.store_reopen.proofs.Keeping.{no_journal}
 use Rattle.store_reopen.proofs.Leaving.{leaves_by, leaves_none, leaves_read, leaves_then}
 
 -- files of rows, safe on the disk, may be listed beside what a store lists
@@ -70,7 +70,7 @@ can_add i tells at held files m here has filed safe = record {
       apart = rise_put_all (list_at i held) files known.apart;
     }
 
--- WHAT IS LEFT OF STORES 1 TO 3
+-- WHAT IS LEFT OF THE OTHER FILES
 
 module _ {D R : Type 0} (disk : Ghosts D R) where
   pub spares_none : (d : D) → ChangesJournals disk d d
@@ -82,31 +82,36 @@ module _ {D R : Type 0} (disk : Ghosts D R) where
   pub spares_then : (old mid new : D) → ChangesJournals disk old mid → ChangesJournals disk mid new → ChangesJournals disk old new
   spares_then old mid new one two = leaves_then disk OnlyJournals (λ a b c first second n other. second n other ∙ first n other) old mid new one two
 
-  -- the journals are of store 0, and none is the file `adopt`
-  pub own_spares : (R : Files → Files → Type 0) (name own : Name) → name ≡ own → own.0 ≡ 0 → ((n : Name) → IsOwn own n → n ≢ adoption_name) → (old new : D) → Passes (AtOwn name R) (disk.past old) (disk.past new) → ((n : Name) → (IsOwn name n → ⊥) → disk.files new n ≡ disk.files old n)
+  -- what changes one journal's files
+  pub own_spares : (R : Files → Files → Type 0) (name : Name) (j : Journal) → name ≡ name_of j → (old new : D) → Passes (AtOwn name R) (disk.past old) (disk.past new) → ((n : Name) → (IsOwn name n → ⊥) → disk.files new n ≡ disk.files old n)
       → ((n : Name) → disk.opened new n ≤ disk.opened old n) → ChangesJournals disk old new
-  own_spares R name own is of_zero apart old new passes elsewhere fewer = record {
-    any_moment = passes_weaker (AtOwn name R) OnlyJournals (disk.past old) (disk.past new) passes (λ a c left step n other. step.elsewhere n (none n other));
-    now = λ n other. elsewhere n (none n other);
+  own_spares R name j is old new passes elsewhere fewer = record {
+    any_moment = passes_weaker (AtOwn name R) OnlyJournals (disk.past old) (disk.past new) passes (λ a c left step n apart. step.elsewhere n (none n apart));
+    now = λ n apart. elsewhere n (none n apart);
     fewer = fewer;
   }
     where
-      none : (n : Name) → (n.0 ≡ 0 → n ≡ adoption_name) → IsOwn name n → ⊥
-      none n other its = apart n (subst (λ (m : Name). IsOwn m n) is its) (other (own_store name n its ∙ ap (λ (m : Name). m.0) is ∙ of_zero))
+      none : (n : Name) → IsNoJournals n → IsOwn name n → ⊥
+      none n apart its = apart j (subst (λ (m : Name). IsOwn m n) is its)
 
-  -- so stores 1 to 3 are spared
+  pub journals_site : (old new : D) → ChangesJournals disk old new → ChangesSite disk old new
+  journals_site old new changes = leaves_by disk OnlyJournals OnlySite (λ a b step n apart other. step n apart) old new changes
+
+  pub marks_site : (old new : D) → Marks disk old new → ChangesSite disk old new
+  marks_site old new marks = leaves_by disk LeavesOthers OnlySite (λ a b step n apart other. step n other) old new marks
+
+  pub site_then : (old mid new : D) → ChangesSite disk old mid → ChangesSite disk mid new → ChangesSite disk old new
+  site_then old mid new one two = leaves_then disk OnlySite (λ a b c first second n apart other. second n apart other ∙ first n apart other) old mid new one two
+
+  -- the journals and the file `adopt` are of store 0, so stores 1 to 3 are spared
   pub journals_same : (a c : Files) → OnlyJournals a c → SameStores a c
-  journals_same a c step n other = step n (λ zero. absurd (other zero))
+  journals_same a c step n other = step n (λ j. no_journal n j other)
 
-  pub journals_spare : (old new : D) → ChangesJournals disk old new → SparesStores disk old new
-  journals_spare old new changes = leaves_by disk OnlyJournals SameStores journals_same old new changes
+  pub marks_same : (a c : Files) → LeavesOthers a c → SameStores a c
+  marks_same a c step n other = step n (λ is. other (ap (λ (m : Name). m.0) is))
 
-  pub stores_then : (old mid new : D) → SparesStores disk old mid → SparesStores disk mid new → SparesStores disk old new
-  stores_then old mid new one two = leaves_then disk SameStores (λ a b c first second n other. second n other ∙ first n other) old mid new one two
-
-  -- the file `adopt` is of store 0
-  pub marks_spare : (old new : D) → Marks disk old new → SparesStores disk old new
-  marks_spare old new marks = leaves_by disk LeavesOthers SameStores (λ a b step n other. step n (λ is. other (ap (λ (m : Name). m.0) is))) old new marks
+  pub site_same : (a c : Files) → OnlySite a c → SameStores a c
+  site_same a c step n other = step n (λ j. no_journal n j other) (λ is. other (ap (λ (m : Name). m.0) is))
 
 -- STORES THAT MAY BE CHANGED STILL
 

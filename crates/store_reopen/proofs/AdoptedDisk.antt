@@ -1,8 +1,8 @@
 -- What an adoption makes of a disk, from the load of its journals on.
-use Rattle.std.proofs.Common.{◌≡◌, ◌⊎◌, inl, inr, ◌<◌, ◌≤◌, ◌+◌, Bool, true, false, ℕ, suc, List, length, map, sym, ◌∙◌, ap, subst, arith}
+use Rattle.std.proofs.Common.{◌≡◌, ◌⊎◌, inl, inr, ◌<◌, ◌≤◌, ◌+◌, Bool, true, false, ℕ, suc, List, [], length, map, take, sym, ◌∙◌, ap, subst, arith}
 use Rattle.std.specs.Prelude.{IsTrue, slice_get}
 use Rattle.disk_model.specs.Files.{Name, Files}
-use Rattle.disk_model.specs.Past.{MayLeave, Passes}
+use Rattle.disk_model.specs.Past.{MayLeave, Passes, Past}
 use Rattle.disk_model.specs.declared.disk.Disk.{Ghosts}
 use Rattle.disk_model.proofs.Passing.{passes_then, passes_weaker}
 use Rattle.partition_names.specs.declared.granularity.Granularity.{Granularity}
@@ -20,20 +20,23 @@ use Rattle.tier_store.specs.Stored.{HoldsAll}
 use Rattle.tier_store.specs.Stores.{Stores, list_at, tier}
 use Rattle.tier_store.specs.declared.store.TierStore.{TierStore}
 use Rattle.tier_store.proofs.Beside.{in_out}
+use Rattle.tier_store.proofs.Left.{has_left}
 use Rattle.tier_store.proofs.Places.{manifest_of, within_three}
 use Rattle.store_reopen.specs.Adoption.{Adopts, AdoptsFrom, HasAdopted, IsMarked, IsMarkedOf, IsUnlisted, NoneFoundOpened, OpensStage}
 use Rattle.store_reopen.specs.Following.{Follows, HasAdoptedOf, LeavesOff, NoneUnlistedOpened}
 use Rattle.store_reopen.specs.Loading.{KeepsSaid, StillSay}
 use Rattle.store_reopen.specs.Marking.{LeavesOthers, Marks}
-use Rattle.store_reopen.specs.Reopen.{HasLoaded, HoldsEither, IsUnopened, Opens, OpensEither, Reopens, SameStores, SparesStores, StillHolds, lists_of, loaded}
+use Rattle.store_reopen.specs.Reopen.{ChangesSite, HasLoaded, HoldsEither, IsUnopened, LeavesSite, OnlySite, Opens, OpensEither, Reopens, SameStores, StillHolds, lists_of, loaded}
 use Rattle.store_reopen.specs.Steps.{EndsSteps, MakesSteps, Step, StopsWithin, made_by, stage}
 use Rattle.store_reopen.specs.Verdict.{AreSaid, IsWhole}
 use Rattle.store_reopen.specs.declared.adopted.Adopted.{Adopted}
+use Rattle.store_reopen.proofs.Adding.{site_same}
 use Rattle.store_reopen.proofs.HandedBack.{doubt_opens, has_opens, open_unopened}
 use Rattle.store_reopen.proofs.Having.{listed_at}
 use Rattle.store_reopen.proofs.Marked.{loaded_marked}
 use Rattle.store_reopen.proofs.Marking.{has_marked, marked_all_in, marked_holds}
 use Rattle.store_reopen.proofs.Stages.{whole_stage}
+use Rattle.store_reopen.proofs.StillFound.{found_behind}
 
 -- HOW IT ENDS
 
@@ -87,8 +90,25 @@ module _ {D R : Type 0} (disk : Ghosts D R) (gs : List Granularity) (old mid new
 -- THE WHOLE
 
 -- an opening that came to nothing more
-pub only_opens : {D R : Type 0} (disk : Ghosts D R) (gs : List Granularity) (old new : D) → Reopens disk gs old new → ((before after : Stores) → OpensEither gs (disk.past old) before after → Passes (IsMarkedOf gs (disk.files old) before after) (disk.past old) (disk.past new)) → Adopts disk gs old new
-only_opens {D} {R} disk gs old new reopens marked = record { only = λ not. reopens; makes = λ before after opens. inl reopens; marked = marked; elsewhere = reopens.elsewhere; stores = reopens.stores; unopened = reopens.unopened }
+pub only_opens : {D R : Type 0} (disk : Ghosts D R) (gs : List Granularity) (old new : D) → Reopens disk gs old new → ((before after : Stores) → OpensEither gs (disk.past old) before after → Passes (IsMarkedOf gs (disk.files old) before after) (disk.past old) (disk.past new)) → NoneFoundOpened gs (disk.files new) (disk.opened new)
+    → OnlySite (disk.files old) (disk.files new) × Passes OnlySite (disk.past old) (disk.past new) → LeavesSite disk old new → Adopts disk gs old new
+only_opens {D} {R} disk gs old new reopens marked found site leaves = record {
+  only = λ not. (reopens, leaves);
+  makes = λ before after opens. inl reopens;
+  marked = marked;
+  elsewhere = reopens.elsewhere;
+  stores = reopens.stores;
+  unopened = reopens.unopened;
+  found = found;
+  site = site;
+}
+
+-- what a load of the journals leaves of other files
+site_loaded : (gs : List Granularity) (old new : Past) → Passes (StillSay gs) old new → Passes OnlySite old new
+site_loaded gs old new passes = passes_weaker (StillSay gs) OnlySite old new passes (λ a c left step n apart other. step.others n apart)
+
+pub load_site : {D R : Type 0} (disk : Ghosts D R) (gs : List Granularity) (old mid : D) → KeepsSaid gs (disk.files old) (disk.opened old) (disk.past old) (disk.files mid) (disk.opened mid) (disk.past mid) → OnlySite (disk.files old) (disk.files mid) × Passes OnlySite (disk.past old) (disk.past mid)
+load_site {D} {R} disk gs old mid keeps = (λ n apart other. keeps.others n apart, site_loaded gs (disk.past old) (disk.past mid) keeps.passes)
 
 module _ {D R : Type 0} (disk : Ghosts D R) (gs : List Granularity) (old mid new : D) (c : CatalogueState) (ms : List ManifestState) (c₁ : CatalogueState) (m₁ : List ManifestState) (told : IsTrue disk.tells) (same : granularities ms ≡ gs) (begun : Reopens disk gs old mid) (left : MayLeave (disk.past new) (disk.files new)) where
   -- from what was held before the load or after it to a stage of the steps
@@ -120,42 +140,65 @@ module _ {D R : Type 0} (disk : Ghosts D R) (gs : List Granularity) (old mid new
   }
 
   -- an adoption that was done, or left
-  module _ (whole_image : IsWhole gs (disk.files old)) (loads : (before after : Stores) → OpensEither gs (disk.past old) before after → HasLoaded disk gs old c ms mid before after) (some : Stores) (has : Has disk.tells (loaded disk c ms mid) some) (spares : SparesStores disk mid new) where
-    marked_of : Passes (StillSay gs) (disk.past old) (disk.past mid) → ((held : Stores) → Has disk.tells (loaded disk c ms mid) held → Passes (IsMarked gs (disk.files old) held) (disk.past mid) (disk.past new))
+  module _ (whole_image : IsWhole gs (disk.files old)) (loads : (before after : Stores) → OpensEither gs (disk.past old) before after → HasLoaded disk gs old c ms mid before after) (some : Stores) (has : Has disk.tells (loaded disk c ms mid) some) (changes : ChangesSite disk mid new)
+      (keeps : KeepsSaid gs (disk.files old) (disk.opened old) (disk.past old) (disk.files mid) (disk.opened mid) (disk.past mid)) (none : NoneUnlistedOpened c.rows ms (disk.opened mid)) where
+    marked_of : ((held : Stores) → Has disk.tells (loaded disk c ms mid) held → Passes (IsMarked gs (disk.files old) held) (disk.past mid) (disk.past new))
         → (before after : Stores) → OpensEither gs (disk.past old) before after → Passes (IsMarkedOf gs (disk.files old) before after) (disk.past old) (disk.past new)
-    marked_of passes marks before after opens =
-        let l = loads before after opens in loaded_marked gs (disk.files old) (disk.past old) (disk.past mid) (disk.past new) before after l.held opens passes l.either (marks l.held l.has)
+    marked_of marks before after opens =
+        let l = loads before after opens in loaded_marked gs (disk.files old) (disk.past old) (disk.past mid) (disk.past new) before after l.held opens keeps.passes l.either (marks l.held l.has)
+
+    site : OnlySite (disk.files old) (disk.files new) × Passes OnlySite (disk.past old) (disk.past new)
+    site = (
+      λ n apart other. changes.now n apart other ∙ keeps.others n apart,
+      passes_then OnlySite OnlySite (disk.past old) (disk.past mid) (disk.past new) (site_loaded gs (disk.past old) (disk.past mid) keeps.passes) changes.any_moment (λ a b c was one now two n apart other. two n apart other ∙ one n apart other),
+    )
 
     stores_passed : Passes SameStores (disk.past old) (disk.past new)
-    stores_passed = passes_then SameStores SameStores (disk.past old) (disk.past mid) (disk.past new) begun.stores spares.any_moment (λ a b c was one now two n other. two n other ∙ one n other)
+    stores_passed = passes_weaker OnlySite SameStores (disk.past old) (disk.past new) site.1 (λ a c left step. site_same disk a c step)
 
     stores_now : SameStores (disk.files old) (disk.files new)
-    stores_now n other = spares.now n other ∙ begun.elsewhere n other
+    stores_now = site_same disk (disk.files old) (disk.files new) site.0
 
-    pub done_adopts : ((held : Stores) → Has disk.tells (loaded disk c ms mid) held → Follows disk true true gs (disk.files old) held c ms mid c₁ m₁ new) → Passes (StillSay gs) (disk.past old) (disk.past mid) → ((held : Stores) → Has disk.tells (loaded disk c ms mid) held → Passes (IsMarked gs (disk.files old) held) (disk.past mid) (disk.past new)) → Adopts disk gs old new
-    done_adopts follows passes marks = record {
+    -- of an image that a crash may leave now, as reads give it
+    found_made : (steps : List Step) (done : Bool) → MakesSteps done disk.tells steps (loaded disk c ms mid) (loaded disk c₁ m₁ new) → NoneFoundOpened gs (disk.files new) (disk.opened new)
+    found_made steps done makes =
+        let passes = makes.any_moment told some has in
+        let come = passes.each (disk.past new).now (disk.files new) passes.later (omega arith) left in
+        found_behind disk gs mid new c ms same some has none changes.fewer (take come.2.0 steps) (subst (λ (l : List Granularity). HoldsAll l (disk.files new) (stage steps some come.2.0)) same come.2.1)
+
+    found_marked : Marks disk mid new → NoneFoundOpened gs (disk.files new) (disk.opened new)
+    found_marked marks =
+        let still = has_left disk.tells (loaded disk c ms new) some (has_marked disk c ms mid new (λ t. marks) some has) told (disk.files new) left in
+        found_behind disk gs mid new c ms same some has none changes.fewer [] (subst (λ (l : List Granularity). HoldsAll l (disk.files new) some) same still)
+
+    pub done_adopts : ((held : Stores) → Has disk.tells (loaded disk c ms mid) held → Follows disk true true gs (disk.files old) held c ms mid c₁ m₁ new) → ((held : Stores) → Has disk.tells (loaded disk c ms mid) held → Passes (IsMarked gs (disk.files old) held) (disk.past mid) (disk.past new)) → Adopts disk gs old new
+    done_adopts follows marks = record {
       only = λ not. absurd (not whole_image);
       makes = λ before after opens. let l = loads before after opens in inr (true, adopts_from true true before after opens l (follows l.held l.has));
-      marked = marked_of passes marks;
+      marked = marked_of marks;
       elsewhere = stores_now;
       stores = stores_passed;
       unopened = let f = follows some has in ends_unopened gs disk.tells told (loaded disk c₁ m₁ new) (f.makes.granularity ∙ same) f.steps some true left (f.makes.ends some has);
+      found = let f = follows some has in found_made f.steps true f.makes;
+      site = site;
     }
 
     marked_unopened : Marks disk mid new → IsUnopened (disk.files new) (disk.opened new)
     marked_unopened marks = open_unopened disk.tells (loaded disk c ms new) some some told left (inl (has_marked disk c ms mid new (λ t. marks) some has))
 
-    pub left_adopts : ((held : Stores) → Has disk.tells (loaded disk c ms mid) held → LeavesOff disk gs (disk.files old) held c ms mid c₁ m₁ new) → Passes (StillSay gs) (disk.past old) (disk.past mid) → ((held : Stores) → Has disk.tells (loaded disk c ms mid) held → Passes (IsMarked gs (disk.files old) held) (disk.past mid) (disk.past new)) → Adopts disk gs old new
-    left_adopts leaves passes marks = record {
+    pub left_adopts : ((held : Stores) → Has disk.tells (loaded disk c ms mid) held → LeavesOff disk gs (disk.files old) held c ms mid c₁ m₁ new) → ((held : Stores) → Has disk.tells (loaded disk c ms mid) held → Passes (IsMarked gs (disk.files old) held) (disk.past mid) (disk.past new)) → Adopts disk gs old new
+    left_adopts leaves marks = record {
       only = λ not. absurd (not whole_image);
       makes = λ before after opens. let l = loads before after opens in by before after opens l (leaves l.held l.has);
-      marked = marked_of passes marks;
+      marked = marked_of marks;
       elsewhere = stores_now;
       stores = stores_passed;
       unopened = elim (leaves some has) [
         | inl marks ↦ marked_unopened marks
         | inr (whole, f) ↦ ends_unopened gs disk.tells told (loaded disk c₁ m₁ new) (f.makes.granularity ∙ same) f.steps some false left (f.makes.ends some has)
       ];
+      found = elim (leaves some has) [ inl marks ↦ found_marked marks | inr (whole, f) ↦ found_made f.steps false f.makes ];
+      site = site;
     }
       where
         by : (before after : Stores) → OpensEither gs (disk.past old) before after → (l : HasLoaded disk gs old c ms mid before after) → LeavesOff disk gs (disk.files old) l.held c ms mid c₁ m₁ new → Reopens disk gs old new ⊎ ((whole : Bool) × AdoptsFrom whole disk gs old new before after)

@@ -52,7 +52,7 @@ of_zero Catalogue = refl
 of_zero (Manifest i) = refl
 
 -- a name of another store is no journal's
-no_journal : (n : Name) (j : Journal) → n.0 ≢ 0 → IsOwn (name_of j) n → ⊥
+pub no_journal : (n : Name) (j : Journal) → n.0 ≢ 0 → IsOwn (name_of j) n → ⊥
 no_journal n j other own = other (own_store (name_of j) n own ∙ of_zero j)
 
 -- ONE CALL AFTER ANOTHER
@@ -71,6 +71,7 @@ pub kept_then : (gs : List Granularity) (f₀ : Files) (o₀ : Name → ℕ) (p�
 kept_then gs f₀ o₀ p₀ f₁ o₁ p₁ f₂ o₂ p₂ one two = record {
   passes = passes_then (StillSay gs) (StillSay gs) p₀ p₁ p₂ one.passes two.passes (λ a b c was before now step. still_then gs a b c before step);
   elsewhere = λ n other. two.elsewhere n other ∙ one.elsewhere n other;
+  others = λ n apart. two.others n apart ∙ one.others n apart;
   said = λ j value says. two.said j value (one.said j value says);
   no_more = λ hs j value says. one.no_more hs j value (two.no_more hs j value says);
   same_opened = λ n other. two.same_opened n other ∙ one.same_opened n other;
@@ -82,6 +83,7 @@ pub kept_reading : (gs : List Granularity) (files later : Files) (opened after :
 kept_reading gs files later opened after old new same passes opened_same = record {
   passes = passes_weaker (λ a b. b ≡ a) (StillSay gs) old new passes (λ a c was is. subst (StillSay gs a) (sym is) (still_none gs a));
   elsewhere = λ n other. ap (λ (f : Files). f n) same;
+  others = λ n apart. ap (λ (f : Files). f n) same;
   said = λ j value says. subst (λ (f : Files). Says (Means gs j) value (name_of j) f) (sym same) says;
   no_more = λ hs j value says. subst (λ (f : Files). Says (Means hs j) value (name_of j) f) same says;
   same_opened = λ n other. ap (λ (o : Name → ℕ). o n) opened_same;
@@ -125,6 +127,7 @@ kept_load gs j files later opened after old new load = record {
     others = λ n apart. step.elsewhere n (apart j);
   });
   elsewhere = λ n other. load.others n (no_journal n j other);
+  others = λ n apart. load.others n (apart j);
   said = λ i. goes i (journal_cases i j);
   no_more = λ hs i. back hs i (journal_cases i j);
   same_opened = λ n other. load.others_opened n (no_journal n j other);

@@ -3,6 +3,7 @@ pub mod AdoptedDisk
 pub mod Adoptions
 pub mod Counts
 pub mod Extending
+pub mod FewFiles
 pub mod Following
 pub mod Going
 pub mod HandedBack
@@ -17,8 +18,10 @@ pub mod OneJournal
 pub mod Paths
 pub mod Rows
 pub mod Runs
+pub mod Site
 pub mod Sparing
 pub mod Stages
+pub mod StillFound
 pub mod StraysGone
 pub mod Swept
 pub mod Verdicts

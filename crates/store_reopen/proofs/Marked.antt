@@ -6,7 +6,6 @@ use Rattle.disk_model.specs.Files.{At, Content, Files, KeptOr}
 use Rattle.disk_model.specs.Past.{Passes, Past}
 use Rattle.disk_model.specs.declared.disk.Disk.{Ghosts}
 use Rattle.disk_model.proofs.Passing.{passes_then, passes_weaker}
-use Rattle.gate_journal.specs.Generations.{IsOwn}
 use Rattle.partition_names.specs.declared.granularity.Granularity.{Granularity}
 use Rattle.pv_catalog.specs.Catalogue.{CatalogueState}
 use Rattle.store_manifest.specs.Manifest.{ManifestState}
@@ -16,13 +15,13 @@ use Rattle.tier_store.specs.Stored.{HoldsAll}
 use Rattle.tier_store.specs.Stores.{Stores}
 use Rattle.tier_store.proofs.Left.{has_left}
 use Rattle.store_reopen.specs.Adoption.{IsAdoption, IsMarked, IsMarkedOf}
-use Rattle.store_reopen.specs.Loading.{Catalogue, Journal, Manifest, StillSay, name_of}
+use Rattle.store_reopen.specs.Loading.{StillSay}
 use Rattle.store_reopen.specs.Marking.{Begins, IsThereForGood, LeavesOthers, Marks}
 use Rattle.store_reopen.specs.Reopen.{ChangesJournals, HoldsEither, OnlyJournals, OpensEither, loaded}
 use Rattle.store_reopen.specs.Steps.{Step, made_by}
 use Rattle.store_reopen.specs.Strays.{adoption_name}
 use Rattle.store_reopen.proofs.Having.{still_one}
-use Rattle.store_reopen.proofs.Marking.{catalogue_apart, manifest_apart, marked_holds}
+use Rattle.store_reopen.proofs.Marking.{marked_holds, no_journals}
 
 some_none : (c : Content) → IsSome c → c ≡ None → ⊥
 some_none None some none = absurd (cc (some))
@@ -64,11 +63,7 @@ made_one a b (inr is) none = absurd (cc (is, none))
 pub begins_made : (old new : Past) → Passes (At adoption_name (KeptOr (Some []))) old new → Passes Begins old new
 begins_made old new passes = passes_weaker (At adoption_name (KeptOr (Some []))) Begins old new passes (λ a b left step. (step.elsewhere, made_one (a adoption_name) (b adoption_name) step.here))
 
--- IT IS NO JOURNAL'S
-
-no_journal : (j : Journal) → IsOwn (name_of j) adoption_name → ⊥
-no_journal Catalogue own = catalogue_apart adoption_name own refl
-no_journal (Manifest i) own = manifest_apart (i + 1) adoption_name own refl
+-- THE LOAD
 
 -- what a load leaves
 abbrev Loads : List Granularity → Stores → Stores → Files → Files → Type 0
@@ -76,7 +71,7 @@ Loads gs before after a b = (b adoption_name ≡ None → a adoption_name ≡ No
 
 loads : (gs : List Granularity) (old new : Past) (before after : Stores) → OpensEither gs old before after → Passes (StillSay gs) old new → Passes (Loads gs before after) old new
 loads gs old new before after opens passes = passes_weaker (StillSay gs) (Loads gs before after) old new passes (λ a c was step. (
-  λ none. sym (step.others adoption_name no_journal) ∙ none,
+  λ none. sym (step.others adoption_name no_journals) ∙ none,
   elim (opens.holds a was) [ inl holds ↦ inl (still_one gs a c step before holds) | inr holds ↦ inr (still_one gs a c step after holds) ],
 ))
 
@@ -114,7 +109,7 @@ module _ {D R : Type 0} (disk : Ghosts D R) (gs : List Granularity) (told : IsTr
   -- while it is there for good it is in each image
   stays : (mid made : D) → IsThereForGood (disk.files mid) (disk.past mid) → ChangesJournals disk mid made → Passes Never (disk.past mid) (disk.past made)
   stays mid made there changes = passes_weaker OnlyJournals Never (disk.past mid) (disk.past made) changes.any_moment (λ a b left step none.
-      some_none (disk.files mid adoption_name) there.0 (sym (there.1 a left) ∙ sym (step adoption_name (λ zero. refl)) ∙ none))
+      some_none (disk.files mid adoption_name) there.0 (sym (there.1 a left) ∙ sym (step adoption_name no_journals) ∙ none))
 
   module _ (image : Files) (c : CatalogueState) (ms : List ManifestState) (held : Stores) (old mid : D) (of_gs : granularities ms ≡ gs) (begins : Passes Begins (disk.past old) (disk.past mid)) (has : Has disk.tells (loaded disk c ms old) held) where
     pub marked_begun : Passes (IsMarked gs image held) (disk.past old) (disk.past mid)

@@ -14,7 +14,8 @@ use Rattle.durable_write.specs.Held.{Held}
 use Rattle.tier_store.specs.Stores.{Stores, tier}
 use Rattle.tier_store.specs.Change.{Has}
 use Rattle.store_reopen.specs.Marking.{IsThereForGood, LeavesOthers, Marks}
-use Rattle.store_reopen.specs.Reopen.{AllIn, StillHolds, loaded}
+use Rattle.store_reopen.specs.Loading.{Catalogue, Manifest}
+use Rattle.store_reopen.specs.Reopen.{AllIn, IsNoJournals, StillHolds, loaded}
 use Rattle.store_reopen.specs.Strays.{OnlyGo, Removes, adoption_name}
 use Rattle.store_reopen.proofs.Going.{kept_or}
 use Rattle.store_reopen.proofs.Leaving.{leaves_by, leaves_one, leaves_read, leaves_then}
@@ -35,6 +36,11 @@ catalogue_apart n own is =
 pub manifest_apart : (store : ℕ) (n : Name) → IsOwn (manifest_name store) n → IsOther n
 manifest_apart store n own is =
     own_apart (manifest_name store) adoption_name n (inr (0, omega arith, omega arith, λ same. let first : get_or (manifest_name store).1 0 0 ≡ get_or adoption_name.1 0 0 = same in absurd (omega (arith, first)))) own (inr (0, omega arith, is ∙ sym (first_generation adoption_name)))
+
+-- it is no journal's
+pub no_journals : IsNoJournals adoption_name
+no_journals Catalogue own = catalogue_apart adoption_name own refl
+no_journals (Manifest i) own = manifest_apart (i + 1) adoption_name own refl
 
 listed_apart : (t : Held) → 1 ≤ t.store → AreSpared IsOther t
 listed_apart t from_one k d lt is = let none : t.store ≡ 0 = ap (λ (n : Name). n.0) is in absurd (omega (arith, from_one, none))

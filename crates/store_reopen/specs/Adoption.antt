@@ -28,7 +28,7 @@ use Rattle.tier_store.specs.Stored.{HoldsAll}
 use Rattle.tier_store.specs.Change.{Has, IsEither}
 use Rattle.tier_store.specs.declared.store.TierStore.{TierStore}
 use Rattle.store_reopen.specs.Loading.{granularity_at}
-use Rattle.store_reopen.specs.Reopen.{HoldsEither, IsUnopened, Opens, OpensEither, Reopens, SameStores, disk_in}
+use Rattle.store_reopen.specs.Reopen.{HoldsEither, IsUnopened, LeavesSite, OnlySite, Opens, OpensEither, Reopens, SameStores, disk_in}
 use Rattle.store_reopen.specs.Steps.{Step, NewRow, Lists, made_by, stage}
 use Rattle.store_reopen.specs.Strays.{adoption_name}
 use Rattle.store_reopen.specs.Verdict.{IsWhole}
@@ -252,9 +252,10 @@ abbrev pub IsMarkedOf : List Granularity → Files → Stores → Stores → Fil
 IsMarkedOf gs image before after a b = b adoption_name ≡ None → ((a adoption_name ≡ None) × HoldsEither gs before after b)
     ⊎ ((held : Stores) × IsEither before after held × HoldsAdopted gs image held b)
 
--- What a call makes of a disk that tells its files, whatever it answers: it opens it, or adopts too. No file of stores 1 to 3 changes.
+-- What a call makes of a disk that tells its files, whatever it answers: it opens it, or adopts too. No file of stores 1 to 3 changes, and of store 0
+-- none but those of journals and the file `adopt`. Files that aren't listed then weren't opened still, so files may be adopted once more.
 pub record Adopts {D R : Type 0} (disk : Ghosts D R) (gs : List Granularity) (old new : D) : Type 0 where
-  pub only : (IsWhole gs (disk.files old) → ⊥) → Reopens disk gs old new
+  pub only : (IsWhole gs (disk.files old) → ⊥) → Reopens disk gs old new × LeavesSite disk old new
   pub makes : (before after : Stores) → OpensEither gs (disk.past old) before after
       → Reopens disk gs old new ⊎ ((whole : Bool) × AdoptsFrom whole disk gs old new before after)
   pub marked : (before after : Stores) → OpensEither gs (disk.past old) before after
@@ -262,6 +263,8 @@ pub record Adopts {D R : Type 0} (disk : Ghosts D R) (gs : List Granularity) (ol
   pub elsewhere : SameStores (disk.files old) (disk.files new)
   pub stores : Passes SameStores (disk.past old) (disk.past new)
   pub unopened : IsUnopened (disk.files new) (disk.opened new)
+  pub found : NoneFoundOpened gs (disk.files new) (disk.opened new)
+  pub site : OnlySite (disk.files old) (disk.files new) × Passes OnlySite (disk.past old) (disk.past new)
 
 -- where it is done: all steps are made, and these are their numbers
 pub record HasAdopted {D R : Type 0} (disk : Ghosts D R) (gs : List Granularity) (old : D) (store : TierStore D R) (told : Adopted)

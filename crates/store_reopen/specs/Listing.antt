@@ -1,5 +1,5 @@
 -- What the listing of the files that a row takes of a store makes.
-use Rattle.std.specs.Prelude.{◌≡◌, ◌+◌, ℕ, Bool, List, [], ◌∷◌, All, Some, Vec, map, slice_get}
+use Rattle.std.specs.Prelude.{◌≡◌, ◌≢◌, ◌≤◌, ◌+◌, ℕ, Bool, List, [], ◌∷◌, All, Some, Vec, length, map, slice_get}
 use Rattle.std.specs.List.{AllZip}
 use Rattle.std.specs.declared.alloc.Global.{Global}
 use Rattle.disk_model.specs.Files.{Name, Files}
@@ -7,6 +7,7 @@ use Rattle.disk_model.specs.declared.disk.Disk.{Ghosts}
 use Rattle.durable_write.specs.Held.{Filed}
 use Rattle.found_files.specs.Candidate.{IsCandidate}
 use Rattle.partition_names.specs.declared.granularity.Granularity.{Granularity}
+use Rattle.partition_names.specs.declared.granularity.Granularity.TheVariants.{FiveMinutes}
 use Rattle.partition_names.specs.Part.{IsPart}
 use Rattle.pv_catalog.specs.Catalogue.{CatalogueState}
 use Rattle.pv_catalog.specs.declared.row.Row.{Row}
@@ -27,6 +28,10 @@ pub record MayList (g : Granularity) (image : Files) (rows : List Row) (series p
   pub stands : slice_get rows series ≡ Some row
   pub name : x.candidate.name ≡ row.name
   pub type : x.candidate.front.info.ty ≡ row.about.ty
+
+-- none of these granularities is finer than a quarter of an hour
+abbrev pub AreCoarse : List Granularity → Type 0
+AreCoarse gs = (i : ℕ) (g : Granularity) → slice_get gs i ≡ Some g → g ≢ FiveMinutes
 
 -- no reader of any of the files was opened
 abbrev pub AreUnopened : (Name → ℕ) → List Taken → Type 0
@@ -69,6 +74,10 @@ AllMayList gs image rows turns = AtEachTurn (λ turn taken. (g : Granularity) �
 abbrev pub AllHaveParts : List Granularity → List (List Taken) → Type 0
 AllHaveParts gs turns = AtEachTurn (λ turn taken. (g : Granularity) → slice_get gs (place_of turn) ≡ Some g
     → All (λ (x : Taken). IsPart g x.candidate.part) taken) turns
+
+-- each takes no more than fit into one batch of a journal
+abbrev pub AreFew : List (List Taken) → Type 0
+AreFew turns = AtEachTurn (λ turn taken. length taken ≤ 18_600_000) turns
 
 abbrev pub AllUnopened : (Name → ℕ) → List (List Taken) → Type 0
 AllUnopened opened turns = AtEachTurn (λ turn taken. AreUnopened opened taken) turns

@@ -43,10 +43,11 @@ pub record StillSay (gs : List Granularity) (old new : Files) : Type 0 where
   pub elsewhere : (n : Name) → n.0 ≢ 0 → new n ≡ old n
   pub others : (n : Name) → ((j : Journal) → IsOwn (name_of j) n → ⊥) → new n ≡ old n
 
--- Whatever a crash leaves, the journals say what they said; reads give so too, and nothing more. The other stores are as they were.
+-- Whatever a crash leaves, the journals say what they said; reads give so too, and nothing more. Every file that is none of theirs is as it was.
 pub record KeepsSaid (gs : List Granularity) (files : Files) (opened : Name → ℕ) (old : Past) (later : Files) (after : Name → ℕ) (new : Past) : Type 0 where
   pub passes : Passes (StillSay gs) old new
   pub elsewhere : (n : Name) → n.0 ≢ 0 → later n ≡ files n
+  pub others : (n : Name) → ((j : Journal) → IsOwn (name_of j) n → ⊥) → later n ≡ files n
   pub said : (j : Journal) (value : Value j) → Says (Means gs j) value (name_of j) files → Says (Means gs j) value (name_of j) later
   pub no_more : (hs : List Granularity) (j : Journal) (value : Value j) → Says (Means hs j) value (name_of j) later → Says (Means hs j) value (name_of j) files
   pub same_opened : (n : Name) → n.0 ≢ 0 → after n ≡ opened n

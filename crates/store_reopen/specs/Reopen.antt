@@ -4,6 +4,7 @@ use Rattle.partition_names.specs.declared.granularity.Granularity.{Granularity}
 use Rattle.disk_model.specs.Files.{Name, Files}
 use Rattle.disk_model.specs.Past.{Past, MayLeave, Passes}
 use Rattle.disk_model.specs.declared.disk.Disk.{Ghosts}
+use Rattle.gate_journal.specs.Generations.{IsOwn}
 use Rattle.gate_journal.specs.Kept.{Says}
 use Rattle.store_manifest.specs.declared.entry.Entry.{Entry}
 use Rattle.store_manifest.specs.Batches.{Folds}
@@ -24,7 +25,7 @@ use Rattle.store_reopen.specs.OneJournal.{NoneOpened}
 use Rattle.store_reopen.specs.declared.error.ReopenErr.{ReopenErr}
 use Rattle.store_reopen.specs.declared.error.ReopenErr.TheVariants.{DiskFault, Damaged, GranularityDiffers, Memory}
 use Rattle.store_reopen.specs.Leaving.{Leaves}
-use Rattle.store_reopen.specs.Loading.{granularity_at}
+use Rattle.store_reopen.specs.Loading.{Journal, granularity_at, name_of}
 use Rattle.store_reopen.specs.Verdict.{Listings, HasRow, IsWhole}
 use Rattle.store_reopen.specs.Strays.{AreGone, IsStray, SweptStores, adoption_name}
 
@@ -90,13 +91,30 @@ StillHolds gs old new = (held : Stores) → HoldsAll gs old held → HoldsAll gs
 abbrev pub SameStores : Files → Files → Type 0
 SameStores old new = (n : Name) → n.0 ≢ 0 → new n ≡ old n
 
--- no file of these stores changes, and none is opened further
-abbrev pub SparesStores : {D R : Type 0} → Ghosts D R → D → D → Type 0
-SparesStores {D} {R} disk old new = Leaves disk SameStores old new
+-- the name is that of no journal's file
+abbrev pub IsNoJournals : Name → Type 0
+IsNoJournals n = (j : Journal) → IsOwn (name_of j) n → ⊥
 
--- Of all files those of journals alone may change: each file of stores 1 to 3 is as it was, and so is the file `adopt`.
+-- of all files those of journals alone may change
 abbrev pub OnlyJournals : Files → Files → Type 0
-OnlyJournals old new = (n : Name) → (n.0 ≡ 0 → n ≡ adoption_name) → new n ≡ old n
+OnlyJournals old new = (n : Name) → IsNoJournals n → new n ≡ old n
+
+-- of all files those of journals and the file `adopt` alone may change
+abbrev pub OnlySite : Files → Files → Type 0
+OnlySite old new = (n : Name) → IsNoJournals n → n ≢ adoption_name → new n ≡ old n
+
+-- none but these change, and none is opened further
+abbrev pub ChangesSite : {D R : Type 0} → Ghosts D R → D → D → Type 0
+ChangesSite {D} {R} disk old new = Leaves disk OnlySite old new
+
+-- of store 0 the file `adopt` is as it was, and so is every other one that is no journal's
+pub record KeepsSite (old new : Files) : Type 0 where
+  pub adoption : new adoption_name ≡ old adoption_name
+  pub others : (n : Name) → n.0 ≡ 0 → IsNoJournals n → new n ≡ old n
+
+-- so reads give it, and so a crash leaves it at any moment
+abbrev pub LeavesSite : {D R : Type 0} → Ghosts D R → D → D → Type 0
+LeavesSite {D} {R} disk old new = KeepsSite (disk.files old) (disk.files new) × Passes KeepsSite (disk.past old) (disk.past new)
 
 -- none but those of journals change, and none is opened further
 abbrev pub ChangesJournals : {D R : Type 0} → Ghosts D R → D → D → Type 0

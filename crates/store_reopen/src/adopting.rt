@@ -10,8 +10,9 @@ ghost use Rattle.tier_store.specs.Seen.{granularities, seen};
 ghost use Rattle.tier_store.specs.Stores.{Stores};
 ghost use Rattle.store_reopen.specs.Adoption.{Adopts, HasAdopted, IsMarked, NoneFiner, NoneFoundOpened, adopt_disk};
 ghost use Rattle.store_reopen.specs.Following.{FollowsAll, HasAdoptedOf, LeavesOff, NoneUnlistedOpened};
+ghost use Rattle.store_reopen.specs.Listing.{AreCoarse};
 ghost use Rattle.store_reopen.specs.Refusal.{IsTold};
-ghost use Rattle.store_reopen.specs.Reopen.{ChangesJournals, IsReady, IsUnopened, OpensEither, SameStores, SparesStores, loaded, stores_of};
+ghost use Rattle.store_reopen.specs.Reopen.{ChangesJournals, ChangesSite, IsReady, IsUnopened, OpensEither, SameStores, loaded, stores_of};
 ghost use Rattle.store_reopen.specs.Strays.{IsGone, adoption_name};
 ghost use Rattle.store_reopen.specs.Verdict.{IsWhole, IsDamaged, Differs};
 ghost use Rattle.store_reopen.specs.declared.adopted.AdoptErr.TheVariants.{Reopen};
@@ -44,8 +45,11 @@ use tier_store::TierStore;
 /// commit each; it takes none of a store where it lists a file there or in a store before it.
 ///
 /// While that is going on, store 0 has the file `adopt`, and no opening sweeps; at `Ok` it is gone. So after a stop at any moment what was
-/// held is held, with a front of these steps made, and a second call makes the others. `DiskFault` comes only where the disk's count of faults rose in the
-/// call; `Memory` alone may come at any time.
+/// held is held, with a front of these steps made, and a second call makes the others. `DiskFault` comes only where the disk's count of faults
+/// rose in the call; `Memory` alone may come at any time.
+///
+/// No store may have partitions of five minutes. It needs a disk of which no journal was opened, no listed file beyond its listed length, and
+/// no unlisted one, and leaves it so, whatever it answers.
 pub fn adopt<D: Disk>(
     alloc: Global,
     disk: D,
@@ -97,6 +101,7 @@ fn adopt_files<D: Disk>(
 ) -> Result<(Catalogue, Vec<Manifest>, Adopted), Refusal>
     requires unopened { IsTrue D.tells → IsUnopened (D.files disk.old) (D.opened disk.old) }
     requires found { IsTrue D.tells → NoneFoundOpened (stores_of config.now) (D.files disk.old) (D.opened disk.old) }
+    requires coarse { NoneFiner config.now }
     ensures adopts { IsTrue D.tells → Adopts D.Disk (stores_of config.now) disk.old disk.new }
     ensures adopted { IsTrue D.tells → (before after : Stores) → OpensEither (stores_of config.now) (D.past disk.old) before after
         → IfOk result (λ r. HasAdoptedOf D.Disk (stores_of config.now) disk.old r.0 r.1.items disk.new r.2 before after) }
@@ -122,6 +127,7 @@ fn adopt_loaded<D: Disk>(
     requires ready { (gs : List GranularityValue) × (length gs ≡ 3) × IsReady gs catalogue.old manifests.old.items }
     requires has { IsTrue D.tells → (held : Stores) × Has D.tells (loaded D.Disk catalogue.old manifests.old.items disk.old) held }
     requires unopened { IsTrue D.tells → NoneUnlistedOpened catalogue.old.rows manifests.old.items (D.opened disk.old) }
+    requires coarse { AreCoarse (granularities manifests.old.items) }
     ensures follows { IsTrue D.tells → (gs : List GranularityValue) (image : Files) (held : Stores) → granularities manifests.old.items ≡ gs
         → SameStores image (D.files disk.old) → Has D.tells (loaded D.Disk catalogue.old manifests.old.items disk.old) held
         → IfOk result (FollowsAll D.Disk gs image held catalogue.old manifests.old.items disk.old catalogue.new manifests.new.items disk.new) }
@@ -133,7 +139,7 @@ fn adopt_loaded<D: Disk>(
         → Passes (IsMarked gs image held) (D.past disk.old) (D.past disk.new) }
     ensures finished { IsTrue D.tells → OnOk result (IsGone (D.files disk.new) (D.past disk.new) adoption_name) }
     ensures ready { (gs : List GranularityValue) → IsReady gs catalogue.old manifests.old.items → OnOk result (IsReady gs catalogue.new manifests.new.items) }
-    ensures spares { IsTrue D.tells → SparesStores D.Disk disk.old disk.new }
+    ensures site { IsTrue D.tells → ChangesSite D.Disk disk.old disk.new }
     ensures faults { D.faults disk.old ≤ D.faults disk.new }
     ensures cause { IsErrOf result DiskErr.Fault → Rose (D.faults disk.old) (D.faults disk.new) }
 {
@@ -153,6 +159,7 @@ fn adopt_found<D: Disk>(
     requires ready { (gs : List GranularityValue) × (length gs ≡ 3) × IsReady gs catalogue.old manifests.old.items }
     requires has { IsTrue D.tells → (held : Stores) × Has D.tells (loaded D.Disk catalogue.old manifests.old.items disk.old) held }
     requires unopened { IsTrue D.tells → NoneUnlistedOpened catalogue.old.rows manifests.old.items (D.opened disk.old) }
+    requires coarse { AreCoarse (granularities manifests.old.items) }
     ensures follows { IsTrue D.tells → (gs : List GranularityValue) (image : Files) (held : Stores) → granularities manifests.old.items ≡ gs
         → SameStores image (D.files disk.old) → Has D.tells (loaded D.Disk catalogue.old manifests.old.items disk.old) held
         → IfOk result (FollowsAll D.Disk gs image held catalogue.old manifests.old.items disk.old catalogue.new manifests.new.items disk.new) }

@@ -23,7 +23,12 @@
 //! Beside that, opening writes nothing but the first bytes of journals that are missing, and removes nothing but the file of a journal's
 //! generation before the current one.
 //!
-//! Caveat: it looks only at lengths, so a disk whose listed bytes others damaged is opened too.
+//! `adopt` opens in the same way, removes no stray, and lists files where they stand that no manifest lists. First it makes the file `adopt`
+//! in store 0. Then it reads the files of stores 3, 2 and 1 (`found_files`), gives each variable without a row one by its first file, and
+//! lists what each row takes of each store in one commit. At last it removes the file `adopt`. Each step is on the disk before the next one,
+//! so an adoption that was cut off goes on where it stopped when it is asked for again, and until then no opening removes a file.
+//!
+//! Caveat: it looks only at lengths of listed files, so a disk whose listed bytes others damaged is opened too, and adopted into.
 #![tactic(auto)]
 
 mod adopted;

@@ -1,5 +1,5 @@
 // The files that a row takes of a store, which are listed in one commit.
-ghost use Rattle.std.specs.Prelude.{◌≡◌, ◌≤◌, ◌<◌, ◌*◌, [], ℕ, All, IfOk, IsErrOf, IsTrue, List, OnErr, OnOk, Some, false, length, map, slice_get, true};
+ghost use Rattle.std.specs.Prelude.{◌≡◌, ◌≤◌, ◌<◌, ◌*◌, [], ℕ, All, IfOk, IsErrOf, IsTrue, List, OnErr, OnOk, Some, false, length, map, slice_get, take, true};
 ghost use Rattle.disk_model.specs.Files.{Files, Rose};
 ghost use Rattle.disk_model.specs.Past.{Only};
 ghost use Rattle.etl_mover.specs.Move.{set_entry};
@@ -11,7 +11,7 @@ ghost use Rattle.tier_store.specs.Change.{Has};
 ghost use Rattle.tier_store.specs.Seen.{granularities};
 ghost use Rattle.tier_store.specs.Stores.{Stores};
 ghost use Rattle.store_reopen.specs.Adoption.{TakesTurns, entry_as};
-ghost use Rattle.store_reopen.specs.Listing.{AllHaveParts, AllMayList, AllUnopened, AreTurns, AreUnopened, ListsTaken, MayList, turns_of};
+ghost use Rattle.store_reopen.specs.Listing.{AllHaveParts, AllMayList, AllUnopened, AreFew, AreTurns, AreUnopened, ListsTaken, MayList, turns_of};
 ghost use Rattle.store_reopen.specs.Reopen.{ChangesJournals, IsReady, SameStores, loaded};
 ghost use Rattle.store_reopen.specs.Runs.{Goes, Stops};
 ghost use Rattle.store_reopen.specs.declared.finding.Taken.{Taken as TakenValue};
@@ -25,7 +25,8 @@ use pv_catalog::Catalogue;
 use std::alloc::{AllocError, Global};
 use store_manifest::{Change, Entry, Manifest};
 
-// So many changes are within the greatest batch of a journal.
+// So many changes are within the greatest batch of a journal. All years have fewer quarters of an hour, and no store has partitions of five
+// minutes.
 const MOST_FILES: usize = 18_600_000;
 
 // Lists what each turn takes, one turn after another: turn k is of row k / 3, and of store 3, then 2, then 1.
@@ -42,6 +43,7 @@ pub(crate) fn list_all<D: Disk>(
     requires has { IsTrue D.tells → (held : Stores) × Has D.tells (loaded D.Disk catalogue.now manifests.old.items disk.old) held }
     requires may { IsTrue D.tells → AllMayList (granularities manifests.old.items) (D.files disk.old) catalogue.now.rows (turns_of turns.now) }
     requires unopened { IsTrue D.tells → AllUnopened (D.opened disk.old) (turns_of turns.now) }
+    requires few { IsTrue D.tells → AreFew (turns_of turns.now) }
     ensures goes { IsTrue D.tells → (image : Files) (held : Stores) (unlisted : List UnlistedValue) → SameStores image (D.files disk.old)
         → AreTurns held catalogue.now.rows unlisted (turns_of turns.now)
         → OnOk result (Goes D.Disk (λ whole. TakesTurns image held catalogue.now.rows unlisted whole 0 (length turns.now)) (λ whole steps. steps ≡ [])
@@ -91,6 +93,7 @@ pub(crate) fn list_taken<D: Disk>(
     requires may { IsTrue D.tells → (m : ManifestState) → slice_get manifests.old.items place ≡ Some m
         → All (MayList m.granularity (D.files disk.old) catalogue.now.rows series place) taken.now }
     requires unopened { IsTrue D.tells → AreUnopened (D.opened disk.old) taken.now }
+    requires few { IsTrue D.tells → length taken.now ≤ 18_600_000 }
     ensures lists { IsTrue D.tells
         → OnOk result (ListsTaken D.Disk true catalogue.now place series taken.now manifests.old.items disk.old manifests.new.items disk.new) }
     ensures stops { IsTrue D.tells
@@ -103,12 +106,18 @@ pub(crate) fn list_taken<D: Disk>(
     if taken.is_empty() {
         return Ok(());
     }
-    if taken.len() > MOST_FILES {
-        return Err(DiskErr::Memory);
-    }
     sync_taken(disk, taken)?;
-    let changes = changes_of(alloc, series, taken)?;
+    let changes = changes_of(alloc, series, batch_of(taken))?;
     add_files(disk, catalogue, manifests, place, &changes)
+}
+
+// As many of these files as one batch may list: all, where the disk tells its files. One that doesn't may name a file more than once.
+fn batch_of(taken: &[Taken]) -> &[Taken]
+    ensures few { length result.now ≤ 18_600_000 }
+    ensures front { (n : ℕ) × (result.now ≡ take n taken.now) }
+    ensures all { length taken.now ≤ 18_600_000 → result.now ≡ taken.now }
+{
+    &taken[..taken.len().min(MOST_FILES)]
 }
 
 // Syncs each of these files. The disk's files stay.

@@ -13,7 +13,7 @@ ghost use Rattle.tier_store.specs.Change.{Has};
 ghost use Rattle.tier_store.specs.Pinned.{seen_all};
 ghost use Rattle.store_reopen.specs.OneJournal.{NoneOpened};
 ghost use Rattle.store_reopen.specs.Verdict.{AreSaid, IsThere, IsWhole, IsDamaged, Differs};
-ghost use Rattle.store_reopen.specs.Reopen.{IsUnopened, OpensEither, HasLoaded, HasRead, IsReady, IsSwept, Reopens, Sweeps, loaded, stores_of, lists_of, disk_of};
+ghost use Rattle.store_reopen.specs.Reopen.{IsUnopened, OpensEither, HasLoaded, HasRead, IsReady, IsSwept, LeavesSite, Reopens, Sweeps, loaded, stores_of, lists_of, disk_of};
 ghost use Rattle.store_reopen.specs.Loading.{KeepsSaid};
 ghost use Rattle.store_reopen.specs.Refusal.{IsTold};
 ghost use Rattle.store_reopen.specs.Strays.{HaveNoStray, IsStrayBelow, adoption_name};
@@ -66,9 +66,11 @@ pub fn reopen<D: Disk>(
         → Differs (stores_of config.now) (D.files disk) kept asked }
 
     // No stray is left, where no adoption is unfinished. A crash at any moment leaves what the image held, and the disk can be opened again.
+    // Of store 0 the file `adopt` stays as it is, and so does every other one that is no journal's.
     ensures swept { IsTrue D.tells → IfOk result (λ s. IsSwept (stores_of config.now) (D.files disk) (D.files s.disk) (D.past s.disk)) }
     ensures tidy { IsTrue D.tells → D.files disk adoption_name ≡ None → IfOk result (λ s. HaveNoStray (seen_all D.Disk s)) }
     ensures sweeps { IsTrue D.tells → Sweeps D.Disk (stores_of config.now) disk (disk_of result) }
+    ensures site { IsTrue D.tells → LeavesSite D.Disk disk (disk_of result) }
     ensures faults { D.faults disk ≤ D.faults (disk_of result) }
     ensures cause { (d : D) → result ≡ Err (DiskFault d) → Rose (D.faults disk) (D.faults d) }
 {
@@ -94,7 +96,7 @@ pub fn open_to_read<D: Disk>(
 ) -> Result<TierStore<D>, ReopenErr<D>>
     requires unopened { IsTrue D.tells → IsUnopened (D.files disk) (D.opened disk) }
 
-    // The first nine clauses are those of `reopen`.
+    // The first nine clauses and the last three are those of `reopen`.
     ensures stands { IsTrue D.tells → (before after : Stores) → OpensEither (stores_of config.now) (D.past disk) before after
         → IfOk result (λ s. HasRead D.Disk (stores_of config.now) disk s before after) }
     ensures has { IfOk result (λ s. (held : Stores) × Has D.tells (seen D.Disk s) held) }
@@ -108,8 +110,10 @@ pub fn open_to_read<D: Disk>(
     ensures differs { IsTrue D.tells → (d : D) (kept asked : GranularityValue) → result ≡ Err (GranularityDiffers d kept asked)
         → Differs (stores_of config.now) (D.files disk) kept asked }
 
-    // A crash at any moment leaves what the image held, and the disk can be opened again.
+    // A crash at any moment leaves what the image held, and the disk can be opened again. The file `adopt` and all others of store 0 that are
+    // no journals' stay.
     ensures reopens { IsTrue D.tells → Reopens D.Disk (stores_of config.now) disk (disk_of result) }
+    ensures site { IsTrue D.tells → LeavesSite D.Disk disk (disk_of result) }
     ensures faults { D.faults disk ≤ D.faults (disk_of result) }
     ensures cause { (d : D) → result ≡ Err (DiskFault d) → Rose (D.faults disk) (D.faults d) }
 {
@@ -144,6 +148,7 @@ fn open_stores<D: Disk>(
     ensures swept { IsTrue D.tells → OnOk result (IsSwept (stores_of config.now) (D.files disk.old) (D.files disk.new) (D.past disk.new)) }
     ensures gone { IsTrue D.tells → D.files disk.old adoption_name ≡ None → IfOk result (λ r. (n : Name) → IsStrayBelow 3 r.0.rows r.1.items n → D.files disk.new n ≡ None) }
     ensures sweeps { IsTrue D.tells → Sweeps D.Disk (stores_of config.now) disk.old disk.new }
+    ensures site { IsTrue D.tells → LeavesSite D.Disk disk.old disk.new }
     ensures faults { D.faults disk.old ≤ D.faults disk.new }
     ensures cause { result ≡ Err (OfDisk Fault) → Rose (D.faults disk.old) (D.faults disk.new) }
 {
@@ -170,6 +175,7 @@ fn load_and_sweep<D: Disk>(
     ensures swept { IsTrue D.tells → OnOk result (IsSwept (stores_of config.now) (D.files disk.old) (D.files disk.new) (D.past disk.new)) }
     ensures gone { IsTrue D.tells → D.files disk.old adoption_name ≡ None → IfOk result (λ r. (n : Name) → IsStrayBelow 3 r.0.rows r.1.items n → D.files disk.new n ≡ None) }
     ensures sweeps { IsTrue D.tells → Sweeps D.Disk (stores_of config.now) disk.old disk.new }
+    ensures site { IsTrue D.tells → LeavesSite D.Disk disk.old disk.new }
     ensures faults { D.faults disk.old ≤ D.faults disk.new }
     ensures cause { result ≡ Err (OfDisk Fault) → Rose (D.faults disk.old) (D.faults disk.new) }
 {

@@ -1,10 +1,7 @@
 // Which files are strays: they are named as files of rows and partitions, and no manifest lists them.
-ghost use Rattle.std.specs.Prelude.{◌≡◌, ◌≤◌, ◌<◌, ◌+◌, ◌==◌, ◌↔◌, ℕ, List, All, IfOk, IfSome, IsTrue, Some, false, length, nat_lt, slice_get, true};
-ghost use Rattle.std.specs.List.{position};
+ghost use Rattle.std.specs.Prelude.{◌≡◌, ◌≤◌, ◌<◌, ◌+◌, ◌↔◌, ℕ, All, IfOk, IfSome, IsTrue, Some, false, length, nat_lt, slice_get, true};
 ghost use Rattle.std.specs.List.Sorted.{IsPartitionPoint};
 ghost use Rattle.partition_names.specs.declared.part.Part.{Part as PartValue};
-ghost use Rattle.partition_names.specs.Part.{IsPart};
-ghost use Rattle.partition_names.specs.Path.{path_of};
 ghost use Rattle.pv_name.specs.Key.{key_of};
 ghost use Rattle.pv_catalog.specs.Rows.{AreRows, HasKey};
 ghost use Rattle.pv_catalog.specs.declared.row.Row.{Row as RowValue};
@@ -14,7 +11,8 @@ ghost use Rattle.store_reopen.specs.Verdict.{HasRow};
 ghost use Rattle.store_reopen.specs.Strays.{IsFileOf, IsStrayOf};
 
 use disk_model::FileName;
-use partition_names::{Granularity, Part, PartName, file_path, parse};
+use found_files::{has_path, part_in};
+use partition_names::{Granularity, Part};
 use pv_catalog::{Catalogue, RegisterErr};
 use pv_name::{NameErr, PvName};
 use std::alloc::{AllocError, Global};
@@ -65,26 +63,6 @@ pub(crate) fn own_file(
     }
 }
 
-// Where the key ends in a path, before its first colon, and the partition that it names behind that.
-fn part_in(granularity: Granularity, path: &[u8]) -> Option<(usize, Part)>
-    ensures within { IfSome result (λ r. (r.0 ≤ length path.now) × IsPart granularity r.1) }
-    ensures only { (name : List ℕ) (part : PartValue) → IsPart granularity part → path_of name part.name ≡ path.now → result ≡ Some (length (key_of name), part) }
-{
-    let end = first_colon(path)?;
-    if path.len() < end + 4 {
-        return None;
-    }
-    let part = parse(granularity, &path[end + 1..path.len() - 3])?;
-    Some((end, part))
-}
-
-// Where the first colon stands.
-fn first_colon(path: &[u8]) -> Option<usize>
-    ensures { result ≡ position (λ b. b == 58) path.now }
-{
-    path.iter().position(|byte| *byte == b':')
-}
-
 // The row that has this key.
 fn row_of_key(alloc: Global, catalogue: &Catalogue, key: &[u8]) -> Result<Option<u32>, AllocError>
     requires rows { AreRows catalogue.now.rows }
@@ -111,15 +89,6 @@ fn row_of(catalogue: &Catalogue, name: &PvName) -> Option<u32>
         Some(RegisterErr::Disk(_)) => None,
         None => None,
     }
-}
-
-// Whether this is the path of the file of a name and a partition.
-fn has_path(alloc: Global, name: &PvName, part: &PartName, path: &[u8]) -> Result<bool, AllocError>
-    ensures { IfOk result (λ b. IsTrue b ↔ (path_of name.now part.now ≡ path.now)) }
-{
-    let mut own = Vec::new(alloc);
-    file_path(name, part, &mut own)?;
-    Ok(own.as_slice() == path)
 }
 
 // Whether the manifest lists an entry of this series whose partition begins at this moment.

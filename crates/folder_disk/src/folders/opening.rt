@@ -3,7 +3,7 @@
 // An archive's site has an identity, which the marks of its three stores have too. Marking goes by these steps, each of which is on the
 // disk before the next: the site's mark, then those of the stores, then the line in the site's that all are there. So without that
 // line marking goes on where it was broken off, and with it a store's folder without its mark isn't the archive's.
-use super::{Access, Folders, LOCK, Turn, is_closed, read_from};
+use super::{ADOPTION, Access, Folders, LOCK, Turn, is_closed, read_from};
 use crate::marks::{DONE, MARK, Mark, ROOM, identity_of, line_of, mark_of, word_of};
 use std::fs::{self, File, OpenOptions, TryLockError};
 use std::io::{self, ErrorKind};
@@ -62,6 +62,7 @@ impl<R: Files<File = File> + Drop> Folders<R> {
         }
         let site = self.mark(0)?;
         self.check_site(site.as_ref())?;
+        self.check_adoption()?;
         let is_marked = matches!(&site, Some(mark) if mark.is_done);
         let may_make = self.access.may_write() && !is_marked;
         if may_make {
@@ -184,6 +185,19 @@ impl<R: Files<File = File> + Drop> Folders<R> {
         match site {
             Some(mark) if mark.store != 0 => self.other_place(0, mark),
             _ => Ok(()),
+        }
+    }
+
+    // No adoption is left unfinished. Whoever wrote then might make a file anew that stands and isn't listed yet.
+    fn check_adoption(&mut self) -> io::Result<()> {
+        if self.access != Access::Write {
+            return Ok(());
+        }
+        let path = format!(in self.alloc; "{}/{ADOPTION}", self.root(0)?)?;
+        let found = self.size_of(path.as_str());
+        match self.noted(path.as_str(), found)? {
+            Some(_) => self.refuse(path, "adoption not finished, run archappl adopt again"),
+            None => Ok(()),
         }
     }
 

@@ -1,9 +1,12 @@
 use Rattle.std.proofs.Common.{true, refl}
 use Rattle.store_reopen.specs.Reopen.{stores_of}
-use Rattle.store_reopen.proofs.AdoptedDisk.{adopts_from, done_adopts, left_adopts, none_opened, only_opens}
+use Rattle.store_reopen.proofs.AdoptedDisk.{adopts_from, done_adopts, left_adopts, load_site, none_opened, only_opens}
+use Rattle.store_reopen.proofs.FewFiles.{settings_coarse}
 use Rattle.store_reopen.proofs.Going.{removes_none}
 use Rattle.store_reopen.proofs.Having.{reopened}
 use Rattle.store_reopen.proofs.Marked.{loads_marked}
+use Rattle.store_reopen.proofs.Site.{site_loaded}
+use Rattle.store_reopen.proofs.StillFound.{found_loaded}
 use Rattle.store_reopen.proofs.Swept.{load_has, load_stands, load_whole}
 use Rattle.store_reopen.proofs.adopting.adopt_files.Goals as goal
 
@@ -34,6 +37,9 @@ adopt_loaded-requires-clause-unopened g c tells =
     let has = load_has g.D.Disk gs old mid mid cat ms refl c.in_ok-catalogue.ensures.ready c.requires.unopened c.load_stores.ensures.keeps c.in_ok-catalogue.ensures.stored c.in_ok-catalogue.ensures.kept c.in_ok-catalogue.ensures.name c.in_ok-catalogue.ensures.names c.in_ok-catalogue.ensures.said c.in_ok-catalogue.ensures.there (λ d told. g.met.D.Disk.seen d told) (λ told. removes_none g.D.Disk _ mid) in
     none_opened g.D.Disk gs old mid cat ms c.in_ok-catalogue.ensures.ready.granularity (c.load_stores.ensures.keeps tells) has.0 has.1 tells (g.met.D.Disk.seen mid tells) (c.in_ok-catalogue.ensures.said tells) (c.requires.found tells)
 
+pub adopt_loaded-requires-clause-coarse : goal.adopt_loaded-requires-clause-coarse
+adopt_loaded-requires-clause-coarse g c = settings_coarse c.args.config.now c.in_ok-catalogue.manifests.items c.in_ok-catalogue.ensures.ready.granularity c.requires.coarse
+
 pub returns-in_err-catalogue-clause-adopts : goal.returns-in_err-catalogue-clause-adopts
 returns-in_err-catalogue-clause-adopts g c tells =
     let gs = stores_of c.args.config.now in
@@ -41,7 +47,7 @@ returns-in_err-catalogue-clause-adopts g c tells =
     let mid = c.load_stores.new.disk in
     let keeps = c.load_stores.ensures.keeps tells in
     only_opens g.D.Disk gs old mid (reopened g.D.Disk gs old mid (c.requires.unopened tells) keeps)
-    (λ before after opens. loads_marked gs (g.D.Disk.files old) (g.D.Disk.past old) (g.D.Disk.past mid) before after opens keeps.passes)
+    (λ before after opens. loads_marked gs (g.D.Disk.files old) (g.D.Disk.past old) (g.D.Disk.past mid) before after opens keeps.passes) (found_loaded g.D.Disk gs old mid keeps (c.requires.found tells)) (load_site g.D.Disk gs old mid keeps) (site_loaded g.D.Disk gs old mid keeps)
 
 pub returns-in_err-adopted-clause-adopts : goal.returns-in_err-adopted-clause-adopts
 returns-in_err-adopted-clause-adopts g c tells =
@@ -55,8 +61,9 @@ returns-in_err-adopted-clause-adopts g c tells =
     let new = c.adopt_loaded.new.disk in
     let has = load_has g.D.Disk gs old mid mid cat ms refl c.in_ok-catalogue.ensures.ready c.requires.unopened c.load_stores.ensures.keeps c.in_ok-catalogue.ensures.stored c.in_ok-catalogue.ensures.kept c.in_ok-catalogue.ensures.name c.in_ok-catalogue.ensures.names c.in_ok-catalogue.ensures.said c.in_ok-catalogue.ensures.there (λ d told. g.met.D.Disk.seen d told) (λ told. removes_none g.D.Disk _ mid) in
     let begun = reopened g.D.Disk gs old mid (c.requires.unopened tells) (c.load_stores.ensures.keeps tells) in
-    left_adopts g.D.Disk gs old mid new cat ms cat₁ m₁ tells c.in_ok-catalogue.ensures.ready.granularity begun (g.met.D.Disk.seen new tells) (load_whole g.D.Disk gs old mid mid cat ms refl c.in_ok-catalogue.ensures.ready c.requires.unopened c.load_stores.ensures.keeps c.in_ok-catalogue.ensures.stored c.in_ok-catalogue.ensures.kept c.in_ok-catalogue.ensures.name c.in_ok-catalogue.ensures.names c.in_ok-catalogue.ensures.said c.in_ok-catalogue.ensures.there (λ d told. g.met.D.Disk.seen d told) (λ told. removes_none g.D.Disk _ mid) tells) (load_stands g.D.Disk gs old mid mid cat ms refl c.in_ok-catalogue.ensures.ready c.requires.unopened c.load_stores.ensures.keeps c.in_ok-catalogue.ensures.stored c.in_ok-catalogue.ensures.kept c.in_ok-catalogue.ensures.name c.in_ok-catalogue.ensures.names c.in_ok-catalogue.ensures.said c.in_ok-catalogue.ensures.there (λ d told. g.met.D.Disk.seen d told) (λ told. removes_none g.D.Disk _ mid) tells) has.0 has.1 (c.adopt_loaded.ensures.spares tells)
-    (λ held had. c.in_err-adopted.ensures.leaves_off tells gs (g.D.Disk.files old) held c.in_ok-catalogue.ensures.ready.granularity begun.elsewhere had) (c.load_stores.ensures.keeps tells).passes
+    let none = none_opened g.D.Disk gs old mid cat ms c.in_ok-catalogue.ensures.ready.granularity (c.load_stores.ensures.keeps tells) has.0 has.1 tells (g.met.D.Disk.seen mid tells) (c.in_ok-catalogue.ensures.said tells) (c.requires.found tells) in
+    left_adopts g.D.Disk gs old mid new cat ms cat₁ m₁ tells c.in_ok-catalogue.ensures.ready.granularity begun (g.met.D.Disk.seen new tells) (load_whole g.D.Disk gs old mid mid cat ms refl c.in_ok-catalogue.ensures.ready c.requires.unopened c.load_stores.ensures.keeps c.in_ok-catalogue.ensures.stored c.in_ok-catalogue.ensures.kept c.in_ok-catalogue.ensures.name c.in_ok-catalogue.ensures.names c.in_ok-catalogue.ensures.said c.in_ok-catalogue.ensures.there (λ d told. g.met.D.Disk.seen d told) (λ told. removes_none g.D.Disk _ mid) tells) (load_stands g.D.Disk gs old mid mid cat ms refl c.in_ok-catalogue.ensures.ready c.requires.unopened c.load_stores.ensures.keeps c.in_ok-catalogue.ensures.stored c.in_ok-catalogue.ensures.kept c.in_ok-catalogue.ensures.name c.in_ok-catalogue.ensures.names c.in_ok-catalogue.ensures.said c.in_ok-catalogue.ensures.there (λ d told. g.met.D.Disk.seen d told) (λ told. removes_none g.D.Disk _ mid) tells) has.0 has.1 (c.adopt_loaded.ensures.site tells) (c.load_stores.ensures.keeps tells) none
+    (λ held had. c.in_err-adopted.ensures.leaves_off tells gs (g.D.Disk.files old) held c.in_ok-catalogue.ensures.ready.granularity begun.elsewhere had)
     (λ held had. c.adopt_loaded.ensures.marked tells gs (g.D.Disk.files old) held c.in_ok-catalogue.ensures.ready.granularity begun.elsewhere had)
 
 pub returns-clause-adopts : goal.returns-clause-adopts
@@ -71,8 +78,9 @@ returns-clause-adopts g c tells =
     let new = c.adopt_loaded.new.disk in
     let has = load_has g.D.Disk gs old mid mid cat ms refl c.in_ok-catalogue.ensures.ready c.requires.unopened c.load_stores.ensures.keeps c.in_ok-catalogue.ensures.stored c.in_ok-catalogue.ensures.kept c.in_ok-catalogue.ensures.name c.in_ok-catalogue.ensures.names c.in_ok-catalogue.ensures.said c.in_ok-catalogue.ensures.there (λ d told. g.met.D.Disk.seen d told) (λ told. removes_none g.D.Disk _ mid) in
     let begun = reopened g.D.Disk gs old mid (c.requires.unopened tells) (c.load_stores.ensures.keeps tells) in
-    done_adopts g.D.Disk gs old mid new cat ms cat₁ m₁ tells c.in_ok-catalogue.ensures.ready.granularity begun (g.met.D.Disk.seen new tells) (load_whole g.D.Disk gs old mid mid cat ms refl c.in_ok-catalogue.ensures.ready c.requires.unopened c.load_stores.ensures.keeps c.in_ok-catalogue.ensures.stored c.in_ok-catalogue.ensures.kept c.in_ok-catalogue.ensures.name c.in_ok-catalogue.ensures.names c.in_ok-catalogue.ensures.said c.in_ok-catalogue.ensures.there (λ d told. g.met.D.Disk.seen d told) (λ told. removes_none g.D.Disk _ mid) tells) (load_stands g.D.Disk gs old mid mid cat ms refl c.in_ok-catalogue.ensures.ready c.requires.unopened c.load_stores.ensures.keeps c.in_ok-catalogue.ensures.stored c.in_ok-catalogue.ensures.kept c.in_ok-catalogue.ensures.name c.in_ok-catalogue.ensures.names c.in_ok-catalogue.ensures.said c.in_ok-catalogue.ensures.there (λ d told. g.met.D.Disk.seen d told) (λ told. removes_none g.D.Disk _ mid) tells) has.0 has.1 (c.adopt_loaded.ensures.spares tells)
-    (λ held had. (c.in_ok-adopted.ensures.follows tells gs (g.D.Disk.files old) held c.in_ok-catalogue.ensures.ready.granularity begun.elsewhere had).all) (c.load_stores.ensures.keeps tells).passes
+    let none = none_opened g.D.Disk gs old mid cat ms c.in_ok-catalogue.ensures.ready.granularity (c.load_stores.ensures.keeps tells) has.0 has.1 tells (g.met.D.Disk.seen mid tells) (c.in_ok-catalogue.ensures.said tells) (c.requires.found tells) in
+    done_adopts g.D.Disk gs old mid new cat ms cat₁ m₁ tells c.in_ok-catalogue.ensures.ready.granularity begun (g.met.D.Disk.seen new tells) (load_whole g.D.Disk gs old mid mid cat ms refl c.in_ok-catalogue.ensures.ready c.requires.unopened c.load_stores.ensures.keeps c.in_ok-catalogue.ensures.stored c.in_ok-catalogue.ensures.kept c.in_ok-catalogue.ensures.name c.in_ok-catalogue.ensures.names c.in_ok-catalogue.ensures.said c.in_ok-catalogue.ensures.there (λ d told. g.met.D.Disk.seen d told) (λ told. removes_none g.D.Disk _ mid) tells) (load_stands g.D.Disk gs old mid mid cat ms refl c.in_ok-catalogue.ensures.ready c.requires.unopened c.load_stores.ensures.keeps c.in_ok-catalogue.ensures.stored c.in_ok-catalogue.ensures.kept c.in_ok-catalogue.ensures.name c.in_ok-catalogue.ensures.names c.in_ok-catalogue.ensures.said c.in_ok-catalogue.ensures.there (λ d told. g.met.D.Disk.seen d told) (λ told. removes_none g.D.Disk _ mid) tells) has.0 has.1 (c.adopt_loaded.ensures.site tells) (c.load_stores.ensures.keeps tells) none
+    (λ held had. (c.in_ok-adopted.ensures.follows tells gs (g.D.Disk.files old) held c.in_ok-catalogue.ensures.ready.granularity begun.elsewhere had).all)
     (λ held had. c.adopt_loaded.ensures.marked tells gs (g.D.Disk.files old) held c.in_ok-catalogue.ensures.ready.granularity begun.elsewhere had)
 
 pub returns-clause-adopted : goal.returns-clause-adopted

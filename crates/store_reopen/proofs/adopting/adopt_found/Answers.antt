@@ -13,6 +13,7 @@ use Rattle.store_reopen.specs.Turns.{AreNumbers, TakesOf, all_taken}
 use Rattle.store_reopen.specs.declared.finding.Taken.{Taken}
 use Rattle.store_reopen.specs.declared.finding.Unlisted.{Unlisted}
 use Rattle.store_reopen.proofs.Adding.{journals_same, spares_read, spares_then}
+use Rattle.store_reopen.proofs.FewFiles.{turns_few}
 use Rattle.store_reopen.proofs.Following.{all_of, all_unopened, followed, gets, left_between, left_lists, left_rows, none_later, rows_had}
 use Rattle.store_reopen.proofs.Counts.{counted}
 use Rattle.store_reopen.proofs.Having.{count_of}
@@ -158,6 +159,21 @@ list_all-requires-clause-unopened g c tells =
     (subst (λ (l : List ManifestState). AtEachTurn (λ turn taken. TakesOf l cat₁.rows turn xs taken) (turns_of c.in_ok-turns.turns.items)) c.as_slice-3.ensures.value c.in_ok-turns.ensures.takes) in
     let three = count_of c.requires.ready.0 ms c.requires.ready.1 c.requires.ready.2.granularity in
     turns_unopened (disk.opened made) cat₁.rows ms xs (turns_of turns) (all_unopened (disk.files old) cat.rows ms (disk.opened made) xs three (none_later cat.rows ms (disk.opened old) (disk.opened made) spared.fewer (c.requires.unopened tells)) found) takes
+
+pub list_all-requires-clause-few : goal.list_all-requires-clause-few
+list_all-requires-clause-few g c tells =
+    let disk = g.D.Disk in
+    let cat = c.args.catalogue.now in
+    let ms = c.args.manifests.now.items in
+    let old = c.args.disk.now in
+    let xs = c.in_ok-unlisted.unlisted.items in
+    let found : AreUnlistedOf (disk.files old) cat.rows ms xs = subst (λ (l : List ManifestState). AreUnlistedOf (disk.files old) cat.rows l xs) c.as_slice.ensures.value (c.in_ok-unlisted.ensures.found tells) in
+    let cat₁ = c.register_all.new.catalogue in
+    let turns = c.as_slice-4.result.now in
+    let takes : AtEachTurn (λ turn taken. TakesOf ms cat₁.rows turn xs taken) (turns_of turns) = subst (λ (vs : List (Vec Taken Global)). AtEachTurn (λ turn taken. TakesOf ms cat₁.rows turn xs taken) (turns_of vs)) (sym c.as_slice-4.ensures.value)
+    (subst (λ (l : List ManifestState). AtEachTurn (λ turn taken. TakesOf l cat₁.rows turn xs taken) (turns_of c.in_ok-turns.turns.items)) c.as_slice-3.ensures.value c.in_ok-turns.ensures.takes) in
+    let three = count_of c.requires.ready.0 ms c.requires.ready.1 c.requires.ready.2.granularity in
+    turns_few (disk.files old) cat.rows cat₁.rows ms xs (turns_of turns) three c.requires.coarse found takes
 
 pub returns-in_err-list_all-clause-leaves_off : goal.returns-in_err-list_all-clause-leaves_off
 returns-in_err-list_all-clause-leaves_off g c tells gs image held of_gs same has =

@@ -1,6 +1,6 @@
 use Rattle.std.proofs.Common.{inl, inr, true, false, ◌∙◌}
 use Rattle.std.proofs.lemmas.Result.{err_from_is_err_and}
-use Rattle.store_reopen.proofs.Adding.{journals_spare, marks_spare, stores_then}
+use Rattle.store_reopen.proofs.Adding.{journals_site, marks_same, marks_site, site_then}
 use Rattle.store_reopen.proofs.Following.{follows_before, follows_behind, follows_stopped, none_later}
 use Rattle.store_reopen.proofs.Marked.{marked_begun, marked_end, marked_made}
 use Rattle.store_reopen.proofs.Marking.{has_marked, marks_then}
@@ -17,8 +17,8 @@ adopt_found-requires-clause-unopened g c tells = none_later c.args.catalogue.now
 pub returns-in_err-begin_adoption-clause-leaves_off : goal.returns-in_err-begin_adoption-clause-leaves_off
 returns-in_err-begin_adoption-clause-leaves_off g c tells gs image held of_gs same has = let p = err_from_is_err_and c.from_residual.result c.from_residual.ensures.1 in rw p.1 (inl (c.begin_adoption.ensures.marks tells))
 
-pub returns-in_err-begin_adoption-clause-spares : goal.returns-in_err-begin_adoption-clause-spares
-returns-in_err-begin_adoption-clause-spares g c tells = marks_spare g.D.Disk c.args.disk.now c.begin_adoption.new.disk (c.begin_adoption.ensures.marks tells)
+pub returns-in_err-begin_adoption-clause-site : goal.returns-in_err-begin_adoption-clause-site
+returns-in_err-begin_adoption-clause-site g c tells = marks_site g.D.Disk c.args.disk.now c.begin_adoption.new.disk (c.begin_adoption.ensures.marks tells)
 
 pub returns-in_err-adopted-clause-leaves_off : goal.returns-in_err-adopted-clause-leaves_off
 returns-in_err-adopted-clause-leaves_off g c tells gs image held of_gs same has =
@@ -30,13 +30,13 @@ returns-in_err-adopted-clause-leaves_off g c tells gs image held of_gs same has 
     let new = c.adopt_found.new.disk in
     let marks = c.begin_adoption.ensures.marks in
     let p = err_from_is_err_and c.from_residual-in_err-adopted.result c.from_residual-in_err-adopted.ensures.1 in
-    rw p.1 (elim (c.in_err-adopted.ensures.leaves_off tells gs image held of_gs (λ n other. (marks_spare disk old mid (marks tells)).now n other ∙ same n other) (has_marked disk cat ms old mid marks held has)) [
+    rw p.1 (elim (c.in_err-adopted.ensures.leaves_off tells gs image held of_gs (λ n other. marks_same disk _ _ (marks tells).now n other ∙ same n other) (has_marked disk cat ms old mid marks held has)) [
       | inl more ↦ inl (marks_then disk old mid new (marks tells) more)
       | inr (whole, follows) ↦ inr (whole, follows_before disk gs image held cat ms old mid c.adopt_found.new.catalogue c.adopt_found.new.manifests.items new whole false (steps_marked disk cat ms old mid marks c.begin_adoption.ensures.faults) follows)
     ])
 
-pub returns-in_err-adopted-clause-spares : goal.returns-in_err-adopted-clause-spares
-returns-in_err-adopted-clause-spares g c tells = stores_then g.D.Disk c.args.disk.now c.begin_adoption.new.disk c.adopt_found.new.disk (marks_spare g.D.Disk c.args.disk.now c.begin_adoption.new.disk (c.begin_adoption.ensures.marks tells)) (journals_spare g.D.Disk c.begin_adoption.new.disk c.adopt_found.new.disk (c.adopt_found.ensures.spares tells))
+pub returns-in_err-adopted-clause-site : goal.returns-in_err-adopted-clause-site
+returns-in_err-adopted-clause-site g c tells = site_then g.D.Disk c.args.disk.now c.begin_adoption.new.disk c.adopt_found.new.disk (marks_site g.D.Disk c.args.disk.now c.begin_adoption.new.disk (c.begin_adoption.ensures.marks tells)) (journals_site g.D.Disk c.begin_adoption.new.disk c.adopt_found.new.disk (c.adopt_found.ensures.spares tells))
 
 pub returns-in_err-end_adoption-clause-leaves_off : goal.returns-in_err-end_adoption-clause-leaves_off
 returns-in_err-end_adoption-clause-leaves_off g c tells gs image held of_gs same has =
@@ -51,21 +51,21 @@ returns-in_err-end_adoption-clause-leaves_off g c tells gs image held of_gs same
     let m₁ = c.adopt_found.new.manifests.items in
     let marks = c.begin_adoption.ensures.marks in
     let p = err_from_is_err_and c.from_residual-in_err-end_adoption.result c.from_residual-in_err-end_adoption.ensures.1 in
-    let all = (c.in_ok-adopted.ensures.follows tells gs image held of_gs (λ n other. (marks_spare disk old mid (marks tells)).now n other ∙ same n other) (has_marked disk cat ms old mid marks held has)).all in
+    let all = (c.in_ok-adopted.ensures.follows tells gs image held of_gs (λ n other. marks_same disk _ _ (marks tells).now n other ∙ same n other) (has_marked disk cat ms old mid marks held has)).all in
     rw p.1 (inr (
       true,
       follows_stopped disk gs image held cat ms old mid cat₁ m₁ new true
           (follows_behind disk gs image held cat ms old mid cat₁ m₁ made true new (steps_marked disk cat₁ m₁ made new c.end_adoption.ensures.marks c.end_adoption.ensures.faults) (follows_before disk gs image held cat ms old mid cat₁ m₁ made true true (steps_marked disk cat ms old mid marks c.begin_adoption.ensures.faults) all)),
     ))
 
-pub returns-in_err-end_adoption-clause-spares : goal.returns-in_err-end_adoption-clause-spares
-returns-in_err-end_adoption-clause-spares g c tells =
+pub returns-in_err-end_adoption-clause-site : goal.returns-in_err-end_adoption-clause-site
+returns-in_err-end_adoption-clause-site g c tells =
     let disk = g.D.Disk in
     let old = c.args.disk.now in
     let mid = c.begin_adoption.new.disk in
     let made = c.adopt_found.new.disk in
     let new = c.end_adoption.new.disk in
-    stores_then disk old made new (stores_then disk old mid made (marks_spare disk old mid (c.begin_adoption.ensures.marks tells)) (journals_spare g.D.Disk c.begin_adoption.new.disk c.adopt_found.new.disk (c.adopt_found.ensures.spares tells))) (marks_spare disk made new (c.end_adoption.ensures.marks tells))
+    site_then disk old made new (site_then disk old mid made (marks_site disk old mid (c.begin_adoption.ensures.marks tells)) (journals_site g.D.Disk c.begin_adoption.new.disk c.adopt_found.new.disk (c.adopt_found.ensures.spares tells))) (marks_site disk made new (c.end_adoption.ensures.marks tells))
 
 pub returns-clause-follows : goal.returns-clause-follows
 returns-clause-follows g c tells gs image held of_gs same has =
@@ -79,20 +79,20 @@ returns-clause-follows g c tells gs image held of_gs same has =
     let cat₁ = c.adopt_found.new.catalogue in
     let m₁ = c.adopt_found.new.manifests.items in
     let marks = c.begin_adoption.ensures.marks in
-    let followed = c.in_ok-adopted.ensures.follows tells gs image held of_gs (λ n other. (marks_spare disk old mid (marks tells)).now n other ∙ same n other) (has_marked disk cat ms old mid marks held has) in
+    let followed = c.in_ok-adopted.ensures.follows tells gs image held of_gs (λ n other. marks_same disk _ _ (marks tells).now n other ∙ same n other) (has_marked disk cat ms old mid marks held has) in
     record {
       all = follows_behind disk gs image held cat ms old mid cat₁ m₁ made true new (steps_marked disk cat₁ m₁ made new c.end_adoption.ensures.marks c.end_adoption.ensures.faults) (follows_before disk gs image held cat ms old mid cat₁ m₁ made true true (steps_marked disk cat ms old mid marks c.begin_adoption.ensures.faults) followed.all);
       counts = followed.counts;
     }
 
-pub returns-clause-spares : goal.returns-clause-spares
-returns-clause-spares g c tells =
+pub returns-clause-site : goal.returns-clause-site
+returns-clause-site g c tells =
     let disk = g.D.Disk in
     let old = c.args.disk.now in
     let mid = c.begin_adoption.new.disk in
     let made = c.adopt_found.new.disk in
     let new = c.end_adoption.new.disk in
-    stores_then disk old made new (stores_then disk old mid made (marks_spare disk old mid (c.begin_adoption.ensures.marks tells)) (journals_spare g.D.Disk c.begin_adoption.new.disk c.adopt_found.new.disk (c.adopt_found.ensures.spares tells))) (marks_spare disk made new (c.end_adoption.ensures.marks tells))
+    site_then disk old made new (site_then disk old mid made (marks_site disk old mid (c.begin_adoption.ensures.marks tells)) (journals_site g.D.Disk c.begin_adoption.new.disk c.adopt_found.new.disk (c.adopt_found.ensures.spares tells))) (marks_site disk made new (c.end_adoption.ensures.marks tells))
 
 pub returns-in_err-begin_adoption-clause-marked : goal.returns-in_err-begin_adoption-clause-marked
 returns-in_err-begin_adoption-clause-marked g c tells gs image held of_gs same has =
@@ -112,7 +112,7 @@ returns-in_err-end_adoption-clause-marked g c tells gs image held of_gs same has
     let mid = c.begin_adoption.new.disk in
     let marks = c.begin_adoption.ensures.marks in
     let had = has_marked disk cat ms old mid marks held has in
-    let all = (c.in_ok-adopted.ensures.follows tells gs image held of_gs (λ n other. (marks_spare disk old mid (marks tells)).now n other ∙ same n other) had).all in
+    let all = (c.in_ok-adopted.ensures.follows tells gs image held of_gs (λ n other. marks_same disk _ _ (marks tells).now n other ∙ same n other) had).all in
     marked_end disk gs tells image cat ms held old mid of_gs (c.begin_adoption.ensures.stays tells) has c.adopt_found.new.disk (c.in_ok-begin_adoption.ensures.there tells) (c.adopt_found.ensures.spares tells) all.steps all.rule c.adopt_found.new.catalogue
     c.adopt_found.new.manifests.items c.end_adoption.new.disk (all.makes.granularity ∙ of_gs) (all.makes.ends held had) (c.end_adoption.ensures.marks tells)
 
@@ -125,6 +125,6 @@ returns-clause-marked g c tells gs image held of_gs same has =
     let mid = c.begin_adoption.new.disk in
     let marks = c.begin_adoption.ensures.marks in
     let had = has_marked disk cat ms old mid marks held has in
-    let all = (c.in_ok-adopted.ensures.follows tells gs image held of_gs (λ n other. (marks_spare disk old mid (marks tells)).now n other ∙ same n other) had).all in
+    let all = (c.in_ok-adopted.ensures.follows tells gs image held of_gs (λ n other. marks_same disk _ _ (marks tells).now n other ∙ same n other) had).all in
     marked_end disk gs tells image cat ms held old mid of_gs (c.begin_adoption.ensures.stays tells) has c.adopt_found.new.disk (c.in_ok-begin_adoption.ensures.there tells) (c.adopt_found.ensures.spares tells) all.steps all.rule c.adopt_found.new.catalogue
     c.adopt_found.new.manifests.items c.end_adoption.new.disk (all.makes.granularity ∙ of_gs) (all.makes.ends held had) (c.end_adoption.ensures.marks tells)

@@ -41,6 +41,12 @@ list_taken-requires-clause-unopened g c tells =
     let taken = turn_here c.args.turns.now t c.index-turns-turn.result c.loop-turn-test.true c.index-turns-turn.is ∙ ap (λ (ys : List Taken). Some ys) (sym c.as_slice.ensures.value) in
     unopened_later (g.D.Disk.opened c.args.disk.now) (g.D.Disk.opened c.loop-turn.disk) c.as_slice.result.now (c.loop-turn.invariant.spares tells).fewer (c.requires.unopened tells t c.as_slice.result.now taken)
 
+pub list_taken-requires-clause-few : goal.list_taken-requires-clause-few
+list_taken-requires-clause-few g c tells =
+    let t = c.loop-turn.turn in
+    let taken = turn_here c.args.turns.now t c.index-turns-turn.result c.loop-turn-test.true c.index-turns-turn.is ∙ ap (λ (ys : List Taken). Some ys) (sym c.as_slice.ensures.value) in
+    c.requires.few tells t c.as_slice.result.now taken
+
 pub returns-in_err-list_taken-clause-stops : goal.returns-in_err-list_taken-clause-stops
 returns-in_err-list_taken-clause-stops g c tells image held unlisted same are =
     let t = c.loop-turn.turn in

@@ -4,6 +4,7 @@ use Rattle.store_manifest.specs.Manifest.{ManifestState}
 use Rattle.store_reopen.specs.Reopen.{stores_of}
 use Rattle.store_reopen.specs.Strays.{AreGone, IsStrayBelow, Removes, adoption_name}
 use Rattle.store_reopen.proofs.Having.{count_of, reopened}
+use Rattle.store_reopen.proofs.Site.{site_loaded, site_swept, site_then}
 use Rattle.store_reopen.proofs.Swept.{is_finished, load_has, load_stands, load_sweeps, load_swept, load_whole, no_file, sweeps_none, sweeps_or_none}
 use Rattle.store_reopen.proofs.opening.load_and_sweep.Goals as goal
 
@@ -68,3 +69,16 @@ pub returns-clause-gone : goal.returns-clause-gone
 returns-clause-gone g c tells finished n stray =
     (c.in_ok-sweep_finished.ensures.gone tells (is_finished c.args.unfinished (g.D.Disk.files c.args.disk.now adoption_name) (c.requires.says tells) finished) n
     (subst (λ (l : List ManifestState). IsStrayBelow 3 c.in_ok-catalogue.catalogue.rows l n) (sym c.deref.ensures.value) stray)).0
+
+pub returns-in_err-catalogue-clause-site : goal.returns-in_err-catalogue-clause-site
+returns-in_err-catalogue-clause-site g c tells = site_loaded g.D.Disk (stores_of c.args.config.now) c.args.disk.now c.load_stores.new.disk (c.load_stores.ensures.keeps tells)
+
+pub returns-in_err-sweep_finished-clause-site : goal.returns-in_err-sweep_finished-clause-site
+returns-in_err-sweep_finished-clause-site g c tells =
+    site_then g.D.Disk c.args.disk.now c.load_stores.new.disk c.sweep_finished.new.disk (site_loaded g.D.Disk (stores_of c.args.config.now) c.args.disk.now c.load_stores.new.disk (c.load_stores.ensures.keeps tells))
+    (site_swept g.D.Disk _ _ c.load_stores.new.disk c.sweep_finished.new.disk (c.sweep_finished.ensures.removes tells))
+
+pub returns-clause-site : goal.returns-clause-site
+returns-clause-site g c tells =
+    site_then g.D.Disk c.args.disk.now c.load_stores.new.disk c.sweep_finished.new.disk (site_loaded g.D.Disk (stores_of c.args.config.now) c.args.disk.now c.load_stores.new.disk (c.load_stores.ensures.keeps tells))
+    (site_swept g.D.Disk _ _ c.load_stores.new.disk c.sweep_finished.new.disk (c.sweep_finished.ensures.removes tells))

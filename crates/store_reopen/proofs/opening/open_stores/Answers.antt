@@ -6,6 +6,7 @@ use Rattle.store_reopen.specs.Refusal.{IsTold}
 use Rattle.store_reopen.specs.Reopen.{HasLoaded, IsSwept, lists_of, stores_of}
 use Rattle.store_reopen.specs.Strays.{adoption_name}
 use Rattle.store_reopen.specs.Verdict.{AreSaid, IsWhole}
+use Rattle.store_reopen.proofs.Site.{site_read, site_then}
 use Rattle.store_reopen.proofs.Swept.{loaded_behind, read_reopens, sweeps_behind, sweeps_none}
 use Rattle.store_reopen.proofs.opening.open_stores.Goals as goal
 
@@ -55,3 +56,11 @@ returns-clause-sweeps g c tells =
 
 pub returns-clause-gone : goal.returns-clause-gone
 returns-clause-gone g c tells finished = c.load_and_sweep.ensures.gone tells (ap (λ (f : Files). f adoption_name) (c.is_unfinished.ensures.same tells) ∙ finished)
+
+pub returns-in_err-unfinished-clause-site : goal.returns-in_err-unfinished-clause-site
+returns-in_err-unfinished-clause-site g c tells = site_read g.D.Disk c.args.disk.now c.is_unfinished.new.disk (c.is_unfinished.ensures.same tells) (c.is_unfinished.ensures.any_moment tells)
+
+pub returns-clause-site : goal.returns-clause-site
+returns-clause-site g c tells =
+    site_then g.D.Disk c.args.disk.now c.is_unfinished.new.disk c.load_and_sweep.new.disk (site_read g.D.Disk c.args.disk.now c.is_unfinished.new.disk (c.is_unfinished.ensures.same tells) (c.is_unfinished.ensures.any_moment tells))
+    (c.load_and_sweep.ensures.site tells)

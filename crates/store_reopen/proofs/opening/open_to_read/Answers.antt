@@ -1,10 +1,15 @@
-use Rattle.std.proofs.Common.{refl, sym, subst}
+use Rattle.std.proofs.Common.{◌≡◌, ℕ, [], Result, Err, refl, sym, ap, subst}
+use Rattle.disk_model.specs.Files.{Name}
 use Rattle.tier_store.specs.Stores.{Stores}
 use Rattle.tier_store.specs.Seen.{seen_on}
 use Rattle.tier_store.specs.Change.{Has}
 use Rattle.tier_store.proofs.Sparing.{seen_new}
-use Rattle.store_reopen.specs.Reopen.{Reopens, stores_of}
+use Rattle.store_reopen.specs.Reopen.{LeavesSite, Reopens, stores_of}
+use Rattle.store_reopen.specs.Verdict.{IsDamaged}
+use Rattle.store_reopen.specs.declared.error.ReopenErr.{ReopenErr}
+use Rattle.store_reopen.specs.declared.error.ReopenErr.TheVariants.{Damaged}
 use Rattle.store_reopen.proofs.Having.{has_some, has_read, reads_one, loaded_again, reopened, count_of}
+use Rattle.store_reopen.proofs.Site.{site_loaded}
 use Rattle.store_reopen.proofs.Swept.{all_whole}
 use Rattle.store_reopen.proofs.opening.open_to_read.Goals as goal
 
@@ -49,3 +54,32 @@ returns-in-Err-Damaged-clause-reopens g c tells = reopened g.D.Disk (stores_of c
 
 pub returns-in-Err-GranularityDiffers-clause-reopens : goal.returns-in-Err-GranularityDiffers-clause-reopens
 returns-in-Err-GranularityDiffers-clause-reopens g c tells = reopened g.D.Disk (stores_of c.args.config.now) c.args.disk c.load_stores.new.disk (c.requires.unopened tells) (c.load_stores.ensures.keeps tells)
+
+pub returns-in-Ok-clause-site : goal.returns-in-Ok-clause-site
+returns-in-Ok-clause-site g c tells = subst (λ d. LeavesSite g.D.Disk c.args.disk d) (sym c.new.ensures.disk) (site_loaded g.D.Disk (stores_of c.args.config.now) c.args.disk c.load_stores.new.disk (c.load_stores.ensures.keeps tells))
+
+pub returns-in-Err-Disk-Fault-clause-site : goal.returns-in-Err-Disk-Fault-clause-site
+returns-in-Err-Disk-Fault-clause-site g c tells = site_loaded g.D.Disk (stores_of c.args.config.now) c.args.disk c.load_stores.new.disk (c.load_stores.ensures.keeps tells)
+
+pub returns-in-Err-Disk-Memory-clause-site : goal.returns-in-Err-Disk-Memory-clause-site
+returns-in-Err-Disk-Memory-clause-site g c tells = site_loaded g.D.Disk (stores_of c.args.config.now) c.args.disk c.load_stores.new.disk (c.load_stores.ensures.keeps tells)
+
+pub returns-in-Err-Damaged-clause-site : goal.returns-in-Err-Damaged-clause-site
+returns-in-Err-Damaged-clause-site g c tells = site_loaded g.D.Disk (stores_of c.args.config.now) c.args.disk c.load_stores.new.disk (c.load_stores.ensures.keeps tells)
+
+pub returns-in-Err-GranularityDiffers-clause-site : goal.returns-in-Err-GranularityDiffers-clause-site
+returns-in-Err-GranularityDiffers-clause-site g c tells = site_loaded g.D.Disk (stores_of c.args.config.now) c.args.disk c.load_stores.new.disk (c.load_stores.ensures.keeps tells)
+
+-- the file and the place that a refusal tells
+abbrev told_in : {T D R : Type 0} → Result T (ReopenErr D R) → Name × ℕ
+told_in {T} {D} {R} (Err (Damaged d name at)) = (name, at)
+told_in {T} {D} {R} r = ((0, []), 0)
+
+damaged_same : {T D R : Type 0} (P : Name → ℕ → Type 0) (a d : D) (n m : Name) (i j : ℕ) → ◌≡◌ {A = Result T (ReopenErr D R)} (Err (Damaged a n i)) (Err (Damaged d m j)) → P n i → P m j
+damaged_same {T} {D} {R} P a d n m i j is holds = subst (λ (p : Name × ℕ). P p.0 p.1) (ap told_in is) holds
+
+pub returns-in-Err-Damaged-clause-damaged : goal.returns-in-Err-Damaged-clause-damaged
+returns-in-Err-Damaged-clause-damaged g c tells d name at is =
+    let same = rw c.in-Err-Damaged.field-0-is at is in
+    let told = rw c.in-Err-Damaged.field-0-is at (c.in-Err-Damaged.ensures.told tells) in
+    damaged_same (IsDamaged (stores_of c.args.config.now) (g.D.Disk.files c.args.disk)) _ d _ name _ at same told

@@ -7,7 +7,7 @@ use Rattle.durable_write.specs.Held.{file_of}
 use Rattle.tier_store.specs.Stores.{Stores}
 use Rattle.tier_store.specs.Change.{Has}
 use Rattle.tier_store.proofs.Sparing.{seen_new}
-use Rattle.store_reopen.specs.Reopen.{IsSwept, Sweeps, stores_of}
+use Rattle.store_reopen.specs.Reopen.{IsSwept, LeavesSite, Sweeps, stores_of}
 use Rattle.store_reopen.specs.Strays.{IsFileOf}
 use Rattle.store_reopen.proofs.Having.{count_of}
 use Rattle.store_reopen.proofs.opening.reopen.Goals as goal
@@ -26,6 +26,9 @@ returns-in-Ok-clause-swept g c tells = subst (λ d. IsSwept (stores_of c.args.co
 
 pub returns-in-Ok-clause-sweeps : goal.returns-in-Ok-clause-sweeps
 returns-in-Ok-clause-sweeps g c tells = subst (λ d. Sweeps g.D.Disk (stores_of c.args.config.now) c.args.disk d) (sym c.new.ensures.disk) (c.open_stores.ensures.sweeps tells)
+
+pub returns-in-Ok-clause-site : goal.returns-in-Ok-clause-site
+returns-in-Ok-clause-site g c tells = subst (λ d. LeavesSite g.D.Disk c.args.disk d) (sym c.new.ensures.disk) (c.open_stores.ensures.site tells)
 
 pub returns-in-Ok-clause-tidy : goal.returns-in-Ok-clause-tidy
 returns-in-Ok-clause-tidy g c tells finished place manifest n series part here store file stray =

@@ -2,7 +2,6 @@ use Rattle.std.proofs.Common.{◌+◌, List, Err, refl, ◌∙◌, ap, arith}
 use Rattle.std.specs.Prelude.{Result}
 use Rattle.std.proofs.lemmas.Result.{err_from_is_err_and}
 use Rattle.disk_model.specs.declared.disk.DiskErr.{DiskErr}
-use Rattle.store_manifest.specs.Manifest.{manifest_name}
 use Rattle.store_manifest.proofs.Written.{batch_length}
 use Rattle.durable_write.specs.Ends.{end_of_disk}
 use Rattle.durable_write.specs.Flush.{put_all}
@@ -13,9 +12,9 @@ use Rattle.tier_store.specs.Moving.{publishing}
 use Rattle.tier_store.specs.Stores.{Stores, list_at, tier}
 use Rattle.tier_store.proofs.Places.{manifest_here, holding}
 use Rattle.tier_store.proofs.RelistCall.{can_relist, beside_all, call_done, call_cut}
+use Rattle.store_reopen.specs.Loading.{Manifest}
 use Rattle.store_reopen.specs.Reopen.{loaded}
 use Rattle.store_reopen.proofs.Adding.{files_ready, own_spares}
-use Rattle.store_reopen.proofs.Marking.{manifest_apart}
 use Rattle.store_reopen.proofs.stepping.add_files.Goals as goal
 
 pub relist-requires-clause-sound : goal.relist-requires-clause-sound
@@ -76,13 +75,13 @@ pub returns-clause-spares : goal.returns-clause-spares
 returns-clause-spares g c tells =
     let here = manifest_here c.args.manifests.now.items c.args.place c.index_mut.result.now c.index_mut.ensures.value c.requires.within in
     let says = c.relist.ensures in
-    own_spares g.D.Disk Anything c.index_mut.result.now.journal.name (manifest_name (c.args.place + 1)) (((c.requires.has tells).1.disk tells).each c.args.place c.index_mut.result.now here).named refl (manifest_apart (c.args.place + 1)) c.args.disk.now c.relist.new.disk (says.frame tells) (says.elsewhere tells) (says.no_more tells)
+    own_spares g.D.Disk Anything c.index_mut.result.now.journal.name (Manifest c.args.place) (((c.requires.has tells).1.disk tells).each c.args.place c.index_mut.result.now here).named c.args.disk.now c.relist.new.disk (says.frame tells) (says.elsewhere tells) (says.no_more tells)
 
 pub returns-in_err-relist-clause-spares : goal.returns-in_err-relist-clause-spares
 returns-in_err-relist-clause-spares g c tells =
     let here = manifest_here c.args.manifests.now.items c.args.place c.index_mut.result.now c.index_mut.ensures.value c.requires.within in
     let says = c.relist.ensures in
-    own_spares g.D.Disk Anything c.index_mut.result.now.journal.name (manifest_name (c.args.place + 1)) (((c.requires.has tells).1.disk tells).each c.args.place c.index_mut.result.now here).named refl (manifest_apart (c.args.place + 1)) c.args.disk.now c.relist.new.disk (says.frame tells) (says.elsewhere tells) (says.no_more tells)
+    own_spares g.D.Disk Anything c.index_mut.result.now.journal.name (Manifest c.args.place) (((c.requires.has tells).1.disk tells).each c.args.place c.index_mut.result.now here).named c.args.disk.now c.relist.new.disk (says.frame tells) (says.elsewhere tells) (says.no_more tells)
 
 pub returns-clause-ready : goal.returns-clause-ready
 returns-clause-ready g c gs entries ready sets rows =

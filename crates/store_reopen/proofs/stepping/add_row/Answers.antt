@@ -1,12 +1,11 @@
-use Rattle.std.proofs.Common.{◌≡◌, ℕ, List, refl, sym, ap, subst, arith}
+use Rattle.std.proofs.Common.{◌≡◌, ℕ, List, sym, ap, subst, arith}
 use Rattle.disk_model.specs.Files.{Name}
 use Rattle.gate_journal.specs.Kept.{IsKept}
-use Rattle.pv_catalog.specs.Catalogue.{catalogue_name}
 use Rattle.pv_catalog.specs.Rows.{IsCatalogue}
 use Rattle.pv_catalog.specs.declared.row.Row.{Row}
 use Rattle.tier_store.proofs.RowCalls.{register_changes}
+use Rattle.store_reopen.specs.Loading.{Catalogue}
 use Rattle.store_reopen.proofs.Adding.{own_spares, registered_ready}
-use Rattle.store_reopen.proofs.Marking.{catalogue_apart}
 use Rattle.store_reopen.proofs.stepping.add_row.Goals as goal
 
 pub returns-clause-changes : goal.returns-clause-changes
@@ -18,7 +17,7 @@ returns-clause-changes g c ms has =
 pub returns-clause-spares : goal.returns-clause-spares
 returns-clause-spares g c tells =
     let says = c.register.ensures in
-    own_spares g.D.Disk _ c.args.catalogue.now.journal.name catalogue_name ((c.requires.has tells).2.disk tells).rows.named refl catalogue_apart c.args.disk.now c.register.new.disk (says.commits tells).any_moment (says.commits tells).elsewhere
+    own_spares g.D.Disk _ c.args.catalogue.now.journal.name Catalogue ((c.requires.has tells).2.disk tells).rows.named c.args.disk.now c.register.new.disk (says.commits tells).any_moment (says.commits tells).elsewhere
     (λ n. let is : g.D.Disk.opened c.register.new.disk n ≡ g.D.Disk.opened c.args.disk.now n = ap (λ (o : Name → ℕ). o n) (says.one_file tells).opened in omega (arith, is))
 
 pub register-requires-clause-stored : goal.register-requires-clause-stored
