@@ -28,6 +28,7 @@ use Rattle.tier_store.proofs.Left.{has_left}
 use Rattle.store_reopen.specs.Adoption.{Adopts, AdoptsFrom, HasAdopted, IsAdoption, adopt_disk_in}
 use Rattle.store_reopen.specs.Reopen.{HoldsEither, OpensEither, SameStores, disk_in, stores_of}
 use Rattle.store_reopen.specs.Steps.{Step, NewRow, Lists, made_by, stage}
+use Rattle.store_reopen.specs.Strays.{IsGone, adoption_name}
 use Rattle.store_reopen.specs.Verdict.{Differs, IsDamaged, IsWhole}
 use Rattle.store_reopen.specs.declared.adopted.Adopted.{Adopted}
 use Rattle.store_reopen.specs.declared.adopted.AdoptErr.{AdoptErr}
@@ -40,7 +41,7 @@ use Rattle.command_words.specs.declared.command.Command.TheVariants.{OverStore}
 use Rattle.command_words.specs.declared.command.StoreCommand.TheVariants as command
 use Rattle.command_words.specs.declared.status.Status.{Status}
 use Rattle.command_words.specs.declared.status.Status.TheVariants.{Done, SinkFault, DiskFault, OutOfMemory}
-use Rattle.archiver_appliance.specs.Adopting.{AdoptsInto, HoldsFront, TellsAdopted, adopted_text, beside, line_of, stop_of}
+use Rattle.archiver_appliance.specs.Adopting.{AdoptsInPlace, AdoptsInto, HoldsFront, IsWritten, TellsAdopted, TellsOf, adopted_text, beside, line_of, stop_of}
 use Rattle.archiver_appliance.specs.Judging.{Judges, refusal_of}
 use Rattle.archiver_appliance.specs.Run.{Does, EndsAs, Makes, MakesOfRead, NoDamage, Serves}
 use Rattle.archiver_appliance.proofs.Judgements.{OneVerdict, exactly, refusal_judges, whole_alone}
@@ -126,16 +127,31 @@ module _ {K D R : Type 0} (snk : OfSink K) (disk : Ghosts D R) (config : ConfigS
     tells_adopted = told;
   }
 
+  -- whatever the listed files are
+  in_place : (status : Status) → (IsWritten status → IsGone (disk.files given) (disk.past given) adoption_name)
+      → (IsWritten status → (before after : Stores) → OpensEither (stores_of config) (disk.past first) before after → TellsOf (stores_of config) before after (beside source clock reads snk disk k first) (beside source clock reads snk disk k' given) status)
+      → AdoptsInPlace (stores_of config) (beside source clock reads snk disk k first) (beside source clock reads snk disk k' given) status
+  in_place status finished told = record {
+    elsewhere = adopts.elsewhere;
+    stores = adopts.stores;
+    site = adopts.site;
+    marked = adopts.marked;
+    finished = finished;
+    told = told;
+    found = adopts.found;
+  }
+
   serves : (status : Status) → Judges (stores_of config) command.Adopt (disk.files first) status
       → ((before after : Stores) → OpensEither (stores_of config) (disk.past first) before after → IsTrue before.stands → MakesOfRead config command.Adopt before after (beside source clock reads snk disk k first) (beside source clock reads snk disk k' given) status)
+      → AdoptsInPlace (stores_of config) (beside source clock reads snk disk k first) (beside source clock reads snk disk k' given) status
       → Serves config command.Adopt (beside source clock reads snk disk k first) (beside source clock reads snk disk k' given) status
-  serves status judges makes = record {
+  serves status judges makes places = record {
     judges = judges;
     makes = makes;
     tells = λ w. tt;
-    reads = λ none. opening_reads disk (stores_of config) first given (adopts.only none);
+    reads = λ none. let only = adopts.only none in opening_reads disk (stores_of config) first given only.0 only.1;
     listed = λ w keeps i low. same_listed (disk.files first) (disk.files given) (disk.past first) (disk.past given) i w.rows (w.lists i) adopts.elsewhere adopts.stores;
-    rewrites_none = λ is. (adopts.elsewhere, adopts.stores);
+    rewrites_none = λ is. places;
   }
 
 -- It is done, and its numbers are written, or a front of them.
@@ -143,6 +159,19 @@ module _ {K D R : Type 0} (snk : OfSink K) (disk : Ghosts D R) (config : ConfigS
     (known : granularities store.manifests.items ≡ stores_of config) (line : ((status ≡ Done) × Appends (snk.written k) (snk.written k') (adopted_text told)) ⊎ ((status ≡ SinkFault) × AppendsFront (snk.written k) (snk.written k') (adopted_text told))) where
   by_line : (P : Status → Type 0) → P Done → P SinkFault → P status
   by_line P done failed = elim line [ inl one ↦ subst P (sym one.0) done | inr one ↦ subst P (sym one.0) failed ]
+
+  -- what is told is what was made
+  tells_all : IsTrue disk.tells → (before after : Stores) → (has : HasAdopted disk (stores_of config) first store told before after)
+      → TellsAdopted (stores_of config) (disk.files first) has.adopts.held has.adopts.steps (disk.past store.disk) (snk.written k) (snk.written k') status
+  tells_all tells before after has =
+      let from = has.adopts in
+      record {
+        whole = from.rule;
+        told = told;
+        counts = has.counts;
+        all = λ later left. subst (λ (gs : List Granularity). HoldsAll gs later (made_by from.steps from.held)) known (has_left disk.tells (seen disk store) (made_by from.steps from.held) has.has tells later left);
+        line = line;
+      }
 
   done_makes : IsTrue disk.tells → Adopts disk (stores_of config) first store.disk → (before after : Stores) → OpensEither (stores_of config) (disk.past first) before after → HasAdopted disk (stores_of config) first store told before after → IsTrue before.stands
       → MakesOfRead config command.Adopt before after (beside source clock reads snk disk k first) (beside source clock reads snk disk k' store.disk) status
@@ -153,30 +182,34 @@ module _ {K D R : Type 0} (snk : OfSink K) (disk : Ghosts D R) (config : ConfigS
         first = from.held;
         either = from.either;
         read = from.read;
-        makes = inr (into snk disk config first store.disk adopts source clock reads k k' status before after true from standing (inl (record {
-          whole = from.rule;
-          told = told;
-          counts = has.counts;
-          all = λ later left. subst (λ (gs : List Granularity). HoldsAll gs later (made_by from.steps from.held)) known (has_left disk.tells (seen disk store) (made_by from.steps from.held) has.has tells later left);
-          line = line;
-        })));
+        makes = inr (into snk disk config first store.disk adopts source clock reads k k' status before after true from standing (inl (tells_all tells before after has)));
         undamaged = by_line NoDamage tt tt;
       }
 
   pub adopted_does : (IsTrue disk.tells → IsWhole (stores_of config) (disk.files first)) → (IsTrue disk.tells → Adopts disk (stores_of config) first store.disk)
       → (IsTrue disk.tells → (before after : Stores) → OpensEither (stores_of config) (disk.past first) before after → HasAdopted disk (stores_of config) first store told before after)
+      → (IsTrue disk.tells → IsGone (disk.files store.disk) (disk.past store.disk) adoption_name)
       → Does config disk.tells (OverStore command.Adopt) (beside source clock reads snk disk k first) (beside source clock reads snk disk k' store.disk) status
-  adopted_does whole adopts has = (
+  adopted_does whole adopts has gone = (
     by_line (EndsAs command.Adopt source) tt tt,
     λ tells.
         let fine = whole_alone (stores_of config) (disk.files first) (whole tells) in
         let judges = by_line (Judges (stores_of config) command.Adopt (disk.files first)) fine fine in (
-          serves snk disk config first store.disk (adopts tells) source clock reads k k' status judges (λ before after opens. done_makes tells (adopts tells) before after opens (has tells before after opens)),
+          serves snk disk config first store.disk (adopts tells) source clock reads k k' status judges (λ before after opens. done_makes tells (adopts tells) before after opens (has tells before after opens))
+              (in_place snk disk config first store.disk (adopts tells) source clock reads k k' status (λ written. gone tells) (λ written before after opens.
+              let made = has tells before after opens in
+              record { held = made.adopts.held; either = made.adopts.either; read = made.adopts.read; steps = made.adopts.steps; tells = tells_all tells before after made })),
           exactly verdict (stores_of config) command.Adopt (disk.files first) status judges,
         ),
   )
 
 -- It isn't opened, or is cut off, and nothing is written.
+refusal_unwritten : {D R : Type 0} (err : ReopenErr D R) → IsWritten (refusal_of err) → ⊥
+refusal_unwritten {D} {R} (reopening.DiskFault d) written = elim written [ inl is ↦ cc (is) | inr is ↦ cc (is) ]
+refusal_unwritten {D} {R} (reopening.Damaged d name at) written = elim written [ inl is ↦ cc (is) | inr is ↦ cc (is) ]
+refusal_unwritten {D} {R} (reopening.GranularityDiffers d kept other) written = elim written [ inl is ↦ cc (is) | inr is ↦ cc (is) ]
+refusal_unwritten {D} {R} (reopening.Memory d) written = elim written [ inl is ↦ cc (is) | inr is ↦ cc (is) ]
+
 module _ {K D R : Type 0} (snk : OfSink K) (disk : Ghosts D R) (config : ConfigState) (first given : D) (verdict : OneVerdict) (source : Option (List ℕ)) (clock : Option Moments) (reads : ℕ) (k : K) (err : ReopenErr D R)
     (damaged : IsTrue disk.tells → (d : D) (name : Name) (at : ℕ) → err ≡ reopening.Damaged d name at → IsDamaged (stores_of config) (disk.files first) name at)
     (differs : IsTrue disk.tells → (d : D) (kept other : Granularity) → err ≡ reopening.GranularityDiffers d kept other → Differs (stores_of config) (disk.files first) kept other) where
@@ -185,7 +218,7 @@ module _ {K D R : Type 0} (snk : OfSink K) (disk : Ghosts D R) (config : ConfigS
   cut_makes tells adopts seen before after opens stands = elim (adopts.makes before after opens) [
     | inl only ↦
         refused_makes config (beside source clock reads snk disk k first) (beside source clock reads snk disk k given) refl refl refl
-        (reads_open (stores_of config) (disk.files first) (disk.files given) (disk.past first) (disk.past given) (opening_reads disk (stores_of config) first given only)) verdict err (damaged tells) (differs tells) command.Adopt seen before after opens stands
+        (reads_open disk (stores_of config) first given only) verdict err (damaged tells) (differs tells) command.Adopt seen before after opens stands
     | inr some ↦
         let from = some.1 in
         let standing = first_stands (stores_of config) (disk.past first) before after from.held opens stands from.either in
@@ -207,7 +240,8 @@ module _ {K D R : Type 0} (snk : OfSink K) (disk : Ghosts D R) (config : ConfigS
     refused_ends command.Adopt source err,
     λ tells.
         let judges = refusal_judges (stores_of config) command.Adopt (disk.files first) err (damaged tells) (differs tells) in (
-          serves snk disk config first given (adopts tells) source clock reads k k (refusal_of err) judges (cut_makes tells (adopts tells) (seen tells)),
+          serves snk disk config first given (adopts tells) source clock reads k k (refusal_of err) judges (cut_makes tells (adopts tells) (seen tells))
+              (in_place snk disk config first given (adopts tells) source clock reads k k (refusal_of err) (λ written. absurd (refusal_unwritten err written)) (λ written. absurd (refusal_unwritten err written))),
           exactly verdict (stores_of config) command.Adopt (disk.files first) (refusal_of err) judges,
         ),
   )

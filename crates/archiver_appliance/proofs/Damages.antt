@@ -37,7 +37,7 @@ use Rattle.act_model.specs.declared.acts.Act.TheVariants.{Pin, OpenPiece}
 use Rattle.act_model.specs.declared.acts.Answer.TheVariants.{Pinned, Piece}
 use Rattle.archive_core.specs.Leaving.{IsPieceOfRow, Leaves, LeavesFiles, LeavesPins, OpensFile, PinsFiles, ReadsAlone}
 use Rattle.archive_core.specs.Parts.{Parts}
-use Rattle.archive_core.proofs.MoveCovers.{all_at}
+use Rattle.archive_core.proofs.Lists.{all_at}
 use Rattle.stream_merge.specs.Pieces.{NamedBytes}
 use Rattle.stream_merge.specs.Reading.{IsBadFor}
 use Rattle.stream_merge.proofs.Reading.{none_bad}

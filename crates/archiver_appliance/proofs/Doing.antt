@@ -31,7 +31,7 @@ use Rattle.command_words.specs.declared.status.Status.TheVariants.{Done, Usage, 
 use Rattle.archiver_appliance.specs.Acting.{IsNotMade}
 use Rattle.act_model.specs.Machine.{Machine}
 use Rattle.archiver_appliance.specs.Ingesting.{IngestsInto, LeavesNone}
-use Rattle.archiver_appliance.specs.Judging.{FindsDamage, IsDamagedFile, IsOfOpened, IsOneOf, IsWholeWith}
+use Rattle.archiver_appliance.specs.Judging.{FindsDamage, FindsPart, IsDamagedFile, IsOfOpened, IsOneOf, IsWholeWith}
 use Rattle.archiver_appliance.specs.Moving.{MovesFrom}
 use Rattle.archiver_appliance.specs.Outside.{Outside, outside}
 use Rattle.archiver_appliance.specs.Reporting.{ChecksAll, Tells, TellsListed}
@@ -222,8 +222,9 @@ module _ {S K C D R : Type 0} (src : OfSource S) (snk : OfSink K) (clk : OfClock
   pub etl_does : s' ≡ s → store.config ≡ config
       → (IsNotMade store.disk given status × (k' ≡ k) × (c' ≡ c)) ⊎ ((held : Stores) → Has disk.tells (seen disk store) held → MovesFrom (λ image. ⊥) disk.tells store.config held (clk.coming c) (clk.coming c') (snk.written k) (snk.written k') (disk.past store.disk) (disk.past given) status)
       → (IsTrue disk.tells → (held : Stores) → Has disk.tells (seen disk store) held → IsTrue held.stands → NoDamage status)
+      → (IsTrue disk.tells → FindsPart (stores_of store.config) (disk.files given) status)
       → IsOfOpened status → ((input : Option (List ℕ)) → EndsAs command.Etl input status) → Does config disk.tells (OverStore command.Etl) (outside src snk clk disk s k c first) (outside src snk clk disk s' k' c' given) status
-  etl_does quiet settings moves undamaged opened ends = (
+  etl_does quiet settings moves undamaged part opened ends = (
     ends (src.left s),
     λ told.
         let judges = etl_judges (stores_of config) (disk.files first) (whole told) (src.left s) status (ends (src.left s)) (not_differs opened) in (
@@ -232,7 +233,7 @@ module _ {S K C D R : Type 0} (src : OfSource S) (snk : OfSink K) (clk : OfClock
             makes = λ before after opens stand.
                 let read = stands told before after opens in
                 record { first = read.held; either = read.either; read = read.read; makes = by_made told before after opens read.held read.has moves; undamaged = undamaged told read.held read.has (first_stands (stores_of config) (disk.past first) before after read.held opens stand read.either) };
-            tells = λ w. tt;
+            tells = λ w. subst (λ (x : ConfigState). FindsPart (stores_of x) (disk.files given) status) settings (part told);
             reads = λ none. absurd (none (whole told));
             listed = λ w none i low. absurd none;
             rewrites_none = λ is. absurd is;

@@ -14,6 +14,7 @@ pub mod Histories
 pub mod Ingests
 pub mod Judgements
 pub mod LeftFiles
+pub mod MovedParts
 pub mod Opening
 pub mod Outcomes
 pub mod PinSteps

@@ -15,7 +15,7 @@ use Rattle.durable_write.specs.Held.{KeepsListed, file_of}
 use Rattle.store_files.specs.Fronts.{Keeps}
 use Rattle.durable_write.specs.Writing.{LeavesListed}
 use Rattle.durable_write.proofs.KeptBytes.{keeps_outside, leaves_on}
-use Rattle.store_reopen.specs.Reopen.{SameStores, AllIn, ChangesOne, HoldsEither, OpensEither, Reopens, StillHolds, Sweeps}
+use Rattle.store_reopen.specs.Reopen.{KeepsSite, LeavesSite, SameStores, AllIn, ChangesOne, HoldsEither, OpensEither, Reopens, StillHolds, Sweeps}
 use Rattle.store_reopen.specs.Strays.{IsStray, SweptStores}
 use Rattle.store_reopen.proofs.OneJournal.{one_list_of_rows}
 use Rattle.tier_store.specs.Change.{IsEither}
@@ -56,17 +56,17 @@ first_stands gs past before after first opens stands (inr is) = subst (λ (h : S
     by_change (inr one) = subst (λ (h : Stores). IsTrue h.stands) (sym one.2) stands
 
 -- opening only reads
-pub opening_reads : {D R : Type 0} (disk : Ghosts D R) (gs : List Granularity) (old new : D) → Reopens disk gs old new → OnlyReads gs (disk.files old) (disk.files new) (disk.past old) (disk.past new)
-opening_reads {D} {R} disk gs old new reopens = record { any_moment = reopens.any_moment; either = reopens.either; opens = reopens.opens; elsewhere = reopens.elsewhere; stores = reopens.stores }
+pub opening_reads : {D R : Type 0} (disk : Ghosts D R) (gs : List Granularity) (old new : D) → Reopens disk gs old new → LeavesSite disk old new → OnlyReads gs (disk.files old) (disk.files new) (disk.past old) (disk.past new)
+opening_reads {D} {R} disk gs old new reopens site = record { any_moment = reopens.any_moment; either = reopens.either; opens = reopens.opens; elsewhere = reopens.elsewhere; stores = reopens.stores; site = site }
 
--- so what only reads only opens
-pub reads_open : (gs : List Granularity) (files later : Files) (old new : Past) → OnlyReads gs files later old new → OnlyOpens gs files later old new
-reads_open gs files later old new reads = record {
-  any_moment = reads.any_moment;
-  either = reads.either;
-  opens = λ before after opens. inl (reads.opens before after opens);
-  elsewhere = λ n other. inl (reads.elsewhere n other);
-  stores = passes_weaker SameStores (SweptStores gs files) old new reads.stores (λ a c left same n other. inl (same n other));
+-- so it only opens
+pub reads_open : {D R : Type 0} (disk : Ghosts D R) (gs : List Granularity) (old new : D) → Reopens disk gs old new → OnlyOpens gs (disk.files old) (disk.files new) (disk.past old) (disk.past new)
+reads_open {D} {R} disk gs old new reopens = record {
+  any_moment = reopens.any_moment;
+  either = reopens.either;
+  opens = λ before after opens. inl (reopens.opens before after opens);
+  elsewhere = λ n other. inl (reopens.elsewhere n other);
+  stores = passes_weaker SameStores (SweptStores gs (disk.files old)) (disk.past old) (disk.past new) reopens.stores (λ a c left same n other. inl (same n other));
 }
 
 -- an opening that sweeps only opens
@@ -77,13 +77,14 @@ opening_opens {D} {R} disk gs old new sweeps = record { any_moment = sweeps.any_
 same_unwhole : (gs : List Granularity) (files a c : Files) → (IsWhole gs files → ⊥) → SweptStores gs files a c → SameStores a c
 same_unwhole gs files a c none swept n other = elim (swept n other) [ inl same ↦ same | inr gone ↦ absurd (none gone.0.whole) ]
 
-pub opens_unwhole : (gs : List Granularity) (files later : Files) (old new : Past) → (IsWhole gs files → ⊥) → OnlyOpens gs files later old new → OnlyReads gs files later old new
-opens_unwhole gs files later old new none opens = record {
+pub opens_unwhole : (gs : List Granularity) (files later : Files) (old new : Past) → (IsWhole gs files → ⊥) → OnlyOpens gs files later old new → KeepsSite files later × Passes KeepsSite old new → OnlyReads gs files later old new
+opens_unwhole gs files later old new none opens site = record {
   any_moment = opens.any_moment;
   either = opens.either;
   opens = λ before after either. elim (opens.opens before after either) [ inl same ↦ same | inr read ↦ absurd (none read.whole) ];
   elsewhere = same_unwhole gs files files later none opens.elsewhere;
   stores = passes_weaker (SweptStores gs files) SameStores old new opens.stores (λ a c left swept. same_unwhole gs files a c none swept);
+  site = site;
 }
 
 -- a command that acts only reads where the image isn't whole
@@ -118,6 +119,10 @@ then_reads gs files between later old mid new opening same passes = record {
   opens = λ before after opens. opens_then gs mid new before after (opening.opens before after opens) passes;
   elsewhere = λ n other. ap (λ (f : Files). f n) same ∙ opening.elsewhere n other;
   stores = passes_then SameStores (λ a b. b ≡ a) old mid new opening.stores passes (λ a b c was step now is. same_image (λ (f : Files). SameStores a f) b c is step);
+  site = (
+    same_image (KeepsSite files) between later same opening.site.0,
+    passes_then KeepsSite (λ a b. b ≡ a) old mid new opening.site.1 passes (λ a b c was step now is. same_image (KeepsSite a) b c is step),
+  );
 }
 
 -- what is listed of a store stays where no store changes

@@ -1,5 +1,5 @@
 -- What a retrieval read of the listed files of the row that has the name, damaged inside or not, and what it wrote of that.
-use Rattle.std.proofs.Common.{◌≡◌, ◌≢◌, ◌<◌, ℕ, ◌+◌, List, [], ◌∷◌, ◌++◌, map, Bool, Option, None, Some, refl, sym, ◌∙◌, ap, subst, arith}
+use Rattle.std.proofs.Common.{◌≡◌, ◌≢◌, ◌<◌, inl, inr, ℕ, ◌+◌, List, [], ◌∷◌, ◌++◌, map, Bool, Option, None, Some, refl, sym, ◌∙◌, ap, subst, arith}
 use Rattle.std.specs.Prelude.{IsTrue, Contains, slice_get}
 use Rattle.std.specs.Io.KnownBytes.{Appends}
 use Rattle.disk_model.specs.Files.{Name, Files}
@@ -27,6 +27,7 @@ use Rattle.act_model.proofs.Histories.{made_joined}
 use Rattle.archive_core.specs.Parts.{parts}
 use Rattle.archive_core.specs.Stands.{Stands}
 use Rattle.archive_core.specs.declared.archive.Archive.{Archive}
+use Rattle.pb_wire.specs.declared.payload.PayloadType.{PayloadType}
 use Rattle.stream_merge.specs.Pieces.{NamedBytes}
 use Rattle.stream_merge.specs.Reads.{AnswersRead}
 use Rattle.retrieval_query.specs.Openings.{named, openings}
@@ -97,6 +98,10 @@ listed_front tells at held has name n r = record {
 same_subject : (query : Query) (n n' : List ℕ) (x x' : About) → n ≡ n' → x ≡ x' → ◌≡◌ {A = Subject} (record { name = n; about = x; query = query }) (record { name = n'; about = x'; query = query })
 same_subject query n n' x x' p q = rw (p, q) refl
 
+-- whether pieces are left that weren't opened counts only where none was read up to behind the interval
+none_left : (ty : PayloadType) (query : Query) (pieces : List NamedBytes) (left : ℕ) (tail given : List Sample) → AnswersRead ty query pieces left tail given → AnswersRead ty query pieces 0 tail given
+none_left ty query pieces left tail given a = record { read = a.read; are = a.are; ends = elim a.ends [ inl all ↦ inl (refl, all.1, all.2) | inr behind ↦ inr behind ]; is = a.is }
+
 no_tail : (tails : List TailState) (i : ℕ) → tails ≡ [] → (tail_at tails i).samples ≡ []
 no_tail tails i none = ap (λ (ts : List TailState). (tail_at ts i).samples) none
 
@@ -125,9 +130,8 @@ module _ {D R : Type 0} (disk : Ghosts D R) (old new : Archive D R) (store : Tie
         is_named = one.0.is;
         pieces = map named r.told;
         listed = files;
-        left = r.left;
         samples = r.samples;
-        answers = answers;
+        answers = none_left own.about.ty query (map named r.told) r.left [] r.samples answers;
         text = r.text;
         raw = subst (λ (s : Subject). IsRaw s r.samples r.text) subject_is r.raw;
         written = r.written;
@@ -168,7 +172,6 @@ listed_in files f₂ rows r₂ lists l₂ name query a b rows_are lists_are same
   is_named = r.is_named;
   pieces = r.pieces;
   listed = λ piece among. front_in files f₂ rows r₂ lists l₂ name rows_are lists_are same piece (r.listed piece among);
-  left = r.left;
   samples = r.samples;
   answers = r.answers;
   text = r.text;

@@ -71,7 +71,7 @@ module _ (config : ConfigState) (old new : Outside) (source : new.source ≡ old
   makes_nothing command.Check before after first = (tt, tt)
   makes_nothing command.Adopt before after first = (inl unasked.0, inl unasked.1)
 
-  pub tells_nothing : (asked : StoreCommand) (rows : List Row) (lists : Listings) → TellsSaid asked old.files rows lists old new DiskFault × TellsSaid asked old.files rows lists old new OutOfMemory
+  pub tells_nothing : (asked : StoreCommand) (rows : List Row) (lists : Listings) → TellsSaid (stores_of config) asked old.files rows lists old new DiskFault × TellsSaid (stores_of config) asked old.files rows lists old new OutOfMemory
   tells_nothing command.Status rows lists = ((0, none_told rows (lists 0) (lists 1) (lists 2) old.sink new.sink sink), (0, none_told rows (lists 0) (lists 1) (lists 2) old.sink new.sink sink))
   tells_nothing command.Check rows lists = (none_inspected rows old.files (listed_files (lists 0) (lists 1) (lists 2)) old.sink new.sink sink, none_inspected rows old.files (listed_files (lists 0) (lists 1) (lists 2)) old.sink new.sink sink)
   tells_nothing command.Ingest rows lists = (tt, tt)
@@ -102,7 +102,7 @@ module _ (config : ConfigState) (old new : Outside) (source : new.source ≡ old
     refused_serves asked apart seen reads = record {
       judges = refusal_judges (stores_of config) asked old.files err damaged differs;
       makes = refused_makes asked seen;
-      tells = λ whole. let both = tells_nothing asked whole.rows whole.lists in cases (λ e. TellsSaid asked old.files whole.rows whole.lists old new (refusal_of e)) whole (λ d. both.0) (λ d. both.1);
+      tells = λ whole. let both = tells_nothing asked whole.rows whole.lists in cases (λ e. TellsSaid (stores_of config) asked old.files whole.rows whole.lists old new (refusal_of e)) whole (λ d. both.0) (λ d. both.1);
       reads = reads;
       listed = λ whole keeps i low. opens_listed (stores_of config) old.files new.files old.past new.past whole i low opens;
       rewrites_none = λ adopts. absurd (apart adopts);

@@ -50,7 +50,7 @@ stops_with Such (at_sweep {short} {medium} sweep first second is such) = behind 
 
 -- no act but a move's step tells damage, and none does where what is held stands
 module _ (answers : AnswersAreOfActs) (undamaged : NoneIsDamaged) where
-  other_act : (who : ℕ) (act : Act) (name : Name) (at : ℕ) (old new : Machine) → is_answer_to act (answer.Damaged name at) ≡ false → Step who act old (answer.Damaged name at) new → ⊥
+  pub other_act : (who : ℕ) (act : Act) (name : Name) (at : ℕ) (old new : Machine) → is_answer_to act (answer.Damaged name at) ≡ false → Step who act old (answer.Damaged name at) new → ⊥
   other_act who act name at old new none step = let one : true ≡ false = sym (answers who act old new (answer.Damaged name at) step) ∙ none in cc (one)
 
   no_damage : (who : ℕ) (act : Act) (name : Name) (at : ℕ) (old new : Machine) → old.told ≡ true → Step who act old (answer.Damaged name at) new → ⊥

@@ -11,7 +11,10 @@ use Rattle.partition_names.specs.declared.granularity.Granularity.{Granularity}
 use Rattle.series_model.specs.Archive.{IsPrefix}
 use Rattle.tier_store.specs.Stores.{Stores, samples_in}
 use Rattle.tier_store.specs.Stored.{HoldsAll}
-use Rattle.store_reopen.specs.Adoption.{IsAdoption, Counts, OpensStage}
+use Rattle.tier_store.specs.Change.{IsEither}
+use Rattle.store_reopen.specs.Adoption.{IsAdoption, Counts, IsMarkedOf, NoneFoundOpened, OpensStage}
+use Rattle.store_reopen.specs.Reopen.{OnlySite, OpensEither, SameStores}
+use Rattle.store_reopen.specs.Strays.{IsGone, adoption_name}
 use Rattle.store_reopen.specs.Steps.{Step, made_by, stage}
 use Rattle.store_reopen.specs.declared.adopted.Adopted.{Adopted}
 use Rattle.store_reopen.specs.declared.adopted.AdoptErr.{AdoptErr}
@@ -58,6 +61,31 @@ pub record AdoptsInto (Before : Files → Type 0) (gs : List Granularity) (image
   pub any_moment : Passes (λ x y. Before y ⊎ HoldsFront gs held steps y) old new
   pub leaves : OpensStage gs steps held new
   pub tells_adopted : TellsAdopted gs image held steps new a b status ⊎ ((b ≡ a) × ((status ≡ DiskFault) ⊎ (status ≡ OutOfMemory)))
+
+-- the five numbers, or a front of their line
+abbrev pub IsWritten : Status → Type 0
+IsWritten status = (status ≡ IsDone) ⊎ (status ≡ SinkFault)
+
+-- what reads gave is what was before a change, or what is after it, and all that the rule asks for was made of it and told
+pub record TellsOf (gs : List Granularity) (before after : Stores) (old new : Outside) (status : Status) : Type 0 where
+  pub held : Stores
+  pub either : IsEither before after held
+  pub read : HoldsAll gs old.files held
+  pub steps : List Step
+  pub tells : TellsAdopted gs old.files held steps new.past old.sink new.sink status
+
+-- What `adopt` does whatever the listed files are, damaged inside or not. It works in place: no file of a store is changed, listed or not, and of the
+-- site's folder none but those of journals and the file `adopt`. While that is there it isn't finished: an image without it holds what was held at
+-- first, where none had it then, or all that the rule makes. At 0 and 6 it is gone for good, and the numbers are those of all steps. Files that
+-- aren't listed weren't opened.
+pub record AdoptsInPlace (gs : List Granularity) (old new : Outside) (status : Status) : Type 0 where
+  pub elsewhere : SameStores old.files new.files
+  pub stores : Passes SameStores old.past new.past
+  pub site : OnlySite old.files new.files × Passes OnlySite old.past new.past
+  pub marked : (before after : Stores) → OpensEither gs old.past before after → Passes (IsMarkedOf gs old.files before after) old.past new.past
+  pub finished : IsWritten status → IsGone new.files new.past adoption_name
+  pub told : IsWritten status → (before after : Stores) → OpensEither gs old.past before after → TellsOf gs before after old new status
+  pub found : NoneFoundOpened gs new.files new.opened
 
 -- What is seen of a sink and a disk, beside a source and a clock that nothing is asked of.
 abbrev pub beside : {K D R : Type 0} → Option (List ℕ) → Option Moments → ℕ → OfSink K → OfDisk D R → K → D → Outside

@@ -7,6 +7,7 @@ use Rattle.pv_catalog.specs.declared.row.Row.{Row}
 use Rattle.store_manifest.specs.declared.entry.Entry.{Entry}
 use Rattle.stream_merge.specs.Reading.{IsBadFor}
 use Rattle.durable_write.specs.Held.{file_of}
+use Rattle.tier_store.specs.Finding.{IsBadPart}
 use Rattle.store_reopen.specs.Verdict.{Listings, IsWhole, IsDamaged, Differs}
 use Rattle.store_reopen.specs.declared.error.ReopenErr.{ReopenErr}
 use Rattle.store_reopen.specs.declared.error.ReopenErr.TheVariants as reopening
@@ -35,8 +36,18 @@ pub record IsDamagedFile (files : Files) (rows : List Row) (lists : Listings) (a
   pub named : name ≡ file_of (place + 1, rows) entry
   pub bad : HasFile files name (λ b. IsBadFor own.row.about.ty (take entry.len b) at)
 
+-- a store lists the file, and its listed bytes have no header's line, told at 0, or are good lines up to this place, from which on they
+-- can't be moved
+pub record IsDamagedPart (files : Files) (rows : List Row) (lists : Listings) (name : Name) (at : ℕ) : Type 0 where
+  pub place : ℕ
+  pub within : place < 3
+  pub entry : Entry
+  pub listed : Contains (lists place) entry
+  pub named : name ≡ file_of (place + 1, rows) entry
+  pub bad : HasFile files name (λ b. IsBadPart entry.head_len (take entry.len b) at)
+
 -- the damage that a command finds in the listed files of a whole image: `get` in a file of the row that has the name, `check` in the
--- first damaged file of all. What `etl` finds isn't told, but it finds none in what stands.
+-- first damaged file of all. What `etl` finds is in what it leaves (FindsPart), and it finds none in what stands.
 abbrev pub FindsDamage : StoreCommand → Files → List Row → Listings → Name → ℕ → Type 0
 FindsDamage (Get asked query) files rows lists name at = IsDamagedFile files rows lists asked.now name at
 FindsDamage Etl files rows lists name at = Unit {0}
@@ -57,6 +68,11 @@ pub record IsWholeWith (gs : List Granularity) (files : Files) (P : List Row →
 pub data HasDamage (gs : List Granularity) (command : StoreCommand) (files : Files) (name : Name) (at : ℕ) : Type 0 where
   of_image : IsDamaged gs files name at → HasDamage gs command files name at
   of_file : IsWholeWith gs files (λ rows lists. FindsDamage command files rows lists name at) → HasDamage gs command files name at
+
+-- the damage that `etl` tells of a whole image is of a file that a store lists once it has ended
+abbrev pub FindsPart : List Granularity → Files → Status → Type 0
+FindsPart gs later (Damaged name at) = IsWholeWith gs later (λ rows lists. IsDamagedPart later rows lists name at)
+FindsPart gs later _ = Unit {0}
 
 -- Another granularity and damage are told as they are. A fault of the disk and want of memory say nothing of the image, and every other
 -- status comes of a whole image; `get` then tells that no row has the name exactly where none has.

@@ -219,7 +219,8 @@ pub record IsListedFront (files : Files) (rows : List Row) (lists : Listings) (a
   pub bytes : HasFile files piece.name (λ b. piece.bytes ≡ take entry.len b)
 
 -- Whatever the listed files are, the text is the answer over what was read of those that were opened, each list of samples over those before
--- it: of each file all from where its reading began, or as much as there is up to a sample behind the interval.
+-- it: of each file all from where its reading began, or as much as there is up to a sample behind the interval. Which of a row's files are
+-- opened isn't said.
 pub record ReadsListed (files : Files) (rows : List Row) (lists : Listings) (name : List ℕ) (query : Query) (a b : Option (List ℕ)) : Type 0 where
   pub id : ℕ
   pub row : Row
@@ -227,9 +228,8 @@ pub record ReadsListed (files : Files) (rows : List Row) (lists : Listings) (nam
   pub is_named : row.name ≡ name
   pub pieces : List NamedBytes
   pub listed : (piece : NamedBytes) → Contains pieces piece → IsListedFront files rows lists name piece
-  pub left : ℕ
   pub samples : List Sample
-  pub answers : AnswersRead row.about.ty query pieces left [] samples
+  pub answers : AnswersRead row.about.ty query pieces 0 [] samples
   pub text : List ℕ
   pub raw : IsRaw (subject_of row query) samples text
   pub written : Appends a b text

@@ -13,7 +13,7 @@ use Rattle.pb_lines.specs.Stream.{Item, Stop, IsWholeStream}
 use Rattle.pv_catalog.specs.declared.row.Row.{Row}
 use Rattle.pv_catalog.specs.Rows.{HasName}
 use Rattle.durable_write.specs.Writing.{LeavesListed}
-use Rattle.store_reopen.specs.Reopen.{SameStores, HoldsEither, OpensEither, OpensRead, StillHolds, stores_of}
+use Rattle.store_reopen.specs.Reopen.{KeepsSite, SameStores, HoldsEither, OpensEither, OpensRead, StillHolds, stores_of}
 use Rattle.store_reopen.specs.Strays.{SweptStores}
 use Rattle.tier_store.specs.Change.{IsEither}
 use Rattle.tier_store.specs.Stored.{HoldsAll}
@@ -28,10 +28,10 @@ use Rattle.command_words.specs.declared.status.Status.{Status}
 use Rattle.command_words.specs.declared.status.Status.TheVariants.{Done, Usage, Refused, NoSuchVariable, SourceFault, SinkFault, DiskFault, Damaged, OutOfMemory, DoorFault, Spent}
 use Rattle.command_words.specs.Command.{IsCommand, IsFaulty}
 use Rattle.command_words.specs.Complaint.{Complains, complaint_of}
-use Rattle.archiver_appliance.specs.Adopting.{AdoptsInto}
+use Rattle.archiver_appliance.specs.Adopting.{AdoptsInPlace, AdoptsInto}
 use Rattle.archiver_appliance.specs.Drilling.{Drills}
 use Rattle.archiver_appliance.specs.Ingesting.{IngestsInto}
-use Rattle.archiver_appliance.specs.Judging.{Judges, IsExact}
+use Rattle.archiver_appliance.specs.Judging.{FindsPart, Judges, IsExact}
 use Rattle.archiver_appliance.specs.Moving.{MovesFrom}
 use Rattle.archiver_appliance.specs.Outside.{Outside, IsCaused}
 use Rattle.archiver_appliance.specs.Reporting.{Tells, TellsListed, ChecksAll}
@@ -96,13 +96,15 @@ abbrev pub NoDamage : Status → Type 0
 NoDamage (Damaged name at) = ⊥
 NoDamage _ = Unit {0}
 
--- It only reads: a crash leaves what the disk held, in doubt or not, and no file of a store is changed, at any moment and whatever is in it.
+-- It only reads: a crash leaves what the disk held, in doubt or not, and no file of a store is changed, at any moment and whatever is in it. Of the
+-- site's folder the file `adopt` isn't either, nor any other that is no journal's.
 pub record OnlyReads (gs : List Granularity) (files later : Files) (old new : Past) : Type 0 where
   pub any_moment : Passes (StillHolds gs) old new
   pub either : (before after : Stores) → OpensEither gs old before after → Passes (λ a b. HoldsEither gs before after b) old new
   pub opens : (before after : Stores) → OpensEither gs old before after → OpensEither gs new before after
   pub elsewhere : SameStores files later
   pub stores : Passes SameStores old new
+  pub site : KeepsSite files later × Passes KeepsSite old new
 
 -- It only opens. A crash leaves what the disk held, in doubt or not, or from then on what reads gave alone. Of the files of stores only
 -- strays go, at any moment, and none where the image isn't whole.
@@ -161,12 +163,14 @@ IsOfService config tells doors Given old new began told = IsTrue tells → (befo
 abbrev pub IsUnopenedFor : ConfigState → Bool → Outside → Outside → Type 0
 IsUnopenedFor config tells old new = (new.clock ≡ old.clock) × (IsTrue tells → OnlyOpens (stores_of config) old.files new.files old.past new.past)
 
--- what is written by what the journals of a whole image say, whatever its listed files are
-abbrev pub TellsSaid : StoreCommand → Files → List Row → Listings → Outside → Outside → Status → Type 0
-TellsSaid command.Status files rows lists old new status = TellsListed rows (lists 0) (lists 1) (lists 2) old.sink new.sink status
-TellsSaid command.Check files rows lists old new status = ChecksAll rows files (lists 0) (lists 1) (lists 2) old.sink new.sink status
-TellsSaid (command.Get name query) files rows lists old new status = GetsSome rows name.now query old.sink new.sink status × GetsRead files rows lists name.now query old.sink new.sink status
-TellsSaid _ files rows lists old new status = Unit {0}
+-- What is written by what the journals of a whole image say, whatever its listed files are. A damage that `etl` meets is in a file that
+-- a store lists then.
+abbrev pub TellsSaid : List Granularity → StoreCommand → Files → List Row → Listings → Outside → Outside → Status → Type 0
+TellsSaid gs command.Status files rows lists old new status = TellsListed rows (lists 0) (lists 1) (lists 2) old.sink new.sink status
+TellsSaid gs command.Check files rows lists old new status = ChecksAll rows files (lists 0) (lists 1) (lists 2) old.sink new.sink status
+TellsSaid gs (command.Get name query) files rows lists old new status = GetsSome rows name.now query old.sink new.sink status × GetsRead files rows lists name.now query old.sink new.sink status
+TellsSaid gs command.Etl files rows lists old new status = FindsPart gs new.files status
+TellsSaid gs _ files rows lists old new status = Unit {0}
 
 -- a command that only reads: each but `ingest`, `etl`, `serve` and `adopt`, and these too where the image isn't whole
 abbrev pub IsReading : List Granularity → StoreCommand → Files → Type 0
@@ -184,14 +188,14 @@ KeepsFiles _ = Unit {0}
 
 -- What a command over the archive did: what its status says of the image, what it made of what the disk held, and what it told of the image.
 -- The listed files of a whole image, damaged inside or not, have what is listed of them as they had it, at each moment, where no file moves.
--- `adopt` changes no file of a store, listed or not, at any moment and whatever is in it.
+-- `adopt` lists files where they stand, and rewrites none.
 pub record Serves (config : ConfigState) (asked : StoreCommand) (old new : Outside) (status : Status) : Type 0 where
   pub judges : Judges (stores_of config) asked old.files status
   pub makes : (before after : Stores) → OpensEither (stores_of config) old.past before after → IsTrue before.stands → MakesOfRead config asked before after old new status
-  pub tells : (whole : IsWhole (stores_of config) old.files) → TellsSaid asked old.files whole.rows whole.lists old new status
+  pub tells : (whole : IsWhole (stores_of config) old.files) → TellsSaid (stores_of config) asked old.files whole.rows whole.lists old new status
   pub reads : IsReading (stores_of config) asked old.files → OnlyReads (stores_of config) old.files new.files old.past new.past
   pub listed : (whole : IsWhole (stores_of config) old.files) → KeepsFiles asked → (i : ℕ) → i < 3 → LeavesListed ((i + 1, whole.rows), whole.lists i) old.files new.files old.past new.past
-  pub rewrites_none : IsAdopt asked → SameStores old.files new.files × Passes SameStores old.past new.past
+  pub rewrites_none : IsAdopt asked → AdoptsInPlace (stores_of config) old new status
 
 -- WHAT A RUN DOES
 

@@ -255,7 +255,8 @@ fn opened_doors<'a>(
     Ok(Doors::open(net, rt, folders, address, &asked, stop)?)
 }
 
-// The commands that change nothing leave others beside them, and need not be allowed to write. An adoption takes stores that have no mark yet.
+// The commands that change nothing leave others beside them, and need not be allowed to write. An adoption takes stores that have no mark yet,
+// and goes on where one was stopped on its way.
 fn access(words: &[&str]) -> Access {
     match words.first() {
         Some(word) if ["get", "status", "check"].contains(word) => Access::Read,

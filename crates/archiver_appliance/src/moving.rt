@@ -7,7 +7,7 @@ ghost use Rattle.std.specs.Io.KnownBytes.{Appends};
 ghost use Rattle.tier_store.specs.Change.{Has};
 ghost use Rattle.tier_store.specs.Seen.{seen};
 ghost use Rattle.tier_store.specs.Stores.{Stores};
-ghost use Rattle.store_reopen.specs.Reopen.{IsUnopened};
+ghost use Rattle.store_reopen.specs.Reopen.{IsUnopened, stores_of};
 ghost use Rattle.act_model.specs.History.{Done};
 ghost use Rattle.act_model.specs.Machine.{Machine};
 ghost use Rattle.archive_core.specs.Parts.{parts};
@@ -15,7 +15,7 @@ ghost use Rattle.archive_core.specs.Stands.{Stands};
 ghost use Rattle.serving_loops.specs.Due.{MovesDue};
 ghost use Rattle.archiver_appliance.specs.Acting.{ActsAlone, IsFresh, IsNotMade};
 ghost use Rattle.archiver_appliance.specs.Moving.{MovesFrom, TellsMoved, moved_text};
-ghost use Rattle.archiver_appliance.specs.Judging.{IsOfOpened};
+ghost use Rattle.archiver_appliance.specs.Judging.{FindsPart, IsOfOpened};
 ghost use Rattle.archiver_appliance.specs.Run.{EndsAs};
 ghost use Rattle.command_words.specs.declared.command.StoreCommand.TheVariants as asked;
 ghost use Rattle.archiver_appliance.specs.Outside.{HasNotFallen, IsCausedBy};
@@ -34,6 +34,7 @@ use std::sync::Wait;
 use tier_store::TierStore;
 
 /// Opens an archive on the stores, reads one moment, and moves all that is due then. It tells how many partitions stores 1 and 2 retired.
+/// A file that it tells as damaged is one that a store lists in the end.
 pub fn move_due<K: Sink, D: Disk, C: Clock>(
     rt: &impl Wait,
     alloc: Global,
@@ -46,6 +47,7 @@ pub fn move_due<K: Sink, D: Disk, C: Clock>(
         ⊎ ((held : Stores) → Has D.tells (seen D.Disk store) held → MovesFrom (λ image. ⊥) D.tells store.config held (C.coming clock.old) (C.coming clock.new) (K.written sink.old) (K.written sink.new) (D.past store.disk) (D.past result.disk) result.status) }
     ensures damaged { IsTrue D.tells → (held : Stores) → Has D.tells (seen D.Disk store) held → IsTrue held.stands → (file : Name) (at : ℕ)
         → result.status ≡ Status.Damaged file at → ⊥ }
+    ensures part { IsTrue D.tells → FindsPart (stores_of store.config) (D.files result.disk) result.status }
     ensures opened { IsOfOpened result.status }
     ensures ends { (input : Option (List ℕ)) → EndsAs asked.Etl input result.status }
     ensures caused { IsCausedBy D.Reader.faults ⊥ (Rose (K.write_faults sink.old) (K.write_faults sink.new))

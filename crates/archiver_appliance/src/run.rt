@@ -62,7 +62,7 @@ pub struct Ended<D: Disk> {
 /// first of 11, 7, 9 and 13.
 ///
 /// It needs a disk of which no journal was opened, and no listed file beyond its listed length, and leaves it so. For `adopt` it needs too
-/// that no unlisted file was opened, and that no store has partitions of five minutes.
+/// that no unlisted file was opened, and leaves it so, and that no store has partitions of five minutes.
 pub fn run<
     R: Threads + Wait + Sync,
     S: Source,

@@ -16,7 +16,7 @@ returns-in-Ok-clause-does g c source clock reads =
     let verdict : OneVerdict = record { whole = c.one_verdict.ensures.whole; same = c.one_verdict.ensures.same; undamaged = c.one_verdict.ensures.undamaged } in
     subst (λ d. Does config g.D.Disk.tells (OverStore command.Adopt) old (beside source clock reads g.K.Sink g.D.Disk c.tell_adopted.new.sink d) c.tell_adopted.result) (sym c.into_disk.ensures)
     (adopted_does g.K.Sink g.D.Disk config c.args.disk c.in-Ok.store verdict source clock reads c.args.sink.now c.tell_adopted.new.sink c.in-Ok.adopted c.tell_adopted.result c.in-Ok.ensures.ready.granularity c.tell_adopted.ensures.told
-    (λ told. c.in-Ok.ensures.whole told refl) c.in-Ok.ensures.adopts c.in-Ok.ensures.adopted)
+    (λ told. c.in-Ok.ensures.whole told refl) c.in-Ok.ensures.adopts c.in-Ok.ensures.adopted c.in-Ok.ensures.finished)
 
 pub returns-in-Err-clause-does : goal.returns-in-Err-clause-does
 returns-in-Err-clause-does g c source clock reads =

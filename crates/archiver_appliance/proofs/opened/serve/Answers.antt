@@ -72,7 +72,7 @@ returns-in-Etl-clause-does g c =
     subst (λ (x : StoreCommand). Does config g.D.Disk.tells (OverStore x) old new c.move_due.result.status) (sym c.in-Etl.is)
     (etl_does g.S.Source g.K.Sink g.C.Clock g.D.Disk config c.args.disk c.in-Ok.store verdict c.in-Ok.ensures.stands c.in-Ok.ensures.said (λ told. c.in-Ok.ensures.whole told refl) c.in-Ok.ensures.opens
     c.args.source.now c.args.source.now c.args.sink.now c.move_due.new.sink c.args.clock.now c.move_due.new.clock c.move_due.result.disk c.move_due.result.status
-    refl c.in-Ok.ensures.settings c.move_due.ensures.moves (λ told held has stands. never_damaged c.move_due.result.status (c.move_due.ensures.damaged told held has stands)) c.move_due.ensures.opened c.move_due.ensures.ends)
+    refl c.in-Ok.ensures.settings c.move_due.ensures.moves (λ told held has stands. never_damaged c.move_due.result.status (c.move_due.ensures.damaged told held has stands)) c.move_due.ensures.part c.move_due.ensures.opened c.move_due.ensures.ends)
 
 pub returns-in-Etl-clause-refused : goal.returns-in-Etl-clause-refused
 returns-in-Etl-clause-refused g c = λ is.
