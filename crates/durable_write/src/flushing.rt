@@ -54,30 +54,41 @@ pub fn flush_pieces<D: Disk>(
     requires rows { All (λ p. p.entry.series < length rows.now) pieces.now }
     requires few { length pieces.now * SET_BYTES ≤ GREATEST_BATCH }
     requires stored { IsTrue D.tells → (catalogue : JournalState) × (held : Held) × (ahead : Held) × (fs : List Filed)
-        × HasCopied catalogue manifest.old (store, rows.now) (D.files disk.old) (D.opened disk.old) (D.past disk.old) held ahead × MakesFiles manifest.old.granularity ahead pieces.now fs }
+        × HasCopied catalogue manifest.old (store, rows.now) (D.files disk.old) (D.opened disk.old) (D.past disk.old) held ahead
+        × MakesFiles manifest.old.granularity ahead pieces.now fs }
 
     ensures any_moment { IsTrue D.tells → (catalogue : JournalState) (held ahead : Held) (fs : List Filed)
-        → HasCopied catalogue manifest.old (store, rows.now) (D.files disk.old) (D.opened disk.old) (D.past disk.old) held ahead → MakesFiles manifest.old.granularity ahead pieces.now fs
+        → HasCopied catalogue manifest.old (store, rows.now) (D.files disk.old) (D.opened disk.old) (D.past disk.old) held ahead
+        → MakesFiles manifest.old.granularity ahead pieces.now fs
         → Passes (HoldsEither manifest.old.granularity held (with_files held fs)) (D.past disk.old) (D.past disk.new) }
     ensures made { IsTrue D.tells → (catalogue : JournalState) (held ahead : Held) (fs : List Filed)
-        → HasCopied catalogue manifest.old (store, rows.now) (D.files disk.old) (D.opened disk.old) (D.past disk.old) held ahead → MakesFiles manifest.old.granularity ahead pieces.now fs
+        → HasCopied catalogue manifest.old (store, rows.now) (D.files disk.old) (D.opened disk.old) (D.past disk.old) held ahead
+        → MakesFiles manifest.old.granularity ahead pieces.now fs
         → OnOk result (IsStoredAs catalogue manifest.new (store, rows.now) (D.files disk.new) (D.opened disk.new) (D.past disk.new) (with_files held fs)) }
     ensures unmade { IsTrue D.tells → (catalogue : JournalState) (held ahead : Held) (fs : List Filed)
-        → HasCopied catalogue manifest.old (store, rows.now) (D.files disk.old) (D.opened disk.old) (D.past disk.old) held ahead → MakesFiles manifest.old.granularity ahead pieces.now fs
-        → OnErr result (manifest.new.journal.sound ≡ true → IsStoredAs catalogue manifest.new (store, rows.now) (D.files disk.new) (D.opened disk.new) (D.past disk.new) held) }
+        → HasCopied catalogue manifest.old (store, rows.now) (D.files disk.old) (D.opened disk.old) (D.past disk.old) held ahead
+        → MakesFiles manifest.old.granularity ahead pieces.now fs
+        → OnErr result (manifest.new.journal.sound ≡ true
+        → IsStoredAs catalogue manifest.new (store, rows.now) (D.files disk.new) (D.opened disk.new) (D.past disk.new) held) }
     ensures in_doubt { IsTrue D.tells → (catalogue : JournalState) (held ahead : Held) (fs : List Filed)
-        → HasCopied catalogue manifest.old (store, rows.now) (D.files disk.old) (D.opened disk.old) (D.past disk.old) held ahead → MakesFiles manifest.old.granularity ahead pieces.now fs
-        → OnErr result (manifest.new.journal.sound ≡ false → IsDoubtedAs catalogue manifest.new (store, rows.now) (D.files disk.new) (D.opened disk.new) (D.past disk.new) held (with_files held fs)) }
+        → HasCopied catalogue manifest.old (store, rows.now) (D.files disk.old) (D.opened disk.old) (D.past disk.old) held ahead
+        → MakesFiles manifest.old.granularity ahead pieces.now fs
+        → OnErr result (manifest.new.journal.sound ≡ false
+        → IsDoubtedAs catalogue manifest.new (store, rows.now) (D.files disk.new) (D.opened disk.new) (D.past disk.new) held (with_files held fs)) }
 
     ensures ahead { IsTrue D.tells → (catalogue : JournalState) (held ahead : Held) (fs : List Filed)
-        → HasCopied catalogue manifest.old (store, rows.now) (D.files disk.old) (D.opened disk.old) (D.past disk.old) held ahead → MakesFiles manifest.old.granularity ahead pieces.now fs
+        → HasCopied catalogue manifest.old (store, rows.now) (D.files disk.old) (D.opened disk.old) (D.past disk.old) held ahead
+        → MakesFiles manifest.old.granularity ahead pieces.now fs
         → LeavesListed (listing_of ahead) (D.files disk.old) (D.files disk.new) (D.past disk.old) (D.past disk.new) }
     ensures long { IsTrue D.tells → (catalogue : JournalState) (held ahead : Held) (fs : List Filed)
-        → HasCopied catalogue manifest.old (store, rows.now) (D.files disk.old) (D.opened disk.old) (D.past disk.old) held ahead → MakesFiles manifest.old.granularity ahead pieces.now fs
+        → HasCopied catalogue manifest.old (store, rows.now) (D.files disk.old) (D.opened disk.old) (D.past disk.old) held ahead
+        → MakesFiles manifest.old.granularity ahead pieces.now fs
         → AreLong ahead (D.files disk.new) }
-    ensures listed { IsTrue D.tells → LeavesListed ((store, rows.now), manifest.old.entries) (D.files disk.old) (D.files disk.new) (D.past disk.old) (D.past disk.new) }
+    ensures listed { IsTrue D.tells → LeavesListed ((store, rows.now), manifest.old.entries) (D.files disk.old) (D.files disk.new) (D.past disk.old)
+        (D.past disk.new) }
     ensures elsewhere { IsTrue D.tells → (n : Name) → n.0 ≢ store → (IsOwn manifest.old.journal.name n → ⊥) → D.files disk.new n ≡ D.files disk.old n }
-    ensures others { IsTrue D.tells → (n : Name) → IsOfNone (store, rows.now) pieces.now n → (IsOwn manifest.old.journal.name n → ⊥) → D.files disk.new n ≡ D.files disk.old n }
+    ensures others { IsTrue D.tells → (n : Name) → IsOfNone (store, rows.now) pieces.now n → (IsOwn manifest.old.journal.name n → ⊥)
+        → D.files disk.new n ≡ D.files disk.old n }
     ensures frame { IsTrue D.tells → Passes (Beside store manifest.old.journal.name) (D.past disk.old) (D.past disk.new) }
     ensures no_more { IsTrue D.tells → (n : Name) → D.opened disk.new n ≤ D.opened disk.old n }
     ensures entries { OnOk result (manifest.new.entries ≡ all_changed manifest.old.entries (map set_of pieces.now)) }

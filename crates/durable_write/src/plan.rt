@@ -75,7 +75,8 @@ pub fn plan_flush(
     requires can { CanFlush rows.now batch.now }
     requires listed { All (λ e. IsPart manifest.now.granularity e.part) manifest.now.entries }
     requires limbo { All (λ (e : EntryValue). IsPart manifest.now.granularity e.part) limbo.now }
-    ensures flushes { IfOk result (λ plan. (held : Held) → HoldsBoth manifest.now.granularity rows.now manifest.now.entries limbo.now held → Flushes manifest.now.granularity held batch.now plan.pieces.items plan.count) }
+    ensures flushes { IfOk result (λ plan. (held : Held) → HoldsBoth manifest.now.granularity rows.now manifest.now.entries limbo.now held
+        → Flushes manifest.now.granularity held batch.now plan.pieces.items plan.count) }
     ensures parts { IfOk result (λ plan. All (λ p. IsPart manifest.now.granularity p.entry.part) plan.pieces.items) }
     ensures rows { IfOk result (λ plan. All (λ p. p.entry.series < length rows.now) plan.pieces.items) }
     ensures few { IfOk result (λ plan. length plan.pieces.items ≤ MOST_PIECES) }

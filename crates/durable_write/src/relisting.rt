@@ -25,16 +25,23 @@ pub fn relist<D: Disk>(
     requires sound { IsTrue manifest.old.journal.sound }
     requires follow { AllCanFollow manifest.old.granularity manifest.old.entries changes.now }
     requires few { length (batch_of changes.now) ≤ GREATEST_BATCH }
-    requires can { IsTrue D.tells → (catalogue : JournalState) × (shelf : Shelf) × (held : Held) × (next : Held) × CanRelist catalogue manifest.old shelf (D.files disk.old) (D.opened disk.old) (D.past disk.old) held next changes.now }
+    requires can { IsTrue D.tells → (catalogue : JournalState) × (shelf : Shelf) × (held : Held) × (next : Held)
+        × CanRelist catalogue manifest.old shelf (D.files disk.old) (D.opened disk.old) (D.past disk.old) held next changes.now }
 
-    ensures any_moment { IsTrue D.tells → (catalogue : JournalState) (shelf : Shelf) (held next : Held) → CanRelist catalogue manifest.old shelf (D.files disk.old) (D.opened disk.old) (D.past disk.old) held next changes.now
+    ensures any_moment { IsTrue D.tells → (catalogue : JournalState) (shelf : Shelf) (held next : Held)
+        → CanRelist catalogue manifest.old shelf (D.files disk.old) (D.opened disk.old) (D.past disk.old) held next changes.now
         → Passes (HoldsEither manifest.old.granularity held next) (D.past disk.old) (D.past disk.new) }
-    ensures made { IsTrue D.tells → (catalogue : JournalState) (shelf : Shelf) (held next : Held) → CanRelist catalogue manifest.old shelf (D.files disk.old) (D.opened disk.old) (D.past disk.old) held next changes.now
+    ensures made { IsTrue D.tells → (catalogue : JournalState) (shelf : Shelf) (held next : Held)
+        → CanRelist catalogue manifest.old shelf (D.files disk.old) (D.opened disk.old) (D.past disk.old) held next changes.now
         → OnOk result (IsStoredAs catalogue manifest.new shelf (D.files disk.new) (D.opened disk.new) (D.past disk.new) next) }
-    ensures unmade { IsTrue D.tells → (catalogue : JournalState) (shelf : Shelf) (held next : Held) → CanRelist catalogue manifest.old shelf (D.files disk.old) (D.opened disk.old) (D.past disk.old) held next changes.now
-        → OnErr result (manifest.new.journal.sound ≡ true → IsStoredAs catalogue manifest.new shelf (D.files disk.new) (D.opened disk.new) (D.past disk.new) held) }
-    ensures in_doubt { IsTrue D.tells → (catalogue : JournalState) (shelf : Shelf) (held next : Held) → CanRelist catalogue manifest.old shelf (D.files disk.old) (D.opened disk.old) (D.past disk.old) held next changes.now
-        → OnErr result (manifest.new.journal.sound ≡ false → IsDoubtedAs catalogue manifest.new shelf (D.files disk.new) (D.opened disk.new) (D.past disk.new) held next) }
+    ensures unmade { IsTrue D.tells → (catalogue : JournalState) (shelf : Shelf) (held next : Held)
+        → CanRelist catalogue manifest.old shelf (D.files disk.old) (D.opened disk.old) (D.past disk.old) held next changes.now
+        → OnErr result (manifest.new.journal.sound ≡ true
+        → IsStoredAs catalogue manifest.new shelf (D.files disk.new) (D.opened disk.new) (D.past disk.new) held) }
+    ensures in_doubt { IsTrue D.tells → (catalogue : JournalState) (shelf : Shelf) (held next : Held)
+        → CanRelist catalogue manifest.old shelf (D.files disk.old) (D.opened disk.old) (D.past disk.old) held next changes.now
+        → OnErr result (manifest.new.journal.sound ≡ false
+        → IsDoubtedAs catalogue manifest.new shelf (D.files disk.new) (D.opened disk.new) (D.past disk.new) held next) }
     ensures elsewhere { IsTrue D.tells → (n : Name) → (IsOwn manifest.old.journal.name n → ⊥) → D.files disk.new n ≡ D.files disk.old n }
     ensures frame { IsTrue D.tells → Passes (AtOwn manifest.old.journal.name Anything) (D.past disk.old) (D.past disk.new) }
     ensures opened { IsTrue D.tells → (n : Name) → (IsOwn manifest.old.journal.name n → ⊥) → D.opened disk.new n ≡ D.opened disk.old n }

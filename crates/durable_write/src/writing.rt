@@ -37,7 +37,8 @@ pub(crate) fn set_name(
 // Writes bytes behind the listed ones, of which there may be none.
 fn go_on<D: Disk>(disk: &mut D, name: &FileName, len: u64, bytes: &[u8]) -> Result<(), DiskErr>
     requires { IsTrue D.tells → HasFile (D.files disk.old) name.now (λ b. (D.opened disk.old name.now ≤ len) × (len ≤ length b)) }
-    ensures grown { IsTrue D.tells → (b : List ℕ) → D.files disk.old name.now ≡ Some b → OnOk result (D.files disk.new name.now ≡ Some (take len b ++ bytes.now)) }
+    ensures grown { IsTrue D.tells → (b : List ℕ) → D.files disk.old name.now ≡ Some b
+        → OnOk result (D.files disk.new name.now ≡ Some (take len b ++ bytes.now)) }
     ensures long { IsTrue D.tells → HasFile (D.files disk.new) name.now (λ b. len ≤ length b) }
     ensures kept { IsTrue D.tells → At name.now (Keeps len) (D.files disk.old) (D.files disk.new) }
     ensures any_moment { IsTrue D.tells → Passes (At name.now (Keeps len)) (D.past disk.old) (D.past disk.new) }
@@ -73,13 +74,17 @@ fn write_piece<D: Disk>(
     piece: &Piece,
 ) -> Result<(), DiskErr>
     requires row { piece.now.entry.series < length rows.now }
-    requires can { IsTrue D.tells → (g : Granularity) × (held : Held) × (f : Filed) × IsSafe g (store, rows.now) (D.files disk.old) (D.opened disk.old) (D.past disk.old) held × Grows g held piece.now f }
-    ensures written { IsTrue D.tells → (g : Granularity) (held : Held) (f : Filed) → IsSafe g (store, rows.now) (D.files disk.old) (D.opened disk.old) (D.past disk.old) held → Grows g held piece.now f
+    requires can { IsTrue D.tells → (g : Granularity) × (held : Held) × (f : Filed)
+        × IsSafe g (store, rows.now) (D.files disk.old) (D.opened disk.old) (D.past disk.old) held × Grows g held piece.now f }
+    ensures written { IsTrue D.tells → (g : Granularity) (held : Held) (f : Filed)
+        → IsSafe g (store, rows.now) (D.files disk.old) (D.opened disk.old) (D.past disk.old) held → Grows g held piece.now f
         → OnOk result (IsWritten held (D.files disk.new) (D.opened disk.new) f) }
-    ensures still { IsTrue D.tells → (g : Granularity) (held : Held) (f : Filed) → IsSafe g (store, rows.now) (D.files disk.old) (D.opened disk.old) (D.past disk.old) held → Grows g held piece.now f
+    ensures still { IsTrue D.tells → (g : Granularity) (held : Held) (f : Filed)
+        → IsSafe g (store, rows.now) (D.files disk.old) (D.opened disk.old) (D.past disk.old) held → Grows g held piece.now f
         → AreLong held (D.files disk.new) }
     ensures kept { IsTrue D.tells → At (file_of (store, rows.now) piece.now.entry) (Keeps (start_of piece.now.at)) (D.files disk.old) (D.files disk.new) }
-    ensures any_moment { IsTrue D.tells → Passes (At (file_of (store, rows.now) piece.now.entry) (Keeps (start_of piece.now.at))) (D.past disk.old) (D.past disk.new) }
+    ensures any_moment { IsTrue D.tells → Passes (At (file_of (store, rows.now) piece.now.entry) (Keeps (start_of piece.now.at))) (D.past disk.old)
+        (D.past disk.new) }
     ensures no_more { IsTrue D.tells → (n : Name) → D.opened disk.new n ≤ D.opened disk.old n }
     ensures faults { D.faults disk.old ≤ D.faults disk.new }
     ensures cause { IsErrOf result DiskErr.Fault → Rose (D.faults disk.old) (D.faults disk.new) }
@@ -101,14 +106,19 @@ fn write_pieces<D: Disk>(
     pieces: &[Piece],
 ) -> Result<(), DiskErr>
     requires rows { All (λ p. p.entry.series < length rows.now) pieces.now }
-    requires can { IsTrue D.tells → (g : Granularity) × (held : Held) × (fs : List Filed) × IsSafe g (store, rows.now) (D.files disk.old) (D.opened disk.old) (D.past disk.old) held × MakesFiles g held pieces.now fs }
-    ensures any_moment { IsTrue D.tells → (g : Granularity) (held : Held) (fs : List Filed) → IsSafe g (store, rows.now) (D.files disk.old) (D.opened disk.old) (D.past disk.old) held → MakesFiles g held pieces.now fs
+    requires can { IsTrue D.tells → (g : Granularity) × (held : Held) × (fs : List Filed)
+        × IsSafe g (store, rows.now) (D.files disk.old) (D.opened disk.old) (D.past disk.old) held × MakesFiles g held pieces.now fs }
+    ensures any_moment { IsTrue D.tells → (g : Granularity) (held : Held) (fs : List Filed)
+        → IsSafe g (store, rows.now) (D.files disk.old) (D.opened disk.old) (D.past disk.old) held → MakesFiles g held pieces.now fs
         → Passes (Behind held) (D.past disk.old) (D.past disk.new) }
-    ensures behind { IsTrue D.tells → (g : Granularity) (held : Held) (fs : List Filed) → IsSafe g (store, rows.now) (D.files disk.old) (D.opened disk.old) (D.past disk.old) held → MakesFiles g held pieces.now fs
+    ensures behind { IsTrue D.tells → (g : Granularity) (held : Held) (fs : List Filed)
+        → IsSafe g (store, rows.now) (D.files disk.old) (D.opened disk.old) (D.past disk.old) held → MakesFiles g held pieces.now fs
         → Behind held (D.files disk.old) (D.files disk.new) }
-    ensures still { IsTrue D.tells → (g : Granularity) (held : Held) (fs : List Filed) → IsSafe g (store, rows.now) (D.files disk.old) (D.opened disk.old) (D.past disk.old) held → MakesFiles g held pieces.now fs
+    ensures still { IsTrue D.tells → (g : Granularity) (held : Held) (fs : List Filed)
+        → IsSafe g (store, rows.now) (D.files disk.old) (D.opened disk.old) (D.past disk.old) held → MakesFiles g held pieces.now fs
         → AreLong held (D.files disk.new) }
-    ensures written { IsTrue D.tells → (g : Granularity) (held : Held) (fs : List Filed) → IsSafe g (store, rows.now) (D.files disk.old) (D.opened disk.old) (D.past disk.old) held → MakesFiles g held pieces.now fs
+    ensures written { IsTrue D.tells → (g : Granularity) (held : Held) (fs : List Filed)
+        → IsSafe g (store, rows.now) (D.files disk.old) (D.opened disk.old) (D.past disk.old) held → MakesFiles g held pieces.now fs
         → OnOk result (All (IsWritten held (D.files disk.new) (D.opened disk.new)) fs) }
     ensures elsewhere { IsTrue D.tells → (n : Name) → n.0 ≢ store → D.files disk.new n ≡ D.files disk.old n }
     ensures others { IsTrue D.tells → (n : Name) → IsOfNone (store, rows.now) pieces.now n → D.files disk.new n ≡ D.files disk.old n }
@@ -178,15 +188,20 @@ pub(crate) fn write_all<D: Disk>(
     pieces: &[Piece],
 ) -> Result<(), DiskErr>
     requires rows { All (λ p. p.entry.series < length rows.now) pieces.now }
-    requires can { IsTrue D.tells → (g : Granularity) × (held : Held) × (fs : List Filed) × IsSafe g (store, rows.now) (D.files disk.old) (D.opened disk.old) (D.past disk.old) held × MakesFiles g held pieces.now fs }
+    requires can { IsTrue D.tells → (g : Granularity) × (held : Held) × (fs : List Filed)
+        × IsSafe g (store, rows.now) (D.files disk.old) (D.opened disk.old) (D.past disk.old) held × MakesFiles g held pieces.now fs }
 
-    ensures any_moment { IsTrue D.tells → (g : Granularity) (held : Held) (fs : List Filed) → IsSafe g (store, rows.now) (D.files disk.old) (D.opened disk.old) (D.past disk.old) held → MakesFiles g held pieces.now fs
+    ensures any_moment { IsTrue D.tells → (g : Granularity) (held : Held) (fs : List Filed)
+        → IsSafe g (store, rows.now) (D.files disk.old) (D.opened disk.old) (D.past disk.old) held → MakesFiles g held pieces.now fs
         → Passes (Behind held) (D.past disk.old) (D.past disk.new) }
-    ensures behind { IsTrue D.tells → (g : Granularity) (held : Held) (fs : List Filed) → IsSafe g (store, rows.now) (D.files disk.old) (D.opened disk.old) (D.past disk.old) held → MakesFiles g held pieces.now fs
+    ensures behind { IsTrue D.tells → (g : Granularity) (held : Held) (fs : List Filed)
+        → IsSafe g (store, rows.now) (D.files disk.old) (D.opened disk.old) (D.past disk.old) held → MakesFiles g held pieces.now fs
         → Behind held (D.files disk.old) (D.files disk.new) }
-    ensures still { IsTrue D.tells → (g : Granularity) (held : Held) (fs : List Filed) → IsSafe g (store, rows.now) (D.files disk.old) (D.opened disk.old) (D.past disk.old) held → MakesFiles g held pieces.now fs
+    ensures still { IsTrue D.tells → (g : Granularity) (held : Held) (fs : List Filed)
+        → IsSafe g (store, rows.now) (D.files disk.old) (D.opened disk.old) (D.past disk.old) held → MakesFiles g held pieces.now fs
         → AreLong held (D.files disk.new) }
-    ensures written { IsTrue D.tells → (g : Granularity) (held : Held) (fs : List Filed) → IsSafe g (store, rows.now) (D.files disk.old) (D.opened disk.old) (D.past disk.old) held → MakesFiles g held pieces.now fs
+    ensures written { IsTrue D.tells → (g : Granularity) (held : Held) (fs : List Filed)
+        → IsSafe g (store, rows.now) (D.files disk.old) (D.opened disk.old) (D.past disk.old) held → MakesFiles g held pieces.now fs
         → OnOk result (AreSafe (with_files held fs) (D.files disk.new) (D.opened disk.new) (D.past disk.new)) }
 
     ensures elsewhere { IsTrue D.tells → (n : Name) → n.0 ≢ store → D.files disk.new n ≡ D.files disk.old n }

@@ -108,7 +108,8 @@ fn header_of(
     head: &[u8],
     work: &mut Vec<u8>,
 ) -> Result<Option<PayloadInfo>, AllocError>
-    ensures header { IfOk result (λ o. (line : List ℕ) (info : PayloadInfoValue) → head.now ≡ line ++ 10 ∷ [] → HasNoNewline line → IsHeaderLine line info → o ≡ Some info) }
+    ensures header { IfOk result (λ o. (line : List ℕ) (info : PayloadInfoValue) → head.now ≡ line ++ 10 ∷ [] → HasNoNewline line → IsHeaderLine line info
+        → o ≡ Some info) }
     ensures year { IfOk result (λ o. IfSome o (λ info. IsSampleYear info.year)) }
 {
     let end = line_len(head);
@@ -132,7 +133,8 @@ pub(crate) fn take_part(
     ensures keeps { IfOk result (λ new. (new.part ≡ entry.now.part) × (new.series ≡ entry.now.series)) }
     ensures takes { IfOk result (λ new. (line : List ℕ) (info : PayloadInfoValue) → head.now ≡ line ++ 10 ∷ [] → HasNoNewline line → IsHeaderLine line info
         → TakesLines info.ty info.year lines.old.items entry.now (length lines.new.items) new) }
-    ensures some { IfOk result (λ new. (lines.new.items ≡ []) ⊎ ((ty : PayloadTypeValue) × (year : ℤ) × TakesLines ty year lines.old.items entry.now (length lines.new.items) new)) }
+    ensures some { IfOk result (λ new. (lines.new.items ≡ [])
+        ⊎ ((ty : PayloadTypeValue) × (year : ℤ) × TakesLines ty year lines.old.items entry.now (length lines.new.items) new)) }
     ensures front { OnOk result (lines.new.items ≡ take (length lines.new.items) lines.old.items) }
     ensures longer { IfOk result (λ new. new.len ≡ entry.now.len + length lines.new.items) }
 {

@@ -44,7 +44,8 @@ pub fn a_move_finds_its_files<D: Disk>()
     ensures begun { (disk : D) (catalogue : JournalState) (m : ManifestState) (shelf : Shelf) (held : Held) (move : MoveState)
         → IsStoredAs catalogue m shelf (D.files disk) (D.opened disk) (D.past disk) held → move.pending ≡ []
         → HasCopied catalogue m shelf (D.files disk) (D.opened disk) (D.past disk) held held × IsAhead move held held }
-    ensures targets { (disk : D) (fine : Granularity) (catalogue : JournalState) (m : ManifestState) (shelf : Shelf) (held ahead : Held) (move : MoveState) (revived : Option Entry)
+    ensures targets { (disk : D) (fine : Granularity) (catalogue : JournalState) (m : ManifestState) (shelf : Shelf) (held ahead : Held) (move : MoveState)
+        (revived : Option Entry)
         → IsMove fine move → HasCopied catalogue m shelf (D.files disk) (D.opened disk) (D.past disk) held ahead → IsAhead move held ahead
         → IsLastOf m.entries move.series move.listed → IsToRow move shelf
         → ((e : Entry) → revived ≡ Some e → IsLongUnopened e.len (part_file move.destination move.name e) (D.files disk) (D.opened disk))
@@ -57,13 +58,17 @@ pub fn a_copy_goes_ahead<D: Disk>()
     ensures stays { (old new : D) (catalogue : JournalState) (m : ManifestState) (shelf : Shelf) (held ahead : Held) (at : Option ℕ) (f : Filed)
         → HasCopied catalogue m shelf (D.files old) (D.opened old) (D.past old) held ahead → IsPlaced m.granularity ahead at f
         → LeavesFile (file_of shelf f.entry) at (D.files old) (D.files new) (D.opened old) (D.opened new) (D.past old) (D.past new)
-        → HasCopied catalogue m shelf (D.files new) (D.opened new) (D.past new) held ahead × Passes (λ a b. Holds m.granularity b held) (D.past old) (D.past new) }
-    ensures copied { (old new : D) (catalogue : JournalState) (m : ManifestState) (shelf : Shelf) (held ahead : Held) (at : Option ℕ) (bytes : List ℕ) (f : Filed)
+        → HasCopied catalogue m shelf (D.files new) (D.opened new) (D.past new) held ahead
+        × Passes (λ a b. Holds m.granularity b held) (D.past old) (D.past new) }
+    ensures copied { (old new : D) (catalogue : JournalState) (m : ManifestState) (shelf : Shelf) (held ahead : Held) (at : Option ℕ) (bytes : List ℕ)
+        (f : Filed)
         → IsTrue D.tells → HasCopied catalogue m shelf (D.files old) (D.opened old) (D.past old) held ahead → BecomesFile m.granularity ahead at bytes f
         → LeavesFile (file_of shelf f.entry) at (D.files old) (D.files new) (D.opened old) (D.opened new) (D.past old) (D.past new)
         → WritesFile (file_of shelf f.entry) at bytes (D.files old) (D.files new) (D.opened new) (D.past new)
         → HasCopied catalogue m shelf (D.files new) (D.opened new) (D.past new) held (with_files ahead (f ∷ [])) }
-    ensures pending { (fine : Granularity) (move new : MoveState) (held ahead : Held) (f : Filed) → IsMove fine move → IsAhead move held ahead → f.entry.series ≡ move.series
+    ensures pending { (fine : Granularity) (move new : MoveState) (held ahead : Held) (f : Filed) → IsMove fine move → IsAhead move held ahead
+        → f.entry.series ≡ move.series
         → SetsLast f.entry move.pending new.pending → IsAhead new held (with_files ahead (f ∷ [])) }
-    ensures listed { (move new : MoveState) (revived : Option Entry) (len : ℕ) (m : ManifestState) → Advances move new revived len → StillLists move m → StillLists new m }
+    ensures listed { (move new : MoveState) (revived : Option Entry) (len : ℕ) (m : ManifestState) → Advances move new revived len → StillLists move m
+        → StillLists new m }
 {}

@@ -77,7 +77,8 @@ impl Move {
         requires most { parts ≤ MOST_PARTS }
         requires listed { parts ≤ length (of_series series source.now.entries) }
         ensures begun { IfOk result (HasBegun source.now dest.now series name.now parts) }
-        ensures running { Holds dest.now.granularity source.now.granularity → AreEntries source.now.granularity source.now.entries → AreEntries dest.now.granularity dest.now.entries → IfOk result (IsMove source.now.granularity) }
+        ensures running { Holds dest.now.granularity source.now.granularity → AreEntries source.now.granularity source.now.entries
+            → AreEntries dest.now.granularity dest.now.entries → IfOk result (IsMove source.now.granularity) }
         ensures lists { IfOk result (λ move. StillLists move source.now) }
     {
         let parts = Vec::from_slice(alloc, &source.entries(series)[..parts])?;

@@ -45,7 +45,8 @@ impl Move {
 
         ensures relists { IsTrue D.tells → (catalogue : JournalState) (shelf : Shelf) (held ahead : Held)
             → HasCopied catalogue dest.old shelf (D.files disk.old) (D.opened disk.old) (D.past disk.old) held ahead → IsAhead self.old held ahead
-            → Relists catalogue dest.old dest.new shelf (D.files disk.new) (D.opened disk.new) (D.past disk.old) (D.past disk.new) held ahead (published result dest.new.journal.sound) }
+            → Relists catalogue dest.old dest.new shelf (D.files disk.new) (D.opened disk.new) (D.past disk.old) (D.past disk.new) held ahead
+            (published result dest.new.journal.sound) }
         ensures commits { Commits dest.old dest.new (all_changed dest.old.entries (map set_entry self.old.pending)) (published result dest.new.journal.sound) }
         ensures stage { OnOk result (self.new ≡ record self.old { stage = Published }) }
         ensures unchanged { OnErr result (self.new ≡ self.old) }

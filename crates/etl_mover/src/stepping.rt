@@ -43,9 +43,13 @@ fn read_part<D: Disk>(
     requires some { from < len }
     requires head { part.now.head_len ≤ len }
     requires there { IsTrue D.tells → HasFile (D.files disk.old) name.now (λ b. len ≤ length b) }
-    ensures takes { IsTrue D.tells → (b : List ℕ) → D.files disk.old name.now ≡ Some b → IfOk result (λ l. (l.head.items ≡ take part.now.head_len b) × Takes (take part.now.head_len b) (between from len b) MOST_BYTES l.lines.items entry.now l.entry) }
-    ensures keeps { IfOk result (λ l. (l.entry.part ≡ entry.now.part) × (l.entry.series ≡ entry.now.series) × (l.entry.len ≡ entry.now.len + length l.lines.items)) }
-    ensures reads { IsTrue D.tells → OnlyReads (D.files disk.old) (D.files disk.new) (D.opened disk.old) (D.opened disk.new) (D.past disk.old) (D.past disk.new) }
+    ensures takes { IsTrue D.tells → (b : List ℕ) → D.files disk.old name.now ≡ Some b
+        → IfOk result (λ l. (l.head.items ≡ take part.now.head_len b)
+        × Takes (take part.now.head_len b) (between from len b) MOST_BYTES l.lines.items entry.now l.entry) }
+    ensures keeps { IfOk result (λ l. (l.entry.part ≡ entry.now.part) × (l.entry.series ≡ entry.now.series)
+        × (l.entry.len ≡ entry.now.len + length l.lines.items)) }
+    ensures reads { IsTrue D.tells → OnlyReads (D.files disk.old) (D.files disk.new) (D.opened disk.old) (D.opened disk.new) (D.past disk.old)
+        (D.past disk.new) }
     ensures faults { D.faults disk.old ≤ D.faults disk.new }
     ensures cause { IsErrOf result DiskErr.Fault → Rose (D.faults disk.old) (D.faults disk.new) }
 {
@@ -120,10 +124,14 @@ impl Move {
         requires some { from < len }
         requires head { part.now.head_len ≤ len }
         requires there { IsTrue D.tells → HasFile (D.files disk.old) (source_file self.old part.now) (λ b. len ≤ length b) }
-        requires room { IsTrue D.tells → (n : ℕ) → start.now.at ≡ Some n → IsLongUnopened n (target_file self.old start.now) (D.files disk.old) (D.opened disk.old) }
+        requires room { IsTrue D.tells → (n : ℕ) → start.now.at ≡ Some n
+            → IsLongUnopened n (target_file self.old start.now) (D.files disk.old) (D.opened disk.old) }
         ensures copies { IsTrue D.tells → (b : List ℕ) → D.files disk.old (source_file self.old part.now) ≡ Some b
-            → IfOk result (λ n. (lines : List ℕ) × (length lines ≡ n) × Copies (target_file self.old start.now) start.now part.now from len MOST_BYTES b self.old.pending self.new.pending (D.files disk.old) (D.files disk.new) (D.opened disk.new) (D.past disk.new) lines) }
-        ensures leaves { IsTrue D.tells → LeavesFile (target_file self.old start.now) start.now.at (D.files disk.old) (D.files disk.new) (D.opened disk.old) (D.opened disk.new) (D.past disk.old) (D.past disk.new) }
+            → IfOk result (λ n. (lines : List ℕ) × (length lines ≡ n)
+            × Copies (target_file self.old start.now) start.now part.now from len MOST_BYTES b self.old.pending self.new.pending (D.files disk.old)
+            (D.files disk.new) (D.opened disk.new) (D.past disk.new) lines) }
+        ensures leaves { IsTrue D.tells → LeavesFile (target_file self.old start.now) start.now.at (D.files disk.old) (D.files disk.new) (D.opened disk.old)
+            (D.opened disk.new) (D.past disk.old) (D.past disk.new) }
         ensures sets { OnOk result (SetsPart self.old start.now self.new.pending) }
         ensures moves { self.new ≡ with_pending self.old self.new.pending }
         ensures unchanged { OnErr result (self.new ≡ self.old) }
@@ -155,10 +163,13 @@ impl Move {
         requires head { part.now.head_len ≤ len }
         requires next { slice_get self.old.parts self.old.at ≡ Some part.now }
         requires there { IsTrue D.tells → HasFile (D.files disk.old) (source_file self.old part.now) (λ b. len ≤ length b) }
-        requires room { IsTrue D.tells → (n : ℕ) → start.now.at ≡ Some n → IsLongUnopened n (target_file self.old start.now) (D.files disk.old) (D.opened disk.old) }
+        requires room { IsTrue D.tells → (n : ℕ) → start.now.at ≡ Some n
+            → IsLongUnopened n (target_file self.old start.now) (D.files disk.old) (D.opened disk.old) }
         ensures copies { IsTrue D.tells → (b : List ℕ) → D.files disk.old (source_file self.old part.now) ≡ Some b
-            → OnOk result (CopiesPart self.old self.new start.now part.now from len MOST_BYTES b (D.files disk.old) (D.files disk.new) (D.opened disk.new) (D.past disk.new)) }
-        ensures leaves { IsTrue D.tells → LeavesFile (target_file self.old start.now) start.now.at (D.files disk.old) (D.files disk.new) (D.opened disk.old) (D.opened disk.new) (D.past disk.old) (D.past disk.new) }
+            → OnOk result (CopiesPart self.old self.new start.now part.now from len MOST_BYTES b (D.files disk.old) (D.files disk.new) (D.opened disk.new)
+            (D.past disk.new)) }
+        ensures leaves { IsTrue D.tells → LeavesFile (target_file self.old start.now) start.now.at (D.files disk.old) (D.files disk.new) (D.opened disk.old)
+            (D.opened disk.new) (D.past disk.old) (D.past disk.new) }
         ensures advances { (revived : Option EntryValue) → GoesTo self.old revived part.now start.now → OnOk result (Advances self.old self.new revived len) }
         ensures done { IfOk result (λ copied. (copied ≡ Done) ↔ (self.new.at ≡ length self.new.parts)) }
         ensures unchanged { OnErr result (self.new ≡ self.old) }
@@ -187,10 +198,13 @@ impl Move {
         requires head { part.now.head_len ≤ len }
         requires revived { IfSome revived (CanRevive self.old) }
         requires can { IsTrue D.tells → CanCopy self.old revived len (D.files disk.old) (D.opened disk.old) }
-        ensures copies { IsTrue D.tells → (p : EntryValue) (start : StartValue) (b : List ℕ) → GoesTo self.old revived p start → D.files disk.old (source_file self.old p) ≡ Some b
-            → OnOk result (CopiesPart self.old self.new start p from len MOST_BYTES b (D.files disk.old) (D.files disk.new) (D.opened disk.new) (D.past disk.new)) }
+        ensures copies { IsTrue D.tells → (p : EntryValue) (start : StartValue) (b : List ℕ) → GoesTo self.old revived p start
+            → D.files disk.old (source_file self.old p) ≡ Some b
+            → OnOk result (CopiesPart self.old self.new start p from len MOST_BYTES b (D.files disk.old) (D.files disk.new) (D.opened disk.new)
+            (D.past disk.new)) }
         ensures leaves { IsTrue D.tells → (p : EntryValue) (start : StartValue) → GoesTo self.old revived p start
-            → LeavesFile (target_file self.old start) start.at (D.files disk.old) (D.files disk.new) (D.opened disk.old) (D.opened disk.new) (D.past disk.old) (D.past disk.new) }
+            → LeavesFile (target_file self.old start) start.at (D.files disk.old) (D.files disk.new) (D.opened disk.old) (D.opened disk.new) (D.past disk.old)
+            (D.past disk.new) }
         ensures nowhere { IsTrue D.tells → ((p : EntryValue) (start : StartValue) → GoesTo self.old revived p start → ⊥)
             → OnlyReads (D.files disk.old) (D.files disk.new) (D.opened disk.old) (D.opened disk.new) (D.past disk.old) (D.past disk.new) }
         ensures either { from < len → IsPlacedOrNot self.old revived part.now }
@@ -249,13 +263,17 @@ impl Move {
         requires revived { IfSome (option_copied revived) (CanRevive self.old) }
         requires can { IsTrue D.tells → CanCopy self.old (option_copied revived) len (D.files disk.old) (D.opened disk.old) }
 
-        ensures copies { IsTrue D.tells → (part : EntryValue) (start : StartValue) (b : List ℕ) → GoesTo self.old (option_copied revived.entry) part start → D.files disk.old (source_file self.old part) ≡ Some b
-            → OnOk result (CopiesPart self.old self.new start part from len MOST_BYTES b (D.files disk.old) (D.files disk.new) (D.opened disk.new) (D.past disk.new)) }
+        ensures copies { IsTrue D.tells → (part : EntryValue) (start : StartValue) (b : List ℕ) → GoesTo self.old (option_copied revived.entry) part start
+            → D.files disk.old (source_file self.old part) ≡ Some b
+            → OnOk result (CopiesPart self.old self.new start part from len MOST_BYTES b (D.files disk.old) (D.files disk.new) (D.opened disk.new)
+            (D.past disk.new)) }
         ensures leaves { IsTrue D.tells → (part : EntryValue) (start : StartValue) → GoesTo self.old (option_copied revived.entry) part start
-            → LeavesFile (target_file self.old start) start.at (D.files disk.old) (D.files disk.new) (D.opened disk.old) (D.opened disk.new) (D.past disk.old) (D.past disk.new) }
+            → LeavesFile (target_file self.old start) start.at (D.files disk.old) (D.files disk.new) (D.opened disk.old) (D.opened disk.new) (D.past disk.old)
+            (D.past disk.new) }
         ensures nowhere { IsTrue D.tells → ((part : EntryValue) (start : StartValue) → GoesTo self.old (option_copied revived.entry) part start → ⊥)
             → OnlyReads (D.files disk.old) (D.files disk.new) (D.opened disk.old) (D.opened disk.new) (D.past disk.old) (D.past disk.new) }
-        ensures either { (part : EntryValue) → slice_get self.old.parts self.old.at ≡ Some part → from < len → IsPlacedOrNot self.old (option_copied revived.entry) part }
+        ensures either { (part : EntryValue) → slice_get self.old.parts self.old.at ≡ Some part → from < len
+            → IsPlacedOrNot self.old (option_copied revived.entry) part }
         ensures running { (fine : Granularity) → IsMove fine self.old → IsMove fine self.new }
         ensures advances { OnOk result (Advances self.old self.new (option_copied revived.entry) len) }
         ensures done { IfOk result (λ copied. (copied ≡ Done) ↔ (self.new.at ≡ length self.new.parts)) }

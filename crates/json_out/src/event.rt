@@ -81,7 +81,8 @@ fn put_event(alloc: Global, t: u64, event: &Event, out: &mut Vec<u8>) -> Result<
 }
 
 fn put_moment(t: u64, out: &mut Vec<u8>) -> Result<(), AllocError>
-    ensures { OnOk result (out.new.items ≡ out.old.items ++ (codes "{\"secs\":" ++ decimal (t / 1000000000) ++ codes ",\"nanos\":" ++ decimal (t % 1000000000))) }
+    ensures { OnOk result (out.new.items ≡ out.old.items ++ (codes "{\"secs\":" ++ decimal (t / 1000000000) ++ codes ",\"nanos\":" ++ decimal
+        (t % 1000000000))) }
 {
     out.extend_from_slice(b"{\"secs\":")?;
     put_number(t / NANOS_PER_SECOND, out)?;

@@ -64,18 +64,22 @@ impl<'a, K: Sink> Out for JsonOut<'a, K> {
     ghost use Rattle.act_model.specs.Event.{AreEvents};
     ghost use Rattle.act_model.specs.Out.{Subject, MayGive};
 
-    ghost gave = { λ before subject xs now. (now.sink.ghost_name ≡ before.sink.ghost_name) × Gives (K.written before.sink.now) (K.written now.sink.now) before.buffer now.buffer now.ty now.later subject xs };
+    ghost gave = { λ before subject xs now. (now.sink.ghost_name ≡ before.sink.ghost_name)
+        × Gives (K.written before.sink.now) (K.written now.sink.now) before.buffer now.buffer now.ty now.later subject xs };
 
-    ghost finished = { λ before subject xs now. (now.sink.ghost_name ≡ before.sink.ghost_name) × Finishes (K.written before.sink.now) (K.written now.sink.now) before.buffer now.buffer subject xs };
+    ghost finished = { λ before subject xs now. (now.sink.ghost_name ≡ before.sink.ghost_name)
+        × Finishes (K.written before.sink.now) (K.written now.sink.now) before.buffer now.buffer subject xs };
 
-    ghost broke = { λ before subject xs now. (now.sink.ghost_name ≡ before.sink.ghost_name) × Breaks (K.written before.sink.now) (K.written now.sink.now) before.buffer subject xs };
+    ghost broke = { λ before subject xs now. (now.sink.ghost_name ≡ before.sink.ghost_name)
+        × Breaks (K.written before.sink.now) (K.written now.sink.now) before.buffer subject xs };
 
     ghost faults = { λ out. K.write_faults out.sink.now };
 
     /// At `Memory` nothing of the text was taken; what was gathered before may have gone out in part.
     fn begin(&mut self, name: &[u8], about: &About, _query: Query) -> Result<(), OutErr>
         ensures begun { OnOk result (⟦<JsonOut<'a, K> as Out>⟧.gave self.old (record { name = name.now; about = about.now; query = _query }) [] self.new) }
-        ensures broken { OnErr result ((all : List Sample) → AreEvents about.now.ty all → ⟦<JsonOut<'a, K> as Out>⟧.broke self.old (record { name = name.now; about = about.now; query = _query }) all self.new) }
+        ensures broken { OnErr result ((all : List Sample) → AreEvents about.now.ty all
+            → ⟦<JsonOut<'a, K> as Out>⟧.broke self.old (record { name = name.now; about = about.now; query = _query }) all self.new) }
         ensures faults { K.write_faults self.old.sink.now ≤ K.write_faults self.new.sink.now }
         ensures cause { IsErrOf result OutErr.SinkFault → Rose (K.write_faults self.old.sink.now) (K.write_faults self.new.sink.now) }
         ensures memory { IsErrOf result OutErr.Memory → Sends (K.written self.old.sink.now) (K.written self.new.sink.now) self.old.buffer self.new.buffer }
@@ -93,8 +97,10 @@ impl<'a, K: Sink> Out for JsonOut<'a, K> {
     /// At `Memory` nothing of the sample was taken; what was gathered before may have gone out in part.
     fn sample(&mut self, t: u64, line: &[u8]) -> Result<(), OutErr>
         requires event { MayGive ⟦<JsonOut<'a, K> as Out>⟧.gave self.old (record { t = t; line = line.now }) }
-        ensures given { (before : _) (subject : Subject) (xs : List Sample) → ⟦<JsonOut<'a, K> as Out>⟧.gave before subject xs self.old → OnOk result (⟦<JsonOut<'a, K> as Out>⟧.gave before subject (xs ++ record { t = t; line = line.now } ∷ []) self.new) }
-        ensures broken { (before : _) (subject : Subject) (xs more : List Sample) → AreEvents subject.about.ty (xs ++ record { t = t; line = line.now } ∷ more) → ⟦<JsonOut<'a, K> as Out>⟧.gave before subject xs self.old
+        ensures given { (before : _) (subject : Subject) (xs : List Sample) → ⟦<JsonOut<'a, K> as Out>⟧.gave before subject xs self.old
+            → OnOk result (⟦<JsonOut<'a, K> as Out>⟧.gave before subject (xs ++ record { t = t; line = line.now } ∷ []) self.new) }
+        ensures broken { (before : _) (subject : Subject) (xs more : List Sample) → AreEvents subject.about.ty (xs ++ record { t = t; line = line.now } ∷ more)
+            → ⟦<JsonOut<'a, K> as Out>⟧.gave before subject xs self.old
             → OnErr result (⟦<JsonOut<'a, K> as Out>⟧.broke before subject (xs ++ record { t = t; line = line.now } ∷ more) self.new) }
         ensures faults { K.write_faults self.old.sink.now ≤ K.write_faults self.new.sink.now }
         ensures cause { IsErrOf result OutErr.SinkFault → Rose (K.write_faults self.old.sink.now) (K.write_faults self.new.sink.now) }
@@ -115,8 +121,10 @@ impl<'a, K: Sink> Out for JsonOut<'a, K> {
 
     /// At `Memory` nothing of the text's end was taken; what was gathered before may have gone out in part.
     fn finish(&mut self) -> Result<(), OutErr>
-        ensures finished { (before : _) (subject : Subject) (xs : List Sample) → ⟦<JsonOut<'a, K> as Out>⟧.gave before subject xs self.old → OnOk result (⟦<JsonOut<'a, K> as Out>⟧.finished before subject xs self.new) }
-        ensures broken { (before : _) (subject : Subject) (xs : List Sample) → ⟦<JsonOut<'a, K> as Out>⟧.gave before subject xs self.old → OnErr result (⟦<JsonOut<'a, K> as Out>⟧.broke before subject xs self.new) }
+        ensures finished { (before : _) (subject : Subject) (xs : List Sample) → ⟦<JsonOut<'a, K> as Out>⟧.gave before subject xs self.old
+            → OnOk result (⟦<JsonOut<'a, K> as Out>⟧.finished before subject xs self.new) }
+        ensures broken { (before : _) (subject : Subject) (xs : List Sample) → ⟦<JsonOut<'a, K> as Out>⟧.gave before subject xs self.old
+            → OnErr result (⟦<JsonOut<'a, K> as Out>⟧.broke before subject xs self.new) }
         ensures faults { K.write_faults self.old.sink.now ≤ K.write_faults self.new.sink.now }
         ensures cause { IsErrOf result OutErr.SinkFault → Rose (K.write_faults self.old.sink.now) (K.write_faults self.new.sink.now) }
         ensures memory { IsErrOf result OutErr.Memory → Sends (K.written self.old.sink.now) (K.written self.new.sink.now) self.old.buffer self.new.buffer }
@@ -128,7 +136,11 @@ impl<'a, K: Sink> Out for JsonOut<'a, K> {
         Ok(())
     }
 
-    ghost front = { λ before now subject xs more events gave. (gave.0, gives_breaks (K.written before.sink.now) (K.written now.sink.now) before.buffer now.buffer now.ty now.later subject xs more gave.1) };
+    ghost front = { λ before now subject xs more events gave. (
+      gave.0,
+      gives_breaks (K.written before.sink.now)
+          (K.written now.sink.now) before.buffer now.buffer now.ty now.later subject xs more gave.1,
+    ) };
 }
 
 // Takes a piece of the text for the sink. At `Memory` nothing of the piece was taken.

@@ -103,7 +103,8 @@ fn make_set<'a>(
     requires good { AreLists lists.old.listed.entries }
     requires some { bytes.now ≢ [] }
     ensures good { AreLists lists.new.listed.entries }
-    ensures made { IfOk result (λ r. IfSome r (λ rest. (last : List Entry) → OnlySets g (entries_of lists.new.listed.entries) rest.now last ↔ OnlySets g (entries_of lists.old.listed.entries) bytes.now last)) }
+    ensures made { IfOk result (λ r. IfSome r (λ rest. (last : List Entry)
+        → OnlySets g (entries_of lists.new.listed.entries) rest.now last ↔ OnlySets g (entries_of lists.old.listed.entries) bytes.now last)) }
     ensures shorter { IfOk result (λ r. IfSome r (λ rest. length rest.now < length bytes.now)) }
     ensures none { IfOk result (λ r. IfNone r ((last : List Entry) → OnlySets g (entries_of lists.old.listed.entries) bytes.now last → ⊥)) }
 {
@@ -143,7 +144,8 @@ fn make_change<'a>(
     requires good { AreLists lists.old.listed.entries }
     requires some { bytes.now ≢ [] }
     ensures good { AreLists lists.new.listed.entries }
-    ensures made { IfOk result (λ r. IfSome r (λ rest. (last : List Entry) → Makes g (entries_of lists.new.listed.entries) rest.now last ↔ Makes g (entries_of lists.old.listed.entries) bytes.now last)) }
+    ensures made { IfOk result (λ r. IfSome r (λ rest. (last : List Entry)
+        → Makes g (entries_of lists.new.listed.entries) rest.now last ↔ Makes g (entries_of lists.old.listed.entries) bytes.now last)) }
     ensures shorter { IfOk result (λ r. IfSome r (λ rest. length rest.now < length bytes.now)) }
     ensures none { IfOk result (λ r. IfNone r ((last : List Entry) → Makes g (entries_of lists.old.listed.entries) bytes.now last → ⊥)) }
 {

@@ -17,7 +17,8 @@ pub fn one_listing()
 
 /// An image whose batches say a granularity says that one alone.
 pub fn one_granularity()
-    ensures { (g h : Granularity) (name : Name) (image : Files) (xs ys : List Entry) → Says (Configured g) xs name image → Says (Configured h) ys name image → g ≡ h }
+    ensures { (g h : Granularity) (name : Name) (image : Files) (xs ys : List Entry) → Says (Configured g) xs name image → Says (Configured h) ys name image
+        → g ≡ h }
 {}
 
 /// Batches have one bad one at most, and none where they fold.
@@ -34,7 +35,8 @@ pub fn entries_are_in_order()
 
 /// Changes that may be made keep that order and those partitions.
 pub fn changes_keep_entries()
-    ensures { (g : Granularity) (entries : List Entry) (changes : List Change) → AreEntries g entries → AllCanFollow g entries changes → AreEntries g (all_changed entries changes) }
+    ensures { (g : Granularity) (entries : List Entry) (changes : List Change) → AreEntries g entries → AllCanFollow g entries changes
+        → AreEntries g (all_changed entries changes) }
 {}
 
 /// What a checkpoint writes lists the entries again, in 49 bytes each and two more.

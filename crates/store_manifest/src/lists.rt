@@ -49,7 +49,8 @@ impl SeriesLists {
     // Whether a change doesn't drop what isn't listed.
     pub(crate) fn allows(&self, change: &Change) -> bool
         requires { AreLists self.now.listed.entries }
-        ensures { (IsTrue result → IsAllowed (entries_of self.now.listed.entries) change.now) × (IsAllowed (entries_of self.now.listed.entries) change.now → IsTrue result) }
+        ensures { (IsTrue result → IsAllowed (entries_of self.now.listed.entries) change.now)
+            × (IsAllowed (entries_of self.now.listed.entries) change.now → IsTrue result) }
     {
         match change {
             Change::Set(_) => true,
@@ -135,7 +136,8 @@ impl SeriesLists {
     fn make(&mut self, change: &Change)
         requires good { AreLists self.old.listed.entries }
         requires there { IsSome (list_of (place_of change.now).0 self.old.listed.entries) }
-        requires room { 1 ≤ sets change.now → IfSome (list_of (place_of change.now).0 self.old.listed.entries) (λ list. list.used + sets change.now ≤ list.capacity) }
+        requires room { 1 ≤ sets change.now → IfSome (list_of (place_of change.now).0 self.old.listed.entries)
+            (λ list. list.used + sets change.now ≤ list.capacity) }
         ensures good { AreLists self.new.listed.entries }
         ensures entries { entries_of self.new.listed.entries ≡ changed (entries_of self.old.listed.entries) change.now }
         ensures lists { KeepsLists change.now self.old.listed.entries self.new.listed.entries }

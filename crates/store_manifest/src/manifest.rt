@@ -65,7 +65,8 @@ impl Manifest {
         ensures are { IfOk result (λ m. AreEntries g m.entries) }
         ensures manifest { IfOk result (λ m. (m.journal.name ≡ manifest_name store) × (m.granularity ≡ g) × (m.journal.sound ≡ true)) }
 
-        ensures bad_journal { IsTrue D.tells → (file : Name) (at : ℕ) → result ≡ Err (BadJournal file at) → IsBadOf (manifest_name store) (D.files disk.old) file at }
+        ensures bad_journal { IsTrue D.tells → (file : Name) (at : ℕ) → result ≡ Err (BadJournal file at)
+            → IsBadOf (manifest_name store) (D.files disk.old) file at }
         ensures bad_batch { IsTrue D.tells → (number : ℕ) → result ≡ Err (BadBatch number)
             → (bs : List (List ℕ)) × HasBatchesOf (manifest_name store) (D.files disk.old) bs × IsBadBatch bs number }
         ensures differs { IsTrue D.tells → (kept asked : GranularityValue) → result ≡ Err (GranularityDiffers kept asked)
@@ -143,7 +144,8 @@ impl Manifest {
         requires kept { IsTrue D.tells → IsKept self.old (D.files disk.old) (D.opened disk.old) (D.past disk.old) }
 
         // A crash at any moment leaves the entries from before it or those with all the changes, and of every name that isn't the manifest's what it might have left before.
-        ensures commits { IsTrue D.tells → CommitsEntries Folds (all_changed self.old.entries changes.now) result self.old self.new (standing D.Disk disk.old) (standing D.Disk disk.new) }
+        ensures commits { IsTrue D.tells → CommitsEntries Folds (all_changed self.old.entries changes.now) result self.old self.new (standing D.Disk disk.old)
+            (standing D.Disk disk.new) }
         ensures entries { OnOk result (self.new.entries ≡ all_changed self.old.entries changes.now) }
         ensures state { (self.new.granularity ≡ self.old.granularity) × (self.new.journal.name ≡ self.old.journal.name) }
         ensures nothing { changes.now ≡ [] → (result ≡ Ok tt) × (disk.new ≡ disk.old) }
@@ -151,7 +153,8 @@ impl Manifest {
         // Where the closed gate stands afterwards, which tells exactly where the journal was begun anew: it doesn't grow for good.
         ensures begun { let size = length (whole self.old.granularity self.old.entries) in changes.now ≢ [] → IsLong (self.old.journal.current.place + 1) size
             → OnOk result (self.new.journal.current.place ≡ (size + 5) + (5 + length (batch_of changes.now))) }
-        ensures grown { let size = length (whole self.old.granularity self.old.entries) in changes.now ≢ [] → (IsLong (self.old.journal.current.place + 1) size → ⊥)
+        ensures grown { let size = length (whole self.old.granularity self.old.entries) in changes.now ≢ []
+            → (IsLong (self.old.journal.current.place + 1) size → ⊥)
             → OnOk result (self.new.journal.current.place ≡ self.old.journal.current.place + (5 + length (batch_of changes.now))) }
         ensures short { let size = length (whole self.old.granularity self.old.entries) in changes.now ≢ [] → size ≤ GREATEST_BATCH
             → OnOk result (self.new.journal.current.place + 1 < limit_of size + length (batch_of changes.now) + 5) }
@@ -160,7 +163,8 @@ impl Manifest {
         ensures doubtful { IsErrOf result DiskErr.Fault → (self.new.entries ≡ self.old.entries) × (self.new.next ≡ all_changed self.old.entries changes.now) }
         ensures fault { IsErrOf result DiskErr.Fault → (self.new.journal.sound ≡ false) × Rose (D.faults disk.old) (D.faults disk.new) }
         ensures memory { IsErrOf result DiskErr.Memory → (self.new.journal.sound ≡ true) × (self.new.entries ≡ self.old.entries) }
-        ensures untouched { let size = length (whole self.old.granularity self.old.entries) in IsErrOf result DiskErr.Memory → (IsLong (self.old.journal.current.place + 1) size → ⊥)
+        ensures untouched { let size = length (whole self.old.granularity self.old.entries) in IsErrOf result DiskErr.Memory
+            → (IsLong (self.old.journal.current.place + 1) size → ⊥)
             → (self.new.journal ≡ self.old.journal) × (disk.new ≡ disk.old) }
         ensures faults { D.faults disk.old ≤ D.faults disk.new }
     {
@@ -186,12 +190,14 @@ impl Manifest {
 
         // A crash at any moment leaves the entries from before the commit or those that it was to make, and of every name that isn't the manifest's what it might have left before.
         ensures doubtful { IsTrue D.tells → OnErr result (IsUnsure self.new (D.files disk.new) (D.opened disk.new) (D.past disk.new)) }
-        ensures any_moment { IsTrue D.tells → Passes (AtOwn self.old.journal.name (SaysEither (Configured self.old.granularity) self.old.entries self.old.next self.old.journal.name)) (D.past disk.old) (D.past disk.new) }
+        ensures any_moment { IsTrue D.tells → Passes (AtOwn self.old.journal.name
+            (SaysEither (Configured self.old.granularity) self.old.entries self.old.next self.old.journal.name)) (D.past disk.old) (D.past disk.new) }
         ensures elsewhere { IsTrue D.tells → (n : Name) → (IsOwn self.old.journal.name n → ⊥) → D.files disk.new n ≡ D.files disk.old n }
         ensures opened { IsTrue D.tells → (n : Name) → (IsOwn self.old.journal.name n → ⊥) → D.opened disk.new n ≡ D.opened disk.old n }
 
         // After a commit it changes no file and no image of a crash, and after an error the manifest is as before. After a journal that was to begin anew it changes only the file that it removes.
-        ensures one_file { IsTrue D.tells → OnlyRemoves self.old.journal (D.files disk.old) (D.files disk.new) × Passes (OnlyRemoves self.old.journal) (D.past disk.old) (D.past disk.new) }
+        ensures one_file { IsTrue D.tells → OnlyRemoves self.old.journal (D.files disk.old) (D.files disk.new)
+            × Passes (OnlyRemoves self.old.journal) (D.past disk.old) (D.past disk.new) }
         ensures quiet { IsTrue D.tells → is_of_commit self.old.journal.pending ≡ true
             → (D.files disk.new ≡ D.files disk.old) × Passes (λ a b. b ≡ a) (D.past disk.old) (D.past disk.new) × (D.opened disk.new ≡ D.opened disk.old) }
         ensures unchanged { is_of_commit self.old.journal.pending ≡ true → OnErr result (self.new ≡ self.old) }
@@ -210,10 +216,14 @@ impl Manifest {
     fn shorten<D: Disk>(&mut self, disk: &mut D) -> Result<(), DiskErr>
         requires sound { IsTrue self.old.journal.sound }
         requires kept { IsTrue D.tells → IsKept self.old (D.files disk.old) (D.opened disk.old) (D.past disk.old) }
-        ensures commits { IsTrue D.tells → CommitsEntries Configured self.old.entries result self.old self.new (standing D.Disk disk.old) (standing D.Disk disk.new) }
-        ensures state { (self.new.granularity ≡ self.old.granularity) × (self.new.journal.name ≡ self.old.journal.name) × (self.new.entries ≡ self.old.entries) × (self.new.next ≡ self.old.next) }
-        ensures begun { let size = length (whole self.old.granularity self.old.entries) in IsLong (self.old.journal.current.place + 1) size → OnOk result (self.new.journal.current.place ≡ size + 5) }
-        ensures grown { let size = length (whole self.old.granularity self.old.entries) in (IsLong (self.old.journal.current.place + 1) size → ⊥) → OnOk result (self.new.journal.current.place ≡ self.old.journal.current.place) }
+        ensures commits { IsTrue D.tells → CommitsEntries Configured self.old.entries result self.old self.new (standing D.Disk disk.old)
+            (standing D.Disk disk.new) }
+        ensures state { (self.new.granularity ≡ self.old.granularity) × (self.new.journal.name ≡ self.old.journal.name) × (self.new.entries ≡ self.old.entries)
+            × (self.new.next ≡ self.old.next) }
+        ensures begun { let size = length (whole self.old.granularity self.old.entries) in IsLong (self.old.journal.current.place + 1) size
+            → OnOk result (self.new.journal.current.place ≡ size + 5) }
+        ensures grown { let size = length (whole self.old.granularity self.old.entries) in (IsLong (self.old.journal.current.place + 1) size → ⊥)
+            → OnOk result (self.new.journal.current.place ≡ self.old.journal.current.place) }
         ensures untouched { let size = length (whole self.old.granularity self.old.entries) in (IsLong (self.old.journal.current.place + 1) size → ⊥)
             → (result ≡ Ok tt) × (self.new.journal ≡ self.old.journal) × (disk.new ≡ disk.old) }
         ensures sound { (IsErrOf result DiskErr.Fault → ⊥) → self.new.journal.sound ≡ true }
@@ -235,7 +245,8 @@ impl Manifest {
         requires follow { AllCanFollow self.old.granularity self.old.entries changes.now }
         requires few { length (batch_of changes.now) ≤ GREATEST_BATCH }
         requires kept { IsTrue D.tells → IsKept self.old (D.files disk.old) (D.opened disk.old) (D.past disk.old) }
-        ensures commits { IsTrue D.tells → CommitsEntries Configured self.old.next result self.old self.new (standing D.Disk disk.old) (standing D.Disk disk.new) }
+        ensures commits { IsTrue D.tells → CommitsEntries Configured self.old.next result self.old self.new (standing D.Disk disk.old)
+            (standing D.Disk disk.new) }
         ensures entries { OnOk result (self.new.entries ≡ self.old.next) }
         ensures state { (self.new.granularity ≡ self.old.granularity) × (self.new.journal.name ≡ self.old.journal.name) }
         ensures placed { OnOk result (self.new.journal.current.place ≡ self.old.journal.current.place + (5 + length (batch_of changes.now))) }

@@ -75,7 +75,8 @@ impl Board {
     }
 
     fn pin(&mut self, who: u64, name: &Blob, query: Query) -> Answer<MemFile>
-        ensures { StepsTo who (Act.Pin name.now query) self.old (reply_of ⟦<MemFile as ReadAt>⟧.tells ⟦<MemFile as ReadAt>⟧.bytes ⟦<MemFile as ReadAt>⟧.faults result) self.new }
+        ensures { StepsTo who (Act.Pin name.now query) self.old
+            (reply_of ⟦<MemFile as ReadAt>⟧.tells ⟦<MemFile as ReadAt>⟧.bytes ⟦<MemFile as ReadAt>⟧.faults result) self.new }
     {
         if !self.is_free(name) {
             return Answer::Memory;
@@ -95,7 +96,8 @@ impl Board {
     }
 
     fn unpin(&mut self, who: u64, pin: u32) -> Answer<MemFile>
-        ensures { StepsTo who (Act.Unpin pin) self.old (reply_of ⟦<MemFile as ReadAt>⟧.tells ⟦<MemFile as ReadAt>⟧.bytes ⟦<MemFile as ReadAt>⟧.faults result) self.new }
+        ensures { StepsTo who (Act.Unpin pin) self.old
+            (reply_of ⟦<MemFile as ReadAt>⟧.tells ⟦<MemFile as ReadAt>⟧.bytes ⟦<MemFile as ReadAt>⟧.faults result) self.new }
     {
         match self.owner {
             None => Answer::NoPin,
@@ -106,7 +108,8 @@ impl Board {
     // Where the pin is this one's.
     fn unpin_of(&mut self, owner: u64, who: u64, pin: u32) -> Answer<MemFile>
         requires { self.old.owner ≡ Some owner }
-        ensures { StepsTo who (Act.Unpin pin) self.old (reply_of ⟦<MemFile as ReadAt>⟧.tells ⟦<MemFile as ReadAt>⟧.bytes ⟦<MemFile as ReadAt>⟧.faults result) self.new }
+        ensures { StepsTo who (Act.Unpin pin) self.old
+            (reply_of ⟦<MemFile as ReadAt>⟧.tells ⟦<MemFile as ReadAt>⟧.bytes ⟦<MemFile as ReadAt>⟧.faults result) self.new }
     {
         if pin != 0 {
             return Answer::NoPin;
@@ -122,7 +125,8 @@ impl Board {
 impl Board {
     // Counts a door off.
     fn door_done(&mut self) -> Answer<MemFile>
-        ensures { (who : ℕ) → StepsTo who Act.DoorDone self.old (reply_of ⟦<MemFile as ReadAt>⟧.tells ⟦<MemFile as ReadAt>⟧.bytes ⟦<MemFile as ReadAt>⟧.faults result) self.new }
+        ensures { (who : ℕ) → StepsTo who Act.DoorDone self.old
+            (reply_of ⟦<MemFile as ReadAt>⟧.tells ⟦<MemFile as ReadAt>⟧.bytes ⟦<MemFile as ReadAt>⟧.faults result) self.new }
     {
         self.doors = self.doors.saturating_sub(1);
         Answer::DoorsLeft { doors: self.doors }
@@ -130,7 +134,8 @@ impl Board {
 
     // Ticks a row, of which it has one that isn't sampled at a period.
     fn tick(&self, row: u32) -> Answer<MemFile>
-        ensures { (who now : ℕ) → StepsTo who (Act.Tick row now) self.now (reply_of ⟦<MemFile as ReadAt>⟧.tells ⟦<MemFile as ReadAt>⟧.bytes ⟦<MemFile as ReadAt>⟧.faults result) self.now }
+        ensures { (who now : ℕ) → StepsTo who (Act.Tick row now) self.now
+            (reply_of ⟦<MemFile as ReadAt>⟧.tells ⟦<MemFile as ReadAt>⟧.bytes ⟦<MemFile as ReadAt>⟧.faults result) self.now }
     {
         if row != 0 {
             return Answer::NoRow;

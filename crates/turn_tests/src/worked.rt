@@ -24,10 +24,15 @@ fn turn_once(
     pass: &mut Pass<Shared<Board>>,
     act: Act,
 ) -> Option<Answer<MemFile>>
-    requires stands { (m : Machine) × StandsFor (SharedStep BoardStands BoardLeaves ⟦<MemFile as ReadAt>⟧.tells ⟦<MemFile as ReadAt>⟧.bytes ⟦<MemFile as ReadAt>⟧.faults) (SharedStands BoardStands) rooms.now pass.old m }
+    requires stands { (m : Machine)
+        × StandsFor (SharedStep BoardStands BoardLeaves ⟦<MemFile as ReadAt>⟧.tells ⟦<MemFile as ReadAt>⟧.bytes ⟦<MemFile as ReadAt>⟧.faults)
+        (SharedStands BoardStands) rooms.now pass.old m }
     requires may_ask { MayAsk act }
-    ensures stands { (m : Machine) × StandsFor (SharedStep BoardStands BoardLeaves ⟦<MemFile as ReadAt>⟧.tells ⟦<MemFile as ReadAt>⟧.bytes ⟦<MemFile as ReadAt>⟧.faults) (SharedStands BoardStands) rooms.now pass.new m }
-    ensures goes { Goes (SharedStep BoardStands BoardLeaves ⟦<MemFile as ReadAt>⟧.tells ⟦<MemFile as ReadAt>⟧.bytes ⟦<MemFile as ReadAt>⟧.faults) rooms.now pass.old pass.new }
+    ensures stands { (m : Machine)
+        × StandsFor (SharedStep BoardStands BoardLeaves ⟦<MemFile as ReadAt>⟧.tells ⟦<MemFile as ReadAt>⟧.bytes ⟦<MemFile as ReadAt>⟧.faults)
+        (SharedStands BoardStands) rooms.now pass.new m }
+    ensures goes { Goes
+        (SharedStep BoardStands BoardLeaves ⟦<MemFile as ReadAt>⟧.tells ⟦<MemFile as ReadAt>⟧.bytes ⟦<MemFile as ReadAt>⟧.faults) rooms.now pass.old pass.new }
     ensures adds { IfSome result (λ answer. AddsOne pass.old pass.new act answer) }
 {
     match rooms.turn(rt, pass, act) {
@@ -44,10 +49,15 @@ fn two_acts(
     one: Act,
     two: Act,
 ) -> Option<(Pass<Shared<Board>>, Answer<MemFile>, Answer<MemFile>)>
-    requires first { IsFirst (SharedStep BoardStands BoardLeaves ⟦<MemFile as ReadAt>⟧.tells ⟦<MemFile as ReadAt>⟧.bytes ⟦<MemFile as ReadAt>⟧.faults) rooms.now pass }
-    requires stands { (m : Machine) × StandsFor (SharedStep BoardStands BoardLeaves ⟦<MemFile as ReadAt>⟧.tells ⟦<MemFile as ReadAt>⟧.bytes ⟦<MemFile as ReadAt>⟧.faults) (SharedStands BoardStands) rooms.now pass m }
+    requires first { IsFirst
+        (SharedStep BoardStands BoardLeaves ⟦<MemFile as ReadAt>⟧.tells ⟦<MemFile as ReadAt>⟧.bytes ⟦<MemFile as ReadAt>⟧.faults) rooms.now pass }
+    requires stands { (m : Machine)
+        × StandsFor (SharedStep BoardStands BoardLeaves ⟦<MemFile as ReadAt>⟧.tells ⟦<MemFile as ReadAt>⟧.bytes ⟦<MemFile as ReadAt>⟧.faults)
+        (SharedStands BoardStands) rooms.now pass m }
     requires may_ask { MayAsk one × MayAsk two }
-    ensures stands { IfSome result (λ all. (m : Machine) × StandsFor (SharedStep BoardStands BoardLeaves ⟦<MemFile as ReadAt>⟧.tells ⟦<MemFile as ReadAt>⟧.bytes ⟦<MemFile as ReadAt>⟧.faults) (SharedStands BoardStands) rooms.now all.0 m) }
+    ensures stands { IfSome result (λ all. (m : Machine)
+        × StandsFor (SharedStep BoardStands BoardLeaves ⟦<MemFile as ReadAt>⟧.tells ⟦<MemFile as ReadAt>⟧.bytes ⟦<MemFile as ReadAt>⟧.faults)
+        (SharedStands BoardStands) rooms.now all.0 m) }
     ensures last { IfSome result (λ all. IsLast all.0) }
     ensures knows { IfSome result (λ all. KnowsTwo all.0 one all.1 two all.2) }
 {
