@@ -22,10 +22,6 @@ Ascends n (k ∷ rows) = (n ≤ k.row) × Ascends (k.row + 1) rows
 abbrev pub HasEvents : IntakeRow → Type 0
 HasEvents k = AllByRecursion (IsEvent k.about.ty) k.tail × IsHeld k.about.ty k.cell.held
 
-pub ascends_lower : (m n : ℕ) (rows : List IntakeRow) → m ≤ n → Ascends n rows → Ascends m rows
-ascends_lower m n [] low up = tt
-ascends_lower m n (k ∷ rows) low up = (let first : n ≤ k.row = up.0 in omega arith, up.1)
-
 -- none has a smaller number
 pub none_below : (n i : ℕ) (rows : List IntakeRow) → Ascends n rows → i < n → known_at rows i ≡ None
 none_below n i [] up low = refl
