@@ -1,5 +1,5 @@
 -- Reading a source line by line.
-use Rattle.std.specs.Prelude.{◌≡◌, ◌≢◌, ◌⊎◌, ℕ, ◌+◌, ◌-◌, ◌^◌, ◌<◌, ◌≤◌, List, [], ◌∷◌, ◌++◌, All, Option, Some, None, IfSome, IsSome, MatchOption, Contains, length, slice_index}
+use Rattle.std.specs.Prelude.{◌≡◌, ◌≢◌, ◌⊎◌, ℕ, ◌+◌, ◌-◌, ◌^◌, ◌<◌, ◌≤◌, List, [], ◌∷◌, ◌++◌, All, Option, Some, None, IfSome, IsSome, IsTrue, Bool, MatchOption, Contains, length, take, slice_index}
 use Rattle.std.specs.Io.KnownBytes.{Consumes, Keeps, IsAtEnd, prepend_known}
 use Rattle.edge_io.specs.declared.lines.LineRead.{LineRead}
 use Rattle.edge_io.specs.declared.lines.LineRead.TheVariants.{Line, End, Torn, TooLong, InputTooLong, SourceFault, Memory}
@@ -32,6 +32,13 @@ NoneBelow xs n = (k : ℕ) → k < n → slice_index xs k ≢ 10
 -- the place of the first newline, none where there is no newline
 abbrev pub IsFirstNewline : List ℕ → Option ℕ → Type 0
 IsFirstNewline xs place = MatchOption place (NoneBelow xs (length xs)) (λ k. (k < length xs) × (slice_index xs k ≡ 10) × NoneBelow xs k)
+
+-- The first newline of the bytes stands at this place, and where it is told to be free of the mark, no byte before it is that.
+pub record IsLineEnd (xs : List ℕ) (mark place : ℕ) (is_free : Bool) : Type 0 where
+  pub within : place < length xs
+  pub newline : slice_index xs place ≡ 10
+  pub line : All (λ x. x ≢ 10) (take place xs)
+  pub free : IsTrue is_free → All (λ x. x ≢ mark) (take place xs)
 
 -- of so many bytes, fewer than 65,536 stand behind the newline at this place
 abbrev pub IsNear : ℕ → Option ℕ → Type 0

@@ -29,7 +29,7 @@ mod stream;
 mod tcp;
 
 pub use clock::{Clock, ListClock, SystemClock};
-pub use lines::{LineRead, Lines, MAX_INPUT, MAX_LINE};
+pub use lines::{LineRead, Lines, MAX_INPUT, MAX_LINE, line_end};
 pub use link::{Door, Link, Next};
 pub use memory::{MemSink, MemSource};
 pub use memory_links::{ListDoor, MemLink};

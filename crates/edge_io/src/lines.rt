@@ -4,7 +4,7 @@ ghost use Rattle.std.specs.List.{slice_range};
 ghost use Rattle.std.specs.Simd.Lanes.{mask_l};
 ghost use Rattle.std.specs.Io.KnownBytes.{IsAtEnd, Keeps};
 ghost use Rattle.edge_io.specs.Stream.{Rose};
-ghost use Rattle.edge_io.specs.Lines.{Reader, NoneBelow, IsFirstNewline, IsNear, IsStop, Stays, Reads, ReadsOn, Fills, HoldsAnswer, AnswersHeld, Wants, ahead};
+ghost use Rattle.edge_io.specs.Lines.{Reader, NoneBelow, IsFirstNewline, IsNear, IsLineEnd, IsStop, Stays, Reads, ReadsOn, Fills, HoldsAnswer, AnswersHeld, Wants, ahead};
 
 use crate::Source;
 use memchr::memchr;
@@ -151,6 +151,38 @@ impl Lines {
                 Filled::Memory => return LineRead::Memory,
             }
         }
+    }
+
+    /// The bytes that were taken of the source and not given yet.
+    #[inline(always)]
+    pub fn held(&self) -> &[u8]
+        ensures { result.now ≡ self.now.held }
+    {
+        let (_, held) = self.buf.split_at(self.start);
+        held
+    }
+
+    /// Gives `count` lines at once, which are the first `len` bytes that are held, newlines and all. The
+    /// last of them, which has `last` bytes before its newline, is the line that was read last.
+    pub fn pass_lines(&mut self, len: usize, count: u64, last: usize)
+        requires within { len ≤ length self.old.held }
+        requires last { last < len }
+        requires newline { slice_index self.old.held (len - 1) ≡ 10 }
+        requires count { count ≤ len }
+        ensures line { self.new.line ≡ take last (drop (len - 1 - last) self.old.held) }
+        ensures held { self.new.held ≡ drop len self.old.held }
+        ensures number { self.new.number ≡ self.old.number + count }
+        ensures passed { self.new.passed ≡ self.old.passed + len }
+        ensures stop { self.new.stop ≡ self.old.stop }
+        ensures bound { self.new.passed ≤ 2 ^ 40 }
+    {
+        self.start += len;
+        self.line_end = self.start - 1;
+        self.line_at = self.line_end - last;
+        self.number += count;
+        self.passed += len as u64;
+        let (_, held) = self.buf.split_at(self.start);
+        self.newline = newline_from(held, 0);
     }
 
     // The answer that is in hand.
@@ -359,6 +391,62 @@ fn near_newline(bytes: &[u8]) -> Option<usize>
         return None;
     }
     Some(marks.trailing_zeros() as usize)
+}
+
+/// Where the first newline stands, and whether it is known that no byte before it is `mark`. `None`
+/// where there is no newline.
+#[inline(always)]
+pub fn line_end(bytes: &[u8], mark: u8) -> Option<(usize, bool)>
+    ensures end { IfSome result (λ x. IsLineEnd bytes.now mark x.0 x.1) }
+    ensures none { IfNone result (NoneBelow bytes.now (length bytes.now)) }
+{
+    if let Some(end) = near_line_end(bytes, mark) {
+        return Some(end);
+    }
+    match newline_from(bytes, 0) {
+        Some(at) => Some((at, false)),
+        None => None,
+    }
+}
+
+// The same, where the newline is among the first 32 bytes, and there are so many.
+#[inline(always)]
+fn near_line_end(bytes: &[u8], mark: u8) -> Option<(usize, bool)>
+    ensures { IfSome result (λ x. IsLineEnd bytes.now mark x.0 x.1) }
+{
+    let (near, _) = bytes.split_first_chunk::<32>()?;
+    let lanes = u8x32::from_array(*near);
+    let marks = newline_marks(lanes);
+    if marks == 0 {
+        return None;
+    }
+    let at = marks.trailing_zeros();
+    Some((at as usize, is_free_below(lanes, mark, at)))
+}
+
+// Whether none of the first bytes is `mark`.
+#[inline(always)]
+fn is_free_below(bytes: u8x32, mark: u8, count: u32) -> bool
+    requires { count ≤ 32 }
+    ensures { IsTrue result → (j : ℕ) → j < count → slice_index bytes j ≢ mark }
+{
+    let marks = byte_marks(bytes, mark);
+    if marks == 0 {
+        return true;
+    }
+    let first = marks.trailing_zeros();
+    if first < count {
+        return false;
+    }
+    true
+}
+
+// Bit k tells whether such a byte stands at place k.
+#[inline(always)]
+fn byte_marks(bytes: u8x32, byte: u8) -> u64
+    ensures { result ≡ mask_l (map (λ x. x == byte) bytes) }
+{
+    bytes.simd_eq(u8x32::splat(byte)).to_bitmask()
 }
 
 // Bit k tells whether a newline stands at place k.
