@@ -5,3 +5,4 @@ pub mod Unique
 pub mod FileLines
 pub mod FileMeaning
 pub mod Final
+pub mod Running

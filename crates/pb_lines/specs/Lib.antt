@@ -4,3 +4,4 @@ pub mod Header
 pub mod Stream
 pub mod Reader
 pub mod File
+pub mod Run

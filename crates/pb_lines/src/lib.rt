@@ -24,9 +24,11 @@ mod fault;
 mod header;
 pub mod laws;
 mod reader;
+mod run;
 mod sample;
 
 pub use fault::{ChunkFault, HeadFault, LineErr, LineFault};
 pub use header::{HeadErr, header_line, header_of_line};
 pub use reader::{ChunkItem, ChunkReader};
+pub use run::Run;
 pub use sample::{moment_of_line, sample_of};

@@ -1,11 +1,14 @@
 // A raw PB stream read item by item: headers, samples and the ends of chunks.
-ghost use Rattle.std.specs.Prelude.{◌≡◌, ◌≢◌, ◌↔◌, ◌≤◌, [], IfOk, IfSome, IfNone, IsTrue, IsSome};
+ghost use Rattle.std.specs.Prelude.{◌≡◌, ◌≢◌, ◌↔◌, ◌≤◌, ℕ, List, Option, [], IfOk, IfSome, IfNone, IsTrue, IsSome, length, take, map};
 ghost use Rattle.std.specs.Option.{option_copied};
 ghost use Rattle.edge_io.specs.Stream.{Rose};
-ghost use Rattle.pb_lines.specs.Reader.{IsFresh, HoldsLine, ReadsItem, ReadsLine, Fetches, EndsStream, TakesLine, IsLineOf, Counts, CountsOn, to_come, lines_taken, bytes_taken, line_number};
+ghost use Rattle.pb_lines.specs.Reader.{IsFresh, HoldsLine, ReadsItem, ReadsLine, Fetches, EndsStream, TakesLine, IsLineOf, Counts, CountsOn, to_come, lines_taken, bytes_taken, line_number, Passes};
+ghost use Rattle.pb_lines.specs.Stream.{sample};
+ghost use Rattle.pb_lines.specs.Run.{HoldsRun, TakesRun, samples_of};
 
 use crate::fault::{ChunkFault, LineErr};
 use crate::header::{HeadErr, header_of_line};
+use crate::run::{Run, run_of};
 use crate::sample::moment_of_line;
 use arch_time::YearStart;
 use edge_io::{LineRead, Lines, Source};
@@ -161,6 +164,54 @@ impl ChunkReader {
             return Some(item);
         }
         self.take_line()
+    }
+
+    /// Looks for samples of the chunk whose lines are held one behind another, as far as each is later than
+    /// the one before it, the first later than `after`, and none later than `to`. They aren't read by it.
+    ///
+    /// `None` says nothing of what follows, which `read_line` reads.
+    pub fn find_run(&mut self, after: u64, to: u64) -> Option<Run>
+        requires { after ≤ to }
+        ensures run { IfSome result (HoldsRun self.old after to) }
+        ensures same { self.new ≡ self.old }
+    {
+        if self.pending {
+            return None;
+        }
+        if self.refused.is_some() {
+            return None;
+        }
+        let Some(chunk) = &self.chunk else {
+            return None;
+        };
+        run_of(
+            chunk.info.ty,
+            &chunk.year,
+            self.lines.held(),
+            after,
+            to,
+            &mut self.work,
+        )
+    }
+
+    /// The lines of a run that is held, each with its newline.
+    pub fn run_text(&self, run: &Run) -> &[u8]
+        requires { run.now.len ≤ length self.now.lines.held }
+        ensures { result.now ≡ take run.now.len self.now.lines.held }
+    {
+        let (text, _) = self.lines.held().split_at(run.len);
+        text
+    }
+
+    /// Reads a run that is held. `line` is its last line then.
+    pub fn take_run(&mut self, run: Run)
+        requires { (after to : ℕ) × HoldsRun self.old after to run }
+        ensures takes { TakesRun self.old self.new run }
+        ensures passes { (after to : ℕ) (h : HoldsRun self.old after to run) (left : Option (List ℕ))
+            → Passes self.old self.new (to_come self.old left) (to_come self.new left) (map sample (samples_of h.is)) }
+        ensures line { (after to : ℕ) (h : HoldsRun self.old after to run) → self.new.lines.line ≡ h.is.last.line }
+    {
+        self.lines.pass_lines(run.len, run.count, run.last);
     }
 
     // Reads a line that is to be taken, unless there is one.

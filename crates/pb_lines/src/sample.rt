@@ -1,5 +1,5 @@
 // The moment of a sample's escaped line.
-ghost use Rattle.std.specs.Prelude.{◌≡◌, IfOk, IfErr};
+ghost use Rattle.std.specs.Prelude.{◌≡◌, ◌≢◌, All, IfSome, IfOk, IfErr};
 ghost use Rattle.line_escape.specs.Unescaping.{HasNoNewline};
 ghost use Rattle.pb_lines.specs.Sample.{IsSampleLine, IsStamp, IsLineErr, IsStampErr};
 
@@ -52,6 +52,33 @@ pub fn moment_of_line(
     match year.at(secs, nano) {
         Ok(t) => Ok(t),
         Err(BadTime) => Err(LineErr::Fault(LineFault::Time)),
+    }
+}
+
+// The same, of a line in which no 1B stands. `None` where it is no sample's.
+#[inline(always)]
+pub(crate) fn moment_of_plain_line(ty: PayloadType, year: &YearStart, line: &[u8]) -> Option<u64>
+    requires whole { HasNoNewline line.now }
+    requires plain { All (λ x. x ≢ 27) line.now }
+    ensures { IfSome result (IsSampleLine ty year.now.year line.now) }
+{
+    let (secs, nano) = stamp_of_plain_line(ty, line)?;
+    match year.at(secs, nano) {
+        Ok(t) => Some(t),
+        Err(BadTime) => None,
+    }
+}
+
+// The second and nanosecond of the event that a line without 1B means, which is its own bytes.
+#[inline(always)]
+fn stamp_of_plain_line(ty: PayloadType, line: &[u8]) -> Option<(u32, u32)>
+    requires whole { HasNoNewline line.now }
+    requires plain { All (λ x. x ≢ 27) line.now }
+    ensures { IfSome result (λ at. IsStamp ty line.now at.0 at.1) }
+{
+    match stamp(ty, line) {
+        Ok(at) => Some(at),
+        Err(_) => None,
     }
 }
 

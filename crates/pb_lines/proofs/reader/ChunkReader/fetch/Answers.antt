@@ -1,10 +1,9 @@
-use Rattle.std.proofs.Common.{◌≡◌, subst, refl, sym, ap, ◌∙◌, Some, false}
-use Rattle.edge_io.specs.Lines.{Reader, Reads, Stays, ahead}
+use Rattle.std.proofs.Common.{subst, refl, sym, ap, ◌∙◌, Some}
+use Rattle.edge_io.specs.Lines.{Reader, Reads, ahead}
 use Rattle.edge_io.specs.declared.lines.LineRead.{LineRead}
 use Rattle.edge_io.specs.declared.lines.LineRead.TheVariants as read
 use Rattle.pb_lines.specs.declared.fault.ChunkFault.TheVariants.{Torn, LineTooLong, InputTooLong}
-use Rattle.pb_lines.specs.declared.reader.ChunkItem.TheVariants as it
-use Rattle.pb_lines.specs.Reader.{Chunks, EndsStream, ReadsItem, Counts, to_come, lines_taken, bytes_taken}
+use Rattle.pb_lines.specs.Reader.{Chunks, EndsStream}
 use Rattle.pb_lines.proofs.Reading.{IsStop, ends_reads, stop_reads, stop_counts, end_counts, none_taken, when_none}
 use Rattle.pb_lines.proofs.reader.ChunkReader.fetch.Goals.{in-Torn, in-TooLong, in-InputTooLong}
 use Rattle.pb_lines.proofs.reader.ChunkReader.fetch.Goals as goal
