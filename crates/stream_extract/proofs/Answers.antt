@@ -1,7 +1,7 @@
 -- What is known of an answer by one more sample.
-use Rattle.std.proofs.Common.{◌≡◌, ℕ, zero, suc, ◌+◌, ◌<◌, ◌≤◌, inl, inr, List, [], ◌∷◌, ◌++◌, Bool, true, false, ◌||◌, Option, Some, None, arith, refl, sym, ap, ◌∙◌, subst, append_assoc}
+use Rattle.std.proofs.Common.{◌≡◌, ℕ, zero, suc, ◌+◌, ◌<◌, ◌≤◌, inl, inr, ◌-◌, List, [], ◌∷◌, ◌++◌, Bool, true, false, ◌||◌, Option, Some, None, length, take, drop, arith, refl, sym, ap, ◌∙◌, subst, append_assoc}
 use Rattle.std.specs.Prelude.{nat_le, if◌then◌else◌}
-use Rattle.std.proofs.lemmas.List.{append-nil}
+use Rattle.std.proofs.lemmas.List.{append-nil, length-append, take_at, drop_at}
 use Rattle.std.proofs.lemmas.List.Folds.{list_any-append}
 use Rattle.std.proofs.lemmas.Grind.{flat_map-append}
 use Rattle.std.proofs.lemmas.Bool.{cases_lt, cases_Bool, lt-ltb, le-ltb, le-leb, lt-leb}
@@ -12,7 +12,7 @@ use Rattle.series_model.specs.Retrieval.{answer, within, last_of}
 use Rattle.series_model.proofs.RisingLists.{taken_more, end_from-append, end_from-ge, RisesFrom-taken_from}
 use Rattle.series_model.proofs.AnswerLemmas.{before-append, within-append, last_of-append}
 use Rattle.stream_extract.specs.Extract.{line_text, lines_text, is_reached, known}
-use Rattle.stream_extract.specs.Answer.{Answering, Covers, Takes, next_of}
+use Rattle.stream_extract.specs.Answer.{Answering, Covers, Takes, TakesAll, IsFollowed, next_of}
 
 -- NOT REACHED
 
@@ -200,3 +200,103 @@ held_more q xs =
     let c = covering q xs (end_of (taken xs)) refl in
     let P : Query → Type 0 = λ q. (more : List ℕ) × (lines_text (answer (taken xs) q) ≡ lines_text (known q xs) ++ more) in
     subst P c.1 (if c.0.reached then [] else c.0.earlier, held_back c.0 xs c.2)
+
+-- A RUN
+
+rises_to : (n : ℕ) (ys : List Sample) (z : Sample) → RisesFrom n (ys ++ z ∷ []) → n ≤ z.t
+rises_to n [] z h = h.0
+rises_to n (y ∷ ys) z h = omega (arith, h.0, rises_to (y.t + 1) ys z h.1)
+
+-- all of them stand before the interval
+earlier_run : (a : Answering) (xs ys : List Sample) (z : Sample) → RisesFrom (next_of a.last) (ys ++ z ∷ []) → z.t < a.query.from → Covers a xs → Covers (record a { last = Some z.t; earlier = line_text z }) (xs ++ (ys ++ z ∷ [])) × (known a.query (xs ++ (ys ++ z ∷ [])) ≡ known a.query xs)
+earlier_run a xs [] z rises early h = covers_earlier a xs z rises.0 early h
+earlier_run a xs (y ∷ ys) z rises early h =
+    let k = covers_earlier a xs y rises.0 (omega (arith, rises_to (y.t + 1) ys z rises.1, early)) h in
+    let r = earlier_run (record a { last = Some y.t; earlier = line_text y }) (xs ++ y ∷ []) ys z rises.1 early k.0 in
+    let same : (xs ++ y ∷ []) ++ (ys ++ z ∷ []) ≡ xs ++ (y ∷ (ys ++ z ∷ [])) = append_assoc xs (y ∷ []) (ys ++ z ∷ []) in
+    let P : List Sample → Type 0 = λ l. Covers (record a { last = Some z.t; earlier = line_text z }) l in
+    (subst P same r.0, ap (λ (l : List Sample). known a.query l) (sym same) ∙ r.1 ∙ k.1)
+
+-- all of them stand in it
+within_run : (a : Answering) (xs ys : List Sample) (z : Sample) → RisesFrom (next_of a.last) (ys ++ z ∷ []) → a.query.from ≤ next_of a.last → z.t ≤ a.query.to → Covers a xs → Covers (record a { last = Some z.t; reached = true }) (xs ++ (ys ++ z ∷ [])) × (lines_text (known a.query (xs ++ (ys ++ z ∷ []))) ≡ lines_text (known a.query xs) ++ ((if a.reached then [] else a.earlier) ++ lines_text (ys ++ z ∷ [])))
+within_run a xs [] z rises from to h =
+    let k = covers_within a xs z rises.0 (omega (arith, rises.0, from)) to h in
+    let held : List ℕ = if a.reached then [] else a.earlier in
+    (k.0, k.1 ∙ ap (λ (u : List ℕ). lines_text (known a.query xs) ++ (held ++ u)) (sym (append-nil (line_text z))))
+within_run a xs (y ∷ ys) z rises from to h =
+    let low = rises_to (y.t + 1) ys z rises.1 in
+    let k = covers_within a xs y rises.0 (omega (arith, rises.0, from)) (omega (arith, low, to)) h in
+    let r = within_run (record a { last = Some y.t; reached = true }) (xs ++ y ∷ []) ys z rises.1 (omega (arith, rises.0, from)) to k.0 in
+    let same : (xs ++ y ∷ []) ++ (ys ++ z ∷ []) ≡ xs ++ (y ∷ (ys ++ z ∷ [])) = append_assoc xs (y ∷ []) (ys ++ z ∷ []) in
+    let P : List Sample → Type 0 = λ l. Covers (record a { last = Some z.t; reached = true }) l in
+    let held : List ℕ = if a.reached then [] else a.earlier in
+    let before = lines_text (known a.query xs) in
+    let more = lines_text (ys ++ z ∷ []) in (
+      subst P same r.0,
+      ap (λ (l : List Sample). lines_text (known a.query l)) (sym same)
+          ∙ r.1
+          ∙ ap (λ (u : List ℕ). u ++ more) k.1
+          ∙ append_assoc before (held ++ line_text y) more
+          ∙ ap (λ (u : List ℕ). before ++ u) (append_assoc held (line_text y) more),
+    )
+
+-- all of them stand behind it
+later_run : (a : Answering) (xs ys : List Sample) (z : Sample) → RisesFrom (next_of a.last) (ys ++ z ∷ []) → a.query.from ≤ next_of a.last → a.query.to < next_of a.last → Covers a xs → Covers (record a { last = Some z.t; reached = true }) (xs ++ (ys ++ z ∷ [])) × (lines_text (known a.query (xs ++ (ys ++ z ∷ []))) ≡ lines_text (known a.query xs) ++ (if a.reached then [] else a.earlier))
+later_run a xs [] z rises from to h = covers_later a xs z rises.0 (omega (arith, rises.0, from)) (omega (arith, rises.0, to)) h
+later_run a xs (y ∷ ys) z rises from to h =
+    let k = covers_later a xs y rises.0 (omega (arith, rises.0, from)) (omega (arith, rises.0, to)) h in
+    let r = later_run (record a { last = Some y.t; reached = true }) (xs ++ y ∷ []) ys z rises.1 (omega (arith, rises.0, from)) (omega (arith, rises.0, to)) k.0 in
+    let same : (xs ++ y ∷ []) ++ (ys ++ z ∷ []) ≡ xs ++ (y ∷ (ys ++ z ∷ [])) = append_assoc xs (y ∷ []) (ys ++ z ∷ []) in
+    let P : List Sample → Type 0 = λ l. Covers (record a { last = Some z.t; reached = true }) l in
+    (subst P same r.0, ap (λ (l : List Sample). lines_text (known a.query l)) (sym same) ∙ r.1 ∙ append-nil (lines_text (known a.query (xs ++ y ∷ []))) ∙ k.1)
+
+-- the last line of the text
+ending_line : (front : List Sample) (z : Sample) (text : List ℕ) (last : ℕ) → text ≡ lines_text (front ++ z ∷ []) → last ≡ length z.line → take last (drop (length text - 1 - last) text) ≡ z.line
+ending_line front z text last is long =
+    let fore = lines_text front in
+    let all : text ≡ fore ++ (z.line ++ 10 ∷ []) = is ∙ flat_map-append line_text front (z ∷ []) ∙ ap (λ (u : List ℕ). fore ++ u) (append-nil (line_text z)) in
+    let size : length text ≡ length fore + (length z.line + 1) = omega (arith, ap length all, length-append fore (z.line ++ 10 ∷ []), length-append z.line (10 ∷ [])) in
+    ap (λ (l : List ℕ). take last (drop (length text - 1 - last) l)) all
+    ∙ ap (λ (l : List ℕ). take last l) (drop_at fore (z.line ++ 10 ∷ []) (length text - 1 - last) (omega (arith, size, long)))
+    ∙ take_at z.line (10 ∷ []) last (sym long)
+
+pub follows_earlier : (a b : Answering) (ys : List Sample) (t last : ℕ) (text line out new given : List ℕ) → IsFollowed a ys t last text → t < a.query.from → line ≡ take last (drop (length text - 1 - last) text) → b ≡ record a { last = Some t; earlier = line ++ 10 ∷ [] } → new ≡ out → given ≡ [] → TakesAll a b ys out (new ++ given)
+follows_earlier a b ys t last text line out new given f early line_is is same none =
+    let z = f.final in
+    let zs = f.front ++ z ∷ [] in
+    let here : line ≡ z.line = line_is ∙ ending_line f.front z text last (f.text ∙ ap lines_text f.split) f.ending in
+    let b_is : b ≡ record a { last = Some z.t; earlier = line_text z } = is ∙ ap (λ (n : ℕ). record a { last = Some n; earlier = line ++ 10 ∷ [] }) f.t ∙ ap (λ (u : List ℕ). record a { last = Some z.t; earlier = u ++ 10 ∷ [] }) here in
+    let R : List Sample → Type 0 = λ l. RisesFrom (next_of a.last) l in
+    let T : List Sample → Type 0 = λ l. TakesAll a b l out (new ++ given) in
+    subst T (sym f.split) (λ xs h.
+    let k = earlier_run a xs f.front z (subst R f.split f.rising) (omega (arith, f.t, early)) h in
+    let P : Answering → Type 0 = λ b. Covers b (xs ++ zs) in
+    (subst P (sym b_is) k.0, ([], ap lines_text k.1 ∙ sym (append-nil (lines_text (known a.query xs))), ap (λ (u : List ℕ). new ++ u) none ∙ ap (λ (u : List ℕ). u ++ []) same)))
+
+pub follows_within : (a b : Answering) (ys : List Sample) (t last : ℕ) (text out new given : List ℕ) → IsFollowed a ys t last text → a.query.from ≤ t → t ≤ a.query.to → b ≡ record a { last = Some t; reached = true } → new ≡ out ++ (if a.reached then [] else a.earlier) → given ≡ text → TakesAll a b ys out (new ++ given)
+follows_within a b ys t last text out new given f from to is held lines =
+    let z = f.final in
+    let zs = f.front ++ z ∷ [] in
+    let b_is : b ≡ record a { last = Some z.t; reached = true } = is ∙ ap (λ (n : ℕ). record a { last = Some n; reached = true }) f.t in
+    let earlier : List ℕ = if a.reached then [] else a.earlier in
+    let R : List Sample → Type 0 = λ l. RisesFrom (next_of a.last) l in
+    let T : List Sample → Type 0 = λ l. TakesAll a b l out (new ++ given) in
+    let grown : new ++ given ≡ out ++ (earlier ++ lines_text zs) = ap (λ (u : List ℕ). u ++ given) held ∙ append_assoc out earlier given ∙ ap (λ (u : List ℕ). out ++ (earlier ++ u)) (lines ∙ f.text ∙ ap lines_text f.split) in
+    subst T (sym f.split) (λ xs h.
+    let k = within_run a xs f.front z (subst R f.split f.rising) (f.side.0 (omega (arith, f.t, from))) (omega (arith, f.t, to)) h in
+    let P : Answering → Type 0 = λ b. Covers b (xs ++ zs) in
+    (subst P (sym b_is) k.0, (earlier ++ lines_text zs, k.1, grown)))
+
+pub follows_later : (a b : Answering) (ys : List Sample) (t last : ℕ) (text out new given : List ℕ) → IsFollowed a ys t last text → a.query.from ≤ t → a.query.to < t → b ≡ record a { last = Some t; reached = true } → new ≡ out ++ (if a.reached then [] else a.earlier) → given ≡ [] → TakesAll a b ys out (new ++ given)
+follows_later a b ys t last text out new given f from to is held none =
+    let z = f.final in
+    let zs = f.front ++ z ∷ [] in
+    let b_is : b ≡ record a { last = Some z.t; reached = true } = is ∙ ap (λ (n : ℕ). record a { last = Some n; reached = true }) f.t in
+    let earlier : List ℕ = if a.reached then [] else a.earlier in
+    let R : List Sample → Type 0 = λ l. RisesFrom (next_of a.last) l in
+    let T : List Sample → Type 0 = λ l. TakesAll a b l out (new ++ given) in
+    let late : a.query.from ≤ z.t = omega (arith, f.t, from) in
+    subst T (sym f.split) (λ xs h.
+    let k = later_run a xs f.front z (subst R f.split f.rising) (f.side.0 late) (f.side.1 late (omega (arith, f.t, to))) h in
+    let P : Answering → Type 0 = λ b. Covers b (xs ++ zs) in
+    (subst P (sym b_is) k.0, (earlier, k.1, ap (λ (u : List ℕ). new ++ u) none ∙ append-nil new ∙ held)))

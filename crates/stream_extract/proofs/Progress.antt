@@ -169,7 +169,7 @@ headed q a b old mid new before middle after gathered more later answering begun
     }
 
 -- within a chunk there are its samples so far
-inside_mode : (mode : Before) (s : Section) (answering : Answering) → Stands mode s answering → IsSome s.chunk → (xs : List Sample) × (mode ≡ samples xs)
+pub inside_mode : (mode : Before) (s : Section) (answering : Answering) → Stands mode s answering → IsSome s.chunk → (xs : List Sample) × (mode ≡ samples xs)
 inside_mode nothing s answering stands inside = absurd (none_inside s.chunk (ap (λ (s : Section). s.chunk) stands) inside)
 inside_mode chunks s answering stands inside = absurd (none_inside s.chunk (ap (λ (s : Section). s.chunk) stands) inside)
 inside_mode (samples xs) s answering stands inside = (xs, refl)

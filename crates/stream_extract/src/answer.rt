@@ -1,13 +1,14 @@
 // The answer over the samples of a chunk, as they come.
-ghost use Rattle.std.specs.Prelude.{◌≡◌, ◌++◌, ◌∷◌, [], List, OnOk, OnErr, Some, true, if◌then◌else◌};
+ghost use Rattle.std.specs.Prelude.{◌≡◌, ◌↔◌, ◌+◌, ◌-◌, ◌<◌, ◌≤◌, ◌++◌, ◌∷◌, [], List, OnOk, OnErr, IfOk, IfSome, IfNone, IsTrue, Some, None, true, length, take, drop, if◌then◌else◌};
 ghost use Rattle.std.specs.Io.{StartsWith};
 ghost use Rattle.series_model.specs.declared.sample.Sample.{Sample};
 ghost use Rattle.series_model.specs.declared.sample.Query.{Query};
 ghost use Rattle.series_model.specs.Series.{taken};
 ghost use Rattle.series_model.specs.Retrieval.{answer};
 ghost use Rattle.stream_extract.specs.Extract.{lines_text, known};
-ghost use Rattle.stream_extract.specs.Answer.{Covers, Adds, Takes, IsPlace};
+ghost use Rattle.stream_extract.specs.Answer.{Covers, Adds, Takes, TakesAll, IsBound, IsFollowed, IsPlace, next_of};
 
+use pb_lines::Run;
 use series_model::Query;
 use std::alloc::{AllocError, Global};
 use std::marker::Model;
@@ -102,6 +103,59 @@ impl Answer {
         Ok(())
     }
 
+    /// Whether a sample at this moment isn't later than the last one that was taken, so that it counts for nothing.
+    pub fn is_past(&self, t: u64) -> bool
+        ensures { IsTrue result ↔ (t < next_of self.now.last) }
+    {
+        match self.last {
+            Some(last) => t <= last,
+            None => false,
+        }
+    }
+
+    /// The moment of the last sample that was taken, and the latest one up to which all that are later than
+    /// it stand on its side of the interval: before it, in it, or behind it. `None` before a chunk's first.
+    pub fn run_bounds(&self) -> Option<(u64, u64)>
+        ensures some { IfSome result (λ b. IsBound self.now b.0 b.1) }
+        ensures none { IfNone result (self.now.last ≡ None) }
+    {
+        let last = self.last?;
+        if last < self.query.from {
+            return Some((last, self.query.from - 1));
+        }
+        if last <= self.query.to {
+            return Some((last, self.query.to));
+        }
+        Some((last, u64::MAX))
+    }
+
+    /// Takes the samples of a run within `run_bounds`, whose lines are `text`. Answers the lines that are in
+    /// the answer, which are all or none, and adds to `out` what stands before them. Where memory runs
+    /// out, `out` stays.
+    pub fn take_samples<'a>(
+        &mut self,
+        run: &Run,
+        text: &'a [u8],
+        out: &mut Vec<u8>,
+    ) -> Result<&'a [u8], AllocError>
+        requires { run.now.last < length text.now }
+        ensures ok { IfOk result (λ lines. (ys : List Sample) → IsFollowed self.old ys run.now.t run.now.last text.now → TakesAll self.old self.new ys out.old.items (out.new.items ++ lines.now)) }
+        ensures err { OnErr result (out.new.items ≡ out.old.items) }
+        ensures query { self.new.query ≡ self.old.query }
+    {
+        let (none, _) = text.split_at(0);
+        let query = self.query;
+        if run.t < query.from {
+            self.hold(run.t, last_line(text, run.last))?;
+            return Ok(none);
+        }
+        self.reach(run.t, out)?;
+        if run.t <= query.to {
+            return Ok(text);
+        }
+        Ok(none)
+    }
+
     // Where a sample at this moment stands.
     fn place(&self, t: u64) -> Place
         ensures { IsPlace self.now t result }
@@ -166,6 +220,16 @@ impl Answer {
         self.give_held(out)?;
         Ok(())
     }
+}
+
+// The last of some lines, each with its newline, which has so many bytes before that.
+fn last_line(text: &[u8], len: usize) -> &[u8]
+    requires { len < length text.now }
+    ensures { result.now ≡ take len (drop (length text.now - 1 - len) text.now) }
+{
+    let (_, last) = text.split_at(text.len() - 1 - len);
+    let (line, _) = last.split_at(len);
+    line
 }
 
 /// Adds the line with its newline. Where memory runs out, a part may stand behind the old bytes.

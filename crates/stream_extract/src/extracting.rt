@@ -8,6 +8,7 @@ ghost use Rattle.pb_lines.specs.Reader.{HoldsLine};
 ghost use Rattle.stream_extract.specs.Text.{Extracts, IsFlushed};
 
 use crate::answer::{Answer, add_line};
+use crate::running::{RunErr, run_on};
 use command_words::Status;
 use edge_io::{Failed, Sink, Source, write_whole};
 use pb_lines::{ChunkItem, ChunkReader};
@@ -17,8 +18,8 @@ use std::alloc::{AllocError, Global};
 /// Writes, of each chunk of the source, its header, the last sample before the interval and the
 /// interval's samples, each line as it stands, and an empty line between two chunks.
 ///
-/// What is to be written is gathered, and goes out in one write before each read, at the end, and
-/// before a refusal.
+/// What is to be written is gathered, and goes out before each read, at the end, and before a refusal.
+/// Many lines of samples that follow one another are written from where they were read.
 pub fn extract<S: Source, K: Sink>(
     alloc: Global,
     query: Query,
@@ -37,6 +38,8 @@ pub fn extract<S: Source, K: Sink>(
     let mut answer = Answer::new(alloc, query);
     let mut out = Vec::new(alloc);
     let mut later = false;
+    // Whether the last sample was later than those before it, as its followers may be.
+    let mut rises = false;
     'lines: loop {
         if before_read(&reader, &mut out, sink).is_err() {
             return Status::SinkFault;
@@ -49,7 +52,10 @@ pub fn extract<S: Source, K: Sink>(
                 later = true;
                 done
             }
-            Some(ChunkItem::Sample { t }) => answer.take(t, reader.line(), &mut out),
+            Some(ChunkItem::Sample { t }) => {
+                rises = !answer.is_past(t);
+                answer.take(t, reader.line(), &mut out)
+            }
             Some(ChunkItem::ChunkEnd) => answer.finish(&mut out),
             Some(ChunkItem::End) => return ended(Status::Done, &out, sink),
             Some(ChunkItem::Refused(fault)) => {
@@ -61,6 +67,11 @@ pub fn extract<S: Source, K: Sink>(
         };
         if done.is_err() {
             return ended(Status::OutOfMemory, &out, sink);
+        }
+        match run_on(rises, &mut reader, &mut answer, &mut out, sink) {
+            Ok(()) => {}
+            Err(RunErr::SinkFault) => return Status::SinkFault,
+            Err(RunErr::Memory) => return ended(Status::OutOfMemory, &out, sink),
         }
     }
 }

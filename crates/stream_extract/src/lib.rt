@@ -7,6 +7,7 @@
 
 mod answer;
 mod extracting;
+mod running;
 
 pub use answer::Answer;
 pub use extracting::extract;
