@@ -34,9 +34,8 @@ use Rattle.tier_store.specs.Copied.{end_after}
 use Rattle.tier_store.specs.Limbo.{LimboStands}
 use Rattle.tier_store.specs.Revival.{AreWhole}
 use Rattle.tier_store.proofs.CopyFiles.{IsOfRowIn, first_files, later_all, later_left, rise_rest, rise_row, since_earlier, splits_here, weaker}
-use Rattle.tier_store.proofs.CopyNext.{B}
+use Rattle.tier_store.proofs.CopyTurn.{B, Turn, turn}
 use Rattle.tier_store.proofs.CopyParts.{enough, entry_here, filed_here, further, in_list, next_file, next_found, next_part, q_filed, q_series, runs_by, some_at, source}
-use Rattle.tier_store.proofs.CopyTurn.{Turn, turn}
 use Rattle.tier_store.proofs.Dropped.{from_filter}
 use Rattle.tier_store.specs.Finding.{BeginsAt}
 use Rattle.durable_write.proofs.Ending.{filter-map}

@@ -33,16 +33,16 @@ use Rattle.tier_store.specs.Limbo.{IsOfPlace, LimboStands}
 use Rattle.tier_store.specs.Moving.{MayBeListed, RunsBeside, of_files}
 use Rattle.tier_store.specs.Pinned.{SeenAll}
 use Rattle.tier_store.specs.Revival.{AreWhole, IsAmong, IsOfLimbo, store_with, samples_at}
-use Rattle.tier_store.specs.Reviving.{AreBack, IsBehind, free_of, is_free, reviving, IsCovered, IsUncovered, SaysBehind, past}
+use Rattle.tier_store.specs.Reviving.{AreBack, IsBehind, IsCovered, IsUncovered, SaysBehind, free_of, is_free, is_nothing, past, reviving}
 use Rattle.tier_store.specs.Seen.{granularities}
 use Rattle.tier_store.specs.declared.limbo.Retired.{Retired}
 use Rattle.tier_store.proofs.CopyFiles.{SetsFile, before_push, earlier_start, last_file, last_in, last_then, none_of_row, put_all_in, stands_behind, apart_parts, end_is, inside_until, since_earlier, weaker, within_row}
 use Rattle.tier_store.proofs.CopyWrites.{last_pushed, begins_within}
-use Rattle.tier_store.proofs.CopyRevived.{last_in_pending}
+use Rattle.tier_store.proofs.CopyGoes.{last_in_pending}
 use Rattle.tier_store.proofs.Dropped.{contains_filter, entry_in, from_filter, none_at, one_file}
 use Rattle.tier_store.proofs.MovedFiles.{valid_with}
 use Rattle.tier_store.proofs.Places.{granularity_at, manifest_of, one_manifest}
-use Rattle.tier_store.proofs.RevivalCall.{listed_by}
+use Rattle.tier_store.proofs.Revival.{listed_by, none_is}
 use Rattle.tier_store.proofs.Staying.{as_filed, listed_place}
 use Rattle.std.specs.List.{AllByRecursion}
 use Rattle.pb_lines.proofs.FileLines.{all_rest}
@@ -56,13 +56,6 @@ use Rattle.tier_store.proofs.Revived.{found_at}
 use Rattle.partition_names.proofs.PartLemmas as parts
 use Rattle.tier_store.proofs.Revived as revived_files
 use Rattle.tier_store.proofs.CopyParts.{runs_by}
-
-free_none : (o : Option Filed) (ahead : List Filed) (f : Filed) → file_at (filed_at f) ahead ≡ o → is_free ahead f ≡ true → o ≡ None
-free_none None ahead f is free = refl
-free_none (Some x) ahead f is free = absurd (let no : is_free ahead f ≡ false = rw is refl in cc (free, no))
-
-none_free : (ahead : List Filed) (f : Filed) → file_at (filed_at f) ahead ≡ None → is_free ahead f ≡ true
-none_free ahead f is = rw is refl
 
 -- LISTS
 
@@ -175,12 +168,12 @@ module _ (tells : Bool) (all : SeenAll) (from : ℕ) (move : MoveState) (files :
   pub are_back : AreBack (from + 1) all.limbo retired ahead back_of
   are_back = record {
     known = λ k d lt. from_filter (is_free ahead) retired (get_or back_of k d) (Contains-get_or back_of k d lt);
-    unlisted = λ k d lt. free_none (file_at (filed_at (get_or back_of k d)) ahead) ahead (get_or back_of k d) refl (filter_passes (is_free ahead) retired k d lt);
+    unlisted = λ k d lt. none_is (file_at (filed_at (get_or back_of k d)) ahead) (filter_passes (is_free ahead) retired k d lt);
     from = λ k d lt. All-contains (λ (f : Filed). IsOfLimbo (from + 1) all.limbo f.entry) retired (get_or back_of k d) whole.from (from_filter (is_free ahead) retired (get_or back_of k d) (Contains-get_or back_of k d lt));
     every = λ r within number none.
         let u = among r within number none in
         let free : file_at (filed_at u.0) ahead ≡ None = ap (λ (e : Entry). file_at (place e) ahead) u.2 ∙ none in
-        subst (Contains (map entry_of back_of)) u.2 (entry_in back_of u.0 (contains_filter (is_free ahead) retired u.0 u.1 (none_free ahead u.0 free)));
+        subst (Contains (map entry_of back_of)) u.2 (entry_in back_of u.0 (contains_filter (is_free ahead) retired u.0 u.1 (ap is_nothing free)));
   }
 
   -- ONE THAT LIES BEHIND ALL THAT IS AHEAD
@@ -235,7 +228,7 @@ module _ (tells : Bool) (all : SeenAll) (from : ℕ) (move : MoveState) (files :
     free = ap (λ (e : Entry). file_at (place e) ahead) file_is.2 ∙ free_behind r.entry behind.own behind.behind
 
     pub f_back : Contains back_of f
-    f_back = contains_filter (is_free ahead) retired f file_is.1 (none_free ahead f free)
+    f_back = contains_filter (is_free ahead) retired f file_is.1 (ap is_nothing free)
 
     -- it is of a row and of a partition
     filed : AreFiled g (store_with (from + 1) all.stores held.stands retired)

@@ -32,7 +32,7 @@ use Rattle.tier_store.specs.Change.{Has}
 use Rattle.tier_store.specs.Copied.{end_after}
 use Rattle.tier_store.specs.Copying.{CopiesBeside, CopiesFurther, CopiesOrHas, FindsLine, FindsPart, HasLater, IsDamaged, SaysLine, line_of, of_line, with_heads, HasPassedAll, IsAllLater, IsNextPart, KnowsCopied, KnowsHeads, KnowsLengths, PassesParts, PassesRest, left_of, samples_ahead}
 use Rattle.tier_store.specs.Counting.{IsSampleStart}
-use Rattle.tier_store.specs.Finding.{IsBadPart, IsFrom, IsNext, IsUpTo, SaysFile, SplitsAt, no_line}
+use Rattle.tier_store.specs.Finding.{IsBadPart, IsFrom, IsNext, IsUpTo, SaysFile, SplitsAt, no_line, unread}
 use Rattle.tier_store.specs.declared.copying.NextLine.{NextLine}
 use Rattle.tier_store.specs.declared.copying.NextLine.TheVariants as next
 use Rattle.tier_store.specs.declared.copying.PartLines.{PartLines}
@@ -184,7 +184,9 @@ damaged_part from tells now move held lines at few is finds = record {
   named = finds.named;
   within = subst (IsUpTo finds.file.entry.len) is finds.within;
   never = λ stands. subst (IsNext finds.file.samples (end_after (last_of move.pending move.listed)) finds.file.entry.head_len) is (finds.splits stands);
-  bad = λ told. subst (λ (l : LaterLines). HasFile now lines.name (λ b. SaysFile finds.file.entry.head_len (take finds.file.entry.len b) l)) is (finds.told told);
+  bad = λ told.
+      let read = subst (λ (l : LaterLines). HasFile now lines.name (λ b. SaysFile finds.file.entry.head_len (take finds.file.entry.len b) l)) is (finds.told told) in
+      record { bytes = read.bytes; file = read.file; holds = unread read.holds };
 }
 
 -- a line is left at a place that isn't the end
@@ -230,7 +232,7 @@ line_says from tells now move held lines (At at) is few some g filed finds line 
           record {
             bytes = good.bytes;
             file = good.file;
-            holds = subst (λ (k : ℕ). IsBadPart finds.file.entry.head_len (take finds.file.entry.len good.bytes) k) end (no_line good.holds (λ start. none_behind at (take finds.file.entry.len good.bytes) (omega (arith, end, long, length-take finds.file.entry.len good.bytes)) _ _ start));
+            holds = subst (λ (k : ℕ). IsBadPart finds.file.entry.head_len (take finds.file.entry.len good.bytes) k) end (unread (no_line good.holds (λ start. none_behind at (take finds.file.entry.len good.bytes) (omega (arith, end, long, length-take finds.file.entry.len good.bytes)) _ _ start)));
           };
     }
 

@@ -25,7 +25,7 @@ use Rattle.tier_store.specs.declared.limbo.Retired.{Retired}
 use Rattle.tier_store.proofs.Acting.{nothing_read}
 use Rattle.tier_store.proofs.BesideMoves.{beside_itself, runs_still}
 use Rattle.tier_store.proofs.LeavingNames.{later_names, leaves_then, nothing_leaves, names_then}
-use Rattle.tier_store.proofs.RevivalShown.{read_whole}
+use Rattle.tier_store.proofs.Revival.{read_whole}
 use Rattle.tier_store.proofs.Staying.{limbo_kept}
 use Rattle.disk_model.specs.Past.{Passes}
 use Rattle.disk_model.proofs.Passing.{passes_then, passes_weaker}
@@ -176,9 +176,6 @@ err_says {A} Q P r e is holds = subst (λ (x : Result A DiskErr). IfOk x Q × On
 
 pub looks_err : {A B : Type 0} (tells : Bool) (old new : SeenAll) (r : Result A DiskErr) (s : Result B DiskErr) (e : DiskErr) → r ≡ Err e → s ≡ Err e → OnlyLooks tells old new (end_of_disk r) → OnlyLooks tells old new (end_of_disk s)
 looks_err {A} {B} tells old new r s e is also looks = subst (λ (x : Result B DiskErr). OnlyLooks tells old new (end_of_disk x)) (sym also) (looks_fails tells old new e (subst (λ (x : Result A DiskErr). OnlyLooks tells old new (end_of_disk x)) is looks))
-
-pub says_err : {A : Type 0} (Q : A → Type 0) (r : Result A DiskErr) (e : DiskErr) → r ≡ Err e → IfOk r Q
-says_err {A} Q r e is = subst (λ (x : Result A DiskErr). IfOk x Q) (sym is) tt
 
 -- an error that is handed on was a fault where the answer is
 pub fault_was : {A B : Type 0} (r : Result A DiskErr) (s : Result B DiskErr) (e f : DiskErr) → r ≡ Err e → s ≡ Err f → f ≡ e → s ≡ Err Fault → r ≡ Err Fault

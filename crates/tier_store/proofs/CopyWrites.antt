@@ -50,8 +50,7 @@ use Rattle.tier_store.proofs.ReadsThen.{has_read}
 use Rattle.tier_store.proofs.Showing.{held_same, known_spares, name_listed, read_shown, shown, has_held}
 use Rattle.store_manifest.specs.Entries.{Place, place, put}
 use Rattle.durable_write.proofs.Stays.{all_keeps, safe_stays}
-use Rattle.tier_store.proofs.RevivalShown.{limbo_name, place_named}
-use Rattle.tier_store.proofs.RevivalWhole.{free_of, is_free, is_none, none_is}
+use Rattle.tier_store.proofs.Revival.{limbo_name, none_is, place_named}
 use Rattle.tier_store.proofs.WholeCalls.{filed_fewer, name_at, safe_fewer}
 use Rattle.std.specs.List.{AllByRecursion}
 use Rattle.std.proofs.lemmas.List.{length-append, length-set, length-take, take-append-drop, take-take}
@@ -75,6 +74,7 @@ use Rattle.tier_store.proofs.CopyParts.{enough, part_file_is, part_in, q_filed, 
 use Rattle.tier_store.proofs.CopyPass.{copied_whole, lengths_finished}
 use Rattle.std.proofs.lemmas.Bool.Decides.{nat_tests}
 use Rattle.tier_store.specs.declared.copying.CopyEnd.TheVariants as ends
+use Rattle.tier_store.specs.Reviving.{free_of, is_free, is_nothing}
 use Rattle.partition_names.proofs.PartLemmas as parts
 
 -- the stores with the list that a place has
@@ -501,7 +501,7 @@ module _ {S : Type 0} (files_of : S → Files) (opened_of : S → Name → ℕ) 
       among r r_in number there =
           let u = contains_map were r.entry there in
           elim (listed_at list (filed_at u.0)) [
-            | inl none ↦ inr (subst (Contains (map entry_of left_free)) u.2 (entry_in left_free u.0 (contains_filter (is_free list) were u.0 u.1 (ap is_none none))))
+            | inl none ↦ inr (subst (Contains (map entry_of left_free)) u.2 (entry_in left_free u.0 (contains_filter (is_free list) were u.0 u.1 (ap is_nothing none))))
             | inr (h, h_in, same, found) ↦
                 let named = place_named i tells old.stores limbo held m here stand has r r_in number h h_in (same ∙ ap place u.2) in
                 inl (held_same files_of opened_of past_of faults_of c ms d after r.name 0 (has_held tells old.stores held i r.name 0 has low (record { entry = h.entry; within = entry_in list h h_in; named = named; longer = omega arith })))

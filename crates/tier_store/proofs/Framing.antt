@@ -26,14 +26,12 @@ use Rattle.tier_store.specs.Revival.{AreUnlistedIn, AreWhole, KeepsWhole, flushi
 use Rattle.tier_store.specs.Seen.{granularities}
 use Rattle.tier_store.specs.Stores.{Stores, tier, with_rows}
 use Rattle.tier_store.specs.Strays.{LeavesTidy}
-use Rattle.tier_store.proofs.LeavingFronts.{commit_fronts, fronts_on, fronts_read, fronts_shown, nothing_fronts, over_fronts}
-use Rattle.tier_store.proofs.LeavingNames.{commit_leaves, commit_leaves_files, first_leaves, leaves_then, none_further, nothing_leaves, read_leaves}
-use Rattle.tier_store.proofs.RevivalCall.{ToRevive}
-use Rattle.tier_store.proofs.RevivalShown.{over_on}
-use Rattle.tier_store.proofs.RevivalWhole.{whole_left}
+use Rattle.tier_store.proofs.LeavingFronts.{commit_fronts, fronts_read, fronts_shown, nothing_fronts, over_fronts}
+use Rattle.tier_store.proofs.LeavingNames.{commit_leaves, commit_leaves_files, first_leaves, none_further, nothing_leaves, read_leaves}
+use Rattle.tier_store.proofs.Revival.{ToRevive, over_on, whole_left}
 use Rattle.tier_store.proofs.Showing.{GoesOn, Spares, ends_held, ends_spares, grown_spares, rows_keep, there_still}
 use Rattle.tier_store.proofs.Strays.{file_apart, fronts_strays, ok_always, ok_both, ok_settled}
-use Rattle.tier_store.proofs.WholeCalls.{call_whole, first_whole, same_whole, whole_then}
+use Rattle.tier_store.proofs.WholeCalls.{call_whole, first_whole, same_whole}
 
 -- what begins as it did is shown still
 pub framed : (tells : Bool) (old new : SeenAll) → LeavesFronts tells old new → LeavesLater tells old new → KeepsWhole tells old new → Frame tells old new
@@ -42,10 +40,6 @@ framed tells old new fronts leaves whole = record { shown = fronts_shown tells o
 -- nothing was done
 pub frame_same : (tells : Bool) (all : SeenAll) → Frame tells all all
 frame_same tells all = framed tells all all (nothing_fronts tells all) (nothing_leaves tells all) (λ i stands files low whole. (files, whole))
-
--- one call after another
-pub frame_then : (tells : Bool) (old mid new : SeenAll) → Frame tells old mid → Frame tells mid new → Frame tells old new
-frame_then tells old mid new first second = framed tells old new (fronts_on tells old mid new first.fronts second.fronts) (leaves_then tells old mid new first.leaves second.leaves) (whole_then tells old mid new first.whole second.whole)
 
 -- the disk was only read, and the memory is the same
 pub read_frame : (tells : Bool) (old new : SeenAll) → length old.stores.manifests ≡ 3 → new.stores.catalogue ≡ old.stores.catalogue → new.stores.manifests ≡ old.stores.manifests → new.limbo ≡ old.limbo → (IsTrue tells → new.stores.files ≡ old.stores.files)

@@ -28,7 +28,7 @@ use Rattle.tier_store.specs.Limbo.{LimboStands}
 use Rattle.tier_store.specs.Pinned.{SeenAll, beside, IsThereTo, KeepsShown, LeavesFronts}
 use Rattle.tier_store.specs.Revival.{AreInLimbo, flushing_over}
 use Rattle.tier_store.proofs.Places.{one_manifest}
-use Rattle.tier_store.proofs.RevivalShown.{IsHere, is_here, over_on, over_spares}
+use Rattle.tier_store.proofs.Revival.{IsHere, is_here, over_on, over_spares}
 use Rattle.tier_store.proofs.Showing.{ends_held, ends_spares, fronts_beside, known_spares, name_listed, not_own, numbered, settled_held, settled_spares, still_held, still_spares, there_still}
 use Rattle.tier_store.proofs.Sparing.{after_disk, same_memory}
 

@@ -9,11 +9,8 @@ pub mod CopyWrites
 pub mod CopyGoes
 pub mod CopyLimbo
 pub mod CopyFiles
-pub mod CopyNext
 pub mod CopyParts
 pub mod CopyPass
-pub mod CopyRevived
-pub mod CopyRoom
 pub mod CopySteps
 pub mod CopyTurn
 pub mod CountingLines
@@ -39,9 +36,7 @@ pub mod Places
 pub mod ReadsThen
 pub mod RelistCall
 pub mod Removals
-pub mod RevivalCall
-pub mod RevivalShown
-pub mod RevivalWhole
+pub mod Revival
 pub mod Revived
 pub mod Rising
 pub mod RowCalls

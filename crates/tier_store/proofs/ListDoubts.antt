@@ -3,7 +3,6 @@ use Rattle.std.proofs.Common.{◌≡◌, ◌⊎◌, inl, inr, true, false, Bool,
 use Rattle.std.specs.Prelude.{IsTrue, slice_get, slice_set}
 use Rattle.disk_model.specs.Files.{Name, Files}
 use Rattle.disk_model.specs.Past.{Past, MayLeave, Passes}
-use Rattle.gate_journal.specs.Journal.{JournalState}
 use Rattle.gate_journal.specs.Kept.{IsKept, IsUnsure, Says, SaysEither}
 use Rattle.pv_catalog.specs.Catalogue.{CatalogueState, catalogue_name}
 use Rattle.pv_catalog.specs.declared.row.Row.{Row}
@@ -14,11 +13,11 @@ use Rattle.store_manifest.specs.Manifest.{ManifestState, manifest_name}
 use Rattle.durable_write.specs.Held.{Held, entry_of}
 use Rattle.durable_write.specs.Stored.{AreSafe, CatalogueStored, TierStored, Holds, AreHeld, TierUnsure}
 use Rattle.durable_write.proofs.Quiet.{Quiet, Alone}
-use Rattle.durable_write.proofs.Reading.{Reads, reads_all, catalogue_read, tier_read, safe_read, unopened_same}
+use Rattle.durable_write.proofs.Reading.{Reads, reads_all, tier_read, unopened_same}
 use Rattle.durable_write.proofs.Three.{same_cases, set_long, get_set_same}
 use Rattle.tier_store.specs.Stores.{Stores, list_at, tier, with_list}
 use Rattle.tier_store.specs.Seen.{Seen, seen_on, AtEach, granularities}
-use Rattle.tier_store.specs.Stored.{IsStoredAt, AllStored, PlaceUnsure, HoldsAll}
+use Rattle.tier_store.specs.Stored.{IsStoredAt, PlaceUnsure, HoldsAll}
 use Rattle.tier_store.specs.Change.{IsKnownAt, Has, RowsInDoubt, PlaceInDoubt, Doubts, IsOpen, HasEither, HoldsEither, SameFiles}
 use Rattle.tier_store.proofs.Places.{one_manifest, within_three, set_cases, tier_other}
 use Rattle.disk_model.proofs.Passing.{passes_weaker}
@@ -43,14 +42,8 @@ module _ (files later : Files) (opened after : Name → ℕ) (old new : Past) (r
   all : Reads files later opened after old new
   all = reads_all files later opened after old new reads.passes reads.same reads.unopened
 
-  rows_still : (c : JournalState) (rows : List Row) → CatalogueStored c files opened old rows → CatalogueStored c later after new rows
-  rows_still c rows stored = catalogue_read files later opened after old new all c rows stored
-
   tier_still : (m : ManifestState) (t : Held) → TierStored m.granularity m.journal files opened old t → TierStored m.granularity m.journal later after new t
   tier_still m t stored = tier_read files later opened after old new all m.granularity m.journal t stored (unopened_same t files opened after old reads.unopened stored.safe)
-
-  safe_still : (t : Held) → AreSafe t files opened old → AreSafe t later after new
-  safe_still t safe = safe_read t files later opened after old new safe all.passes all.same (unopened_same t files opened after old reads.unopened safe)
 
 -- IN MEMORY TOO
 
@@ -61,9 +54,6 @@ module _ {S : Type 0} (files_of : S → Files) (opened_of : S → Name → ℕ) 
 
   each_still : IsTrue tells → (s : Stores) → AtEach ms (λ i m. IsStoredAt (seen_at c ms d) m (tier i s)) → AtEach ms (λ i m. IsStoredAt (seen_at c ms after) m (tier i s))
   each_still told s each i m here = tier_still _ _ _ _ _ _ (reads told) m (tier i s) (each i m here)
-
-  all_still : IsTrue tells → (s : Stores) → AllStored (seen_at c ms d) s → AllStored (seen_at c ms after) s
-  all_still told s stored = record { rows = rows_still _ _ _ _ _ _ (reads told) c.journal s.rows stored.rows; each = each_still told s stored.each }
 
   -- THE ROWS
 

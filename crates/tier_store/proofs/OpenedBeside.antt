@@ -31,7 +31,7 @@ use Rattle.tier_store.specs.Revival.{AreWhole, IsAmong, IsOfLimbo}
 use Rattle.tier_store.specs.declared.limbo.Retired.{Retired}
 use Rattle.tier_store.proofs.Dropped.{Longer, by_files, contains_filter, entry_in, from_filter, one_file}
 use Rattle.tier_store.proofs.Places.{manifest_at, manifest_of, within_three}
-use Rattle.tier_store.proofs.RevivalShown.{known_open, limbo_name}
+use Rattle.tier_store.proofs.Revival.{known_open, limbo_name}
 use Rattle.tier_store.proofs.Showing.{ListsTo, Spares, after_spares, after_to, doubts_held, has_held, known_spares, known_to, name_listed}
 use Rattle.tier_store.proofs.Staying.{own_name, same_name}
 use Rattle.tier_store.proofs.WholeCalls.{filed_fewer, name_at, safe_fewer, spared_whole}

@@ -52,7 +52,7 @@ use Rattle.tier_store.proofs.CopyFiles.{Start}
 use Rattle.tier_store.proofs.Dropped.{from_oldest, stays_or}
 use Rattle.tier_store.proofs.Handing.{name_left, named_in, pinned_by}
 use Rattle.tier_store.proofs.Places.{list_set, list_other}
-use Rattle.tier_store.proofs.RevivalCall.{listed_by}
+use Rattle.tier_store.proofs.Revival.{listed_by}
 use Rattle.tier_store.proofs.Showing.{has_held, known_to, low_of}
 use Rattle.tier_store.proofs.Staying.{stay_cases, stay_from}
 

@@ -36,12 +36,12 @@ use Rattle.tier_store.specs.Moving.{LeavesFiles, LeavesLater, LeavesNames, names
 use Rattle.tier_store.specs.Retiring.{oldest_entries, retired_of}
 use Rattle.tier_store.specs.Revival.{AreWhole, IsAmong, IsOfLimbo, KeepsWhole, store_with}
 use Rattle.tier_store.specs.declared.limbo.Retired.{Retired}
+use Rattle.tier_store.specs.Reviving.{free_of, is_free, is_nothing}
 use Rattle.tier_store.proofs.Dropped.{contains_filter, entry_in, from_filter, from_oldest, one_file}
 use Rattle.tier_store.proofs.Leaving.{part_of}
 use Rattle.tier_store.proofs.LeavingNames.{later_names, name_in, read_names}
 use Rattle.tier_store.proofs.Places.{granularity_at, manifest_at, manifest_of}
-use Rattle.tier_store.proofs.RevivalShown.{limbo_name, place_named}
-use Rattle.tier_store.proofs.RevivalWhole.{free_of, is_free, is_none, none_is, store_of}
+use Rattle.tier_store.proofs.Revival.{limbo_name, none_is, place_named, store_of}
 use Rattle.tier_store.proofs.Sparing.{after_disk, listed_name, same_memory}
 use Rattle.tier_store.proofs.Staying.{stay_from}
 
@@ -309,7 +309,7 @@ module _ (tells : Bool) (i row n : ℕ) (old new : SeenAll) (m : ManifestState) 
         | inr within ↦ elim (listed_at list (place r.entry)) [
           | inl none ↦
               let u = contains_map were r.entry within in
-              let is : is_free list u.0 ≡ true = ap (λ (e : Entry). is_none (file_at (place e) list)) u.2 ∙ ap is_none none in
+              let is : is_free list u.0 ≡ true = ap (λ (e : Entry). is_nothing (file_at (place e) list)) u.2 ∙ ap is_nothing none in
               let in_all = put_all_new free list u.0 (rise_filter (is_free list) were whole.rise) (contains_filter (is_free list) were u.0 u.1 is) in
               subst (Contains (map entry_of all)) u.2 (entry_in all u.0 in_all)
           | inr (h, in_list, same, found_is) ↦

@@ -98,14 +98,18 @@ pub record IsGoodUpTo (head_len : ℕ) (bytes : List ℕ) (at : ℕ) : Type 0 wh
   pub are : AreSamples info.ty info.year samples
   pub text : take at bytes ≡ line ++ 10 ∷ lines_of samples
 
--- A file is damaged, told at this place: it doesn't begin with a header's line of this length, which is told at 0; no line of a sample begins here, behind
--- the header's line and lines of samples; or one does, and can't be copied behind what the next store has.
+-- A file is damaged, told at this place: it doesn't begin with a header's line of this length, which is told at 0; or no line of a sample begins here, behind
+-- the header's line and lines of samples.
+pub data IsBadFile (head_len : ℕ) (bytes : List ℕ) (at : ℕ) : Type 0 where
+  no_header : at ≡ 0 → ((line : List ℕ) (info : PayloadInfo) → BeginsWithHeader head_len bytes line info → ⊥) → IsBadFile head_len bytes at
+  no_line : (good : IsGoodUpTo head_len bytes at) → (IsSampleStart good.info.ty good.info.year (drop at bytes) → ⊥) → IsBadFile head_len bytes at
+
+-- a part can't be copied from this place on: its file is damaged there, or a line of it can't be copied behind what the next store has
 pub data IsBadPart (head_len : ℕ) (bytes : List ℕ) (at : ℕ) : Type 0 where
-  no_header : at ≡ 0 → ((line : List ℕ) (info : PayloadInfo) → BeginsWithHeader head_len bytes line info → ⊥) → IsBadPart head_len bytes at
-  no_line : (good : IsGoodUpTo head_len bytes at) → (IsSampleStart good.info.ty good.info.year (drop at bytes) → ⊥) → IsBadPart head_len bytes at
+  unread : IsBadFile head_len bytes at → IsBadPart head_len bytes at
   no_file : IsGoodUpTo head_len bytes at → IsBadPart head_len bytes at
 
 -- what a search tells of a file that is listed so long
 abbrev pub SaysFile : ℕ → List ℕ → LaterLines → Type 0
 SaysFile head_len bytes (At at) = IsGoodUpTo head_len bytes at
-SaysFile head_len bytes (Damaged at) = IsBadPart head_len bytes at
+SaysFile head_len bytes (Damaged at) = IsBadFile head_len bytes at

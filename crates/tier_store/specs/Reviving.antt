@@ -23,13 +23,13 @@ pub record AreBack (i : ℕ) (limbo : List Retired) (files ahead back : List Fil
   pub from : All (λ (f : Filed). IsOfLimbo i limbo f.entry) back
   pub every : (r : Retired) → Contains limbo r → r.name.0 ≡ i + 1 → file_at (place r.entry) ahead ≡ None → Contains (map entry_of back) r.entry
 
+abbrev pub is_nothing : Option Filed → Bool
+is_nothing None = true
+is_nothing (Some x) = false
+
 -- a file in whose place nothing is
 abbrev pub is_free : List Filed → Filed → Bool
 is_free ahead f = is_nothing (file_at (filed_at f) ahead)
-  where
-    is_nothing : Option Filed → Bool
-    is_nothing None = true
-    is_nothing (Some x) = false
 
 -- those of these files in whose places nothing is ahead
 abbrev pub free_of : List Filed → List Filed → List Filed

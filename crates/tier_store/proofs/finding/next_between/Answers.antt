@@ -20,19 +20,23 @@ loop-at-init g c = record {
   faults = omega arith;
 }
 
+-- a piece was read, and lines at its front were skipped
+piece : (g : _) (c : In_ok-skipped g) → IsTrue g.D.Disk.tells → IsPiece (g.D.Disk.files c.args.disk.now) c.args.name.now c.loop-at.at c.min.result c.in_ok-bytes.bytes.items
+piece g c tells b is = c.in_ok-bytes.ensures.bytes tells b (ap (λ (f : Files). f c.args.name.now) (c.loop-at.invariant.reads tells).same ∙ is)
+
+skips : (g : _) (c : In_ok-skipped g) → SkipsLines c.args.ty c.args.year.now.year c.in_ok-bytes.bytes.items (behind c.args.last) c.in_ok-skipped.skipped.len c.in_ok-skipped.skipped.found
+skips g c = subst (λ (l : List ℕ). SkipsLines c.args.ty c.args.year.now.year l (behind c.args.last) c.in_ok-skipped.skipped.len c.in_ok-skipped.skipped.found) c.deref.ensures.value c.in_ok-skipped.ensures.skips
+
 -- the lines that were skipped stand behind those before them
 skipped_told : (g : _) (c : In_ok-skipped g) → IsTrue g.D.Disk.tells → HasFile (g.D.Disk.files c.args.disk.now) c.args.name.now (AreLinesFrom c.args.ty c.args.year.now.year c.args.from (c.loop-at.at + c.in_ok-skipped.skipped.len))
 skipped_told g c tells =
     let told = c.loop-at.invariant.told tells in
     let long = ap length c.deref.ensures.value in
-    let same = (c.loop-at.invariant.reads tells).same in
-    let piece = c.in_ok-bytes.ensures.bytes tells told.bytes (ap (λ (f : Files). f c.args.name.now) same ∙ told.file) in
-    let skips = subst (λ (l : List ℕ). SkipsLines c.args.ty c.args.year.now.year l (behind c.args.last) c.in_ok-skipped.skipped.len c.in_ok-skipped.skipped.found) c.deref.ensures.value c.in_ok-skipped.ensures.skips in
     record {
       bytes = told.bytes;
       file = told.file;
       holds = lines_more c.args.ty c.args.year.now.year c.args.from c.loop-at.at c.min.result (behind c.args.last) c.in_ok-skipped.skipped.len c.in_ok-skipped.skipped.found c.in_ok-bytes.bytes.items told.bytes c.loop-at.invariant.low
-          (omega (arith, long, c.in_ok-skipped.ensures.within, c.in_ok-bytes.ensures.long)) piece skips told.holds;
+          (omega (arith, long, c.in_ok-skipped.ensures.within, c.in_ok-bytes.ensures.long)) (piece g c tells told.bytes told.file) (skips g c) told.holds;
     }
 
 pub returns-then-skipped-clause-told : goal.returns-then-skipped-clause-told
@@ -44,17 +48,9 @@ returns-clause-told g c tells =
 
 pub returns-then-skipped-clause-next : goal.returns-then-skipped-clause-next
 returns-then-skipped-clause-next g c tells samples has =
-    let files = g.D.Disk.files c.args.disk.now in
-    let name = c.args.name.now in
-    let at = c.loop-at.at in
-    let skipped = c.in_ok-skipped.skipped in
-    let bytes = c.in_ok-bytes.bytes.items in
-    let n = behind c.args.last in
-    let same = (c.loop-at.invariant.reads tells).same in
-    let piece : IsPiece files name at c.min.result bytes = λ b is. c.in_ok-bytes.ensures.bytes tells b (ap (λ (f : Files). f name) same ∙ is) in
-    let within : c.min.result ≤ c.args.end - at = omega (arith, c.min.ensures) in
-    let skips = subst (λ (f : Bool). SkipsLines c.args.ty c.args.year.now.year bytes n skipped.len f) c.if-skipped.true (subst (λ (l : List ℕ). SkipsLines c.args.ty c.args.year.now.year l n skipped.len skipped.found) c.deref.ensures.value c.in_ok-skipped.ensures.skips) in
-    splits_here files name c.args.from at c.args.end c.min.result c.args.ty c.args.year.now.year n samples skipped.len bytes (c.loop-at.invariant.between tells samples has) within piece skips
+    let on = (goal.at.returns-then-skipped-clause-next g c).In_ok-skipped in
+    let found = subst (λ (f : Bool). SkipsLines c.args.ty c.args.year.now.year c.in_ok-bytes.bytes.items (behind c.args.last) c.in_ok-skipped.skipped.len f) c.if-skipped.true (skips g on) in
+    splits_here (g.D.Disk.files c.args.disk.now) c.args.name.now c.args.from c.loop-at.at c.args.end c.min.result c.args.ty c.args.year.now.year (behind c.args.last) samples c.in_ok-skipped.skipped.len c.in_ok-bytes.bytes.items (c.loop-at.invariant.between tells samples has) (omega (arith, c.min.ensures)) (piece g on tells) found
 
 pub returns-then-skipped-clause-within : goal.returns-then-skipped-clause-within
 returns-then-skipped-clause-within g c =
@@ -63,29 +59,15 @@ returns-then-skipped-clause-within g c =
 
 pub returns-then-want-rest-clause-next : goal.returns-then-want-rest-clause-next
 returns-then-want-rest-clause-next g c tells samples has =
-    let files = g.D.Disk.files c.args.disk.now in
-    let name = c.args.name.now in
-    let at = c.loop-at.at in
-    let skipped = c.in_ok-skipped.skipped in
-    let bytes = c.in_ok-bytes.bytes.items in
-    let n = behind c.args.last in
-    let same = (c.loop-at.invariant.reads tells).same in
-    let piece : IsPiece files name at c.min.result bytes = λ b is. c.in_ok-bytes.ensures.bytes tells b (ap (λ (f : Files). f name) same ∙ is) in
-    let skips = subst (λ (f : Bool). SkipsLines c.args.ty c.args.year.now.year bytes n skipped.len f) c.if-skipped.false (subst (λ (l : List ℕ). SkipsLines c.args.ty c.args.year.now.year l n skipped.len skipped.found) c.deref.ensures.value c.in_ok-skipped.ensures.skips) in
-    not_damaged files name c.args.from at c.args.end c.min.result c.args.ty c.args.year.now.year n samples skipped.len bytes (c.requires.there tells) c.loop-at-test.true (c.loop-at.invariant.between tells samples has) (omega (arith, c.min.ensures, c.if-want-rest.true)) piece c.if-skipped-eq0.true skips
+    let on = (goal.at.returns-then-want-rest-clause-next g c).In_ok-skipped in
+    let found = subst (λ (f : Bool). SkipsLines c.args.ty c.args.year.now.year c.in_ok-bytes.bytes.items (behind c.args.last) c.in_ok-skipped.skipped.len f) c.if-skipped.false (skips g on) in
+    not_damaged (g.D.Disk.files c.args.disk.now) c.args.name.now c.args.from c.loop-at.at c.args.end c.min.result c.args.ty c.args.year.now.year (behind c.args.last) samples c.in_ok-skipped.skipped.len c.in_ok-bytes.bytes.items (c.requires.there tells) c.loop-at-test.true (c.loop-at.invariant.between tells samples has) (omega (arith, c.min.ensures, c.if-want-rest.true)) (piece g on tells) c.if-skipped-eq0.true found
 
 pub returns-then-want-rest-clause-told : goal.returns-then-want-rest-clause-told
 returns-then-want-rest-clause-told g c tells =
-    let files = g.D.Disk.files c.args.disk.now in
-    let name = c.args.name.now in
-    let at = c.loop-at.at in
-    let skipped = c.in_ok-skipped.skipped in
-    let bytes = c.in_ok-bytes.bytes.items in
-    let n = behind c.args.last in
-    let same = (c.loop-at.invariant.reads tells).same in
-    let piece : IsPiece files name at c.min.result bytes = λ b is. c.in_ok-bytes.ensures.bytes tells b (ap (λ (f : Files). f name) same ∙ is) in
-    let skips = subst (λ (f : Bool). SkipsLines c.args.ty c.args.year.now.year bytes n skipped.len f) c.if-skipped.false (subst (λ (l : List ℕ). SkipsLines c.args.ty c.args.year.now.year l n skipped.len skipped.found) c.deref.ensures.value c.in_ok-skipped.ensures.skips) in
-    both_file files name _ _ (c.loop-at.invariant.told tells) (damaged_here files name at c.args.end c.min.result c.args.ty c.args.year.now.year n skipped.len bytes (c.requires.there tells) (omega (arith, c.min.ensures, c.if-want-rest.true)) piece c.if-skipped-eq0.true skips)
+    let on = (goal.at.returns-then-want-rest-clause-told g c).In_ok-skipped in
+    let found = subst (λ (f : Bool). SkipsLines c.args.ty c.args.year.now.year c.in_ok-bytes.bytes.items (behind c.args.last) c.in_ok-skipped.skipped.len f) c.if-skipped.false (skips g on) in
+    both_file (g.D.Disk.files c.args.disk.now) c.args.name.now _ _ (c.loop-at.invariant.told tells) (damaged_here (g.D.Disk.files c.args.disk.now) c.args.name.now c.loop-at.at c.args.end c.min.result c.args.ty c.args.year.now.year (behind c.args.last) c.in_ok-skipped.skipped.len c.in_ok-bytes.bytes.items (c.requires.there tells) (omega (arith, c.min.ensures, c.if-want-rest.true)) (piece g on tells) c.if-skipped-eq0.true found)
 
 pub returns-clause-next : goal.returns-clause-next
 returns-clause-next g c tells samples has =
@@ -93,8 +75,6 @@ returns-clause-next g c tells samples has =
 
 pub loop-at-preserved : goal.loop-at-preserved
 loop-at-preserved g c =
-    let files = g.D.Disk.files c.args.disk.now in
-    let name = c.args.name.now in
     let at = c.loop-at.at in
     let skipped = c.in_ok-skipped.skipped in
     let bytes = c.in_ok-bytes.bytes.items in
@@ -110,10 +90,8 @@ loop-at-preserved g c =
       low = omega (arith, c.loop-at.invariant.low);
       high = omega (arith, low, c.loop-at-test.true);
       between = λ tells samples has.
-          let same = (c.loop-at.invariant.reads tells).same in
-          let piece : IsPiece files name at c.min.result bytes = λ b is. c.in_ok-bytes.ensures.bytes tells b (ap (λ (f : Files). f name) same ∙ is) in
-          let skips = subst (λ (l : List ℕ). SkipsLines c.args.ty c.args.year.now.year l n skipped.len skipped.found) c.deref.ensures.value c.in_ok-skipped.ensures.skips in
-          goes_on files name c.args.from at c.args.end c.min.result c.args.ty c.args.year.now.year n samples 0 skipped.len 0 bytes (c.loop-at.invariant.between tells samples has) within piece low (skipped_counting c.args.ty c.args.year.now.year bytes n skipped.len skipped.found skips);
+          let on = (goal.at.loop-at-preserved g c).In_ok-skipped in
+          goes_on (g.D.Disk.files c.args.disk.now) c.args.name.now c.args.from at c.args.end c.min.result c.args.ty c.args.year.now.year n samples 0 skipped.len 0 bytes (c.loop-at.invariant.between tells samples has) within (piece g on tells) low (skipped_counting c.args.ty c.args.year.now.year bytes n skipped.len skipped.found (skips g on));
       told = λ tells. skipped_told g (goal.at.loop-at-preserved g c).In_ok-skipped tells;
       reads = λ tells. then_reads _ _ _ _ _ _ _ _ _ (c.loop-at.invariant.reads tells) (c.in_ok-bytes.ensures.reads tells);
       faults = omega (arith, c.loop-at.invariant.faults, c.in_ok-bytes.ensures.faults);

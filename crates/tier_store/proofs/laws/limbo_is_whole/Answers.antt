@@ -1,5 +1,5 @@
 use Rattle.tier_store.specs.Seen.{seen_on}
-use Rattle.tier_store.proofs.RevivalShown.{settled_whole}
+use Rattle.tier_store.proofs.Revival.{settled_whole}
 use Rattle.tier_store.proofs.laws.limbo_is_whole.Goals as goal
 
 pub returns : goal.returns

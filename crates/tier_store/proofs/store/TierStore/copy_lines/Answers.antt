@@ -8,11 +8,9 @@ use Rattle.tier_store.specs.Pinned.{beside, seen_all}
 use Rattle.tier_store.specs.Reviving.{reviving}
 use Rattle.tier_store.specs.Seen.{seen_on}
 use Rattle.tier_store.specs.Strays.{WritesTargets}
-use Rattle.tier_store.proofs.CopyGoes.{Went, go_all, go_damaged, go_more, went}
+use Rattle.tier_store.proofs.CopyGoes.{Went, can_copy, can_go, can_revive, copies_it, either_it, go_all, go_damaged, go_more, head_low, leaves_it, nowhere_it, plain, went}
 use Rattle.tier_store.proofs.CopySteps.{err_says, fault_was}
 use Rattle.tier_store.proofs.CopyParts.{next_part}
-use Rattle.tier_store.proofs.CopyRevived.{can_go, can_revive, copies_it, either_it, leaves_it, nowhere_it, plain}
-use Rattle.tier_store.proofs.CopyRoom.{can_copy, head_low}
 use Rattle.tier_store.proofs.Places.{manifest_of}
 use Rattle.tier_store.proofs.Strays.{step_targets}
 use Rattle.tier_store.proofs.store.TierStore.copy_lines.Goals.{After-copy, In_ok-copied, then-not-is_revived-via-then-not-is_revived, then-not-is_revived-via-else-not-is_revived+then-not-is_ahead}
