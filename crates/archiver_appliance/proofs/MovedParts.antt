@@ -133,6 +133,7 @@ module _ (tells : Bool) (q : Parts) (held : Stores) (has : Has tells q.at held) 
           entry = d.entry;
           listed = subst (λ (es : List FileEntry). Contains es d.entry) (has.known.each i d.manifest d.here).entries d.listed;
           named = subst (λ (rs : List Row). name ≡ file_of (i + 1, rs) d.entry) has.known.rows (subst (λ (k : ℕ). name ≡ file_of (k, q.at.catalogue.rows) d.entry) (sym number) d.named);
+          inside = d.within;
           bad = d.bad told;
         };
       }

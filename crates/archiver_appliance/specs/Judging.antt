@@ -1,5 +1,5 @@
 -- What the status of a command over the archive says of the image that the disk had.
-use Rattle.std.specs.Prelude.{◌≡◌, ◌⊎◌, ◌<◌, ◌+◌, ℕ, take, List, Contains}
+use Rattle.std.specs.Prelude.{◌≡◌, ◌⊎◌, ◌≤◌, ◌<◌, ◌+◌, ℕ, take, List, Contains}
 use Rattle.disk_model.specs.Files.{Name, Files, HasFile}
 use Rattle.partition_names.specs.declared.granularity.Granularity.{Granularity}
 use Rattle.pv_catalog.specs.Rows.{HasName}
@@ -44,6 +44,7 @@ pub record IsDamagedPart (files : Files) (rows : List Row) (lists : Listings) (n
   pub entry : Entry
   pub listed : Contains (lists place) entry
   pub named : name ≡ file_of (place + 1, rows) entry
+  pub inside : at ≤ entry.len
   pub bad : HasFile files name (λ b. IsBadPart entry.head_len (take entry.len b) at)
 
 -- the damage that a command finds in the listed files of a whole image: `get` in a file of the row that has the name, `check` in the
