@@ -130,14 +130,30 @@ module _ {K D R : Type 0} (snk : OfSink K) (disk : Ghosts D R) (config : ConfigS
   -- whatever the listed files are
   in_place : (status : Status) → (IsWritten status → IsGone (disk.files given) (disk.past given) adoption_name)
       → (IsWritten status → (before after : Stores) → OpensEither (stores_of config) (disk.past first) before after → TellsOf (stores_of config) before after (beside source clock reads snk disk k first) (beside source clock reads snk disk k' given) status)
+      → ((IsWritten status → ⊥) → snk.written k' ≡ snk.written k)
       → AdoptsInPlace (stores_of config) (beside source clock reads snk disk k first) (beside source clock reads snk disk k' given) status
-  in_place status finished told = record {
+  in_place status finished told quiet = record {
     elsewhere = adopts.elsewhere;
     stores = adopts.stores;
     site = adopts.site;
     marked = adopts.marked;
     finished = finished;
     told = told;
+    made = λ before after opens. elim (adopts.makes before after opens) [
+      | inl only ↦ inl record { any_moment = only.either before after opens; opens = only.opens before after opens }
+      | inr some ↦
+          let from = some.1 in
+          inr record {
+            held = from.held;
+            either = from.either;
+            read = from.read;
+            steps = from.steps;
+            rule = (some.0, from.rule);
+            any_moment = from.any_moment;
+            opens = from.opens;
+          }
+    ];
+    quiet = quiet;
     found = adopts.found;
   }
 
@@ -198,7 +214,8 @@ module _ {K D R : Type 0} (snk : OfSink K) (disk : Ghosts D R) (config : ConfigS
           serves snk disk config first store.disk (adopts tells) source clock reads k k' status judges (λ before after opens. done_makes tells (adopts tells) before after opens (has tells before after opens))
               (in_place snk disk config first store.disk (adopts tells) source clock reads k k' status (λ written. gone tells) (λ written before after opens.
               let made = has tells before after opens in
-              record { held = made.adopts.held; either = made.adopts.either; read = made.adopts.read; steps = made.adopts.steps; tells = tells_all tells before after made })),
+              record { held = made.adopts.held; either = made.adopts.either; read = made.adopts.read; steps = made.adopts.steps; tells = tells_all tells before after made })
+              (λ none. absurd (none (by_line IsWritten (inl refl) (inr refl))))),
           exactly verdict (stores_of config) command.Adopt (disk.files first) status judges,
         ),
   )
@@ -241,7 +258,7 @@ module _ {K D R : Type 0} (snk : OfSink K) (disk : Ghosts D R) (config : ConfigS
     λ tells.
         let judges = refusal_judges (stores_of config) command.Adopt (disk.files first) err (damaged tells) (differs tells) in (
           serves snk disk config first given (adopts tells) source clock reads k k (refusal_of err) judges (cut_makes tells (adopts tells) (seen tells))
-              (in_place snk disk config first given (adopts tells) source clock reads k k (refusal_of err) (λ written. absurd (refusal_unwritten err written)) (λ written. absurd (refusal_unwritten err written))),
+              (in_place snk disk config first given (adopts tells) source clock reads k k (refusal_of err) (λ written. absurd (refusal_unwritten err written)) (λ written. absurd (refusal_unwritten err written)) (λ none. refl)),
           exactly verdict (stores_of config) command.Adopt (disk.files first) (refusal_of err) judges,
         ),
   )

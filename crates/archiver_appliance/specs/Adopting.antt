@@ -13,7 +13,7 @@ use Rattle.tier_store.specs.Stores.{Stores, samples_in}
 use Rattle.tier_store.specs.Stored.{HoldsAll}
 use Rattle.tier_store.specs.Change.{IsEither}
 use Rattle.store_reopen.specs.Adoption.{IsAdoption, Counts, IsMarkedOf, NoneFoundOpened, OpensStage}
-use Rattle.store_reopen.specs.Reopen.{OnlySite, OpensEither, SameStores}
+use Rattle.store_reopen.specs.Reopen.{HoldsEither, OnlySite, OpensEither, SameStores}
 use Rattle.store_reopen.specs.Strays.{IsGone, adoption_name}
 use Rattle.store_reopen.specs.Steps.{Step, made_by, stage}
 use Rattle.store_reopen.specs.declared.adopted.Adopted.{Adopted}
@@ -74,6 +74,22 @@ pub record TellsOf (gs : List Granularity) (before after : Stores) (old new : Ou
   pub steps : List Step
   pub tells : TellsAdopted gs old.files held steps new.past old.sink new.sink status
 
+-- A crash at any moment left what was held before a change or after it, and the disk can be opened again.
+pub record KeepsEither (gs : List Granularity) (before after : Stores) (old new : Past) : Type 0 where
+  pub any_moment : Passes (λ a b. HoldsEither gs before after b) old new
+  pub opens : OpensEither gs new before after
+
+-- Steps by the rule were made of what reads gave, whether that stands or not: at each moment a crash left what was held before a change or after it, or
+-- what reads gave with a front of the steps made; and the disk can be opened again.
+pub record MakesFront (gs : List Granularity) (before after : Stores) (old new : Outside) : Type 0 where
+  pub held : Stores
+  pub either : IsEither before after held
+  pub read : HoldsAll gs old.files held
+  pub steps : List Step
+  pub rule : (whole : Bool) × IsAdoption whole gs old.files held steps
+  pub any_moment : Passes (λ a b. HoldsEither gs before after b ⊎ ((k : ℕ) × HoldsAll gs b (stage steps held k))) old.past new.past
+  pub opens : OpensStage gs steps held new.past
+
 -- What `adopt` does whatever the listed files are, damaged inside or not. It works in place: no file of a store is changed, listed or not, and of the
 -- site's folder none but those of journals and the file `adopt`. While that is there it isn't finished: an image without it holds what was held at
 -- first, where none had it then, or all that the rule makes. At 0 and 6 it is gone for good, and the numbers are those of all steps. Files that
@@ -85,6 +101,8 @@ pub record AdoptsInPlace (gs : List Granularity) (old new : Outside) (status : S
   pub marked : (before after : Stores) → OpensEither gs old.past before after → Passes (IsMarkedOf gs old.files before after) old.past new.past
   pub finished : IsWritten status → IsGone new.files new.past adoption_name
   pub told : IsWritten status → (before after : Stores) → OpensEither gs old.past before after → TellsOf gs before after old new status
+  pub made : (before after : Stores) → OpensEither gs old.past before after → KeepsEither gs before after old.past new.past ⊎ MakesFront gs before after old new
+  pub quiet : (IsWritten status → ⊥) → new.sink ≡ old.sink
   pub found : NoneFoundOpened gs new.files new.opened
 
 -- What is seen of a sink and a disk, beside a source and a clock that nothing is asked of.
