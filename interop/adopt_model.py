@@ -117,11 +117,13 @@ def candidate_of(store, path, data):
 
 
 class Row:
-    """A variable and what each store lists of it: by the start of a partition the front of its file."""
+    """A variable under one name, and what each store lists of it: by the start of a partition the front of its file. Its base is the
+    number of the row of the name before, if it was renamed."""
 
     def __init__(self, header):
         self.name, self.type, self.count, self.headers = header.name, header.type, header.count, header.headers
         self.listed = {store: {} for store in STORES}
+        self.state, self.base = "running", None
 
     header = store_model.Row.header
     chunks = store_model.Row.chunks
@@ -130,6 +132,7 @@ class Row:
         """The same row, which may go on by itself."""
         made = Row(self)
         made.listed = {store: dict(files) for store, files in self.listed.items()}
+        made.state, made.base = self.state, self.base
         return made
 
     def path(self, store, start):
@@ -214,14 +217,25 @@ class Archive:
         return made
 
     find = store_model.Archive.find
+    whole = store_model.Archive.whole
+
+    def rename(self, number, name):
+        """A row over one that is retired, of the same variable."""
+        made = Row(self.rows[number])
+        made.name, made.state, made.base = name, "paused", number
+        self.rows[number].state = "retired"
+        self.rows.append(made)
 
     def register(self, header):
         """Makes a row of a header whose name and key are free. It gives whether it did."""
-        keys = {key_of(row.name) for row in self.rows}
-        is_free = is_name(header.name) and key_of(header.name) not in keys
-        if is_free:
-            self.rows.append(Row(header))
-        return is_free
+        if not self.is_free(header.name):
+            return False
+        self.rows.append(Row(header))
+        return True
+
+    def is_free(self, name):
+        """Whether a row can have a name."""
+        return is_name(name) and key_of(name) not in {key_of(row.name) for row in self.rows}
 
     def paths(self, store):
         """The listed files of a store, by path."""
@@ -239,8 +253,9 @@ class Archive:
         """What `ingest` makes of a chunk."""
         self.register(chunk.header)
         row = self.find(chunk.header.name)
-        for t, line in chunk.samples if row is not None and row.type == chunk.header.type else []:
-            if (not row.samples or t > row.samples[-1][0]) and t <= now + AHEAD:
+        for t, line in chunk.samples if row is not None and row.state == "running" and row.type == chunk.header.type else []:
+            last = self.whole(row)[-1:]
+            if (not last or t > last[0][0]) and t <= now + AHEAD:
                 row.append(1, [(t, line)])
 
     def etl(self, now):
@@ -253,8 +268,8 @@ class Archive:
     def status(self):
         """A line for each row."""
         lines = [
-            b"%s %s running samples %d files %d %d %d\n"
-            % (row.name, TYPE_NAMES[row.type].encode(), len(row.samples), *(len(row.listed[store]) for store in STORES))
+            b"%s %s %s samples %d files %d %d %d\n"
+            % (row.name, TYPE_NAMES[row.type].encode(), row.state.encode(), len(self.whole(row)), *(len(row.listed[store]) for store in STORES))
             for row in self.rows
         ]
         return Run(0, b"".join(lines), b"")
@@ -302,6 +317,8 @@ class Adoption:
                 self.counts["rows"] += 1
                 yield
         for row in self.archive.rows:
+            if row.base is not None or row.state == "retired":
+                continue
             for store in FROM_OLDEST:
                 if any(listed <= store for listed in stood.get(row.name, ())):
                     continue

@@ -11,7 +11,7 @@ from pb_model import unescape
 from store_model import TYPE_NAMES
 
 # The acts that settle a doubt, but for the steps of moves: those that have refusals and a change, and the others.
-REFUSING = {"register", "pause", "resume", "flush", "pin", "details"}
+REFUSING = {"register", "pause", "resume", "rename", "flush", "pin", "details"}
 SETTLING = {"begin", "sweep"}
 SILENT = ("settings ", "failing ", "stop ", "file ")
 RIGHT = {"each call right", "each call right, some images hold more"}
@@ -49,7 +49,7 @@ def asked(words):
     if act == "register":
         period = int(rest[3]) if rest[2] == "scan" else None
         return act, (rest[0], TYPE_NAMES.index(rest[1]), period)
-    if act in ("pause", "resume", "details"):
+    if act in ("pause", "resume", "rename", "details"):
         return act, tuple(rest)
     if act in ("pin", "get"):
         return act, (rest[0], *numbers(rest[1:]))
@@ -64,8 +64,9 @@ def outcomes_of_change(old, who, act, values, may_fail):
     if refusal:
         return [(refusal, old)]
     found = [(FAULT, old)] if may_fail else []
+    again = {"settled": True} if act == "rename" else {}
     for mid in old.settled():
-        refusal, change, told = getattr(mid, act)(who, *values)
+        refusal, change, told = getattr(mid, act)(who, *values, **again)
         if refusal:
             found.append((refusal, mid))
             continue

@@ -67,11 +67,13 @@ def shown(content):
 
 @dataclass
 class Row:
-    """A variable: how it is sampled (a period, or None), and its samples."""
+    """A variable under one name: how it is sampled (a period, or None), and the samples that came under this name. Its
+    base is the row of the name before, if it was renamed."""
 
     name: str
     type: int
     period: object
+    base: object = None
     state: str = "running"
     next: int = 0
     tail: list = field(default_factory=list)
@@ -85,13 +87,8 @@ class Row:
 
     @property
     def durable(self):
-        """All that the stores list, each sample once."""
+        """All that the stores list of it, each sample once."""
         return over(over(self.listed[3], self.listed[2]), self.listed[1])
-
-    @property
-    def accepted(self):
-        """What is durable, and the tail."""
-        return over(self.durable, self.tail)
 
     def parts(self, store):
         """The partitions that a store lists, each by its start and end."""
@@ -148,7 +145,7 @@ class Move:
 
 @dataclass
 class Change:
-    """The one durable change of an act: `kind` is row, state, appends, publishes or unlists."""
+    """The one durable change of an act: `kind` is row, state, name, appends, publishes or unlists."""
 
     kind: str
     row: object = None
@@ -203,6 +200,22 @@ class Archive:
         """The number of the row of a name, None where there is none."""
         return next((i for i, row in enumerate(self.rows) if row.name == name), None)
 
+    def line(self, i):
+        """The rows of a variable under all its names, the first one first and this one last."""
+        base = self.rows[i].base
+        return ([] if base is None else self.line(base)) + [i]
+
+    def durable(self, i):
+        """What the stores list of a variable, each sample once."""
+        samples = []
+        for k in self.line(i):
+            samples = over(samples, self.rows[k].durable)
+        return samples
+
+    def accepted(self, i):
+        """What is durable of it, and the tail."""
+        return over(self.durable(i), self.rows[i].tail)
+
     def limbo_of(self, row, store):
         """The files of limbo of a row and store."""
         return [file for file in self.limbo if (file.row, file.store) == (row, store)]
@@ -223,6 +236,12 @@ class Archive:
         """A row's state is set, and it holds nothing."""
         row = self.rows[change.row]
         row.state, row.held, row.due = change.word, None, 0
+
+    def make_name(self, change):
+        """A row is added over one that is retired, with all that is known of its variable."""
+        row = self.rows[change.row]
+        row.state, row.held, row.due = "retired", None, 0
+        self.rows.append(Row(change.word, row.type, row.period, change.row, "paused", row.next))
 
     def make_appends(self, change):
         """Samples of tails are listed by store 1."""
@@ -283,37 +302,62 @@ class Archive:
         """The archives that an opening may find when the power ends now."""
         for left in self.settled():
             left.limbo, left.pins, left.moves, left.doors = [], {}, {}, 2
-            for row in left.rows:
-                row.tail, row.held, row.due, row.next = [], None, 0, end_of(row.durable)
+            for i, row in enumerate(left.rows):
+                row.tail, row.held, row.due, row.next = [], None, 0, end_of(left.durable(i))
             yield left
 
     # Acts. Those that settle a doubt give their refusal, their change, and how they end, each of which may be none.
 
-    def register(self, who, name, kind, period):
-        """A row for a variable."""
+    def taken(self, name):
+        """Why a row can't have a name; it can where there is no reason."""
         keys = [key_of(row.name.encode()) for row in self.rows]
         if self.find(name) is not None:
-            return f"name taken {self.find(name)}", None, None
+            return f"name taken {self.find(name)}"
         if key_of(name.encode()) in keys:
-            return f"key taken {keys.index(key_of(name.encode()))}", None, None
+            return f"key taken {keys.index(key_of(name.encode()))}"
+        return None
+
+    def register(self, who, name, kind, period):
+        """A row for a variable."""
+        refusal = self.taken(name)
+        if refusal:
+            return refusal, None, None
         return None, Change("row", Row(name, kind, period)), lambda: f"registered {len(self.rows) - 1}"
 
-    def set_state(self, name, word, refusal):
-        """The state of a row."""
+    def set_state(self, name, was, word, refusal):
+        """The state of a row, which was another."""
         i = self.find(name)
         if i is None:
             return "no such variable", None, None
-        if self.rows[i].state == word:
+        if self.rows[i].state != was:
             return refusal, None, None
         return None, Change("state", i, word), lambda: "done"
 
     def pause(self, who, name):
         """A variable's samples are dropped from now on."""
-        return self.set_state(name, "paused", "not running")
+        return self.set_state(name, "running", "paused", "not running")
 
     def resume(self, who, name):
         """They are taken again."""
-        return self.set_state(name, "running", "not paused")
+        return self.set_state(name, "paused", "running", "not paused")
+
+    def rename(self, who, name, newname, settled=False):
+        """A new name for a variable. Where its row isn't paused, it is told whether that came of the doubt which this act
+        settled before: at first it was paused then."""
+        i = self.find(name)
+        if i is None:
+            return "no such variable", None, None
+        row = self.rows[i]
+        if row.state != "paused":
+            return f"rename not paused {row.state.capitalize()} {int(settled)} 0", None, None
+        refusal = self.taken(newname)
+        if refusal is None and row.tail:
+            durable = self.durable(i)
+            last = f"Some({durable[-1][0]})" if durable else "None"
+            refusal = f"not durable {row.next - 1} {last}"
+        if refusal:
+            return refusal, None, None
+        return None, Change("name", i, newname), lambda: f"renamed {len(self.rows) - 1}"
 
     def held_bytes(self):
         """The bytes of all tails."""
@@ -441,16 +485,16 @@ class Archive:
         return [File(i, store, part, window(part, row.listed[store])) for part in row.parts(store)]
 
     def chosen(self, i, start, end):
-        """The files that a pin of an interval names: those before the last one stay closed that begins before the
-        interval and behind all of theirs, and the last ones that begin behind it, where the tail does too."""
+        """The files that a pin of an interval names, those of its first name first: those before the last one stay closed
+        that begins before the interval and behind all of theirs, and the last ones that begin behind it, where the tail
+        does too."""
         opened, reach = [], -1
-        for store in (3, 2, 1):
-            for file in self.files(i, store):
-                first, last = file.samples[0][0], file.samples[-1][0]
-                if reach < first < start:
-                    opened = []
-                opened.append(file)
-                reach = max(reach, last)
+        for file in (file for k in self.line(i) for store in (3, 2, 1) for file in self.files(k, store)):
+            first, last = file.samples[0][0], file.samples[-1][0]
+            if reach < first < start:
+                opened = []
+            opened.append(file)
+            reach = max(reach, last)
         tail = self.rows[i].tail
         while opened and opened[-1].samples[0][0] > max(start, end) and not (tail and tail[0][0] <= max(start, end)):
             opened.pop()
@@ -516,14 +560,13 @@ class Archive:
 
     def described(self, i):
         """What is known of a row."""
-        row = self.rows[i]
-        accepted = row.accepted
+        row, accepted = self.rows[i], self.accepted(i)
         method = "Monitor" if row.period is None else f"Scan {{ period: {row.period} }}"
         files = [len(row.parts(store)) for store in STORES]
         first, last = (f"Some({accepted[end][0]})" if accepted else "None" for end in (0, -1))
         return (
             f"described {row.name} {TYPE_NAMES[row.type]} {method} count None {row.state.capitalize()} accepted {len(accepted)}"
-            f" durable {len(row.durable)} files {files} from {first} to {last}"
+            f" durable {len(self.durable(i))} files {files} from {first} to {last}"
         )
 
     def details(self, who, name):
@@ -536,15 +579,15 @@ class Archive:
     def got(self, i, start, end):
         """The raw text of an answer."""
         row = self.rows[i]
-        samples = answered(row.accepted, start, end)
+        samples = answered(self.accepted(i), start, end)
         return f"got {len(samples)} {shown(row.raw_text(samples, start))}"
 
     def reports(self):
         """What is reported of its files when it is opened again."""
         lines = []
-        for row in self.rows:
+        for i, row in enumerate(self.rows):
             files = " ".join(str(len(row.parts(store))) for store in STORES)
-            lines.append(f"{row.name} {TYPE_NAMES[row.type]} {row.state} samples {len(row.durable)} files {files}; ")
+            lines.append(f"{row.name} {TYPE_NAMES[row.type]} {row.state} samples {len(self.durable(i))} files {files}; ")
         for store in STORES:
             for i, row in enumerate(self.rows):
                 for file in self.files(i, store):

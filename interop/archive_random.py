@@ -9,6 +9,7 @@ HOUR = 3_600
 LATEST = 2**64 - 1
 # Two of them have one key.
 NAMES = ("A:B", "A-B", "C:D", "E")
+NEW_NAMES = (*NAMES, "A:C", "A-C", "F", "G:H", "I")
 STEPS = (0, 1, 1, 1, 60, 1_800, HOUR, 2 * HOUR, 24 * HOUR)
 
 
@@ -47,13 +48,25 @@ class Writer:
         self.names.append(name)
         return "register", name, "SCALAR_INT", self.rng.choice(("monitor", "monitor", f"scan {SECOND}", f"scan {100 * SECOND}"))
 
+    def acts_of_names(self):
+        """A new name, mostly for a variable that is paused and all of which is durable; and mostly it goes on then."""
+        rng = self.rng
+        old, new = self.name(), rng.choice(NEW_NAMES)
+        self.names.append(new)
+        acts = [("pause", old), ("flush", 67_108_864), ("rename", old, new), ("resume", new), self.offer_to(new)]
+        return [act for act in acts if rng.random() < 0.9]
+
     def offer(self):
-        """A sample, mostly later than those before it."""
+        """A sample for a variable, mostly later than those before it."""
+        return self.offer_to(self.name())
+
+    def offer_to(self, name):
+        """A sample for this variable."""
         self.seconds += self.rng.choice(STEPS)
         at = max(self.seconds - self.rng.choice((0, 0, 0, 0, 5, HOUR)), 0)
         now = self.moment(self.seconds - self.rng.choice((0, 0, 0, 1_800, 1_801)) if self.seconds > HOUR else self.seconds)
         kind = self.rng.choice(["SCALAR_INT"] * 30 + ["SCALAR_FLOAT"])
-        return "offer", self.name(), kind, *sample(self.rng.randrange(1, 14), at), now
+        return "offer", name, kind, *sample(self.rng.randrange(1, 14), at), now
 
     def later(self):
         """A moment of a clock that is behind the samples, as far as partitions want it."""
@@ -107,6 +120,8 @@ class Writer:
             return [self.offer() for _ in range(rng.randrange(1, 4))]
         if chance < 0.5:
             return [("flush", rng.choice((1, 15, 1_000, 67_108_864, 67_108_864)))]
+        if chance < 0.52:
+            return self.acts_of_names()
         if chance < 0.55:
             return [("tick", rng.choice((0, 0, 1, 2)), self.moment(self.seconds + rng.choice((0, 1, 200))))]
         if chance < 0.72:

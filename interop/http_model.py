@@ -170,6 +170,7 @@ PATHS = {
     b"/mgmt/bpl/getPVDetails": "details",
     b"/mgmt/bpl/pauseArchivingPV": "pause",
     b"/mgmt/bpl/resumeArchivingPV": "resume",
+    b"/mgmt/bpl/renamePV": "rename",
     b"/mgmt/bpl/archivePV": "archive",
 }
 
@@ -200,13 +201,15 @@ def parameters(call, form):
     words = [name_in(form)]
     if call == "archive":
         words += [type_in(form), *sampling_in(form), "0"]
+    if call == "rename":
+        words.append(name_in(form, "newname"))
     return words
 
 
-def name_in(form):
-    name = form.get("pv", "")
+def name_in(form, parameter="pv"):
+    name = form.get(parameter, "")
     if not is_name(name.encode()):
-        raise Missing("pv")
+        raise Missing(parameter)
     return name
 
 

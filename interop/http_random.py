@@ -84,7 +84,7 @@ def target(rng):
 
 def query(rng, call):
     """A query with most of what a call asks for, in any order, with other pairs and with some names twice."""
-    wanted = {"raw": ["pv", "from", "to"], "json": ["pv", "from", "to"], "archive": ["pv", "type", "samplingmethod", "samplingperiod"]}
+    wanted = {"raw": ["pv", "from", "to"], "json": ["pv", "from", "to"], "archive": ["pv", "type", "samplingmethod", "samplingperiod"], "rename": ["pv", "newname"]}
     names = [name for name in wanted.get(call, ["pv"]) if rng.random() < 0.95]
     if rng.random() < 0.3:
         names.append(rng.choice(["pv", "from", "x", "PV", "", "samplingperiod"]))
@@ -95,7 +95,7 @@ def query(rng, call):
 
 
 def value(rng, name):
-    good = {"pv": "A:B", "from": MOMENTS[0], "to": MOMENTS[1], "type": "SCALAR_INT", "samplingmethod": "SCAN", "samplingperiod": "0.5"}
+    good = {"pv": "A:B", "newname": "A:C", "from": MOMENTS[0], "to": MOMENTS[1], "type": "SCALAR_INT", "samplingmethod": "SCAN", "samplingperiod": "0.5"}
     if name in good and rng.random() < 0.6:
         return good[name]
     texts = {"pv": NAMES, "from": MOMENTS, "to": MOMENTS, "type": TYPES, "samplingmethod": SAMPLING, "samplingperiod": PERIODS}

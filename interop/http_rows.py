@@ -150,7 +150,7 @@ TARGETS = {
         ("*", "E30"),
         ("?pv=A", "E30"),
         ("http://a/mgmt/bpl/flush", "E30"),
-        ("/mgmt/bpl/renamePV?pv=A&newname=B", "E30"),
+        ("/mgmt/bpl/renamePv?pv=A&newname=B", "E30"),
         ("/retrieval/data/getData.txt?pv=A", "E30"),
         ("/retrieval/data/getData.qw", "E30"),
         ("/é", "E30"),
@@ -274,6 +274,21 @@ TARGETS = {
         ("pv=A&type=scalar_int", "E31 type"),
         ("pv=A&type=SCALAR_INT&samplingmethod=scan", "E31 samplingmethod"),
         ("pv=A&type=SCALAR_INT&samplingmethod=&samplingperiod=x", "E31 samplingmethod"),
+    ],
+    # A variable gets a new name.
+    "/mgmt/bpl/renamePV?": [
+        ("pv=A:B&newname=A:C", "1 rename A:B A:C"),
+        ("newname=A%3AC&pv=A%3AB", "1 rename A:B A:C"),
+        ("pv=A&newname=A", "1 rename A A"),
+        ("pv=A&newname=B&newname=C&pv=", "1 rename A B"),
+        ("newname=B", "E31 pv"),
+        ("pv=&newname=", "E31 pv"),
+        ("pv=A", "E31 newname"),
+        ("pv=A&newname=", "E31 newname"),
+        ("pv=A&newname=B:", "E31 newname"),
+        ("pv=A&newName=B", "E31 newname"),
+        ("pv=A&newname=count_8(B)", "E31 newname"),
+        ("pv=count_8(A)&newname=B", "E31 pv"),
     ],
     # A period is from a tenth of a second to a day.
     "/mgmt/bpl/archivePV?pv=A&type=SCALAR_INT&samplingmethod=SCAN&samplingperiod=": [

@@ -80,9 +80,12 @@ def taken(files, name, take, into):
 
 @dataclass
 class Row:
+    """A variable under one name. Its base is the number of the row of the name before, if it was renamed."""
+
     name: bytes
     type: int
-    paused: bool = False
+    state: str = "running"
+    base: object = None
 
 
 def take_rows(members, rows):
@@ -92,9 +95,11 @@ def take_rows(members, rows):
             take_row(members, number, rows)
         elif kind == 2:
             state = members.number(1)
-            if state > 1 or number >= len(rows):
+            if state > 1 or number >= len(rows) or rows[number].state == "retired":
                 raise BadBatch
-            rows[number].paused = state == 1
+            rows[number].state = ("running", "paused")[state]
+        elif kind == 3:
+            take_name(members, number, rows)
         else:
             raise BadBatch
 
@@ -106,11 +111,26 @@ def take_row(members, number, rows):
     members.number(4)
     for _ in range(2 * members.number(4)):
         members.text()
-    if number != len(rows) or number >= MOST_ROWS or not is_name(name) or key_of(name) in {key_of(row.name) for row in rows}:
-        raise BadBatch
+    take_next(number, name, rows)
     if type_number >= len(TYPE_NAMES) or method > 1 or has_count > 1:
         raise BadBatch
     rows.append(Row(name, type_number))
+
+
+def take_name(members, old, rows):
+    """A row of another name goes over a paused one, which is retired."""
+    number, name = members.number(4), members.text()
+    if old >= len(rows) or rows[old].state != "paused":
+        raise BadBatch
+    take_next(number, name, rows)
+    rows[old].state = "retired"
+    rows.append(Row(name, rows[old].type, "paused", old))
+
+
+def take_next(number, name, rows):
+    """A row has the next number, and a good name whose key is free."""
+    if number != len(rows) or number >= MOST_ROWS or not is_name(name) or key_of(name) in {key_of(row.name) for row in rows}:
+        raise BadBatch
 
 
 # Manifests
@@ -166,12 +186,16 @@ class Opened:
             for (series, start), entry in self.entries[store].items():
                 yield store, series, start, path_of(self.rows[series].name, start, store), entry
 
+    def line(self, series):
+        """The rows of a variable under all its names up to this one."""
+        base = self.rows[series].base
+        return ([] if base is None else self.line(base)) + [series]
+
     def status_lines(self):
         """What `status` writes of the rows, but for the numbers of samples."""
         for series, row in enumerate(self.rows):
             counts = [sum(where[0] == series for where in self.entries[store]) for store in STORES]
-            state = b"paused" if row.paused else b"running"
-            yield b"%s %s %s samples # files %d %d %d" % (row.name, TYPE_NAMES[row.type].encode(), state, *counts)
+            yield b"%s %s %s samples # files %d %d %d" % (row.name, TYPE_NAMES[row.type].encode(), row.state.encode(), *counts)
 
 
 def opened(files, sizes):

@@ -6,7 +6,7 @@ Each function takes the source of randomness first, and gives the same for the s
 import pb_model
 import streams
 from pb_model import Fault, escape, unescape
-from store_model import Damaged, batches, journal, varint
+from store_model import Damaged, batches, journal, renamed, switched, varint
 
 PIECES = (*streams.PIECES, b"\x7f", b" ", b"%", b"&", b":", b"?")
 NUMBERS = (0, 1, 2, 127, 128, 2**14, 2**31 - 1, 2**31, 2**32 - 1, 2**32, 2**63 - 1, 2**63, 2**64 - 1)
@@ -153,15 +153,19 @@ def other_batches(rng, data):
     except Damaged:
         return data
     if not parts:
-        return journal([rng.choice((b"", b"\x01\x03", b"\x01\x04", b"\x02\x00\x00\x00\x00\x01", (1).to_bytes(8, "little")))])
-    one, other, way = rng.randrange(len(parts)), rng.randrange(len(parts)), rng.randrange(8)
+        return journal([rng.choice((b"", b"\x01\x03", b"\x01\x04", switched(0, 1), renamed(0, 1, b"N"), (1).to_bytes(8, "little")))])
+    one, other, way = rng.randrange(len(parts)), rng.randrange(len(parts)), rng.randrange(9)
     if way == 0:
         del parts[one]
     elif way == 1:
         parts[one], parts[other] = parts[other], parts[one]
     elif way == 2:
         parts[one : one + 2] = [b"".join(parts[one : one + 2])]
-    elif way < 5:
+    elif way == 3:
+        row = rng.randrange(len(parts) + 1)
+        new = rng.choice((len(parts), row, rng.randrange(70_000)))
+        parts.insert(one, rng.choice((switched(row, rng.randrange(3)), renamed(row, new, rng.choice((b"N", b"A-B", b"A::B", parts[other][:9]))))))
+    elif way < 6:
         parts[one] = mutated(rng, parts[one], parts)
     else:
         parts[one] = other_member(rng, parts[one])

@@ -117,6 +117,49 @@ def sampled(talk):
         time.sleep(0.05)
 
 
+# A new name that waits
+
+ATTEMPTS = 30
+DONE = reply_rows.answer("200 OK", 16, '{"status":"ok"}')
+# What is refused while the first sample alone is kept and nothing is durable, and while the ninth is kept and the fifth is durable.
+WAITING = [
+    (FIRST, reply_rows.answer("409 Conflict", 59, '{"status":"E33","last":1704067201000000000,"durable":null}')),
+    (NINTH, reply_rows.answer("409 Conflict", 74, '{"status":"E33","last":1704067209000000000,"durable":1704067205000000000}')),
+]
+
+
+def waiting_name(talk):
+    """A new name waits until the last sample is durable. The service flushes by itself, so it comes to that now and then alone."""
+    found = set()
+    for row in range(ATTEMPTS):
+        name = f"W:{row}"
+        sample, wanted = WAITING[row % 2]
+        header = HEADER.replace(b"\x03A:B", bytes([len(name)]) + name.encode())
+        talk.act(*registered(f"pv={name}&type=SCALAR_INT", 2 * row))
+        if sample == NINTH:
+            talk.feed(header + FIFTH, b"ok 1 0 0\ndurable 1\n")
+        with connected(talk.ports()[0]) as link:
+            link.sendall(header + sample + b"\n")
+            agree("what is told of a chunk", line_of(link), b"ok 1 0 0\n")
+            ports, new = talk.ports(), f"V:{row}"
+            agree("a pause", sent(ports[1], get(f"/mgmt/bpl/pauseArchivingPV?pv={name}"), AT_ONCE), DONE)
+            told = sent(ports[1], get(f"/mgmt/bpl/renamePV?pv={name}&newname={new}"), AT_ONCE)
+            if told != DONE:
+                agree("a new name before all is durable", told, wanted)
+                found.add(sample)
+                sent(ports[1], get("/mgmt/bpl/flush"), AT_ONCE)
+                agree("a new name", sent(ports[1], get(f"/mgmt/bpl/renamePV?pv={name}&newname={new}"), AT_ONCE), DONE)
+            link.shutdown(socket.SHUT_WR)
+            agree("what is told at the end", rest_of(link), b"durable 1\n")
+        talk.site.feed(header + sample, time.time_ns())
+        talk.site.rename(2 * row, new.encode())
+        talk.ask(get(f"/retrieval/data/getData.raw?pv={new}&" + ALL))
+        talk.ask(get(f"/mgmt/bpl/getPVDetails?pv={new}"))
+        if len(found) == len(WAITING):
+            return
+    raise Difference(f"of {ATTEMPTS} new names {len(found)} had to wait")
+
+
 # A disk that fails
 
 DISK = reply_rows.answer("500 Internal Server Error", 18, '{"status":"disk"}')
@@ -133,7 +176,7 @@ def failing_disk(talk):
     talk.feed(HEADER + FIRST, b"ok 1 0 0\ndurable 1\n")
     states = ["getAllPVs", "getPVStatus?pv=A%3AB", "getPVStatus?pv=C", "getPVDetails?pv=A%3AB", "getPVDetails?pv=P", "resumeArchivingPV?pv=A%3AB"]
     asking = [*calls(states), reply_rows.RAW, reply_rows.JSON]
-    changes = calls(["flush", "resumeArchivingPV?pv=P", "pauseArchivingPV?pv=A%3AB", "archivePV?pv=C&type=SCALAR_INT"])
+    changes = calls(["flush", "renamePV?pv=P&newname=Q", "pauseArchivingPV?pv=A%3AB", "archivePV?pv=C&type=SCALAR_INT"])
     talk.let_grow(False)
     for path in asking:
         talk.ask(get(path))
@@ -142,14 +185,14 @@ def failing_disk(talk):
     for path in changes:
         talk.ask(get(path), DISK)
     talk.let_grow(True)
-    for path in [*changes, *asking]:
+    for path in [*changes, *calls(["resumeArchivingPV?pv=Q", "getPVDetails?pv=Q"]), *asking]:
         talk.ask(get(path))
 
 
 # Acts of which one began and failed: what became of it can't be found out, so nothing that asks the disk is told anything else.
 DEAD = [
-    *calls(["pauseArchivingPV?pv=A%3AB", "getPVStatus?pv=A%3AB", "getPVDetails?pv=A%3AB", "resumeArchivingPV?pv=P"]),
-    *calls(["archivePV?pv=C&type=SCALAR_INT", "flush"]),
+    *calls(["pauseArchivingPV?pv=A%3AB", "getPVStatus?pv=A%3AB", "getPVDetails?pv=A%3AB", "renamePV?pv=P&newname=Q"]),
+    *calls(["resumeArchivingPV?pv=P", "archivePV?pv=C&type=SCALAR_INT", "flush"]),
     reply_rows.RAW,
     reply_rows.JSON,
 ]
@@ -265,6 +308,7 @@ TABLES = {
     "bins": (reply_rows.of_bins, False),
     "feeds": (lambda: reply_rows.of_feeds(time.time_ns()), True),
     "hostile feeds": (reply_rows.of_hostile_feeds, True),
+    "renaming": (reply_rows.of_renaming, True),
     "moves": (reply_rows.of_moves, False),
     "heads": (reply_rows.of_heads, True),
     "texts": (reply_rows.of_texts, False),
@@ -275,6 +319,7 @@ OTHERS = {
     "broken feeds": broken_feeds,
     "broken requests": broken_requests,
     "a sampled variable": sampled,
+    "a new name that waits": waiting_name,
     "a failing disk": failing_disk,
     "a dead disk": dead_disk,
     "broken files": broken_files,

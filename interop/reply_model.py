@@ -19,14 +19,14 @@ KEPT, HELD, DROPPED = range(3)
 
 @dataclass
 class Variable(Row):
-    """A row that may be paused or sampled each period, and of whose samples so many are durable."""
+    """A row that may be sampled each period, and of whose samples so many are durable."""
 
     period: int = 0
-    paused: bool = False
     durable: int = 0
 
-    def state(self):
-        return "Paused" if self.paused else "Being archived"
+    def told(self):
+        """Its state as it is told."""
+        return {"running": "Being archived", "paused": "Paused", "retired": "Retired"}[self.state]
 
 
 class Site(Archive):
@@ -50,9 +50,10 @@ class Site(Archive):
     def offer(self, header, t, line, now):
         """How a sample is counted: as kept, as held until a tick, or as dropped."""
         row = self.find(header.name)
-        if row is None or row.paused or row.type != header.type:
+        if row is None or row.state != "running" or row.type != header.type:
             return DROPPED
-        if (row.samples and t <= row.samples[-1][0]) or t > now + AHEAD:
+        last = self.whole(row)[-1:]
+        if (last and t <= last[0][0]) or t > now + AHEAD:
             return DROPPED
         if row.period:
             return HELD
@@ -123,34 +124,63 @@ class Site(Archive):
             return (500, '{"status":"disk"}') if self.pending() else (200, '{"status":"ok","flushed":0}')
         if call == "archive":
             return self.told_of_archiving(*words)
+        if call == "rename":
+            return self.told_of_renaming(*words)
         return self.told_of_row(call, words[0])
 
-    def told_of_archiving(self, name, type_name, method, *rest):
+    def taken(self, name):
+        """Why no row can be added for a name, None where one can."""
         number = self.row_of_key(name.encode())
         if number is not None:
             taken = "E18" if self.rows[number].name == name.encode() else "E19"
             return 409, '{"status":"%s","row":%d}' % (taken, number)
-        if len(self.rows) == MOST_ROWS:
-            return 409, '{"status":"E20"}'
+        return (409, '{"status":"E20"}') if len(self.rows) == MOST_ROWS else None
+
+    def told_of_archiving(self, name, type_name, method, *rest):
+        refused = self.taken(name)
+        if refused:
+            return refused
         if self.fails:
             return 500, '{"status":"disk"}'
         period = int(rest[0]) if method == "scan" else 0
         self.rows.append(Variable(name.encode(), TYPE_NAMES.index(type_name), None, [], period=period))
         return 200, '{"status":"ok","row":%d}' % (len(self.rows) - 1)
 
+    def told_of_renaming(self, name, new_name):
+        row = self.find(name.encode())
+        if row is None:
+            return 404, '{"status":"E26"}'
+        if row.state != "paused":
+            return 409, '{"status":"E32"}'
+        refused = self.taken(new_name)
+        if refused:
+            return refused
+        if row.durable < len(row.samples):
+            durable = self.durable(row)
+            return 409, '{"status":"E33","last":%d,"durable":%s}' % (row.samples[-1][0], durable[-1][0] if durable else "null")
+        if self.fails:
+            return 500, '{"status":"disk"}'
+        self.rename(self.rows.index(row), new_name.encode())
+        self.rows[-1].durable = 0
+        return 200, '{"status":"ok"}'
+
+    def durable(self, row):
+        """Of the samples of a variable under all its names those that are durable."""
+        return self.whole(row)[: len(self.whole(row)) - len(row.samples) + row.durable]
+
     def told_of_row(self, call, name):
         row = self.find(name.encode())
         if call == "status":
-            return 200, '[{"pvName":"%s","status":"%s"}]' % (name, row.state() if row else "Not being archived")
+            return 200, '[{"pvName":"%s","status":"%s"}]' % (name, row.told() if row else "Not being archived")
         if row is None:
             return 404, '{"status":"E26"}'
         if call == "details":
-            return 200, details(row)
-        if row.paused == (call == "pause"):
-            return 409, '{"status":"%s"}' % ("E21" if row.paused else "E22")
+            return 200, self.details(row)
+        if row.state != ("running" if call == "pause" else "paused"):
+            return 409, '{"status":"%s"}' % ("E21" if call == "pause" else "E22")
         if self.fails:
             return 500, '{"status":"disk"}'
-        row.paused = not row.paused
+        row.state = "paused" if call == "pause" else "running"
         return 200, '{"status":"ok"}'
 
     def data(self, version, call, name, first, last, *operator):
@@ -159,12 +189,26 @@ class Site(Archive):
         if row is None:
             return managed(404, '{"status":"E26"}')
         first, last = int(first), int(last)
-        samples = chosen(row.samples, first, last)
+        samples = chosen(self.whole(row), first, last)
         if operator:
-            samples = binned([(t, line) for t, line in row.samples if first <= t <= last], first, *operator)
+            samples = binned([(t, line) for t, line in self.whole(row) if first <= t <= last], first, *operator)
             row = Variable(row.name, INT, None, []) if "count" in operator[0] else row
         text = raw_text(row, samples, first) if call == "raw" else json_text(row, samples)
         return head_of(200, call == "json", version, None) + (in_chunks(text) if version == 1 else text)
+
+    def details(self, row):
+        """The body of a reply with what is known of a variable."""
+        members = {
+            "pvName": f'"{row.name.decode()}"',
+            "type": f'"{TYPE_NAMES[row.type]}"',
+            "status": f'"{row.told()}"',
+            "samplingMethod": '"SCAN"' if row.period else '"MONITOR"',
+            "samplingPeriodNanos": row.period,
+            "accepted": len(self.whole(row)),
+            "durable": len(self.durable(row)),
+            "files": "[%s]" % ",".join(str(len(row.listed[store])) for store in STORES),
+        }
+        return "{" + ",".join(f'"{name}":{value}' for name, value in members.items()) + "}"
 
 
 # Bins
@@ -201,20 +245,6 @@ def managed(status, body):
     """A reply with a JSON body of a known length."""
     text = body.encode() + b"\n"
     return head_of(status, True, 1, len(text)) + text
-
-
-def details(row):
-    members = {
-        "pvName": f'"{row.name.decode()}"',
-        "type": f'"{TYPE_NAMES[row.type]}"',
-        "status": f'"{row.state()}"',
-        "samplingMethod": '"SCAN"' if row.period else '"MONITOR"',
-        "samplingPeriodNanos": row.period,
-        "accepted": len(row.samples),
-        "durable": row.durable,
-        "files": "[%s]" % ",".join(str(len(row.listed[store])) for store in STORES),
-    }
-    return "{" + ",".join(f'"{name}":{value}' for name, value in members.items()) + "}"
 
 
 # JSON texts

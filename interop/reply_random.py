@@ -1,10 +1,11 @@
 """Random archives that are asked at random: streams that are brought into one, and requests and feeds of a service over it."""
 
+import copy
 import time
 
 import http_random
 from pb_model import LAST_YEAR, SECOND, Header, escape, iso, year_start
-from store_model import AHEAD, END, HOUR, TYPE_NAMES, bytes_field, header_line, number_field, varint, year_of
+from store_model import AHEAD, END, HOUR, TYPE_NAMES, bytes_field, header_line, is_name, number_field, varint, year_of
 
 STRING, SHORT, FLOAT, ENUM, BYTE, INT, DOUBLE = range(7)
 NAMES = [b"A", b"A:B", b"A-B", b"A/B/c", b"x+y", b"T:[1]<2>", b"{#^}", b"q;r.s,t", b"a" * 128]
@@ -189,7 +190,14 @@ def request(rng, rows):
     if rng.random() < 0.3:
         any_head = http_random.head(rng)
         return http_random.damaged(rng, any_head) if rng.random() < 0.3 else any_head
-    calls = [b"getPVStatus", b"getPVDetails", b"pauseArchivingPV", b"resumeArchivingPV", b"resumeArchivingPV", b"archivePV", b"getAllPVs", b"flush"]
-    name = rng.choice(rows).name if rng.random() < 0.8 else rng.choice(NAMES + OTHER_NAMES)
+    calls = [b"getPVStatus", b"getPVDetails", b"pauseArchivingPV", b"resumeArchivingPV", b"resumeArchivingPV", b"renamePV", b"archivePV", b"getAllPVs", b"flush"]
+    row, call = rng.choice(rows), rng.choice(calls)
+    name = row.name if rng.random() < 0.8 else rng.choice(NAMES + OTHER_NAMES)
     query = b"pv=" + escaped(name) + b"&type=" + rng.choice(TYPE_NAMES).encode()
-    return head(rng, b"/mgmt/bpl/" + rng.choice(calls) + b"?" + query)
+    if call == b"renamePV":
+        new = copy.copy(row)
+        new.name = rng.choice(NAMES + OTHER_NAMES + [b"N:%d" % len(rows)] * 20)
+        if is_name(new.name):
+            rows.append(new)  # it goes on there, if it is renamed
+        query += b"&newname=" + escaped(new.name)
+    return head(rng, b"/mgmt/bpl/" + call + b"?" + query)

@@ -78,12 +78,37 @@ MANAGED = [
     ),
 ]
 
+# The same of `A:B` with the first and the fifth sample: it is renamed `A:C`, once it is paused.
+RENAMED = [
+    ("renamePV?pv=A%3AB&newname=A%3AC", "409 Conflict", 17, '{"status":"E32"}'),
+    ("renamePV?pv=A%3AD&newname=A%3AC", "404 Not Found", 17, '{"status":"E26"}'),
+    ("renamePV?pv=A%3AB&newname=A%3A", "400 Bad Request", 39, '{"status":"E31","parameter":"newname"}'),
+    ("renamePV?pv=A%3AB", "400 Bad Request", 39, '{"status":"E31","parameter":"newname"}'),
+    ("pauseArchivingPV?pv=A%3AB", "200 OK", 16, '{"status":"ok"}'),
+    ("renamePV?pv=A%3AB&newname=A-B", "409 Conflict", 25, '{"status":"E19","row":0}'),
+    ("renamePV?pv=A%3AB&newname=A%3AB", "409 Conflict", 25, '{"status":"E18","row":0}'),
+    ("renamePV?pv=A%3AB&newname=A%3AC", "200 OK", 16, '{"status":"ok"}'),
+    ("getAllPVs", "200 OK", 14, '["A:B","A:C"]'),
+    ("getPVStatus?pv=A%3AB", "200 OK", 38, '[{"pvName":"A:B","status":"Retired"}]'),
+    ("getPVStatus?pv=A%3AC", "200 OK", 37, '[{"pvName":"A:C","status":"Paused"}]'),
+    ("getPVDetails?pv=A%3AB", "200 OK", 148, '{"pvName":"A:B","type":"SCALAR_INT","status":"Retired","samplingMethod":"MONITOR","samplingPeriodNanos":0,"accepted":2,"durable":2,"files":[1,0,0]}'),
+    ("getPVDetails?pv=A%3AC", "200 OK", 147, '{"pvName":"A:C","type":"SCALAR_INT","status":"Paused","samplingMethod":"MONITOR","samplingPeriodNanos":0,"accepted":2,"durable":2,"files":[0,0,0]}'),
+    ("pauseArchivingPV?pv=A%3AB", "409 Conflict", 17, '{"status":"E21"}'),
+    ("resumeArchivingPV?pv=A%3AB", "409 Conflict", 17, '{"status":"E22"}'),
+    ("renamePV?pv=A%3AB&newname=A%3AD", "409 Conflict", 17, '{"status":"E32"}'),
+    ("archivePV?pv=A%3AB&type=SCALAR_INT", "409 Conflict", 25, '{"status":"E18","row":0}'),
+    ("archivePV?pv=A-C&type=SCALAR_INT", "409 Conflict", 25, '{"status":"E19","row":1}'),
+]
+NEW_HEADER = b"\x08\x05\x12\x03A:C\x18\xe8\x0f\n"
+NEW_JSON_TEXT = b'[{"meta":{"name":"A:C"},"data":[{"secs":1704067201,"nanos":0,"val":1,"severity":0,"status":0},{"secs":1704067205,"nanos":0,"val":2,"severity":0,"status":0}]}]\n'
+
 # Bytes that ask for nothing, and the reply: status, the body's length, and the body before its newline.
 REFUSED = [
     (b"GET / HTTP/2\r\n\r\n", "400 Bad Request", 17, '{"status":"E27"}'),
     (b"", "400 Bad Request", 17, '{"status":"E27"}'),
     (b"POST /mgmt/bpl/flush HTTP/1.1\r\n\r\n", "405 Method Not Allowed", 17, '{"status":"E29"}'),
-    (b"GET /mgmt/bpl/renamePV?pv=A&newname=B HTTP/1.1\r\n\r\n", "404 Not Found", 17, '{"status":"E30"}'),
+    (b"GET /mgmt/bpl/renamePV?pv=A&newname=B HTTP/1.1\r\n\r\n", "404 Not Found", 17, '{"status":"E26"}'),
+    (b"GET /mgmt/bpl/renamepv?pv=A&newname=B HTTP/1.1\r\n\r\n", "404 Not Found", 17, '{"status":"E30"}'),
     (b"GET / HTTP/1.1\r\n\r\n", "404 Not Found", 17, '{"status":"E30"}'),
     (b"GET /mgmt/bpl/getPVStatus HTTP/1.1\r\n\r\n", "400 Bad Request", 34, '{"status":"E31","parameter":"pv"}'),
     (
@@ -387,6 +412,37 @@ def of_management():
     yield registered("pv=S&type=SCALAR_INT&samplingmethod=SCAN&samplingperiod=1", 13)
     sampled = TWO.replace(b"\x12\x03A:B", b"\x12\x01S")
     yield "feed", sampled, b"ok 0 1 0\nok 0 2 0\ndurable 0\n"
+
+
+def of_renaming():
+    """A variable with a new name: it keeps its past, and goes on where it is resumed; its old name keeps what it had."""
+    yield registered()
+    yield "feed", HEADER + FIRST + FIFTH, b"ok 2 0 0\ndurable 2\n"
+    for call in RENAMED:
+        yield asked(*call)
+    raw, json = "/retrieval/data/getData.raw?pv=", "/retrieval/data/getData.json?pv="
+    yield "ask", get(raw + "A%3AC&" + ALL, 0), data_head("octet-stream", 0) + NEW_HEADER + FIRST + FIFTH
+    yield "ask", get(raw + "A%3AB&" + ALL, 0), data_head("octet-stream", 0) + HEADER + FIRST + FIFTH
+    yield "ask", get(json + "A%3AC&" + ALL, 0), data_head("json", 0) + NEW_JSON_TEXT
+    for header in (HEADER, NEW_HEADER):
+        yield "feed", header + NINTH, b"ok 0 0 1\ndurable 0\n"
+    yield asked("resumeArchivingPV?pv=A%3AC", "200 OK", 16, '{"status":"ok"}')
+    # What the old name had already is too late, and what comes under the old name is dropped.
+    yield "feed", NEW_HEADER + FIFTH, b"ok 0 0 1\ndurable 0\n"
+    yield "feed", NEW_HEADER + NINTH, b"ok 1 0 0\ndurable 1\n"
+    yield "feed", HEADER + b"\x08\x0b\x10\x00\x1d\x04\x00\x00\x00\n", b"ok 0 0 1\ndurable 0\n"
+    yield "ask", get(raw + "A%3AC&" + ALL, 0), data_head("octet-stream", 0) + NEW_HEADER + FIRST + FIFTH + NINTH
+    yield "ask", get(raw + "A%3AB&" + ALL, 0), data_head("octet-stream", 0) + HEADER + FIRST + FIFTH
+    yield asked(
+        "getPVDetails?pv=A%3AC",
+        "200 OK",
+        155,
+        '{"pvName":"A:C","type":"SCALAR_INT","status":"Being archived","samplingMethod":"MONITOR","samplingPeriodNanos":0,"accepted":3,"durable":3,"files":[1,0,0]}',
+    )
+    for kind in ("raw", "json"):
+        for first, last, _ in INTERVALS:
+            yield "ask", get(f"/retrieval/data/getData.{kind}?pv=A%3AC&from={first}&to={last}"), None
+            yield "ask", get(f"/retrieval/data/getData.{kind}?pv=count_8(A%3AC)&from={first}&to={last}"), None
 
 
 def of_refusals():

@@ -294,7 +294,7 @@ class Feeder:
 
 
 class Manager:
-    """Registers variables, flushes, and asks what is known of them."""
+    """Registers and renames variables, flushes, and asks what is known of them."""
 
     def __init__(self, life, rng):
         self.life = life
@@ -302,7 +302,7 @@ class Manager:
 
     def once(self):
         """One request."""
-        self.rng.choice((self.register, self.names, self.details, self.details, self.flush, self.pause, self.refused))()
+        self.rng.choice((self.register, self.names, self.details, self.details, self.flush, self.pause, self.rename, self.refused))()
 
     def register(self):
         """A new variable; or one whose registration was asked for when the service was killed."""
@@ -359,6 +359,25 @@ class Manager:
             agree(path, (status, reply), (200, {"status": "ok"}))
             agree("getPVStatus", told(self.life, "/mgmt/bpl/getPVStatus", query),
                   (200, [{"pvName": self.life.archive.idle, "status": state}]))
+
+    def rename(self):
+        """A variable that nobody feeds in this life gets a new name, and is resumed under that."""
+        archive = self.life.archive
+        if f"NEW:{len(archive.variables)}" in archive.was_doubted:
+            self.register()
+        if not self.life.unfed or len(archive.variables) >= 90:
+            return
+        variable = self.life.unfed.pop()
+        archive.renaming = variable, f"REN:{len(archive.variables)}"
+        new = archive.renaming[1]
+        requests = [("pauseArchivingPV", [("pv", variable.name)]), ("flush", []),
+                    ("renamePV", [("pv", variable.name), ("newname", new)]), ("resumeArchivingPV", [("pv", new)])]
+        for path, query in requests:
+            agree(path, told(self.life, f"/mgmt/bpl/{path}", query)[0], 200)
+        for name, state in ((variable.name, "Retired"), (new, "Being archived")):
+            agree("getPVStatus", told(self.life, "/mgmt/bpl/getPVStatus", [("pv", name)]), (200, [{"pvName": name, "status": state}]))
+        archive.renamed()
+        self.life.count("renamed")
 
     def refused(self):
         """Requests that are refused."""

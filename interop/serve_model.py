@@ -150,6 +150,8 @@ class Variable:
     offered: int = 0
     # Whether what the archive has accepted is known exactly.
     is_exact: bool = True
+    # Whether it is an old name of a variable that was renamed.
+    is_retired: bool = False
     lock: object = field(default_factory=threading.Lock)
 
     def grow(self, number):

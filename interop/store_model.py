@@ -7,7 +7,7 @@ short term, 2, the medium term, and 3, the long term.
 
 import itertools
 import re
-from dataclasses import dataclass, field
+from dataclasses import dataclass, field, replace
 from datetime import datetime, timedelta
 
 import pb_model
@@ -118,7 +118,8 @@ def header_line(header):
 
 @dataclass
 class Row:
-    """A variable as its first header told it, and its accepted samples: their moments and lines.
+    """A variable under one name, as its first header told it, and the samples that were accepted under this name: their moments
+    and lines. Its base is the number of the row of the name before, if it was renamed.
 
     Of each store it has what that lists: by the start of a partition the numbers of its first sample and of
     the one behind its last. A sample that a move has copied and not yet taken away is in two stores.
@@ -130,11 +131,12 @@ class Row:
     headers: list
     samples: list = field(default_factory=list)
     listed: dict = field(default_factory=lambda: {store: {} for store in STORES})
+    state: str = "running"
+    base: object = None
 
     def copy(self):
         """The same row, which may go on by itself."""
-        listed = {store: dict(parts) for store, parts in self.listed.items()}
-        return Row(self.name, self.type, self.count, self.headers, list(self.samples), listed)
+        return replace(self, samples=list(self.samples), listed={store: dict(parts) for store, parts in self.listed.items()})
 
     def add(self, t, line):
         """Accepts a sample."""
@@ -277,6 +279,16 @@ class Archive:
         """The row of a name, None where there is none."""
         return next((row for row in self.rows if row.name == name), None)
 
+    def whole(self, row):
+        """The samples of a variable under all its names up to this one."""
+        return ([] if row.base is None else self.whole(self.rows[row.base])) + row.samples
+
+    def rename(self, number, name):
+        """A row over one that is retired, of the same variable."""
+        old = self.rows[number]
+        old.state = "retired"
+        self.rows.append(replace(old.copy(), name=name, samples=[], listed={store: {} for store in STORES}, state="paused", base=number))
+
     def register(self, header):
         """Makes a row of a header whose name and key are free."""
         keys = {key_of(row.name) for row in self.rows}
@@ -286,9 +298,10 @@ class Archive:
     def offer(self, header, t, line, now):
         """Accepts a sample of a chunk, unless there is a reason against it."""
         row = self.find(header.name)
-        if row is None or row.type != header.type:
+        if row is None or row.state != "running" or row.type != header.type:
             return
-        if (not row.samples or t > row.samples[-1][0]) and t <= now + AHEAD:
+        last = self.whole(row)[-1:]
+        if (not last or t > last[0][0]) and t <= now + AHEAD:
             row.add(t, line)
 
     def take(self, chunk, now):
@@ -328,7 +341,7 @@ class Archive:
         row = self.find(name)
         if row is None:
             return Run(4, b"", complaint("no such variable"))
-        return Run(0, raw_text(row, chosen(row.samples, start, end), start), b"")
+        return Run(0, raw_text(row, chosen(self.whole(row), start, end), start), b"")
 
     def files(self):
         """The files of all rows, store by store."""
@@ -341,8 +354,8 @@ class Archive:
     def status(self):
         """A line for each row."""
         lines = [
-            b"%s %s running samples %d files %d %d %d\n"
-            % (row.name, TYPE_NAMES[row.type].encode(), len(row.samples), *(len(row.listed[store]) for store in STORES))
+            b"%s %s %s samples %d files %d %d %d\n"
+            % (row.name, TYPE_NAMES[row.type].encode(), row.state.encode(), len(self.whole(row)), *(len(row.listed[store]) for store in STORES))
             for row in self.rows
         ]
         return Run(0, b"".join(lines), b"")
@@ -493,6 +506,16 @@ def current_name(name, tells):
     """The name of a journal's file that counts, by the bytes of its file `.at`."""
     number = generation(tells)
     return f"{name}.{number}" if number else name
+
+
+def switched(row, state):
+    """The batch of a catalogue that sets a row's state: 0 running, 1 paused."""
+    return b"\x02" + row.to_bytes(4, "little") + bytes([state])
+
+
+def renamed(old, new, name):
+    """The batch of a catalogue that puts a row with another name over a paused one."""
+    return b"\x03" + old.to_bytes(4, "little") + new.to_bytes(4, "little") + len(name).to_bytes(4, "little") + name
 
 
 class Reader:

@@ -153,6 +153,17 @@ class Place:
             (self.site / self.manifest_name(store)).write_bytes(store_model.journal(batches + again * times))
         return bool(again)
 
+    def rename(self, model, number, name, is_resumed=True):
+        """Writes into the catalogue what a service does that pauses a variable and gives it a new name, and resumes it mostly."""
+        batches = [batch for _, batch in store_model.batches(self.bytes_of("catalogue"))]
+        new = len(model.rows)
+        batches += [store_model.switched(number, 1), store_model.renamed(number, new, name)]
+        model.rename(number, name)
+        if is_resumed:
+            batches.append(store_model.switched(new, 0))
+            model.rows[new].state = "running"
+        (self.site / "catalogue").write_bytes(store_model.journal(batches))
+
     def listed(self, store):
         """The granularity of a store's manifest, and what it lists."""
         try:
@@ -232,7 +243,7 @@ def compare_gets(place, model, rng, count):
     """Random intervals of random variables."""
     for _ in range(count if model.rows else 0):
         row = rng.choice(model.rows)
-        (start, end), texts = streams.interval(rng, row.chunks(row.samples) or row.chunks([(0, b"")]))
+        (start, end), texts = streams.interval(rng, row.chunks(model.whole(row)) or row.chunks([(0, b"")]))
         place.expect(model.get(row.name, start, end), "get", row.name.decode(), *texts)
 
 

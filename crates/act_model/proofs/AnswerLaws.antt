@@ -1,6 +1,6 @@
 -- An act is answered by its own answers alone.
 use Rattle.std.proofs.Common.{◌≡◌, ℕ, ◌+◌, List, Option, Some, None, Bool, true, false, refl, sym, subst, inl, inr}
-use Rattle.std.specs.Prelude.{◌==◌, slice_get, nat_le, nat_lt, length}
+use Rattle.std.specs.Prelude.{◌==◌, ◌-◌, slice_get, nat_le, nat_lt, length}
 use Rattle.event_types.specs.declared.about.State.TheVariants.{Running, Paused, Retired}
 use Rattle.std.specs.Ordering.{nat_cmp}
 use Rattle.std.specs.FinMap.{FinMap, get}
@@ -8,22 +8,22 @@ use Rattle.series_model.specs.declared.sample.Sample.{Sample}
 use Rattle.series_model.specs.declared.sample.Query.{Query}
 use Rattle.series_model.specs.declared.admission.Reason.{Reason}
 use Rattle.series_model.specs.Admission.{admit_before, admit_after}
-use Rattle.event_types.specs.declared.about.About.{About}
 use Rattle.event_types.specs.declared.about.Method.{Method}
 use Rattle.event_types.specs.declared.about.Method.TheVariants.{Monitor, Scan}
 use Rattle.event_types.specs.declared.about.State.{State}
 use Rattle.pb_wire.specs.declared.payload.PayloadType.{PayloadType}
 use Rattle.act_model.specs.declared.acts.Act.{Act}
-use Rattle.act_model.specs.declared.acts.Act.TheVariants.{Register, Pause, Resume, Offer, Tick, Flush, MoveBegin, MoveStep, Sweep, Pin, OpenPiece, Unpin, Names, Details, Doors, DoorDone}
-use Rattle.act_model.specs.declared.acts.Answer.TheVariants.{NoSuchVariable, NotRunning, NotPaused, NoMove, NoPin, NotYours, Kept, DiskFault, Memory}
+use Rattle.act_model.specs.declared.acts.Act.TheVariants.{Register, Pause, Resume, Rename, Offer, Tick, Flush, MoveBegin, MoveStep, Sweep, Pin, OpenPiece, Unpin, Names, Details, Doors, DoorDone}
+use Rattle.act_model.specs.declared.acts.Answer.TheVariants.{NameTaken, KeyTaken, CatalogueFull, NoSuchVariable, RenameNotPaused, NotDurable, NotRunning, NotPaused, NoMove, NoPin, NotYours, Kept, DiskFault, Memory}
 use Rattle.act_model.specs.Reply.{Reply}
 use Rattle.act_model.specs.Answers.{is_answer_to}
-use Rattle.act_model.specs.Rows.{RowState, number_of, standing, period_of, is_running}
+use Rattle.act_model.specs.Rows.{RowState, number_of, standing, period_of, is_running, is_paused, is_empty}
 use Rattle.act_model.specs.Machine.{Machine, MoveState, PinState, Change, find_row, with_key, held_bytes}
 use Rattle.act_model.specs.Outcome.{Outcome, Ends, Acts, refused_at_once, refused, runs, faults_first, faults_between, faults_within, faults_removing, wants_memory, wants_memory_settled}
 use Rattle.act_model.specs.Register.{register_refused}
 use Rattle.act_model.specs.Pause.{state_refused, not_running}
 use Rattle.act_model.specs.Resume.{not_paused}
+use Rattle.act_model.specs.Rename.{changed_within, last_durable, rename_refused}
 use Rattle.act_model.specs.Changes.{with_rows, at}
 use Rattle.act_model.specs.Offer.{room, gains, offered_to, offered}
 use Rattle.act_model.specs.Tick.{ticked_due, ticked}
@@ -64,20 +64,22 @@ some_is is = cc
 as_said : (act : Act) (said answer : Reply) → is_answer_to act said ≡ true → Some said ≡ Some answer → is_answer_to act answer ≡ true
 as_said act said answer of_act is = subst (λ a. is_answer_to act a ≡ true) (some_is is) of_act
 
-register_refuses : (name : List ℕ) (about : About) (m : Machine) (answer : Reply) → register_refused name m ≡ Some answer → is_answer_to (Register name about) answer ≡ true
-register_refuses name about m answer is = by_name (find_row m name) refl
-  where
-    by_full : (b : Bool) → nat_le 65536 (length m.rows) ≡ b → find_row m name ≡ None → with_key m name ≡ None → is_answer_to (Register name about) answer ≡ true
-    by_full true full none free = as_said (Register name about) _ answer refl (rw (none, free, full) at is)
-    by_full false full none free = absurd (let bad = rw (none, free, full) at is in cc)
+-- a name that gets no row
+module _ (act : Act) (named : (i : ℕ) → is_answer_to act (NameTaken i) ≡ true) (keyed : (i : ℕ) → is_answer_to act (KeyTaken i) ≡ true) (crowded : is_answer_to act CatalogueFull ≡ true) where
+  register_refuses : (name : List ℕ) (m : Machine) (answer : Reply) → register_refused name m ≡ Some answer → is_answer_to act answer ≡ true
+  register_refuses name m answer is = by_name (find_row m name) refl
+    where
+      by_full : (b : Bool) → nat_le 65536 (length m.rows) ≡ b → find_row m name ≡ None → with_key m name ≡ None → is_answer_to act answer ≡ true
+      by_full true full none free = as_said act CatalogueFull answer crowded (rw (none, free, full) at is)
+      by_full false full none free = absurd (let bad = rw (none, free, full) at is in cc)
 
-    by_key : (o : Option ℕ) → with_key m name ≡ o → find_row m name ≡ None → is_answer_to (Register name about) answer ≡ true
-    by_key (Some i) taken none = as_said (Register name about) _ answer refl (rw (none, taken) at is)
-    by_key None free none = by_full (nat_le 65536 (length m.rows)) refl none free
+      by_key : (o : Option ℕ) → with_key m name ≡ o → find_row m name ≡ None → is_answer_to act answer ≡ true
+      by_key (Some i) taken none = as_said act (KeyTaken i) answer (keyed i) (rw (none, taken) at is)
+      by_key None free none = by_full (nat_le 65536 (length m.rows)) refl none free
 
-    by_name : (o : Option ℕ) → find_row m name ≡ o → is_answer_to (Register name about) answer ≡ true
-    by_name (Some i) found = as_said (Register name about) _ answer refl (rw found at is)
-    by_name None none = by_key (with_key m name) refl none
+      by_name : (o : Option ℕ) → find_row m name ≡ o → is_answer_to act answer ≡ true
+      by_name (Some i) found = as_said act (NameTaken i) answer (named i) (rw found at is)
+      by_name None none = by_key (with_key m name) refl none
 
 -- a state that doesn't suit
 module _ (act : Act) (wrong : State → Option Reply) (says : (state : State) (answer : Reply) → wrong state ≡ Some answer → is_answer_to act answer ≡ true) (unknown : is_answer_to act NoSuchVariable ≡ true) where
@@ -101,6 +103,31 @@ resume_says : (name : List ℕ) (state : State) (answer : Reply) → not_paused 
 resume_says name Running answer is = as_said (Resume name) NotPaused answer refl is
 resume_says name Paused answer is = absurd cc
 resume_says name Retired answer is = as_said (Resume name) NotPaused answer refl is
+
+-- a rename that is refused
+rename_refuses : (changed : ℕ) (found : Option ℕ) (name newname : List ℕ) (m : Machine) (answer : Reply) → rename_refused changed found name newname m ≡ Some answer → is_answer_to (Rename name newname) answer ≡ true
+rename_refuses changed found name newname m answer is = by_name (find_row m name) refl
+  where
+    by_tail : (i : ℕ) (row : RowState) → find_row m name ≡ Some i → slice_get m.rows i ≡ Some row → is_paused row.state ≡ true → register_refused newname m ≡ None → (b : Bool) → is_empty row.tail ≡ b → is_answer_to (Rename name newname) answer ≡ true
+    by_tail i row here there paused free true empty = absurd (let bad = rw (here, there, paused, free, empty) at is in cc)
+    by_tail i row here there paused free false some = as_said (Rename name newname) (NotDurable (row.next - 1) (last_durable found m i)) answer refl (rw (here, there, paused, free, some) at is)
+
+    by_newname : (i : ℕ) (row : RowState) → find_row m name ≡ Some i → slice_get m.rows i ≡ Some row → is_paused row.state ≡ true → (o : Option Reply) → register_refused newname m ≡ o → is_answer_to (Rename name newname) answer ≡ true
+    by_newname i row here there paused None free = by_tail i row here there paused free (is_empty row.tail) refl
+    by_newname i row here there paused (Some reply) taken =
+        as_said (Rename name newname) reply answer (register_refuses (Rename name newname) (λ k. refl) (λ k. refl) refl newname m reply taken) (rw (here, there, paused, taken) at is)
+
+    by_paused : (i : ℕ) (row : RowState) → find_row m name ≡ Some i → slice_get m.rows i ≡ Some row → (b : Bool) → is_paused row.state ≡ b → is_answer_to (Rename name newname) answer ≡ true
+    by_paused i row here there true paused = by_newname i row here there paused (register_refused newname m) refl
+    by_paused i row here there false other = as_said (Rename name newname) (RenameNotPaused row.state changed 0) answer refl (rw (here, there, other) at is)
+
+    by_row : (i : ℕ) → find_row m name ≡ Some i → (o : Option RowState) → slice_get m.rows i ≡ o → is_answer_to (Rename name newname) answer ≡ true
+    by_row i here (Some row) there = by_paused i row here there (is_paused row.state) refl
+    by_row i here None none = as_said (Rename name newname) NoSuchVariable answer refl (rw (here, none) at is)
+
+    by_name : (o : Option ℕ) → find_row m name ≡ o → is_answer_to (Rename name newname) answer ≡ true
+    by_name (Some i) here = by_row i here (slice_get m.rows i) refl
+    by_name None none = as_said (Rename name newname) NoSuchVariable answer refl (rw none at is)
 
 -- a name that no row has
 unknown_refuses : (act : Act) → is_answer_to act NoSuchVariable ≡ true → (name : List ℕ) (m : Machine) (answer : Reply) → details_refused name m ≡ Some answer → is_answer_to act answer ≡ true
@@ -225,9 +252,10 @@ as_answered : (act : Act) (said answer : Reply) → is_answer_to act said ≡ tr
 as_answered act said answer of_act is = subst (λ a. is_answer_to act a ≡ true) (sym is) of_act
 
 pub step_answers : (who : ℕ) (act : Act) (old new : Machine) (answer : Reply) → Step who act old answer new → is_answer_to act answer ≡ true
-step_answers who (Register name about) old new answer step = Acts-answers (Register name about) _ _ _ _ (register_refuses name about) (λ mid new answer ran. as_answered (Register name about) _ answer refl ran.0) refl refl step
+step_answers who (Register name about) old new answer step = Acts-answers (Register name about) _ _ _ _ (register_refuses (Register name about) (λ i. refl) (λ i. refl) refl name) (λ mid new answer ran. as_answered (Register name about) _ answer refl ran.0) refl refl step
 step_answers who (Pause name) old new answer step = Acts-answers (Pause name) _ _ _ _ (state_refuses (Pause name) not_running (pause_says name) refl name) (λ mid new answer ran. as_answered (Pause name) _ answer refl ran.0) refl refl step
 step_answers who (Resume name) old new answer step = Acts-answers (Resume name) _ _ _ _ (state_refuses (Resume name) not_paused (resume_says name) refl name) (λ mid new answer ran. as_answered (Resume name) _ answer refl ran.0) refl refl step
+step_answers who (Rename name newname) old new answer step = Acts-answers (Rename name newname) _ _ _ _ (rename_refuses (changed_within name old) step.0 name newname) (λ mid new answer ran. as_answered (Rename name newname) _ answer refl ran.0) refl refl step.1
 step_answers who (Offer name ty t line now) old new answer step = Ends-answers (Offer name ty t line now) _ old new answer (offered_says name ty (record { t = t; line = line }) now old) refl step
 step_answers who (Tick row now) old new answer step = Ends-answers (Tick row now) _ old new answer (ticked_says row now old) refl step
 step_answers who (Flush limit) old new answer step = Acts-answers (Flush limit) _ _ _ _ (nothing_refused (Flush limit)) (λ mid new answer ran. as_answered (Flush limit) _ answer refl ran.0.2) refl refl step

@@ -7,24 +7,25 @@ use Rattle.std.specs.Ordering.{nat_cmp}
 use Rattle.std.specs.FinMap.{FinMap, get, insert, remove, empty, get-empty, gets}
 use Rattle.event_types.specs.declared.about.Method.TheVariants.{Monitor, Scan}
 use Rattle.pb_wire.specs.declared.payload.PayloadType.TheVariants.{ScalarInt}
-use Rattle.act_model.specs.declared.acts.Answer.TheVariants.{NotRunning, NotPaused, Done, IntakeFull, Flushed, Pinned, NotYours, NoPin, NoPiece, Unpinned}
+use Rattle.act_model.specs.declared.acts.Answer.TheVariants.{KeyTaken, NotRunning, NotPaused, Done, RenameNotPaused, NotDurable, Renamed, IntakeFull, Flushed, Pinned, NotYours, NoPin, NoPiece, Unpinned}
 use Rattle.act_model.specs.Reply.{Reply}
 use Rattle.act_model.specs.Limbo.{FileState}
 use Rattle.act_model.specs.Rows.{RowState, Store, Short, Medium, Long, fresh_row, tier, window, is_empty}
 use Rattle.act_model.specs.Rule.{Rule}
 use Rattle.event_types.specs.declared.about.State.{State}
 use Rattle.event_types.specs.declared.about.State.TheVariants.{Running, Paused}
-use Rattle.act_model.specs.Machine.{Machine, MoveState, PinState, Change, Appends, SetsState, held_bytes}
+use Rattle.act_model.specs.Machine.{Machine, MoveState, PinState, Change, Appends, SetsState, Renames, held_bytes}
 use Rattle.act_model.specs.Changes.{made, Settles, no_doubt, as_not_made, as_made}
 use Rattle.act_model.specs.Outcome.{Outcome, Ends, Acts, refused_at_once, refused, runs, faults_first, faults_between, faults_within, faults_removing, wants_memory, wants_memory_settled}
 use Rattle.act_model.specs.Offer.{offered, room}
 use Rattle.act_model.specs.Tick.{ticked}
 use Rattle.act_model.specs.Pause.{Sets}
+use Rattle.act_model.specs.Rename.{IsRenamed}
 use Rattle.act_model.specs.Flush.{Flushes, batch_of, count_in}
-use Rattle.act_model.specs.Pin.{Pins, pins, IsListedPiece}
+use Rattle.act_model.specs.Pin.{Pins, pins, IsPieceOf}
 use Rattle.act_model.specs.OpenPiece.{Opens, refused_open, no_piece, opens, faults_opening, wants_memory_opening}
 use Rattle.act_model.specs.Unpin.{Unpins, refused_unpin, unpins, pin_refused}
-use Rattle.act_model.specs.Examples.{IsFailure, LateAndEarlyOffers, APauseGivesUpWhatIsHeld, three_lines, four_lines, AFullIntakeIsFlushed, PinsAreTheirOwners, all_moments, t0, second, line, name, about, with_row, with_tail}
+use Rattle.act_model.specs.Examples.{IsFailure, LateAndEarlyOffers, APauseGivesUpWhatIsHeld, three_lines, four_lines, AFullIntakeIsFlushed, PinsAreTheirOwners, ARenamedVariableGoesOn, ANewNameWaitsForTheFlush, new_name, with_two, sample_at, all_moments, t0, second, line, name, about, with_row, with_tail}
 
 -- NO OTHER ANSWER
 
@@ -93,8 +94,12 @@ no_piece_only said there own gone (faults_opening p piece here mine at same rose
 no_piece_only said there own gone (wants_memory_opening same more) = inr (inl refl)
 
 -- of a Pause or a Resume that sets the state
-set_only : (to : State) (m after : Machine) (answer : Reply) → Sets to name m answer after → answer ≡ Done
-set_only to m after answer ran = ran.0
+set_only : (to : State) (n : List ℕ) (m after : Machine) (answer : Reply) → Sets to n m answer after → answer ≡ Done
+set_only to n m after answer ran = ran.0
+
+-- of a Rename that gives the name
+renamed_only : (n newname : List ℕ) (m after : Machine) (answer : Reply) → IsRenamed n newname m answer after → answer ≡ Renamed (length m.rows)
+renamed_only n newname m after answer ran = ran.0
 
 -- of a Flush
 flushed_only : (limit samples left : ℕ) (m : Machine) → m.told ≡ true → count_in (batch_of limit m) ≡ samples → held_bytes (made [] (Appends (batch_of limit m)) m).rows ≡ left
@@ -153,7 +158,7 @@ pause_gives_up =
             (
               m4,
               runs _ refl (no_doubt refl) refl (refl, (0, refl, refl)) (omega arith),
-              (λ other new step. runs_only _ _ _ _ Done refl refl (set_only Paused m3) step),
+              (λ other new step. runs_only _ _ _ _ Done refl refl (set_only Paused name m3) step),
               (
                 m4,
                 refused_at_once NotRunning refl,
@@ -169,7 +174,7 @@ pause_gives_up =
                     (
                       m5,
                       runs _ refl (no_doubt refl) refl (refl, (0, refl, refl)) (omega arith),
-                      (λ other new step. runs_only _ _ _ _ Done refl refl (set_only Running m4) step),
+                      (λ other new step. runs_only _ _ _ _ Done refl refl (set_only Running name m4) step),
                       (
                         m6,
                         inl (refl, refl),
@@ -228,6 +233,80 @@ full_intake a b c d p q r s =
       ),
     )
 
+-- RENAMES
+
+-- the state after a rename of the row
+abbrev after_rename : Machine → Machine
+after_rename m = made [] (Renames 0 new_name) m
+
+-- and after an offer to the new row
+abbrev after_new_offer : Machine → ℕ → Machine
+after_new_offer m seconds = (offered m new_name ScalarInt (sample_at seconds) (t0 + seconds * second)).after
+
+pub renamed_goes_on : ARenamedVariableGoesOn
+renamed_goes_on =
+    let m0 = with_row with_two in
+    let m1 = after_set m0 Paused in
+    let m2 = after_rename m1 in
+    let m3 = made [] (SetsState 1 Running) m2 in
+    let m4 = after_new_offer m3 9 in (
+      m0,
+      (None, refused_at_once (RenameNotPaused Running 0 0) refl),
+      (λ other new step. refused_only _ _ _ _ (RenameNotPaused Running 0 0) refl step.1),
+      (
+        m1,
+        runs _ refl (no_doubt refl) refl (refl, (0, refl, refl)) (omega arith),
+        (λ other new step. runs_only _ _ _ _ Done refl refl (set_only Paused name m0) step),
+        (
+          m1,
+          (None, refused_at_once (KeyTaken 0) refl),
+          (λ other new step. refused_only _ _ _ _ (KeyTaken 0) refl step.1),
+          (
+            m2,
+            (None, runs _ refl (no_doubt refl) refl (refl, (0, refl, refl)) (omega arith)),
+            (λ other new step. runs_only _ _ _ _ (Renamed 1) refl refl (renamed_only name new_name m1) step.1),
+            (
+              m2,
+              refused_at_once NotRunning refl,
+              (λ other new step. refused_only _ _ _ _ NotRunning refl step),
+              (
+                m2,
+                refused_at_once NotPaused refl,
+                (λ other new step. refused_only _ _ _ _ NotPaused refl step),
+                (
+                  m2,
+                  inl (refl, refl),
+                  ends_only refl,
+                  (
+                    m3,
+                    runs _ refl (no_doubt refl) refl (refl, (1, refl, refl)) (omega arith),
+                    (λ other new step. runs_only _ _ _ _ Done refl refl (set_only Running new_name m2) step),
+                    (m3, inl (refl, refl), ends_only refl, (m4, inl (refl, refl), ends_only refl, tt)),
+                  ),
+                ),
+              ),
+            ),
+          ),
+        ),
+      ),
+    )
+
+pub waits_for_the_flush : ANewNameWaitsForTheFlush
+waits_for_the_flush =
+    let m0 = with_row (record with_two { state = Paused; tail = sample_at 9 ∷ []; next = t0 + 9 * second + 1 }) in
+    let m1 = made [] (Appends (batch_of 1 m0)) m0 in
+    let m2 = after_rename m1 in (
+      m0,
+      (None, refused_at_once (NotDurable (t0 + 9 * second) (Some (t0 + 5 * second))) refl),
+      (λ other new step. refused_only _ _ _ _ (NotDurable (t0 + 9 * second) (Some (t0 + 5 * second))) refl step.1),
+      (
+        m1,
+        runs _ refl (no_doubt refl) refl ((1, (λ t. refl), refl), refl) (omega arith),
+        (λ other new step. runs_only _ _ _ _ (Flushed 1 0 0) refl refl (flushed_only 1 1 0 m0 refl refl refl) step),
+        (m2, (None, runs _ refl (no_doubt refl) refl (refl, (0, refl, refl)) (omega arith)), (λ other new step. runs_only _ _ _ _ (Renamed 1) refl refl (renamed_only name new_name m1) step.1), tt),
+      ),
+    )
+
 -- PINS
 
 -- one pin in the map
@@ -247,12 +326,18 @@ nothing_listed Short = refl
 nothing_listed Medium = refl
 nothing_listed Long = refl
 
-no_pieces : (rule : Rule) (i : ℕ) (pieces : List FileState) → AllByRecursion (IsListedPiece rule i one_row) pieces → pieces ≡ []
-no_pieces rule i [] listed = refl
-no_pieces rule i (f ∷ rest) listed =
-    let none : f.samples ≡ [] = listed.0.samples ∙ ap (λ xs. window f.part xs) (nothing_listed f.store) in
+only_row : (k : ℕ) (own : RowState) → slice_get (one_row ∷ []) k ≡ Some own → own ≡ one_row
+only_row zero own is = cc
+only_row (suc k) own is = absurd cc
+
+no_pieces : (rule : Rule) (i : ℕ) (row : RowState) (pieces : List FileState) → AllByRecursion (IsPieceOf rule (one_row ∷ []) i row) pieces → pieces ≡ []
+no_pieces rule i row [] listed = refl
+no_pieces rule i row (f ∷ rest) listed =
+    let p = listed.0 in
+    let own : p.own ≡ one_row = only_row f.row p.own p.here in
+    let none : f.samples ≡ [] = p.listed.samples ∙ (ap (λ (r : RowState). window f.part (tier r f.store)) own ∙ ap (λ xs. window f.part xs) (nothing_listed f.store)) in
     let empty_one : is_empty f.samples ≡ true = ap (λ xs. is_empty xs) none in
-    absurd (let some : is_empty f.samples ≡ false = listed.0.some in cc)
+    absurd (let some : is_empty f.samples ≡ false = p.listed.some in cc)
 
 -- the least free number, where there is no pin
 least_free : (n : ℕ) → ((k : ℕ) → k < n → get (empty {X = PinState} {R = nat_cmp}) k ≢ None) → n ≡ 0
@@ -263,7 +348,7 @@ pinned_only : (after : Machine) (answer : Reply) → Pins 0 name all_moments (wi
 pinned_only after answer (pins i row pin pieces found here free least listed order gives few same) =
     let at : i ≡ 0 = cc in
     let row_is : row ≡ one_row = (let there : slice_get (one_row ∷ []) 0 ≡ Some row = subst (λ k. slice_get (one_row ∷ []) k ≡ Some row) at here in cc) in
-    let none : pieces ≡ [] = no_pieces (with_row one_row).rule i pieces (subst (λ r. AllByRecursion (IsListedPiece (with_row one_row).rule i r) pieces) row_is (listed refl)) in
+    let none : pieces ≡ [] = no_pieces (with_row one_row).rule i row pieces (listed refl) in
     let first : pin ≡ 0 = least_free pin least in
     rw (first, row_is, none) refl
 

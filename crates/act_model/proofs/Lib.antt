@@ -3,6 +3,8 @@ pub mod RowLaws
 pub mod ChangeLaws
 pub mod Rows
 pub mod MadeLaws
+pub mod Wholes
+pub mod Bases
 pub mod Partitions
 pub mod Copies
 pub mod Revivals
@@ -23,6 +25,7 @@ pub mod Histories
 pub mod PinLaws
 pub mod CrashRuns
 pub mod NextLife
+pub mod WholeLaws
 pub mod ActsAlone
 mod LivesLaws
 mod AnswerLaws

@@ -46,15 +46,15 @@ stop_between last left t s (within_an_act act is) i row here = crash_within act 
 -- ROWS THAT LAST
 
 rows_last : (rows news : List RowState) → RowsOn rows news → RowsLast rows news
-rows_last rows news on = λ i row here. let x = on i row here in (x.0, x.1, record { name = x.2.name; about = x.2.about; durable_on = x.2.durable_on })
+rows_last rows news on = λ i row here. let x = on i row here in (x.0, x.1, record { name = x.2.name; about = x.2.about; base = x.2.base; durable_on = x.2.durable_on })
 
 last_trans : (a b c : List RowState) → RowsLast a b → RowsLast b c → RowsLast a c
 last_trans a b c p q = λ i row here. let x = p i row here in let y = q i x.0 x.1 in
-    (y.0, y.1, record { name = y.2.name ∙ x.2.name; about = y.2.about ∙ x.2.about; durable_on = prefix_trans (durable row) (durable x.0) (durable y.0) x.2.durable_on y.2.durable_on })
+    (y.0, y.1, record { name = y.2.name ∙ x.2.name; about = y.2.about ∙ x.2.about; base = y.2.base ∙ x.2.base; durable_on = prefix_trans (durable row) (durable x.0) (durable y.0) x.2.durable_on y.2.durable_on })
 
 -- what is opened has the rows that were left
 opened_last : (last left : Machine) (doors faults : ℕ) → RowsLast left.rows (opened last.rule last.told doors faults (kept left)).rows
-opened_last last left doors faults = λ i row here. (lives row, forth left.rows i row here, record { name = refl; about = refl; durable_on = prefix_refl (durable row) })
+opened_last last left doors faults = λ i row here. (lives left.rows i row, forth left.rows i row here, record { name = refl; about = refl; base = refl; durable_on = prefix_refl (durable row) })
 
 -- LIVES
 

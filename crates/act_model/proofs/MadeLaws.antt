@@ -1,13 +1,13 @@
 -- A change that may be made keeps the machine sound.
 use Rattle.std.proofs.Common.{◌≡◌, ℕ, ◌+◌, ◌≤◌, List, [], ◌∷◌, ◌++◌, Some, None, zero, suc, Bool, true, false, cond, refl, ap, sym, ◌∙◌, arith, subst, inl, inr}
-use Rattle.std.specs.Prelude.{◌⊎◌, nat_le, slice_get}
+use Rattle.std.specs.Prelude.{◌⊎◌, Option, nat_le, slice_get}
 use Rattle.std.specs.List.{AllByRecursion}
 use Rattle.series_model.specs.declared.sample.Sample.{Sample}
 use Rattle.series_model.specs.Series.{end_of, IsRising, since}
-use Rattle.act_model.specs.Rows.{RowState, deep, fresh_row, size_of}
+use Rattle.act_model.specs.Rows.{RowState, deep, fresh_row, renamed_row, size_of}
 use Rattle.act_model.specs.Rule.{Rule}
 use Rattle.act_model.specs.Limbo.{FileState, IsOfPart}
-use Rattle.act_model.specs.Machine.{Change, AddsRow, SetsState, Appends, Publishes, Unlists, held_bytes}
+use Rattle.act_model.specs.Machine.{Change, AddsRow, SetsState, Renames, Appends, Publishes, Unlists, held_bytes}
 use Rattle.act_model.specs.Changes.{each, changed, added}
 use Rattle.act_model.specs.Sound.{RowSound, LinesSound, IsHeld, MayMake, LimboSound}
 use Rattle.act_model.specs.Event.{IsEvent}
@@ -26,7 +26,8 @@ ground rule told rows limbo i row here all =
 
 pub row_may : (rule : Rule) (told : Bool) (rows : List RowState) (limbo : List FileState) (change : Change) (i : ℕ) (row : RowState) → slice_get rows i ≡ Some row → MayMake rule told rows limbo change → RowMay told limbo change i row
 row_may rule told rows limbo (AddsRow name about) i row here may = tt
-row_may rule told rows limbo (SetsState k state) i row here may = tt
+row_may rule told rows limbo (SetsState k state) i row here may = λ is. may row (ap (λ n. slice_get rows n) (sym is) ∙ here)
+row_may rule told rows limbo (Renames k name) i row here may = tt
 row_may rule told rows limbo (Appends batch) i row here may = may i row here
 row_may rule told rows limbo (Publishes k store copied) i row here may = λ is t. (may.moves, may.front row (ap (λ n. slice_get rows n) (sym is) ∙ here) t)
 row_may rule told rows limbo (Unlists k store to) i row here may = λ is t. (may.moves, may.covered row (ap (λ n. slice_get rows n) (sym is) ∙ here) t)
@@ -40,22 +41,32 @@ module _ (rule : Rule) (told : Bool) (rows : List RowState) (limbo : List FileSt
 
 -- WHAT IS ADDED
 
-pub data IsFresh (row : RowState) : Type 0 where
-  fresh : (name : List ℕ) (about : _) → row ≡ fresh_row name about → IsFresh row
+-- a row that is registered, or one that goes on under a new name
+pub data IsFresh (change : Change) (rows : List RowState) (row : RowState) : Type 0 where
+  fresh : (name : List ℕ) (about : _) → change ≡ AddsRow name about → row ≡ fresh_row name about → IsFresh change rows row
+  fresh_over : (k : ℕ) (name : List ℕ) (old : RowState) → change ≡ Renames k name → slice_get rows k ≡ Some old → row ≡ renamed_row name k old → IsFresh change rows row
 
-pub added_fresh : (change : Change) (j : ℕ) (new : RowState) → slice_get (added change) j ≡ Some new → IsFresh new × (j ≡ 0)
-added_fresh (AddsRow name about) zero new is = (fresh name about cc, refl)
-added_fresh (AddsRow name about) (suc j) new is = absurd cc
-added_fresh (SetsState k state) j new is = absurd cc
-added_fresh (Appends batch) j new is = absurd cc
-added_fresh (Publishes k store copied) j new is = absurd cc
-added_fresh (Unlists k store to) j new is = absurd cc
+pub added_fresh : (change : Change) (rows : List RowState) (j : ℕ) (new : RowState) → slice_get (added change rows) j ≡ Some new → IsFresh change rows new × (j ≡ 0)
+added_fresh (AddsRow name about) rows zero new is = (fresh name about refl cc, refl)
+added_fresh (AddsRow name about) rows (suc j) new is = absurd cc
+added_fresh (SetsState k state) rows j new is = absurd cc
+added_fresh (Renames k name) rows j new is = by_row (slice_get rows k) refl j is
+  where
+    by_row : (o : Option RowState) → slice_get rows k ≡ o → (j : ℕ) → slice_get (added (Renames k name) rows) j ≡ Some new → IsFresh (Renames k name) rows new × (j ≡ 0)
+    by_row None none j is = absurd (let bad = rw none at is in cc)
+    by_row (Some old) here zero is = (fresh_over k name old refl here (let one = rw here at is in cc), refl)
+    by_row (Some old) here (suc j) is = absurd (let bad = rw here at is in cc)
+added_fresh (Appends batch) rows j new is = absurd cc
+added_fresh (Publishes k store copied) rows j new is = absurd cc
+added_fresh (Unlists k store to) rows j new is = absurd cc
 
-pub fresh_sound : (told : Bool) (row : RowState) → IsFresh row → RowSound told row
-fresh_sound told row (fresh name about is) = rw is (record { short = tt; medium = tt; long = tt; later = tt; next = omega arith; exact = λ t. refl })
+pub fresh_sound : (told : Bool) (change : Change) (rows : List RowState) (row : RowState) → IsFresh change rows row → RowSound told row
+fresh_sound told change rows row (fresh name about by is) = rw is (record { short = tt; medium = tt; long = tt; later = tt; next = omega arith })
+fresh_sound told change rows row (fresh_over k name old by here is) = rw is (record { short = tt; medium = tt; long = tt; later = tt; next = omega arith })
 
-pub fresh_lines : (row : RowState) → IsFresh row → LinesSound row
-fresh_lines row (fresh name about is) = rw is (record { tail = tt; held = tt })
+pub fresh_lines : (change : Change) (rows : List RowState) (row : RowState) → IsFresh change rows row → LinesSound row
+fresh_lines change rows row (fresh name about by is) = rw is (record { tail = tt; held = tt })
+fresh_lines change rows row (fresh_over k name old by here is) = rw is (record { tail = tt; held = tt })
 
 -- LINES AND BYTES
 
@@ -105,9 +116,14 @@ pub append_size : (rows more : List RowState) → held_bytes (rows ++ more) ≡ 
 append_size [] more = omega arith
 append_size (row ∷ rows) more = let rest = append_size rows more in omega arith
 
-pub added_size : (change : Change) → held_bytes (added change) ≡ 0
-added_size (AddsRow name about) = refl
-added_size (SetsState k state) = refl
-added_size (Appends batch) = refl
-added_size (Publishes k store copied) = refl
-added_size (Unlists k store to) = refl
+pub added_size : (change : Change) (rows : List RowState) → held_bytes (added change rows) ≡ 0
+added_size (AddsRow name about) rows = refl
+added_size (SetsState k state) rows = refl
+added_size (Renames k name) rows = by_row (slice_get rows k) refl
+  where
+    by_row : (o : Option RowState) → slice_get rows k ≡ o → held_bytes (added (Renames k name) rows) ≡ 0
+    by_row None none = rw none refl
+    by_row (Some old) here = rw here refl
+added_size (Appends batch) rows = refl
+added_size (Publishes k store copied) rows = refl
+added_size (Unlists k store to) rows = refl

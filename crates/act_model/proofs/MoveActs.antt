@@ -68,7 +68,7 @@ module _ (rule : Rule) (told : Bool) (rows : List RowState) (limbo : List FileSt
       by_case (inr p) (inr q) = s.one_move j k a b p.1 q.1 same
 
   pub insert_sound : IsSoundOf rule told rows limbo pins (insert moves n move) doubt
-  insert_sound = record { few = s.few; keys = s.keys; each_row = s.each_row; lines = s.lines; intake = s.intake; doubted = λ c is. absurd cc; each_move = each_inserted; one_move = one_inserted; each_file = s.each_file; each_unlisted = s.each_unlisted; places = s.places; pinned = s.pinned }
+  insert_sound = record { few = s.few; keys = s.keys; each_row = s.each_row; bases = s.bases; lines = s.lines; intake = s.intake; doubted = λ c is. absurd cc; each_move = each_inserted; one_move = one_inserted; each_file = s.each_file; each_unlisted = s.each_unlisted; places = s.places; pinned = s.pinned }
 
 -- MOVE BEGIN
 
@@ -271,6 +271,7 @@ swept_sound m stays s none just =
       few = s.few;
       keys = s.keys;
       each_row = s.each_row;
+      bases = s.bases;
       lines = s.lines;
       intake = s.intake;
       doubted = λ c is. absurd cc;

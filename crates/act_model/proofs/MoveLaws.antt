@@ -53,7 +53,7 @@ made_like m into change of t s may = λ i row here.
     let g : RowGoes m.told row new = goes m.rule m.told m.rows m.limbo change s.each_row s.each_file may i row here in
     let plain : 0 + i ≡ i = omega arith in
     let there : slice_get (each (changed m.told m.limbo change) 0 m.rows) i ≡ Some new = each_forward (changed m.told m.limbo change) 0 m.rows i row here ∙ ap (λ n. Some (changed m.told m.limbo change n row)) plain in
-    (new, append_forward (each (changed m.told m.limbo change) 0 m.rows) (added change) i new there, record { durable_is = stays; accepted_is = g.same t })
+    (new, append_forward (each (changed m.told m.limbo change) 0 m.rows) (added change m.rows) i new there, record { durable_is = stays; accepted_is = g.same t })
 
 -- whatever a move does, both lists of each row stay
 pub goes_like : {n : ℕ} {mid new : Machine} {answer : Reply} → mid.told ≡ true → IsSound mid → GoesOn n mid answer new → RowsLike mid.rows new.rows

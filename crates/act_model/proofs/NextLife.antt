@@ -1,19 +1,25 @@
 -- What a crash leaves of a sound machine opens as a sound one, in which all that is durable is accepted.
-use Rattle.std.proofs.Common.{◌≡◌, ℕ, ◌≤◌, List, [], ◌∷◌, length, Some, None, zero, suc, Bool, refl, ap, sym, ◌∙◌, arith, append-nil, subst}
+use Rattle.std.proofs.Common.{◌≡◌, ℕ, ◌+◌, ◌≤◌, List, [], ◌∷◌, length, Some, None, zero, suc, Bool, refl, ap, sym, ◌∙◌, arith, append-nil, subst}
 use Rattle.std.specs.Prelude.{slice_get, map}
 use Rattle.std.proofs.lemmas.List.{length-map}
 use Rattle.std.specs.Ordering.{nat_cmp}
 use Rattle.std.specs.FinMap.{FinMap, get, empty, get-empty}
 use Rattle.pv_name.specs.Key.{key_of}
 use Rattle.act_model.specs.declared.acts.Act.{Act}
-use Rattle.act_model.specs.Rows.{RowState, durable, accepted}
+use Rattle.series_model.specs.Series.{end_of, IsRising, over}
+use Rattle.series_model.proofs.OverLemmas.{over_rising, end_of-over}
+use Rattle.act_model.specs.Rows.{RowState, durable, accepted, size_of}
+use Rattle.act_model.specs.Whole.{past, whole}
 use Rattle.act_model.specs.Rule.{Rule}
-use Rattle.act_model.specs.Machine.{Machine, PinState, MoveState, Change, AddsRow, SetsState, Appends, Publishes, Unlists, held_bytes}
-use Rattle.act_model.specs.Changes.{changed_rows, Retires}
+use Rattle.act_model.specs.Machine.{Machine, PinState, MoveState, Change, AddsRow, SetsState, Renames, Appends, Publishes, Unlists, held_bytes}
+use Rattle.act_model.specs.Changes.{each, changed_rows, Retires}
 use Rattle.act_model.specs.Step.{change_by, refuse_by}
-use Rattle.act_model.specs.Sound.{RowSound, LinesSound, MayMake, EndedMove, IsSound}
-use Rattle.act_model.specs.Crash.{DurableRow, kept_of, kept, LeftBetween, as_it_is, with_doubt, LeftWithin, before_it, settled_there, with_change}
-use Rattle.act_model.specs.NextLife.{opened_row, opened}
+use Rattle.act_model.specs.Sound.{RowSound, IsOver, BasesSound, LinesSound, MayMake, EndedMove, IsSound}
+use Rattle.act_model.specs.Crash.{kept_of, kept, LeftBetween, as_it_is, with_doubt, LeftWithin, before_it, settled_there, with_change}
+use Rattle.act_model.specs.NextLife.{listed_row, with_next, opened_rows, opened}
+use Rattle.act_model.proofs.Rows.{each_get, each_forward, length-each}
+use Rattle.act_model.proofs.Wholes.{StandsBefore, Beside, old_whole, whole_goes}
+use Rattle.act_model.proofs.Bases.{before_of}
 use Rattle.act_model.proofs.MadeSound.{made_sound}
 use Rattle.act_model.proofs.StepLaws.{settled_sound}
 use Rattle.act_model.proofs.PinActs.{other_pins}
@@ -24,9 +30,10 @@ record RowsSound (told : Bool) (rows : List RowState) : Type 0 where
   few : length rows ≤ 65536
   keys : (i j : ℕ) (a b : RowState) → slice_get rows i ≡ Some a → slice_get rows j ≡ Some b → key_of a.name ≡ key_of b.name → i ≡ j
   each_row : (i : ℕ) (row : RowState) → slice_get rows i ≡ Some row → RowSound told row
+  bases : BasesSound told rows
 
 of_sound : (m : Machine) → IsSound m → RowsSound m.told m.rows
-of_sound m s = record { few = s.few; keys = s.keys; each_row = s.each_row }
+of_sound m s = record { few = s.few; keys = s.keys; each_row = s.each_row; bases = s.bases }
 
 -- WHAT A CRASH LEAVES
 
@@ -46,6 +53,7 @@ no_move n move here = let none : get no_moves n ≡ None = get-empty nat_cmp n i
 nothing_retired : (m : Machine) (change : Change) → m.pins ≡ no_pins → Retires m change []
 nothing_retired m (AddsRow name about) none = refl
 nothing_retired m (SetsState k state) none = refl
+nothing_retired m (Renames k name) none = refl
 nothing_retired m (Appends batch) none = refl
 nothing_retired m (Publishes k store copied) none = refl
 nothing_retired m (Unlists k store to) none = (tt, record { stays = λ n pin here. absurd (no_pin n pin (ap (λ w. get w n) (sym none) ∙ here)) }, λ t. tt)
@@ -53,6 +61,7 @@ nothing_retired m (Unlists k store to) none = (tt, record { stays = λ n pin her
 nothing_copies : (change : Change) → EndedMove no_moves change
 nothing_copies (AddsRow name about) = tt
 nothing_copies (SetsState k state) = tt
+nothing_copies (Renames k name) = tt
 nothing_copies (Appends batch) = tt
 nothing_copies (Publishes k store copied) = λ n move here copies. absurd (no_move n move here)
 nothing_copies (Unlists k store to) = λ n move here copies. absurd (no_move n move here)
@@ -62,7 +71,7 @@ made_rows m change s may =
     let bare : Machine = record m { pins = no_pins } in
     let sound : IsSound bare = other_pins m no_pins s (λ t n pin here. absurd (no_pin n pin here)) in
     let after = made_sound bare [] change sound may (nothing_retired bare change refl) no_moves (nothing_copies change) (λ n move here. absurd (no_move n move here)) (λ n k move other here there same. absurd (no_move n move here)) in
-    record { few = after.few; keys = after.keys; each_row = after.each_row }
+    record { few = after.few; keys = after.keys; each_row = after.each_row; bases = after.bases }
 
 between_rows : (old left : Machine) → IsSound old → LeftBetween old left → RowsSound old.told left.rows
 between_rows old left s as_it_is = of_sound old s
@@ -78,39 +87,132 @@ left_rows act old left s (with_change {mid} one settles free is) = let sound : I
 
 -- WHAT OPENS
 
-abbrev pub lives : RowState → RowState
-lives row = opened_row (kept_of row)
+-- the rows as they are listed
+abbrev lists : List RowState → List RowState
+lists rows = map listed_row (map kept_of rows)
+
+abbrev pub lives : List RowState → ℕ → RowState → RowState
+lives rows i row = with_next (map listed_row (map kept_of rows)) i (listed_row (kept_of row))
 
 -- the row with its stores, all of it durable
-pub opened_accepts : (row : RowState) → (durable (lives row) ≡ durable row) × (accepted (lives row) ≡ durable row)
-opened_accepts row = (refl, append-nil (durable row))
+pub opened_accepts : (rows : List RowState) (i : ℕ) (row : RowState) → (durable (lives rows i row) ≡ durable row) × (accepted (lives rows i row) ≡ durable row)
+opened_accepts rows i row = (refl, append-nil (durable row))
 
-opened_sound_row : (told now : Bool) (row : RowState) → RowSound told row → RowSound now (lives row)
-opened_sound_row told now row s = record { short = s.short; medium = s.medium; long = s.long; later = tt; next = omega arith; exact = λ t. refl }
+list_back : (rows : List RowState) (i : ℕ) (new : RowState) → slice_get (map listed_row (map kept_of rows)) i ≡ Some new → (row : RowState) × (slice_get rows i ≡ Some row) × (new ≡ listed_row (kept_of row))
+list_back [] i new here = absurd cc
+list_back (row ∷ rows) zero new here = (row, refl, cc)
+list_back (row ∷ rows) (suc i) new here = list_back rows i new here
 
-back : (rows : List RowState) (i : ℕ) (new : RowState) → slice_get (map opened_row (map kept_of rows)) i ≡ Some new → (row : RowState) × (slice_get rows i ≡ Some row) × (new ≡ lives row)
-back [] i new here = absurd cc
-back (row ∷ rows) zero new here = (row, refl, cc)
-back (row ∷ rows) (suc i) new here = back rows i new here
+list_forth : (rows : List RowState) (i : ℕ) (row : RowState) → slice_get rows i ≡ Some row → slice_get (map listed_row (map kept_of rows)) i ≡ Some (listed_row (kept_of row))
+list_forth [] i row here = absurd cc
+list_forth (x ∷ rows) zero row here = let same : x ≡ row = cc in ap (λ r. Some (listed_row (kept_of r))) same
+list_forth (x ∷ rows) (suc i) row here = list_forth rows i row here
 
-pub forth : (rows : List RowState) (i : ℕ) (row : RowState) → slice_get rows i ≡ Some row → slice_get (map opened_row (map kept_of rows)) i ≡ Some (lives row)
-forth [] i row here = absurd cc
-forth (x ∷ rows) zero row here = let same : x ≡ row = cc in ap (λ r. Some (lives r)) same
-forth (x ∷ rows) (suc i) row here = forth rows i row here
+back : (rows : List RowState) (i : ℕ) (new : RowState) → slice_get (opened_rows (map kept_of rows)) i ≡ Some new → (row : RowState) × (slice_get rows i ≡ Some row) × (new ≡ lives rows i row)
+back rows i new here =
+    let x = each_get (with_next (lists rows)) 0 (lists rows) i new here in
+    let y = list_back rows i x.0 x.1 in
+    let plain : 0 + i ≡ i = omega arith in
+    (y.0, y.1, x.2 ∙ (ap (λ n. with_next (lists rows) n x.0) plain ∙ ap (λ r. with_next (lists rows) i r) y.2))
 
-no_bytes : (rows : List DurableRow) → held_bytes (map opened_row rows) ≡ 0
-no_bytes [] = refl
-no_bytes (row ∷ rows) = let more = no_bytes rows in omega arith
+pub forth : (rows : List RowState) (i : ℕ) (row : RowState) → slice_get rows i ≡ Some row → slice_get (opened_rows (map kept_of rows)) i ≡ Some (lives rows i row)
+forth rows i row here =
+    let plain : 0 + i ≡ i = omega arith in
+    each_forward (with_next (lists rows)) 0 (lists rows) i (listed_row (kept_of row)) (list_forth rows i row here) ∙ ap (λ n. Some (with_next (lists rows) n (listed_row (kept_of row)))) plain
+
+no_bytes : (f : ℕ → RowState → RowState) (k : ℕ) (rows : List RowState) → ((i : ℕ) (row : RowState) → slice_get rows i ≡ Some row → (f (k + i) row).tail ≡ []) → held_bytes (each f k rows) ≡ 0
+no_bytes f k [] none = refl
+no_bytes f k (row ∷ rows) none =
+    let plain : k + 0 ≡ k = omega arith in
+    let first : (f k row).tail ≡ [] = subst (λ n. (f n row).tail ≡ []) plain (none 0 row refl) in
+    let one : size_of (f k row).tail ≡ 0 = ap size_of first in
+    let more = no_bytes f (k + 1) rows (λ i other here. let next : k + suc i ≡ (k + 1) + i = omega arith in subst (λ n. (f n other).tail ≡ []) next (none (suc i) other here)) in
+    omega arith
+
+-- THE WHOLE OF WHAT OPENS
+
+module _ (told : Bool) (rows : List RowState) (s : RowsSound told rows) where
+  before_rows : (i : ℕ) (row : RowState) (b : ℕ) → slice_get rows i ≡ Some row → row.base ≡ Some b → StandsBefore rows i b
+  before_rows = before_of told rows s.bases
+
+  before_lists : (i : ℕ) (row : RowState) (b : ℕ) → slice_get (lists rows) i ≡ Some row → row.base ≡ Some b → StandsBefore (lists rows) i b
+  before_lists i row b here is =
+      let x = list_back rows i row here in
+      let o = before_rows i x.0 b x.1 (ap (λ (r : RowState). r.base) (sym x.2) ∙ is) in
+      record { base = listed_row (kept_of o.base); here = list_forth rows b o.base o.here; below = o.below }
+
+  beside_lists : (i : ℕ) (row : RowState) → slice_get (lists rows) i ≡ Some row → Beside durable accepted (lists rows) (opened_rows (map kept_of rows)) i row
+  beside_lists i row here =
+      let x = list_back rows i row here in
+      record {
+        new = lives rows i x.0;
+        there = forth rows i x.0 x.1;
+        base = ap (λ (r : RowState). r.base) (sym x.2);
+        still = λ j above there is. append-nil (durable x.0) ∙ ap (λ r. durable r) (sym x.2);
+      }
+
+  -- the whole of a row that opens is that of the listed row
+  opened_whole : (i : ℕ) (row : RowState) → slice_get rows i ≡ Some row → whole accepted (opened_rows (map kept_of rows)) i ≡ whole durable (lists rows) i
+  unfolding beside_lists
+  opened_whole i row here =
+      let there = list_forth rows i row here in
+      let x = list_back rows i (listed_row (kept_of row)) there in
+      let same : accepted (lives rows i x.0) ≡ durable (listed_row (kept_of row)) = append-nil (durable x.0) ∙ ap (λ r. durable r) (sym x.2) in
+      whole_goes durable accepted (lists rows) (opened_rows (map kept_of rows)) before_lists beside_lists i (listed_row (kept_of row)) there
+      ∙ (ap (λ w. over (past durable (lists rows) row.base) w) same ∙ sym (old_whole durable accepted (lists rows) (opened_rows (map kept_of rows)) before_lists beside_lists i (listed_row (kept_of row)) there))
+
+  -- it ends no earlier than the row's own list
+  own_end : (i : ℕ) (row : RowState) → slice_get rows i ≡ Some row → end_of (durable row) ≤ end_of (whole durable (lists rows) i)
+  own_end i row here =
+      let own = s.each_row i row here in
+      let rises : IsRising (durable row) = over_rising (over row.long row.medium) row.short (over_rising row.long row.medium own.long own.medium) own.short in
+      let is = ap end_of (old_whole durable accepted (lists rows) (opened_rows (map kept_of rows)) before_lists beside_lists i (listed_row (kept_of row)) (list_forth rows i row here)) ∙ end_of-over (past durable (lists rows) row.base) (durable row) rises in
+      omega arith
+
+  opened_sound_row : (now : Bool) (i : ℕ) (row : RowState) → slice_get rows i ≡ Some row → RowSound now (lives rows i row)
+  opened_sound_row now i row here = let own = s.each_row i row here in record { short = own.short; medium = own.medium; long = own.long; later = tt; next = own_end i row here }
+
+  opened_bases : (now : Bool) → BasesSound now (opened_rows (map kept_of rows))
+  opened_bases now =
+      record {
+        over = λ i new b there is. over_opened i new b is (back rows i new there);
+        one = λ i j b a c here there is is'. let x = back rows i a here in let y = back rows j c there in
+            s.bases.one i j b x.0 y.0 x.1 y.1 (ap (λ (r : RowState). r.base) (sym x.2) ∙ is) (ap (λ (r : RowState). r.base) (sym y.2) ∙ is');
+        end = λ i new there. let x = back rows i new there in
+            let same = ap end_of (opened_whole i x.0 x.1) in
+            let next : new.next ≡ end_of (whole durable (lists rows) i) = ap (λ (r : RowState). r.next) x.2 in
+            omega arith;
+        exact = λ t i new there. let x = back rows i new there in ap (λ (r : RowState). r.next) x.2 ∙ sym (ap end_of (opened_whole i x.0 x.1));
+      }
+    where
+      over_opened : (i : ℕ) (new : RowState) (b : ℕ) → new.base ≡ Some b → (row : RowState) × (slice_get rows i ≡ Some row) × (new ≡ lives rows i row) → IsOver (opened_rows (map kept_of rows)) i new b
+      over_opened i new b is x =
+          let own : x.0.base ≡ Some b = ap (λ (r : RowState). r.base) (sym x.2) ∙ is in
+          let o = s.bases.over i x.0 b x.1 own in
+          record {
+            base = lives rows b o.base;
+            here = forth rows b o.base o.here;
+            below = o.below;
+            retired = o.retired;
+            about = o.about ∙ ap (λ (r : RowState). r.about) (sym x.2);
+            none = refl;
+          }
 
 open_sound : (rule : Rule) (told now : Bool) (doors faults : ℕ) (rows : List RowState) → RowsSound told rows → IsSound (opened rule now doors faults (map kept_of rows))
 open_sound rule told now doors faults rows s =
     record {
-      few = (let few : length rows ≤ 65536 = s.few in let one = length-map (map kept_of rows) opened_row in let two = length-map rows kept_of in omega arith);
+      few =
+          let few : length rows ≤ 65536 = s.few in
+          let one = length-map (map kept_of rows) listed_row in
+          let two = length-map rows kept_of in
+          let three = length-each (with_next (lists rows)) 0 (lists rows) in
+          omega arith;
       keys = λ i j a b here there same. let x = back rows i a here in let y = back rows j b there in
           s.keys i j x.0 y.0 x.1 y.1 (ap (λ (r : RowState). key_of r.name) (sym x.2) ∙ (same ∙ ap (λ (r : RowState). key_of r.name) y.2));
-      each_row = λ i new here. let x = back rows i new here in subst (λ r. RowSound now r) (sym x.2) (opened_sound_row told now x.0 (s.each_row i x.0 x.1));
+      each_row = λ i new here. let x = back rows i new here in subst (λ r. RowSound now r) (sym x.2) (opened_sound_row told rows s now i x.0 x.1);
+      bases = opened_bases told rows s now;
       lines = λ i new here. let x = back rows i new here in subst (λ r. LinesSound r) (sym x.2) (record { tail = tt; held = tt });
-      intake = (let none = no_bytes (map kept_of rows) in omega arith);
+      intake = (let none = no_bytes (with_next (lists rows)) 0 (lists rows) (λ i row here. let x = list_back rows i row here in ap (λ (r : RowState). r.tail) x.2) in omega arith);
       doubted = λ change is. absurd cc;
       each_move = λ n move here. absurd (no_move n move here);
       one_move = λ n k move other here there same. absurd (no_move n move here);
@@ -131,4 +233,4 @@ next_life_between old left s is rule told doors faults = open_sound rule old.tol
 -- each row of what was left is there, and all that is durable of it is accepted
 pub next_life_rows : (rule : Rule) (told : Bool) (doors faults : ℕ) (left : Machine) (i : ℕ) (row : RowState) → slice_get left.rows i ≡ Some row
     → (new : RowState) × (slice_get (opened rule told doors faults (kept left)).rows i ≡ Some new) × (kept_of new ≡ kept_of row) × (accepted new ≡ durable row)
-next_life_rows rule told doors faults left i row here = let both = opened_accepts row in (lives row, forth left.rows i row here, refl, both.1)
+next_life_rows rule told doors faults left i row here = let both = opened_accepts left.rows i row in (lives left.rows i row, forth left.rows i row here, refl, both.1)

@@ -1,5 +1,5 @@
 -- What never falls: what is durable and what is accepted of each row; and what never changes.
-use Rattle.std.proofs.Common.{◌≡◌, ℕ, ◌+◌, List, [], ◌∷◌, ◌++◌, Option, Some, None, zero, suc, true, refl, ap, sym, ◌∙◌, arith, subst, append_assoc, append-nil}
+use Rattle.std.proofs.Common.{◌≡◌, ℕ, ◌+◌, List, [], ◌∷◌, ◌++◌, Option, Some, None, true, refl, ap, sym, ◌∙◌, arith, subst, append_assoc, append-nil}
 use Rattle.std.specs.Prelude.{slice_get}
 use Rattle.std.specs.Ordering.{nat_cmp}
 use Rattle.std.specs.FinMap.{FinMap}
@@ -16,7 +16,8 @@ use Rattle.act_model.specs.Crash.{LeftBetween, as_it_is, with_doubt, LeftWithin,
 use Rattle.act_model.specs.Growth.{RowOn, RowsOn, Onward}
 use Rattle.act_model.proofs.ChangeLaws.{RowGoes}
 use Rattle.act_model.proofs.Rows.{Came, from_row, is_new, came}
-use Rattle.act_model.proofs.MadeLaws.{goes, IsFresh, fresh, added_fresh}
+pub use Rattle.act_model.proofs.Rows.{each_forward, append_forward}
+use Rattle.act_model.proofs.MadeLaws.{goes, IsFresh, fresh, fresh_over, added_fresh}
 use Rattle.act_model.proofs.StepLaws.{settled_sound}
 
 pub prefix_refl : (xs : List Sample) → IsPrefix xs xs
@@ -32,24 +33,14 @@ durable_accepted row = (since (end_of (durable row)) row.tail, refl)
 -- THE ROWS
 
 pub row_refl : (row : RowState) → RowOn row row
-row_refl row = record { name = refl; about = refl; durable_on = prefix_refl (durable row); accepted_on = prefix_refl (accepted row) }
+row_refl row = record { name = refl; about = refl; base = refl; retired = λ is. (is, refl); durable_on = prefix_refl (durable row); accepted_on = prefix_refl (accepted row) }
 
 pub rows_refl : (rows : List RowState) → RowsOn rows rows
 rows_refl rows = λ i row here. (row, here, row_refl row)
 
 rows_trans : (a b c : List RowState) → RowsOn a b → RowsOn b c → RowsOn a c
 rows_trans a b c p q = λ i row here. let x = p i row here in let y = q i x.0 x.1 in
-    (y.0, y.1, record { name = y.2.name ∙ x.2.name; about = y.2.about ∙ x.2.about; durable_on = prefix_trans (durable row) (durable x.0) (durable y.0) x.2.durable_on y.2.durable_on; accepted_on = prefix_trans (accepted row) (accepted x.0) (accepted y.0) x.2.accepted_on y.2.accepted_on })
-
-pub each_forward : (f : ℕ → RowState → RowState) (k : ℕ) (rows : List RowState) (i : ℕ) (row : RowState) → slice_get rows i ≡ Some row → slice_get (each f k rows) i ≡ Some (f (k + i) row)
-each_forward f k [] i row here = absurd cc
-each_forward f k (x ∷ rows) zero row here = let same : x ≡ row = cc in let plain : k ≡ k + 0 = omega arith in ap (λ r. Some (f k r)) same ∙ ap (λ n. Some (f n row)) plain
-each_forward f k (x ∷ rows) (suc i) row here = let next : (k + 1) + i ≡ k + suc i = omega arith in each_forward f (k + 1) rows i row here ∙ ap (λ n. Some (f n row)) next
-
-pub append_forward : (rows more : List RowState) (i : ℕ) (row : RowState) → slice_get rows i ≡ Some row → slice_get (rows ++ more) i ≡ Some row
-append_forward [] more i row here = absurd cc
-append_forward (x ∷ rows) more zero row here = here
-append_forward (x ∷ rows) more (suc i) row here = append_forward rows more i row here
+    (y.0, y.1, record { name = y.2.name ∙ x.2.name; about = y.2.about ∙ x.2.about; base = y.2.base ∙ x.2.base; retired = λ is. let p = x.2.retired is in let q = y.2.retired p.0 in (q.0, q.1 ∙ p.1); durable_on = prefix_trans (durable row) (durable x.0) (durable y.0) x.2.durable_on y.2.durable_on; accepted_on = prefix_trans (accepted row) (accepted x.0) (accepted y.0) x.2.accepted_on y.2.accepted_on })
 
 -- one row that changes
 pub each_on : (f : ℕ → RowState → RowState) (rows : List RowState) → ((i : ℕ) (row : RowState) → slice_get rows i ≡ Some row → RowOn row (f i row)) → RowsOn rows (each f 0 rows)
@@ -79,7 +70,7 @@ onward_made m into change s may =
           let g : RowGoes m.told row (changed m.told m.limbo change i row) = goes m.rule m.told m.rows m.limbo change s.each_row s.each_file may i row here in
           let plain : 0 + i ≡ i = omega arith in
           let there : slice_get (each (changed m.told m.limbo change) 0 m.rows) i ≡ Some (changed m.told m.limbo change i row) = each_forward (changed m.told m.limbo change) 0 m.rows i row here ∙ ap (λ n. Some (changed m.told m.limbo change n row)) plain in
-          (changed m.told m.limbo change i row, append_forward (each (changed m.told m.limbo change) 0 m.rows) (added change) i (changed m.told m.limbo change i row) there, record { name = g.name; about = g.about; durable_on = g.more t; accepted_on = ([], g.same t ∙ sym (append-nil (accepted row))) });
+          (changed m.told m.limbo change i row, append_forward (each (changed m.told m.limbo change) 0 m.rows) (added change m.rows) i (changed m.told m.limbo change i row) there, record { name = g.name; about = g.about; base = g.base; retired = λ is. (g.stays_retired is, g.same t); durable_on = g.more t; accepted_on = ([], g.same t ∙ sym (append-nil (accepted row))) });
     }
 
 pub onward_settled : {old mid : Machine} → IsSound old → Settles old mid → Onward old mid
@@ -102,9 +93,9 @@ module _ (refuse : Machine → Option Reply) (run : Machine → Reply → Machin
 
 -- A CRASH
 
--- rows that a change leaves: the same is accepted, and no less is durable
+-- rows that a change leaves: the same is accepted over the same base, and no less is durable
 data Kept (rows : List RowState) (i : ℕ) (left : RowState) : Type 0 where
-  kept_row : (row : RowState) → slice_get rows i ≡ Some row → IsPrefix (durable row) (durable left) → accepted left ≡ accepted row → Kept rows i left
+  kept_row : (row : RowState) → slice_get rows i ≡ Some row → left.base ≡ row.base → IsPrefix (durable row) (durable left) → accepted left ≡ accepted row → Kept rows i left
   new_row : durable left ≡ [] → accepted left ≡ [] → Kept rows i left
 
 no_more : (left : RowState) → accepted left ≡ [] → durable left ≡ []
@@ -115,14 +106,15 @@ no_more left none = let whole : durable left ++ since (end_of (durable left)) le
     by_list (x ∷ xs) ys none = absurd cc
 
 kept_between : (rows : List RowState) (i : ℕ) (left : RowState) → Kept rows i left → Between rows i left
-kept_between rows i left (kept_row row here p same) = of_row_there row here p (subst (λ w. IsPrefix (durable left) w) same (durable_accepted left))
+kept_between rows i left (kept_row row here base p same) = of_row_there row here base p (subst (λ w. IsPrefix (durable left) w) same (durable_accepted left))
 kept_between rows i left (new_row none empty) = of_no_row none
 
-fresh_empty : (row : RowState) → IsFresh row → (durable row ≡ []) × (accepted row ≡ [])
-fresh_empty row (fresh name about is) = (rw is refl, rw is refl)
+fresh_empty : (change : Change) (rows : List RowState) (row : RowState) → IsFresh change rows row → (durable row ≡ []) × (accepted row ≡ [])
+fresh_empty change rows row (fresh name about by is) = (rw is refl, rw is refl)
+fresh_empty change rows row (fresh_over k name old by here is) = (rw is refl, rw is refl)
 
 kept_self : (m : Machine) (i : ℕ) (left : RowState) → slice_get m.rows i ≡ Some left → Kept m.rows i left
-kept_self m i left here = kept_row left here (prefix_refl (durable left)) refl
+kept_self m i left here = kept_row left here refl (prefix_refl (durable left)) refl
 
 kept_made : (m : Machine) (change : Change) → m.told ≡ true → IsSound m → MayMake m.rule m.told m.rows m.limbo change → (i : ℕ) (left : RowState) → slice_get (changed_rows m.told m.limbo change m.rows) i ≡ Some left → Kept m.rows i left
 kept_made m change t s may i left here = by_row (came m.told m.limbo change m.rows i left here)
@@ -130,15 +122,15 @@ kept_made m change t s may i left here = by_row (came m.told m.limbo change m.ro
     by_row : Came m.told m.limbo change m.rows i left → Kept m.rows i left
     by_row (from_row row there is) =
         let g : RowGoes m.told row left = rw is (goes m.rule m.told m.rows m.limbo change s.each_row s.each_file may i row there) in
-        kept_row row there (g.more t) (g.same t)
-    by_row (is_new j at there) = let none = fresh_empty left (added_fresh change j left there).0 in new_row none.0 none.1
+        kept_row row there g.base (g.more t) (g.same t)
+    by_row (is_new j at there) = let none = fresh_empty change m.rows left (added_fresh change m.rows j left there).0 in new_row none.0 none.1
 
 kept_trans : (rows mids : List RowState) (i : ℕ) (left : RowState) → ((j : ℕ) (mid : RowState) → slice_get mids j ≡ Some mid → Kept rows j mid) → Kept mids i left → Kept rows i left
 kept_trans rows mids i left first (new_row none empty) = new_row none empty
-kept_trans rows mids i left first (kept_row mid here p same) = by_first (first i mid here)
+kept_trans rows mids i left first (kept_row mid here base p same) = by_first (first i mid here)
   where
     by_first : Kept rows i mid → Kept rows i left
-    by_first (kept_row row there q same') = kept_row row there (prefix_trans (durable row) (durable mid) (durable left) q p) (same ∙ same')
+    by_first (kept_row row there base' q same') = kept_row row there (base ∙ base') (prefix_trans (durable row) (durable mid) (durable left) q p) (same ∙ same')
     by_first (new_row none empty) = new_row (no_more left (same ∙ empty)) (same ∙ empty)
 
 kept_settled : {old mid : Machine} → old.told ≡ true → IsSound old → Settles old mid → (i : ℕ) (left : RowState) → slice_get mid.rows i ≡ Some left → Kept old.rows i left

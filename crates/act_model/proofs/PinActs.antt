@@ -13,7 +13,7 @@ use Rattle.act_model.specs.Rows.{RowState, tier, tier, window, is_empty}
 use Rattle.act_model.specs.Rule.{Rule}
 use Rattle.act_model.specs.Limbo.{FileState, tier_at}
 use Rattle.act_model.specs.Machine.{Machine, PinState}
-use Rattle.act_model.specs.Pin.{IsListedPiece, Pins, pins}
+use Rattle.act_model.specs.Pin.{IsListedPiece, IsPieceOf, Pins, pins}
 use Rattle.act_model.specs.OpenPiece.{Opens, refused_open, no_piece, opens, faults_opening, wants_memory_opening}
 use Rattle.act_model.specs.Unpin.{Unpins, refused_unpin, unpins}
 use Rattle.act_model.specs.Sound.{IsUnlisted, PieceSound, PinsSound, IsSound}
@@ -60,7 +60,7 @@ listed_sound rule rows limbo i row here all piece l =
         cc
 
 pub other_pins : (m : Machine) (others : FinMap nat_cmp PinState) → IsSound m → (m.told ≡ true → PinsSound m.rule m.rows m.limbo others) → IsSound (record m { pins = others })
-other_pins m others s sound = record { few = s.few; keys = s.keys; each_row = s.each_row; lines = s.lines; intake = s.intake; doubted = s.doubted; each_move = s.each_move; one_move = s.one_move; each_file = s.each_file; each_unlisted = s.each_unlisted; places = s.places; pinned = sound }
+other_pins m others s sound = record { few = s.few; keys = s.keys; each_row = s.each_row; bases = s.bases; lines = s.lines; intake = s.intake; doubted = s.doubted; each_move = s.each_move; one_move = s.one_move; each_file = s.each_file; each_unlisted = s.each_unlisted; places = s.places; pinned = sound }
 
 pub pins_sound : {who : ℕ} {name : List ℕ} {query : Query} {mid new : Machine} {reply : Reply} → IsSound mid → Pins who name query mid reply new → IsSound new
 pins_sound {who} {mid = mid} {new = new} s (pins i row pin pieces found here free least listed order gives few same) =
@@ -68,7 +68,7 @@ pins_sound {who} {mid = mid} {new = new} s (pins i row pin pieces found here fre
     (λ t n other there. by_case t n other (pin_inserted mid.pins pin n (record { owner = who; pieces = pieces }) other there)))
   where
     by_case : mid.told ≡ true → (n : ℕ) (other : PinState) → ((n ≡ pin) × (other ≡ record { owner = who; pieces = pieces })) ⊎ ((n ≢ pin) × (get mid.pins n ≡ Some other)) → AllByRecursion (PieceSound mid.rule mid.rows mid.limbo) other.pieces
-    by_case t n other (inl is) = rw is.1 (of_all (IsListedPiece mid.rule i row) (PieceSound mid.rule mid.rows mid.limbo) pieces (listed_sound mid.rule mid.rows mid.limbo i row here s.each_unlisted) (listed t))
+    by_case t n other (inl is) = rw is.1 (of_all (IsPieceOf mid.rule mid.rows i row) (PieceSound mid.rule mid.rows mid.limbo) pieces (λ piece p. listed_sound mid.rule mid.rows mid.limbo piece.row p.own p.here s.each_unlisted piece p.listed) (listed t))
     by_case t n other (inr is) = s.pinned t n other is.1
 
 -- OPEN AND UNPIN

@@ -10,10 +10,11 @@ use Rattle.series_model.specs.declared.sample.Sample.{Sample}
 use Rattle.series_model.specs.Series.{over}
 use Rattle.series_model.specs.Retrieval.{answer}
 use Rattle.event_types.specs.declared.about.About.{About}
-use Rattle.act_model.specs.Rows.{accepted}
+use Rattle.act_model.specs.Rows.{RowState, accepted}
+use Rattle.act_model.specs.Limbo.{FileState}
 use Rattle.disk_model.specs.Files.{Name}
 use Rattle.act_model.specs.declared.acts.Act.{Act}
-use Rattle.act_model.specs.declared.acts.Act.TheVariants.{Register, Pause, Resume, Offer, Tick, Flush, MoveBegin, MoveStep, Sweep, Pin, OpenPiece, Unpin, Names, Details, Doors, DoorDone}
+use Rattle.act_model.specs.declared.acts.Act.TheVariants.{Register, Pause, Resume, Rename, Offer, Tick, Flush, MoveBegin, MoveStep, Sweep, Pin, OpenPiece, Unpin, Names, Details, Doors, DoorDone}
 use Rattle.act_model.specs.declared.acts.Answer.TheVariants.{Piece, Pinned, NotYours}
 use Rattle.act_model.specs.Reply.{Reply, Opened}
 use Rattle.act_model.specs.Machine.{Machine, PinState, MoveState, Change, find_row, place, same_bytes}
@@ -21,6 +22,7 @@ use Rattle.act_model.specs.Changes.{Settles, no_doubt, as_not_made, as_made}
 use Rattle.act_model.specs.Outcome.{Outcome, Ends, Same, Acts, all_go, refused_at_once, refused, runs, faults_first, faults_between, faults_within, faults_removing, wants_memory, wants_memory_settled}
 use Rattle.act_model.specs.Register.{register_refused, Registers}
 use Rattle.act_model.specs.Pause.{Sets}
+use Rattle.act_model.specs.Rename.{IsRenamed}
 use Rattle.act_model.specs.Flush.{Flushes}
 use Rattle.act_model.specs.Details.{Describes, details_refused}
 use Rattle.act_model.specs.MoveBegin.{Begins, begins, all_run, none_to_make}
@@ -28,7 +30,8 @@ use Rattle.act_model.specs.MoveStep.{GoesOn, copies, has_copied, publishes, reti
 use Rattle.act_model.specs.Sweep.{Sweeps}
 use Rattle.act_model.specs.Rule.{Rule}
 use Rattle.act_model.specs.Files.{IsFileOf}
-use Rattle.act_model.specs.Pin.{IsListedPiece, Pins, pins, over_pieces}
+use Rattle.act_model.specs.Pin.{IsPieceOf, Pins, pins, over_pieces}
+use Rattle.act_model.specs.Whole.{whole}
 use Rattle.act_model.specs.OpenPiece.{Opens, refused_open, no_piece, opens, faults_opening, wants_memory_opening, Shows, IsNamed}
 use Rattle.act_model.specs.Unpin.{Unpins, refused_unpin, unpins, pin_refused}
 use Rattle.act_model.specs.Sound.{IsSound}
@@ -151,6 +154,7 @@ step_keeps n pin e old new s ask step keeps = by_act e.act ask step refl
     by_act (Register name about) ask step is = alike (Acts-alike (register_refused name) (Registers name about) _ all_go (λ mid answer new ran. ap (λ (m : Machine). m.pins) ran.1) step)
     by_act (Pause name) ask step is = alike (Acts-alike _ (Sets _ name) _ all_go (λ mid answer new ran. ap (λ (m : Machine). m.pins) ran.1.2) step)
     by_act (Resume name) ask step is = alike (Acts-alike _ (Sets _ name) _ all_go (λ mid answer new ran. ap (λ (m : Machine). m.pins) ran.1.2) step)
+    by_act (Rename name newname) ask step is = alike (Acts-alike _ (IsRenamed name newname) _ all_go (λ mid answer new ran. ap (λ (m : Machine). m.pins) ran.1.2) step.1)
     by_act (Offer name ty t line now) ask step is = alike (ends_pins _ old new e.answer (act_pins old _ (offered_act old name ty (record { t = t; line = line }) now s ask)) step)
     by_act (Tick row now) ask step is = alike (ends_pins _ old new e.answer (act_pins old _ (ticked_act old row now s)) step)
     by_act (Flush limit) ask step is = alike (Acts-alike _ (Flushes limit) _ all_go (λ mid answer new ran. ap (λ (m : Machine). m.pins) ran.1) step)
@@ -238,6 +242,10 @@ no_refusal name None m n count nm about tail found is = absurd (let bad = rw fou
 one_answer : (n count : ℕ) (nm : List ℕ) (about : About) (tail : List Sample) (n' count' : ℕ) (nm' : List ℕ) (about' : About) (tail' : List Sample) → pinned_as n nm about count tail ≡ pinned_as n' nm' about' count' tail' → (n ≡ n') × (count ≡ count') × (tail ≡ tail') × (nm ≡ nm') × (about ≡ about')
 one_answer n count nm about tail n' count' nm' about' tail' is = (cc, cc, cc, cc, cc)
 
+-- a file of a row is one of another row with the same type
+file_of : (rule : Rule) (own row : RowState) (f : FileState) → own.about.ty ≡ row.about.ty → IsFileOf rule own f → IsFileOf rule row f
+file_of rule own row f same is = record { whole = is.whole; message = is.message; means = is.means; header = is.header; says = is.says; ty = is.ty ∙ same; lines = is.lines; rising = is.rising }
+
 made_here : {who : ℕ} {name : List ℕ} {query : Query} {mid new : Machine} {reply : Reply} (n count : ℕ) (nm : List ℕ) (about : About) (tail : List Sample) → Pins who name query mid reply new → reply ≡ Pinned n nm about count tail → IsPinMade who name query n nm about count tail new
 made_here {who} {name} {query} {mid} {new} n count nm about tail (pins i row pin pieces found here free least listed order gives few same) is =
     let own = one_answer pin (length pieces) row.name row.about row.tail n count nm about tail is in
@@ -255,9 +263,9 @@ made_here {who} {name} {query} {mid} {new} n count nm about tail (pins i row pin
       name_is = sym own.3;
       about_is = sym own.4;
       tail_is = sym own.2;
-      files = λ t. subst (λ (r : Rule). AllByRecursion (IsFileOf r row) pieces) (sym (ap (λ (m : Machine). m.rule) same)) (of_all (IsListedPiece mid.rule i row) (IsFileOf mid.rule row) pieces (λ f l. l.file) (listed (sym (ap (λ (m : Machine). m.told) same) ∙ t)));
+      files = λ t. subst (λ (r : Rule). AllByRecursion (IsFileOf r row) pieces) (sym (ap (λ (m : Machine). m.rule) same)) (of_all (IsPieceOf mid.rule mid.rows i row) (IsFileOf mid.rule row) pieces (λ f p. file_of mid.rule p.own row f p.ty p.listed.file) (listed (sym (ap (λ (m : Machine). m.told) same) ∙ t)));
       order = λ t. order (sym (ap (λ (m : Machine). m.told) same) ∙ t);
-      gives = λ t. subst (λ w. answer (over (over_pieces [] pieces) w) query ≡ answer (accepted row) query) own.2 (gives (sym (ap (λ (m : Machine). m.told) same) ∙ t));
+      gives = λ t. subst (λ w. answer (over (over_pieces [] pieces) tail) query ≡ answer (whole accepted w i) query) (sym rows) (subst (λ w. answer (over (over_pieces [] pieces) w) query ≡ answer (whole accepted mid.rows i) query) own.2 (gives (sym (ap (λ (m : Machine). m.told) same) ∙ t)));
     }
 
 -- The pin is there, and its pieces and the tail that was told answer the query as all that is accepted.

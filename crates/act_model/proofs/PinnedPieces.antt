@@ -8,10 +8,12 @@ use Rattle.series_model.specs.declared.sample.Sample.{Sample}
 use Rattle.series_model.specs.Archive.{IsPrefix}
 use Rattle.series_model.specs.Series.{since}
 use Rattle.partition_names.specs.declared.part.Part.{Part}
+use Rattle.event_types.specs.declared.about.State.{State}
+use Rattle.event_types.specs.declared.about.State.TheVariants.{Retired}
 use Rattle.act_model.specs.Rows.{RowState, Store, Short, Medium, Long, same_store, next_store, tier, window, holds, is_empty}
 use Rattle.act_model.specs.Rule.{IsPartition}
 use Rattle.act_model.specs.Limbo.{FileState, files_of, put, tier_at, unlisted, IsThere, Extend}
-use Rattle.act_model.specs.Machine.{Machine, PinState, Change, AddsRow, SetsState, Appends, Publishes, Unlists}
+use Rattle.act_model.specs.Machine.{Machine, PinState, Change, AddsRow, SetsState, Renames, Appends, Publishes, Unlists}
 use Rattle.act_model.specs.Changes.{changed, changed_rows, added, published, retired, without_held, of_row, Retires, IsRetired}
 use Rattle.act_model.specs.Sound.{MayMake, MayUnlist, LimboSound, Backed, PieceSound, PinsSound}
 use Rattle.act_model.proofs.ChangeLaws.{at_row}
@@ -26,14 +28,15 @@ pub data TierGoes (limbo : List FileState) (change : Change) (i : ℕ) (row new 
   put_tier : (xs : List Sample) → tier new st ≡ put xs (files_of i st limbo) (tier row st) → TierGoes limbo change i row new st
   left_tier : (to : ℕ) → change ≡ Unlists i st to → tier new st ≡ since to (tier row st) → TierGoes limbo change i row new st
 
+held_tier : (state : State) (row : RowState) (st : Store) → tier (without_held state row) st ≡ tier row st
+held_tier state row Short = refl
+held_tier state row Medium = refl
+held_tier state row Long = refl
+
 pub tier_goes : (limbo : List FileState) (change : Change) (i : ℕ) (row : RowState) (st : Store) → TierGoes limbo change i row (changed true limbo change i row) st
 tier_goes limbo (AddsRow name about) i row st = same_tier refl
-tier_goes limbo (SetsState k state) i row st = at_row k i (without_held state) row (λ r. TierGoes limbo (SetsState k state) i row r st) (same_tier refl) (λ is. by_store st)
-  where
-    by_store : (st : Store) → TierGoes limbo (SetsState k state) i row (without_held state row) st
-    by_store Short = same_tier refl
-    by_store Medium = same_tier refl
-    by_store Long = same_tier refl
+tier_goes limbo (SetsState k state) i row st = at_row k i (without_held state) row (λ r. TierGoes limbo (SetsState k state) i row r st) (same_tier refl) (λ is. same_tier (held_tier state row st))
+tier_goes limbo (Renames k name) i row st = at_row k i (without_held Retired) row (λ r. TierGoes limbo (Renames k name) i row r st) (same_tier refl) (λ is. same_tier (held_tier Retired row st))
 tier_goes limbo (Appends batch) i row Short = put_tier (of_row i batch) refl
 tier_goes limbo (Appends batch) i row Medium = same_tier refl
 tier_goes limbo (Appends batch) i row Long = same_tier refl
@@ -196,6 +199,7 @@ module _ (m : Machine) (into : List FileState) (change : Change) (may : MayMake 
         by_change : (c : Change) → Retires m c into → AllByRecursion (λ (f : FileState). f.part ≡ piece.part → IsPrefix piece.samples f.samples) (files_of piece.row piece.store into)
         by_change (AddsRow name about) r = none r
         by_change (SetsState k state) r = none r
+        by_change (Renames k name) r = none r
         by_change (Appends batch) r = none r
         by_change (Publishes k st xs) r = none r
         by_change (Unlists k st to) r = of_place (IsRetired m k st to) (λ (f : FileState). f.part ≡ piece.part → IsPrefix piece.samples f.samples) piece.row piece.store into (λ f a b one same. by_row k st to f a b one same (slice_get m.rows piece.row) refl) r.0
@@ -229,7 +233,7 @@ module _ (m : Machine) (into : List FileState) (change : Change) (may : MayMake 
     pub piece_made : PieceSound m.rule rows' limbo' piece
     piece_made =
         record {
-          here = (let low : piece.row < length m.rows = s.here in let more : length rows' ≡ length m.rows + length (added change) = more_rows m.told m.limbo change m.rows in omega arith);
+          here = (let low : piece.row < length m.rows = s.here in let more : length rows' ≡ length m.rows + length (added change m.rows) = more_rows m.told m.limbo change m.rows in omega arith);
           partition = s.partition;
           extend = fewer_of_place (λ f. f.part ≡ piece.part → IsPrefix piece.samples f.samples) (λ (f : FileState). is_empty (window f.part (tier_at rows' f.row f.store))) piece.row piece.store (m.limbo ++ into)
               (place_append (λ f. f.part ≡ piece.part → IsPrefix piece.samples f.samples) piece.row piece.store m.limbo into s.extend into_extend);
@@ -252,6 +256,7 @@ module _ (m : Machine) (into : List FileState) (change : Change) (may : MayMake 
       by_change : (c : Change) → change ≡ c → Retires m c into → AllByRecursion Leaves pin.pieces
       by_change (AddsRow name about) is r = other (λ i st to same. (let bad = sym is ∙ same in cc))
       by_change (SetsState k state) is r = other (λ i st to same. (let bad = sym is ∙ same in cc))
+      by_change (Renames k name) is r = other (λ i st to same. (let bad = sym is ∙ same in cc))
       by_change (Appends batch) is r = other (λ i st to same. (let bad = sym is ∙ same in cc))
       by_change (Publishes k st xs) is r = other (λ i store to same. (let bad = sym is ∙ same in cc))
       by_change (Unlists k st to) is r = of_all (λ (piece : FileState). piece.row ≡ k → piece.store ≡ st → piece.part.end ≤ to → is_empty (window piece.part (tier_at m.rows k st)) ≡ false → IsThere piece.part (files_of k st into)) Leaves pin.pieces

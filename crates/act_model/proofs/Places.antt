@@ -4,7 +4,7 @@ use Rattle.std.specs.Prelude.{filter}
 use Rattle.std.specs.List.{AllByRecursion}
 use Rattle.act_model.specs.Rows.{RowState, Store, window, is_empty}
 use Rattle.act_model.specs.Limbo.{FileState, tier_at, unlisted, IsElsewhere, PlacesDiffer}
-use Rattle.act_model.specs.Machine.{Machine, Change, AddsRow, SetsState, Appends, Publishes, Unlists}
+use Rattle.act_model.specs.Machine.{Machine, Change, AddsRow, SetsState, Renames, Appends, Publishes, Unlists}
 use Rattle.act_model.specs.Changes.{Retires, IsRetired}
 use Rattle.act_model.specs.Sound.{IsUnlisted}
 use Rattle.act_model.proofs.Rows.{of_filter, of_append, of_all}
@@ -38,6 +38,7 @@ places_made m into change rows retires t differ bare =
     own : (c : Change) → Retires m c into → PlacesDiffer into
     own (AddsRow name about) r = subst (λ w. PlacesDiffer w) (sym r) tt
     own (SetsState k state) r = subst (λ w. PlacesDiffer w) (sym r) tt
+    own (Renames k name) r = subst (λ w. PlacesDiffer w) (sym r) tt
     own (Appends batch) r = subst (λ w. PlacesDiffer w) (sym r) tt
     own (Publishes k store copied) r = subst (λ w. PlacesDiffer w) (sym r) tt
     own (Unlists k store to) r = r.2 t
@@ -45,6 +46,7 @@ places_made m into change rows retires t differ bare =
     apart : (f : FileState) → IsUnlisted m.rows f → (c : Change) → Retires m c into → AllByRecursion (IsElsewhere f) into
     apart f is (AddsRow name about) r = subst (λ w. AllByRecursion (IsElsewhere f) w) (sym r) tt
     apart f is (SetsState k state) r = subst (λ w. AllByRecursion (IsElsewhere f) w) (sym r) tt
+    apart f is (Renames k name) r = subst (λ w. AllByRecursion (IsElsewhere f) w) (sym r) tt
     apart f is (Appends batch) r = subst (λ w. AllByRecursion (IsElsewhere f) w) (sym r) tt
     apart f is (Publishes k store copied) r = subst (λ w. AllByRecursion (IsElsewhere f) w) (sym r) tt
     apart f is (Unlists k store to) r = of_all (IsRetired m k store to) (IsElsewhere f) into (λ g one. listed_elsewhere m k store to f g t is one) r.0

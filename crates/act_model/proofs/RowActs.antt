@@ -13,25 +13,27 @@ use Rattle.series_model.specs.Series.{end_from, end_of}
 use Rattle.series_model.proofs.RisingLists.{end_from-append, RisesFrom-append}
 use Rattle.event_types.specs.declared.about.About.{About}
 use Rattle.event_types.specs.declared.about.State.{State}
+use Rattle.event_types.specs.declared.about.State.TheVariants.{Running, Paused, Retired}
 use Rattle.pb_wire.specs.declared.payload.PayloadType.{PayloadType}
 use Rattle.pb_wire.specs.declared.payload.PayloadType.TheVariants.{ScalarString, ScalarShort, ScalarFloat, ScalarEnum, ScalarByte, ScalarInt, ScalarDouble, WaveformString, WaveformShort, WaveformFloat, WaveformEnum, WaveformByte, WaveformInt, WaveformDouble}
 use Rattle.event_types.specs.declared.about.Method.{Method}
 use Rattle.event_types.specs.declared.about.Method.TheVariants.{Monitor, Scan}
 use Rattle.act_model.specs.declared.acts.Answer.TheVariants.{Dropped, IntakeFull, CatalogueFull, Kept, Held, TickKept, TickNone, NotDue, NoRow}
 use Rattle.act_model.specs.Reply.{Reply}
-use Rattle.act_model.specs.Rows.{RowState, durable, size_of, is_empty, standing, number_of, period_of, is_running}
+use Rattle.act_model.specs.Rows.{RowState, durable, size_of, is_empty, standing, number_of, period_of, is_running, is_paused}
 use Rattle.pv_name.specs.Key.{key_of}
-use Rattle.act_model.specs.Machine.{Machine, MoveState, Change, AddsRow, SetsState, Appends, find_row, with_key, place, same_bytes, held_bytes}
+use Rattle.act_model.specs.Machine.{Machine, MoveState, Change, AddsRow, SetsState, Renames, Appends, find_row, with_key, place, same_bytes, held_bytes}
 use Rattle.act_model.specs.Changes.{with_rows, each, at, of_row}
 use Rattle.act_model.specs.Outcome.{Outcome, all_go}
 use Rattle.act_model.specs.Register.{RegisterStep, Registers, register_refused}
 use Rattle.act_model.specs.Pause.{StateStep, Sets, sets_of, state_refused}
+use Rattle.act_model.specs.Rename.{RenameStep, IsRenamed, changed_within, rename_refused, renames_of}
 use Rattle.act_model.specs.Offer.{OfferStep, offered, offered_to, tried, gains, with_held, room}
 use Rattle.act_model.specs.Tick.{TickStep, ticked, ticked_due, moved_on}
 use Rattle.act_model.specs.Flush.{FlushStep, Flushes, batch_of, batch_from}
-use Rattle.act_model.specs.Sound.{RowSound, LinesSound, IsHeld, MayMake, MayAdd, EndedMove, IsSound}
+use Rattle.act_model.specs.Sound.{RowSound, LinesSound, IsHeld, IsLive, MayMake, MayAdd, MayRename, EndedMove, IsSound}
 use Rattle.act_model.specs.Event.{IsEvent}
-use Rattle.act_model.proofs.TailLaws.{RowTail, same_tail, tails_sound, at_bytes}
+use Rattle.act_model.proofs.TailLaws.{Gain, no_gain, one_gain, RowTail, same_tail, tails_sound, at_bytes}
 use Rattle.act_model.proofs.ChangeLaws.{at_row}
 use Rattle.act_model.proofs.StepLaws.{Acts-sound, Ends-sound, own_change}
 
@@ -87,16 +89,73 @@ register_sound name about old new answer s step =
 
 -- PAUSE AND RESUME
 
-pub sets_may : (to : State) (mid : Machine) (o : Option ℕ) (one : Change) → sets_of to o ≡ Some one → MayMake mid.rule mid.told mid.rows mid.limbo one × EndedMove mid.moves one
-sets_may to mid (Some i) one is = let same : SetsState i to ≡ one = cc in subst (λ c. MayMake mid.rule mid.told mid.rows mid.limbo c × EndedMove mid.moves c) same (tt, tt)
-sets_may to mid None one is = absurd cc
+-- a row that is paused or resumed isn't retired
+pub state_live : (wrong : State → Option Reply) → (wrong Retired ≡ None → ⊥) → (name : List ℕ) (m : Machine) → state_refused wrong name m ≡ None → (i : ℕ) → find_row m name ≡ Some i → IsLive m.rows i
+state_live wrong never name m none i found = λ row here gone. (let free : wrong row.state ≡ None = rw (found, here) at none in never (sym (ap wrong gone) ∙ free))
 
-pub state_sound : (wrong : State → Option Reply) (to : State) (name : List ℕ) (old new : Machine) (answer : Reply) → IsSound old → StateStep wrong to name old answer new → IsSound new
-state_sound wrong to name old new answer s step =
+pub sets_may : (to : State) (mid : Machine) (o : Option ℕ) (one : Change) → ((i : ℕ) → o ≡ Some i → IsLive mid.rows i) → sets_of to o ≡ Some one → MayMake mid.rule mid.told mid.rows mid.limbo one × EndedMove mid.moves one
+sets_may to mid (Some i) one live is = let same : SetsState i to ≡ one = cc in subst (λ c. MayMake mid.rule mid.told mid.rows mid.limbo c × EndedMove mid.moves c) same (live i refl, tt)
+sets_may to mid None one live is = absurd cc
+
+pub state_sound : (wrong : State → Option Reply) (to : State) → (wrong Retired ≡ None → ⊥) → (name : List ℕ) (old new : Machine) (answer : Reply) → IsSound old → StateStep wrong to name old answer new → IsSound new
+state_sound wrong to never name old new answer s step =
     Acts-sound (state_refused wrong name) (Sets to name) (λ m. sets_of to (find_row m name)) all_go all_fewer
-    (λ mid answer new s none free ran. own_change mid new [] (SetsState ran.1.0 to) s none tt tt refl ran.1.2)
-    (λ mid one s none free is. sets_may to mid (find_row mid name) one is)
+    (λ mid answer new s none free ran. own_change mid new [] (SetsState ran.1.0 to) s none (state_live wrong never name mid free ran.1.0 ran.1.1) tt refl ran.1.2)
+    (λ mid one s none free is. sets_may to mid (find_row mid name) one (state_live wrong never name mid free) is)
     s step
+
+-- RENAME
+
+paused_is : (s : State) → is_paused s ≡ true → s ≡ Paused
+paused_is Running is = absurd cc
+paused_is Paused is = refl
+paused_is Retired is = absurd cc
+
+none_is : (xs : List Sample) → is_empty xs ≡ true → xs ≡ []
+none_is [] is = refl
+none_is (s ∷ xs) is = absurd cc
+
+pub rename_may : (changed : ℕ) (found : Option ℕ) (name newname : List ℕ) (m : Machine) → rename_refused changed found name newname m ≡ None → (i : ℕ) → find_row m name ≡ Some i → MayRename m.rows i newname
+rename_may changed found name newname m none i here = by_row (slice_get m.rows i) refl
+  where
+    one_row : (row other : RowState) → slice_get m.rows i ≡ Some row → slice_get m.rows i ≡ Some other → row ≡ other
+    one_row row other there there' = by_some (sym there ∙ there')
+      where
+        by_some : {a b : RowState} → Some a ≡ Some b → a ≡ b
+        by_some is = cc
+
+    by_tail : (row : RowState) → slice_get m.rows i ≡ Some row → is_paused row.state ≡ true → register_refused newname m ≡ None → (b : Bool) → is_empty row.tail ≡ b → MayRename m.rows i newname
+    by_tail row there is free true empty =
+        record {
+          add = register_may newname m free;
+          paused = λ other there'. let same = one_row row other there there' in subst (λ (r : RowState). r.state ≡ Paused) same (paused_is row.state is);
+          none = λ other there'. let same = one_row row other there there' in subst (λ (r : RowState). r.tail ≡ []) same (none_is row.tail empty);
+        }
+    by_tail row there is free false some = absurd (let bad = rw (here, there, is, free, some) at none in cc)
+
+    by_newname : (row : RowState) → slice_get m.rows i ≡ Some row → is_paused row.state ≡ true → (o : Option Reply) → register_refused newname m ≡ o → MayRename m.rows i newname
+    by_newname row there is None free = by_tail row there is free (is_empty row.tail) refl
+    by_newname row there is (Some reply) taken = absurd (let bad = rw (here, there, is, taken) at none in cc)
+
+    by_paused : (row : RowState) → slice_get m.rows i ≡ Some row → (b : Bool) → is_paused row.state ≡ b → MayRename m.rows i newname
+    by_paused row there true is = by_newname row there is (register_refused newname m) refl
+    by_paused row there false is = absurd (let bad = rw (here, there, is) at none in cc)
+
+    by_row : (o : Option RowState) → slice_get m.rows i ≡ o → MayRename m.rows i newname
+    by_row (Some row) there = by_paused row there (is_paused row.state) refl
+    by_row None gone = absurd (let bad = rw (here, gone) at none in cc)
+
+pub renames_may : (newname : List ℕ) (mid : Machine) (o : Option ℕ) (one : Change) → ((i : ℕ) → o ≡ Some i → MayRename mid.rows i newname) → renames_of newname o ≡ Some one → MayMake mid.rule mid.told mid.rows mid.limbo one × EndedMove mid.moves one
+renames_may newname mid (Some i) one may is = let same : Renames i newname ≡ one = cc in subst (λ c. MayMake mid.rule mid.told mid.rows mid.limbo c × EndedMove mid.moves c) same (may i refl, tt)
+renames_may newname mid None one may is = absurd cc
+
+pub rename_sound : (name newname : List ℕ) (old new : Machine) (answer : Reply) → IsSound old → RenameStep name newname old answer new → IsSound new
+rename_sound name newname old new answer s step =
+    let changed = changed_within name old in
+    Acts-sound (rename_refused changed step.0 name newname) (IsRenamed name newname) (λ m. renames_of newname (find_row m name)) all_go all_fewer
+    (λ mid answer new s none free ran. own_change mid new [] (Renames ran.1.0 newname) s none (rename_may changed step.0 name newname mid free ran.1.0 ran.1.1) tt refl ran.1.2)
+    (λ mid one s none free is. renames_may newname mid (find_row mid name) one (rename_may changed step.0 name newname mid free) is)
+    s step.1
 
 -- FLUSH
 
@@ -163,8 +222,8 @@ flush_sound limit old new answer s step =
 
 -- OFFER AND TICK
 
-pub gains_tail : (told : Bool) (row : RowState) (s : Sample) → RowSound told row → LinesSound row → IsEvent row.about.ty s → row.next ≤ s.t → RowTail told row (gains s row)
-gains_tail told row s sound lines event late =
+pub gains_tail : (told : Bool) (row : RowState) (s : Sample) → RowSound told row → LinesSound row → IsEvent row.about.ty s → is_running row.state ≡ true → row.next ≤ s.t → RowTail told row (gains s row)
+gains_tail told row s sound lines event up late =
     let p = end_of (durable row) in
     let bound : end_from p row.tail ≤ row.next = sound.next in
     let ends : end_from p (row.tail ++ s ∷ []) ≡ s.t + 1 = end_from-append p row.tail (s ∷ []) in
@@ -175,8 +234,10 @@ gains_tail told row s sound lines event late =
       name = refl;
       about = refl;
       state = refl;
+      base = refl;
+      gain = one_gain s up late refl refl;
       more = (s ∷ [], refl);
-      sound = record { short = sound.short; medium = sound.medium; long = sound.long; later = RisesFrom-append p row.tail (s ∷ []) sound.later (omega arith, tt); next = omega arith; exact = λ t. sym ends };
+      sound = record { short = sound.short; medium = sound.medium; long = sound.long; later = RisesFrom-append p row.tail (s ∷ []) sound.later (omega arith, tt); next = omega arith };
       lines = record { tail = more_lines row.tail lines.tail; held = lines.held };
     }
   where
@@ -193,10 +254,16 @@ held_tail told row s sound lines event =
       name = refl;
       about = refl;
       state = refl;
+      base = refl;
+      gain = no_gain refl refl;
       more = ([], sym (append-nil row.tail));
-      sound = record { short = sound.short; medium = sound.medium; long = sound.long; later = sound.later; next = sound.next; exact = sound.exact };
+      sound = record { short = sound.short; medium = sound.medium; long = sound.long; later = sound.later; next = sound.next };
       lines = record { tail = lines.tail; held = event };
     }
+
+moved_gain : (row new : RowState) (period now : ℕ) → Gain row new → Gain row (moved_on period now new)
+moved_gain row new period now (no_gain tail next) = no_gain tail next
+moved_gain row new period now (one_gain s up late tail next) = one_gain s up late tail next
 
 -- a row that ticked
 moved_tail : (told : Bool) (row new : RowState) (period now : ℕ) → RowTail told row new → RowTail told row (moved_on period now new)
@@ -208,8 +275,10 @@ moved_tail told row new period now t =
       name = t.name;
       about = t.about;
       state = t.state;
+      base = t.base;
+      gain = moved_gain row new period now t.gain;
       more = t.more;
-      sound = record { short = t.sound.short; medium = t.sound.medium; long = t.sound.long; later = t.sound.later; next = t.sound.next; exact = t.sound.exact };
+      sound = record { short = t.sound.short; medium = t.sound.medium; long = t.sound.long; later = t.sound.later; next = t.sound.next };
       lines = record { tail = t.lines.tail; held = by_due (nat_le new.cell.due now) };
     }
   where
@@ -292,6 +361,13 @@ right_type row ty none = by_running (is_running row.state) refl none
     by_running true is none = by_type (number_of row.about.ty == number_of ty) refl is none
     by_running false is none = absurd (let bad = rw is at none in cc)
 
+is_up : (row : RowState) (ty : PayloadType) → admit_before (Some (standing row)) (number_of ty) ≡ None → is_running row.state ≡ true
+is_up row ty none = by_running (is_running row.state) refl
+  where
+    by_running : (b : Bool) → is_running row.state ≡ b → is_running row.state ≡ true
+    by_running true is = is
+    by_running false is = absurd (let bad = rw is at none in cc)
+
 gains_bytes : (m : Machine) (i : ℕ) (f : RowState → RowState) (s : Sample) → ((row : RowState) → (f row).tail ≡ row.tail ++ s ∷ []) → held_bytes m.rows + (length s.line + 1) ≤ room → held_bytes (each (at i f) 0 m.rows) ≤ 67108864
 gains_bytes m i f s is fits = let more = at_bytes i 0 f m.rows (length s.line + 1) (λ row. let one = append_bytes row.tail s in let same = ap size_of (is row) in omega arith) in omega arith
 
@@ -305,7 +381,7 @@ offered_to_act m i row ty s now sound here event = by_reason (admit_before (Some
     by_method Monitor is none =
         let own : IsEvent row.about.ty s = subst (λ w. IsEvent w s) (sym (right_type row ty none)) event in
         rw (none, is) (tried_is (λ o. RowAct m o) m row s now (record { answer = Kept; after = with_rows m (at i (gains s)) }) (λ reason. stays_act (Dropped reason)) (stays_act (IntakeFull (held_bytes m.rows)))
-        (λ late fits. row_act Kept i (gains s) row here (gains_tail m.told row s (sound.each_row i row here) (sound.lines i row here) own late) (gains_bytes m i (gains s) s (λ r. refl) fits)))
+        (λ late fits. row_act Kept i (gains s) row here (gains_tail m.told row s (sound.each_row i row here) (sound.lines i row here) own (is_up row ty none) late) (gains_bytes m i (gains s) s (λ r. refl) fits)))
     by_method (Scan period) is none =
         let own : IsEvent row.about.ty s = subst (λ w. IsEvent w s) (sym (right_type row ty none)) event in
         rw (none, is) (row_act Held i (with_held s) row here (held_tail m.told row s (sound.each_row i row here) (sound.lines i row here) own) (same_bytes_at m i (with_held s) (λ r. refl) sound.intake))
@@ -328,8 +404,8 @@ offered_act m name ty s now sound event = by_name (find_row m name) refl
 pub offer_sound : (name : List ℕ) (ty : PayloadType) (s : Sample) (now : ℕ) (old new : Machine) (answer : Reply) → IsSound old → IsEvent ty s → OfferStep name ty s now old answer new → IsSound new
 offer_sound name ty s now old new answer sound event step = Ends-sound (offered old name ty s now) old new answer sound (act_sound old (offered old name ty s now) sound (offered_act old name ty s now sound event)) step
 
-ticked_due_act : (m : Machine) (i : ℕ) (row : RowState) (period now : ℕ) → IsSound m → slice_get m.rows i ≡ Some row → RowAct m (ticked_due m i row period now)
-ticked_due_act m i row period now sound here = by_held row.cell.held refl
+ticked_due_act : (m : Machine) (i : ℕ) (row : RowState) (period now : ℕ) → IsSound m → slice_get m.rows i ≡ Some row → is_running row.state ≡ true → RowAct m (ticked_due m i row period now)
+ticked_due_act m i row period now sound here up = by_held row.cell.held refl
   where
     moves : (answer : Reply) → RowAct m (record { answer = answer; after = with_rows m (at i (moved_on period now)) })
     moves answer = row_act answer i (moved_on period now) row here (moved_tail m.told row row period now (same_tail m.told row (sound.each_row i row here) (sound.lines i row here))) (same_bytes_at m i (moved_on period now) (λ r. refl) sound.intake)
@@ -338,7 +414,7 @@ ticked_due_act m i row period now sound here = by_held row.cell.held refl
     keeps s is late fits =
         let lines = sound.lines i row here in
         let event : IsEvent row.about.ty s = subst (λ o. IsHeld row.about.ty o) is lines.held in
-        row_act (TickKept s.t) i (λ r. moved_on period now (gains s r)) row here (moved_tail m.told row (gains s row) period now (gains_tail m.told row s (sound.each_row i row here) lines event late)) (gains_bytes m i (λ r. moved_on period now (gains s r)) s (λ r. refl) fits)
+        row_act (TickKept s.t) i (λ r. moved_on period now (gains s r)) row here (moved_tail m.told row (gains s row) period now (gains_tail m.told row s (sound.each_row i row here) lines event up late)) (gains_bytes m i (λ r. moved_on period now (gains s r)) s (λ r. refl) fits)
 
     by_reason : (s : Sample) → row.cell.held ≡ Some s → (o : Option Reason) → admit_after row.next s.t now ≡ o → RowAct m (ticked_due m i row period now)
     by_reason s is (Some reason) why = rw (is, why) (moves (Dropped reason))
@@ -359,7 +435,7 @@ pub ticked_act : (m : Machine) (i now : ℕ) → IsSound m → RowAct m (ticked 
 ticked_act m i now sound = by_row (slice_get m.rows i) refl
   where
     by_due : (row : RowState) (period : ℕ) → slice_get m.rows i ≡ Some row → period_of row.about.method ≡ Some period → is_running row.state ≡ true → (b : Bool) → nat_le row.cell.due now ≡ b → RowAct m (ticked m i now)
-    by_due row period here is up true due = rw (here, is, up, due) (ticked_due_act m i row period now sound here)
+    by_due row period here is up true due = rw (here, is, up, due) (ticked_due_act m i row period now sound here up)
     by_due row period here is up false due = rw (here, is, up, due) (stays_act (NotDue row.cell.due))
 
     by_state : (row : RowState) (period : ℕ) → slice_get m.rows i ≡ Some row → period_of row.about.method ≡ Some period → (b : Bool) → is_running row.state ≡ b → RowAct m (ticked m i now)

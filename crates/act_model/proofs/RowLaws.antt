@@ -119,7 +119,7 @@ flush_row row limbo xs rest s is low parts =
     let after : RisesFrom (end_of (durable new)) rest = rw ends (RisesFrom-rest p xs rest later) in
     let whole : end_from (end_of (durable new)) new.tail ≡ end_from p row.tail = rw (ends, tail, is) (sym (end_from-append p xs rest)) in
     record {
-      sound = record { short = rises.0; medium = s.medium; long = s.long; later = rw tail after; next = rw whole s.next; exact = λ t. s.exact t ∙ sym whole };
+      sound = record { short = rises.0; medium = s.medium; long = s.long; later = rw tail after; next = rw whole s.next };
       more = more;
       same =
           let one : over (durable new) new.tail ≡ durable new ++ rest = ap (λ w. over (durable new) w) tail ∙ ap (λ w. durable new ++ w) (since_all (end_of (durable new)) (end_of (durable new)) rest after (omega arith)) in
@@ -137,7 +137,7 @@ pub record Keeps (row new : RowState) : Type 0 where
 keeps_row : (row new : RowState) → RowSound true row → IsRising new.short → IsRising new.medium → IsRising new.long → durable new ≡ durable row → new.tail ≡ row.tail → new.next ≡ row.next → Keeps row new
 keeps_row row new s a b c same tail next =
     record {
-      sound = record { short = a; medium = b; long = c; later = rw (same, tail) s.later; next = rw (same, tail, next) s.next; exact = λ t. next ∙ (s.exact t ∙ rw (same, tail) refl) };
+      sound = record { short = a; medium = b; long = c; later = rw (same, tail) s.later; next = rw (same, tail, next) s.next };
       same = same;
       tail = tail;
     }

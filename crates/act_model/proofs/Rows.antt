@@ -27,15 +27,25 @@ get_append (row ∷ rows) more (suc i) new is = by_rest (get_append rows more i 
     by_rest (inl here) = inl here
     by_rest (inr past) = inr (past.0, (let at : i ≡ length rows + past.0 = past.1 in omega arith), past.2)
 
+pub each_forward : (f : ℕ → RowState → RowState) (k : ℕ) (rows : List RowState) (i : ℕ) (row : RowState) → slice_get rows i ≡ Some row → slice_get (each f k rows) i ≡ Some (f (k + i) row)
+each_forward f k [] i row here = absurd cc
+each_forward f k (x ∷ rows) zero row here = let same : x ≡ row = cc in let plain : k ≡ k + 0 = omega arith in ap (λ r. Some (f k r)) same ∙ ap (λ n. Some (f n row)) plain
+each_forward f k (x ∷ rows) (suc i) row here = let next : (k + 1) + i ≡ k + suc i = omega arith in each_forward f (k + 1) rows i row here ∙ ap (λ n. Some (f n row)) next
+
+pub append_forward : (rows more : List RowState) (i : ℕ) (row : RowState) → slice_get rows i ≡ Some row → slice_get (rows ++ more) i ≡ Some row
+append_forward [] more i row here = absurd cc
+append_forward (x ∷ rows) more zero row here = here
+append_forward (x ∷ rows) more (suc i) row here = append_forward rows more i row here
+
 -- where a row of the changed ones comes from
 pub data Came (told : Bool) (limbo : List FileState) (change : Change) (rows : List RowState) (i : ℕ) (new : RowState) : Type 0 where
   from_row : (row : RowState) → slice_get rows i ≡ Some row → new ≡ changed told limbo change i row → Came told limbo change rows i new
-  is_new : (j : ℕ) → i ≡ length rows + j → slice_get (added change) j ≡ Some new → Came told limbo change rows i new
+  is_new : (j : ℕ) → i ≡ length rows + j → slice_get (added change rows) j ≡ Some new → Came told limbo change rows i new
 
 pub came : (told : Bool) (limbo : List FileState) (change : Change) (rows : List RowState) (i : ℕ) (new : RowState) → slice_get (changed_rows told limbo change rows) i ≡ Some new → Came told limbo change rows i new
-came told limbo change rows i new is = by_place (get_append (each (changed told limbo change) 0 rows) (added change) i new is)
+came told limbo change rows i new is = by_place (get_append (each (changed told limbo change) 0 rows) (added change rows) i new is)
   where
-    by_place : (slice_get (each (changed told limbo change) 0 rows) i ≡ Some new) ⊎ ((j : ℕ) × (i ≡ length (each (changed told limbo change) 0 rows) + j) × (slice_get (added change) j ≡ Some new)) → Came told limbo change rows i new
+    by_place : (slice_get (each (changed told limbo change) 0 rows) i ≡ Some new) ⊎ ((j : ℕ) × (i ≡ length (each (changed told limbo change) 0 rows) + j) × (slice_get (added change rows) j ≡ Some new)) → Came told limbo change rows i new
     by_place (inl here) = let old = each_get (changed told limbo change) 0 rows i new here in let zero_plus : 0 + i ≡ i = omega arith in from_row old.0 old.1 (old.2 ∙ ap (λ n. changed told limbo change n old.0) zero_plus)
     by_place (inr past) = is_new past.0 (past.1 ∙ ap (λ n. n + past.0) (length-each (changed told limbo change) 0 rows)) past.2
 
@@ -89,8 +99,8 @@ fewer_of_place P p i store (f ∷ limbo) all = by_test (p f) (f.row == i && same
     by_test false true is more all = more all.1
     by_test false false is more all = more all
 
-pub more_rows : (told : Bool) (limbo : List FileState) (change : Change) (rows : List RowState) → length (changed_rows told limbo change rows) ≡ length rows + length (added change)
-more_rows told limbo change rows = length-append (each (changed told limbo change) 0 rows) (added change) ∙ ap (λ n. n + length (added change)) (length-each (changed told limbo change) 0 rows)
+pub more_rows : (told : Bool) (limbo : List FileState) (change : Change) (rows : List RowState) → length (changed_rows told limbo change rows) ≡ length rows + length (added change rows)
+more_rows told limbo change rows = length-append (each (changed told limbo change) 0 rows) (added change rows) ∙ ap (λ n. n + length (added change rows)) (length-each (changed told limbo change) 0 rows)
 
 -- LISTS OF PIECES
 

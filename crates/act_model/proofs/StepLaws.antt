@@ -6,7 +6,7 @@ use Rattle.act_model.specs.Reply.{Reply}
 use Rattle.act_model.specs.Rows.{RowState}
 use Rattle.act_model.specs.Rule.{Rule}
 use Rattle.act_model.specs.Limbo.{FileState}
-use Rattle.act_model.specs.Machine.{Machine, PinState, MoveState, Change, AddsRow, SetsState, Appends, Publishes, Unlists}
+use Rattle.act_model.specs.Machine.{Machine, PinState, MoveState, Change, AddsRow, SetsState, Renames, Appends, Publishes, Unlists}
 use Rattle.act_model.specs.Changes.{made, Retires, Settles, no_doubt, as_not_made, as_made}
 use Rattle.act_model.specs.Outcome.{Outcome, Ends, Same, Acts, stops, refused_at_once, refused, runs, faults_first, faults_between, faults_within, faults_removing, wants_memory, wants_memory_settled}
 use Rattle.act_model.specs.Sound.{MayMake, EndedMove, IsSoundOf, IsSound}
@@ -19,6 +19,7 @@ same_sound mid new same s = let counted : IsSound (record mid { faults = new.fau
 pub ended_fewer : (moves fewer : FinMap nat_cmp MoveState) → ((n : ℕ) (move : MoveState) → get fewer n ≡ Some move → get moves n ≡ Some move) → (change : Change) → EndedMove moves change → EndedMove fewer change
 ended_fewer moves fewer sub (AddsRow name about) e = tt
 ended_fewer moves fewer sub (SetsState i state) e = tt
+ended_fewer moves fewer sub (Renames i name) e = tt
 ended_fewer moves fewer sub (Appends batch) e = tt
 ended_fewer moves fewer sub (Publishes i store copied) e = λ n move here copies. e n move (sub n move here) copies
 ended_fewer moves fewer sub (Unlists i store to) e = λ n move here copies. e n move (sub n move here) copies
@@ -29,6 +30,7 @@ fewer_moves rule told rows limbo pins moves fewer doubt sub s =
       few = s.few;
       keys = s.keys;
       each_row = s.each_row;
+      bases = s.bases;
       lines = s.lines;
       intake = s.intake;
       doubted = λ c is. let old = s.doubted c is in (old.0, ended_fewer moves fewer sub c old.1);
@@ -42,11 +44,11 @@ fewer_moves rule told rows limbo pins moves fewer doubt sub s =
 
 pub with_doubt : (rule : Rule) (told : Bool) (rows : List RowState) (limbo : List FileState) (pins : FinMap nat_cmp PinState) (moves : FinMap nat_cmp MoveState) (doubt : Option Change) (change : Change) → IsSoundOf rule told rows limbo pins moves doubt → MayMake rule told rows limbo change × EndedMove moves change → IsSoundOf rule told rows limbo pins moves (Some change)
 with_doubt rule told rows limbo pins moves doubt change s may =
-    record { few = s.few; keys = s.keys; each_row = s.each_row; lines = s.lines; intake = s.intake; doubted = λ c is. let same : change ≡ c = cc in subst (λ d. MayMake rule told rows limbo d × EndedMove moves d) same may; each_move = s.each_move; one_move = s.one_move; each_file = s.each_file; each_unlisted = s.each_unlisted; places = s.places; pinned = s.pinned }
+    record { few = s.few; keys = s.keys; each_row = s.each_row; bases = s.bases; lines = s.lines; intake = s.intake; doubted = λ c is. let same : change ≡ c = cc in subst (λ d. MayMake rule told rows limbo d × EndedMove moves d) same may; each_move = s.each_move; one_move = s.one_move; each_file = s.each_file; each_unlisted = s.each_unlisted; places = s.places; pinned = s.pinned }
 
 pub no_doubt_sound : (rule : Rule) (told : Bool) (rows : List RowState) (limbo : List FileState) (pins : FinMap nat_cmp PinState) (moves : FinMap nat_cmp MoveState) (doubt : Option Change) → IsSoundOf rule told rows limbo pins moves doubt → IsSoundOf rule told rows limbo pins moves None
 no_doubt_sound rule told rows limbo pins moves doubt s =
-    record { few = s.few; keys = s.keys; each_row = s.each_row; lines = s.lines; intake = s.intake; doubted = λ c is. absurd cc; each_move = s.each_move; one_move = s.one_move; each_file = s.each_file; each_unlisted = s.each_unlisted; places = s.places; pinned = s.pinned }
+    record { few = s.few; keys = s.keys; each_row = s.each_row; bases = s.bases; lines = s.lines; intake = s.intake; doubted = λ c is. absurd cc; each_move = s.each_move; one_move = s.one_move; each_file = s.each_file; each_unlisted = s.each_unlisted; places = s.places; pinned = s.pinned }
 
 pub settled_sound : {old mid : Machine} → Settles old mid → IsSound old → IsSound mid
 settled_sound (no_doubt is) s = s

@@ -1,21 +1,23 @@
 -- What an act leaves durable that comes to its end is among what a crash within it may leave. And what Details tells is of the row.
-use Rattle.std.proofs.Common.{◌≡◌, ℕ, ◌+◌, suc, List, [], ◌∷◌, length, Option, Some, None, Bool, true, refl, ap, sym, ◌∙◌, arith, subst, inl, inr}
+use Rattle.std.proofs.Common.{◌≡◌, ℕ, ◌+◌, suc, List, [], ◌∷◌, length, Option, Some, None, Bool, true, false, refl, ap, sym, ◌∙◌, arith, subst, inl, inr}
 use Rattle.std.specs.Prelude.{slice_get, map}
 use Rattle.std.specs.Ordering.{nat_cmp}
 use Rattle.std.specs.FinMap.{FinMap, get}
 use Rattle.event_types.specs.declared.about.State.TheVariants.{Running, Paused}
 use Rattle.act_model.specs.declared.acts.Act.{Act}
-use Rattle.act_model.specs.declared.acts.Act.TheVariants.{Register, Pause, Resume, Offer, Tick, Flush, MoveBegin, MoveStep, Sweep, Pin, OpenPiece, Unpin, Names, Details, Doors, DoorDone}
+use Rattle.act_model.specs.declared.acts.Act.TheVariants.{Register, Pause, Resume, Rename, Offer, Tick, Flush, MoveBegin, MoveStep, Sweep, Pin, OpenPiece, Unpin, Names, Details, Doors, DoorDone}
 use Rattle.act_model.specs.declared.acts.Answer.TheVariants.{Described}
 use Rattle.act_model.specs.declared.details.Details.{Details as Told}
 use Rattle.act_model.specs.Reply.{Reply}
-use Rattle.act_model.specs.Rows.{RowState, durable, accepted}
-use Rattle.act_model.specs.Machine.{Machine, MoveState, Change, AddsRow, SetsState, Appends, Publishes, Unlists, find_row}
+use Rattle.act_model.specs.Rows.{RowState, durable, accepted, is_paused, is_empty}
+use Rattle.act_model.specs.Machine.{Machine, MoveState, Change, AddsRow, SetsState, Renames, Appends, Publishes, Unlists, find_row}
 use Rattle.act_model.specs.Changes.{made, each, at, Settles}
 use Rattle.act_model.specs.Outcome.{Outcome, Ends, Same, Acts, stops, all_go, refused_at_once, refused, runs, faults_first, faults_between, faults_within, faults_removing, wants_memory, wants_memory_settled}
 use Rattle.act_model.specs.Register.{register_refused, Registers}
 use Rattle.act_model.specs.Pause.{state_refused, Sets, sets_of, not_running}
 use Rattle.act_model.specs.Resume.{not_paused}
+use Rattle.act_model.specs.Rename.{IsRenamed, changed_within, rename_refused, renames_of}
+use Rattle.act_model.specs.Whole.{whole}
 use Rattle.act_model.specs.Flush.{Flushes, batch_of}
 use Rattle.act_model.specs.Details.{Describes, details_refused}
 use Rattle.act_model.specs.MoveBegin.{Begins, begins, all_run, none_to_make}
@@ -42,7 +44,7 @@ kept_each f k (row ∷ rows) same =
     ap (λ d. d ∷ map kept_of (each f (k + 1) rows)) first ∙ ap (λ ds. kept_of row ∷ ds) rest
 
 tail_kept : (told : Bool) (row new : RowState) → RowTail told row new → kept_of new ≡ kept_of row
-tail_kept told row new t = rw (t.name, t.about, t.state, t.short, t.medium, t.long) refl
+tail_kept told row new t = rw (t.name, t.about, t.state, t.base, t.short, t.medium, t.long) refl
 
 -- an offer or a tick changes nothing that a crash leaves
 act_kept : (m : Machine) (end : Outcome) → RowAct m end → kept m ≡ kept end.after
@@ -125,6 +127,30 @@ unpins_left : {who pin : ℕ} {old new : Machine} {reply : Reply} (act : Act) �
 unpins_left {old = old} act (refused_unpin reply p) = as_before act old old refl
 unpins_left {old = old} {new = new} act (unpins p) = as_before act old new refl
 
+-- what a rename's refusals tell doesn't matter to whether there is one
+same_free : (changed : ℕ) (found : Option ℕ) (other : ℕ) (else_found : Option ℕ) (name newname : List ℕ) (m : Machine) → rename_refused changed found name newname m ≡ None → rename_refused other else_found name newname m ≡ None
+same_free changed found other else_found name newname m free = by_name (find_row m name) refl
+  where
+    by_tail : (i : ℕ) (row : RowState) → find_row m name ≡ Some i → slice_get m.rows i ≡ Some row → is_paused row.state ≡ true → register_refused newname m ≡ None → (b : Bool) → is_empty row.tail ≡ b → rename_refused other else_found name newname m ≡ None
+    by_tail i row here there paused none true empty = rw (here, there, paused, none, empty) refl
+    by_tail i row here there paused none false some = absurd (let bad = rw (here, there, paused, none, some) at free in cc)
+
+    by_newname : (i : ℕ) (row : RowState) → find_row m name ≡ Some i → slice_get m.rows i ≡ Some row → is_paused row.state ≡ true → (o : Option Reply) → register_refused newname m ≡ o → rename_refused other else_found name newname m ≡ None
+    by_newname i row here there paused None none = by_tail i row here there paused none (is_empty row.tail) refl
+    by_newname i row here there paused (Some reply) taken = absurd (let bad = rw (here, there, paused, taken) at free in cc)
+
+    by_paused : (i : ℕ) (row : RowState) → find_row m name ≡ Some i → slice_get m.rows i ≡ Some row → (b : Bool) → is_paused row.state ≡ b → rename_refused other else_found name newname m ≡ None
+    by_paused i row here there true paused = by_newname i row here there paused (register_refused newname m) refl
+    by_paused i row here there false running = absurd (let bad = rw (here, there, running) at free in cc)
+
+    by_row : (i : ℕ) → find_row m name ≡ Some i → (o : Option RowState) → slice_get m.rows i ≡ o → rename_refused other else_found name newname m ≡ None
+    by_row i here (Some row) there = by_paused i row here there (is_paused row.state) refl
+    by_row i here None gone = absurd (let bad = rw (here, gone) at free in cc)
+
+    by_name : (o : Option ℕ) → find_row m name ≡ o → rename_refused other else_found name newname m ≡ None
+    by_name (Some i) here = by_row i here (slice_get m.rows i) refl
+    by_name None none = absurd (let bad = rw none at free in cc)
+
 pub step_left : (who : ℕ) (act : Act) (old new : Machine) (answer : Reply) → IsSound old → MayAsk act → Step who act old answer new → IsLeft act old new
 step_left who (Register name about) old new answer s ask step =
     Acts-left (Register name about) (register_refused name) (Registers name about) (λ m. Some (AddsRow name about)) all_go (λ mid answer new free p. makes (AddsRow name about) free refl (same_kept (made [] (AddsRow name about) mid) new p.1)) step
@@ -134,6 +160,10 @@ step_left who (Pause name) old new answer s ask step =
 step_left who (Resume name) old new answer s ask step =
     Acts-left (Resume name) (state_refused not_paused name) (Sets Running name) (λ m. sets_of Running (find_row m name)) all_go
     (λ mid answer new free p. makes (SetsState p.1.0 Running) free (ap (λ o. sets_of Running o) p.1.1) (same_kept (made [] (SetsState p.1.0 Running) mid) new p.1.2)) step
+step_left who (Rename name newname) old new answer s ask step =
+    let changed = changed_within name old in
+    Acts-left (Rename name newname) (rename_refused changed step.0 name newname) (IsRenamed name newname) (λ m. renames_of newname (find_row m name)) all_go
+    (λ mid answer new free p. makes (Renames p.1.0 newname) (same_free changed step.0 0 None name newname mid free) (ap (λ o. renames_of newname o) p.1.1) (same_kept (made [] (Renames p.1.0 newname) mid) new p.1.2)) step.1
 step_left who (Offer name ty t line now) old new answer s ask step = ends_left (Offer name ty t line now) _ old new answer (act_kept old _ (offered_act old name ty (record { t = t; line = line }) now s ask)) step
 step_left who (Tick row now) old new answer s ask step = ends_left (Tick row now) _ old new answer (act_kept old _ (ticked_act old row now s)) step
 step_left who (Flush limit) old new answer s ask step =
@@ -152,7 +182,7 @@ step_left who DoorDone old new answer s ask step = as_before DoorDone old new (a
 -- WHAT DETAILS TELLS
 
 abbrev IsOfRow : List ℕ → Told → Machine → Type 0
-IsOfRow name details m = (i : ℕ) × ((row : RowState) × (find_row m name ≡ Some i) × (slice_get m.rows i ≡ Some row) × (details.accepted ≡ length (accepted row)) × (details.durable ≡ length (durable row)))
+IsOfRow name details m = (i : ℕ) × ((row : RowState) × (find_row m name ≡ Some i) × (slice_get m.rows i ≡ Some row) × (details.accepted ≡ length (whole accepted m.rows i)) × (details.durable ≡ length (whole durable m.rows i)))
 
 abbrev described_as : Told → Reply
 described_as details = Described details
@@ -169,14 +199,15 @@ details_of_row name details old new answer told (refused_at_once a p) is = absur
 details_of_row name details old new answer told (refused {mid = mid} a p settles q same r) is = absurd (not_refused name mid details (find_row mid name) refl (q ∙ ap (λ w. Some w) is))
 details_of_row name details old new answer told (runs {mid = mid} a p settles q d r) is =
     let own : d.details ≡ details = one_told d.details details (sym d.answered ∙ is) in
+    let rows : mid.rows ≡ new.rows = sym (ap (λ (m : Machine). m.rows) d.same) in
     let known = d.told (sym (ap (λ (m : Machine). m.told) d.same) ∙ told) in (
       d.i,
       (
         d.row,
         ap (λ (m : Machine). find_row m name) d.same ∙ d.found,
         ap (λ (m : Machine). slice_get m.rows d.i) d.same ∙ d.here,
-        subst (λ (x : Told). x.accepted ≡ length (accepted d.row)) own known.accepted_is,
-        subst (λ (x : Told). x.durable ≡ length (durable d.row)) own known.durable_is,
+        subst (λ (x : Told). x.accepted ≡ length (whole accepted new.rows d.i)) own (known.accepted_is ∙ ap (λ w. length (whole accepted w d.i)) rows),
+        subst (λ (x : Told). x.durable ≡ length (whole durable new.rows d.i)) own (known.durable_is ∙ ap (λ w. length (whole durable w d.i)) rows),
       ),
     )
 details_of_row name details old new answer told (faults_first p same q) is = absurd cc

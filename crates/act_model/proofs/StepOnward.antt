@@ -1,20 +1,23 @@
 -- Every step goes onward, and a crash within an act leaves what lies between durable and accepted.
-use Rattle.std.proofs.Common.{◌≡◌, ℕ, List, [], ◌++◌, Option, Some, None, Bool, true, refl, ap, sym, ◌∙◌, subst, inl, inr, append_assoc, append-nil}
+use Rattle.std.proofs.Common.{◌≡◌, ℕ, List, [], ◌++◌, Option, Some, None, Bool, true, false, refl, ap, sym, ◌∙◌, subst, inl, inr, append_assoc, append-nil}
 use Rattle.std.specs.Prelude.{slice_get}
 use Rattle.std.specs.FinMap.{get}
 use Rattle.series_model.specs.declared.sample.Query.{Query}
 use Rattle.series_model.specs.Series.{over, since, end_of}
 use Rattle.series_model.proofs.RisingLists.{since-append}
 use Rattle.act_model.specs.declared.acts.Act.{Act}
-use Rattle.act_model.specs.declared.acts.Act.TheVariants.{Register, Pause, Resume, Offer, Tick, Flush, MoveBegin, MoveStep, Sweep, Pin, OpenPiece, Unpin, Names, Details, Doors, DoorDone}
+use Rattle.act_model.specs.declared.acts.Act.TheVariants.{Register, Pause, Resume, Rename, Offer, Tick, Flush, MoveBegin, MoveStep, Sweep, Pin, OpenPiece, Unpin, Names, Details, Doors, DoorDone}
 use Rattle.event_types.specs.declared.about.State.{State}
+use Rattle.event_types.specs.declared.about.State.TheVariants.{Running, Paused, Retired}
 use Rattle.act_model.specs.Reply.{Reply}
-use Rattle.act_model.specs.Rows.{RowState, Store, durable, accepted}
-use Rattle.act_model.specs.Machine.{Machine, Change, AddsRow, SetsState, Appends, Publishes, Unlists, find_row}
+use Rattle.act_model.specs.Rows.{RowState, Store, durable, accepted, is_running}
+use Rattle.act_model.specs.Machine.{Machine, Change, AddsRow, SetsState, Renames, Appends, Publishes, Unlists, find_row}
 use Rattle.act_model.specs.Changes.{made, at}
 use Rattle.act_model.specs.Outcome.{Outcome, Ends, Same, Acts, all_go}
 use Rattle.act_model.specs.Register.{register_refused, Registers}
-use Rattle.act_model.specs.Pause.{state_refused, Sets, sets_of}
+use Rattle.act_model.specs.Pause.{state_refused, Sets, sets_of, not_running}
+use Rattle.act_model.specs.Resume.{not_paused}
+use Rattle.act_model.specs.Rename.{IsRenamed, changed_within, rename_refused, renames_of}
 use Rattle.act_model.specs.Flush.{Flushes, batch_of}
 use Rattle.act_model.specs.Details.{Describes, details_refused}
 use Rattle.act_model.specs.MoveBegin.{Begins, begins, all_run, none_to_make}
@@ -26,8 +29,8 @@ use Rattle.act_model.specs.Unpin.{Unpins, refused_unpin, unpins}
 use Rattle.act_model.specs.Step.{Step, MayAsk, store_of, change_by, refuse_by}
 use Rattle.act_model.specs.Sound.{MayMake, IsSound}
 use Rattle.act_model.specs.Crash.{LeftWithin, Between}
-use Rattle.act_model.proofs.TailLaws.{RowTail}
-use Rattle.act_model.proofs.RowActs.{RowAct, stays_act, row_act, offered_act, ticked_act, register_may, sets_may, flush_may}
+use Rattle.act_model.proofs.TailLaws.{Gain, no_gain, one_gain, RowTail}
+use Rattle.act_model.proofs.RowActs.{RowAct, stays_act, row_act, offered_act, ticked_act, register_may, state_live, sets_may, rename_may, renames_may, flush_may}
 use Rattle.act_model.proofs.MoveActs.{publish_may, unlist_may, step_may}
 use Rattle.act_model.proofs.ChangeLaws.{at_row}
 use Rattle.act_model.specs.Growth.{RowOn, Onward}
@@ -42,7 +45,11 @@ tail_on told row new t =
     let same : durable new ≡ durable row = rw (t.short, t.medium, t.long) refl in
     let whole : accepted new ≡ accepted row ++ since p t.more.0 =
     ap (λ w. over w new.tail) same ∙ (ap (λ w. over (durable row) w) t.more.1 ∙ (ap (λ w. durable row ++ w) (since-append p row.tail t.more.0) ∙ sym (append_assoc (durable row) (since p row.tail) (since p t.more.0)))) in
-    record { name = t.name; about = t.about; durable_on = ([], same ∙ sym (append-nil (durable row))); accepted_on = (since p t.more.0, whole) }
+    record { name = t.name; about = t.about; base = t.base; retired = λ is. (t.state ∙ is, by_gain is t.gain); durable_on = ([], same ∙ sym (append-nil (durable row))); accepted_on = (since p t.more.0, whole) }
+  where
+    by_gain : row.state ≡ Retired → Gain row new → accepted new ≡ accepted row
+    by_gain is (no_gain tail next) = rw (t.short, t.medium, t.long, tail) refl
+    by_gain is (one_gain s up late tail next) = absurd (let down : is_running row.state ≡ false = ap is_running is in cc)
 
 act_onward : (m : Machine) (end : Outcome) → RowAct m end → Onward m end.after
 act_onward m end (stays_act answer) = onward_refl m
@@ -92,13 +99,16 @@ unpins_onward : {who pin : ℕ} {old new : Machine} {reply : Reply} → Unpins w
 unpins_onward {old = old} (refused_unpin reply p) = onward_refl old
 unpins_onward {old = old} {new = new} (unpins p) = onward_same old new refl refl refl
 
-state_onward : (wrong : State → Option Reply) (to : State) (name : List ℕ) (old new : Machine) (reply : Reply) → IsSound old → Acts (state_refused wrong name) (Sets to name) (λ m. sets_of to (find_row m name)) all_go old reply new → Onward old new
-state_onward wrong to name old new reply s step = Acts-onward (state_refused wrong name) (Sets to name) (λ m. sets_of to (find_row m name)) all_go (λ mid answer new s free ran. made_counts mid new [] (SetsState ran.1.0 to) s tt ran.1.2) s step
+state_onward : (wrong : State → Option Reply) (to : State) → (wrong Retired ≡ None → ⊥) → (name : List ℕ) (old new : Machine) (reply : Reply) → IsSound old → Acts (state_refused wrong name) (Sets to name) (λ m. sets_of to (find_row m name)) all_go old reply new → Onward old new
+state_onward wrong to never name old new reply s step = Acts-onward (state_refused wrong name) (Sets to name) (λ m. sets_of to (find_row m name)) all_go (λ mid answer new s free ran. made_counts mid new [] (SetsState ran.1.0 to) s (state_live wrong never name mid free ran.1.0 ran.1.1) ran.1.2) s step
 
 pub step_onward : (who : ℕ) (act : Act) (old new : Machine) (reply : Reply) → IsSound old → MayAsk act → Step who act old reply new → Onward old new
 step_onward who (Register name about) old new reply s ask step = Acts-onward (register_refused name) (Registers name about) (λ m. Some (AddsRow name about)) all_go (λ mid answer new s free ran. made_counts mid new [] (AddsRow name about) s (register_may name mid free) ran.1) s step
-step_onward who (Pause name) old new reply s ask step = state_onward _ _ name old new reply s step
-step_onward who (Resume name) old new reply s ask step = state_onward _ _ name old new reply s step
+step_onward who (Pause name) old new reply s ask step = state_onward not_running Paused (λ none. cc) name old new reply s step
+step_onward who (Resume name) old new reply s ask step = state_onward not_paused Running (λ none. cc) name old new reply s step
+step_onward who (Rename name newname) old new reply s ask step =
+    Acts-onward (rename_refused (changed_within name old) step.0 name newname) (IsRenamed name newname) (λ m. renames_of newname (find_row m name)) all_go
+    (λ mid answer new s free ran. made_counts mid new [] (Renames ran.1.0 newname) s (rename_may (changed_within name old) step.0 name newname mid free ran.1.0 ran.1.1) ran.1.2) s step.1
 step_onward who (Offer name ty t line now) old new reply s ask step = ends_onward _ old new reply (act_onward old _ (offered_act old name ty (record { t = t; line = line }) now s ask)) step
 step_onward who (Tick row now) old new reply s ask step = ends_onward _ old new reply (act_onward old _ (ticked_act old row now s)) step
 step_onward who (Flush limit) old new reply s ask step = Acts-onward (λ m. None) (Flushes limit) (λ m. Some (Appends (batch_of limit m))) all_go (λ mid answer new s free ran. made_counts mid new [] (Appends (batch_of limit mid)) s (flush_may limit mid) ran.1) s step
@@ -120,8 +130,9 @@ some_is a b is = cc
 
 pub may_by : (act : Act) (mid : Machine) (one : Change) → IsSound mid → refuse_by act mid ≡ None → change_by act mid ≡ Some one → MayMake mid.rule mid.told mid.rows mid.limbo one
 may_by (Register name about) mid one s free is = subst (λ c. MayMake mid.rule mid.told mid.rows mid.limbo c) (some_is (AddsRow name about) one is) (register_may name mid free)
-may_by (Pause name) mid one s free is = (sets_may _ mid (find_row mid name) one is).0
-may_by (Resume name) mid one s free is = (sets_may _ mid (find_row mid name) one is).0
+may_by (Pause name) mid one s free is = (sets_may Paused mid (find_row mid name) one (state_live not_running (λ none. cc) name mid free) is).0
+may_by (Resume name) mid one s free is = (sets_may Running mid (find_row mid name) one (state_live not_paused (λ none. cc) name mid free) is).0
+may_by (Rename name newname) mid one s free is = (renames_may newname mid (find_row mid name) one (rename_may 0 None name newname mid free) is).0
 may_by (Flush limit) mid one s free is = subst (λ c. MayMake mid.rule mid.told mid.rows mid.limbo c) (some_is (Appends (batch_of limit mid)) one is) (flush_may limit mid)
 may_by (MoveStep n) mid one s free is = (step_may n mid one s is).0
 may_by (Offer name ty t line now) mid one s free is = absurd cc

@@ -2,9 +2,9 @@
 -- memory, and those that touch files may fail.
 use Rattle.std.specs.Prelude.{◌≡◌, ℕ, List, Bool, true, false}
 use Rattle.act_model.specs.declared.acts.Act.{Act}
-use Rattle.act_model.specs.declared.acts.Act.TheVariants.{Register, Pause, Resume, Offer, Tick, Flush, MoveBegin, MoveStep, Sweep, Pin, OpenPiece, Unpin, Names, Details, Doors, DoorDone}
+use Rattle.act_model.specs.declared.acts.Act.TheVariants.{Register, Pause, Resume, Rename, Offer, Tick, Flush, MoveBegin, MoveStep, Sweep, Pin, OpenPiece, Unpin, Names, Details, Doors, DoorDone}
 use Rattle.act_model.specs.declared.acts.Answer.{Answer}
-use Rattle.act_model.specs.declared.acts.Answer.TheVariants.{NameTaken, KeyTaken, CatalogueFull, Registered, NoSuchVariable, NotRunning, NotPaused, Done, Dropped, IntakeFull, Kept, Held, NoRow, TickNone, NotDue, TickKept, Flushed, Begun, Busy, Nothing, NoMove, Damaged, Copying, Copied, Published, Retired, Again, Swept, Pinned, NoPin, NotYours, NoPiece, Piece, Unpinned, NamesAre, Described, DoorsLeft, DiskFault, Memory}
+use Rattle.act_model.specs.declared.acts.Answer.TheVariants.{NameTaken, KeyTaken, CatalogueFull, Registered, NoSuchVariable, NotRunning, NotPaused, Done, RenameNotPaused, NotDurable, Renamed, Dropped, IntakeFull, Kept, Held, NoRow, TickNone, NotDue, TickKept, Flushed, Begun, Busy, Nothing, NoMove, Damaged, Copying, Copied, Published, Retired, Again, Swept, Pinned, NoPin, NotYours, NoPiece, Piece, Unpinned, NamesAre, Described, DoorsLeft, DiskFault, Memory}
 use Rattle.act_model.specs.Reply.{Reply, reply_of}
 
 abbrev pub answers_register : Reply → Bool
@@ -31,6 +31,18 @@ answers_resume DiskFault = true
 answers_resume Done = true
 answers_resume Memory = true
 answers_resume other = false
+
+abbrev pub answers_rename : Reply → Bool
+answers_rename NoSuchVariable = true
+answers_rename (RenameNotPaused state change seen) = true
+answers_rename (NameTaken row) = true
+answers_rename (KeyTaken row) = true
+answers_rename CatalogueFull = true
+answers_rename (NotDurable last durable) = true
+answers_rename DiskFault = true
+answers_rename (Renamed row) = true
+answers_rename Memory = true
+answers_rename other = false
 
 abbrev pub answers_offer : Reply → Bool
 answers_offer (Dropped reason) = true
@@ -126,6 +138,7 @@ abbrev pub is_answer_to : Act → Reply → Bool
 is_answer_to (Register name about) = answers_register
 is_answer_to (Pause name) = answers_pause
 is_answer_to (Resume name) = answers_resume
+is_answer_to (Rename name newname) = answers_rename
 is_answer_to (Offer name ty t line now) = answers_offer
 is_answer_to (Tick row now) = answers_tick
 is_answer_to (Flush limit) = answers_flush

@@ -10,6 +10,8 @@ use Rattle.act_model.specs.declared.answers.Paused.{Paused}
 use Rattle.act_model.specs.declared.answers.Paused.TheVariants as paused
 use Rattle.act_model.specs.declared.answers.Resumed.{Resumed}
 use Rattle.act_model.specs.declared.answers.Resumed.TheVariants as resumed
+use Rattle.act_model.specs.declared.answers.Renamed.{Renamed}
+use Rattle.act_model.specs.declared.answers.Renamed.TheVariants as renamed
 use Rattle.act_model.specs.declared.answers.Offered.{Offered}
 use Rattle.act_model.specs.declared.answers.Offered.TheVariants as offered
 use Rattle.act_model.specs.declared.answers.Ticked.{Ticked}
@@ -57,6 +59,17 @@ resumed_reply resumed.NotPaused = answer.NotPaused
 resumed_reply resumed.DiskFault = answer.DiskFault
 resumed_reply resumed.Done = answer.Done
 resumed_reply resumed.Memory = answer.Memory
+
+abbrev pub renamed_reply : Renamed → Reply
+renamed_reply renamed.NoSuchVariable = answer.NoSuchVariable
+renamed_reply (renamed.RenameNotPaused state change seen) = answer.RenameNotPaused state change seen
+renamed_reply (renamed.NameTaken row) = answer.NameTaken row
+renamed_reply (renamed.KeyTaken row) = answer.KeyTaken row
+renamed_reply renamed.CatalogueFull = answer.CatalogueFull
+renamed_reply (renamed.NotDurable last durable) = answer.NotDurable last durable
+renamed_reply renamed.DiskFault = answer.DiskFault
+renamed_reply (renamed.Renamed row) = answer.Renamed row
+renamed_reply renamed.Memory = answer.Memory
 
 abbrev pub offered_reply : Offered → Reply
 offered_reply (offered.Dropped reason) = answer.Dropped reason

@@ -1,17 +1,18 @@
--- The durable changes: a row is added, a row's state is set, tails are appended to store 1, copied samples are listed in the next
--- store, and partitions leave a store. One function, `made`, says what a change does. An act's own change, a doubt that is settled as
--- made, and what a crash may leave all use it.
+-- The durable changes: a row is added, a row's state is set, a variable goes on in a new row with a new name, tails are appended to store
+-- 1, copied samples are listed in the next store, and partitions leave a store. One function, `made`, says what a change does. An act's
+-- own change, a doubt that is settled as made, and what a crash may leave all use it.
 use Rattle.std.specs.FinMap.{get}
 use Rattle.std.specs.List.{AllByRecursion}
-use Rattle.std.specs.Prelude.{◌≡◌, ◌≢◌, ℕ, ◌+◌, ◌≤◌, ◌<◌, ◌==◌, List, [], ◌∷◌, ◌++◌, length, Bool, true, false, if◌then◌else◌, nat_eq, Some, None}
+use Rattle.std.specs.Prelude.{◌≡◌, ◌≢◌, ℕ, ◌+◌, ◌≤◌, ◌<◌, ◌==◌, List, [], ◌∷◌, ◌++◌, length, Bool, true, false, if◌then◌else◌, nat_eq, Option, Some, None, slice_get}
 use Rattle.event_types.specs.declared.about.State.{State}
+use Rattle.event_types.specs.declared.about.State.TheVariants.{Retired}
 use Rattle.series_model.specs.Sampling.{first_cell}
 use Rattle.series_model.specs.Series.{since, end_of}
 use Rattle.series_model.specs.declared.batch.RowSamples.{RowSamples}
 use Rattle.series_model.specs.declared.sample.Sample.{Sample}
 use Rattle.act_model.specs.Limbo.{FileState, files_of, put, tier_at, unlisted, IsThere, PlacesDiffer}
-use Rattle.act_model.specs.Machine.{PinState, Change, AddsRow, SetsState, Appends, Publishes, Unlists, Machine}
-use Rattle.act_model.specs.Rows.{RowState, fresh_row, Store, Short, Long, next_store, tier, with_tier, window, is_empty}
+use Rattle.act_model.specs.Machine.{PinState, Change, AddsRow, SetsState, Renames, Appends, Publishes, Unlists, Machine}
+use Rattle.act_model.specs.Rows.{RowState, fresh_row, renamed_row, Store, Short, Long, next_store, tier, with_tier, window, is_empty}
 use Rattle.act_model.specs.Rule.{IsPartition}
 
 -- each row by its number
@@ -52,21 +53,27 @@ retired told store to row = if told then with_tier row store (since to (tier row
 abbrev pub changed : Bool → List FileState → Change → ℕ → RowState → RowState
 changed told limbo (AddsRow name about) i row = row
 changed told limbo (SetsState k state) i row = at k (without_held state) i row
+changed told limbo (Renames k name) i row = at k (without_held Retired) i row
 changed told limbo (Appends batch) i row = flushed told (files_of i Short limbo) (of_row i batch) row
 changed told limbo (Publishes k store copied) i row = at k (published told (files_of k (next_store store) limbo) (next_store store) copied) i row
 changed told limbo (Unlists k store to) i row = at k (retired told store to) i row
 
--- the row that a change adds
-abbrev pub added : Change → List RowState
-added (AddsRow name about) = fresh_row name about ∷ []
-added (SetsState k state) = []
-added (Appends batch) = []
-added (Publishes k store copied) = []
-added (Unlists k store to) = []
+-- the row that a change adds to these
+abbrev pub added : Change → List RowState → List RowState
+added (AddsRow name about) rows = fresh_row name about ∷ []
+added (SetsState k state) rows = []
+added (Renames k name) rows = of (slice_get rows k)
+  where
+    of : Option RowState → List RowState
+    of None = []
+    of (Some row) = renamed_row name k row ∷ []
+added (Appends batch) rows = []
+added (Publishes k store copied) rows = []
+added (Unlists k store to) rows = []
 
 -- the rows once the change is made
 abbrev pub changed_rows : Bool → List FileState → Change → List RowState → List RowState
-changed_rows told limbo change rows = each (changed told limbo change) 0 rows ++ added change
+changed_rows told limbo change rows = each (changed told limbo change) 0 rows ++ added change rows
 
 -- The state once the change is made: its rows, and limbo without what is listed again. `into` are the retired files that go to limbo.
 abbrev pub made : List FileState → Change → Machine → Machine
@@ -97,6 +104,7 @@ pub record StaysPinned (m : Machine) (i : ℕ) (store : Store) (to : ℕ) (into 
 abbrev pub Retires : Machine → Change → List FileState → Type 0
 Retires m (AddsRow name about) into = into ≡ []
 Retires m (SetsState k state) into = into ≡ []
+Retires m (Renames k name) into = into ≡ []
 Retires m (Appends batch) into = into ≡ []
 Retires m (Publishes k store copied) into = into ≡ []
 Retires m (Unlists k store to) into = AllByRecursion (IsRetired m k store to) into × StaysPinned m k store to into × (m.told ≡ true → PlacesDiffer into)

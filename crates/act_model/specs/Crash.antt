@@ -16,12 +16,13 @@ pub record DurableRow : Type 0 where
   pub name : List ℕ
   pub about : About
   pub state : State
+  pub base : Option ℕ
   pub short : List Sample
   pub medium : List Sample
   pub long : List Sample
 
 abbrev pub kept_of : RowState → DurableRow
-kept_of row = record { name = row.name; about = row.about; state = row.state; short = row.short; medium = row.medium; long = row.long }
+kept_of row = record { name = row.name; about = row.about; state = row.state; base = row.base; short = row.short; medium = row.medium; long = row.long }
 
 -- the durable part of a state
 abbrev pub kept : Machine → List DurableRow
@@ -39,13 +40,14 @@ pub data LeftWithin (refuse : Machine → Option Reply) (change : Machine → Op
   with_change : {mid : Machine} (one : Change) → Settles old mid → refuse mid ≡ None → change mid ≡ Some one
       → LeftWithin refuse change old (made [] one mid)
 
--- what is left has each row with no less than was durable, and no more than was accepted; a row that wasn't there has nothing
+-- what is left has each row over its base, with no less of its own than was durable and no more than was accepted; a row that wasn't there
+-- has nothing of its own
 pub data Between (rows : List RowState) (i : ℕ) (left : RowState) : Type 0 where
-  of_row_there : (row : RowState) → slice_get rows i ≡ Some row → IsPrefix (durable row) (durable left)
+  of_row_there : (row : RowState) → slice_get rows i ≡ Some row → left.base ≡ row.base → IsPrefix (durable row) (durable left)
       → IsPrefix (durable left) (accepted row) → Between rows i left
   of_no_row : durable left ≡ [] → Between rows i left
 
 -- the row of what is left, beside that row at the start and at the end of a run
 pub record LiesBetween (start end : Machine) (i : ℕ) (left : RowState) : Type 0 where
-  pub extends : (row : RowState) → slice_get start.rows i ≡ Some row → IsPrefix (durable row) (durable left)
-  pub extended : (row : RowState) → slice_get end.rows i ≡ Some row → IsPrefix (durable left) (accepted row)
+  pub extends : (row : RowState) → slice_get start.rows i ≡ Some row → (left.base ≡ row.base) × IsPrefix (durable row) (durable left)
+  pub extended : (row : RowState) → slice_get end.rows i ≡ Some row → (left.base ≡ row.base) × IsPrefix (durable left) (accepted row)

@@ -1,5 +1,5 @@
--- Details: what is known of a variable is told, with the numbers of its accepted and durable samples. A doubt is settled first, since
--- these numbers are of what is durable.
+-- Details: what is known of a variable is told, with the numbers of its accepted and durable samples, those under earlier names too. A
+-- doubt is settled first, since these numbers are of what is durable.
 use Rattle.std.specs.Prelude.{◌≡◌, ℕ, List, [], ◌∷◌, length, true, Option, Some, None, slice_get, slice_index}
 use Rattle.partition_names.specs.declared.part.Part.{Part}
 use Rattle.series_model.specs.declared.sample.Sample.{Sample}
@@ -9,6 +9,7 @@ use Rattle.act_model.specs.Parts.{AreParts}
 use Rattle.act_model.specs.Reply.{Reply}
 use Rattle.act_model.specs.Rows.{RowState, Store, durable, accepted, tier}
 use Rattle.act_model.specs.Rule.{Rule, index_of}
+use Rattle.act_model.specs.Whole.{whole}
 use Rattle.act_model.specs.declared.acts.Answer.TheVariants.{Described, NoSuchVariable}
 use Rattle.act_model.specs.declared.details.Details.{Details}
 
@@ -23,12 +24,12 @@ last_time [] = None
 last_time (s ∷ []) = Some s.t
 last_time (s ∷ next ∷ rest) = last_time (next ∷ rest)
 
--- what is told of a row
-pub record IsDetails (rule : Rule) (row : RowState) (d : Details) : Type 0 where
-  pub accepted_is : d.accepted ≡ length (accepted row)
-  pub durable_is : d.durable ≡ length (durable row)
-  pub first : d.first ≡ first_time (accepted row)
-  pub last : d.last ≡ last_time (accepted row)
+-- what is told of a row: numbers and moments of its whole lists, and the numbers of its own files
+pub record IsDetails (rule : Rule) (rows : List RowState) (i : ℕ) (row : RowState) (d : Details) : Type 0 where
+  pub accepted_is : d.accepted ≡ length (whole accepted rows i)
+  pub durable_is : d.durable ≡ length (whole durable rows i)
+  pub first : d.first ≡ first_time (whole accepted rows i)
+  pub last : d.last ≡ last_time (whole accepted rows i)
   pub files : (store : Store)
       → (parts : List Part) × AreParts rule store (tier row store) parts × (slice_index d.files (index_of store) ≡ length parts)
 
@@ -48,7 +49,7 @@ pub record Describes (name : List ℕ) (mid : Machine) (answer : Reply) (new : M
   pub found : find_row mid name ≡ Some i
   pub here : slice_get mid.rows i ≡ Some row
   pub known : (details.name ≡ row.name) × (details.about ≡ row.about) × (details.state ≡ row.state)
-  pub told : mid.told ≡ true → IsDetails mid.rule row details
+  pub told : mid.told ≡ true → IsDetails mid.rule mid.rows i row details
   pub answered : answer ≡ Described details
   pub same : Same mid new
 

@@ -1,7 +1,7 @@
--- Small histories worked out, each over an archive of one variable, A:B of type SCALAR_INT. They show what the definitions say in plain
+-- Small histories worked out, each over an archive that begins with one variable, A:B of type SCALAR_INT. They show what the definitions say in plain
 -- cases: each act has this answer and no other, want of memory and faults of the disk apart. `src/examples.rt` has each of them as a
 -- clause.
-use Rattle.std.specs.Prelude.{◌≡◌, ◌⊎◌, ℕ, ◌+◌, ◌*◌, List, [], ◌∷◌, length, codes, true, None}
+use Rattle.std.specs.Prelude.{◌≡◌, ◌⊎◌, ℕ, ◌+◌, ◌*◌, List, [], ◌∷◌, length, codes, true, Some, None}
 use Rattle.std.specs.FinMap.{empty}
 use Rattle.series_model.specs.declared.sample.Sample.{Sample}
 use Rattle.series_model.specs.declared.sample.Query.{Query}
@@ -9,10 +9,11 @@ use Rattle.series_model.specs.declared.admission.Reason.TheVariants.{Paused, Not
 use Rattle.event_types.specs.declared.about.About.{About}
 use Rattle.event_types.specs.declared.about.Method.{Method}
 use Rattle.event_types.specs.declared.about.Method.TheVariants.{Monitor, Scan}
+use Rattle.event_types.specs.declared.about.State.TheVariants as state
 use Rattle.pb_wire.specs.declared.payload.PayloadType.TheVariants.{ScalarInt}
 use Rattle.act_model.specs.declared.acts.Act.{Act}
-use Rattle.act_model.specs.declared.acts.Act.TheVariants.{Pause, Resume, Offer, Tick, Flush, Pin, OpenPiece, Unpin}
-use Rattle.act_model.specs.declared.acts.Answer.TheVariants.{NotRunning, NotPaused, Done, Dropped, IntakeFull, Kept, Held, TickNone, NotDue, TickKept, Flushed, Pinned, NoPin, NotYours, NoPiece, Unpinned, DiskFault, Memory}
+use Rattle.act_model.specs.declared.acts.Act.TheVariants.{Pause, Resume, Rename, Offer, Tick, Flush, Pin, OpenPiece, Unpin}
+use Rattle.act_model.specs.declared.acts.Answer.TheVariants.{KeyTaken, NotRunning, NotPaused, Done, RenameNotPaused, NotDurable, Renamed, Dropped, IntakeFull, Kept, Held, TickNone, NotDue, TickKept, Flushed, Pinned, NoPin, NotYours, NoPiece, Unpinned, DiskFault, Memory}
 use Rattle.act_model.specs.Reply.{Reply}
 use Rattle.act_model.specs.Rows.{RowState, fresh_row}
 use Rattle.act_model.specs.Machine.{Machine}
@@ -114,6 +115,52 @@ AFullIntakeIsFlushed =
     ∷ by 1 (offer (t0 + 5) t0) (IntakeFull 67_108_864)
     ∷ by 2 (Flush 67_108_864) (Flushed 4 0 0)
     ∷ by 1 (offer (t0 + 5) t0) Kept ∷ [])
+
+-- RENAMES
+
+-- the other names
+abbrev pub new_name : List ℕ
+new_name = codes "A:C"
+
+-- with the same key as A:B
+abbrev pub like_name : List ℕ
+like_name = codes "A-B"
+
+-- the sample of so many seconds after t0
+abbrev pub sample_at : ℕ → Sample
+sample_at seconds = record { t = t0 + seconds * second; line = line }
+
+-- the variable with two samples in the short term, of one second and of five
+abbrev pub with_two : RowState
+with_two = record (fresh_row name (about Monitor)) { short = sample_at 1 ∷ sample_at 5 ∷ []; next = t0 + 5 * second + 1 }
+
+abbrev pub offer_to : List ℕ → ℕ → Act
+offer_to name seconds = Offer name ScalarInt (t0 + seconds * second) line (t0 + seconds * second)
+
+-- A running variable gets no new name. Once it is paused, it gets none with its own key, and A:C: it goes on in row 1, and its old row is
+-- neither paused nor resumed any more, and takes no sample. The new row is paused. Resumed, it drops what isn't later than the past, and
+-- keeps what is.
+abbrev pub ARenamedVariableGoesOn : Type 0
+ARenamedVariableGoesOn =
+    Follows (with_row with_two)
+    (by 1 (Rename name new_name) (RenameNotPaused state.Running 0 0)
+    ∷ by 1 (Pause name) Done
+    ∷ by 1 (Rename name like_name) (KeyTaken 0)
+    ∷ by 1 (Rename name new_name) (Renamed 1)
+    ∷ by 1 (Pause name) NotRunning
+    ∷ by 1 (Resume name) NotPaused
+    ∷ by 1 (offer_to name 9) (Dropped Paused)
+    ∷ by 1 (Resume new_name) Done
+    ∷ by 1 (offer_to new_name 5) (Dropped (NotLater (t0 + 5 * second)))
+    ∷ by 1 (offer_to new_name 9) Kept ∷ [])
+
+-- A paused variable of which a sample is accepted and not durable gets no new name, before that sample is flushed.
+abbrev pub ANewNameWaitsForTheFlush : Type 0
+ANewNameWaitsForTheFlush =
+    Follows (with_row (record with_two { state = state.Paused; tail = sample_at 9 ∷ []; next = t0 + 9 * second + 1 }))
+    (by 1 (Rename name new_name) (NotDurable (t0 + 9 * second) (Some (t0 + 5 * second)))
+    ∷ by 1 (Flush 1) (Flushed 1 0 0)
+    ∷ by 1 (Rename name new_name) (Renamed 1) ∷ [])
 
 -- PINS
 

@@ -1,8 +1,10 @@
 -- How an archive changes over time. With every act it goes onward (`Onward`): no row goes or becomes another variable's, and of each row
--- what is durable and what is accepted only grow. A move changes neither list (`RowsLike`). Over a crash and the next opening rows last
--- (`RowsLast`): each is there, for the same variable, with no less that is durable.
+-- what is durable and what is accepted only grow; a row that is retired stays as it is. So the whole of each row grows too. A move changes
+-- neither list (`RowsLike`). Over a crash and the next opening rows last (`RowsLast`): each is there, for the same variable and over the
+-- same base, with no less that is durable.
 use Rattle.std.specs.Prelude.{◌≡◌, ℕ, List, true, Some, slice_get}
 use Rattle.series_model.specs.Archive.{IsPrefix}
+use Rattle.event_types.specs.declared.about.State.TheVariants.{Retired}
 use Rattle.act_model.specs.Rows.{RowState, durable, accepted}
 use Rattle.act_model.specs.Machine.{Machine}
 
@@ -10,6 +12,8 @@ use Rattle.act_model.specs.Machine.{Machine}
 pub record RowOn (row new : RowState) : Type 0 where
   pub name : new.name ≡ row.name
   pub about : new.about ≡ row.about
+  pub base : new.base ≡ row.base
+  pub retired : row.state ≡ Retired → (new.state ≡ Retired) × (accepted new ≡ accepted row)
   pub durable_on : IsPrefix (durable row) (durable new)
   pub accepted_on : IsPrefix (accepted row) (accepted new)
 
@@ -36,6 +40,7 @@ RowsLike rows news = (i : ℕ) (row : RowState) → slice_get rows i ≡ Some ro
 pub record RowLasts (row new : RowState) : Type 0 where
   pub name : new.name ≡ row.name
   pub about : new.about ≡ row.about
+  pub base : new.base ≡ row.base
   pub durable_on : IsPrefix (durable row) (durable new)
 
 -- each row is there still, and lasts

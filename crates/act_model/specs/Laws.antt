@@ -5,6 +5,7 @@ use Rattle.std.specs.FinMap.{get}
 use Rattle.series_model.specs.declared.sample.Query.{Query}
 use Rattle.series_model.specs.declared.sample.Sample.{Sample}
 use Rattle.series_model.specs.Archive.{IsPrefix}
+use Rattle.series_model.specs.Series.{IsRising, end_of, over}
 use Rattle.event_types.specs.declared.about.About.{About}
 use Rattle.disk_model.specs.Files.{Name}
 use Rattle.act_model.specs.declared.acts.Act.{Act}
@@ -14,6 +15,7 @@ use Rattle.act_model.specs.declared.details.Details.{Details as Told}
 use Rattle.act_model.specs.Reply.{Reply, Opened}
 use Rattle.act_model.specs.Rows.{RowState, durable, accepted}
 use Rattle.act_model.specs.Rule.{Rule}
+use Rattle.act_model.specs.Whole.{whole}
 use Rattle.act_model.specs.Machine.{Machine, PinState, MoveState, find_row}
 use Rattle.act_model.specs.MoveStep.{GoesOn}
 use Rattle.act_model.specs.Step.{Step, MayAsk, refuse_by, change_by}
@@ -60,6 +62,25 @@ StepGoesOnward =
 abbrev pub RunGoesOnward : Type 0
 RunGoesOnward = (entries : List Entry) (old new : Machine) → IsSound old → Runs old entries new → Onward old new
 
+-- the whole of each row rises, ends where admission takes the next sample, and begins with what is durable of it
+abbrev pub WholeIsOneList : Type 0
+WholeIsOneList =
+    (m : Machine) → m.told ≡ true → IsSound m → (i : ℕ) (row : RowState) → slice_get m.rows i ≡ Some row
+    → IsRising (whole accepted m.rows i) × (row.next ≡ end_of (whole accepted m.rows i)) × IsPrefix (whole durable m.rows i) (whole accepted m.rows i)
+
+-- a row's whole is its own list where it has no base, else its own over the whole of its base
+abbrev pub WholeIsOverBase : Type 0
+WholeIsOverBase =
+    (own : RowState → List Sample) (m : Machine) → IsSound m → (i : ℕ) (row : RowState) → slice_get m.rows i ≡ Some row
+    → (row.base ≡ None → whole own m.rows i ≡ own row) × ((b : ℕ) → row.base ≡ Some b → whole own m.rows i ≡ over (whole own m.rows b) (own row))
+
+-- with every run the whole of each row grows, what is accepted of it and what is durable
+abbrev pub WholeGrows : Type 0
+WholeGrows =
+    (entries : List Entry) (old new : Machine) → old.told ≡ true → IsSound old → Runs old entries new
+    → (i : ℕ) (row : RowState) → slice_get old.rows i ≡ Some row
+    → IsPrefix (whole accepted old.rows i) (whole accepted new.rows i) × IsPrefix (whole durable old.rows i) (whole durable new.rows i)
+
 -- one flush of 64 MiB or more leaves nothing in the intake
 abbrev pub FlushLeavesNone : Type 0
 FlushLeavesNone =
@@ -91,12 +112,12 @@ NoneIsDamaged =
     (who n at : ℕ) (name : Name) (old new : Machine) (answer : Reply) → old.told ≡ true → Step who (MoveStep n) old answer new
     → answer ≡ Damaged name at → ⊥
 
--- the numbers of accepted and of durable samples that are told of a variable are those of its row, as the act leaves it
+-- the numbers of accepted and of durable samples that are told of a variable are those of the whole of its row, as the act leaves it
 abbrev pub DetailsAreOfRow : Type 0
 DetailsAreOfRow =
     (who : ℕ) (name : List ℕ) (details : Told) (old new : Machine) (answer : Reply) → new.told ≡ true
     → Step who (Details name) old answer new → answer ≡ Described details
-    → (i : ℕ) × ((row : RowState) × (find_row new name ≡ Some i) × (slice_get new.rows i ≡ Some row) × (details.accepted ≡ length (accepted row)) × (details.durable ≡ length (durable row)))
+    → (i : ℕ) × ((row : RowState) × (find_row new name ≡ Some i) × (slice_get new.rows i ≡ Some row) × (details.accepted ≡ length (whole accepted new.rows i)) × (details.durable ≡ length (whole durable new.rows i)))
 
 -- CRASHES
 
@@ -141,7 +162,7 @@ OpensWithinAct =
     (act : Act) (old left : Machine) → IsSound old → LeftWithin (refuse_by act) (change_by act) old left
     → (rule : Rule) (told : Bool) (doors faults : ℕ) → IsSound (opened rule told doors faults (kept left))
 
--- each row that was left is there, in its state and with what each store lists, and just what is durable of it is accepted
+-- each row that was left is there, in its state, over its base and with what each store lists, and just what is durable of it is accepted
 abbrev pub OpensWithRows : Type 0
 OpensWithRows =
     (rule : Rule) (told : Bool) (doors faults : ℕ) (left : Machine) (i : ℕ) (row : RowState)

@@ -4,6 +4,7 @@
 -- What it has
 pub mod Event
 pub mod Rows
+pub mod Whole
 pub mod Rule
 pub mod Limbo
 pub mod Files
@@ -15,6 +16,7 @@ pub mod Outcome
 pub mod Register
 pub mod Pause
 pub mod Resume
+pub mod Rename
 pub mod Offer
 pub mod Tick
 pub mod Flush

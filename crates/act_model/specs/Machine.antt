@@ -33,11 +33,12 @@ pub record MoveState : Type 0 where
   pub stage : Stage
   pub copied : List Sample
 
--- The one durable change that an act may make: a row is added, a row's state is set, samples of tails are appended to the short term,
--- copied samples are listed in the next store, or what is before a moment leaves a store.
+-- The one durable change that an act may make: a row is added, a row's state is set, a row's variable gets a new name, samples of tails are
+-- appended to the short term, copied samples are listed in the next store, or what is before a moment leaves a store.
 pub data Change : Type 0 where
   AddsRow : (name : List ℕ) → (about : About) → Change
   SetsState : (row : ℕ) → (state : State) → Change
+  Renames : (row : ℕ) → (name : List ℕ) → Change
   Appends : (batch : List RowSamples) → Change
   Publishes : (row : ℕ) → (store : Store) → (copied : List Sample) → Change
   Unlists : (row : ℕ) → (store : Store) → (to : ℕ) → Change

@@ -19,6 +19,7 @@ use Rattle.act_model.specs.Rule.{Rule}
 use Rattle.act_model.specs.OpenPiece.{Shows, IsNamed}
 use Rattle.act_model.specs.Pin.{InOrder, over_pieces}
 use Rattle.act_model.specs.Sound.{PieceSound}
+use Rattle.act_model.specs.Whole.{whole}
 use Rattle.act_model.specs.History.{Entry}
 
 -- the entry isn't this owner's Unpin of this number
@@ -41,8 +42,8 @@ pub record IsOpenedAs (m : Machine) (pin : PinState) (i : ℕ) (reader : Opened)
   pub named : IsNamed m piece name
   pub faults : reader.faults ≡ 0
 
--- The pin is there with so many pieces, each a file of the row, in the order in which they are read. They and the tail that was told
--- answer the query as all that is accepted of the row.
+-- The pin is there with so many pieces, each a file as those of the row, in the order in which they are read. They and the tail that was
+-- told answer the query as all that is accepted of the variable.
 pub record IsPinMade (who : ℕ) (name : List ℕ) (query : Query) (n : ℕ) (told_name : List ℕ) (about : About) (count : ℕ) (tail : List Sample) (m : Machine) : Type 0 where
   pub pin : PinState
   pub there : get m.pins n ≡ Some pin
@@ -58,7 +59,7 @@ pub record IsPinMade (who : ℕ) (name : List ℕ) (query : Query) (n : ℕ) (to
   pub tail_is : tail ≡ row.tail
   pub files : m.told ≡ true → AllByRecursion (IsFileOf m.rule row) pin.pieces
   pub order : m.told ≡ true → InOrder pin.pieces
-  pub gives : m.told ≡ true → answer (over (over_pieces [] pin.pieces) tail) query ≡ answer (accepted row) query
+  pub gives : m.told ≡ true → answer (over (over_pieces [] pin.pieces) tail) query ≡ answer (whole accepted m.rows i) query
 
 -- The pin that was made and the piece that was opened later: each by the state in which its act ended or began, under this rule.
 pub record IsRead (rule : Rule) (who : ℕ) (name : List ℕ) (query : Query) (n : ℕ) (told_name : List ℕ) (about : About) (count : ℕ) (tail : List Sample) (i : ℕ) (reader : Opened) (file : Name) (head_len len : ℕ) : Type 0 where

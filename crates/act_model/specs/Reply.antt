@@ -2,7 +2,7 @@
 -- it tells its bytes, those bytes, and how often it has failed.
 use Rattle.std.specs.Prelude.{ℕ, List, Bool}
 use Rattle.act_model.specs.declared.acts.Answer.{Answer}
-use Rattle.act_model.specs.declared.acts.Answer.TheVariants.{NameTaken, KeyTaken, CatalogueFull, Registered, NoSuchVariable, NotRunning, NotPaused, Done, Dropped, IntakeFull, Kept, Held, NoRow, TickNone, NotDue, TickKept, Flushed, Begun, Busy, Nothing, NoMove, Damaged, Copying, Copied, Published, Retired, Again, Swept, Pinned, NoPin, NotYours, NoPiece, Piece, Unpinned, NamesAre, Described, DoorsLeft, DiskFault, Memory}
+use Rattle.act_model.specs.declared.acts.Answer.TheVariants.{NameTaken, KeyTaken, CatalogueFull, Registered, NoSuchVariable, NotRunning, NotPaused, Done, RenameNotPaused, NotDurable, Renamed, Dropped, IntakeFull, Kept, Held, NoRow, TickNone, NotDue, TickKept, Flushed, Begun, Busy, Nothing, NoMove, Damaged, Copying, Copied, Published, Retired, Again, Swept, Pinned, NoPin, NotYours, NoPiece, Piece, Unpinned, NamesAre, Described, DoorsLeft, DiskFault, Memory}
 
 -- an opened file as a history keeps it
 pub record Opened : Type 0 where
@@ -24,6 +24,9 @@ with_reader see NoSuchVariable = NoSuchVariable
 with_reader see NotRunning = NotRunning
 with_reader see NotPaused = NotPaused
 with_reader see Done = Done
+with_reader see (RenameNotPaused state change seen) = RenameNotPaused state change seen
+with_reader see (NotDurable last durable) = NotDurable last durable
+with_reader see (Renamed row) = Renamed row
 with_reader see (Dropped reason) = Dropped reason
 with_reader see (IntakeFull held) = IntakeFull held
 with_reader see Kept = Kept

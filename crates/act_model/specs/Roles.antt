@@ -1,8 +1,8 @@
--- What the session of a link asks: it registers, pauses and resumes, offers and flushes, reads and tells. Ticks, moves, sweeps and the
+-- What the session of a link asks: it registers, pauses, resumes and renames, offers and flushes, reads and tells. Ticks, moves, sweeps and the
 -- count of the doors are for others.
 use Rattle.std.specs.Prelude.{◌≡◌, List, Bool, true, false, All}
 use Rattle.act_model.specs.declared.acts.Act.{Act}
-use Rattle.act_model.specs.declared.acts.Act.TheVariants.{Register, Pause, Resume, Offer, Tick, Flush, MoveBegin, MoveStep, Sweep, Pin, OpenPiece, Unpin, Names, Details, Doors, DoorDone}
+use Rattle.act_model.specs.declared.acts.Act.TheVariants.{Register, Pause, Resume, Rename, Offer, Tick, Flush, MoveBegin, MoveStep, Sweep, Pin, OpenPiece, Unpin, Names, Details, Doors, DoorDone}
 use Rattle.act_model.specs.History.{Done}
 
 -- the acts that a link's session may make
@@ -10,6 +10,7 @@ abbrev pub is_of_link : Act → Bool
 is_of_link (Register name about) = true
 is_of_link (Pause name) = true
 is_of_link (Resume name) = true
+is_of_link (Rename name newname) = true
 is_of_link (Offer name ty t line now) = true
 is_of_link (Tick row now) = false
 is_of_link (Flush limit) = true

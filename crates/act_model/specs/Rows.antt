@@ -15,13 +15,15 @@ use Rattle.event_types.specs.declared.about.Method.TheVariants.{Monitor, Scan}
 use Rattle.event_types.specs.declared.about.State.{State}
 use Rattle.event_types.specs.declared.about.State.TheVariants.{Running, Paused, Retired}
 
--- A row has its name, what is known of the variable, and its state; `next`, the first moment later than all that was accepted; `tail`,
--- the accepted samples that no store lists yet; `cell`, what a sampled row holds until a tick; and the samples that each store lists. The
--- file of a partition is a window of its store's list, so files need no list of their own.
+-- A row has its name, what is known of the variable, and its state; `base`, the row that the variable had under the name before, if it was
+-- renamed; `next`, the first moment later than all that was accepted of the variable under each of its names; `tail`, the accepted samples
+-- that no store lists yet; `cell`, what a sampled row holds until a tick; and the samples that each store lists. The file of a partition is
+-- a window of its store's list, so files need no list of their own.
 pub record RowState : Type 0 where
   pub name : List ℕ
   pub about : About
   pub state : State
+  pub base : Option ℕ
   pub next : ℕ
   pub tail : List Sample
   pub cell : Cell
@@ -31,7 +33,13 @@ pub record RowState : Type 0 where
 
 -- a row that has just been registered
 abbrev pub fresh_row : List ℕ → About → RowState
-fresh_row name about = record { name = name; about = about; state = Running; next = 0; tail = []; cell = first_cell; short = []; medium = []; long = [] }
+fresh_row name about = record { name = name; about = about; state = Running; base = None; next = 0; tail = []; cell = first_cell; short = []; medium = []; long = [] }
+
+-- A row under a new name: of the same variable as the row with this number, whose samples stay there. It is paused, has no samples of its
+-- own yet, and takes none that isn't later than the past.
+abbrev pub renamed_row : List ℕ → ℕ → RowState → RowState
+renamed_row name i row =
+    record { name = name; about = row.about; state = Paused; base = Some i; next = row.next; tail = []; cell = first_cell; short = []; medium = []; long = [] }
 
 -- the short, the medium and the long term
 pub data Store : Type 0 where

@@ -1,30 +1,48 @@
--- What always holds of an archive (`IsSound`): each list rises in time, no name or key stands twice, at most 65,536 rows and 64 MiB in the
--- intake, a doubt may be settled either way, a move's copies are no others than the next store lacks, and each pinned piece is there, in
--- its store or in limbo. Of samples in files this speaks only where the disk tells its files and they stand as they are listed.
-use Rattle.std.specs.Prelude.{◌≡◌, ◌≢◌, ◌⊎◌, ℕ, ◌<◌, ◌≤◌, List, ◌++◌, length, max, Bool, true, false, Option, Some, None, slice_get}
+-- What always holds of an archive (`IsSound`): each list rises in time, each row goes on over the whole of its base, no name or key
+-- stands twice, at most 65,536 rows and 64 MiB in the intake, a doubt may be settled either way, a move's copies are no others than the
+-- next store lacks, and each pinned piece is there, in its store or in limbo. Of samples in files this speaks only where the disk tells its
+-- files and they stand as they are listed.
+use Rattle.std.specs.Prelude.{◌≡◌, ◌≢◌, ◌⊎◌, ℕ, ◌<◌, ◌≤◌, List, [], ◌++◌, length, max, Bool, true, false, Option, Some, None, slice_get}
 use Rattle.std.specs.List.{AllByRecursion}
 use Rattle.std.specs.Ordering.{nat_cmp}
 use Rattle.std.specs.FinMap.{FinMap, get}
 use Rattle.series_model.specs.declared.sample.Sample.{Sample}
 use Rattle.series_model.specs.Archive.{IsPrefix}
 use Rattle.series_model.specs.Series.{since, before, end_of, end_from, IsRising, RisesFrom}
+use Rattle.event_types.specs.declared.about.State.TheVariants.{Paused, Retired}
 use Rattle.pb_wire.specs.declared.payload.PayloadType.{PayloadType}
 use Rattle.act_model.specs.Event.{IsEvent}
-use Rattle.act_model.specs.Rows.{RowState, Store, Long, next_store, tier, deep, durable, window, is_empty}
+use Rattle.act_model.specs.Rows.{RowState, Store, Long, next_store, tier, deep, durable, accepted, window, is_empty}
+use Rattle.act_model.specs.Whole.{whole}
 use Rattle.act_model.specs.Rule.{Rule, IsPartition, IsPartitionEnd}
 use Rattle.act_model.specs.Limbo.{FileState, files_of, tier_at, Fits, IsOfPart, IsThere, Extend, PlacesDiffer}
 use Rattle.pv_name.specs.Key.{key_of}
-use Rattle.act_model.specs.Machine.{Machine, PinState, MoveState, Stage, Copies, HasCopied, HasPublished, Change, AddsRow, SetsState, Appends, Publishes, Unlists, held_bytes}
+use Rattle.act_model.specs.Machine.{Machine, PinState, MoveState, Stage, Copies, HasCopied, HasPublished, Change, AddsRow, SetsState, Renames, Appends, Publishes, Unlists, held_bytes}
 use Rattle.act_model.specs.Changes.{of_row}
 
--- The lists of a row: each store rises, the tail is later than all that is durable, and admission knows the end of what is accepted.
+-- The lists of a row: each store rises, the tail is later than all that is durable, and nothing that admission takes is earlier than its end.
 pub record RowSound (told : Bool) (row : RowState) : Type 0 where
   pub short : IsRising row.short
   pub medium : IsRising row.medium
   pub long : IsRising row.long
   pub later : RisesFrom (end_of (durable row)) row.tail
   pub next : end_from (end_of (durable row)) row.tail ≤ row.next
-  pub exact : told ≡ true → row.next ≡ end_from (end_of (durable row)) row.tail
+
+-- A row over its base: the base has a smaller number, is retired, is known as the same, and has an empty tail.
+pub record IsOver (rows : List RowState) (i : ℕ) (row : RowState) (b : ℕ) : Type 0 where
+  pub base : RowState
+  pub here : slice_get rows b ≡ Some base
+  pub below : b < i
+  pub retired : base.state ≡ Retired
+  pub about : base.about ≡ row.about
+  pub none : base.tail ≡ []
+
+-- Each row that has a base stands over it, no two over one, and admission takes nothing before the end of the whole of a row, which it knows.
+pub record BasesSound (told : Bool) (rows : List RowState) : Type 0 where
+  pub over : (i : ℕ) (row : RowState) (b : ℕ) → slice_get rows i ≡ Some row → row.base ≡ Some b → IsOver rows i row b
+  pub one : (i j b : ℕ) (row other : RowState) → slice_get rows i ≡ Some row → slice_get rows j ≡ Some other → row.base ≡ Some b → other.base ≡ Some b → i ≡ j
+  pub end : (i : ℕ) (row : RowState) → slice_get rows i ≡ Some row → end_of (whole accepted rows i) ≤ row.next
+  pub exact : told ≡ true → (i : ℕ) (row : RowState) → slice_get rows i ≡ Some row → row.next ≡ end_of (whole accepted rows i)
 
 -- what a sampled row holds is an event of its type
 abbrev pub IsHeld : PayloadType → Option Sample → Type 0
@@ -70,6 +88,16 @@ pub record MayAdd (rows : List RowState) (name : List ℕ) : Type 0 where
   pub room : length rows < 65536
   pub free : (i : ℕ) (row : RowState) → slice_get rows i ≡ Some row → key_of row.name ≢ key_of name
 
+-- the row isn't retired: such a row stays so
+abbrev pub IsLive : List RowState → ℕ → Type 0
+IsLive rows i = (row : RowState) → slice_get rows i ≡ Some row → row.state ≢ Retired
+
+-- there is room for a row with the new name, and the old one is paused with all its samples durable
+pub record MayRename (rows : List RowState) (i : ℕ) (name : List ℕ) : Type 0 where
+  pub add : MayAdd rows name
+  pub paused : (row : RowState) → slice_get rows i ≡ Some row → row.state ≡ Paused
+  pub none : (row : RowState) → slice_get rows i ≡ Some row → row.tail ≡ []
+
 -- the copies are right
 pub record MayPublish (told : Bool) (rows : List RowState) (limbo : List FileState) (i : ℕ) (store : Store) (copied : List Sample) : Type 0 where
   pub here : i < length rows
@@ -87,7 +115,8 @@ pub record MayUnlist (rule : Rule) (told : Bool) (rows : List RowState) (i : ℕ
 -- when a change may be made: as an act's own, or as a doubt that is settled so
 abbrev pub MayMake : Rule → Bool → List RowState → List FileState → Change → Type 0
 MayMake rule told rows limbo (AddsRow name about) = MayAdd rows name
-MayMake rule told rows limbo (SetsState i state) = Unit {0}
+MayMake rule told rows limbo (SetsState i state) = IsLive rows i
+MayMake rule told rows limbo (Renames i name) = MayRename rows i name
 MayMake rule told rows limbo (Appends batch) = (i : ℕ) (row : RowState) → slice_get rows i ≡ Some row → (rest : List Sample) × (row.tail ≡ of_row i batch ++ rest)
 MayMake rule told rows limbo (Publishes i store copied) = MayPublish told rows limbo i store copied
 MayMake rule told rows limbo (Unlists i store to) = MayUnlist rule told rows i store to
@@ -96,6 +125,7 @@ MayMake rule told rows limbo (Unlists i store to) = MayUnlist rule told rows i s
 abbrev pub EndedMove : FinMap nat_cmp MoveState → Change → Type 0
 EndedMove moves (AddsRow name about) = Unit {0}
 EndedMove moves (SetsState i state) = Unit {0}
+EndedMove moves (Renames i name) = Unit {0}
 EndedMove moves (Appends batch) = Unit {0}
 EndedMove moves (Publishes i store copied) = IsStill moves i
 EndedMove moves (Unlists i store to) = IsStill moves i
@@ -133,6 +163,7 @@ pub record IsSoundOf (rule : Rule) (told : Bool) (rows : List RowState) (limbo :
   pub few : length rows ≤ 65536
   pub keys : (i j : ℕ) (a b : RowState) → slice_get rows i ≡ Some a → slice_get rows j ≡ Some b → key_of a.name ≡ key_of b.name → i ≡ j
   pub each_row : (i : ℕ) (row : RowState) → slice_get rows i ≡ Some row → RowSound told row
+  pub bases : BasesSound told rows
   pub lines : (i : ℕ) (row : RowState) → slice_get rows i ≡ Some row → LinesSound row
   pub intake : held_bytes rows ≤ 67108864
   pub doubted : (change : Change) → doubt ≡ Some change → MayMake rule told rows limbo change × EndedMove moves change

@@ -4,13 +4,14 @@ use Rattle.std.specs.Prelude.{ℕ, ◌≤◌, Option, Some, None, if◌then◌el
 use Rattle.std.specs.FinMap.{get}
 use Rattle.event_types.specs.declared.about.State.TheVariants.{Running, Paused}
 use Rattle.act_model.specs.declared.acts.Act.{Act}
-use Rattle.act_model.specs.declared.acts.Act.TheVariants.{Register, Pause, Resume, Offer, Tick, Flush, MoveBegin, MoveStep, Sweep, Pin, OpenPiece, Unpin, Names, Details, Doors, DoorDone}
+use Rattle.act_model.specs.declared.acts.Act.TheVariants.{Register, Pause, Resume, Rename, Offer, Tick, Flush, MoveBegin, MoveStep, Sweep, Pin, OpenPiece, Unpin, Names, Details, Doors, DoorDone}
 use Rattle.act_model.specs.Reply.{Reply}
 use Rattle.act_model.specs.Rows.{Store, Short, Medium}
 use Rattle.act_model.specs.Machine.{Machine, Change, AddsRow, Appends, find_row}
 use Rattle.act_model.specs.Register.{RegisterStep, register_refused}
 use Rattle.act_model.specs.Pause.{PauseStep, sets_of, state_refused, not_running}
 use Rattle.act_model.specs.Resume.{ResumeStep, not_paused}
+use Rattle.act_model.specs.Rename.{RenameStep, rename_refused, renames_of}
 use Rattle.act_model.specs.Offer.{OfferStep}
 use Rattle.act_model.specs.Tick.{TickStep}
 use Rattle.act_model.specs.Flush.{FlushStep, batch_of}
@@ -34,6 +35,7 @@ abbrev pub Step : ℕ → Act → Machine → Reply → Machine → Type 0
 Step who (Register name about) = RegisterStep name about
 Step who (Pause name) = PauseStep name
 Step who (Resume name) = ResumeStep name
+Step who (Rename name newname) = RenameStep name newname
 Step who (Offer name ty t line now) = OfferStep name ty (record { t = t; line = line }) now
 Step who (Tick row now) = TickStep row now
 Step who (Flush limit) = FlushStep limit
@@ -53,6 +55,7 @@ abbrev pub change_by : Act → Machine → Option Change
 change_by (Register name about) m = Some (AddsRow name about)
 change_by (Pause name) m = sets_of Paused (find_row m name)
 change_by (Resume name) m = sets_of Running (find_row m name)
+change_by (Rename name newname) m = renames_of newname (find_row m name)
 change_by (Offer name ty t line now) m = None
 change_by (Tick row now) m = None
 change_by (Flush limit) m = Some (Appends (batch_of limit m))
@@ -67,11 +70,13 @@ change_by (Details name) m = None
 change_by Doors m = None
 change_by DoorDone m = None
 
--- the refusals of an act that may make a change, tried before and after a doubt is settled
+-- The refusals of an act that may make a change, tried before and after a doubt is settled. Whether one comes is what is looked at: of what
+-- a Rename's refusals tell, the number and the moment that the state doesn't say are left out.
 abbrev pub refuse_by : Act → Machine → Option Reply
 refuse_by (Register name about) m = register_refused name m
 refuse_by (Pause name) m = state_refused not_running name m
 refuse_by (Resume name) m = state_refused not_paused name m
+refuse_by (Rename name newname) m = rename_refused 0 None name newname m
 refuse_by (Offer name ty t line now) m = None
 refuse_by (Tick row now) m = None
 refuse_by (Flush limit) m = None
@@ -91,6 +96,7 @@ abbrev pub MayAsk : Act → Type 0
 MayAsk (Register name about) = Unit {0}
 MayAsk (Pause name) = Unit {0}
 MayAsk (Resume name) = Unit {0}
+MayAsk (Rename name newname) = Unit {0}
 MayAsk (Offer name ty t line now) = IsEvent ty (record { t = t; line = line })
 MayAsk (Tick row now) = Unit {0}
 MayAsk (Flush limit) = 1 ≤ limit

@@ -1,7 +1,7 @@
 //! What may be asked of an archive, and what is answered.
 use crate::details::Details;
 use disk_model::FileName;
-use event_types::{About, PayloadType};
+use event_types::{About, PayloadType, State};
 use pv_name::PvName;
 use series_model::{Blob, Blobs, Query, Reason, Samples};
 
@@ -20,6 +20,11 @@ pub enum Act {
     /// That a variable's samples are taken again.
     Resume {
         name: Blob,
+    },
+    /// A new name for a variable, which goes on in a new row.
+    Rename {
+        name: Blob,
+        newname: PvName,
     },
     /// That a sample is taken: `line` is an event of `ty` at the moment `t`, escaped and without its newline.
     Offer {
@@ -103,6 +108,22 @@ pub enum Answer<R: Drop> {
     NotPaused,
     /// The row's state is set.
     Done,
+    /// The row is in this state, and isn't paused. `change` is the number of its last change, and `seen` the one that the intake knew of
+    /// when the act began: they differ only where this act settled a doubt that changed the row.
+    RenameNotPaused {
+        state: State,
+        change: u64,
+        seen: u64,
+    },
+    /// The last accepted sample of the variable, at this moment, isn't durable yet; its last durable one is at the other.
+    NotDurable {
+        last: u64,
+        durable: Option<u64>,
+    },
+    /// The variable goes on in this row, which is paused.
+    Renamed {
+        row: u32,
+    },
     /// The sample was not taken, for the first reason that applies.
     Dropped(Reason),
     /// The sample was not taken: the intake holds so many bytes.

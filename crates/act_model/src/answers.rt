@@ -1,7 +1,7 @@
 //! What each act is answered, as a type of its own. What each answer means says [`Answer`](crate::Answer); want of memory changes nothing.
 use crate::details::Details;
 use disk_model::FileName;
-use event_types::About;
+use event_types::{About, State};
 use pv_name::PvName;
 use series_model::{Blobs, Reason, Samples};
 
@@ -33,6 +33,33 @@ pub enum Resumed {
     NotPaused,
     DiskFault,
     Done,
+    Memory,
+}
+
+/// What a new name for a variable came to.
+#[derive(Drop)]
+pub enum Renamed {
+    NoSuchVariable,
+    RenameNotPaused {
+        state: State,
+        change: u64,
+        seen: u64,
+    },
+    NameTaken {
+        row: u32,
+    },
+    KeyTaken {
+        row: u32,
+    },
+    CatalogueFull,
+    NotDurable {
+        last: u64,
+        durable: Option<u64>,
+    },
+    DiskFault,
+    Renamed {
+        row: u32,
+    },
     Memory,
 }
 

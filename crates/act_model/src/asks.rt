@@ -7,13 +7,13 @@ ghost use Rattle.act_model.specs.Event.{IsEvent};
 ghost use Rattle.act_model.specs.Machine.{Machine};
 ghost use Rattle.act_model.specs.Step.{MayAsk};
 ghost use Rattle.act_model.specs.Answers.{is_answer_to};
-ghost use Rattle.act_model.specs.Asks.{Asked, registered_reply, paused_reply, resumed_reply, offered_reply, ticked_reply, flushed_reply, move_begun_reply, move_stepped_reply, swept_reply, pinned_reply, piece_opened_reply, unpinned_reply, names_told_reply, details_told_reply, doors_left_reply};
+ghost use Rattle.act_model.specs.Asks.{Asked, registered_reply, paused_reply, resumed_reply, renamed_reply, offered_reply, ticked_reply, flushed_reply, move_begun_reply, move_stepped_reply, swept_reply, pinned_reply, piece_opened_reply, unpinned_reply, names_told_reply, details_told_reply, doors_left_reply};
 
 use crate::actor::{Actor, Spent, ask};
 use crate::acts::Act;
 use crate::answers::{
     DetailsTold, DoorsLeft, Flushed, MoveBegun, MoveStepped, NamesTold, Offered, Paused,
-    PieceOpened, Pinned, Registered, Resumed, Swept, Ticked, Unpinned,
+    PieceOpened, Pinned, Registered, Renamed, Resumed, Swept, Ticked, Unpinned,
 };
 use crate::narrow::OwnAnswer;
 use event_types::{About, PayloadType};
@@ -61,6 +61,15 @@ pub fn ask_resume<A: Actor>(actor: &mut A, name: Blob) -> Result<Resumed, Spent>
     ensures stands { (n : Machine) × A.stands actor.new n }
 {
     ask_own(actor, Act::Resume { name })
+}
+
+/// Asks for a new name for a variable, which goes on in a new row.
+pub fn ask_rename<A: Actor>(actor: &mut A, name: Blob, newname: PvName) -> Result<Renamed, Spent>
+    requires stands { (m : Machine) × A.stands actor.old m }
+    ensures asked { Asked A.number A.between A.is_spent renamed_reply actor.old (Act.Rename name newname) result actor.new }
+    ensures stands { (n : Machine) × A.stands actor.new n }
+{
+    ask_own(actor, Act::Rename { name, newname })
 }
 
 /// Offers a sample: `line` is an event of `ty` at the moment `t`, escaped and without its newline. Moments are nanoseconds since

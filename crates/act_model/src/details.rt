@@ -8,9 +8,9 @@ pub struct Details {
     pub name: PvName,
     pub about: About,
     pub state: State,
-    /// How many samples are accepted.
+    /// How many samples are accepted, under this name and those before it.
     pub accepted: u64,
-    /// How many samples are durable.
+    /// How many of these are durable.
     pub durable: u64,
     /// The moment of the first accepted sample.
     pub first: Option<u64>,

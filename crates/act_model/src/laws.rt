@@ -1,5 +1,5 @@
 //! What holds of an archive whatever is asked of it. Each law is a clause of a function that does nothing.
-ghost use Rattle.act_model.specs.Laws.{StepKeepsSound, RunKeepsSound, AnswersAreOfActs, DurableIsAccepted, StepGoesOnward, RunGoesOnward, FlushLeavesNone, MoveKeepsLists, BegunIsNew, RetiredIsWhole, NoneIsDamaged, OthersOpenNone, DetailsAreOfRow, EndsAsACrashMayLeave, LeftBetweenActs, LeftWithinAct, LeftInRun, OpensBetweenActs, OpensWithinAct, OpensWithRows, LivesKeepSound, LivesLoseNothing, LivesLeaveAccepted, PinAnswers, PinStandsUntilUnpinned, PinStandsBesideOthers, PieceOpensAsPinned, PieceIsRead, RunsJoin, EntriesAreSteps, OwnActsAreSteps, OwnActsJoin};
+ghost use Rattle.act_model.specs.Laws.{StepKeepsSound, RunKeepsSound, AnswersAreOfActs, DurableIsAccepted, StepGoesOnward, RunGoesOnward, WholeIsOneList, WholeIsOverBase, WholeGrows, FlushLeavesNone, MoveKeepsLists, BegunIsNew, RetiredIsWhole, NoneIsDamaged, OthersOpenNone, DetailsAreOfRow, EndsAsACrashMayLeave, LeftBetweenActs, LeftWithinAct, LeftInRun, OpensBetweenActs, OpensWithinAct, OpensWithRows, LivesKeepSound, LivesLoseNothing, LivesLeaveAccepted, PinAnswers, PinStandsUntilUnpinned, PinStandsBesideOthers, PieceOpensAsPinned, PieceIsRead, RunsJoin, EntriesAreSteps, OwnActsAreSteps, OwnActsJoin};
 
 /// Whatever is asked and answered, by whomever, the state stays sound, and each act has an answer of its own.
 pub fn soundness_stays()
@@ -13,6 +13,13 @@ pub fn lists_grow()
     ensures front { DurableIsAccepted }
     ensures step { StepGoesOnward }
     ensures run { RunGoesOnward }
+{}
+
+/// What a variable has under its name and under the names before it is one list, which rises and only grows.
+pub fn wholes_grow()
+    ensures list { WholeIsOneList }
+    ensures over_base { WholeIsOverBase }
+    ensures run { WholeGrows }
 {}
 
 /// One flush of at least 64 MiB leaves nothing in the intake.

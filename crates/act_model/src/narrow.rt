@@ -2,13 +2,13 @@
 //! proved never to be met.
 ghost use Rattle.std.specs.Prelude.{◌≡◌, Bool, true};
 ghost use Rattle.act_model.specs.Reply.{Reply, reply_of};
-ghost use Rattle.act_model.specs.Answers.{answers_register, answers_pause, answers_resume, answers_offer, answers_tick, answers_flush, answers_move_begin, answers_move_step, answers_sweep, answers_pin, answers_open_piece, answers_unpin, answers_names, answers_details, answers_doors};
-ghost use Rattle.act_model.specs.Asks.{registered_reply, paused_reply, resumed_reply, offered_reply, ticked_reply, flushed_reply, move_begun_reply, move_stepped_reply, swept_reply, pinned_reply, piece_opened_reply, unpinned_reply, names_told_reply, details_told_reply, doors_left_reply};
+ghost use Rattle.act_model.specs.Answers.{answers_register, answers_pause, answers_resume, answers_rename, answers_offer, answers_tick, answers_flush, answers_move_begin, answers_move_step, answers_sweep, answers_pin, answers_open_piece, answers_unpin, answers_names, answers_details, answers_doors};
+ghost use Rattle.act_model.specs.Asks.{registered_reply, paused_reply, resumed_reply, renamed_reply, offered_reply, ticked_reply, flushed_reply, move_begun_reply, move_stepped_reply, swept_reply, pinned_reply, piece_opened_reply, unpinned_reply, names_told_reply, details_told_reply, doors_left_reply};
 
 use crate::acts::Answer;
 use crate::answers::{
     DetailsTold, DoorsLeft, Flushed, MoveBegun, MoveStepped, NamesTold, Offered, Paused,
-    PieceOpened, Pinned, Registered, Resumed, Swept, Ticked, Unpinned,
+    PieceOpened, Pinned, Registered, Renamed, Resumed, Swept, Ticked, Unpinned,
 };
 use disk_model::ReadAt;
 
@@ -76,6 +76,24 @@ impl<R: ReadAt> OwnAnswer<R> for Resumed {
         ensures { resumed_reply result ≡ reply_of R.tells R.bytes R.faults answer }
     {
         narrow!(answer, Resumed: NoSuchVariable, NotPaused, DiskFault, Done, Memory)
+    }
+}
+
+impl<R: ReadAt> OwnAnswer<R> for Renamed {
+    ghost is_own = { answers_rename };
+
+    ghost reply = { renamed_reply };
+
+    fn narrow(answer: Answer<R>) -> Self
+        requires { answers_rename (reply_of R.tells R.bytes R.faults answer) ≡ true }
+        ensures { renamed_reply result ≡ reply_of R.tells R.bytes R.faults answer }
+    {
+        narrow!(
+            answer, Renamed:
+            NoSuchVariable, RenameNotPaused { state, change, seen }, NameTaken { row },
+            KeyTaken { row }, CatalogueFull, NotDurable { last, durable }, DiskFault,
+            Renamed { row }, Memory
+        )
     }
 }
 

@@ -2,7 +2,7 @@
 -- act, or is told its reply, or ends without one, since memory ran out.
 use Rattle.std.specs.Prelude.{ℕ, ◌+◌, ◌==◌, List, [], ◌∷◌, ◌++◌, if◌then◌else◌, Bool, true, false}
 use Rattle.act_model.specs.declared.acts.Act.{Act}
-use Rattle.act_model.specs.declared.acts.Act.TheVariants.{Register, Pause, Resume, Flush, Names, Details}
+use Rattle.act_model.specs.declared.acts.Act.TheVariants.{Register, Pause, Resume, Rename, Flush, Names, Details}
 use Rattle.act_model.specs.declared.acts.Answer.TheVariants as answer
 use Rattle.act_model.specs.Reply.{Reply}
 use Rattle.http_front.specs.declared.request.WebCall.{WebCall}
@@ -39,6 +39,18 @@ set answer.NotRunning = tells (Refused refusal.NotRunning)
 set answer.NotPaused = tells (Refused refusal.NotPaused)
 set answer.DiskFault = tells (Refused refusal.DiskFault)
 set other = stops
+
+-- a new name
+abbrev pub renamed : Reply → Next
+renamed (answer.Renamed row) = tells (Success done_text)
+renamed answer.NoSuchVariable = tells (Refused refusal.NoSuchVariable)
+renamed (answer.RenameNotPaused state change seen) = tells (Refused refusal.RenameNotPaused)
+renamed (answer.NameTaken row) = tells (Refused (refusal.NameTaken row))
+renamed (answer.KeyTaken row) = tells (Refused (refusal.KeyTaken row))
+renamed answer.CatalogueFull = tells (Refused refusal.CatalogueFull)
+renamed (answer.NotDurable last durable) = tells (Refused (refusal.NotDurable last durable))
+renamed answer.DiskFault = tells (Refused refusal.DiskFault)
+renamed other = stops
 
 -- whether a variable is archived, which may be asked of any name
 abbrev pub status_told : List ℕ → Reply → Next
@@ -81,6 +93,7 @@ next (call.PvDetails pv) answers = once (Details pv) details_told answers
 next (call.ArchivePv pv about) answers = once (Register pv about) registered answers
 next (call.PausePv pv) answers = once (Pause pv) set answers
 next (call.ResumePv pv) answers = once (Resume pv) set answers
+next (call.RenamePv pv newname) answers = once (Rename pv newname) renamed answers
 next call.FlushAll answers = flushes 0 answers
 
 abbrev pub is_management : WebCall → Bool

@@ -4,7 +4,7 @@ use Rattle.http_front.specs.Param.{name_of}
 use Rattle.http_front.specs.declared.request.HttpErr.{HttpErr}
 use Rattle.http_front.specs.declared.request.HttpErr.TheVariants as http
 use Rattle.admin_commands.specs.declared.refusal.Refusal.{Refusal}
-use Rattle.admin_commands.specs.declared.refusal.Refusal.TheVariants.{BadHead, HeadTooLong, BadMethod, BadPath, BadParameter, NoSuchVariable, NameTaken, KeyTaken, CatalogueFull, NotRunning, NotPaused, DiskFault, Spent}
+use Rattle.admin_commands.specs.declared.refusal.Refusal.TheVariants.{BadHead, HeadTooLong, BadMethod, BadPath, BadParameter, NoSuchVariable, NameTaken, KeyTaken, CatalogueFull, NotRunning, NotPaused, RenameNotPaused, NotDurable, DiskFault, Spent}
 
 -- A row of the table.
 pub record Row : Type 0 where
@@ -22,15 +22,24 @@ row_of (KeyTaken row) = record { status = 409; word = codes "E19" }
 row_of CatalogueFull = record { status = 409; word = codes "E20" }
 row_of NotRunning = record { status = 409; word = codes "E21" }
 row_of NotPaused = record { status = 409; word = codes "E22" }
+row_of RenameNotPaused = record { status = 409; word = codes "E32" }
+row_of (NotDurable last durable) = record { status = 409; word = codes "E33" }
 row_of HeadTooLong = record { status = 431; word = codes "E28" }
 row_of DiskFault = record { status = 500; word = codes "disk" }
 row_of Spent = record { status = 503; word = codes "spent" }
 
--- the member behind it, if there is one: the parameter, or the row that has the name or the key
+-- a moment in nanoseconds, if there is one
+abbrev pub moment_text : Option ℕ → List ℕ
+moment_text (Some t) = decimal t
+moment_text None = codes "null"
+
+-- the members behind it, if there are some: the parameter, the row that has the name or the key, or the moments of the last sample and of
+-- the last durable one
 abbrev pub member_text : Refusal → List ℕ
 member_text (BadParameter which) = codes ",\"parameter\":\"" ++ name_of which ++ codes "\""
 member_text (NameTaken row) = codes ",\"row\":" ++ decimal row
 member_text (KeyTaken row) = codes ",\"row\":" ++ decimal row
+member_text (NotDurable last durable) = codes ",\"last\":" ++ decimal last ++ codes ",\"durable\":" ++ moment_text durable
 member_text other = []
 
 abbrev pub refusal_text : Refusal → List ℕ

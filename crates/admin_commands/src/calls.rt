@@ -2,9 +2,9 @@
 ghost use Rattle.std.specs.Prelude.{◌≡◌, ◌∷◌, [], true, IfOk};
 ghost use Rattle.act_model.specs.Machine.{Machine};
 ghost use Rattle.act_model.specs.declared.acts.Act.{Act};
-ghost use Rattle.act_model.specs.Asks.{Asked, details_told_reply, flushed_reply, names_told_reply, paused_reply, registered_reply, resumed_reply};
+ghost use Rattle.act_model.specs.Asks.{Asked, details_told_reply, flushed_reply, names_told_reply, paused_reply, registered_reply, renamed_reply, resumed_reply};
 ghost use Rattle.admin_commands.specs.Bodies.{names_text};
-ghost use Rattle.admin_commands.specs.Next.{details_told, flushes, is_management, registered, set, status_told, tells};
+ghost use Rattle.admin_commands.specs.Next.{details_told, flushes, is_management, registered, renamed, set, status_told, tells};
 ghost use Rattle.admin_commands.specs.Pages.{EndsBelow, Gathers, LeavesNone};
 ghost use Rattle.admin_commands.specs.Serving.{Comes, Tells};
 
@@ -15,8 +15,8 @@ use crate::end::Stopped;
 use crate::refusal::Refusal;
 use crate::reply::WebReply;
 use act_model::{
-    Actor, DetailsTold, Flushed, NamesTold, Paused, Registered, Resumed, Spent, ask_details,
-    ask_flush, ask_names, ask_pause, ask_register, ask_resume,
+    Actor, DetailsTold, Flushed, NamesTold, Paused, Registered, Renamed, Resumed, Spent,
+    ask_details, ask_flush, ask_names, ask_pause, ask_register, ask_rename, ask_resume,
 };
 use event_types::About;
 use http_front::WebCall;
@@ -48,6 +48,7 @@ pub(crate) fn serve<A: Actor>(
         WebCall::ArchivePv { pv, about } => archive(alloc, actor, pv, about),
         WebCall::PausePv { pv } => pause(alloc, actor, pv),
         WebCall::ResumePv { pv } => resume(alloc, actor, pv),
+        WebCall::RenamePv { pv, newname } => rename(alloc, actor, pv, newname),
         WebCall::FlushAll => flush(alloc, actor),
         WebCall::Raw { .. } => unreachable!(),
         WebCall::Json { .. } => unreachable!(),
@@ -151,6 +152,50 @@ pub(crate) fn reply_to_resume(alloc: Global, resumed: Resumed) -> Result<WebRepl
         Resumed::NotPaused => Ok(WebReply::Refused(Refusal::NotPaused)),
         Resumed::DiskFault => Ok(WebReply::Refused(Refusal::DiskFault)),
         Resumed::Memory => Err(Stopped::Memory),
+    }
+}
+
+// That a variable gets another name.
+fn rename<A: Actor>(
+    alloc: Global,
+    actor: &mut A,
+    pv: &PvName,
+    newname: &PvName,
+) -> Result<WebReply, Stopped>
+    requires stands { (m : Machine) × A.stands actor.old m }
+    ensures comes { Comes A.number A.between A.is_spent (WebCall.RenamePv pv.now newname.now) actor.old result actor.new }
+    ensures stands { (n : Machine) × A.stands actor.new n }
+{
+    let Ok((name, newname)) = names_of(alloc, pv, newname) else {
+        return Err(Stopped::Memory);
+    };
+    match ask_rename(actor, name, newname) {
+        Ok(told) => reply_to_rename(alloc, told),
+        Err(Spent) => Err(Stopped::Spent),
+    }
+}
+
+fn names_of(alloc: Global, pv: &PvName, newname: &PvName) -> Result<(Blob, PvName), AllocError>
+    ensures { IfOk result (λ both. (both.0 ≡ pv.now) × (both.1 ≡ newname.now)) }
+{
+    Ok((name_of(alloc, pv)?, newname.clone()?))
+}
+
+pub(crate) fn reply_to_rename(alloc: Global, told: Renamed) -> Result<WebReply, Stopped>
+    ensures { Tells (renamed (renamed_reply told)) result }
+{
+    match told {
+        Renamed::Renamed { .. } => Ok(WebReply::Success(done_text(alloc)?)),
+        Renamed::NoSuchVariable => Ok(WebReply::Refused(Refusal::NoSuchVariable)),
+        Renamed::RenameNotPaused { .. } => Ok(WebReply::Refused(Refusal::RenameNotPaused)),
+        Renamed::NameTaken { row } => Ok(WebReply::Refused(Refusal::NameTaken { row })),
+        Renamed::KeyTaken { row } => Ok(WebReply::Refused(Refusal::KeyTaken { row })),
+        Renamed::CatalogueFull => Ok(WebReply::Refused(Refusal::CatalogueFull)),
+        Renamed::NotDurable { last, durable } => {
+            Ok(WebReply::Refused(Refusal::NotDurable { last, durable }))
+        }
+        Renamed::DiskFault => Ok(WebReply::Refused(Refusal::DiskFault)),
+        Renamed::Memory => Err(Stopped::Memory),
     }
 }
 

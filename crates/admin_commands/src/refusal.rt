@@ -31,6 +31,11 @@ pub enum Refusal {
     NotRunning,
     /// The variable isn't paused.
     NotPaused,
+    /// A variable that isn't paused gets no other name.
+    RenameNotPaused,
+    /// A variable gets no other name before its last accepted sample is durable: the moments of the last one, and of the last durable
+    /// one, in nanoseconds since 1970-01-01T00:00:00Z.
+    NotDurable { last: u64, durable: Option<u64> },
     /// The disk failed.
     DiskFault,
     /// No act is left.
@@ -69,6 +74,8 @@ impl Refusal {
             Refusal::CatalogueFull => 409,
             Refusal::NotRunning => 409,
             Refusal::NotPaused => 409,
+            Refusal::RenameNotPaused => 409,
+            Refusal::NotDurable { .. } => 409,
             Refusal::DiskFault => 500,
             Refusal::Spent => 503,
         }
@@ -90,6 +97,8 @@ impl Refusal {
             Refusal::CatalogueFull => "E20",
             Refusal::NotRunning => "E21",
             Refusal::NotPaused => "E22",
+            Refusal::RenameNotPaused => "E32",
+            Refusal::NotDurable { .. } => "E33",
             Refusal::DiskFault => "disk",
             Refusal::Spent => "spent",
         }
@@ -103,6 +112,7 @@ impl Refusal {
             Refusal::BadParameter { which } => put_param(which, out),
             Refusal::NameTaken { row } => put_row(row, out),
             Refusal::KeyTaken { row } => put_row(row, out),
+            Refusal::NotDurable { last, durable } => put_moments(last, durable, out),
             _ => Ok(()),
         }
     }
@@ -132,4 +142,16 @@ fn put_row(row: u32, out: &mut Vec<u8>) -> Result<(), AllocError>
 {
     out.extend_from_slice(b",\"row\":")?;
     put_number(row, out)
+}
+
+fn put_moments(last: u64, durable: Option<u64>, out: &mut Vec<u8>) -> Result<(), AllocError>
+    ensures { OnOk result (out.new.items ≡ out.old.items ++ member_text (Refusal.NotDurable last durable)) }
+{
+    out.extend_from_slice(b",\"last\":")?;
+    put_number(last, out)?;
+    out.extend_from_slice(b",\"durable\":")?;
+    match durable {
+        Some(t) => put_number(t, out),
+        None => out.extend_from_slice(b"null"),
+    }
 }

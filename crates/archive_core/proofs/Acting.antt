@@ -79,14 +79,18 @@ module _ (tells : Bool) (refuse : Machine → Option Reply) (change : Machine �
 
 -- AN ACT
 
--- The count of faults is nothing to the refusals of such an act, to the change that it may make and to what it runs, and none of these tells want of memory.
+-- What refuses such an act where it is asked of one state and is at another, once its doubt is settled: it refuses no more than the act's
+-- refusals. The count of faults is nothing to these, to the change that it may make and to what it runs, and none of them tells want of memory.
 pub record IsAct (who : ℕ) (act : Act) (run : Machine → Reply → Machine → Type 0) : Type 0 where
+  pub refuse : Machine → Machine → Option Reply
+  pub passes : (old m : Machine) → refuse_by act m ≡ None → refuse old m ≡ None
+  pub counts : (old m : Machine) (f : ℕ) → refuse old (record m { faults = f }) ≡ refuse old m
   pub refuses : (m : Machine) (f : ℕ) → refuse_by act (record m { faults = f }) ≡ refuse_by act m
   pub changes : (m : Machine) (f : ℕ) → change_by act (record m { faults = f }) ≡ change_by act m
   pub goes : (m : Machine) (f : ℕ) (given : Reply) (new : Machine) → run (record m { faults = f }) given new → run m given new
-  pub never : (m : Machine) → refuse_by act m ≡ Some answer.Memory → ⊥
+  pub never : (old m : Machine) → refuse old m ≡ Some answer.Memory → ⊥
   pub tells_more : (m : Machine) (given : Reply) (new : Machine) → run m given new → given ≡ answer.Memory → ⊥
-  pub steps : (m : Machine) (given : Reply) (new : Machine) → Acts (refuse_by act) run (change_by act) all_go m given new → Step who act m given new
+  pub steps : (m : Machine) (given : Reply) (new : Machine) → Acts (refuse m) run (change_by act) all_go m given new → Step who act m given new
   pub wants : (m n : Machine) → NoneRefuses (refuse_by act) m n → Wants who act m n
 
 -- how it went
@@ -106,14 +110,14 @@ module _ (tells : Bool) (who : ℕ) (act : Act) (run : Machine → Reply → Mac
   Passed q = (m : Machine) → Stands tells q m → refuse_by act m ≡ None
 
   abbrev Ran : Machine → Reply → Parts → Type 0
-  Ran m given q = (n : Machine) × WithWants (NoneRefuses (refuse_by act)) (Acts (refuse_by act) run (change_by act) all_go) m given n × Stands tells q n
+  Ran m given q = (n : Machine) × WithWants (NoneRefuses (refuse_by act)) (Acts (is.refuse m) run (change_by act) all_go) m given n × Stands tells q n
 
   steps_so : (q : Parts) (given : Reply) → ((m : Machine) → Stands tells p m → Ran m given q) → Steps tells (WithWants (Wants who act) (Step who act)) p given q
   steps_so q given ran = λ m s. (let one = ran m s in (one.0, (is.steps m given one.0 one.1.0, λ told. is.wants m one.0 (one.1.1 told)), one.2))
 
-  pub refused_first : (given : Reply) → ((m : Machine) → Stands tells p m → refuse_by act m ≡ Some given) → Went tells who act p given p
+  pub refused_first : (given : Reply) → ((m : Machine) → Stands tells p m → is.refuse m m ≡ Some given) → Went tells who act p given p
   refused_first given why = record {
-    step = steps_so p given (λ m s. (m, (refused_at_once given (why m s), λ told. absurd (is.never m (why m s ∙ ap (λ (r : Reply). Some r) told))), s));
+    step = steps_so p given (λ m s. (m, (refused_at_once given (why m s), λ told. absurd (is.never m m (why m s ∙ ap (λ (r : Reply). Some r) told))), s));
     crash = crash_none tells (refuse_by act) (change_by act) is.refuses is.changes p;
     fronts = nothing_fronts tells (files_of p);
     tidy = λ settled well. tidy_none tells p p refl refl settled;
@@ -122,6 +126,10 @@ module _ (tells : Bool) (who : ℕ) (act : Act) (run : Machine → Reply → Mac
   module _ (q : Parts) (done : Result (Unit {0}) DiskErr) (settling : Settling tells p q (end_of_disk done)) (same : IsSettled p.at → files_of q ≡ files_of p) (pass : Passed p) where
     more : p.at.faults ≤ q.at.faults
     more = settling.settles.faults
+
+    -- nothing refused it at first
+    began : (m : Machine) → Stands tells p m → is.refuse m m ≡ None
+    began m s = is.passes m m (pass m s)
 
     -- the doubt couldn't be settled
     pub cut : (e : DiskErr) → done ≡ Err e → StandsStill tells p q → Went tells who act p (disk_reply e) q
@@ -135,7 +143,7 @@ module _ (tells : Bool) (who : ℕ) (act : Act) (run : Machine → Reply → Mac
         by_error : (d : DiskErr) → (d ≡ Fault → Rose p.at.faults q.at.faults) → (m : Machine) → Stands tells p m → Ran m (disk_reply d) q
         by_error Fault rose m s =
             let rises : Rose m.faults q.at.faults = rw s.faults (rose refl) in
-            (record m { faults = q.at.faults }, (faults_first (pass m s) refl rises, λ told. absurd (cc (told))), still m s)
+            (record m { faults = q.at.faults }, (faults_first (began m s) refl rises, λ told. absurd (cc (told))), still m s)
         by_error Memory rose m s =
             let was : m.faults ≡ p.at.faults = s.faults in
             (record m { faults = q.at.faults }, (wants_memory refl (omega (arith, was, more)), λ told. before_settling (pass m s) refl), still m s)
@@ -145,13 +153,13 @@ module _ (tells : Bool) (who : ℕ) (act : Act) (run : Machine → Reply → Mac
       tidy_on : (given : Reply) (new : Parts) → ActsTidily tells q given new → ActsTidily tells p given new
       tidy_on given new tidy settled well = tidy_then tells p q new (same settled) settling.slots (tidy (subst (λ (all : SeenAll). IsSettled all.stores) (sym (same settled)) settled) well)
 
-      pub refused_then : (given : Reply) → ((m : Machine) → Stands tells q m → refuse_by act m ≡ Some given) → Went tells who act p given q
+      pub refused_then : (given : Reply) → ((old : Machine) → Stands tells p old → (m : Machine) → Stands tells q m → is.refuse old m ≡ Some given) → Went tells who act p given q
       refused_then given why = record {
         step = steps_so q given (λ m s.
             let mid = settles m s in
             let was : m.faults ≡ p.at.faults = s.faults in
-            let one : refuse_by act mid.0 ≡ Some given = sym (is.refuses mid.0 q.at.faults) ∙ why (record mid.0 { faults = q.at.faults }) mid.2.stands in
-            (record mid.0 { faults = q.at.faults }, (refused given (pass m s) mid.1 one refl (omega (arith, was, more)), λ told. absurd (is.never mid.0 (one ∙ ap (λ (r : Reply). Some r) told))), mid.2.stands));
+            let one : is.refuse m mid.0 ≡ Some given = sym (is.counts m mid.0 q.at.faults) ∙ why m s (record mid.0 { faults = q.at.faults }) mid.2.stands in
+            (record mid.0 { faults = q.at.faults }, (refused given (began m s) mid.1 one refl (omega (arith, was, more)), λ told. absurd (is.never m mid.0 (one ∙ ap (λ (r : Reply). Some r) told))), mid.2.stands));
         crash = crash_settling tells (refuse_by act) (change_by act) is.refuses is.changes p q settling.settles.any_moment;
         fronts = settling.fronts;
         tidy = tidy_on given q (λ settled well. tidy_none tells q q refl refl settled);
@@ -161,13 +169,16 @@ module _ (tells : Bool) (who : ℕ) (act : Act) (run : Machine → Reply → Mac
         free : (m : Machine) (s : Stands tells p m) → refuse_by act (settles m s).0 ≡ None
         free m s = let mid = settles m s in sym (is.refuses mid.0 q.at.faults) ∙ passed (record mid.0 { faults = q.at.faults }) mid.2.stands
 
+        free_there : (m : Machine) (s : Stands tells p m) → is.refuse m (settles m s).0 ≡ None
+        free_there m s = is.passes m (settles m s).0 (free m s)
+
         -- there was no memory for what follows
         pub spent_then : Went tells who act p answer.Memory q
         spent_then = record {
           step = steps_so q answer.Memory (λ m s.
               let mid = settles m s in
               let was : m.faults ≡ p.at.faults = s.faults in
-              (record mid.0 { faults = q.at.faults }, (wants_memory_settled (pass m s) mid.1 refl (omega (arith, was, more)), λ told. behind_settling (pass m s) mid.1 (free m s) refl), mid.2.stands));
+              (record mid.0 { faults = q.at.faults }, (wants_memory_settled (began m s) mid.1 refl (omega (arith, was, more)), λ told. behind_settling (pass m s) mid.1 (free m s) refl), mid.2.stands));
           crash = crash_settling tells (refuse_by act) (change_by act) is.refuses is.changes p q settling.settles.any_moment;
           fronts = settling.fronts;
           tidy = λ settled well. absurd well;
@@ -186,17 +197,17 @@ module _ (tells : Bool) (who : ℕ) (act : Act) (run : Machine → Reply → Mac
             by_end m s _ (is_spent stands) =
                 let was : m.faults ≡ p.at.faults = s.faults in
                 let mid = settles m s in
-                (record mid.0 { faults = new.at.faults }, (wants_memory_settled (pass m s) mid.1 refl (omega (arith, was, more, later)), λ told. behind_settling (pass m s) mid.1 (free m s) refl), stands)
+                (record mid.0 { faults = new.at.faults }, (wants_memory_settled (began m s) mid.1 refl (omega (arith, was, more, later)), λ told. behind_settling (pass m s) mid.1 (free m s) refl), stands)
             by_end m s _ (is_failed stands rose) =
                 let rises : Rose m.faults new.at.faults = rw s.faults (rose_after p.at.faults q.at.faults new.at.faults more rose) in
                 let mid = settles m s in
-                (record mid.0 { faults = new.at.faults }, (faults_between (pass m s) mid.1 refl rises, λ told. absurd (cc (told))), stands)
+                (record mid.0 { faults = new.at.faults }, (faults_between (began m s) mid.1 refl rises, λ told. absurd (cc (told))), stands)
             by_end m s told (is_answered n ran stands) =
                 let was : m.faults ≡ p.at.faults = s.faults in
                 let now : n.faults ≡ new.at.faults = stands.faults in
                 let mid = settles m s in
                 let goes_on = is.goes mid.0 q.at.faults told n ran in
-                (n, (runs told (pass m s) mid.1 (free m s) goes_on (omega (arith, was, more, later, now)), λ spent. absurd (is.tells_more mid.0 told n goes_on spent)), stands)
+                (n, (runs told (began m s) mid.1 (free_there m s) goes_on (omega (arith, was, more, later, now)), λ spent. absurd (is.tells_more mid.0 told n goes_on spent)), stands)
 
         module _ (new : Parts) (c : Change) (own : (m : Machine) → Stands tells q m → change_by act m ≡ Some c) where
           -- the change was made
@@ -210,7 +221,7 @@ module _ (tells : Bool) (who : ℕ) (act : Act) (run : Machine → Reply → Mac
                 let later = end.faults in
                 let then : Machine = record (made [] c n) { faults = new.at.faults } in
                 let goes_on = is.goes mid.0 q.at.faults given then (ran n mid.2) in
-                (then, (runs given (pass m s) mid.1 (free m s) goes_on (omega (arith, was, more, later)), λ told. absurd (is.tells_more mid.0 given then goes_on told)), end.ends));
+                (then, (runs given (began m s) mid.1 (free_there m s) goes_on (omega (arith, was, more, later)), λ told. absurd (is.tells_more mid.0 given then goes_on told)), end.ends));
             crash = crash_changing tells (refuse_by act) (change_by act) is.refuses is.changes p q new c (Ok a) settling.settles.any_moment settling.granularity settles passed own changed.changes;
             fronts = fronts_on tells (files_of p) (files_of q) (files_of new) settling.fronts changed.fronts;
             tidy = tidy_on given new (λ settled well. changed.tidy);
@@ -230,12 +241,12 @@ module _ (tells : Bool) (who : ℕ) (act : Act) (run : Machine → Reply → Mac
                   let mid = settles m s in
                   let n : Machine = record mid.0 { faults = q.at.faults } in
                   let rises : Rose m.faults new.at.faults = rw s.faults (rose_after p.at.faults q.at.faults new.at.faults more (end.cause refl)) in
-                  (record n { doubt = Some c; faults = new.at.faults }, (faults_within c (pass m s) mid.1 (free m s) (sym (is.changes mid.0 q.at.faults) ∙ own n mid.2.stands) refl rises, λ told. absurd (cc (told))), end.ends)
+                  (record n { doubt = Some c; faults = new.at.faults }, (faults_within c (began m s) mid.1 (free_there m s) (sym (is.changes mid.0 q.at.faults) ∙ own n mid.2.stands) refl rises, λ told. absurd (cc (told))), end.ends)
               by_error Memory m s end =
                   let mid = settles m s in
                   let was : m.faults ≡ p.at.faults = s.faults in
                   let later = end.faults in
-                  (record (settles m s).0 { faults = new.at.faults }, (wants_memory_settled (pass m s) mid.1 refl (omega (arith, was, more, later)), λ told. behind_settling (pass m s) mid.1 (free m s) refl), end.ends)
+                  (record (settles m s).0 { faults = new.at.faults }, (wants_memory_settled (began m s) mid.1 refl (omega (arith, was, more, later)), λ told. behind_settling (pass m s) mid.1 (free m s) refl), end.ends)
 
 -- AN ACT, BY WHAT WAS ASKED
 

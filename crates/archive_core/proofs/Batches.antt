@@ -40,7 +40,7 @@ use Rattle.archive_core.specs.Stands.{AreDurable, HoldsDurable, IsPartOf}
 use Rattle.archive_core.proofs.ListEnds.{place_end}
 use Rattle.archive_core.proofs.Lists.{element, get_front, same_or_not}
 use Rattle.archive_core.proofs.Making.{kept_to, taken_durable, taken_later, kept_untold, kept_empty}
-use Rattle.act_model.proofs.Onward.{each_forward}
+use Rattle.act_model.proofs.Rows.{each_forward}
 use Rattle.archive_core.proofs.Fronts.{take_whole}
 
 -- WHAT A FLUSH TAKES

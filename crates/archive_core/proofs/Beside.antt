@@ -17,14 +17,14 @@ use Rattle.durable_write.specs.Flush.{EndsRow, PlacesRise, put_all}
 use Rattle.durable_write.specs.Held.{Filed, Held, AreFiled, IsListed}
 use Rattle.durable_write.specs.Plan.{of_row}
 use Rattle.durable_write.proofs.Revival.{listed_stays, put_all_new}
-use Rattle.tier_store.specs.Change.{IsKnown, Registers, Switches}
+use Rattle.tier_store.specs.Change.{IsKnown, Registers, Renames, Switches}
 use Rattle.tier_store.specs.Moving.{GoesBeside, parts_in}
 use Rattle.tier_store.specs.Revival.{FlushesOver}
 use Rattle.tier_store.specs.Seen.{granularities}
 use Rattle.tier_store.specs.Stores.{Stores, list_at, tier}
 use Rattle.tier_store.specs.declared.limbo.Retired.{Retired}
 use Rattle.tier_store.proofs.Places.{granularity_at, list_other, manifest_at, manifest_of}
-use Rattle.tier_store.proofs.Showing.{registers_on, switches_on}
+use Rattle.tier_store.proofs.Showing.{registers_on, renames_on, switches_on}
 use Rattle.archive_core.proofs.Changing.{IsFiledAt}
 use Rattle.archive_core.proofs.Growth.{rows_beside}
 use Rattle.archive_core.proofs.PartsGrow.{parts_grow}
@@ -34,6 +34,9 @@ register_beside name about old new i row by = let on = registers_on name about o
 
 pub switch_beside : (k : ℕ) (from to : State) (old new : Stores) (i row : ℕ) → Switches k from to old new → GoesBeside i row old new
 switch_beside k from to old new i row by = let on = switches_on k from to old new by in rows_beside i row old new on.0 on.1
+
+pub rename_beside : (k : ℕ) (name : List ℕ) (old new : Stores) (i row : ℕ) → Renames k name old new → GoesBeside i row old new
+rename_beside k name old new i row by = let on = renames_on k name old new by in rows_beside i row old new on.0 on.1
 
 module _ (catalogue : CatalogueState) (ms : List ManifestState) (limbo : List Retired) (files : List Filed) (batch : List RowSamples) (held after : Stores) (known : IsKnown catalogue ms held) (by : FlushesOver limbo files batch held after) (filed : IsFiledAt (granularities ms) 0 (tier 0 after)) where
   first : (m : ManifestState) × (slice_get ms 0 ≡ Some m)

@@ -1,14 +1,13 @@
 -- The act that tells details: what the stores tell is what the machine tells.
-use Rattle.std.proofs.Common.{◌≡◌, inl, inr, ℕ, List, ◌++◌, length, Bool, true, Some, refl, sym, ◌∙◌, ap, subst, arith}
+use Rattle.std.proofs.Common.{◌≡◌, inl, inr, ℕ, List, length, Bool, true, Some, refl, sym, ◌∙◌, ap, subst}
 use Rattle.std.specs.Prelude.{IsTrue, slice_get, slice_index}
 use Rattle.std.proofs.lemmas.List.{length-map}
 use Rattle.std.proofs.lemmas.Option.{same_Some}
 use Rattle.append_buffer.specs.Tails.{tail_at}
 use Rattle.pv_catalog.specs.Rows.{HasName}
 use Rattle.pv_catalog.specs.declared.row.Row.{Row}
-use Rattle.series_model.specs.Series.{end_of}
+use Rattle.series_model.specs.Series.{over}
 use Rattle.series_model.specs.declared.sample.Sample.{Sample}
-use Rattle.series_model.proofs.RisingLists.{since_all}
 use Rattle.durable_write.specs.Ends.{End, IsFailed}
 use Rattle.durable_write.specs.Held.{Filed}
 use Rattle.durable_write.specs.Plan.{of_row}
@@ -18,15 +17,16 @@ use Rattle.tier_store.specs.Opening.{end_of_answer}
 use Rattle.tier_store.specs.Pinned.{beside}
 use Rattle.tier_store.specs.Seen.{Seen, granularities}
 use Rattle.tier_store.specs.Telling.{ReadsOf}
-use Rattle.tier_store.specs.Stores.{Stores, list_at, samples_in}
+use Rattle.tier_store.specs.Stores.{Stores, list_at, whole_in}
 use Rattle.act_model.specs.declared.acts.Answer.{Answer}
 use Rattle.act_model.specs.declared.acts.Answer.TheVariants as answer
 use Rattle.act_model.specs.declared.details.Details.{Details}
-use Rattle.act_model.specs.Details.{Describes, IsDetails, first_time, last_time}
+use Rattle.act_model.specs.Details.{Describes, IsDetails, first_time, last_time, details_refused}
 use Rattle.act_model.specs.Machine.{Machine, find_row}
 use Rattle.act_model.specs.Reply.{Reply, reply_of}
-use Rattle.act_model.specs.Rows.{RowState, Store, Short, Medium, Long, durable, accepted}
+use Rattle.act_model.specs.Rows.{RowState, Store, Short, Medium, Long, accepted}
 use Rattle.act_model.specs.Rule.{index_of}
+use Rattle.act_model.specs.Whole.{whole}
 use Rattle.archive_core.specs.Ends.{AskEnds, is_spent, is_failed, is_answered}
 use Rattle.archive_core.specs.Parts.{Parts}
 use Rattle.archive_core.specs.Stands.{Stands, Rests}
@@ -36,7 +36,7 @@ use Rattle.archive_core.proofs.Changing.{rests_again}
 use Rattle.archive_core.proofs.KeptRows.{row_at}
 use Rattle.archive_core.proofs.Opens.{told_tells}
 use Rattle.archive_core.proofs.PartLists.{parts_of, row_parts}
-use Rattle.archive_core.proofs.Windows.{durable_is}
+use Rattle.archive_core.proofs.Wholes.{accepted_held, whole_held}
 use Rattle.archive_core.proofs.Registered.{find_some}
 use Rattle.archive_core.proofs.Settled.{rests_has}
 use Rattle.tier_store.specs.Frame.{Frame}
@@ -84,10 +84,10 @@ module _ (R : Type 0) (tells reader_tells : Bool) (bytes : R → List ℕ) (faul
         (at.0, at.1, (names, abouts, states), at.4.tail ∙ ap (λ (j : ℕ). (tail_at p.tails j).samples) (sym same_row))
 
     -- of a told machine all is told that the machine tells
-    details : m.told ≡ true → IsDetails m.rule row.0 d
+    details : m.told ≡ true → IsDetails m.rule m.rows k row.0 d
     details on = record {
       accepted_is = counted.accepted_is ∙ ap length (sym accepted_same);
-      durable_is = counted.durable_is ∙ ap length (sym durable_same);
+      durable_is = counted.durable_is ∙ ap length (whole_held m r.stands.sound held r.stands.store.holds on k row.0 row.1);
       first = counted.first ∙ ap first_time (sym accepted_same);
       last = counted.last ∙ ap last_time (sym accepted_same);
       files = λ store. (parts_of (files_in store), row_parts tells new m held has_new r.stands.store.holds gran r.stands.rule.headers on stands k row.0 row.1 store, count store);
@@ -99,17 +99,12 @@ module _ (R : Type 0) (tells reader_tells : Bool) (bytes : R → List ℕ) (faul
         gran : m.rule.granularity ≡ granularities new.manifests
         gran = r.stands.rule.granularity ∙ sym same_g
 
-        counted : AreCounted (samples_in k held) tail d
+        counted : AreCounted (whole_in k held) tail d
         counted = is.counted (told_tells tells m.told held.stands r.stands.store.told on) stands
 
-        durable_same : durable row.0 ≡ samples_in k held
-        durable_same = durable_is tells new m held has_new r.stands.store.holds gran r.stands.rule.headers on stands k row.0 row.1
-
-        -- the tail is later than all that is durable
-        accepted_same : accepted row.0 ≡ samples_in k held ++ tail
-        accepted_same =
-            let later = (r.stands.sound.each_row k row.0 row.1).later in
-            ap (λ (xs : List Sample). durable row.0 ++ xs) (since_all (end_of (durable row.0)) (end_of (durable row.0)) row.0.tail later (omega arith)) ∙ (ap (λ (xs : List Sample). xs ++ row.0.tail) durable_same ∙ ap (λ (xs : List Sample). samples_in k held ++ xs) row.3)
+        -- the tail goes over all that is durable
+        accepted_same : whole accepted m.rows k ≡ over (whole_in k held) tail
+        accepted_same = accepted_held m r.stands.sound held r.stands.store.holds on k row.0 row.1 ∙ ap (λ (xs : List Sample). over (whole_in k held) xs) row.3
 
         files_in : Store → List Filed
         files_in store = of_row k (list_at (index_of store) held)
@@ -146,12 +141,12 @@ module _ (R : Type 0) (tells reader_tells : Bool) (bytes : R → List ℕ) (faul
   ]
 
 -- the count of faults is nothing to what is told
-describes_goes : (name : List ℕ) (m : Machine) (f : ℕ) (given : Reply) (new : Machine) → Describes name (record m { faults = f }) given new → Describes name m given new
+pub describes_goes : (name : List ℕ) (m : Machine) (f : ℕ) (given : Reply) (new : Machine) → Describes name (record m { faults = f }) given new → Describes name m given new
 describes_goes name m f given new is = record { i = is.i; row = is.row; details = is.details; found = is.found; here = is.here; known = is.known; told = is.told; answered = is.answered; same = is.same }
 
 -- it isn't told as want of memory
-describes_tells : (name : List ℕ) (m : Machine) (given : Reply) (new : Machine) → Describes name m given new → given ≡ answer.Memory → ⊥
+pub describes_tells : (name : List ℕ) (m : Machine) (given : Reply) (new : Machine) → Describes name m given new → given ≡ answer.Memory → ⊥
 describes_tells name m given new is told = let both = sym is.answered ∙ told in cc (both)
 
-pub describes_act : (who : ℕ) (name : List ℕ) → IsAct who (DetailsAct name) (Describes name)
-describes_act who name = record { refuses = λ m f. refl; changes = λ m f. refl; goes = describes_goes name; never = never_wants name; tells_more = describes_tells name; steps = λ m given new acts. acts; wants = λ m n none. none }
+abbrev pub describes_act : (who : ℕ) (name : List ℕ) → IsAct who (DetailsAct name) (Describes name)
+describes_act who name = record { refuse = λ old. details_refused name; passes = λ old m is. is; counts = λ old m f. refl; refuses = λ m f. refl; changes = λ m f. refl; goes = describes_goes name; never = λ old. never_wants name; tells_more = describes_tells name; steps = λ m given new acts. acts; wants = λ m n none. none }

@@ -110,6 +110,7 @@ module _ (tells : Bool) (at : Seen) (limbo : List Retired) (m : Machine) (held :
           name = own.is.name;
           about = own.is.about;
           state = own.is.state;
+          base = own.is.base;
           short = λ told. put_short m batch i r told ∙ sym (short i r here told);
           medium = λ told. own.is.medium told ∙ sym (ap (λ (s : Stores). samples_of i s.medium) by.same);
           long = λ told. own.is.long told ∙ sym (ap (λ (s : Stores). samples_of i s.long) by.same);

@@ -1,5 +1,5 @@
 -- A batch is flushed: as the machine has it, in memory, and as an act.
-use Rattle.std.proofs.Common.{◌≡◌, ◌+◌, ◌<◌, ◌≤◌, List, [], ◌∷◌, length, Bool, true, Some, Result, Ok, Err, refl, sym, ◌∙◌, ap, subst, arith, ℕ}
+use Rattle.std.proofs.Common.{◌≡◌, ◌+◌, ◌<◌, ◌≤◌, List, [], ◌∷◌, length, Bool, true, Some, None, Result, Ok, Err, refl, sym, ◌∙◌, ap, subst, arith, ℕ}
 use Rattle.std.specs.List.{AllByRecursion}
 use Rattle.std.specs.Prelude.{All, IsTrue, slice_get, IfOk}
 use Rattle.std.proofs.lemmas.List.Elements.{recursion_from_All}
@@ -163,7 +163,7 @@ flushes_tells : (limit : ℕ) (m : Machine) (given : Reply) (after : Machine) �
 flushes_tells limit m given after ran told = let both = sym ran.0.2 ∙ told in cc (both)
 
 pub flushes_act : (who limit : ℕ) → IsAct who (Flush limit) (Flushes limit)
-flushes_act who limit = record { refuses = λ m f. refl; changes = λ m f. refl; goes = λ m f given new ran. ran; never = λ m none. cc (none); tells_more = flushes_tells limit; steps = λ m given new acts. acts; wants = λ m n none. tt }
+flushes_act who limit = record { refuse = λ old m. None; passes = λ old m is. is; counts = λ old m f. refl; refuses = λ m f. refl; changes = λ m f. refl; goes = λ m f given new ran. ran; never = λ old m none. cc (none); tells_more = flushes_tells limit; steps = λ m given new acts. acts; wants = λ m n none. tt }
 
 -- how it is answered
 abbrev pub FlushEnds : Bool → ℕ → ℕ → Parts → Result ℕ DiskErr → Parts → Type 0

@@ -19,14 +19,14 @@ use Rattle.durable_write.proofs.Growing.{file_grows}
 use Rattle.durable_write.proofs.There.{contains_map}
 use Rattle.durable_write.proofs.Three.{same_cases}
 use Rattle.durable_write.specs.Plan.{of_row}
-use Rattle.tier_store.specs.Change.{IsKnown, Registers, Switches}
+use Rattle.tier_store.specs.Change.{IsKnown, Registers, Renames, Switches}
 use Rattle.tier_store.specs.Limbo.{IsListedName}
 use Rattle.tier_store.specs.Moving.{GoesBeside, parts_in}
 use Rattle.tier_store.specs.Seen.{Seen}
 use Rattle.tier_store.specs.Stores.{Stores, list_at, samples_in, tier, with_list, with_rows}
 use Rattle.tier_store.proofs.BesideMoves.{beside_itself}
 use Rattle.tier_store.proofs.Places.{list_other, manifest_at, tier_other}
-use Rattle.tier_store.proofs.Showing.{known_to, registers_on, switches_on}
+use Rattle.tier_store.proofs.Showing.{known_to, registers_on, renames_on, switches_on}
 use Rattle.act_model.specs.Machine.{MoveState}
 use Rattle.archive_core.specs.Growing.{FilesGoOn, HasRunning}
 use Rattle.archive_core.specs.Stands.{StoresGrow}
@@ -105,6 +105,9 @@ register_grows moves at name about s made known by = rows_grow moves at s made k
 
 pub switch_grows : (moves : FinMap nat_cmp MoveState) (at : Seen) (row : ℕ) (from to : State) (s made : Stores) → IsKnown at.catalogue at.manifests s → Switches row from to s made → StoresGrow moves s made
 switch_grows moves at row from to s made known by = rows_grow moves at s made known (switches_on row from to s made by)
+
+pub rename_grows : (moves : FinMap nat_cmp MoveState) (at : Seen) (row : ℕ) (name : List ℕ) (s made : Stores) → IsKnown at.catalogue at.manifests s → Renames row name s made → StoresGrow moves s made
+rename_grows moves at row name s made known by = rows_grow moves at s made known (renames_on row name s made by)
 
 pub still_named : (old new : Listing) (name : Name) → ListsStill old new → IsListedTo old name 0 → IsListedTo new name 0
 still_named old new name still to =

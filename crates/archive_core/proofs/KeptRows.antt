@@ -212,7 +212,7 @@ names_are rows kept ts rs are = go rs rows are.count (λ i r here. let is = are.
 -- ONE ROW CHANGES
 
 other_tail : (ts new : List TailState) (i : ℕ) (row : Row) (kept : RowMemory) (r : RowState) → (tail_at new i).samples ≡ (tail_at ts i).samples → IsRowOf ts i row kept r → IsRowOf new i row kept r
-other_tail ts new i row kept r same is = record { name = is.name; about = is.about; state = is.state; next = is.next; cell = is.cell; period = is.period; tail = is.tail ∙ sym same }
+other_tail ts new i row kept r same is = record { name = is.name; about = is.about; state = is.state; base = is.base; next = is.next; cell = is.cell; period = is.period; tail = is.tail ∙ sym same }
 
 -- the row of this number changes with what is kept of it and its tail
 pub rows_at : (rows : List Row) (kept : List RowMemory) (ts new : List TailState) (rs : List RowState) → AreRowsOf rows kept ts rs → (i : ℕ) (f : RowState → RowState) (memory : RowMemory) (row : Row) (r : RowState) → slice_get rows i ≡ Some row → slice_get rs i ≡ Some r → IsRowOf new i row memory (f r)

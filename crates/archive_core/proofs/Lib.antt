@@ -1,5 +1,6 @@
 pub mod Lists
 pub mod Windows
+pub mod Wholes
 pub mod PinMade
 pub mod Fronts
 pub mod KeptRows
@@ -26,6 +27,7 @@ pub mod Acting
 pub mod Switched
 pub mod Opened
 pub mod Registered
+pub mod Renamed
 pub mod Flushed
 pub mod PinActs
 pub mod Opens

@@ -17,7 +17,6 @@ use Rattle.durable_write.specs.Plan.{of_row}
 use Rattle.durable_write.proofs.Ahead.{contains_entry}
 use Rattle.tier_store.specs.Change.{Has, IsKnownAt}
 use Rattle.tier_store.specs.Pinned.{beside, Shows}
-use Rattle.tier_store.specs.Pinning.{placed_at, state_of}
 use Rattle.tier_store.specs.Retiring.{retired_of}
 use Rattle.tier_store.specs.Seen.{Seen}
 use Rattle.tier_store.specs.Stores.{Stores, list_at, tier}
@@ -29,7 +28,7 @@ use Rattle.act_model.specs.Machine.{Machine}
 use Rattle.act_model.specs.OpenPiece.{bytes_of, name_of, lines_of}
 use Rattle.act_model.specs.Rows.{RowState, Store}
 use Rattle.act_model.specs.Rule.{index_of}
-use Rattle.archive_core.specs.LimboTies.{IsRetiredOf}
+use Rattle.archive_core.specs.LimboTies.{IsRetiredOf, row_file}
 use Rattle.archive_core.specs.Stands.{HoldsDurable}
 use Rattle.archive_core.proofs.LimboLists.{from_filter}
 use Rattle.archive_core.proofs.Making.{kept_to}
@@ -43,7 +42,7 @@ module _ (tells : Bool) (at : Seen) (limbo : List Retired) (m : Machine) (s : St
 
   -- the file of the machine, and the retired one
   abbrev pub own : FileState
-  own = state_of i (placed_at store h)
+  own = row_file i store h
 
   abbrev pub file : Retired
   file = retired_of (index_of store + 1, at.catalogue.rows) h.entry
@@ -72,7 +71,7 @@ module _ (tells : Bool) (at : Seen) (limbo : List Retired) (m : Machine) (s : St
       name ∙ (ap (λ (o : Option Row). (index_of store + 1, path_of (held.name_of o) h.entry.part.name)) row_there ∙ ap (λ (t : List ℕ). (index_of store + 1, path_of t h.entry.part.name)) (sym row.is.name))
 
   size : h.entry.len ≡ length (bytes_of own)
-  size = filed.len ∙ ap length (sym (bytes_same i (placed_at store h)))
+  size = filed.len ∙ ap length (sym (bytes_same i store h))
 
   -- as long as it is listed it is shown
   shown : Shows tells (beside at limbo) file.name (bytes_of own)
@@ -90,7 +89,7 @@ module _ (tells : Bool) (at : Seen) (limbo : List Retired) (m : Machine) (s : St
         let stored = (has.disk told).each (index_of store) manifest.0 manifest.1 in
         let is_in = All-contains (IsIn (index_of store + 1, s.rows) at.files) listed h (stored.safe.left at.files (seen_now told) stands) from.0 in
         let name : file_of (index_of store + 1, s.rows) h.entry ≡ file.name = ap (λ (rows : List Row). file_of (index_of store + 1, rows) h.entry) (sym has.known.rows) in
-        subst (λ (bytes : List ℕ). Begins bytes (at.files file.name)) (sym (bytes_same i (placed_at store h))) (subst (λ (n : Name). Begins (held.bytes_of h) (at.files n)) name is_in);
+        subst (λ (bytes : List ℕ). Begins bytes (at.files file.name)) (sym (bytes_same i store h)) (subst (λ (n : Name). Begins (held.bytes_of h) (at.files n)) name is_in);
   }
 
   pub listed_is : IsRetiredOf tells (beside at limbo) m.rows own file

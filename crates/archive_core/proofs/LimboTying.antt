@@ -4,6 +4,8 @@ use Rattle.std.specs.List.{AllByRecursion}
 use Rattle.std.specs.Prelude.{◌↔◌, ◌==◌, Contains, slice_get, IsTrue}
 use Rattle.std.proofs.lemmas.Option.{same_Some}
 use Rattle.event_types.specs.declared.about.About.{About}
+use Rattle.event_types.specs.declared.about.State.{State}
+use Rattle.event_types.specs.declared.about.State.TheVariants.{Retired as RetiredState}
 use Rattle.disk_model.specs.Files.{Name}
 use Rattle.pv_catalog.specs.Rows.{KeepsRows}
 use Rattle.durable_write.proofs.Growing.{filed_grows}
@@ -12,12 +14,13 @@ use Rattle.tier_store.specs.Pinned.{SeenAll, beside, Shows, KeepsShown}
 use Rattle.tier_store.specs.Seen.{Seen, granularities}
 use Rattle.tier_store.specs.declared.limbo.Retired.{Retired}
 use Rattle.tier_store.proofs.Staying.{limbo_kept, listed_place, place_listed}
-use Rattle.act_model.specs.Changes.{changed, changed_rows, added, without_held, Retires, made, each}
+use Rattle.act_model.specs.Changes.{at, changed, changed_rows, added, without_held, Retires, made, each}
 use Rattle.act_model.specs.Limbo.{FileState, tier_at, IsThere, files_of, unlisted}
-use Rattle.act_model.specs.Machine.{Machine, Change, AddsRow, SetsState, Appends, Publishes, Unlists}
+use Rattle.act_model.specs.Machine.{Machine, Change, AddsRow, SetsState, Renames, Appends, Publishes, Unlists}
 use Rattle.act_model.specs.OpenPiece.{name_of, bytes_of}
-use Rattle.act_model.specs.Rows.{RowState, fresh_row, Store, Short, Medium, Long, tier, window, is_empty}
+use Rattle.act_model.specs.Rows.{RowState, fresh_row, renamed_row, Store, Short, Medium, Long, tier, window, is_empty}
 use Rattle.act_model.specs.Rule.{index_of}
+use Rattle.act_model.proofs.MadeLaws.{IsFresh, added_fresh, fresh, fresh_over}
 use Rattle.act_model.proofs.Rows.{Came, from_row, is_new, came, each_get}
 use Rattle.archive_core.specs.LimboTies.{IsRetiredOf, filed_of, AreBare, IsLimboOf, HasRetired, IsOneOf, AreRetired, AreUnlisted, NamesDiffer}
 use Rattle.archive_core.proofs.PinTies.{KeepsNames, names_stay}
@@ -99,6 +102,7 @@ none_at rows i store f bare = by_row (slice_get rows i) refl
 pub untold_retires : (m : Machine) (c : Change) → m.told ≡ false → AreBare m.rows → Retires m c []
 untold_retires m (AddsRow name about) off bare = refl
 untold_retires m (SetsState k state) off bare = refl
+untold_retires m (Renames k name) off bare = refl
 untold_retires m (Appends batch) off bare = refl
 untold_retires m (Publishes k store copied) off bare = refl
 untold_retires m (Unlists k store to) off bare = (tt, record { stays = λ n p here. free p.pieces }, λ on. (let both : true ≡ false = sym on ∙ off in absurd (cc (both))))
@@ -107,16 +111,20 @@ untold_retires m (Unlists k store to) off bare = (tt, record { stays = λ n p he
     free [] = tt
     free (piece ∷ pieces) = (λ own of_store ends some. (let none = none_at m.rows k store piece bare in let both : true ≡ false = sym none ∙ some in absurd (cc (both))), free pieces)
 
--- no change gives a row samples
-tier_stays : (limbo : List FileState) (c : Change) (i : ℕ) (row : RowState) (store : Store) → tier (changed false limbo c i row) store ≡ tier row store
-tier_stays limbo (AddsRow name about) i row store = refl
-tier_stays limbo (SetsState k state) i row store = by_test (i == k) store
+set_stays : (k : ℕ) (state : State) (i : ℕ) (row : RowState) (store : Store) → tier (at k (without_held state) i row) store ≡ tier row store
+set_stays k state i row store = by_test (i == k) store
   where
     by_test : (b : Bool) (store : Store) → tier (cond b (without_held state row) row) store ≡ tier row store
     by_test true Short = refl
     by_test true Medium = refl
     by_test true Long = refl
     by_test false store = refl
+
+-- no change gives a row samples
+tier_stays : (limbo : List FileState) (c : Change) (i : ℕ) (row : RowState) (store : Store) → tier (changed false limbo c i row) store ≡ tier row store
+tier_stays limbo (AddsRow name about) i row store = refl
+tier_stays limbo (SetsState k state) i row store = set_stays k state i row store
+tier_stays limbo (Renames k name) i row store = set_stays k RetiredState i row store
 tier_stays limbo (Appends batch) i row Short = refl
 tier_stays limbo (Appends batch) i row Medium = refl
 tier_stays limbo (Appends batch) i row Long = refl
@@ -136,20 +144,25 @@ fresh_tier name about Short = refl
 fresh_tier name about Medium = refl
 fresh_tier name about Long = refl
 
-none_added : (c : Change) (j : ℕ) (row : RowState) (store : Store) → slice_get (added c) j ≡ Some row → tier row store ≡ []
-none_added (AddsRow name about) zero row store here = ap (λ (r : RowState). tier r store) (sym (same_Some (fresh_row name about) row here)) ∙ fresh_tier name about store
-none_added (AddsRow name about) (suc j) row store here = absurd (cc (here))
-none_added (SetsState k state) j row store here = absurd (cc (here))
-none_added (Appends batch) j row store here = absurd (cc (here))
-none_added (Publishes k from copied) j row store here = absurd (cc (here))
-none_added (Unlists k from to) j row store here = absurd (cc (here))
+renamed_tier : (name : List ℕ) (k : ℕ) (old : RowState) (store : Store) → tier (renamed_row name k old) store ≡ []
+renamed_tier name k old Short = refl
+renamed_tier name k old Medium = refl
+renamed_tier name k old Long = refl
+
+-- nor has a row that one adds
+none_added : (c : Change) (rows : List RowState) (j : ℕ) (row : RowState) (store : Store) → slice_get (added c rows) j ≡ Some row → tier row store ≡ []
+none_added c rows j row store here = by_fresh (added_fresh c rows j row here).0
+  where
+    by_fresh : IsFresh c rows row → tier row store ≡ []
+    by_fresh (fresh name about is own) = ap (λ (r : RowState). tier r store) own ∙ fresh_tier name about store
+    by_fresh (fresh_over k name old is there own) = ap (λ (r : RowState). tier r store) own ∙ renamed_tier name k old store
 
 pub bare_made : (m : Machine) (c : Change) → m.told ≡ false → AreBare m.rows → AreBare (changed_rows m.told m.limbo c m.rows)
 bare_made m c off bare = subst (λ (t : Bool). AreBare (changed_rows t m.limbo c m.rows)) (sym off) (λ i row store here. by_row i row store (came false m.limbo c m.rows i row here))
   where
     by_row : (i : ℕ) (row : RowState) (store : Store) → Came false m.limbo c m.rows i row → tier row store ≡ []
     by_row i row store (from_row was here made_is) = ap (λ (r : RowState). tier r store) made_is ∙ (tier_stays m.limbo c i was store ∙ bare i was store here)
-    by_row i row store (is_new j at_is here) = none_added c j row store here
+    by_row i row store (is_new j at_is here) = none_added c m.rows j row store here
 
 pub tier_there : (rows : List RowState) (i : ℕ) (row : RowState) (store : Store) → slice_get rows i ≡ Some row → tier_at rows i store ≡ tier row store
 tier_there rows i row store here = rw here refl

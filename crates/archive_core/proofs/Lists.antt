@@ -45,6 +45,11 @@ get_front {A} [] ys i x here = absurd (cc (here))
 get_front {A} (y ∷ xs) ys zero x here = here
 get_front {A} (y ∷ xs) ys (suc i) x here = get_front xs ys i x here
 
+-- and behind it
+pub get_last : {A : Type 0} (xs : List A) (x : A) → slice_get (xs ++ x ∷ []) (length xs) ≡ Some x
+get_last {A} [] x = refl
+get_last {A} (y ∷ xs) x = get_last xs x
+
 pub get_map : {A B : Type 0} (v : A → B) (xs : List A) (k : ℕ) (x : A) → slice_get xs k ≡ Some x → slice_get (map v xs) k ≡ Some (v x)
 get_map {A} {B} v xs k x here = slice_get-map v xs k ∙ ap (option_map v) here
 

@@ -53,19 +53,19 @@ with_samples told store xs row = cond told (with_tier row store xs) row
 
 -- a row whose samples in the store are these
 row_with : (told : Bool) (store : Store) (xs : List Sample) (fs : List Filed) (old : Stores) (i : ℕ) (r : RowState) → (told ≡ true → samples_of i fs ≡ xs) → IsDurableAt told old i (kept_of r) → IsDurableAt told (with_list (index_of store) fs old) i (kept_of (with_samples told store xs r))
-row_with true Short xs fs old i r are it = record { row = it.row; here = it.here; is = record { name = it.is.name; about = it.is.about; state = it.is.state; short = λ on. sym (are on); medium = it.is.medium; long = it.is.long } }
-row_with true Medium xs fs old i r are it = record { row = it.row; here = it.here; is = record { name = it.is.name; about = it.is.about; state = it.is.state; short = it.is.short; medium = λ on. sym (are on); long = it.is.long } }
-row_with true Long xs fs old i r are it = record { row = it.row; here = it.here; is = record { name = it.is.name; about = it.is.about; state = it.is.state; short = it.is.short; medium = it.is.medium; long = λ on. sym (are on) } }
-row_with false store xs fs old i r are it = record { row = it.row; here = it.here; is = record { name = it.is.name; about = it.is.about; state = it.is.state; short = λ on. absurd (cc (on)); medium = λ on. absurd (cc (on)); long = λ on. absurd (cc (on)) } }
+row_with true Short xs fs old i r are it = record { row = it.row; here = it.here; is = record { name = it.is.name; about = it.is.about; state = it.is.state; base = it.is.base; short = λ on. sym (are on); medium = it.is.medium; long = it.is.long } }
+row_with true Medium xs fs old i r are it = record { row = it.row; here = it.here; is = record { name = it.is.name; about = it.is.about; state = it.is.state; base = it.is.base; short = it.is.short; medium = λ on. sym (are on); long = it.is.long } }
+row_with true Long xs fs old i r are it = record { row = it.row; here = it.here; is = record { name = it.is.name; about = it.is.about; state = it.is.state; base = it.is.base; short = it.is.short; medium = it.is.medium; long = λ on. sym (are on) } }
+row_with false store xs fs old i r are it = record { row = it.row; here = it.here; is = record { name = it.is.name; about = it.is.about; state = it.is.state; base = it.is.base; short = λ on. absurd (cc (on)); medium = λ on. absurd (cc (on)); long = λ on. absurd (cc (on)) } }
 
 -- a row of which the store has what it had
 row_still : (told : Bool) (store : Store) (fs : List Filed) (old : Stores) (i : ℕ) (d : DurableRow) → samples_of i fs ≡ samples_of i (list_at (index_of store) old) → IsDurableAt told old i d → IsDurableAt told (with_list (index_of store) fs old) i d
-row_still told Short fs old i d same it = record { row = it.row; here = it.here; is = record { name = it.is.name; about = it.is.about; state = it.is.state; short = λ on. it.is.short on ∙ sym same; medium = it.is.medium; long = it.is.long } }
-row_still told Medium fs old i d same it = record { row = it.row; here = it.here; is = record { name = it.is.name; about = it.is.about; state = it.is.state; short = it.is.short; medium = λ on. it.is.medium on ∙ sym same; long = it.is.long } }
-row_still told Long fs old i d same it = record { row = it.row; here = it.here; is = record { name = it.is.name; about = it.is.about; state = it.is.state; short = it.is.short; medium = it.is.medium; long = λ on. it.is.long on ∙ sym same } }
+row_still told Short fs old i d same it = record { row = it.row; here = it.here; is = record { name = it.is.name; about = it.is.about; state = it.is.state; base = it.is.base; short = λ on. it.is.short on ∙ sym same; medium = it.is.medium; long = it.is.long } }
+row_still told Medium fs old i d same it = record { row = it.row; here = it.here; is = record { name = it.is.name; about = it.is.about; state = it.is.state; base = it.is.base; short = it.is.short; medium = λ on. it.is.medium on ∙ sym same; long = it.is.long } }
+row_still told Long fs old i d same it = record { row = it.row; here = it.here; is = record { name = it.is.name; about = it.is.about; state = it.is.state; base = it.is.base; short = it.is.short; medium = it.is.medium; long = λ on. it.is.long on ∙ sym same } }
 
 -- a change of one row's samples in one store
-list_holds : (m : Machine) (c : Change) (store : Store) (k : ℕ) (xs : RowState → List Sample) (fs : List Filed) (old new : Stores) → new ≡ with_list (index_of store) fs old → added c ≡ []
+list_holds : (m : Machine) (c : Change) (store : Store) (k : ℕ) (xs : RowState → List Sample) (fs : List Filed) (old new : Stores) → new ≡ with_list (index_of store) fs old → added c m.rows ≡ []
     → ((i : ℕ) (r : RowState) → changed m.told m.limbo c i r ≡ at k (λ q. with_samples m.told store (xs q) q) i r)
     → (m.told ≡ true → (r : RowState) → slice_get m.rows k ≡ Some r → samples_of k fs ≡ xs r) → ((i : ℕ) → i ≢ k → samples_of i fs ≡ samples_of i (list_at (index_of store) old))
     → HoldsDurable old m → HoldsDurable new (made [] c m)

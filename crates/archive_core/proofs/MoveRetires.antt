@@ -22,7 +22,6 @@ use Rattle.store_manifest.specs.declared.entry.Entry.{Entry}
 use Rattle.durable_write.specs.Held.{Filed, IsFiled, entry_of, file_of}
 use Rattle.durable_write.specs.Held.{name_of as held_name}
 use Rattle.durable_write.specs.Plan.{of_row}
-use Rattle.tier_store.specs.Pinning.{placed_at, state_of}
 use Rattle.tier_store.specs.Retiring.{oldest}
 use Rattle.tier_store.specs.Stores.{Stores, list_at}
 use Rattle.act_model.specs.Changes.{IsRetired, StaysPinned, Retires}
@@ -34,6 +33,7 @@ use Rattle.act_model.specs.Rows.{RowState, Store, Long, same_store, window, is_e
 use Rattle.act_model.specs.Rule.{IsPartition, index_of}
 use Rattle.act_model.specs.Sound.{IsSound, PieceSound}
 use Rattle.act_model.specs.Sweep.{is_at, IsPinned}
+use Rattle.archive_core.specs.LimboTies.{row_file}
 use Rattle.archive_core.specs.MoveChoice.{HaveDurable, row_files}
 use Rattle.archive_core.specs.MoveTies.{ends_from}
 use Rattle.archive_core.specs.Stands.{HoldsDurable}
@@ -100,7 +100,7 @@ filter_apart test (x ∷ xs) differ = by_test (test x) (filter_apart test xs dif
 module _ (i : ℕ) (store : Store) where
   -- a file of the row as one of the machine
   abbrev pub own : Filed → FileState
-  own h = state_of i (placed_at store h)
+  own h = row_file i store h
 
   places_apart : (g : Granularity) (rows : List Row) (fs : List Filed) → All (IsFiled g rows) fs → AreApart fs → PlacesDiffer (map own fs)
   places_apart g rows [] filed apart = tt

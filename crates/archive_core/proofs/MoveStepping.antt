@@ -21,7 +21,7 @@ use Rattle.tier_store.specs.declared.limbo.Retired.{Retired}
 use Rattle.act_model.specs.Changes.{Settles, made, IsRetired}
 use Rattle.act_model.specs.Crash.{settled_there, with_change}
 use Rattle.act_model.specs.Limbo.{FileState}
-use Rattle.act_model.specs.Machine.{Machine, MoveState, Change, AddsRow, SetsState, Appends, Publishes, Unlists}
+use Rattle.act_model.specs.Machine.{Machine, MoveState, Change, AddsRow, SetsState, Renames, Appends, Publishes, Unlists}
 use Rattle.act_model.specs.MoveStep.{ends_move, GoesOn, MoveStepStep, change_of, copies, has_copied, publishes, retires, again, damaged, no_move, without_move}
 use Rattle.act_model.specs.Outcome.{faults_first, faults_between, faults_within, faults_removing, refused, refused_at_once, runs, wants_memory, wants_memory_settled}
 use Rattle.act_model.specs.Reply.{Reply}
@@ -94,6 +94,7 @@ pub ready_fewer : (kept : List RowMemory) (rows : List RowState) (moves : FinMap
 ready_fewer kept rows moves n None ready = tt
 ready_fewer kept rows moves n (Some (AddsRow name about)) ready = ready
 ready_fewer kept rows moves n (Some (SetsState i state)) ready = ready
+ready_fewer kept rows moves n (Some (Renames i name)) ready = ready
 ready_fewer kept rows moves n (Some (Appends batch)) ready = ready
 ready_fewer kept rows moves n (Some (Publishes i store copied)) ready = λ runs. ready (had_running moves n i runs)
 ready_fewer kept rows moves n (Some (Unlists i store to)) ready = λ runs. ready (had_running moves n i runs)

@@ -124,6 +124,14 @@ module _ (tells : Bool) (p : Parts) (m : Machine) (s : Stands tells p m) (name :
   abbrev pub IsPast : Type 0
   IsPast = (next : ℕ) → None ≡ admit_before (Some (record { is_running = is_running row.state; ty = number_of row.about.ty; next = next })) (number_of ty)
 
+  -- the row runs
+  past_running : IsPast → is_running r.state ≡ true
+  past_running why = by_test (is_running row.state) refl
+    where
+      by_test : (b : Bool) → is_running row.state ≡ b → is_running r.state ≡ true
+      by_test true up = ap is_running is.state ∙ up
+      by_test false off = absurd (let reason = why 0 in let other = rw off at reason in cc (other))
+
   -- how an offer ends to a row that isn't sampled
   by_trial : (o : Outcome) → IsPast → memory.scan ≡ None → tried m r x now (record { answer = Kept; after = with_rows m (at i (gains x)) }) ≡ o → offered_to m i r ty x now ≡ o
   by_trial o why scan is_o =
@@ -148,8 +156,8 @@ module _ (tells : Bool) (p : Parts) (m : Machine) (s : Stands tells p m) (name :
       let held : RowMemory = record memory { scan = Some (after sampled (Offered x)) } in
       let cell : (with_held x r).cell ≡ cell_in (Some (after sampled (Offered x))) = ap (λ (c : Cell). cell_after 0 c (Offered x)) (is.cell ∙ ap cell_in scan) in
       let period : period_in (Some (after sampled (Offered x))) ≡ period_of r.about.method = ap period_in (sym scan) ∙ is.period in
-      let own : IsRowOf new i row held (with_held x r) = record { name = is.name; about = is.about; state = is.state; next = is.next; cell = cell; period = period; tail = is.tail ∙ sym (keeps i) } in
-      let stands = row_stands tells p m s i (with_held x) held new row r row_here here own (λ j apart. keeps j) (λ q. refl) (offer_sound name ty x now m n Held s.sound event step) in
+      let own : IsRowOf new i row held (with_held x r) = record { name = is.name; about = is.about; state = is.state; base = is.base; next = is.next; cell = cell; period = period; tail = is.tail ∙ sym (keeps i) } in
+      let stands = row_stands tells p m s i (with_held x) held new row r row_here here (past_running why) own (λ j apart. keeps j) (λ q. refl) (offer_sound name ty x now m n Held s.sound event step) in
       (n, (step, λ told. absurd (cc (told))), subst (λ (w : RowMemory). Stands tells (record p { kept = slice_set p.kept i w; tails = new }) n) (sym set_is) stands)
   offer_ends event why offer.Kept new set (scan, tried, sets, set_is) =
       let n = with_rows m (at i (gains x)) in
@@ -158,8 +166,8 @@ module _ (tells : Bool) (p : Parts) (m : Machine) (s : Stands tells p m) (name :
       let step = found_step m n name i r ty x now Kept found here ends in
       let more : RowMemory = record memory { next = x.t + 1 } in
       let tail : (gains x r).tail ≡ (tail_at new i).samples = ap (λ (xs : List Sample). xs ++ x ∷ []) is.tail ∙ sym sets.own in
-      let own : IsRowOf new i row more (gains x r) = record { name = is.name; about = is.about; state = is.state; next = refl; cell = is.cell; period = is.period; tail = tail } in
-      let stands = row_stands tells p m s i (gains x) more new row r row_here here own sets.others (λ q. refl) (offer_sound name ty x now m n Kept s.sound event step) in
+      let own : IsRowOf new i row more (gains x r) = record { name = is.name; about = is.about; state = is.state; base = is.base; next = refl; cell = is.cell; period = is.period; tail = tail } in
+      let stands = row_stands tells p m s i (gains x) more new row r row_here here (past_running why) own sets.others (λ q. refl) (offer_sound name ty x now m n Kept s.sound event step) in
       (n, (step, λ told. absurd (cc (told))), subst (λ (w : RowMemory). Stands tells (record p { kept = slice_set p.kept i w; tails = new }) n) (sym set_is) stands)
   offer_ends event why (offer.Dropped reason) new set (scan, late, keeps, set_is) =
       ended (Dropped reason) (record p { kept = slice_set p.kept i set; tails = new }) (λ told. cc (told)) (by_trial (record { answer = Dropped reason; after = m }) why scan (trial (Err (refusal.Dropped reason)) late)) (still_stands tells p m new s keeps i memory set there set_is)
@@ -223,11 +231,12 @@ module _ (tells : Bool) (p : Parts) (m : Machine) (s : Stands tells p m) (i now 
         rw (here, period, running, late) ends
 
     -- what is kept of the row once it has moved on
-    moved_row : (new : List TailState) (f : RowState → RowState) (set : RowMemory) → (f r).name ≡ r.name → (f r).about ≡ r.about → (f r).state ≡ r.state → (f r).next ≡ set.next → (f r).cell ≡ cell_after sampled.period r.cell (Ticked now true) → set.scan ≡ Some (after sampled (Ticked now true)) → (f r).tail ≡ (tail_at new i).samples → IsRowOf new i row set (f r)
-    moved_row new f set name about state next moves set_scan tail = record {
+    moved_row : (new : List TailState) (f : RowState → RowState) (set : RowMemory) → (f r).name ≡ r.name → (f r).about ≡ r.about → (f r).state ≡ r.state → (f r).base ≡ r.base → (f r).next ≡ set.next → (f r).cell ≡ cell_after sampled.period r.cell (Ticked now true) → set.scan ≡ Some (after sampled (Ticked now true)) → (f r).tail ≡ (tail_at new i).samples → IsRowOf new i row set (f r)
+    moved_row new f set name about state base next moves set_scan tail = record {
       name = name ∙ is.name;
       about = about ∙ is.about;
       state = state ∙ is.state;
+      base = base ∙ is.base;
       next = next;
       cell = moves ∙ (ap (λ (c : Cell). cell_after sampled.period c (Ticked now true)) cell ∙ sym (ap cell_in set_scan));
       period = ap period_in set_scan ∙ (sym period ∙ sym (ap (λ a. period_of a.method) about));
@@ -241,8 +250,8 @@ module _ (tells : Bool) (p : Parts) (m : Machine) (s : Stands tells p m) (i now 
         moves reply other ends =
             let n = with_rows m (at i (tick.moved_on sampled.period now)) in
             let step = due_step due reply n ends in
-            let own = moved_row new (tick.moved_on sampled.period now) (moved_on memory sampled now) refl refl refl is.next refl refl (is.tail ∙ sym (keeps i)) in
-            let stands = row_stands tells p m s i (tick.moved_on sampled.period now) (moved_on memory sampled now) new row r row_here here own (λ j apart. keeps j) (λ q. refl) (tick_sound i now m n reply s.sound step) in
+            let own = moved_row new (tick.moved_on sampled.period now) (moved_on memory sampled now) refl refl refl refl is.next refl refl (is.tail ∙ sym (keeps i)) in
+            let stands = row_stands tells p m s i (tick.moved_on sampled.period now) (moved_on memory sampled now) new row r row_here here running own (λ j apart. keeps j) (λ q. refl) (tick_sound i now m n reply s.sound step) in
             (n, (step, λ told. absurd (other told)), subst (λ (w : RowMemory). Stands tells (record p { kept = slice_set p.kept i w; tails = new }) n) (sym set_is) stands)
     tick_ends due (answer.Dropped reason) new set (x, held, late, keeps, set_is) =
         let n = with_rows m (at i (tick.moved_on sampled.period now)) in
@@ -250,8 +259,8 @@ module _ (tells : Bool) (p : Parts) (m : Machine) (s : Stands tells p m) (i now 
         let why : admit_after r.next x.t now ≡ Some reason = ap (λ k. admit_after k x.t now) is.next ∙ late in
         let ends : Ends (ticked_due m i r sampled.period now) m (Dropped reason) n = rw (is_held, why) (inl (refl, refl)) in
         let step = due_step due (Dropped reason) n ends in
-        let own = moved_row new (tick.moved_on sampled.period now) (moved_on memory sampled now) refl refl refl is.next refl refl (is.tail ∙ sym (keeps i)) in
-        let stands = row_stands tells p m s i (tick.moved_on sampled.period now) (moved_on memory sampled now) new row r row_here here own (λ j apart. keeps j) (λ q. refl) (tick_sound i now m n (Dropped reason) s.sound step) in
+        let own = moved_row new (tick.moved_on sampled.period now) (moved_on memory sampled now) refl refl refl refl is.next refl refl (is.tail ∙ sym (keeps i)) in
+        let stands = row_stands tells p m s i (tick.moved_on sampled.period now) (moved_on memory sampled now) new row r row_here here running own (λ j apart. keeps j) (λ q. refl) (tick_sound i now m n (Dropped reason) s.sound step) in
         (n, (step, λ told. absurd (cc (told))), subst (λ (w : RowMemory). Stands tells (record p { kept = slice_set p.kept i w; tails = new }) n) (sym set_is) stands)
     tick_ends due (answer.IntakeFull bytes) new set (x, held, tried, keeps, set_is) =
         let is_held : r.cell.held ≡ Some x = ap (λ (c : Cell). c.held) cell ∙ held in
@@ -278,8 +287,8 @@ module _ (tells : Bool) (p : Parts) (m : Machine) (s : Stands tells p m) (i now 
         let step = due_step due (TickKept t) n ends in
         let more : RowMemory = record (moved_on memory sampled now) { next = x.t + 1 } in
         let tail : r.tail ++ x ∷ [] ≡ (tail_at new i).samples = ap (λ (xs : List Sample). xs ++ x ∷ []) is.tail ∙ sym sets.own in
-        let own = moved_row new (λ q. tick.moved_on sampled.period now (gains x q)) more refl refl refl refl refl refl tail in
-        let stands = row_stands tells p m s i (λ q. tick.moved_on sampled.period now (gains x q)) more new row r row_here here own sets.others (λ q. refl) (tick_sound i now m n (TickKept t) s.sound step) in
+        let own = moved_row new (λ q. tick.moved_on sampled.period now (gains x q)) more refl refl refl refl refl refl refl tail in
+        let stands = row_stands tells p m s i (λ q. tick.moved_on sampled.period now (gains x q)) more new row r row_here here running own sets.others (λ q. refl) (tick_sound i now m n (TickKept t) s.sound step) in
         (n, (step, λ told. absurd (cc (told))), subst (λ (w : RowMemory). Stands tells (record p { kept = slice_set p.kept i w; tails = new }) n) (sym set_is) stands)
     tick_ends due answer.NoRow new set none = absurd none
     tick_ends due (answer.NotDue d) new set none = absurd none

@@ -1,7 +1,7 @@
 -- The act that pins: what the stores' call makes of the machine, and which files the pieces of pins are.
 use Rattle.std.proofs.Common.{◌≡◌, ◌⊎◌, inl, inr, ℕ, ◌<◌, ◌≤◌, ◌^◌, List, [], ◌∷◌, length, map, Bool, true, false, cond, Option, Some, None, refl, sym, ◌∙◌, ap, subst, arith, ◌++◌, take, Result, Ok, Err}
 use Rattle.std.specs.FinMap.{FinMap, get, insert}
-use Rattle.std.specs.List.{AllByRecursion}
+use Rattle.std.specs.List.{AllByRecursion, flat_map}
 use Rattle.std.specs.Ordering.{nat_cmp}
 use Rattle.std.specs.Prelude.{IsSome, IsTrue, filter, slice_get, All, Contains, nat_eq}
 use Rattle.std.proofs.lemmas.List.{length-map}
@@ -12,6 +12,7 @@ use Rattle.event_types.specs.declared.about.About.{About}
 use Rattle.piece_choice.specs.declared.choosing.Listed.{Listed}
 use Rattle.pinned_pieces.specs.Pieces.{PinOf, asked}
 use Rattle.pinned_pieces.specs.declared.piece.PinnedFile.{PinnedFile}
+use Rattle.pv_catalog.specs.Lines.{line}
 use Rattle.pv_catalog.specs.Rows.{HasName}
 use Rattle.pv_catalog.specs.declared.row.Row.{Row}
 use Rattle.series_model.specs.declared.sample.Query.{Query}
@@ -23,17 +24,19 @@ use Rattle.durable_write.specs.Ends.{End, IsCut}
 use Rattle.tier_store.specs.Change.{Has, IsKnown}
 use Rattle.tier_store.specs.Opening.{end_of_answer, IsOpened, IsReaderOf, refusal}
 use Rattle.tier_store.specs.Pinned.{beside, PinsStand, IsShown}
-use Rattle.tier_store.specs.Pinning.{files_in, state_of, listed_of, piece_of, has_bytes, IsPinned, AreEnough, SaysPinned, none_has, is_pinned, Placed, placed, placed_at}
+use Rattle.tier_store.specs.Pinning.{files_in, files_of_line, state_of, listed_of, piece_of, has_bytes, IsPinned, AreEnough, SaysPinned, none_has, is_pinned, Placed, placed, placed_at}
 use Rattle.tier_store.specs.Seen.{granularities, Seen, IsSettled}
 use Rattle.tier_store.specs.Telling.{SaysOf}
-use Rattle.tier_store.specs.Stores.{Stores, list_at}
+use Rattle.tier_store.specs.Stores.{Stores, list_at, whole_in}
 use Rattle.act_model.specs.declared.acts.Answer.{Answer}
 use Rattle.act_model.specs.declared.acts.Answer.TheVariants as answer
 use Rattle.act_model.specs.Limbo.{FileState}
+use Rattle.act_model.specs.Details.{details_refused}
 use Rattle.act_model.specs.Machine.{Machine, PinState, find_row}
-use Rattle.act_model.specs.Pin.{Pins, pins, IsListedPiece, InOrder, over_pieces}
+use Rattle.act_model.specs.Pin.{Pins, pins, IsPieceOf, InOrder, over_pieces}
 use Rattle.act_model.specs.Reply.{Reply, reply_of}
 use Rattle.act_model.specs.Rows.{RowState, Short, durable, accepted, Store, Medium, Long}
+use Rattle.act_model.specs.Whole.{whole}
 use Rattle.act_model.proofs.PinActs.{pins_sound}
 use Rattle.archive_core.specs.Parts.{Parts}
 use Rattle.archive_core.specs.Ends.{AskEnds, is_spent, is_answered, disk_reply}
@@ -44,7 +47,8 @@ use Rattle.archive_core.proofs.Batches.{told_stands}
 use Rattle.archive_core.proofs.Changing.{rests_again}
 use Rattle.archive_core.proofs.KeptRows.{row_at}
 use Rattle.archive_core.proofs.Opens.{told_tells, OpenedAs, as_piece, as_fault, as_memory, opened_as}
-use Rattle.archive_core.proofs.Windows.{durable_is, part_listed, part_ordered, index_low}
+use Rattle.archive_core.proofs.Wholes.{accepted_held, part_in_line}
+use Rattle.archive_core.proofs.Windows.{index_low}
 use Rattle.archive_core.proofs.PinMade.{more_pins, get_inserted, pieces_are}
 use Rattle.archive_core.proofs.Registered.{find_some}
 use Rattle.archive_core.proofs.Settled.{rests_has}
@@ -52,7 +56,7 @@ use Rattle.archive_core.proofs.Standing.{pins_stand}
 use Rattle.tier_store.proofs.Framing.{frame_same}
 use Rattle.act_model.specs.declared.acts.Act.TheVariants.{Pin, OpenPiece}
 use Rattle.archive_core.proofs.Acting.{IsAct}
-use Rattle.std.proofs.lemmas.List.Elements.{All-contains, All-contains_itself, All-filter, All-from_recursion, All-map, All-same, All-weaker, Contains-append_cases, Contains-append_left, Contains-append_right}
+use Rattle.std.proofs.lemmas.List.Elements.{All-contains, All-contains_itself, All-filter, All-from_recursion, All-head, All-map, All-same, All-tail, All-weaker, Contains-append_cases, Contains-append_left, Contains-append_right}
 use Rattle.disk_model.specs.Files.{Name}
 use Rattle.disk_model.specs.declared.disk.DiskErr.{DiskErr}
 use Rattle.disk_model.specs.declared.disk.DiskErr.TheVariants.{Fault, Memory}
@@ -110,7 +114,7 @@ module _ (R : Type 0) (tells reader_tells : Bool) (bytes : R → List ℕ) (faul
   told_is : m.told ≡ true → IsTrue held.stands
   told_is = told_stands tells m.told held.stands r.stands.store.told
 
-  module _ (k : ℕ) (pin count : ℕ) (told : List ℕ) (about : About) (rest : List Sample) (named_k : HasName held.rows k name) (q : IsPinned held.rows (map listed_of (files_in k held)) who k query (tail_at p.tails i).samples p.pinned pinned pin told about count rest) (enough : AreEnough held k query (tail_at p.tails i).samples q.opened) where
+  module _ (k : ℕ) (pin count : ℕ) (told : List ℕ) (about : About) (rest : List Sample) (named_k : HasName held.rows k name) (q : IsPinned held.rows (map listed_of (files_of_line k held)) who k query (tail_at p.tails i).samples p.pinned pinned pin told about count rest) (enough : AreEnough held k query (tail_at p.tails i).samples q.opened) where
     abbrev own : PinOf
     own = record { owner = who; pieces = q.pieces }
 
@@ -131,7 +135,7 @@ module _ (R : Type 0) (tells reader_tells : Bool) (bytes : R → List ℕ) (faul
         (at.0, at.1, at.4.name ∙ (ap (λ (x : Row). x.name) one ∙ sym q.name_is), at.4.about ∙ (ap (λ (x : Row). x.about) one ∙ sym q.about_is), tail)
 
     -- with these pieces the machine makes the pin
-    with_pieces : (pieces : List FileState) → length pieces ≡ count → length pieces < 2 ^ 32 → (m.told ≡ true → AllByRecursion (IsListedPiece m.rule k row.0) pieces) → (m.told ≡ true → InOrder pieces) → (m.told ≡ true → answer_to (over (over_pieces [] pieces) row.0.tail) query ≡ answer_to (accepted row.0) query)
+    with_pieces : (pieces : List FileState) → length pieces ≡ count → length pieces < 2 ^ 32 → (m.told ≡ true → AllByRecursion (IsPieceOf m.rule m.rows k row.0) pieces) → (m.told ≡ true → InOrder pieces) → (m.told ≡ true → answer_to (over (over_pieces [] pieces) row.0.tail) query ≡ answer_to (whole accepted m.rows k) query)
         → IsPinOf tells (beside p.at p.limbo) m.told m.rows (record { owner = who; pieces = pieces }) own → Ends (answer.Pinned pin told about count rest)
     with_pieces pieces number few listed ordered answers is =
         let state : PinState = record { owner = who; pieces = pieces } in
@@ -160,7 +164,7 @@ module _ (R : Type 0) (tells reader_tells : Bool) (bytes : R → List ℕ) (faul
             let size = ap length q.are ∙ length-map (filter has_bytes q.opened) (piece_of held.rows) in
             let few = filter_few has_bytes q.opened in
             let count_is = q.number in
-            let most = enough.few in
+            let most = q.few in
             with_pieces (map (unknown k) q.pieces) (omega (arith, number, count_is)) (omega (arith, number, size, few, most))
             (λ on. untold off _ on) (λ on. untold off _ on) (λ on. untold off _ on)
             (record { owner = refl; number = sym number; pieces = λ on. untold off _ on })
@@ -169,22 +173,20 @@ module _ (R : Type 0) (tells reader_tells : Bool) (bytes : R → List ℕ) (faul
             let whole : filter has_bytes q.opened ≡ q.opened = enough.all stands in
             let of_files : q.pieces ≡ map (piece_of p.at.catalogue.rows) (map listed_of enough.files) = q.are ∙ (ap (map (piece_of held.rows)) (whole ∙ sym enough.are) ∙ ap (λ (rows : List Row). map (piece_of rows) (map listed_of enough.files)) (sym has.known.rows)) in
             let size = ap length of_files ∙ (length-map (map listed_of enough.files) (piece_of p.at.catalogue.rows) ∙ length-map enough.files listed_of) in
-            let number = length-map enough.files (state_of k) in
+            let number = length-map enough.files state_of in
             let count_is = q.number in
             let opened_size = ap length enough.are in
             let listed_size = length-map enough.files listed_of in
-            let most = enough.few in
+            let most = q.few in
             let gran : m.rule.granularity ≡ granularities p.at.manifests = r.stands.rule.granularity in
             let rising : IsRising (tail_at p.tails i).samples = subst (λ (xs : List Sample). IsRising xs) (row.4 ∙ q.tail_is) (RisesFrom-lower 0 (end_of (durable row.0)) row.0.tail (r.stands.sound.each_row k row.0 row.1).later (omega arith)) in
-            let durable_same = durable_is tells p.at m held has r.stands.store.holds gran r.stands.rule.headers on stands k row.0 row.1 in
+            let in_line = part_in_line m r.stands.sound tells p.at held has r.stands.store.holds gran r.stands.rule.headers on stands k row.0 row.1 enough.closed enough.files enough.behind enough.split in
             let tail_same : row.0.tail ≡ (tail_at p.tails i).samples = row.4 ∙ q.tail_is in
             let stand_now = stand r.stands.pins.stand in
             let there : get pinned pin ≡ Some own = ap (λ (x : FinMap nat_cmp PinOf). get x pin) q.made ∙ get_own in
-            with_pieces (map (state_of k) enough.files) (omega (arith, number, count_is, size)) (omega (arith, number, opened_size, listed_size, most))
-            (λ t. part_listed tells p.at m held has r.stands.store.holds gran r.stands.rule.headers on stands k row.0 row.1 enough.closed enough.files enough.behind enough.split)
-            (λ t. part_ordered tells p.at m held has r.stands.store.holds gran r.stands.rule.headers on stands k row.0 row.1 enough.closed enough.files enough.behind enough.split)
-            (λ t. ap (λ (xs : List Sample). answer_to (over (over_pieces [] (map (state_of k) enough.files)) xs) query) tail_same ∙ (enough.answers stands rising ∙ (ap (λ (xs : List Sample). answer_to (over xs (tail_at p.tails i).samples) query) (sym durable_same) ∙ ap (λ (xs : List Sample). answer_to (over (durable row.0) xs) query) (sym tail_same))))
-            (record { owner = refl; number = sym (number ∙ sym size); pieces = λ t. pieces_are tells (beside p.at p.limbo) m held has seen_now r.stands.store.holds (told_tells tells m.told held.stands r.stands.store.told on) stands k row.0 row.1 enough.closed enough.files enough.behind pinned pin own enough.split of_files there stand_now })
+            with_pieces (map state_of enough.files) (omega (arith, number, count_is, size)) (omega (arith, number, opened_size, listed_size, most)) (λ t. in_line.0) (λ t. in_line.1)
+            (λ t. ap (λ (xs : List Sample). answer_to (over (over_pieces [] (map state_of enough.files)) xs) query) tail_same ∙ (enough.answers stands rising ∙ ap (λ (xs : List Sample). answer_to xs query) (ap (λ (xs : List Sample). over (whole_in k held) xs) (sym tail_same) ∙ sym (accepted_held m r.stands.sound held r.stands.store.holds on k row.0 row.1))))
+            (record { owner = refl; number = sym (number ∙ sym size); pieces = λ t. pieces_are tells (beside p.at p.limbo) m held has seen_now r.stands.store.holds (told_tells tells m.told held.stands r.stands.store.told on) stands k enough.closed enough.files enough.behind pinned pin own enough.split of_files there stand_now })
           where
             get_own : get (insert p.pinned pin own) pin ≡ Some own
             get_own = get_inserted p.pinned pin own
@@ -194,9 +196,9 @@ module _ (R : Type 0) (tells reader_tells : Bool) (bytes : R → List ℕ) (faul
   by_says _ _ (none_has {held = s} none same) is = absurd (none i (subst (λ (rows : List Row). HasName rows i name) (has.known.rows ∙ sym (ap (λ (x : Stores). x.rows) is)) named))
   by_says _ _ (is_pinned {held = s} k pin count told about rest has q enough) is = moved s is k pin count told about rest has q enough
     where
-      moved : (s : Stores) → s ≡ held → (k pin count : ℕ) (told : List ℕ) (about : About) (rest : List Sample) → HasName s.rows k name → (q : IsPinned s.rows (map listed_of (files_in k s)) who k query (tail_at p.tails i).samples p.pinned pinned pin told about count rest) → AreEnough s k query (tail_at p.tails i).samples q.opened → Ends (answer.Pinned pin told about count rest)
+      moved : (s : Stores) → s ≡ held → (k pin count : ℕ) (told : List ℕ) (about : About) (rest : List Sample) → HasName s.rows k name → (q : IsPinned s.rows (map listed_of (files_of_line k s)) who k query (tail_at p.tails i).samples p.pinned pinned pin told about count rest) → AreEnough s k query (tail_at p.tails i).samples q.opened → Ends (answer.Pinned pin told about count rest)
       moved s is k pin count told about rest has q enough =
-          (subst (λ (x : Stores). (k pin count : ℕ) (told : List ℕ) (about : About) (rest : List Sample) → HasName x.rows k name → (q : IsPinned x.rows (map listed_of (files_in k x)) who k query (tail_at p.tails i).samples p.pinned pinned pin told about count rest) → AreEnough x k query (tail_at p.tails i).samples q.opened → Ends (answer.Pinned pin told about count rest)) (sym is) pin_made)
+          (subst (λ (x : Stores). (k pin count : ℕ) (told : List ℕ) (about : About) (rest : List Sample) → HasName x.rows k name → (q : IsPinned x.rows (map listed_of (files_of_line k x)) who k query (tail_at p.tails i).samples p.pinned pinned pin told about count rest) → AreEnough x k query (tail_at p.tails i).samples q.opened → Ends (answer.Pinned pin told about count rest)) (sym is) pin_made)
           k pin count told about rest has q enough
 
   pub pin_ends : Ends result
@@ -210,28 +212,30 @@ module _ (R : Type 0) (tells reader_tells : Bool) (bytes : R → List ℕ) (faul
   ]
 
 -- the count of faults is nothing to a pin
-pins_goes : (who : ℕ) (name : List ℕ) (query : Query) (m : Machine) (f : ℕ) (given : Reply) (new : Machine) → Pins who name query (record m { faults = f }) given new → Pins who name query m given new
+pub pins_goes : (who : ℕ) (name : List ℕ) (query : Query) (m : Machine) (f : ℕ) (given : Reply) (new : Machine) → Pins who name query (record m { faults = f }) given new → Pins who name query m given new
 pins_goes who name query m f _ new (pins i row pin pieces found here free least listed ordered answers few same) = pins i row pin pieces found here free least listed ordered answers few same
 
 -- it isn't told as want of memory
-pins_tell : (who : ℕ) (name : List ℕ) (query : Query) (m : Machine) (given : Reply) (new : Machine) → Pins who name query m given new → given ≡ answer.Memory → ⊥
+pub pins_tell : (who : ℕ) (name : List ℕ) (query : Query) (m : Machine) (given : Reply) (new : Machine) → Pins who name query m given new → given ≡ answer.Memory → ⊥
 pins_tell who name query m _ new (pins i row pin pieces found here free least listed ordered answers few same) told = cc (told)
 
-pub pins_act : (who : ℕ) (name : List ℕ) (query : Query) → IsAct who (Pin name query) (Pins who name query)
-pins_act who name query = record { refuses = λ m f. refl; changes = λ m f. refl; goes = pins_goes who name query; never = never_wants name; tells_more = pins_tell who name query; steps = λ m given new acts. acts; wants = λ m n none. none }
+abbrev pub pins_act : (who : ℕ) (name : List ℕ) (query : Query) → IsAct who (Pin name query) (Pins who name query)
+pins_act who name query = record { refuse = λ old. details_refused name; passes = λ old m is. is; counts = λ old m f. refl; refuses = λ m f. refl; changes = λ m f. refl; goes = pins_goes who name query; never = λ old. never_wants name; tells_more = pins_tell who name query; steps = λ m given new acts. acts; wants = λ m n none. none }
 
 -- THE FILES OF A PIN THAT IS MADE
 
 module _ (at : Seen) (held : Stores) (known : IsKnown at.catalogue at.manifests held) (i : ℕ) (name : List ℕ) (named : HasName held.rows i name) where
-  -- what is pinned of a file that a store lists of the row
-  piece_in : (store : Store) (p : Placed) → Contains (placed store i (list_at (index_of store) held)) p → IsPieceOfRow at name (piece_of at.catalogue.rows (listed_of p))
-  piece_in store p there = subst (λ (x : Placed). IsPieceOfRow at name (piece_of at.catalogue.rows (listed_of x))) f.2 (record {
+  -- what is pinned of a file that a store lists of a row of the line
+  piece_in : (k : ℕ) → Contains (line held.rows i) k → (store : Store) (p : Placed) → Contains (placed store k (list_at (index_of store) held)) p → IsPieceOfRow at name (piece_of at.catalogue.rows (listed_of p))
+  piece_in k among store p there = subst (λ (x : Placed). IsPieceOfRow at name (piece_of at.catalogue.rows (listed_of x))) f.2 (record {
     place = index_of store;
     manifest = m.0;
     here = m.1;
     entry = f.0.entry;
     listed = subst (λ (es : List Entry). Contains es f.0.entry) (sym (known.each (index_of store) m.0 m.1).entries) (map_in entry_of files f.0 within);
-    row = subst (λ (rows : List Row). HasName rows f.0.entry.series name) (sym known.rows) (subst (λ (k : ℕ). HasName held.rows k name) (sym series) named);
+    row = i;
+    named = subst (λ (rows : List Row). HasName rows i name) (sym known.rows) named;
+    among = subst (λ (rows : List Row). Contains (line rows i) f.0.entry.series) (sym known.rows) (subst (λ (n : ℕ). Contains (line held.rows i) n) (sym series) among);
     is = refl;
   })
     where
@@ -241,32 +245,38 @@ module _ (at : Seen) (held : Stores) (known : IsKnown at.catalogue at.manifests 
       m : (m : ManifestState) × (slice_get at.manifests (index_of store) ≡ Some m)
       m = let low = index_low store in let three = known.three in manifest_at at.manifests (index_of store) (omega (arith, low, three))
 
-      f : (f : Filed) × Contains (of_row i files) f × (placed_at store f ≡ p)
-      f = map_out (placed_at store) (of_row i files) p there
+      f : (f : Filed) × Contains (of_row k files) f × (placed_at store f ≡ p)
+      f = map_out (placed_at store) (of_row k files) p there
 
       within : Contains files f.0
-      within = All-contains (Contains files) (of_row i files) f.0 (All-filter (λ (x : Filed). nat_eq x.entry.series i) (Contains files) files (All-contains_itself files)) f.1
+      within = All-contains (Contains files) (of_row k files) f.0 (All-filter (λ (x : Filed). nat_eq x.entry.series k) (Contains files) files (All-contains_itself files)) f.1
 
-      series : f.0.entry.series ≡ i
-      series = All-contains (λ (x : Filed). x.entry.series ≡ i) (of_row i files) f.0 (All-from_recursion (λ (x : Filed). x.entry.series ≡ i) (of_row i files) (own_series i files)) f.1
+      series : f.0.entry.series ≡ k
+      series = All-contains (λ (x : Filed). x.entry.series ≡ k) (of_row k files) f.0 (All-from_recursion (λ (x : Filed). x.entry.series ≡ k) (of_row k files) (own_series k files)) f.1
 
-  piece_of_row : (p : Placed) → Contains (files_in i held) p → IsPieceOfRow at name (piece_of at.catalogue.rows (listed_of p))
-  piece_of_row p there = elim (Contains-append_cases (placed Long i held.long ++ placed Medium i held.medium) (placed Short i held.short) p there) [
-    | inl deeper ↦ elim (Contains-append_cases (placed Long i held.long) (placed Medium i held.medium) p deeper) [
-      | inl long ↦ piece_in Long p long
-      | inr medium ↦ piece_in Medium p medium
-    ]
-    | inr short ↦ piece_in Short p short
-  ]
+  piece_of_row : (ks : List ℕ) → All (Contains (line held.rows i)) ks → (p : Placed) → Contains (flat_map (λ (k : ℕ). files_in k held) ks) p → IsPieceOfRow at name (piece_of at.catalogue.rows (listed_of p))
+  piece_of_row [] among p (n, low, is) = absurd (omega (arith, low))
+  piece_of_row (k ∷ ks) among p there =
+      let own : Contains (line held.rows i) k = All-head (Contains (line held.rows i)) k ks among in
+      elim (Contains-append_cases (files_in k held) (flat_map (λ (j : ℕ). files_in j held) ks) p there) [
+        | inl here ↦ elim (Contains-append_cases (placed Long k held.long ++ placed Medium k held.medium) (placed Short k held.short) p here) [
+          | inl deeper ↦ elim (Contains-append_cases (placed Long k held.long) (placed Medium k held.medium) p deeper) [
+            | inl long ↦ piece_in k own Long p long
+            | inr medium ↦ piece_in k own Medium p medium
+          ]
+          | inr short ↦ piece_in k own Short p short
+        ]
+        | inr rest ↦ piece_of_row ks (All-tail (Contains (line held.rows i)) k ks among) p rest
+      ]
 
-  pieces_of_row : (closed files behind : List Placed) (opened : List Listed) → files_in i held ≡ closed ++ (files ++ behind) → map listed_of files ≡ opened → All (IsPieceOfRow at name) (map (piece_of at.catalogue.rows) (filter has_bytes opened))
+  pieces_of_row : (closed files behind : List Placed) (opened : List Listed) → files_of_line i held ≡ closed ++ (files ++ behind) → map listed_of files ≡ opened → All (IsPieceOfRow at name) (map (piece_of at.catalogue.rows) (filter has_bytes opened))
   pieces_of_row closed files behind opened split are = All-map (IsPieceOfRow at name) (piece_of at.catalogue.rows) (filter has_bytes opened) (All-filter has_bytes (λ (l : Listed). IsPieceOfRow at name (piece_of at.catalogue.rows l)) opened each)
     where
       each : All (λ (l : Listed). IsPieceOfRow at name (piece_of at.catalogue.rows l)) opened
       each = subst (λ (ls : List Listed). All (λ (l : Listed). IsPieceOfRow at name (piece_of at.catalogue.rows l)) ls) are
           (All-map (λ (l : Listed). IsPieceOfRow at name (piece_of at.catalogue.rows l)) listed_of files
           (All-weaker (Contains files) (λ (p : Placed). IsPieceOfRow at name (piece_of at.catalogue.rows (listed_of p)))
-          (λ p there. piece_of_row p (subst (λ (ps : List Placed). Contains ps p) (sym split) (Contains-append_right closed (files ++ behind) p (Contains-append_left files behind p there)))) files (All-contains_itself files)))
+          (λ p there. piece_of_row (line held.rows i) (All-contains_itself (line held.rows i)) p (subst (λ (ps : List Placed). Contains ps p) (sym split) (Contains-append_right closed (files ++ behind) p (Contains-append_left files behind p there)))) files (All-contains_itself files)))
 
 -- the stores' answer, by what they say of what is held
 pins_by : (R : Type 0) (tells reader_tells : Bool) (bytes : R → List ℕ) (faults : R → ℕ) (p q : Parts) (who : ℕ) (name : List ℕ) (query : Query) (tail : List Sample) (held : Stores) (given : Answer R) → IsKnown q.at.catalogue q.at.manifests held → (q.at.catalogue ≡ p.at.catalogue) × (q.at.manifests ≡ p.at.manifests)

@@ -15,7 +15,7 @@ use Rattle.act_model.specs.OpenPiece.{name_of}
 use Rattle.act_model.specs.Rows.{RowState}
 use Rattle.archive_core.specs.Pins.{HasFileOf, ArePinsOf}
 use Rattle.archive_core.proofs.Lists.{get_front}
-use Rattle.act_model.proofs.Onward.{each_forward}
+use Rattle.act_model.proofs.Rows.{each_forward}
 
 -- the row of this number has a row of the same name
 pub record HasNamed (later : List RowState) (i : ℕ) (r : RowState) : Type 0 where
@@ -62,7 +62,7 @@ names_at k f rows stays = names_each (at k f) rows (at_name k f (λ r. ap (λ (d
 pub names_made : (m : Machine) (c : Change) → ((i : ℕ) (r : RowState) → (changed m.told m.limbo c i r).name ≡ r.name) → KeepsNames m.rows (made [] c m).rows
 names_made m c same = λ i r here.
     let is = names_each (changed m.told m.limbo c) m.rows same i r here in
-    record { row = is.row; here = get_front (each (changed m.told m.limbo c) 0 m.rows) (added c) i is.row is.here; name = is.name }
+    record { row = is.row; here = get_front (each (changed m.told m.limbo c) 0 m.rows) (added c m.rows) i is.row is.here; name = is.name }
 
 pub state_name : (m : Machine) (k : ℕ) (to : State) (i : ℕ) (r : RowState) → (changed m.told m.limbo (SetsState k to) i r).name ≡ r.name
 state_name m k to i r = at_name k (without_held to) (λ q. refl) i r

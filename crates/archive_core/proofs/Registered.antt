@@ -145,13 +145,13 @@ module _ (tells : Bool) (p : Parts) (m : Machine) (s : Stands tells p m) (name :
 
 -- MEMORY
 
-take_get : {A : Type 0} (n : ℕ) (xs ys : List A) (i : ℕ) (x : A) → i < n → slice_get xs i ≡ Some x → slice_get (take n xs ++ ys) i ≡ Some x
+pub take_get : {A : Type 0} (n : ℕ) (xs ys : List A) (i : ℕ) (x : A) → i < n → slice_get xs i ≡ Some x → slice_get (take n xs ++ ys) i ≡ Some x
 take_get {A} zero xs ys i x low here = absurd (omega (arith, low))
 take_get {A} (suc n) [] ys i x low here = absurd (cc (here))
 take_get {A} (suc n) (y ∷ xs) ys zero x low here = here
 take_get {A} (suc n) (y ∷ xs) ys (suc i) x low here = take_get n xs ys i x (omega (arith, low)) here
 
-take_last : {A : Type 0} (n : ℕ) (xs : List A) (x : A) → n ≤ length xs → slice_get (take n xs ++ x ∷ []) n ≡ Some x
+pub take_last : {A : Type 0} (n : ℕ) (xs : List A) (x : A) → n ≤ length xs → slice_get (take n xs ++ x ∷ []) n ≡ Some x
 take_last {A} zero xs x low = refl
 take_last {A} (suc n) [] x low = absurd (omega (arith, low))
 take_last {A} (suc n) (y ∷ xs) x low = take_last n xs x (omega (arith, low))
@@ -168,7 +168,7 @@ rows_cut rows kept more ts rs are = record {
 }
 
 -- each row has its memory
-many_kept : (rows : List Row) (kept : List RowMemory) (ts : List TailState) (rs : List RowState) → AreRowsOf rows kept ts rs → length rows ≤ length kept
+pub many_kept : (rows : List Row) (kept : List RowMemory) (ts : List TailState) (rs : List RowState) → AreRowsOf rows kept ts rs → length rows ≤ length kept
 many_kept rows kept ts rs are = by_count (length rows) refl
   where
     last : (n : ℕ) → length rows ≡ suc n → length rows ≤ length kept
@@ -182,6 +182,10 @@ many_kept rows kept ts rs are = by_count (length rows) refl
     by_count : (n : ℕ) → length rows ≡ n → length rows ≤ length kept
     by_count zero is = omega (arith, is)
     by_count (suc n) is = last n is
+
+-- so where there was no memory for one more
+pub rows_cut_short : (rows : List Row) (kept : List RowMemory) (ts : List TailState) (rs : List RowState) → AreRowsOf rows kept ts rs → AreRowsOf rows (take (length rows) kept) ts rs
+rows_cut_short rows kept ts rs are = subst (λ (ks : List RowMemory). AreRowsOf rows ks ts rs) (append-nil (take (length rows) kept)) (rows_cut rows kept [] ts rs are)
 
 -- THE STORES' CALL
 
@@ -209,10 +213,6 @@ module _ (tells : Bool) (p : Parts) (m : Machine) (r : Rests tells p m) (name : 
   pub row_unclear : (rows : List Row) → IsCleared rows (Some kind.Row) more_kept more_kept
   row_unclear rows = record { other = λ none. refl; own = λ k state is. absurd (cc (is)) }
 
-  -- there was no memory for the row's
-  pub row_unkept : AreRowsOf p.at.catalogue.rows (take (length p.at.catalogue.rows) p.kept) p.tails m.rows
-  row_unkept = subst (λ (ks : List RowMemory). AreRowsOf p.at.catalogue.rows ks p.tails m.rows) (append-nil (take (length p.at.catalogue.rows) p.kept)) (rows_cut p.at.catalogue.rows p.kept [] p.tails m.rows r.stands.rows)
-
   -- what the call tells of a row that was added, and that it refuses none that may be added
   pub row_number : (new : Seen) (id : ℕ) → Changes tells (registering name about) p.at new (Done id) → id ≡ length p.at.catalogue.rows
   row_number new id changes = (changes.ends r.stands.store.before (rests_has tells p m r)).2 ∙ ap length (sym (rests_has tells p m r).known.rows)
@@ -223,7 +223,7 @@ module _ (tells : Bool) (p : Parts) (m : Machine) (r : Rests tells p m) (name : 
 -- THE ACT
 
 -- the count of faults is nothing to the refusals
-counted : (name : List ℕ) (m : Machine) (f : ℕ) → register_refused name (record m { faults = f }) ≡ register_refused name m
+pub counted : (name : List ℕ) (m : Machine) (f : ℕ) → register_refused name (record m { faults = f }) ≡ register_refused name m
 counted name m f = by_found (find_row m name) refl
   where
     by_key : find_row m name ≡ None → (o : Option ℕ) → with_key m name ≡ o → register_refused name (record m { faults = f }) ≡ register_refused name m
@@ -235,7 +235,7 @@ counted name m f = by_found (find_row m name) refl
     by_found (Some i) is = rw is refl
 
 -- no refusal is want of memory
-never_wants : (name : List ℕ) (m : Machine) → register_refused name m ≡ Some answer.Memory → ⊥
+pub never_wants : (name : List ℕ) (m : Machine) → register_refused name m ≡ Some answer.Memory → ⊥
 never_wants name m is = by_found (find_row m name) refl
   where
     by_room : (b : Bool) → nat_le 65536 (length m.rows) ≡ b → find_row m name ≡ None → with_key m name ≡ None → ⊥
@@ -251,11 +251,11 @@ never_wants name m is = by_found (find_row m name) refl
     by_found (Some i) found = let told : register_refused name m ≡ Some (answer.NameTaken i) = rw found refl in let both = sym told ∙ is in cc (both)
 
 -- nor is the answer that a row was added
-registers_tells : (name : List ℕ) (about : About) (m : Machine) (given : Reply) (new : Machine) → Registers name about m given new → given ≡ answer.Memory → ⊥
+pub registers_tells : (name : List ℕ) (about : About) (m : Machine) (given : Reply) (new : Machine) → Registers name about m given new → given ≡ answer.Memory → ⊥
 registers_tells name about m given new ran told = let both = sym ran.0 ∙ told in cc (both)
 
-pub registers_act : (who : ℕ) (name : List ℕ) (about : About) → IsAct who (Register name about) (Registers name about)
-registers_act who name about = record { refuses = counted name; changes = λ m f. refl; goes = λ m f given new ran. ran; never = never_wants name; tells_more = registers_tells name about; steps = λ m given new acts. acts; wants = λ m n none. none }
+abbrev pub registers_act : (who : ℕ) (name : List ℕ) (about : About) → IsAct who (Register name about) (Registers name about)
+registers_act who name about = record { refuse = λ old. register_refused name; passes = λ old m is. is; counts = λ old. counted name; refuses = counted name; changes = λ m f. refl; goes = λ m f given new ran. ran; never = λ old. never_wants name; tells_more = registers_tells name about; steps = λ m given new acts. acts; wants = λ m n none. none }
 
 -- how it is answered
 abbrev pub RegisterEnds : Bool → ℕ → List ℕ → About → Parts → Result ℕ RegisterErr → Parts → Type 0

@@ -18,7 +18,6 @@ use Rattle.durable_write.specs.Held.{Filed, Shelf, entry_of}
 use Rattle.tier_store.specs.Change.{Has, IsKnown}
 use Rattle.tier_store.specs.Limbo.{LimboStands, IsListedName}
 use Rattle.tier_store.specs.Pinned.{SeenAll, beside, KeepsShown}
-use Rattle.tier_store.specs.Pinning.{placed_at, state_of}
 use Rattle.tier_store.specs.Retiring.{AreOldest, Enter, HandedOver, Leaves, StayOrEnter, ShowsKept, oldest, retired_of, without_oldest}
 use Rattle.tier_store.specs.Seen.{Seen, granularities}
 use Rattle.tier_store.specs.Stores.{Stores}
@@ -33,7 +32,7 @@ use Rattle.act_model.specs.OpenPiece.{name_of}
 use Rattle.act_model.specs.Rows.{RowState, Store, Long}
 use Rattle.act_model.specs.Rule.{index_of}
 use Rattle.act_model.specs.Sound.{IsSound}
-use Rattle.archive_core.specs.LimboTies.{IsRetiredOf, HasRetired, IsOneOf, NamesDiffer, IsLimboOf}
+use Rattle.archive_core.specs.LimboTies.{IsRetiredOf, HasRetired, IsOneOf, NamesDiffer, IsLimboOf, row_file}
 use Rattle.archive_core.specs.MoveChoice.{HaveDurable}
 use Rattle.archive_core.specs.MoveTies.{ends_from}
 use Rattle.archive_core.specs.Retiring.{IsRetiring, SettlesRetired}
@@ -168,7 +167,7 @@ retiring_stays tells old new limbo told rows later before after i store to keeps
   number = is.number;
   same = is.same;
   ends = is.ends;
-  handed = λ on h there. let own = is.handed on h there in record { file = own.file; within = own.within; is = retired_stays tells (beside old limbo) (beside new limbo) rows later (state_of i (placed_at store h)) own.file keeps own.within own.is };
+  handed = λ on h there. let own = is.handed on h there in record { file = own.file; within = own.within; is = retired_stays tells (beside old limbo) (beside new limbo) rows later (row_file i store h) own.file keeps own.within own.is };
 }
 
 -- THE DOUBT IS SETTLED

@@ -5,7 +5,7 @@ use Rattle.series_model.specs.Series.{since, end_of}
 use Rattle.series_model.specs.declared.sample.Sample.{Sample}
 use Rattle.act_model.specs.Changes.{at, changed, published, retired, each, made, IsRetired, added, without_held, Retires}
 use Rattle.act_model.specs.Limbo.{FileState, files_of, put, tier_at, unlisted}
-use Rattle.act_model.specs.Machine.{Machine, Publishes, Unlists, Change, AddsRow, SetsState, Appends, MoveState}
+use Rattle.act_model.specs.Machine.{Machine, Publishes, Unlists, Change, AddsRow, SetsState, Renames, Appends, MoveState}
 use Rattle.act_model.specs.Rows.{RowState, Store, Short, Medium, Long, next_store, tier, with_tier, period_of, same_store, window, is_empty}
 use Rattle.std.specs.List.{AllByRecursion}
 use Rattle.append_buffer.specs.Tails.{TailState}
@@ -16,12 +16,13 @@ use Rattle.archive_core.specs.declared.memory.RowMemory.{RowMemory}
 use Rattle.archive_core.specs.Memory.{AreRowsOf}
 use Rattle.std.proofs.lemmas.Bool.Decides.{nat_tests}
 use Rattle.event_types.specs.declared.about.State.{State}
+use Rattle.event_types.specs.declared.about.State.TheVariants.{Retired as RetiredState}
 use Rattle.act_model.specs.Sound.{IsSound, IsUnlisted, LimboSound}
 use Rattle.archive_core.proofs.Lists.{element, get_front, map_out}
 use Rattle.archive_core.proofs.MovesKept.{SameLater, goes_still, moves_stay, move_stays, same_put, SourceGoesOn, reach, source_stays}
 use Rattle.archive_core.proofs.SameNames.{all_of, of_all}
 use Rattle.std.proofs.lemmas.List.Elements.{Contains-append_cases, All-contains}
-use Rattle.act_model.proofs.Onward.{each_forward}
+use Rattle.act_model.proofs.Rows.{each_forward}
 use Rattle.std.specs.FinMap.{FinMap, get}
 use Rattle.std.specs.Ordering.{nat_cmp}
 use Rattle.disk_model.specs.Files.{Name}
@@ -59,17 +60,18 @@ pub record SameRow (a b : RowState) : Type 0 where
   pub name : a.name ≡ b.name
   pub about : a.about ≡ b.about
   pub state : a.state ≡ b.state
+  pub base : a.base ≡ b.base
   pub next : a.next ≡ b.next
   pub tail : a.tail ≡ b.tail
   pub cell : a.cell ≡ b.cell
 
 same_row : (r : RowState) → SameRow r r
-same_row r = record { name = refl; about = refl; state = refl; next = refl; tail = refl; cell = refl }
+same_row r = record { name = refl; about = refl; state = refl; base = refl; next = refl; tail = refl; cell = refl }
 
 with_same : (r : RowState) (store : Store) (xs : List Sample) → SameRow (with_tier r store xs) r
-with_same r Short xs = record { name = refl; about = refl; state = refl; next = refl; tail = refl; cell = refl }
-with_same r Medium xs = record { name = refl; about = refl; state = refl; next = refl; tail = refl; cell = refl }
-with_same r Long xs = record { name = refl; about = refl; state = refl; next = refl; tail = refl; cell = refl }
+with_same r Short xs = record { name = refl; about = refl; state = refl; base = refl; next = refl; tail = refl; cell = refl }
+with_same r Medium xs = record { name = refl; about = refl; state = refl; base = refl; next = refl; tail = refl; cell = refl }
+with_same r Long xs = record { name = refl; about = refl; state = refl; base = refl; next = refl; tail = refl; cell = refl }
 
 published_same : (told : Bool) (limbo : List FileState) (store : Store) (xs : List Sample) (r : RowState) → SameRow (published told limbo store xs r) r
 published_same true limbo store xs r = with_same r store (put xs limbo (tier r store))
@@ -120,6 +122,7 @@ rows_unlisted rows kept tails m k store to are = record {
           name = same.name ∙ was.is.name;
           about = same.about ∙ was.is.about;
           state = same.state ∙ was.is.state;
+          base = same.base ∙ was.is.base;
           next = same.next ∙ was.is.next;
           cell = same.cell ∙ was.is.cell;
           period = was.is.period ∙ ap (λ (a : About). period_of a.method) (sym same.about);
@@ -139,6 +142,7 @@ of_retired m k store to (f ∷ into) all = (all.0.row, of_retired m k store to i
 abbrev pub IsEarly : (ℕ → Type 0) → Change → Type 0
 IsEarly Of (AddsRow name about) = Unit {0}
 IsEarly Of (SetsState i state) = Unit {0}
+IsEarly Of (Renames i name) = Unit {0}
 IsEarly Of (Appends batch) = Unit {0}
 IsEarly Of (Publishes i store copied) = Of i → ⊥
 IsEarly Of (Unlists i store to) = Of i → ⊥
@@ -159,6 +163,7 @@ other_row k f i r apart = let test : (i == k) ≡ false = grind (arith, nat_test
 tier_there : (Of : ℕ → Type 0) (told : Bool) (limbo : List FileState) (c : Change) → IsEarly Of c → (i : ℕ) → Of i → (r : RowState) (store : Store) → tier (changed told limbo c i r) (next_store store) ≡ tier r (next_store store)
 tier_there Of told limbo (AddsRow name about) early i of r store = refl
 tier_there Of told limbo (SetsState k state) early i of r store = set_there k state i r store
+tier_there Of told limbo (Renames k name) early i of r store = set_there k RetiredState i r store
 tier_there Of told limbo (Appends batch) early i of r Short = refl
 tier_there Of told limbo (Appends batch) early i of r Medium = refl
 tier_there Of told limbo (Appends batch) early i of r Long = refl
@@ -206,7 +211,7 @@ same_into Of m into c sound early apart = record {
     lists_same i store of low =
         let was = element m.rows i low in
         let own = was.1 in
-        let now : slice_get (made into c m).rows i ≡ Some (changed m.told m.limbo c (0 + i) was.0) = get_front (each (changed m.told m.limbo c) 0 m.rows) (added c) i (changed m.told m.limbo c (0 + i) was.0) (each_forward (changed m.told m.limbo c) 0 m.rows i was.0 own) in
+        let now : slice_get (made into c m).rows i ≡ Some (changed m.told m.limbo c (0 + i) was.0) = get_front (each (changed m.told m.limbo c) 0 m.rows) (added c m.rows) i (changed m.told m.limbo c (0 + i) was.0) (each_forward (changed m.told m.limbo c) 0 m.rows i was.0 own) in
         let plain : 0 + i ≡ i = omega arith in
         rw (now, own) (tier_there Of m.told m.limbo c early (0 + i) (subst Of (sym plain) of) was.0 store)
 

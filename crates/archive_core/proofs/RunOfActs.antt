@@ -65,13 +65,13 @@ holds_within gs start mid end left act image xs ys t s before after is own holds
       extends = λ i first here.
           let one = first_on.rows t i first here in
           let two = further.rows told i one.0 one.1 in
-          (two.0, two.1, prefix_trans (durable first) (durable one.0) (durable two.0) one.2.durable_on two.2.durable_on);
+          (two.0, two.1, two.2.base ∙ one.2.base, prefix_trans (durable first) (durable one.0) (durable two.0) one.2.durable_on two.2.durable_on);
       extended = λ i row here some. by_row told later i row some (crash_within act mid left told sound is i row here);
     }
   where
-    by_row : mid.told ≡ true → Onward mid end → (i : ℕ) (row : RowState) → (durable row ≡ [] → ⊥) → Between mid.rows i row → (last : RowState) × (slice_get end.rows i ≡ Some last) × IsPrefix (durable row) (accepted last)
+    by_row : mid.told ≡ true → Onward mid end → (i : ℕ) (row : RowState) → (durable row ≡ [] → ⊥) → Between mid.rows i row → (last : RowState) × (slice_get end.rows i ≡ Some last) × (last.base ≡ row.base) × IsPrefix (durable row) (accepted last)
     by_row told later i row some (of_no_row none) = absurd (some none)
-    by_row told later i row some (of_row_there m there p q) = let step = later.rows told i m there in (step.0, step.1, prefix_trans (durable row) (accepted m) (accepted step.0) q step.2.accepted_on)
+    by_row told later i row some (of_row_there m there base p q) = let step = later.rows told i m there in (step.0, step.1, step.2.base ∙ sym base, prefix_trans (durable row) (accepted m) (accepted step.0) q step.2.accepted_on)
 
 -- a crash within an act is one within the same act of a longer run
 in_more : (at : Machine) (back : List Entry) (e : Entry) (left : Machine) → LeftIn at back left → LeftIn at (back ++ e ∷ []) left
@@ -96,7 +96,7 @@ holds_on gs start mid end done e image told later h = record {
   extended = λ i row here some.
       let one = h.extended i row here some in
       let two = later.rows told i one.0 one.1 in
-      (two.0, two.1, prefix_trans (durable row) (accepted one.0) (accepted two.0) one.2 two.2.accepted_on);
+      (two.0, two.1, two.2.base ∙ one.2, prefix_trans (durable row) (accepted one.0) (accepted two.0) one.3 two.2.accepted_on);
 }
 
 -- no act was made

@@ -6,10 +6,11 @@ use Rattle.std.specs.Ordering.{nat_cmp}
 use Rattle.std.specs.Prelude.{◌==◌, ◌&&◌, IsTrue, slice_get, slice_set, map}
 use Rattle.std.proofs.lemmas.Bool.Decides.{nat_tests}
 use Rattle.std.proofs.lemmas.List.{length-map}
-use Rattle.std.proofs.lemmas.Option.{same_Some}
+use Rattle.std.proofs.lemmas.Option.{same_Some, slice_get_within}
 use Rattle.append_buffer.specs.Tails.{TailState, tail_at}
 use Rattle.event_types.specs.declared.about.About.{About}
 use Rattle.event_types.specs.declared.about.State.{State}
+use Rattle.event_types.specs.declared.about.State.TheVariants.{Retired as RetiredState}
 use Rattle.pv_catalog.specs.Catalogue.{HasState}
 use Rattle.pv_catalog.specs.declared.row.Row.{Row}
 use Rattle.sampler.specs.Row.{SampledRow, after}
@@ -29,12 +30,12 @@ use Rattle.tier_store.specs.Revival.{AreWhole}
 use Rattle.tier_store.specs.Seen.{Seen, IsSettled, granularities}
 use Rattle.tier_store.specs.Stores.{Stores, list_at, samples_in}
 use Rattle.tier_store.specs.declared.limbo.Retired.{Retired}
-use Rattle.act_model.specs.Changes.{each, at, changed, made, of_row, Settles, no_doubt, as_not_made, as_made, without_held}
+use Rattle.act_model.specs.Changes.{added, each, at, changed, made, of_row, Retires, Settles, no_doubt, as_not_made, as_made, without_held}
 use Rattle.act_model.specs.Crash.{kept_of, kept}
 use Rattle.act_model.specs.Limbo.{FileState}
-use Rattle.act_model.specs.Machine.{Machine, MoveState, PinState, Change, AddsRow, SetsState, Appends, Publishes, Unlists}
-use Rattle.act_model.specs.Rows.{RowState, Store, fresh_row, next_store, period_of}
-use Rattle.act_model.proofs.Rows.{Came, from_row, is_new, came, more_rows}
+use Rattle.act_model.specs.Machine.{Machine, MoveState, PinState, Change, AddsRow, SetsState, Renames, Appends, Publishes, Unlists}
+use Rattle.act_model.specs.Rows.{RowState, Store, fresh_row, renamed_row, next_store, period_of}
+use Rattle.act_model.proofs.Rows.{Came, from_row, is_new, came, each_forward, more_rows}
 use Rattle.act_model.specs.Rule.{index_of}
 use Rattle.act_model.specs.Sound.{IsSound, MayMake}
 use Rattle.act_model.proofs.StepLaws.{settled_sound, settled_none}
@@ -47,7 +48,7 @@ use Rattle.archive_core.proofs.Growth.{same_grow}
 use Rattle.archive_core.proofs.KeptRows.{sampling_period, sampling_cell}
 use Rattle.archive_core.proofs.LimboTying.{limbo_beside, limbo_changed, limbo_held}
 use Rattle.archive_core.proofs.Making.{kept_to, taken_later}
-use Rattle.archive_core.proofs.RetiredRows.{listed_same, same_made, moves_settled, row_came, unlisted_there}
+use Rattle.archive_core.proofs.RetiredRows.{IsEarly, listed_same, same_made, moves_settled, row_came, unlisted_there}
 use Rattle.archive_core.proofs.MovesKept.{reach_ends, source_ends, SameLater, leaves_ahead, moves_stay, same_later, same_put, reach, source_on}
 use Rattle.archive_core.proofs.MoveChoice.{next_high, next_low, store_low}
 use Rattle.archive_core.proofs.PinTies.{KeepsNames, names_stay, names_made, state_name, pins_stay}
@@ -55,7 +56,7 @@ use Rattle.archive_core.specs.Flushing.{GivesUp, ListsBatch, IsTrimmed}
 use Rattle.archive_core.specs.Growing.{HasRunning}
 use Rattle.archive_core.specs.LimboTies.{IsLimboOf}
 use Rattle.archive_core.specs.MoveTies.{AreMovesOf}
-use Rattle.archive_core.specs.Memory.{IsRowAt, AreRowsOf, cell_in, period_in, fresh_memory, cleared, IsCleared}
+use Rattle.archive_core.specs.Memory.{IsRowAt, AreRowsOf, cell_in, period_in, fresh_memory, renamed_memory, cleared, set_by, IsCleared}
 use Rattle.archive_core.specs.Parts.{Parts}
 use Rattle.archive_core.specs.Pins.{ArePinsOf}
 use Rattle.archive_core.specs.Stands.{Stands, Rests, StoresGo, StoresGrow, InDoubt, IsPartOf, IsReady, IsDoubtOf, AreDurable, HoldsDurable}
@@ -65,7 +66,6 @@ use Rattle.archive_core.proofs.RetiredLimbo.{names_unlisted}
 use Rattle.archive_core.proofs.StoresGoing.{go_beside}
 use Rattle.archive_core.proofs.Lists.{same_or_not, get_set_same, get_front}
 use Rattle.durable_write.proofs.Three.{get_set_other}
-use Rattle.act_model.proofs.Onward.{each_forward}
 
 -- WHAT IS KEPT IN MEMORY ALONE
 
@@ -93,28 +93,34 @@ rows_of told s kept ts rs are durable = record {
   each = λ i r here.
       let old = are.each i r here in
       let new = durable.each i (kept_of r) (kept_to rs i r here) in
-      record { row = new.row; memory = old.0; here = new.here; there = old.1; is = record { name = new.is.name; about = new.is.about; state = new.is.state; next = old.2.next; cell = old.2.cell; period = old.2.period; tail = old.2.tail } };
+      record { row = new.row; memory = old.0; here = new.here; there = old.1; is = record { name = new.is.name; about = new.is.about; state = new.is.state; base = new.is.base; next = old.2.next; cell = old.2.cell; period = old.2.period; tail = old.2.tail } };
   beyond = are.beyond;
 }
 
--- a row was added, whose memory was there
+-- of each row that a change adds the memory is there
+abbrev AreReady : Machine → List RowMemory → List TailState → Change → Type 0
+AreReady m kept ts c = (j : ℕ) (r : RowState) → slice_get (added c m.rows) j ≡ Some r → (memory : RowMemory) × (slice_get kept (length m.rows + j) ≡ Some memory) × IsKeptOf ts (length m.rows + j) memory r
+
+-- so it is of one that takes samples from this moment on
+one_ready : (m : Machine) (kept : List RowMemory) (ts : List TailState) (own : RowState) (about : About) (next : ℕ) → AreKeptOf kept ts m.rows → slice_get kept (length m.rows) ≡ Some (renamed_memory about next) → own.about ≡ about → own.next ≡ next → own.cell ≡ first_cell → own.tail ≡ []
+    → (j : ℕ) (r : RowState) → slice_get (own ∷ []) j ≡ Some r → (memory : RowMemory) × (slice_get kept (length m.rows + j) ≡ Some memory) × IsKeptOf ts (length m.rows + j) memory r
+one_ready m kept ts own about next are ready about_is next_is cell tail zero r here =
+    let plain : length m.rows ≡ length m.rows + 0 = omega arith in
+    let none = are.beyond (length m.rows + 0) (omega arith) in
+    let is : IsKeptOf ts (length m.rows + 0) (renamed_memory about next) own = record { next = next_is; cell = cell ∙ sampling_cell about.method; period = sampling_period about.method ∙ sym (ap (λ (a : About). period_of a.method) about_is); tail = tail ∙ sym none } in
+    (renamed_memory about next, ap (slice_get kept) (sym plain) ∙ ready, subst (λ (q : RowState). IsKeptOf ts (length m.rows + 0) (renamed_memory about next) q) (same_Some own r here) is)
+one_ready m kept ts own about next are ready about_is next_is cell tail (suc j) r here = absurd (cc (here))
+
+-- a row was added
 kept_added : (m : Machine) (kept : List RowMemory) (ts : List TailState) (name : List ℕ) (about : About) → AreKeptOf kept ts m.rows → slice_get kept (length m.rows) ≡ Some (fresh_memory about) → AreKeptOf kept ts (made [] (AddsRow name about) m).rows
 kept_added m kept ts name about are ready = record {
   each = λ i r here. by_row i r (came m.told m.limbo (AddsRow name about) m.rows i r here);
   beyond = λ i high. are.beyond i (let more = more_rows m.told m.limbo (AddsRow name about) m.rows in omega (arith, high, more));
 }
   where
-    of_fresh : (i : ℕ) (r : RowState) (j : ℕ) → i ≡ length m.rows + j → slice_get (fresh_row name about ∷ []) j ≡ Some r → (memory : RowMemory) × (slice_get kept i ≡ Some memory) × IsKeptOf ts i memory r
-    of_fresh i r zero at_is here =
-        let plain : length m.rows ≡ i = omega (arith, at_is) in
-        let none = are.beyond i (omega (arith, at_is)) in
-        let own : IsKeptOf ts i (fresh_memory about) (fresh_row name about) = record { next = refl; cell = sampling_cell about.method; period = sampling_period about.method; tail = sym none } in
-        (fresh_memory about, subst (λ (k : ℕ). slice_get kept k ≡ Some (fresh_memory about)) plain ready, subst (λ (q : RowState). IsKeptOf ts i (fresh_memory about) q) (same_Some (fresh_row name about) r here) own)
-    of_fresh i r (suc j) at_is here = absurd (cc (here))
-
     by_row : (i : ℕ) (r : RowState) → Came m.told m.limbo (AddsRow name about) m.rows i r → (memory : RowMemory) × (slice_get kept i ≡ Some memory) × IsKeptOf ts i memory r
     by_row i r (from_row was here made_is) = subst (λ (q : RowState). (memory : RowMemory) × (slice_get kept i ≡ Some memory) × IsKeptOf ts i memory q) (sym made_is) (are.each i was here)
-    by_row i r (is_new j at_is here) = of_fresh i r j at_is here
+    by_row i r (is_new j at_is here) = subst (λ (k : ℕ). (memory : RowMemory) × (slice_get kept k ≡ Some memory) × IsKeptOf ts k memory r) (sym at_is) (one_ready m kept ts (fresh_row name about) about 0 are ready refl refl refl refl j r here)
 
 cleared_cell : (memory : RowMemory) → first_cell ≡ cell_in (cleared memory).scan
 cleared_cell memory = by_scan memory.next memory.scan
@@ -130,10 +136,12 @@ cleared_period memory = by_scan memory.next memory.scan
     by_scan next None = refl
     by_scan next (Some sampled) = refl
 
-kept_cleared : (m : Machine) (kept : List RowMemory) (ts : List TailState) (k : ℕ) (to : State) (memory : RowMemory) → AreKeptOf kept ts m.rows → slice_get kept k ≡ Some memory → AreKeptOf (slice_set kept k (cleared memory)) ts (made [] (SetsState k to) m).rows
-kept_cleared m kept ts k to memory are there = record {
-  each = λ i r here. by_row i r (came m.told m.limbo (SetsState k to) m.rows i r here);
-  beyond = λ i high. are.beyond i (let more = more_rows m.told m.limbo (SetsState k to) m.rows in omega (arith, high, more));
+-- a row's state was set, and a row may have been added
+kept_cleared : (m : Machine) (kept : List RowMemory) (ts : List TailState) (c : Change) (k : ℕ) (to : State) (memory : RowMemory) → ((i : ℕ) (r : RowState) → changed m.told m.limbo c i r ≡ at k (without_held to) i r) → AreKeptOf kept ts m.rows → slice_get kept k ≡ Some memory → k < length m.rows → AreReady m kept ts c
+    → AreKeptOf (slice_set kept k (cleared memory)) ts (made [] c m).rows
+kept_cleared m kept ts c k to memory sets are there low ready = record {
+  each = λ i r here. by_row i r (came m.told m.limbo c m.rows i r here);
+  beyond = λ i high. are.beyond i (let more = more_rows m.told m.limbo c m.rows in omega (arith, high, more));
 }
   where
     by_place : (i : ℕ) (was : RowState) → slice_get m.rows i ≡ Some was → (i ≡ k) ⊎ (i ≢ k) → (own : RowMemory) × (slice_get (slice_set kept k (cleared memory)) i ≡ Some own) × IsKeptOf ts i own (at k (without_held to) i was)
@@ -148,9 +156,11 @@ kept_cleared m kept ts k to memory are there = record {
         let old = are.each i was here in
         (old.0, get_set_other kept k i (cleared memory) apart ∙ old.1, rw test old.2)
 
-    by_row : (i : ℕ) (r : RowState) → Came m.told m.limbo (SetsState k to) m.rows i r → (own : RowMemory) × (slice_get (slice_set kept k (cleared memory)) i ≡ Some own) × IsKeptOf ts i own r
-    by_row i r (from_row was here made_is) = subst (λ (q : RowState). (own : RowMemory) × (slice_get (slice_set kept k (cleared memory)) i ≡ Some own) × IsKeptOf ts i own q) (sym made_is) (by_place i was here (same_or_not i k))
-    by_row i r (is_new j at_is here) = absurd (cc (here))
+    by_row : (i : ℕ) (r : RowState) → Came m.told m.limbo c m.rows i r → (own : RowMemory) × (slice_get (slice_set kept k (cleared memory)) i ≡ Some own) × IsKeptOf ts i own r
+    by_row i r (from_row was here made_is) = subst (λ (q : RowState). (own : RowMemory) × (slice_get (slice_set kept k (cleared memory)) i ≡ Some own) × IsKeptOf ts i own q) (sym (made_is ∙ sets i was)) (by_place i was here (same_or_not i k))
+    by_row i r (is_new j at_is here) =
+        let own = ready j r here in
+        subst (λ (n : ℕ). (own : RowMemory) × (slice_get (slice_set kept k (cleared memory)) n ≡ Some own) × IsKeptOf ts n own r) (sym at_is) (own.0, get_set_other kept k (length m.rows + j) (cleared memory) (λ same. omega (arith, same, low)) ∙ own.1, own.2)
 
 -- what a move had copied was listed
 kept_listed : (m : Machine) (kept : List RowMemory) (ts : List TailState) (k : ℕ) (store : Store) (copied : List Sample) → AreKeptOf kept ts m.rows → AreKeptOf kept ts (made [] (Publishes k store copied) m).rows
@@ -201,9 +211,36 @@ kept_flushed m kept old new batch are all rising gives = record {
 abbrev pub Takes : Change → List TailState → List TailState → Type 0
 Takes (AddsRow name about) old new = new ≡ old
 Takes (SetsState k to) old new = new ≡ old
+Takes (Renames k name) old new = new ≡ old
 Takes (Appends batch) old new = GivesUp batch old new
 Takes (Publishes i store copied) old new = new ≡ old
 Takes (Unlists i store to) old new = ⊥
+
+-- the row whose state a change sets, with that state
+abbrev sets : Option Change → Option (ℕ × State)
+sets None = None
+sets (Some (AddsRow name about)) = None
+sets (Some (SetsState k to)) = Some (k, to)
+sets (Some (Renames k name)) = Some (k, RetiredState)
+sets (Some (Appends batch)) = None
+sets (Some (Publishes i store copied)) = None
+sets (Some (Unlists i store to)) = None
+
+-- the archive keeps the same of it
+set_same : (o : Option Doubt) (d : Option Change) → IsDoubtOf o d → set_by o ≡ sets d
+set_same None None doubt = refl
+set_same None (Some (AddsRow name about)) doubt = absurd doubt
+set_same None (Some (SetsState k to)) doubt = absurd doubt
+set_same None (Some (Renames k name)) doubt = absurd doubt
+set_same None (Some (Appends batch)) doubt = absurd doubt
+set_same None (Some (Publishes i store copied)) doubt = absurd doubt
+set_same None (Some (Unlists i store to)) doubt = refl
+set_same (Some own) None doubt = absurd doubt
+set_same (Some kind.Row) (Some c) (name, about, is) = ap (λ (x : Change). sets (Some x)) (sym is)
+set_same (Some (kind.State row to)) (Some c) is = ap (λ (x : Change). sets (Some x)) (sym is)
+set_same (Some (kind.Rename old)) (Some c) (name, is) = ap (λ (x : Change). sets (Some x)) (sym is)
+set_same (Some (kind.Flush batch)) (Some c) is = ap (λ (x : Change). sets (Some x)) (sym is)
+set_same (Some kind.Published) (Some c) (row, store, copied, is) = ap (λ (x : Change). sets (Some x)) (sym is)
 
 -- THE SETTLED ARCHIVE
 
@@ -302,18 +339,11 @@ module _ (tells : Bool) (p : Parts) (m : Machine) (s : Stands tells p m) (new : 
   pub rests : (tails : List TailState) (mid : Machine) (held : Stores) → Reaches tails mid held → Rests tells (settled_parts p new kept tails) (record mid { faults = new.faults })
   rests tails mid held r = (rests_at tails mid held r).0
 
-  doubt_state : (o : Option Doubt) (d : Option Change) → IsDoubtOf o d → (k : ℕ) (to : State) → o ≡ Some (kind.State k to) → d ≡ Some (SetsState k to)
-  doubt_state None d doubt k to is = absurd (cc (is))
-  doubt_state (Some kind.Row) d doubt k to is = absurd (cc (is))
-  doubt_state (Some (kind.State row state)) None doubt k to is = absurd doubt
-  doubt_state (Some (kind.Flush batch)) d doubt k to is = absurd (cc (is))
-  doubt_state (Some kind.Published) d doubt k to is = absurd (cc (is))
-  doubt_state (Some (kind.State row state)) (Some c) doubt k to is = let own : kind.State row state ≡ kind.State k to = same_Some (kind.State row state) (kind.State k to) is in cc (own, doubt)
-
   doubt_flush : (o : Option Doubt) (d : Option Change) → IsDoubtOf o d → (batch : List RowSamples) → o ≡ Some (kind.Flush batch) → d ≡ Some (Appends batch)
   doubt_flush None d doubt batch is = absurd (cc (is))
   doubt_flush (Some kind.Row) d doubt batch is = absurd (cc (is))
   doubt_flush (Some (kind.State row state)) d doubt batch is = absurd (cc (is))
+  doubt_flush (Some (kind.Rename old)) d doubt batch is = absurd (cc (is))
   doubt_flush (Some kind.Published) d doubt batch is = absurd (cc (is))
   doubt_flush (Some (kind.Flush own)) None doubt batch is = absurd doubt
   doubt_flush (Some (kind.Flush own)) (Some c) doubt batch is = let same : kind.Flush own ≡ kind.Flush batch = same_Some (kind.Flush own) (kind.Flush batch) is in cc (same, doubt)
@@ -322,6 +352,7 @@ module _ (tells : Bool) (p : Parts) (m : Machine) (s : Stands tells p m) (new : 
   flush_doubt None batch doubt = absurd doubt
   flush_doubt (Some kind.Row) batch doubt = absurd (let wrong = doubt.2 in cc (wrong))
   flush_doubt (Some (kind.State row state)) batch doubt = absurd (cc (doubt))
+  flush_doubt (Some (kind.Rename old)) batch doubt = absurd (let wrong = doubt.1 in cc (wrong))
   flush_doubt (Some kind.Published) batch doubt = absurd (let wrong = doubt.3 in cc (wrong))
   flush_doubt (Some (kind.Flush own)) batch doubt = cc (doubt)
 
@@ -343,12 +374,33 @@ module _ (tells : Bool) (p : Parts) (m : Machine) (s : Stands tells p m) (new : 
   not_made : (tails : List TailState) → tails ≡ p.tails → IsCleared s.store.before.rows p.doubt p.kept kept → Has tells new s.store.before → (mid : Machine) × Reaches tails mid s.store.before
   not_made tails same_tails memory has = by_doubt m.doubt refl
     where
-      unset : (k : ℕ) (to : State) → p.doubt ≡ Some (kind.State k to) → HasState s.store.before.rows k to → ⊥
+      -- the row has another state than the doubted one
+      other : (d : Option Change) → m.doubt ≡ d → (k : ℕ) (to : State) → sets d ≡ Some (k, to) → (r : RowState) × (slice_get m.rows k ≡ Some r) × (r.state ≢ to)
+      other None is k to set = absurd (cc (set))
+      other (Some (AddsRow name about)) is k to set = absurd (cc (set))
+      other (Some (SetsState i state)) is k to set =
+          let ready = subst (λ (d : Option Change). IsReady p.kept m.rows m.moves d) is s.ready in
+          let own = same_Some (i, state) (k, to) set in
+          let row : i ≡ k = ap (λ (x : ℕ × State). x.0) own in
+          let same : state ≡ to = ap (λ (x : ℕ × State). x.1) own in
+          (ready.0, ap (slice_get m.rows) (sym row) ∙ ready.1, λ is. ready.2 (is ∙ sym same))
+      other (Some (Renames i name)) is k to set =
+          let ready = subst (λ (d : Option Change). IsReady p.kept m.rows m.moves d) is s.ready in
+          let own = same_Some (i, RetiredState) (k, to) set in
+          let row : i ≡ k = ap (λ (x : ℕ × State). x.0) own in
+          let same : RetiredState ≡ to = ap (λ (x : ℕ × State). x.1) own in
+          let paused = (s.sound.doubted (Renames i name) is).0.paused ready.0 ready.1 in
+          (ready.0, ap (slice_get m.rows) (sym row) ∙ ready.1, λ is. cc (is, same, paused))
+      other (Some (Appends batch)) is k to set = absurd (cc (set))
+      other (Some (Publishes i store copied)) is k to set = absurd (cc (set))
+      other (Some (Unlists i store until)) is k to set = absurd (cc (set))
+
+      unset : (k : ℕ) (to : State) → set_by p.doubt ≡ Some (k, to) → HasState s.store.before.rows k to → ⊥
       unset k to is has_it =
-          let ready = subst (λ (d : Option Change). IsReady p.kept m.rows m.moves d) (doubt_state p.doubt m.doubt s.doubt k to is) s.ready in
-          let at = s.store.holds.each k (kept_of ready.0) (kept_to m.rows k ready.0 ready.1) in
+          let r = other m.doubt refl k to (sym (set_same p.doubt m.doubt s.doubt) ∙ is) in
+          let at = s.store.holds.each k (kept_of r.0) (kept_to m.rows k r.0 r.1) in
           let same : at.row ≡ has_it.row = same_Some at.row has_it.row (sym at.here ∙ has_it.here) in
-          ready.2 (at.is.state ∙ (ap (λ (w : Row). w.state) same ∙ has_it.is))
+          r.2 (at.is.state ∙ (ap (λ (w : Row). w.state) same ∙ has_it.is))
 
       same : kept ≡ p.kept
       same = memory.other unset
@@ -367,61 +419,64 @@ module _ (tells : Bool) (p : Parts) (m : Machine) (s : Stands tells p m) (new : 
   abbrev pub with_change : Change → Machine
   with_change c = record (made [] c m) { doubt = None }
 
-  -- the doubted state was set
-  made_state : (k : ℕ) (to : State) → m.doubt ≡ Some (SetsState k to) → (after : Stores) → GrewFrom tells p.at new p.limbo p.slots m.told m.rows m.limbo m.moves after → m.told ≡ (tells && after.stands) → HoldsDurable after (made [] (SetsState k to) m) → IsReady p.kept m.rows m.moves (Some (SetsState k to)) → IsCleared after.rows p.doubt p.kept kept → Has tells new after → Reaches p.tails (with_change (SetsState k to)) after
-  made_state k to is after grow told holds ready memory has = by_own p.doubt refl (subst (λ (d : Option Change). IsDoubtOf p.doubt d) is s.doubt)
+  -- so it is reached, where no file goes to limbo for it
+  reaches : (c : Change) → m.doubt ≡ Some c → Retires m c [] → IsEarly (HasRunning m.moves) c → ((i : ℕ) (r : RowState) → (changed m.told m.limbo c i r).name ≡ r.name) → (after : Stores) → GrewFrom tells p.at new p.limbo p.slots m.told m.rows m.limbo m.moves after → m.told ≡ (tells && after.stands) → HoldsDurable after (made [] c m) → Has tells new after
+      → (tails : List TailState) → AreKeptOf kept tails (made [] c m).rows → Reaches tails (with_change c) after
+  reaches c is retires early named after grow told holds has tails memory =
+      let names = names_made m c named in
+      record {
+        settles = as_made c [] is retires;
+        has = has;
+        told = told;
+        disk = grow.disk;
+        same_told = refl;
+        names = names;
+        holds = holds;
+        whole = grow.whole;
+        memory = memory;
+        rule = refl;
+        limbo = changed_limbo c names after grow told holds has;
+        pins = refl;
+        moves = grow.moves (made [] c m).rows (made [] c m).limbo (same_made (HasRunning m.moves) m c s.sound early);
+        doors = refl;
+      }
+
+  -- where the doubted change sets no state, what is kept of rows stays
+  same_kept : (c : Change) (rows : List Row) → m.doubt ≡ Some c → sets (Some c) ≡ None → IsCleared rows p.doubt p.kept kept → kept ≡ p.kept
+  same_kept c rows is none memory = memory.other (λ k to set has_it. let own = sym (set_same p.doubt m.doubt s.doubt) ∙ set in let other = ap sets is ∙ none in absurd (cc (own, other)))
+
+  stays_kept : (c : Change) (rows : List Row) → m.doubt ≡ Some c → sets (Some c) ≡ None → IsCleared rows p.doubt p.kept kept → (tails : List TailState) → AreKeptOf p.kept tails (made [] c m).rows → AreKeptOf kept tails (made [] c m).rows
+  stays_kept c rows is none memory tails are = subst (λ (ks : List RowMemory). AreKeptOf ks tails (made [] c m).rows) (sym (same_kept c rows is none memory)) are
+
+  -- where it sets one, that of the row is cleared
+  set_kept : (c : Change) (k : ℕ) (to : State) (r : RowState) (after : Stores) → m.doubt ≡ Some c → sets (Some c) ≡ Some (k, to) → ((i : ℕ) (q : RowState) → changed m.told m.limbo c i q ≡ at k (without_held to) i q) → slice_get m.rows k ≡ Some r → HoldsDurable after (made [] c m) → AreReady m p.kept p.tails c → IsCleared after.rows p.doubt p.kept kept
+      → AreKeptOf kept p.tails (made [] c m).rows
+  set_kept c k to r after is sets_it changes here holds ready memory =
+      subst (λ (ks : List RowMemory). AreKeptOf ks p.tails (made [] c m).rows) (sym (memory.own k to (set_same p.doubt m.doubt s.doubt ∙ (ap sets is ∙ sets_it)) has_it at_row.memory at_row.there))
+      (kept_cleared m p.kept p.tails c k to at_row.memory changes same_memory at_row.there (slice_get_within m.rows k r here) ready)
     where
-      at_row : IsRowAt p.at.catalogue.rows p.kept p.tails k ready.0
-      at_row = s.rows.each k ready.0 ready.1
+      at_row : IsRowAt p.at.catalogue.rows p.kept p.tails k r
+      at_row = s.rows.each k r here
 
       set_row : RowState
-      set_row = changed m.told m.limbo (SetsState k to) (0 + k) ready.0
+      set_row = changed m.told m.limbo c (0 + k) r
 
-      set_here : slice_get (made [] (SetsState k to) m).rows k ≡ Some set_row
-      set_here = get_front (each (changed m.told m.limbo (SetsState k to)) 0 m.rows) [] k set_row (each_forward (changed m.told m.limbo (SetsState k to)) 0 m.rows k ready.0 ready.1)
+      set_here : slice_get (made [] c m).rows k ≡ Some set_row
+      set_here = get_front (each (changed m.told m.limbo c) 0 m.rows) (added c m.rows) k set_row (each_forward (changed m.told m.limbo c) 0 m.rows k r here)
 
       set_state : set_row.state ≡ to
-      set_state = let test : (0 + k == k) ≡ true = grind (arith, nat_tests) in rw test refl
+      set_state = let test : (0 + k == k) ≡ true = grind (arith, nat_tests) in ap (λ (q : RowState). q.state) (changes (0 + k) r) ∙ (rw test refl)
 
       has_it : HasState after.rows k to
-      has_it = let durable = holds.each k (kept_of set_row) (kept_to (made [] (SetsState k to) m).rows k set_row set_here) in record { row = durable.row; here = durable.here; is = sym durable.is.state ∙ set_state }
-
-      by_own : (o : Option Doubt) → p.doubt ≡ o → IsDoubtOf o (Some (SetsState k to)) → Reaches p.tails (with_change (SetsState k to)) after
-      by_own None own doubt = absurd doubt
-      by_own (Some kind.Row) own doubt = absurd (let wrong = doubt.2 in cc (wrong))
-      by_own (Some (kind.Flush batch)) own doubt = absurd (cc (doubt))
-      by_own (Some kind.Published) own doubt = absurd (let wrong = doubt.3 in cc (wrong))
-      by_own (Some (kind.State row state)) own doubt =
-          let named : kind.State row state ≡ kind.State k to = cc (doubt) in
-          let set = memory.own k to (own ∙ ap (λ (w : Doubt). Some w) named) has_it at_row.memory at_row.there in
-          let rows = kept_cleared m p.kept p.tails k to at_row.memory same_memory at_row.there in
-          record { settles = as_made (SetsState k to) [] is refl; has = has; told = told; disk = grow.disk; same_told = refl; names = names_made m (SetsState k to) (state_name m k to); holds = holds; whole = grow.whole; memory = subst (λ (ks : List RowMemory). AreKeptOf ks p.tails (made [] (SetsState k to) m).rows) (sym set) rows; rule = refl; limbo = changed_limbo (SetsState k to) (names_made m (SetsState k to) (state_name m k to)) after grow told holds has; pins = refl; moves = grow.moves (made [] (SetsState k to) m).rows (made [] (SetsState k to) m).limbo (same_made (HasRunning m.moves) m (SetsState k to) s.sound tt); doors = refl }
-
-  -- the doubted row was added
-  made_row : (name : List ℕ) (about : About) → m.doubt ≡ Some (AddsRow name about) → (after : Stores) → GrewFrom tells p.at new p.limbo p.slots m.told m.rows m.limbo m.moves after → m.told ≡ (tells && after.stands) → HoldsDurable after (made [] (AddsRow name about) m) → IsReady p.kept m.rows m.moves (Some (AddsRow name about)) → IsCleared after.rows p.doubt p.kept kept → Has tells new after → Reaches p.tails (with_change (AddsRow name about)) after
-  made_row name about is after grow told holds ready memory has =
-      let doubt : IsDoubtOf p.doubt (Some (AddsRow name about)) = subst (λ (d : Option Change). IsDoubtOf p.doubt d) is s.doubt in
-      let same : kept ≡ p.kept = memory.other (λ k to state has_it. let wrong = doubt_state p.doubt (Some (AddsRow name about)) doubt k to state in let plain : AddsRow name about ≡ SetsState k to = same_Some (AddsRow name about) (SetsState k to) wrong in cc (plain)) in
-      let own_rows = kept_added m p.kept p.tails name about same_memory ready in
-      record { settles = as_made (AddsRow name about) [] is refl; has = has; told = told; disk = grow.disk; same_told = refl; names = names_made m (AddsRow name about) (λ i r. refl); holds = holds; whole = grow.whole; memory = subst (λ (ks : List RowMemory). AreKeptOf ks p.tails (made [] (AddsRow name about) m).rows) (sym same) own_rows; rule = refl; limbo = changed_limbo (AddsRow name about) (names_made m (AddsRow name about) (λ i r. refl)) after grow told holds has; pins = refl; moves = grow.moves (made [] (AddsRow name about) m).rows (made [] (AddsRow name about) m).limbo (same_made (HasRunning m.moves) m (AddsRow name about) s.sound tt); doors = refl }
+      has_it = let durable = holds.each k (kept_of set_row) (kept_to (made [] c m).rows k set_row set_here) in record { row = durable.row; here = durable.here; is = sym durable.is.state ∙ set_state }
 
   -- the doubted batch was appended
-  made_batch : (batch : List RowSamples) → m.doubt ≡ Some (Appends batch) → (after : Stores) → GrewFrom tells p.at new p.limbo p.slots m.told m.rows m.limbo m.moves after → m.told ≡ (tells && after.stands) → HoldsDurable after (made [] (Appends batch) m) → kept ≡ p.kept → (tails : List TailState) → GivesUp batch p.tails tails → Has tells new after → Reaches tails (with_change (Appends batch)) after
-  made_batch batch is after grow told holds same tails gives has =
+  made_batch : (batch : List RowSamples) → m.doubt ≡ Some (Appends batch) → (after : Stores) → GrewFrom tells p.at new p.limbo p.slots m.told m.rows m.limbo m.moves after → m.told ≡ (tells && after.stands) → HoldsDurable after (made [] (Appends batch) m) → IsCleared after.rows p.doubt p.kept kept → (tails : List TailState) → GivesUp batch p.tails tails → Has tells new after → Reaches tails (with_change (Appends batch)) after
+  made_batch batch is after grow told holds memory tails gives has =
       let ready : AllByRecursion (IsPartOf (length m.rows)) batch = subst (λ (d : Option Change). IsReady p.kept m.rows m.moves d) is s.ready in
       let may = (s.sound.doubted (Appends batch) is).0 in
       let own_rows = kept_flushed m p.kept p.tails tails batch same_memory ready (λ i r here. RisesFrom-lower 0 (end_of r.short) (of_row i batch) (taken_later m batch i r s.sound may here) (omega arith)) gives in
-      record { settles = as_made (Appends batch) [] is refl; has = has; told = told; disk = grow.disk; same_told = refl; names = names_made m (Appends batch) (λ i r. refl); holds = holds; whole = grow.whole; memory = subst (λ (ks : List RowMemory). AreKeptOf ks tails (made [] (Appends batch) m).rows) (sym same) own_rows; rule = refl; limbo = changed_limbo (Appends batch) (names_made m (Appends batch) (λ i r. refl)) after grow told holds has; pins = refl; moves = grow.moves (made [] (Appends batch) m).rows (made [] (Appends batch) m).limbo (same_made (HasRunning m.moves) m (Appends batch) s.sound tt); doors = refl }
-
-  -- what a move had copied was listed
-  made_listed : (i : ℕ) (store : Store) (copied : List Sample) → m.doubt ≡ Some (Publishes i store copied) → (after : Stores) → GrewFrom tells p.at new p.limbo p.slots m.told m.rows m.limbo m.moves after → m.told ≡ (tells && after.stands) → HoldsDurable after (made [] (Publishes i store copied) m) → IsReady p.kept m.rows m.moves (Some (Publishes i store copied)) → IsCleared after.rows p.doubt p.kept kept → Has tells new after
-      → Reaches p.tails (with_change (Publishes i store copied)) after
-  made_listed i store copied is after grow told holds ready memory has =
-      let change = Publishes i store copied in
-      let doubt : IsDoubtOf p.doubt (Some change) = subst (λ (d : Option Change). IsDoubtOf p.doubt d) is s.doubt in
-      let same : kept ≡ p.kept = memory.other (λ k to state has_it. let wrong = doubt_state p.doubt (Some change) doubt k to state in let plain : Publishes i store copied ≡ SetsState k to = same_Some (Publishes i store copied) (SetsState k to) wrong in cc (plain)) in
-      let own_rows = kept_listed m p.kept p.tails i store copied same_memory in
-      record { settles = as_made change [] is refl; has = has; told = told; disk = grow.disk; same_told = refl; names = names_made m change (λ k r. (listed_same m i store copied k r).name); holds = holds; whole = grow.whole; memory = subst (λ (ks : List RowMemory). AreKeptOf ks p.tails (made [] change m).rows) (sym same) own_rows; rule = refl; limbo = changed_limbo change (names_made m change (λ k r. (listed_same m i store copied k r).name)) after grow told holds has; pins = refl; moves = grow.moves (made [] change m).rows (made [] change m).limbo (same_made (HasRunning m.moves) m change s.sound ready); doors = refl }
+      reaches (Appends batch) is refl tt (λ i r. refl) after grow told holds has tails (stays_kept (Appends batch) after.rows is refl memory tails own_rows)
 
   -- stores that grew
   grown : (after : Stores) → after.stands ≡ s.store.before.stands → StoresGrow m.moves s.store.before after → GrewFrom tells p.at new p.limbo p.slots m.told m.rows m.limbo m.moves after
@@ -443,8 +498,6 @@ module _ (tells : Bool) (p : Parts) (m : Machine) (s : Stands tells p m) (new : 
   made_unlisted i store to is after stand go told holds ready memory has =
       let change = Unlists i store to in
       let left = unlisted_settles i store to is after stand go holds has in
-      let doubt : IsDoubtOf p.doubt (Some change) = subst (λ (d : Option Change). IsDoubtOf p.doubt d) is s.doubt in
-      let same : kept ≡ p.kept = memory.other (λ k state own has_it. let wrong = doubt_state p.doubt (Some change) doubt k state own in let plain : Unlists i store to ≡ SetsState k state = same_Some (Unlists i store to) (SetsState k state) wrong in cc (plain)) in
       record {
         settles = as_made change left.into is left.retires;
         has = has;
@@ -457,7 +510,7 @@ module _ (tells : Bool) (p : Parts) (m : Machine) (s : Stands tells p m) (new : 
             let was = s.store.whole i low in
             let whole = shown.whole i s.store.before.stands was.0 low was.1 in
             (whole.0, subst (λ (b : Bool). AreWhole i tells new p.limbo b whole.0) (sym stand) whole.1);
-        memory = subst (λ (ks : List RowMemory). AreKeptOf ks p.tails (made [] change m).rows) (sym same) (kept_unlisted m p.kept p.tails i store to same_memory);
+        memory = stays_kept change after.rows is refl memory p.tails (kept_unlisted m p.kept p.tails i store to same_memory);
         rule = refl;
         limbo = left.limbo;
         pins = refl;
@@ -465,19 +518,32 @@ module _ (tells : Bool) (p : Parts) (m : Machine) (s : Stands tells p m) (new : 
         doors = refl;
       }
 
-  -- a doubted batch leaves what is kept of rows
-  same_kept : (rows : List Row) (batch : List RowSamples) → m.doubt ≡ Some (Appends batch) → IsCleared rows p.doubt p.kept kept → kept ≡ p.kept
-  same_kept rows batch is memory = memory.other (λ k to state has_it.
-      let own : ◌≡◌ {A = Option Change} (Some (Appends batch)) (Some (SetsState k to)) = sym is ∙ doubt_state p.doubt m.doubt s.doubt k to state in
-      cc (own))
-
   -- it was made
   made_so : (c : Change) → m.doubt ≡ Some c → (after : Stores) → GrewFrom tells p.at new p.limbo p.slots m.told m.rows m.limbo m.moves after → m.told ≡ (tells && after.stands) → HoldsDurable after (made [] c m) → IsReady p.kept m.rows m.moves (Some c) → IsCleared after.rows p.doubt p.kept kept → (tails : List TailState) → Takes c p.tails tails → Has tells new after → Reaches tails (with_change c) after
-  made_so (AddsRow name about) is after grow told holds ready memory tails same has = subst (λ (ts : List TailState). Reaches ts (with_change (AddsRow name about)) after) (sym same) (made_row name about is after grow told holds ready memory has)
-  made_so (SetsState k to) is after grow told holds ready memory tails same has = subst (λ (ts : List TailState). Reaches ts (with_change (SetsState k to)) after) (sym same) (made_state k to is after grow told holds ready memory has)
-  made_so (Appends batch) is after grow told holds ready memory tails gives has = made_batch batch is after grow told holds (same_kept after.rows batch is memory) tails gives has
-  made_so (Publishes i store copied) is after grow told holds ready memory tails same has = subst (λ (ts : List TailState). Reaches ts (with_change (Publishes i store copied)) after) (sym same) (made_listed i store copied is after grow told holds ready memory has)
-  made_so (Unlists i store to) is after grow told holds ready memory tails none has = absurd none
+  made_so c is after grow told holds ready memory tails takes has = by_change c is holds ready takes
+    where
+      same_tails : (change : Change) → tails ≡ p.tails → AreKeptOf kept p.tails (made [] change m).rows → AreKeptOf kept tails (made [] change m).rows
+      same_tails change same are = subst (λ (ts : List TailState). AreKeptOf kept ts (made [] change m).rows) (sym same) are
+
+      by_change : (c : Change) → m.doubt ≡ Some c → HoldsDurable after (made [] c m) → IsReady p.kept m.rows m.moves (Some c) → Takes c p.tails tails → Reaches tails (with_change c) after
+      by_change (AddsRow name about) is holds ready same =
+          let change = AddsRow name about in
+          reaches change is refl tt (λ i r. refl) after grow told holds has tails (same_tails change same (stays_kept change after.rows is refl memory p.tails (kept_added m p.kept p.tails name about same_memory ready)))
+      by_change (SetsState k to) is holds ready same =
+          let change = SetsState k to in
+          reaches change is refl tt (state_name m k to) after grow told holds has tails (same_tails change same (set_kept change k to ready.0 after is refl (λ i q. refl) ready.1 holds (λ j r here. absurd (cc (here))) memory))
+      by_change (Renames k name) is holds ready same =
+          let change = Renames k name in
+          let own = ready.0 in
+          let here = ready.1 in
+          let added_is : added change m.rows ≡ renamed_row name k own ∷ [] = rw here refl in
+          reaches change is refl tt (state_name m k RetiredState) after grow told holds has tails (same_tails change same (set_kept change k RetiredState own after is refl (λ i q. refl) here holds
+          (λ j r there. one_ready m p.kept p.tails (renamed_row name k own) own.about own.next same_memory ready.2 refl refl refl refl j r (ap (λ (rs : List RowState). slice_get rs j) (sym added_is) ∙ there)) memory))
+      by_change (Appends batch) is holds ready gives = made_batch batch is after grow told holds memory tails gives has
+      by_change (Publishes i store copied) is holds ready same =
+          let change = Publishes i store copied in
+          reaches change is refl ready (λ k r. (listed_same m i store copied k r).name) after grow told holds has tails (same_tails change same (stays_kept change after.rows is refl memory p.tails (kept_listed m p.kept p.tails i store copied same_memory)))
+      by_change (Unlists i store to) is holds ready none = absurd none
 
   -- once the stores have what is after the doubted change, the archive stands for the machine with it
   pub made_stands : (tails : List TailState) (c : Change) → m.doubt ≡ Some c → (after : Stores) → GrewFrom tells p.at new p.limbo p.slots m.told m.rows m.limbo m.moves after → m.told ≡ (tells && after.stands) → HoldsDurable after (made [] c m) → IsCleared new.catalogue.rows p.doubt p.kept kept → Takes c p.tails tails → Has tells new after → Rests tells (settled_parts p new kept tails) (record (with_change c) { faults = new.faults })
@@ -515,7 +581,7 @@ module _ (tells : Bool) (p : Parts) (m : Machine) (s : Stands tells p m) (new : 
       | inl lists ↦ (
         with_change (Appends batch),
         as_made (Appends batch) [] is refl,
-        rests tails (with_change (Appends batch)) held (made_batch batch is held grow told (holds_with tells new m s.sound held has told batch may ready lists holds) same tails (trims.own batch own lists) has),
+        rests tails (with_change (Appends batch)) held (made_batch batch is held grow told (holds_with tells new m s.sound held has told batch may ready lists holds) rows tails (trims.own batch own lists) has),
       )
       | inr lacks ↦ (
         record m { doubt = None },
@@ -528,8 +594,11 @@ module _ (tells : Bool) (p : Parts) (m : Machine) (s : Stands tells p m) (new : 
         own : p.doubt ≡ Some (kind.Flush batch)
         own = flush_doubt p.doubt batch (subst (λ (d : Option Change). IsDoubtOf p.doubt d) is s.doubt)
 
+        rows : IsCleared held.rows p.doubt p.kept kept
+        rows = subst (λ (rows : List Row). IsCleared rows p.doubt p.kept kept) has.known.rows memory
+
         same : kept ≡ p.kept
-        same = same_kept new.catalogue.rows batch is memory
+        same = same_kept (Appends batch) held.rows is refl rows
 
         may : MayMake m.rule m.told m.rows m.limbo (Appends batch)
         may = (s.sound.doubted (Appends batch) is).0

@@ -4,16 +4,18 @@ use Rattle.std.specs.FinMap.{FinMap}
 use Rattle.std.specs.List.{AllByRecursion}
 use Rattle.std.specs.Ordering.{nat_cmp}
 use Rattle.std.specs.Prelude.{◌==◌, slice_get, slice_set}
+use Rattle.std.proofs.lemmas.Bool.Decides.{nat_tests}
 use Rattle.std.proofs.lemmas.Option.{slice_get_within}
 use Rattle.append_buffer.specs.Tails.{TailState, tail_at}
 use Rattle.pv_catalog.specs.declared.row.Row.{Row}
-use Rattle.act_model.specs.Rows.{RowState, next_store, tier}
+use Rattle.event_types.specs.declared.about.State.TheVariants.{Paused}
+use Rattle.act_model.specs.Rows.{RowState, is_running, next_store, tier}
 use Rattle.pinned_pieces.specs.Pieces.{PinOf}
-use Rattle.act_model.specs.Machine.{Machine, MoveState, PinState, Change, AddsRow, SetsState, Appends, Publishes, Unlists}
+use Rattle.act_model.specs.Machine.{Machine, MoveState, PinState, Change, AddsRow, SetsState, Renames, Appends, Publishes, Unlists}
 use Rattle.act_model.specs.Changes.{each, at, with_rows}
 use Rattle.act_model.specs.Crash.{DurableRow, kept_of}
 use Rattle.act_model.specs.Sound.{IsSound}
-use Rattle.act_model.proofs.Rows.{each_get, length-each}
+use Rattle.act_model.proofs.Rows.{each_forward, each_get, length-each}
 use Rattle.archive_core.specs.declared.memory.RowMemory.{RowMemory}
 use Rattle.archive_core.specs.Growing.{HasRunning}
 use Rattle.archive_core.specs.Memory.{IsRowOf}
@@ -36,7 +38,6 @@ use Rattle.tier_store.specs.Change.{Has}
 use Rattle.tier_store.specs.Seen.{Seen}
 use Rattle.tier_store.specs.declared.limbo.Retired.{Retired}
 use Rattle.durable_write.proofs.Three.{get_set_other}
-use Rattle.act_model.proofs.Onward.{each_forward}
 
 -- the stores are as much those of the machine
 between_rows : (tells : Bool) (at : Seen) (limbo : List Retired) (slots : List (Option (Running Moving))) (m : Machine) (g : ℕ → RowState → RowState) → KeepsNames m.rows (each g 0 m.rows) → ((i : ℕ) (r : RowState) → kept_of (g i r) ≡ kept_of r) → IsBetween tells at limbo slots m → IsBetween tells at limbo slots (with_rows m g)
@@ -69,22 +70,34 @@ at_stays k f stays i r = by_test (i == k) refl
     by_test true is = rw is (stays r)
     by_test false is = rw is refl
 
-still_ready : (kept : List RowMemory) (rows : List RowState) (i : ℕ) (f : RowState → RowState) (memory : RowMemory) → i < length rows → ((r : RowState) → kept_of (f r) ≡ kept_of r) → (moves : FinMap nat_cmp MoveState) (d : Option Change) → IsReady kept rows moves d → IsReady (slice_set kept i memory) (each (at i f) 0 rows) moves d
-still_ready kept rows i f memory low stays moves None ready = tt
-still_ready kept rows i f memory low stays moves (Some (AddsRow name about)) ready =
+still_ready : (kept : List RowMemory) (rows : List RowState) (i : ℕ) (f : RowState → RowState) (memory : RowMemory) → i < length rows → ((r : RowState) → kept_of (f r) ≡ kept_of r) → (moves : FinMap nat_cmp MoveState) (d : Option Change) → IsReady kept rows moves d → ((k : ℕ) (name : List ℕ) → d ≡ Some (Renames k name) → k ≢ i) → IsReady (slice_set kept i memory) (each (at i f) 0 rows) moves d
+still_ready kept rows i f memory low stays moves None ready other = tt
+still_ready kept rows i f memory low stays moves (Some (AddsRow name about)) ready other =
     ap (slice_get (slice_set kept i memory)) (length-each (at i f) 0 rows) ∙ (get_set_other kept i (length rows) memory (λ same. omega (arith, low, same)) ∙ ready)
-still_ready kept rows i f memory low stays moves (Some (SetsState k state)) ready =
+still_ready kept rows i f memory low stays moves (Some (SetsState k state)) ready other =
     let same : (at i f (0 + k) ready.0).state ≡ ready.0.state = ap (λ (d : DurableRow). d.state) (at_stays i f stays (0 + k) ready.0) in
     (at i f (0 + k) ready.0, each_forward (at i f) 0 rows k ready.0 ready.1, λ is. ready.2 (sym same ∙ is))
-still_ready kept rows i f memory low stays moves (Some (Appends batch)) ready = subst (λ (n : ℕ). AllByRecursion (IsPartOf n) batch) (sym (length-each (at i f) 0 rows)) ready
-still_ready kept rows i f memory low stays moves (Some (Publishes k store copied)) ready = ready
-still_ready kept rows i f memory low stays moves (Some (Unlists k store to)) ready = ready
+still_ready kept rows i f memory low stays moves (Some (Renames k name)) ready other =
+    let apart : k ≢ i = other k name refl in
+    let test : (0 + k == i) ≡ false = grind (arith, nat_tests) in
+    let own : at i f (0 + k) ready.0 ≡ ready.0 = rw test refl in (
+      ready.0,
+      each_forward (at i f) 0 rows k ready.0 ready.1 ∙ ap (λ (r : RowState). Some r) own,
+      ap (slice_get (slice_set kept i memory)) (length-each (at i f) 0 rows) ∙ (get_set_other kept i (length rows) memory (λ same. omega (arith, low, same)) ∙ ready.2),
+    )
+still_ready kept rows i f memory low stays moves (Some (Appends batch)) ready other = subst (λ (n : ℕ). AllByRecursion (IsPartOf n) batch) (sym (length-each (at i f) 0 rows)) ready
+still_ready kept rows i f memory low stays moves (Some (Publishes k store copied)) ready other = ready
+still_ready kept rows i f memory low stays moves (Some (Unlists k store to)) ready other = ready
 
--- one row changes, with what is kept of it and its tail
+-- a row that runs isn't the one of a doubted new name
+not_renamed : (m : Machine) (i : ℕ) (r : RowState) → IsSound m → slice_get m.rows i ≡ Some r → is_running r.state ≡ true → (k : ℕ) (name : List ℕ) → m.doubt ≡ Some (Renames k name) → k ≢ i
+not_renamed m i r sound there up k name is same = let paused : r.state ≡ Paused = (sound.doubted (Renames k name) is).0.paused r (ap (slice_get m.rows) same ∙ there) in absurd (let off : is_running r.state ≡ false = ap is_running paused in cc (up, off))
+
+-- one row changes that runs, with what is kept of it and its tail
 pub row_stands : (tells : Bool) (p : Parts) (m : Machine) → Stands tells p m → (i : ℕ) (f : RowState → RowState) (memory : RowMemory) (new : List TailState) (row : Row) (r : RowState)
-    → slice_get p.at.catalogue.rows i ≡ Some row → slice_get m.rows i ≡ Some r → IsRowOf new i row memory (f r) → ((j : ℕ) → j ≢ i → (tail_at new j).samples ≡ (tail_at p.tails j).samples)
+    → slice_get p.at.catalogue.rows i ≡ Some row → slice_get m.rows i ≡ Some r → is_running r.state ≡ true → IsRowOf new i row memory (f r) → ((j : ℕ) → j ≢ i → (tail_at new j).samples ≡ (tail_at p.tails j).samples)
     → ((q : RowState) → kept_of (f q) ≡ kept_of q) → IsSound (with_rows m (at i f)) → Stands tells (record p { kept = slice_set p.kept i memory; tails = new }) (with_rows m (at i f))
-row_stands tells p m s i f memory new row r here there is others stays sound = record {
+row_stands tells p m s i f memory new row r here there up is others stays sound = record {
   sound = sound;
   rule = s.rule;
   limbo = limbo_rows tells p.at p.limbo m.told m.rows (each (at i f) 0 m.rows) m.limbo (names_at i f m.rows stays) (λ off. bare_each (at i f) m.rows (at_stays i f stays) (s.limbo.bare off)) s.limbo;
@@ -94,7 +107,7 @@ row_stands tells p m s i f memory new row r here there is others stays sound = r
   doors = s.doors;
   rows = rows_at p.at.catalogue.rows p.kept p.tails new m.rows s.rows i f memory row r here there is others;
   doubt = s.doubt;
-  ready = still_ready p.kept m.rows i f memory (slice_get_within m.rows i r there) stays m.moves m.doubt s.ready;
+  ready = still_ready p.kept m.rows i f memory (slice_get_within m.rows i r there) stays m.moves m.doubt s.ready (not_renamed m i r s.sound there up);
   store = between_rows tells p.at p.limbo p.slots m (at i f) (names_at i f m.rows stays) (at_stays i f stays) s.store;
 }
 

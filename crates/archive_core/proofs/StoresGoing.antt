@@ -8,7 +8,7 @@ use Rattle.tier_store.specs.Seen.{Seen, granularities}
 use Rattle.tier_store.specs.Stores.{Stores}
 use Rattle.tier_store.specs.declared.limbo.Retired.{Retired}
 use Rattle.pv_catalog.proofs.Standing.{keeps_same}
-use Rattle.act_model.specs.Machine.{MoveState, Change, AddsRow, SetsState, Appends, Publishes, Unlists}
+use Rattle.act_model.specs.Machine.{MoveState, Change, AddsRow, SetsState, Renames, Appends, Publishes, Unlists}
 use Rattle.act_model.specs.Rows.{RowState}
 use Rattle.archive_core.specs.Growing.{HasRunning}
 use Rattle.archive_core.specs.Stands.{StoresGo}
@@ -21,6 +21,7 @@ use Rattle.archive_core.proofs.RetiredDoubt.{retiring_stays}
 pub go_fewer : (tells : Bool) (all : SeenAll) (told : Bool) (rows : List RowState) (moves fewer : FinMap nat_cmp MoveState) (before after : Stores) → ((row : ℕ) → HasRunning fewer row → HasRunning moves row) → (c : Change) → StoresGo tells all told rows moves before after c → StoresGo tells all told rows fewer before after c
 go_fewer tells all told rows moves fewer before after were (AddsRow name about) go = grow_fewer were go
 go_fewer tells all told rows moves fewer before after were (SetsState row to) go = grow_fewer were go
+go_fewer tells all told rows moves fewer before after were (Renames row name) go = grow_fewer were go
 go_fewer tells all told rows moves fewer before after were (Appends batch) go = grow_fewer were go
 go_fewer tells all told rows moves fewer before after were (Publishes row store copied) go = grow_fewer were go
 go_fewer tells all told rows moves fewer before after were (Unlists row store to) go = go
@@ -30,6 +31,7 @@ go_stays : (tells : Bool) (old new : Seen) (limbo : List Retired) (told : Bool) 
     → (c : Change) → StoresGo tells (beside old limbo) told rows moves before after c → StoresGo tells (beside new limbo) told later moves before after c
 go_stays tells old new limbo told rows later moves before after keeps (AddsRow name about) go = go
 go_stays tells old new limbo told rows later moves before after keeps (SetsState row to) go = go
+go_stays tells old new limbo told rows later moves before after keeps (Renames row name) go = go
 go_stays tells old new limbo told rows later moves before after keeps (Appends batch) go = go
 go_stays tells old new limbo told rows later moves before after keeps (Publishes row store copied) go = go
 go_stays tells old new limbo told rows later moves before after keeps (Unlists row store to) go = retiring_stays tells old new limbo told rows later before after row store to keeps go

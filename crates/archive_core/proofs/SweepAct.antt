@@ -270,10 +270,13 @@ sweeps_tell m given new is told = let both = sym is.answered ∙ told in cc (bot
 
 pub sweeps_act : (who : ℕ) → IsAct who Sweep Sweeps
 sweeps_act who = record {
+  refuse = λ old m. None;
+  passes = λ old m is. is;
+  counts = λ old m f. refl;
   refuses = λ m f. refl;
   changes = λ m f. refl;
   goes = λ m f given new is. record { stays = is.stays; just = swept_goes m f is.stays m.limbo is.just; files = is.files; number = is.number; answered = is.answered; same = is.same };
-  never = λ m none. cc (none);
+  never = λ old m none. cc (none);
   tells_more = sweeps_tell;
   steps = λ m given new acts. acts;
   wants = λ m n none. tt;

@@ -15,16 +15,19 @@ use Rattle.tier_store.specs.Seen.{Seen}
 use Rattle.tier_store.specs.Stores.{Stores}
 use Rattle.act_model.specs.Machine.{Machine, SetsState, find_row}
 use Rattle.act_model.specs.Pause.{state_refused, Sets, sets_of, not_running}
+use Rattle.act_model.specs.Sound.{IsLive}
 use Rattle.act_model.proofs.StepLaws.{with_doubt}
+use Rattle.archive_core.specs.declared.memory.Doubt.{Doubt}
 use Rattle.archive_core.specs.declared.memory.Doubt.TheVariants as kind
 use Rattle.archive_core.specs.declared.memory.RowMemory.{RowMemory}
 use Rattle.archive_core.specs.declared.switching.Switch.{Switch}
 use Rattle.archive_core.specs.declared.switching.Switch.TheVariants.{Pause, Resume}
 use Rattle.archive_core.specs.declared.switching.Unset.{Unset}
 use Rattle.archive_core.specs.declared.switching.Unset.TheVariants as unset
-use Rattle.archive_core.specs.Memory.{IsCleared, cleared}
+use Rattle.archive_core.specs.Memory.{IsCleared, cleared, set_by}
 use Rattle.archive_core.specs.Parts.{Parts}
 use Rattle.archive_core.specs.Stands.{Stands, Rests}
+use Rattle.archive_core.specs.Wanting.{NoneRefuses, Wants}
 use Rattle.archive_core.proofs.Growth.{switch_grows}
 use Rattle.archive_core.specs.Switching.{IsFound, IsUnset, act_of, from_of, to_of, wrong_of, wrong_reply, switching, switch_reply}
 use Rattle.archive_core.proofs.Changing.{Makes}
@@ -35,7 +38,8 @@ use Rattle.act_model.specs.Reply.{Reply}
 use Rattle.act_model.specs.Rows.{RowState}
 use Rattle.archive_core.proofs.Acting.{IsAct, Went, acted}
 use Rattle.archive_core.specs.Acting.{Acted}
-use Rattle.act_model.specs.Step.{refuse_by, change_by}
+use Rattle.act_model.specs.Outcome.{Acts, all_go}
+use Rattle.act_model.specs.Step.{Step, refuse_by, change_by}
 use Rattle.act_model.specs.declared.acts.Act.TheVariants.{Pause as PauseAct, Resume as ResumeAct}
 use Rattle.act_model.specs.Resume.{not_paused}
 use Rattle.act_model.specs.declared.acts.Answer.TheVariants as answer
@@ -88,6 +92,10 @@ apart : (switch : Switch) → from_of switch ≢ to_of switch
 apart Pause is = absurd (cc (is))
 apart Resume is = absurd (cc (is))
 
+in_use : (switch : Switch) → from_of switch ≢ Retired
+in_use Pause is = absurd (cc (is))
+in_use Resume is = absurd (cc (is))
+
 -- a row that may be set isn't refused
 not_refused : (switch : Switch) (i : ℕ) (rows : List Row) (e : StateErr) → HasState rows i (from_of switch) → (switching switch i).refuses e rows → ⊥
 not_refused Pause i rows of_state.NotRunning has refuses = refuses has
@@ -98,17 +106,16 @@ not_refused Resume i rows of_state.NotPaused has refuses = refuses has
 not_refused Resume i rows (of_state.Disk e) has refuses = refuses
 
 -- the memory of the row whose state was set is cleared
-clears : (rows : List Row) (i : ℕ) (to : State) (kept : List RowMemory) (memory : RowMemory) → slice_get kept i ≡ Some memory → HasState rows i to → IsCleared rows (Some (kind.State i to)) kept (slice_set kept i (cleared memory))
-clears rows i to kept memory there has = record {
-  other = λ none. absurd (none i to refl has);
-  own = λ k state is set was here.
-      let same : kind.State i to ≡ kind.State k state = same_Some (kind.State i to) (kind.State k state) is in
-      let place : i ≡ k = cc (same) in
+pub clears : (rows : List Row) (d : Option Doubt) (i : ℕ) (to : State) (kept : List RowMemory) (memory : RowMemory) → set_by d ≡ Some (i, to) → slice_get kept i ≡ Some memory → HasState rows i to → IsCleared rows d kept (slice_set kept i (cleared memory))
+clears rows d i to kept memory set there has = record {
+  other = λ none. absurd (none i to set has);
+  own = λ k state is own was here.
+      let place : i ≡ k = ap (λ (x : ℕ × State). x.0) (same_Some (i, to) (k, state) (sym set ∙ is)) in
       let one : memory ≡ was = same_Some memory was (sym there ∙ (ap (slice_get kept) place ∙ here)) in
       ap (λ (n : ℕ). slice_set kept n (cleared memory)) place ∙ ap (λ (w : RowMemory). slice_set kept k (cleared w)) one;
 }
 
-switched_has : (i : ℕ) (to : State) (rows : List Row) (row : Row) → slice_get rows i ≡ Some row → slice_get (switched i to rows) i ≡ Some (record row { state = to })
+pub switched_has : (i : ℕ) (to : State) (rows : List Row) (row : Row) → slice_get rows i ≡ Some row → slice_get (switched i to rows) i ≡ Some (record row { state = to })
 switched_has i to [] row here = absurd (cc (here))
 switched_has zero to (x ∷ rows) row here = ap (λ (w : Row). Some (record w { state = to })) (same_Some x row here)
 switched_has (suc i) to (x ∷ rows) row here = switched_has i to rows row here
@@ -119,8 +126,9 @@ module _ (tells : Bool) (p : Parts) (m : Machine) (r : Rests tells p m) (i : ℕ
       let held = r.stands.store.before in
       let known = (rests_has tells p m r).known in
       let at = row_at p.at.catalogue.rows p.kept p.tails m.rows r.stands.rows i state.row state.here in
+      let live : IsLive m.rows i = λ q here is. in_use switch (sym state.is ∙ (sym at.4.state ∙ (ap (λ (w : RowState). w.state) (same_Some at.0 q (sym at.1 ∙ here)) ∙ is))) in
       record {
-        sound = with_doubt m.rule m.told m.rows m.limbo m.pins m.moves m.doubt (SetsState i (to_of switch)) r.stands.sound (tt, tt);
+        sound = with_doubt m.rule m.told m.rows m.limbo m.pins m.moves m.doubt (SetsState i (to_of switch)) r.stands.sound (live, tt);
         rows = r.stands.rows;
         is = refl;
         ready = (at.0, at.1, λ is. apart switch (sym state.is ∙ (sym at.4.state ∙ is)));
@@ -131,7 +139,7 @@ module _ (tells : Bool) (p : Parts) (m : Machine) (r : Rests tells p m) (i : ℕ
 
   -- the memory of the row is cleared then
   pub switch_clears : (new : Seen) (a : Unit {0}) (memory : RowMemory) → slice_get p.kept i ≡ Some memory → Changes tells (switching switch i) p.at new (Done a) → IsCleared new.catalogue.rows (Some (kind.State i (to_of switch))) p.kept (slice_set p.kept i (cleared memory))
-  switch_clears new a memory there changes = clears new.catalogue.rows i (to_of switch) p.kept memory there (record {
+  switch_clears new a memory there changes = clears new.catalogue.rows (Some (kind.State i (to_of switch))) i (to_of switch) p.kept memory refl there (record {
     row = record state.row { state = to_of switch };
     here = ap (λ (rs : List Row). slice_get rs i) (end.3.known.rows ∙ ap (λ (s : Stores). s.rows) (switches_by switch i held end.0 end.1).1) ∙ switched_has i (to_of switch) held.rows state.row (ap (λ (rs : List Row). slice_get rs i) (sym (rests_has tells p m r).known.rows) ∙ state.here);
     is = refl;
@@ -183,12 +191,43 @@ never_wants switch name m is = by_found (find_row m name) refl
     by_found (Some i) found = by_row i found (slice_get m.rows i) refl
 
 -- nor is the answer that the state was set
-sets_tells : (to : State) (name : List ℕ) (m : Machine) (given : Reply) (new : Machine) → Sets to name m given new → given ≡ answer.Memory → ⊥
+pub sets_tells : (to : State) (name : List ℕ) (m : Machine) (given : Reply) (new : Machine) → Sets to name m given new → given ≡ answer.Memory → ⊥
 sets_tells to name m given new ran told = let both = sym ran.0 ∙ told in cc (both)
 
-pub sets_act : (who : ℕ) (switch : Switch) (name : List ℕ) → IsAct who (act_of switch name) (Sets (to_of switch) name)
-sets_act who Pause name = record { refuses = counted not_running name; changes = λ m f. refl; goes = λ m f given new ran. ran; never = never_wants Pause name; tells_more = sets_tells Paused name; steps = λ m given new acts. acts; wants = λ m n none. none }
-sets_act who Resume name = record { refuses = counted not_paused name; changes = λ m f. refl; goes = λ m f given new ran. ran; never = never_wants Resume name; tells_more = sets_tells Running name; steps = λ m given new acts. acts; wants = λ m n none. none }
+-- so it is of both switches
+pub set_counts : (switch : Switch) (name : List ℕ) (m : Machine) (f : ℕ) → refuse_by (act_of switch name) (record m { faults = f }) ≡ refuse_by (act_of switch name) m
+set_counts Pause name = counted not_running name
+set_counts Resume name = counted not_paused name
+
+pub set_changes : (switch : Switch) (name : List ℕ) (m : Machine) (f : ℕ) → change_by (act_of switch name) (record m { faults = f }) ≡ change_by (act_of switch name) m
+set_changes Pause name m f = refl
+set_changes Resume name m f = refl
+
+pub set_never : (switch : Switch) (name : List ℕ) (m : Machine) → refuse_by (act_of switch name) m ≡ Some answer.Memory → ⊥
+set_never Pause name = never_wants Pause name
+set_never Resume name = never_wants Resume name
+
+pub set_steps : (who : ℕ) (switch : Switch) (name : List ℕ) (m : Machine) (given : Reply) (new : Machine) → Acts (refuse_by (act_of switch name)) (Sets (to_of switch) name) (change_by (act_of switch name)) all_go m given new → Step who (act_of switch name) m given new
+set_steps who Pause name m given new acts = acts
+set_steps who Resume name m given new acts = acts
+
+pub set_wants : (who : ℕ) (switch : Switch) (name : List ℕ) (m n : Machine) → NoneRefuses (refuse_by (act_of switch name)) m n → Wants who (act_of switch name) m n
+set_wants who Pause name m n none = none
+set_wants who Resume name m n none = none
+
+abbrev pub sets_act : (who : ℕ) (switch : Switch) (name : List ℕ) → IsAct who (act_of switch name) (Sets (to_of switch) name)
+sets_act who switch name = record {
+  refuse = λ old. refuse_by (act_of switch name);
+  passes = λ old m is. is;
+  counts = λ old. set_counts switch name;
+  refuses = set_counts switch name;
+  changes = set_changes switch name;
+  goes = λ m f given new ran. ran;
+  never = λ old. set_never switch name;
+  tells_more = sets_tells (to_of switch) name;
+  steps = set_steps who switch name;
+  wants = set_wants who switch name;
+}
 
 -- how it is answered
 abbrev pub SetEnds : Bool → ℕ → Switch → List ℕ → Parts → Result (Unit {0}) Unset → Parts → Type 0

@@ -29,7 +29,7 @@ use Rattle.pb_wire.specs.declared.payload.PayloadType.{PayloadType}
 use Rattle.store_manifest.specs.Manifest.{ManifestState}
 use Rattle.durable_write.specs.Plan.{of_row}
 use Rattle.tier_store.specs.Change.{Has}
-use Rattle.tier_store.specs.Pinning.{Placed, placed_at, placed, files_in, state_of}
+use Rattle.tier_store.specs.Pinning.{placed_at, placed, files_in, state_of}
 use Rattle.tier_store.specs.Seen.{Seen, granularities}
 use Rattle.tier_store.specs.Stores.{Stores, list_at, samples_in}
 use Rattle.tier_store.proofs.Places.{manifest_at, granularity_at}
@@ -39,6 +39,7 @@ use Rattle.act_model.specs.Limbo.{FileState}
 use Rattle.act_model.specs.Machine.{Machine}
 use Rattle.act_model.specs.Pin.{IsListedPiece, ComesBefore, InOrder}
 use Rattle.act_model.specs.Rule.{Rule, index_of}
+use Rattle.archive_core.specs.LimboTies.{row_file}
 use Rattle.archive_core.specs.Stands.{TellsHeaders, HoldsDurable}
 use Rattle.archive_core.proofs.Making.{kept_to}
 use Rattle.pv_catalog.specs.Catalogue.{CatalogueState}
@@ -167,7 +168,7 @@ pub all_rest : (P : FileState → Type 0) (xs ys : List FileState) → AllByRecu
 all_rest P [] ys all = all
 all_rest P (x ∷ xs) ys all = all_rest P xs ys all.1
 
-all_first : (P : FileState → Type 0) (xs ys : List FileState) → AllByRecursion P (xs ++ ys) → AllByRecursion P xs
+pub all_first : (P : FileState → Type 0) (xs ys : List FileState) → AllByRecursion P (xs ++ ys) → AllByRecursion P xs
 all_first P [] ys all = tt
 all_first P (x ∷ xs) ys all = (all.0, all_first P xs ys all.1)
 
@@ -175,11 +176,11 @@ pub order_rest : (xs ys : List FileState) → InOrder (xs ++ ys) → InOrder ys
 order_rest [] ys order = order
 order_rest (x ∷ xs) ys order = order_rest xs ys order.1
 
-order_first : (xs ys : List FileState) → InOrder (xs ++ ys) → InOrder xs
+pub order_first : (xs ys : List FileState) → InOrder (xs ++ ys) → InOrder xs
 order_first [] ys order = tt
 order_first (x ∷ xs) ys order = (all_first (ComesBefore x) xs ys order.0, order_first xs ys order.1)
 
-order_both : (xs ys : List FileState) → InOrder xs → InOrder ys → AllByRecursion (λ (x : FileState). AllByRecursion (ComesBefore x) ys) xs → InOrder (xs ++ ys)
+pub order_both : (xs ys : List FileState) → InOrder xs → InOrder ys → AllByRecursion (λ (x : FileState). AllByRecursion (ComesBefore x) ys) xs → InOrder (xs ++ ys)
 order_both [] ys one two across = two
 order_both (x ∷ xs) ys one two across = (of_append (ComesBefore x) xs ys one.0 across.0, order_both xs ys one.1 two across.1)
 
@@ -198,7 +199,7 @@ events_in ty year (x ∷ xs) all =
     )
 
 -- a filed file's first line and samples are those of a file of the row
-file_is : (rule : Rule) (g : Granularity) (rows : List Row) (f : Filed) (store : Store) (i : ℕ) (r : RowState) (row : Row) → TellsHeaders rule → (is : IsFiled g rows f) → is.row ≡ row → r.about ≡ row.about → IsFileOf rule r (state_of i (placed_at store f))
+file_is : (rule : Rule) (g : Granularity) (rows : List Row) (f : Filed) (store : Store) (i : ℕ) (r : RowState) (row : Row) → TellsHeaders rule → (is : IsFiled g rows f) → is.row ≡ row → r.about ≡ row.about → IsFileOf rule r (row_file i store f)
 file_is rule g rows f store i r row heads is same about = record {
   whole = is.file.whole;
   message = is.file.header.0;
@@ -216,22 +217,30 @@ index_low Medium = omega arith
 index_low Long = omega arith
 
 -- the pieces of a store are in order
-store_order : (i : ℕ) (store : Store) (fs : List Filed) → AreApart fs → InOrder (map (state_of i) (map (placed_at store) fs))
+store_order : (i : ℕ) (store : Store) (fs : List Filed) → AreApart fs → InOrder (map (row_file i store) fs)
 store_order i store [] apart = tt
 store_order i store (f ∷ fs) apart = (behind fs apart.0, store_order i store fs apart.1)
   where
-    behind : (hs : List Filed) → AllByRecursion (λ (h : Filed). f.entry.part.end ≤ h.entry.part.start) hs → AllByRecursion (ComesBefore (state_of i (placed_at store f))) (map (state_of i) (map (placed_at store) hs))
+    behind : (hs : List Filed) → AllByRecursion (λ (h : Filed). f.entry.part.end ≤ h.entry.part.start) hs → AllByRecursion (ComesBefore (row_file i store f)) (map (row_file i store) hs)
     behind [] all = tt
-    behind (h ∷ hs) all = (inr (refl, all.0), behind hs all.1)
+    behind (h ∷ hs) all = (inr (refl, inr (refl, all.0)), behind hs all.1)
 
 -- those of a deeper store come first
-deeper_first : (i : ℕ) (deep other : Store) (fs hs : List Filed) → index_of other < index_of deep → AllByRecursion (λ (x : FileState). AllByRecursion (ComesBefore x) (map (state_of i) (map (placed_at other) hs))) (map (state_of i) (map (placed_at deep) fs))
+deeper_first : (i : ℕ) (deep other : Store) (fs hs : List Filed) → index_of other < index_of deep → AllByRecursion (λ (x : FileState). AllByRecursion (ComesBefore x) (map (row_file i other) hs)) (map (row_file i deep) fs)
 deeper_first i deep other [] hs low = tt
 deeper_first i deep other (f ∷ fs) hs low = (one hs, deeper_first i deep other fs hs low)
   where
-    one : (hs : List Filed) → AllByRecursion (ComesBefore (state_of i (placed_at deep f))) (map (state_of i) (map (placed_at other) hs))
+    one : (hs : List Filed) → AllByRecursion (ComesBefore (row_file i deep f)) (map (row_file i other) hs)
     one [] = tt
-    one (h ∷ hs) = (inl low, one hs)
+    one (h ∷ hs) = (inr (refl, inl low), one hs)
+
+-- a row's files are of that row
+own_states : (i : ℕ) (store : Store) (fs : List Filed) → AllByRecursion (λ (f : Filed). f.entry.series ≡ i) fs → map state_of (map (placed_at store) fs) ≡ map (row_file i store) fs
+own_states i store [] own = refl
+own_states i store (f ∷ fs) own =
+    let head : state_of (placed_at store f) ≡ row_file i store f = ap (λ (n : ℕ). row_file n store f) own.0 in
+    let rest = own_states i store fs own.1 in
+    cc (head, rest)
 
 -- what they hold of a row is what is durable of it
 pub held_is : (m : Machine) (s : Stores) (i : ℕ) (r : RowState) → HoldsDurable s m → m.told ≡ true → slice_get m.rows i ≡ Some r → samples_in i s ≡ durable r
@@ -272,20 +281,16 @@ files_held catalogue ms s m have told i row here store =
     }
 
 module _ (tells : Bool) (at : Seen) (m : Machine) (held : Stores) (has : Has tells at held) (holds : HoldsDurable held m) (gran : m.rule.granularity ≡ granularities at.manifests) (heads : TellsHeaders m.rule) (told : m.told ≡ true) (stands : IsTrue held.stands) (i : ℕ) (r : RowState) (here : slice_get m.rows i ≡ Some r) where
-  -- all that is durable of the row is what the stores hold of it
-  pub durable_is : durable r ≡ samples_in i held
-  durable_is = sym (held_is m held i r holds told here)
-
   pub own_files : (store : Store) → RowFiles m.rule held store i r
   own_files store = files_held at.catalogue at.manifests held m (record { known = has.known; holds = holds; rule = gran; stands = λ on. stands }) told i r here store
 
-  store_pieces : (store : Store) → AllByRecursion (IsListedPiece m.rule i r) (map (state_of i) (placed store i (list_at (index_of store) held)))
-  store_pieces store = go (of_row i (list_at (index_of store) held)) is.filed (own_series i (list_at (index_of store) held)) (windows is.unit held.rows (of_row i (list_at (index_of store) held)) is.filed is.apart)
+  store_pieces : (store : Store) → AllByRecursion (IsListedPiece m.rule i r) (map (row_file i store) (row_files held store i))
+  store_pieces store = go (row_files held store i) is.filed (own_series i (list_at (index_of store) held)) (windows is.unit held.rows (row_files held store i) is.filed is.apart)
     where
       is : RowFiles m.rule held store i r
       is = own_files store
 
-      one : (f : Filed) → IsFiled is.unit held.rows f → f.entry.series ≡ i → window f.entry.part (samples_of i (list_at (index_of store) held)) ≡ f.samples → IsListedPiece m.rule i r (state_of i (placed_at store f))
+      one : (f : Filed) → IsFiled is.unit held.rows f → f.entry.series ≡ i → window f.entry.part (samples_of i (list_at (index_of store) held)) ≡ f.samples → IsListedPiece m.rule i r (row_file i store f)
       one f filed own cut =
           let row = holds.each i (kept_of r) (kept_to m.rows i r here) in
           let same : filed.row ≡ row.row = same_Some filed.row row.row (sym filed.stands ∙ (ap (slice_get held.rows) own ∙ row.here)) in
@@ -297,43 +302,38 @@ module _ (tells : Bool) (at : Seen) (m : Machine) (held : Stores) (has : Has tel
             file = file_is m.rule is.unit held.rows f store i r row.row heads filed same row.is.about;
           }
 
-      go : (fs : List Filed) → All (IsFiled is.unit held.rows) fs → AllByRecursion (λ (f : Filed). f.entry.series ≡ i) fs → AllByRecursion (λ (f : Filed). window f.entry.part (samples_of i (list_at (index_of store) held)) ≡ f.samples) fs → AllByRecursion (IsListedPiece m.rule i r) (map (state_of i) (map (placed_at store) fs))
+      go : (fs : List Filed) → All (IsFiled is.unit held.rows) fs → AllByRecursion (λ (f : Filed). f.entry.series ≡ i) fs → AllByRecursion (λ (f : Filed). window f.entry.part (samples_of i (list_at (index_of store) held)) ≡ f.samples) fs → AllByRecursion (IsListedPiece m.rule i r) (map (row_file i store) fs)
       go [] filed own cuts = tt
       go (f ∷ fs) filed own cuts = (one f (All-head (IsFiled is.unit held.rows) f fs filed) own.0 cuts.0, go fs (All-tail (IsFiled is.unit held.rows) f fs filed) own.1 cuts.1)
 
-  -- all of the row's files
-  all_pieces : map (state_of i) (files_in i held) ≡ (map (state_of i) (placed Long i held.long) ++ map (state_of i) (placed Medium i held.medium)) ++ map (state_of i) (placed Short i held.short)
-  all_pieces = map-append (state_of i) (placed Long i held.long ++ placed Medium i held.medium) (placed Short i held.short) ∙ ap (λ (xs : List FileState). xs ++ map (state_of i) (placed Short i held.short)) (map-append (state_of i) (placed Long i held.long) (placed Medium i held.medium))
+  -- ALL FILES OF THE ROW
 
-  -- a rest of them is of listed pieces, in order
-  rest_listed : (closed files : List Placed) → files_in i held ≡ closed ++ files → AllByRecursion (IsListedPiece m.rule i r) (map (state_of i) files)
-  rest_listed closed files split =
+  abbrev long : List FileState
+  long = map (row_file i Long) (row_files held Long i)
+
+  abbrev medium : List FileState
+  medium = map (row_file i Medium) (row_files held Medium i)
+
+  abbrev short : List FileState
+  short = map (row_file i Short) (row_files held Short i)
+
+  all_states : map state_of (files_in i held) ≡ (long ++ medium) ++ short
+  all_states =
+      let one = own_states i Long (row_files held Long i) (own_series i held.long) in
+      let two = own_states i Medium (row_files held Medium i) (own_series i held.medium) in
+      let three = own_states i Short (row_files held Short i) (own_series i held.short) in
+      map-append state_of (placed Long i held.long ++ placed Medium i held.medium) (placed Short i held.short)
+      ∙ (ap (λ (xs : List FileState). xs ++ map state_of (placed Short i held.short)) (map-append state_of (placed Long i held.long) (placed Medium i held.medium)) ∙ (λ k. (one k ++ two k) ++ three k))
+
+  -- they are listed pieces, in order
+  pub row_listed : AllByRecursion (IsListedPiece m.rule i r) (map state_of (files_in i held))
+  row_listed =
       let P = IsListedPiece m.rule i r in
-      let long = map (state_of i) (placed Long i held.long) in
-      let medium = map (state_of i) (placed Medium i held.medium) in
-      let short = map (state_of i) (placed Short i held.short) in
-      let all = of_append P (long ++ medium) short (of_append P long medium (store_pieces Long) (store_pieces Medium)) (store_pieces Short) in
-      let parts : map (state_of i) closed ++ map (state_of i) files ≡ (long ++ medium) ++ short = sym (map-append (state_of i) closed files) ∙ (ap (map (state_of i)) (sym split) ∙ all_pieces) in
-      all_rest P (map (state_of i) closed) (map (state_of i) files) (subst (λ (xs : List FileState). AllByRecursion P xs) (sym parts) all)
+      subst (λ (xs : List FileState). AllByRecursion P xs) (sym all_states) (of_append P (long ++ medium) short (of_append P long medium (store_pieces Long) (store_pieces Medium)) (store_pieces Short))
 
-  rest_ordered : (closed files : List Placed) → files_in i held ≡ closed ++ files → InOrder (map (state_of i) files)
-  rest_ordered closed files split =
-      let long = map (state_of i) (placed Long i held.long) in
-      let medium = map (state_of i) (placed Medium i held.medium) in
-      let short = map (state_of i) (placed Short i held.short) in
-      let deep = order_both long medium (store_order i Long (of_row i held.long) (own_files Long).apart) (store_order i Medium (of_row i held.medium) (own_files Medium).apart) (deeper_first i Long Medium (of_row i held.long) (of_row i held.medium) (omega arith)) in
+  pub row_ordered : InOrder (map state_of (files_in i held))
+  row_ordered =
+      let deep = order_both long medium (store_order i Long (row_files held Long i) (own_files Long).apart) (store_order i Medium (row_files held Medium i) (own_files Medium).apart) (deeper_first i Long Medium (row_files held Long i) (row_files held Medium i) (omega arith)) in
       let Q = λ (x : FileState). AllByRecursion (ComesBefore x) short in
-      let across = of_append Q long medium (deeper_first i Long Short (of_row i held.long) (of_row i held.short) (omega arith)) (deeper_first i Medium Short (of_row i held.medium) (of_row i held.short) (omega arith)) in
-      let all = order_both (long ++ medium) short deep (store_order i Short (of_row i held.short) (own_files Short).apart) across in
-      let parts : map (state_of i) closed ++ map (state_of i) files ≡ (long ++ medium) ++ short = sym (map-append (state_of i) closed files) ∙ (ap (map (state_of i)) (sym split) ∙ all_pieces) in
-      order_rest (map (state_of i) closed) (map (state_of i) files) (subst (λ (xs : List FileState). InOrder xs) (sym parts) all)
-
-  -- so are some of them, one behind another
-  pub part_listed : (closed files behind : List Placed) → files_in i held ≡ closed ++ (files ++ behind) → AllByRecursion (IsListedPiece m.rule i r) (map (state_of i) files)
-  part_listed closed files behind split =
-      let P = IsListedPiece m.rule i r in
-      all_first P (map (state_of i) files) (map (state_of i) behind) (subst (λ (xs : List FileState). AllByRecursion P xs) (map-append (state_of i) files behind) (rest_listed closed (files ++ behind) split))
-
-  pub part_ordered : (closed files behind : List Placed) → files_in i held ≡ closed ++ (files ++ behind) → InOrder (map (state_of i) files)
-  part_ordered closed files behind split =
-      order_first (map (state_of i) files) (map (state_of i) behind) (subst (λ (xs : List FileState). InOrder xs) (map-append (state_of i) files behind) (rest_ordered closed (files ++ behind) split))
+      let across = of_append Q long medium (deeper_first i Long Short (row_files held Long i) (row_files held Short i) (omega arith)) (deeper_first i Medium Short (row_files held Medium i) (row_files held Short i) (omega arith)) in
+      subst (λ (xs : List FileState). InOrder xs) (sym all_states) (order_both (long ++ medium) short deep (store_order i Short (row_files held Short i) (own_files Short).apart) across)

@@ -7,6 +7,7 @@ use Rattle.disk_model.specs.Past.{Passes}
 use Rattle.etl_mover.specs.Move.{MoveState as Moving}
 use Rattle.pinned_pieces.specs.Pieces.{PinOf}
 use Rattle.pinned_pieces.specs.declared.piece.PinnedFile.{PinnedFile}
+use Rattle.pv_catalog.specs.Lines.{line}
 use Rattle.pv_catalog.specs.Rows.{HasName}
 use Rattle.running_moves.specs.Table.{at as move_at}
 use Rattle.running_moves.specs.declared.table.Running.{Running}
@@ -22,7 +23,7 @@ use Rattle.act_model.specs.Machine.{Machine}
 use Rattle.act_model.specs.Reply.{Reply, Opened}
 use Rattle.act_model.specs.Step.{refuse_by, change_by}
 use Rattle.act_model.specs.declared.acts.Act.{Act}
-use Rattle.act_model.specs.declared.acts.Act.TheVariants.{Register, Pause, Resume, Flush, MoveStep, Sweep, Pin, OpenPiece}
+use Rattle.act_model.specs.declared.acts.Act.TheVariants.{Register, Pause, Resume, Rename, Flush, MoveStep, Sweep, Pin, OpenPiece}
 use Rattle.act_model.specs.declared.acts.Answer.TheVariants.{Damaged, Memory, Pinned, Piece}
 use Rattle.archive_core.specs.Ends.{LeavesByAct}
 use Rattle.archive_core.specs.Parts.{Parts}
@@ -52,6 +53,7 @@ abbrev pub LeavesFiles : Bool → Act → Parts → Parts → Type 0
 LeavesFiles tells (Register name about) p q = LeavesFronts tells (files_of p) (files_of q)
 LeavesFiles tells (Pause name) p q = LeavesFronts tells (files_of p) (files_of q)
 LeavesFiles tells (Resume name) p q = LeavesFronts tells (files_of p) (files_of q)
+LeavesFiles tells (Rename name newname) p q = LeavesFronts tells (files_of p) (files_of q)
 LeavesFiles tells (Flush limit) p q = LeavesFronts tells (files_of p) (files_of q)
 LeavesFiles tells (MoveStep m) p q = KeepsListed tells p q
 LeavesFiles tells Sweep p q = KeepsListed tells p q
@@ -59,17 +61,20 @@ LeavesFiles tells _ p q = ReadsAlone tells p q
 
 -- THE PIECES OF PINS
 
--- what is pinned is all that a manifest lists of a file of the row that has the name
+-- what is pinned is all that a manifest lists of a file of the row that has the name, or of one under it, as of a variable that was renamed
 pub record IsPieceOfRow (at : Seen) (name : List ℕ) (piece : PinnedFile) : Type 0 where
   pub place : ℕ
   pub manifest : ManifestState
   pub here : slice_get at.manifests place ≡ Some manifest
   pub entry : FileEntry
   pub listed : Contains manifest.entries entry
-  pub row : HasName at.catalogue.rows entry.series name
+  pub row : ℕ
+  pub named : HasName at.catalogue.rows row name
+  pub among : Contains (line at.catalogue.rows row) entry.series
   pub is : piece ≡ piece_of at.catalogue.rows (record { store = place + 1; entry = entry })
 
--- A pin of this number was made of files of the row that has the name. Where nothing stood in doubt, the rows and the lists are what they were.
+-- A pin of this number was made of files of the row that has the name, and of those under it. Where nothing stood in doubt, the rows and the
+-- lists are what they were.
 pub record PinsFiles (p : Parts) (name : List ℕ) (pin : ℕ) (q : Parts) : Type 0 where
   pub own : PinOf
   pub made : get q.pinned pin ≡ Some own

@@ -7,6 +7,7 @@ pub mod Wanting
 pub mod Leaving
 pub mod Trying
 pub mod Switching
+pub mod Renaming
 pub mod Opening
 pub mod Flushing
 pub mod Sweeping

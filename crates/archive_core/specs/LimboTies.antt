@@ -24,6 +24,10 @@ use Rattle.act_model.specs.Rule.{index_of}
 abbrev pub filed_of : Entry → FileState → Filed
 filed_of e f = record { entry = e; head = f.head; samples = f.samples }
 
+-- a file that a store lists of a row, as one of the machine
+abbrev pub row_file : ℕ → Store → Filed → FileState
+row_file i store f = record { row = i; store = store; part = f.entry.part; head = f.head; samples = f.samples }
+
 -- A retired file is a file of the machine: it has the name and the partition of that, it was listed with just its header and its samples, and
 -- it shows these.
 pub record IsRetiredOf (tells : Bool) (all : SeenAll) (rows : List RowState) (f : FileState) (file : Retired) : Type 0 where

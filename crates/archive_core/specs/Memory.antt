@@ -10,6 +10,7 @@ use Rattle.series_model.specs.Sampling.{Cell, first_cell}
 use Rattle.sampler.specs.Row.{SampledRow, fresh, after}
 use Rattle.series_model.specs.declared.sampling.ScanEvent.TheVariants.{Cleared}
 use Rattle.event_types.specs.declared.about.State.{State}
+use Rattle.event_types.specs.declared.about.State.TheVariants.{Retired}
 use Rattle.append_buffer.specs.Tails.{TailState, tail_at}
 use Rattle.act_model.specs.Rows.{RowState, period_of}
 use Rattle.archive_core.specs.declared.memory.Doubt.{Doubt}
@@ -35,11 +36,16 @@ sampling_by (Scan period) = Some (fresh period)
 abbrev pub fresh_memory : About → RowMemory
 fresh_memory about = record { next = 0; scan = sampling_by about.method }
 
+-- what is kept of a row under a new name: it takes samples from the moment on from which the old one took them
+abbrev pub renamed_memory : About → ℕ → RowMemory
+renamed_memory about next = record { next = next; scan = sampling_by about.method }
+
 -- A row of the catalogue, what is kept of it, and its tail, which is the one of this number, are those of a row of the machine.
 pub record IsRowOf (tails : List TailState) (i : ℕ) (row : Row) (kept : RowMemory) (r : RowState) : Type 0 where
   pub name : r.name ≡ row.name
   pub about : r.about ≡ row.about
   pub state : r.state ≡ row.state
+  pub base : r.base ≡ row.base
   pub next : r.next ≡ kept.next
   pub cell : r.cell ≡ cell_in kept.scan
   pub period : period_in kept.scan ≡ period_of r.about.method
@@ -67,7 +73,16 @@ cleared memory = record memory { scan = clear memory.scan }
     clear None = None
     clear (Some sampled) = Some (after sampled Cleared)
 
--- Where the doubted change is a state, and the row has it, what is kept of the row is cleared. All else stays.
+-- the row whose state the doubted change sets, with that state: the row of a variable that gets a new name is retired
+abbrev pub set_by : Option Doubt → Option (ℕ × State)
+set_by None = None
+set_by (Some doubt.Row) = None
+set_by (Some (doubt.State row to)) = Some (row, to)
+set_by (Some (doubt.Rename old)) = Some (old, Retired)
+set_by (Some (doubt.Flush batch)) = None
+set_by (Some doubt.Published) = None
+
+-- Where the doubted change sets a row's state, and the row has it, what is kept of the row is cleared. All else stays.
 pub record IsCleared (rows : List Row) (d : Option Doubt) (old new : List RowMemory) : Type 0 where
-  pub other : ((row : ℕ) (to : State) → d ≡ Some (doubt.State row to) → HasState rows row to → ⊥) → new ≡ old
-  pub own : (row : ℕ) (to : State) → d ≡ Some (doubt.State row to) → HasState rows row to → (memory : RowMemory) → slice_get old row ≡ Some memory → new ≡ slice_set old row (cleared memory)
+  pub other : ((row : ℕ) (to : State) → set_by d ≡ Some (row, to) → HasState rows row to → ⊥) → new ≡ old
+  pub own : (row : ℕ) (to : State) → set_by d ≡ Some (row, to) → HasState rows row to → (memory : RowMemory) → slice_get old row ≡ Some memory → new ≡ slice_set old row (cleared memory)

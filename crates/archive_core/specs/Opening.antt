@@ -1,5 +1,5 @@
 -- The archive that is opened on stores: all that they list is accepted, and there is nothing else.
-use Rattle.std.specs.Prelude.{◌≡◌, ℕ, ◌+◌, ◌^◌, ◌-◌, ◌==◌, List, [], ◌∷◌, max, min, filter, Bool, true, ◌&&◌, Option, Some, None, slice_get}
+use Rattle.std.specs.Prelude.{◌≡◌, ℕ, ◌+◌, ◌^◌, ◌-◌, ◌==◌, List, [], ◌∷◌, ◌++◌, max, min, filter, Bool, true, ◌&&◌, Option, Some, None, slice_get}
 use Rattle.etl_rules.specs.Config.{ConfigState}
 use Rattle.pv_catalog.specs.declared.row.Row.{Row}
 use Rattle.store_manifest.specs.Manifest.{ManifestState}
@@ -37,9 +37,24 @@ entries_at manifests place row = of (slice_get manifests place)
 abbrev pub end_at : List ManifestState → ℕ → ℕ → ℕ
 end_at manifests place row = min (listed_end (entries_at manifests place row)) (2 ^ 64 - 1)
 
--- what is kept of a row as it is opened
-abbrev pub memory_of : List ManifestState → Row → RowMemory
-memory_of manifests row = record { next = max (max (end_at manifests 2 row.id) (end_at manifests 1 row.id)) (end_at manifests 0 row.id); scan = sampling_by row.about.method }
+-- from which moment on the row with this number takes samples, 0 where there is none
+abbrev pub next_in : List RowMemory → Option ℕ → ℕ
+next_in kept None = 0
+next_in kept (Some i) = of (slice_get kept i)
+  where
+    of : Option RowMemory → ℕ
+    of None = 0
+    of (Some memory) = memory.next
+
+-- what is kept of a row as it is opened, where this is kept of the rows before it: it takes what is later than all that is listed of it, and
+-- than all that its base has
+abbrev pub memory_of : List ManifestState → List RowMemory → Row → RowMemory
+memory_of manifests before row = record { next = max (max (max (end_at manifests 2 row.id) (end_at manifests 1 row.id)) (end_at manifests 0 row.id)) (next_in before row.base); scan = sampling_by row.about.method }
+
+-- so it is kept of one row after another
+abbrev pub memories : List ManifestState → List RowMemory → List Row → List RowMemory
+memories manifests before [] = before
+memories manifests before (row ∷ rows) = memories manifests (before ++ memory_of manifests before row ∷ []) rows
 
 -- The machine has this rule, and where it is told it is the one that is opened on what is durable: all of that is accepted, and nothing
 -- else is there.

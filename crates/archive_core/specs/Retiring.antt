@@ -10,7 +10,6 @@ use Rattle.std.specs.Prelude.{◌≡◌, ◌≢◌, ℕ, List, Bool, true, Conta
 use Rattle.store_manifest.specs.declared.entry.Entry.{Entry}
 use Rattle.durable_write.specs.Held.{Filed, entry_of}
 use Rattle.tier_store.specs.Pinned.{SeenAll}
-use Rattle.tier_store.specs.Pinning.{placed_at, state_of}
 use Rattle.tier_store.specs.Retiring.{oldest, without_oldest}
 use Rattle.tier_store.specs.Stores.{Stores}
 use Rattle.act_model.specs.Changes.{Retires, made}
@@ -19,7 +18,7 @@ use Rattle.act_model.specs.Machine.{Machine, MoveState, Unlists}
 use Rattle.act_model.specs.Rows.{RowState, Store}
 use Rattle.act_model.specs.Rule.{index_of}
 use Rattle.act_model.specs.Sweep.{IsPinned}
-use Rattle.archive_core.specs.LimboTies.{HasRetired, IsLimboOf}
+use Rattle.archive_core.specs.LimboTies.{HasRetired, IsLimboOf, row_file}
 use Rattle.archive_core.specs.MoveTies.{IsCopiedTo, ends_from}
 
 -- THE MOVE
@@ -41,7 +40,7 @@ pub record IsRetiring (tells : Bool) (all : SeenAll) (told : Bool) (rows : List 
   pub number : ℕ
   pub same : after ≡ without_oldest (index_of store) i number before
   pub ends : told ≡ true → to ≡ ends_from 0 (map entry_of (oldest (index_of store) i number before))
-  pub handed : told ≡ true → (h : Filed) → Contains (oldest (index_of store) i number before) h → HasRetired tells all rows (state_of i (placed_at store h))
+  pub handed : told ≡ true → (h : Filed) → Contains (oldest (index_of store) i number before) h → HasRetired tells all rows (row_file i store h)
 
 -- All moves that run are of other rows. So it is while the retirement stands in doubt: the fault has ended its move, and none begins before that is settled.
 abbrev pub AreOfOthers : ℕ → FinMap nat_cmp MoveState → Type 0

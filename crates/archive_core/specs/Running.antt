@@ -31,15 +31,18 @@ pub record LeftAlong (start : Machine) (entries : List Entry) (left : Machine) :
   pub to : Runs start front at
   pub is : LeftIn at back left
 
--- The image holds what a crash within one of the acts leaves. So it holds each row of the start with no less than was durable of it then; and what
--- it holds of a row, where that is anything, is a front of what is accepted of it at the end. It stands: it has the bytes of its files.
+-- The image holds what a crash within one of the acts leaves. So it holds each row of the start over the same base, with no less than was durable
+-- of it then; and what it holds of a row, where that is anything, is over the base that the row has at the end, and a front of what is accepted
+-- of it there. It stands: it has the bytes of its files.
 pub record HoldsBetween (gs : List Granularity) (start : Machine) (entries : List Entry) (end : Machine) (image : Files) : Type 0 where
   pub left : Machine
   pub along : LeftAlong start entries left
   pub told : left.told ≡ true
   pub holds : HoldsMachine gs image left
-  pub extends : (i : ℕ) (first : RowState) → slice_get start.rows i ≡ Some first → (row : RowState) × (slice_get left.rows i ≡ Some row) × IsPrefix (durable first) (durable row)
-  pub extended : (i : ℕ) (row : RowState) → slice_get left.rows i ≡ Some row → (durable row ≡ [] → ⊥) → (last : RowState) × (slice_get end.rows i ≡ Some last) × IsPrefix (durable row) (accepted last)
+  pub extends : (i : ℕ) (first : RowState) → slice_get start.rows i ≡ Some first
+      → (row : RowState) × (slice_get left.rows i ≡ Some row) × (row.base ≡ first.base) × IsPrefix (durable first) (durable row)
+  pub extended : (i : ℕ) (row : RowState) → slice_get left.rows i ≡ Some row → (durable row ≡ [] → ⊥)
+      → (last : RowState) × (slice_get end.rows i ≡ Some last) × (last.base ≡ row.base) × IsPrefix (durable row) (accepted last)
 
 -- From a state that the archive stood for these entries ran to one that it stands for. Where its samples are told, each image that a crash
 -- since then may have left holds what lies between the two.

@@ -26,7 +26,7 @@ use Rattle.tier_store.specs.Pinned.{SeenAll, beside}
 use Rattle.tier_store.specs.Revival.{AreWhole}
 use Rattle.tier_store.specs.declared.limbo.Retired.{Retired}
 use Rattle.act_model.specs.Rows.{RowState, Store, is_empty}
-use Rattle.act_model.specs.Machine.{Machine, MoveState, Change, AddsRow, SetsState, Appends, Publishes, Unlists}
+use Rattle.act_model.specs.Machine.{Machine, MoveState, Change, AddsRow, SetsState, Renames, Appends, Publishes, Unlists}
 use Rattle.act_model.specs.Changes.{made}
 use Rattle.act_model.specs.Crash.{DurableRow, kept}
 use Rattle.act_model.specs.Rule.{Rule}
@@ -36,7 +36,7 @@ use Rattle.archive_core.specs.declared.memory.Doubt.{Doubt}
 use Rattle.archive_core.specs.declared.memory.Doubt.TheVariants as doubt
 use Rattle.archive_core.specs.Growing.{FilesGoOn, HasRunning}
 use Rattle.archive_core.specs.LimboTies.{IsLimboOf}
-use Rattle.archive_core.specs.Memory.{AreRowsOf, fresh_memory}
+use Rattle.archive_core.specs.Memory.{AreRowsOf, fresh_memory, renamed_memory}
 use Rattle.archive_core.specs.MoveTies.{AreMovesOf}
 use Rattle.archive_core.specs.Parts.{Parts}
 use Rattle.archive_core.specs.Pins.{ArePinsOf}
@@ -49,6 +49,7 @@ pub record IsDurable (told : Bool) (s : Stores) (i : ℕ) (row : Row) (r : Durab
   pub name : r.name ≡ row.name
   pub about : r.about ≡ row.about
   pub state : r.state ≡ row.state
+  pub base : r.base ≡ row.base
   pub short : told ≡ true → r.short ≡ samples_of i s.short
   pub medium : told ≡ true → r.medium ≡ samples_of i s.medium
   pub long : told ≡ true → r.long ≡ samples_of i s.long
@@ -76,12 +77,14 @@ abbrev pub IsDoubtOf : Option Doubt → Option Change → Type 0
 IsDoubtOf None None = Unit {0}
 IsDoubtOf None (Some (AddsRow name about)) = ⊥
 IsDoubtOf None (Some (SetsState row to)) = ⊥
+IsDoubtOf None (Some (Renames row name)) = ⊥
 IsDoubtOf None (Some (Appends batch)) = ⊥
 IsDoubtOf None (Some (Publishes row store copied)) = ⊥
 IsDoubtOf None (Some (Unlists row store to)) = Unit {0}
 IsDoubtOf (Some kept) None = ⊥
 IsDoubtOf (Some doubt.Row) (Some change) = (name : List ℕ) × (about : _) × (change ≡ AddsRow name about)
 IsDoubtOf (Some (doubt.State row to)) (Some change) = change ≡ SetsState row to
+IsDoubtOf (Some (doubt.Rename old)) (Some change) = (name : List ℕ) × (change ≡ Renames old name)
 IsDoubtOf (Some (doubt.Flush batch)) (Some change) = change ≡ Appends batch
 IsDoubtOf (Some doubt.Published) (Some change) = (row : ℕ) × (store : Store) × (copied : List Sample) × (change ≡ Publishes row store copied)
 
@@ -90,12 +93,13 @@ pub record IsPartOf (count : ℕ) (part : RowSamples) : Type 0 where
   pub here : part.row < count
   pub some : is_empty part.samples ≡ false
 
--- A doubted row's memory is there already. A doubted state is another than the row has. A doubted batch is of rows that are there. Of a row whose
+-- A doubted row's memory is there already, also that of a row under a new name. A doubted state is another than the row has. A doubted batch is of rows that are there. Of a row whose
 -- doubted copies may be listed, or whose doubted parts may have left, no move runs.
 abbrev pub IsReady : List RowMemory → List RowState → FinMap nat_cmp MoveState → Option Change → Type 0
 IsReady kept rows moves None = Unit {0}
 IsReady kept rows moves (Some (AddsRow name about)) = slice_get kept (length rows) ≡ Some (fresh_memory about)
 IsReady kept rows moves (Some (SetsState i state)) = (r : RowState) × (slice_get rows i ≡ Some r) × (r.state ≢ state)
+IsReady kept rows moves (Some (Renames i name)) = (r : RowState) × (slice_get rows i ≡ Some r) × (slice_get kept (length rows) ≡ Some (renamed_memory r.about r.next))
 IsReady kept rows moves (Some (Appends batch)) = AllByRecursion (IsPartOf (length rows)) batch
 IsReady kept rows moves (Some (Publishes i store copied)) = HasRunning moves i → ⊥
 IsReady kept rows moves (Some (Unlists i store to)) = HasRunning moves i → ⊥
@@ -114,6 +118,7 @@ pub record StoresGrow (moves : FinMap nat_cmp MoveState) (before after : Stores)
 abbrev pub StoresGo : Bool → SeenAll → Bool → List RowState → FinMap nat_cmp MoveState → Stores → Stores → Change → Type 0
 StoresGo tells all told rows moves before after (AddsRow name about) = StoresGrow moves before after
 StoresGo tells all told rows moves before after (SetsState row to) = StoresGrow moves before after
+StoresGo tells all told rows moves before after (Renames row name) = StoresGrow moves before after
 StoresGo tells all told rows moves before after (Appends batch) = StoresGrow moves before after
 StoresGo tells all told rows moves before after (Publishes row store copied) = StoresGrow moves before after
 StoresGo tells all told rows moves before after (Unlists row store to) = IsRetiring tells all told rows before after row store to

@@ -12,7 +12,7 @@ use Rattle.act_model.specs.Reply.{Reply}
 use Rattle.act_model.specs.Step.{refuse_by}
 use Rattle.act_model.specs.Tick.{ticked}
 use Rattle.act_model.specs.declared.acts.Act.{Act}
-use Rattle.act_model.specs.declared.acts.Act.TheVariants.{Register, Pause, Resume, Offer, Tick, MoveStep, Pin, OpenPiece, Details}
+use Rattle.act_model.specs.declared.acts.Act.TheVariants.{Register, Pause, Resume, Rename, Offer, Tick, MoveStep, Pin, OpenPiece, Details}
 use Rattle.act_model.specs.declared.acts.Answer.TheVariants as answer
 
 -- Memory was wanting where no refusal stands before the act: none before a doubt was settled, and where it was settled, none behind that.
@@ -43,6 +43,7 @@ abbrev pub Wants : ℕ → Act → Machine → Machine → Type 0
 Wants who (Register name about) m n = NoneRefuses (refuse_by (Register name about)) m n
 Wants who (Pause name) m n = NoneRefuses (refuse_by (Pause name)) m n
 Wants who (Resume name) m n = NoneRefuses (refuse_by (Resume name)) m n
+Wants who (Rename name newname) m n = NoneRefuses (refuse_by (Rename name newname)) m n
 Wants who (Offer name ty t line now) m n = WouldKeep name ty (record { t = t; line = line }) now m n
 Wants who (Tick row now) m n = WouldTick row now m n
 Wants who (MoveStep k) m n = NoneRefuses (refuse_by (MoveStep k)) m n

@@ -26,6 +26,7 @@ impl<D: Disk> Archive<D> {
             Act::Register { name, about } => self.register(&name, &about),
             Act::Pause { name } => self.pause(name.bytes()),
             Act::Resume { name } => self.resume(name.bytes()),
+            Act::Rename { name, newname } => self.rename(name.bytes(), &newname),
             Act::Offer {
                 name,
                 ty,

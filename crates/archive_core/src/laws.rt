@@ -20,7 +20,7 @@ ghost use Rattle.store_manifest.specs.Manifest.{ManifestState};
 ghost use Rattle.durable_write.specs.Flush.{put_all};
 ghost use Rattle.durable_write.specs.Held.{Filed, samples_of};
 ghost use Rattle.tier_store.specs.Beginning.{IsChoice};
-ghost use Rattle.tier_store.specs.Change.{Has, IsKnown, Registers, Switches, Flushes};
+ghost use Rattle.tier_store.specs.Change.{Has, IsKnown, Registers, Renames as Renaming, Switches, Flushes};
 ghost use Rattle.tier_store.specs.Moving.{GoesBeside, ListsAlso};
 ghost use Rattle.tier_store.specs.Pinned.{beside};
 ghost use Rattle.tier_store.specs.Retiring.{without_oldest};
@@ -30,7 +30,7 @@ ghost use Rattle.tier_store.specs.Stores.{Stores, list_at};
 ghost use Rattle.tier_store.specs.declared.limbo.Retired.{Retired};
 ghost use Rattle.act_model.specs.Changes.{made};
 ghost use Rattle.act_model.specs.Flush.{batch_of};
-ghost use Rattle.act_model.specs.Machine.{Machine, AddsRow, SetsState, Appends, Publishes, Unlists};
+ghost use Rattle.act_model.specs.Machine.{Machine, AddsRow, SetsState, Renames, Appends, Publishes, Unlists};
 ghost use Rattle.act_model.specs.Alone.{Chain};
 ghost use Rattle.act_model.specs.History.{Entry};
 ghost use Rattle.act_model.specs.Reply.{reply_of};
@@ -84,11 +84,12 @@ pub fn turns_lose_no_more<D: Disk>()
 {}
 
 /// What the stores make of a change is what the machine makes of it: where they held what is durable of a machine, they hold what is
-/// durable of the machine with the change made. So it is of a new row, of a row's state, and of what a flush takes of the tails, where
-/// limbo has no file of store 1.
+/// durable of the machine with the change made. So it is of a new row, of a row's state, of a new name, and of what a flush takes of the
+/// tails, where limbo has no file of store 1.
 pub fn changes_are_the_machines()
     ensures register { (catalogue : CatalogueState) (ms : List ManifestState) (name : List ℕ) (about : About) (old new : Stores) (m : Machine) → IsKnown catalogue ms old → Registers name about old new → HoldsDurable old m → HoldsDurable new (made [] (AddsRow name about) m) }
     ensures switch { (row : ℕ) (from to : State) (old new : Stores) (m : Machine) → Switches row from to old new → HoldsDurable old m → HoldsDurable new (made [] (SetsState row to) m) }
+    ensures rename { (catalogue : CatalogueState) (ms : List ManifestState) (row : ℕ) (name : List ℕ) (old new : Stores) (m : Machine) → IsKnown catalogue ms old → Renaming row name old new → HoldsDurable old m → HoldsDurable new (made [] (Renames row name) m) }
     ensures flush { (limit : ℕ) (old new : Stores) (m : Machine) → IsSound m → ((row : ℕ) → files_of row Short m.limbo ≡ []) → (m.told ≡ true → IsTrue old.stands) → Flushes (batch_of limit m) old new → HoldsDurable old m → HoldsDurable new (made [] (Appends (batch_of limit m)) m) }
 {}
 
@@ -101,12 +102,13 @@ pub fn a_flush_goes_on_in_limbo<D: Disk>()
         → HoldsDurable new (made [] (Appends (batch_of limit m)) m) }
 {}
 
-/// Each change of the stores goes beside a running move, of any row, to store 2 or 3: a new row, a row's state, and a flush, also beside
-/// files in limbo. The store at the place to which the move copies, which is its number less one, lists of the row what it listed; and the
+/// Each change of the stores goes beside a running move, of any row, to store 2 or 3: a new row, a row's state, a new name, and a flush, also
+/// beside files in limbo. The store at the place to which the move copies, which is its number less one, lists of the row what it listed; and the
 /// store before it the same partitions, or further ones behind them.
 pub fn changes_go_beside_moves()
     ensures register { (name : List ℕ) (about : About) (old new : Stores) (i row : ℕ) → Registers name about old new → GoesBeside i row old new }
     ensures switch { (k : ℕ) (from to : State) (old new : Stores) (i row : ℕ) → Switches k from to old new → GoesBeside i row old new }
+    ensures rename { (k : ℕ) (name : List ℕ) (old new : Stores) (i row : ℕ) → Renaming k name old new → GoesBeside i row old new }
     ensures flush { (catalogue later : CatalogueState) (ms ns : List ManifestState) (limbo : List Retired) (files : List Filed) (batch : List RowSamples) (old new : Stores) (i row : ℕ)
         → IsKnown catalogue ms old → IsKnown later ns new → granularities ns ≡ granularities ms → FlushesOver limbo files batch old new → 1 ≤ i → i < 3 → GoesBeside i row old new }
 {}

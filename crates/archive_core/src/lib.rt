@@ -7,8 +7,8 @@
 //! (`Leaves`). [`Archive::apply`] makes any act, and [`run_acts`] a list of them.
 //!
 //! `Stands` also says what the memory and the stores are while a change stands in doubt: the stores have what is durable of the machine,
-//! or that with the doubted change, and it isn't known which. The change is a new row, a row's state, a flush, the listing of what a move
-//! has copied, or the leaving of its parts. `Archive::settle` finds out whether it was made, and each act that changes the stores does so
+//! or that with the doubted change, and it isn't known which. The change is a new row, a row's state, a new name, a flush, the listing of what
+//! a move has copied, or the leaving of its parts. `Archive::settle` finds out whether it was made, and each act that changes the stores does so
 //! first. A doubted flush keeps its batch until then: the intake gives it up only where store 1 turns out to list it.
 #![tactic(auto)]
 
@@ -25,6 +25,7 @@ mod offers;
 mod opening;
 mod pins;
 mod registering;
+mod renaming;
 mod running;
 mod settling;
 mod stepping;

@@ -20,6 +20,8 @@ pub enum Doubt {
     Row,
     /// A row's state was set.
     State { row: u32, to: State },
+    /// A row's variable got a new name: the row was retired, and one was added, whose memory is there already.
+    Rename { old: u32 },
     /// A batch was flushed, which the intake still holds.
     Flush(Batch),
     /// What a move had copied was listed. The move has ended.

@@ -6,7 +6,7 @@ ghost use Rattle.tier_store.specs.Change.{Has};
 ghost use Rattle.tier_store.specs.Beginning.{AllNested};
 ghost use Rattle.tier_store.specs.Seen.{seen, granularities};
 ghost use Rattle.tier_store.specs.Stores.{Stores};
-ghost use Rattle.archive_core.specs.Opening.{listed_end, end_at, memory_of, OpensAs};
+ghost use Rattle.archive_core.specs.Opening.{listed_end, end_at, next_in, memory_of, memories, OpensAs};
 ghost use Rattle.archive_core.specs.Memory.{sampling_by};
 ghost use Rattle.archive_core.specs.Parts.{parts};
 
@@ -51,15 +51,28 @@ pub(crate) fn sampling(method: &Method) -> Option<Scan>
     }
 }
 
-fn open_row<D: Disk>(store: &TierStore<D>, row: &Row) -> RowMemory
+// From which moment on the base of a row takes samples, 0 where it has none.
+fn next_of_base(before: &[RowMemory], base: Option<u32>) -> u64
+    ensures { result ≡ next_in before.now base }
+{
+    match base {
+        Some(i) => before.get(i as usize).map_or(0, |memory| memory.next),
+        None => 0,
+    }
+}
+
+fn open_row<D: Disk>(store: &TierStore<D>, before: &[RowMemory], row: &Row) -> RowMemory
     requires three { length store.now.manifests.items ≡ 3 }
-    ensures { result ≡ memory_of store.now.manifests.items row.now }
+    ensures { result ≡ memory_of store.now.manifests.items before.now row.now }
 {
     let short = end_in(store, 1, row.id);
     let medium = end_in(store, 2, row.id);
     let long = end_in(store, 3, row.id);
     RowMemory {
-        next: long.max(medium).max(short),
+        next: long
+            .max(medium)
+            .max(short)
+            .max(next_of_base(before, row.base)),
         scan: sampling(&row.about.method),
     }
 }
@@ -67,14 +80,14 @@ fn open_row<D: Disk>(store: &TierStore<D>, row: &Row) -> RowMemory
 // What is kept of each row, as it is opened.
 fn open_rows<D: Disk>(alloc: Global, store: &TierStore<D>) -> Result<Vec<RowMemory>, AllocError>
     requires three { length store.now.manifests.items ≡ 3 }
-    ensures rows { IfOk result (λ rows. rows.items ≡ map (memory_of store.now.manifests.items) store.now.catalogue.rows) }
+    ensures rows { IfOk result (λ rows. rows.items ≡ memories store.now.manifests.items [] store.now.catalogue.rows) }
     ensures are { AreRows store.now.catalogue.rows }
 {
-    let mut rows = Vec::new(alloc);
+    let mut kept = Vec::new(alloc);
     for row in store.catalogue().rows() {
-        rows.push(open_row(store, row))?;
+        kept.push(open_row(store, &kept, row))?;
     }
-    Ok(rows)
+    Ok(kept)
 }
 
 impl<D: Disk> Archive<D> {

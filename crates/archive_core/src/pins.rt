@@ -38,9 +38,9 @@ impl<D: Disk> Archive<D> {
     }
 
     /// Pins files of a variable that are enough for its samples of an interval, maybe more than these need, for the actor of this number:
-    /// under the least number that no pin has. It tells how many they are, and the samples that no store lists yet; the files in their order
-    /// and these over them answer the query as all samples that are accepted do. A change that stands in doubt is settled first. `DiskFault`
-    /// comes only where the disk's count of faults rose in the call.
+    /// under the least number that no pin has. Those under names that the variable had before come first. It tells how many they are, and the
+    /// samples that no store lists yet; the files in their order and these over them answer the query as all samples that are accepted do. A
+    /// change that stands in doubt is settled first. `DiskFault` comes only where the disk's count of faults rose in the call.
     pub fn pin(&mut self, who: u64, name: &[u8], query: Query) -> Answer<D::Reader>
         requires stands { (m : Machine) × Stands D.tells (parts D.Disk self.old) m }
         ensures acted { Acted D.tells who (PinAct name.now query) (parts D.Disk self.old) (reply_of D.Reader.tells D.Reader.bytes D.Reader.faults result) (parts D.Disk self.new) }

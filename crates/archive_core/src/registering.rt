@@ -7,7 +7,7 @@ ghost use Rattle.act_model.specs.Reply.{reply_of};
 ghost use Rattle.act_model.specs.declared.acts.Act.TheVariants.{Register as RegisterAct};
 ghost use Rattle.archive_core.specs.Acting.{Acted, Changed};
 ghost use Rattle.archive_core.specs.Ends.{register_reply};
-ghost use Rattle.archive_core.specs.Memory.{fresh_memory};
+ghost use Rattle.archive_core.specs.Memory.{renamed_memory};
 ghost use Rattle.archive_core.specs.Parts.{parts};
 ghost use Rattle.archive_core.specs.Stands.{Stands, Rests};
 
@@ -22,7 +22,7 @@ use pv_name::PvName;
 use std::alloc::AllocFailed;
 
 // Refuses a name that gets no row, as the rows say.
-fn refuse_taken(catalogue: &Catalogue, name: &PvName) -> Result<(), RegisterErr>
+pub(crate) fn refuse_taken(catalogue: &Catalogue, name: &PvName) -> Result<(), RegisterErr>
     ensures free { OnOk result ((e : RegisterErr) → Refuses catalogue.now.rows name.now e → ⊥) }
     ensures refuses { IfErr result (Refuses catalogue.now.rows name.now) }
 {
@@ -32,18 +32,19 @@ fn refuse_taken(catalogue: &Catalogue, name: &PvName) -> Result<(), RegisterErr>
     }
 }
 
-// Takes the memory for what is kept of one row more than so many.
-fn add_memory(
+// Takes the memory for what is kept of one row more than so many, which takes samples from this moment on.
+pub(crate) fn add_memory(
     kept: &mut Vec<RowMemory>,
     count: usize,
     about: &About,
+    next: u64,
 ) -> Result<(), AllocFailed<RowMemory>>
-    ensures ok { OnOk result (kept.new.items ≡ take count kept.old.items ++ fresh_memory about.now ∷ []) }
+    ensures ok { OnOk result (kept.new.items ≡ take count kept.old.items ++ renamed_memory about.now next ∷ []) }
     ensures err { OnErr result (kept.new.items ≡ take count kept.old.items) }
 {
     kept.truncate(count);
     kept.push(RowMemory {
-        next: 0,
+        next,
         scan: sampling(&about.method),
     })
 }
@@ -71,7 +72,7 @@ impl<D: Disk> Archive<D> {
         ensures number { IfOk result (λ row. row ≡ length self.old.store.catalogue.rows) }
     {
         let count = self.store.catalogue().rows().len();
-        add_memory(&mut self.rows, count, about)?;
+        add_memory(&mut self.rows, count, about, 0)?;
         match self.store.register(name, about) {
             Ok(row) => Ok(row),
             Err(RegisterErr::Disk(DiskErr::Fault)) => {

@@ -6,7 +6,7 @@ ghost use Rattle.tier_store.specs.Seen.{seen, IsSettled};
 ghost use Rattle.act_model.specs.Machine.{Machine};
 ghost use Rattle.archive_core.specs.Acting.{Settling};
 ghost use Rattle.archive_core.specs.Ends.{SettlesTo, StandsStill};
-ghost use Rattle.archive_core.specs.Memory.{cleared, IsCleared};
+ghost use Rattle.archive_core.specs.Memory.{cleared, set_by, IsCleared};
 ghost use Rattle.archive_core.specs.Parts.{parts};
 ghost use Rattle.archive_core.specs.Stands.{Stands};
 
@@ -36,15 +36,26 @@ pub(crate) fn clear(memory: &mut RowMemory)
     }
 }
 
+// The row whose state the doubted change sets, with that state.
+fn state_set(doubt: &Option<Doubt>) -> Option<(u32, State)>
+    ensures { result ≡ set_by doubt.now }
+{
+    match doubt {
+        Some(Doubt::State { row, to }) => Some((*row, *to)),
+        Some(Doubt::Rename { old }) => Some((*old, State::Retired)),
+        _ => None,
+    }
+}
+
 // Takes in a doubted change of a row's state, where the row has that state.
 fn clear_set(rows: &[Row], kept: &mut Vec<RowMemory>, doubt: &Option<Doubt>)
     ensures { IsCleared rows.now doubt.now kept.old.items kept.new.items }
 {
-    let Some(Doubt::State { row, to }) = doubt else {
+    let Some((row, to)) = state_set(doubt) else {
         return;
     };
-    let at = *row as usize;
-    if at < kept.len() && has_state(rows, *row, *to) {
+    let at = row as usize;
+    if at < kept.len() && has_state(rows, row, to) {
         clear(&mut kept[at]);
     }
 }

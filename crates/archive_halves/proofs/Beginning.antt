@@ -1,5 +1,5 @@
 -- Two halves that begin together agree.
-use Rattle.std.proofs.Common.{◌≡◌, ℕ, ◌+◌, List, [], ◌∷◌, ◌++◌, map, Option, Some, None, true, false, zero, suc, refl, ap, sym, ◌∙◌, subst, arith, append_assoc}
+use Rattle.std.proofs.Common.{◌≡◌, ℕ, ◌+◌, ◌≤◌, List, [], ◌∷◌, ◌++◌, map, Option, Some, None, true, false, zero, suc, refl, ap, sym, ◌∙◌, subst, arith, append-nil, append_assoc}
 use Rattle.std.specs.Prelude.{◌==◌, slice_get}
 use Rattle.std.specs.List.{AllByRecursion}
 use Rattle.std.proofs.lemmas.Bool.Decides.{nat_tests}
@@ -8,8 +8,8 @@ use Rattle.series_model.specs.Archive.{IsPrefix}
 use Rattle.series_model.specs.Series.{IsRising, RisesFrom, over, since, end_of}
 use Rattle.series_model.proofs.OverLemmas.{over_rising}
 use Rattle.series_model.proofs.RisingLists.{RisesFrom-append, RisesFrom-front, since-append, since_none, since_all, end_from-append}
-use Rattle.act_model.specs.Machine.{Machine, held_bytes}
-use Rattle.act_model.specs.Rows.{RowState, durable, size_of}
+use Rattle.act_model.specs.Machine.{Machine, Renames, held_bytes}
+use Rattle.act_model.specs.Rows.{RowState, durable, is_running, size_of}
 use Rattle.act_model.specs.Sound.{LinesSound, IsSound}
 use Rattle.two_histories.specs.Histories.{left_by}
 use Rattle.two_histories.proofs.Halves.{WasAccepted}
@@ -17,12 +17,13 @@ use Rattle.two_histories.proofs.Lists.{IsTail, prefix_same}
 use Rattle.archive_halves.specs.Intake.{IntakeHalf, IntakeRow, known_at, tail_at, as_row}
 use Rattle.archive_halves.specs.Store.{StoreHalf, StoreRow, durable_at, doubted, left_row}
 use Rattle.archive_halves.specs.TwoHistories.{no_store, store_first, first_row, first_rows, intake_first}
+use Rattle.archive_halves.proofs.Closing.{IsClosed, is_base, may_be_base}
 use Rattle.archive_halves.proofs.Durables.{durable_is, in_left_rows}
 use Rattle.archive_halves.proofs.IntakeLaws.{IntakeSound, tail_known, tail_unknown}
-use Rattle.archive_halves.proofs.Joined.{A, T, D, KnowsRows, IsJoined}
+use Rattle.archive_halves.proofs.Joined.{A, T, D, KnowsRows, WasAt, IsIdle, IsJoined}
 use Rattle.archive_halves.proofs.Keeping.{none_durable}
 use Rattle.archive_halves.proofs.KnownRows.{Ascends, HasEvents}
-use Rattle.archive_halves.proofs.Stepping.{left_forward, left_back}
+use Rattle.archive_halves.proofs.Stepping.{left_forward, left_back, IsClosedAt, closed_after}
 use Rattle.archive_halves.proofs.StoreSound.{doubt_front, left_sound}
 
 nothing_before : {B : Type 0} (xs ys : List B) → [] ≡ xs ++ ys → xs ≡ []
@@ -150,29 +151,69 @@ module _ (m : Machine) (s : IsSound m) (t : m.told ≡ true) where
         bytes = (let same = first_bytes 0 m.rows in let most = s.intake in omega arith);
       }
     where
-      by_next : (r : ℕ) (k : IntakeRow) → known_at i0.rows r ≡ Some k → (o : Option RowState) → slice_get m.rows r ≡ o → k.next ≡ end_of (all r)
+      by_next : (r : ℕ) (k : IntakeRow) → known_at i0.rows r ≡ Some k → (o : Option RowState) → slice_get m.rows r ≡ o → end_of (all r) ≤ k.next
       by_next r k here None none = absurd (let bad = sym (unknown r none) ∙ here in cc)
       by_next r k here (Some row) there =
           let is : k ≡ first_row r row = some_same (sym here ∙ known r row there) in
           let d_is : durable_at s0.rows r ≡ durable row = in_left_rows 0 [] 0 m.rows r ∙ durable_is m.rows r row there in
           let t_is : tail_at i0.rows r ≡ row.tail = tail_known i0.rows r (first_row r row) (known r row there) in
           let ends : end_of (all r) ≡ end_of (durable row ++ row.tail) = ap (λ w. end_of (w ++ tail_at i0.rows r)) d_is ∙ ap (λ w. end_of (durable row ++ w)) t_is in
-          ap (λ (x : IntakeRow). x.next) is ∙ ((s.each_row r row there).exact t ∙ (sym (end_from-append 0 (durable row) row.tail) ∙ sym ends))
+          let next : k.next ≡ row.next = ap (λ (x : IntakeRow). x.next) is in
+          let own = end_from-append 0 (durable row) row.tail in
+          let low = (s.each_row r row there).next in
+          omega arith
 
       by_none : (r : ℕ) → known_at i0.rows r ≡ None → (o : Option RowState) → slice_get m.rows r ≡ o → all r ≡ []
       by_none r gone None none =
           ap (λ w. w ++ tail_at i0.rows r) (in_left_rows 0 [] 0 m.rows r ∙ none_durable m.rows r none) ∙ tail_unknown i0.rows r gone
       by_none r gone (Some row) there = absurd (let bad = sym gone ∙ known r row there in cc)
 
-  first_knows : KnowsRows s0 i0 s0 i0
-  first_knows r k here = by_row (slice_get m.rows r) refl
+  first_left : (r : ℕ) (row : RowState) → slice_get m.rows r ≡ Some row → slice_get s0.rows r ≡ Some (left_row 0 None row)
+  first_left r row there = left_forward 0 [] 0 m.rows r row there
+
+  -- what is known first is of a row
+  first_from : (r : ℕ) (k : IntakeRow) → known_at i0.rows r ≡ Some k → (row : RowState) × (slice_get m.rows r ≡ Some row) × (k ≡ first_row r row)
+  first_from r k here = by_row (slice_get m.rows r) refl
     where
-      by_row : (o : Option RowState) → slice_get m.rows r ≡ o → (row : StoreRow) × (slice_get s0.rows r ≡ Some row) × (row.about ≡ k.about)
+      by_row : (o : Option RowState) → slice_get m.rows r ≡ o → (row : RowState) × (slice_get m.rows r ≡ Some row) × (k ≡ first_row r row)
       by_row None none = absurd (let bad = sym (unknown r none) ∙ here in cc)
-      by_row (Some row) there =
-          let left = left_forward 0 [] 0 m.rows r row there in
-          let is : k ≡ first_row r row = some_same (sym here ∙ known r row there) in
-          (left_row 0 left.0 row, left.1, ap (λ (x : IntakeRow). x.about) (sym is))
+      by_row (Some row) there = (row, there, some_same (sym here ∙ known r row there))
+
+  first_knows : KnowsRows s0 i0 s0 i0
+  first_knows r k here = let x = first_from r k here in (left_row 0 None x.0, first_left r x.0 x.1, (ap (λ (y : IntakeRow). y.about) (sym x.2), ap (λ (y : IntakeRow). y.name) (sym x.2)))
+
+  first_number : (r : ℕ) (row : StoreRow) → slice_get s0.rows r ≡ Some row → row.changed ≡ 0
+  first_number r row there = let left = left_back 0 [] 0 m.rows r row there in ap (λ (x : StoreRow). x.changed) left.2
+
+  first_was : (r : ℕ) (k : IntakeRow) → known_at i0.rows r ≡ Some k → WasAt s0 i0 [] r k.changed k.state
+  first_was r k here =
+      let x = first_from r k here in
+      record { front = []; before = prefix_same []; row = left_row 0 None x.0; here = first_left r x.0 x.1; number = ap (λ (y : IntakeRow). y.changed) (sym x.2); state_is = ap (λ (y : IntakeRow). y.state) (sym x.2) }
+
+  -- a row that is closed, as the machine has it
+  record FirstClosed (r : ℕ) : Type 0 where
+    row : RowState
+    here : slice_get m.rows r ≡ Some row
+    down : is_running row.state ≡ false
+    none : row.tail ≡ []
+
+  first_closed : (r : ℕ) → IsClosed m.rows m.doubt r → FirstClosed r
+  first_closed r (is_base b) = let o = s.bases.over b.at b.row r b.here b.base in record { row = o.base; here = o.here; down = ap is_running o.retired; none = o.none }
+  first_closed r (may_be_base name row here is) = let may = (s.doubted (Renames r name) is).0 in record { row = row; here = here; down = ap is_running (may.paused row here); none = may.none row here }
+
+  first_idle : (r : ℕ) → IsClosedAt s0 r → IsIdle s0 i0 s0 [] [] r
+  first_idle r c =
+      let x = first_closed r (closed_after 0 0 (no_store m) m r c) in
+      let tail : tail_at i0.rows r ≡ [] = tail_known i0.rows r (first_row r x.row) (known r x.row x.here) ∙ x.none in
+      record {
+        from = 0;
+        known = (first_row r x.row, known r x.row x.here, omega arith);
+        idle = λ changed state w high.
+            let here : slice_get s0.rows r ≡ Some w.row = ap (λ h. slice_get (left_by s0 h).rows r) (sym (nothing_before w.front w.before.0 w.before.1)) ∙ w.here in
+            let same : left_row 0 None x.row ≡ w.row = some_same (sym (first_left r x.row x.here) ∙ here) in
+            ap is_running (sym w.state_is ∙ ap (λ (y : StoreRow). y.state) (sym same)) ∙ x.down;
+        all = ap (λ w. durable_at s0.rows r ++ w) tail ∙ append-nil (durable_at s0.rows r);
+      }
 
   pub begun : IsJoined s0 i0 [] []
   begun =
@@ -191,6 +232,14 @@ module _ (m : Machine) (s : IsSound m) (t : m.told ≡ true) where
         };
         grown = record {
           durable = λ front p r. subst (λ w. IsPrefix (D s0 i0 w r) (durable_at s0.rows r)) (sym (nothing_before front p.0 p.1)) (prefix_same (durable_at s0.rows r));
-          rows = λ front p r row here. (row, ap (λ w. slice_get (left_by s0 w).rows r) (sym (nothing_before front p.0 p.1)) ∙ here, refl);
+          rows = λ front p r row here. (row, ap (λ w. slice_get (left_by s0 w).rows r) (sym (nothing_before front p.0 p.1)) ∙ here, record { about = refl; name = refl; up = omega arith; same = λ w. refl });
+          few = λ r row there. let zero = first_number r row there in omega arith;
         };
+        changes = record {
+          was = λ ahead p r k here. first_was r k (ap (λ w. known_at (left_by i0 w).rows r) (sym (nothing_before ahead p.0 p.1)) ∙ here);
+          onward = λ ahead p r k here. (k, ap (λ w. known_at (left_by i0 w).rows r) (sym (nothing_before ahead p.0 p.1)) ∙ here, omega arith);
+          first = λ ahead p r row there zero.
+              let was = left_back 0 [] 0 m.rows r row there in (first_row r was.0, ap (λ w. known_at (left_by i0 w).rows r) (nothing_before ahead p.0 p.1) ∙ known r was.0 was.1);
+        };
+        closed = first_idle;
       }

@@ -5,7 +5,7 @@ use Rattle.series_model.specs.declared.sample.Sample.{Sample}
 use Rattle.series_model.specs.Series.{over, since, end_of, RisesFrom}
 use Rattle.act_model.specs.Changes.{changed, changed_rows, added, each, made, of_row}
 use Rattle.act_model.specs.Limbo.{FileState}
-use Rattle.act_model.specs.Machine.{Machine, Change, AddsRow, SetsState, Appends, Publishes, Unlists}
+use Rattle.act_model.specs.Machine.{Machine, Change, AddsRow, SetsState, Renames, Appends, Publishes, Unlists}
 use Rattle.act_model.specs.Rows.{RowState, durable, accepted}
 use Rattle.act_model.specs.Sound.{MayMake, RowSound, IsSound}
 use Rattle.act_model.proofs.ChangeLaws.{RowGoes}
@@ -13,7 +13,8 @@ use Rattle.act_model.proofs.MadeLaws.{goes}
 use Rattle.act_model.proofs.Onward.{each_forward, append_forward}
 use Rattle.act_model.proofs.RowLaws.{since_front}
 use Rattle.two_histories.specs.Store.{Lists}
-use Rattle.archive_halves.specs.Store.{StoreRow, durable_at, rows_with, left_rows, appended}
+use Rattle.archive_halves.specs.Store.{StoreRow, durable_at, rows_with, left_rows, appended, with_ends}
+use Rattle.archive_halves.proofs.Retailed.{ended_back, ended_forth}
 
 -- what is durable of the row with this number of a machine
 abbrev pub durable_in : List RowState → ℕ → List Sample
@@ -27,6 +28,15 @@ pub in_rows_with : (tails : Lists) (k : ℕ) (rows : List StoreRow) (i : ℕ) �
 in_rows_with tails k [] i = refl
 in_rows_with tails k (row ∷ rows) zero = refl
 in_rows_with tails k (row ∷ rows) (suc i) = in_rows_with tails (k + 1) rows i
+
+-- it doesn't matter where admission goes on
+pub in_ended : (rows : List RowState) (i : ℕ) → durable_in (with_ends rows) i ≡ durable_in rows i
+in_ended rows i = by_row (slice_get rows i) refl (slice_get (with_ends rows) i) refl
+  where
+    by_row : (o : Option RowState) → slice_get rows i ≡ o → (p : Option RowState) → slice_get (with_ends rows) i ≡ p → durable_in (with_ends rows) i ≡ durable_in rows i
+    by_row (Some row) here p there = rw (here, ended_forth rows i row here) refl
+    by_row None none None none' = rw (none, none') refl
+    by_row None none (Some new) there = absurd (let e = ended_back rows i new there in let bad = sym none ∙ e.1 in cc)
 
 pub in_left_rows : (n : ℕ) (olds : List StoreRow) (j : ℕ) (rows : List RowState) (i : ℕ) → durable_at (left_rows n olds j rows) i ≡ durable_in rows i
 in_left_rows n olds j [] i = refl
@@ -52,6 +62,7 @@ emptied told limbo (Appends batch) i row s is g =
     ap (λ w. since (end_of xs) w) whole ∙ since_front (end_of (durable row)) xs [] later
 emptied told limbo (AddsRow name about) i row s is g = by_tail told limbo (AddsRow name about) i row is g
 emptied told limbo (SetsState k state) i row s is g = by_tail told limbo (SetsState k state) i row is g
+emptied told limbo (Renames k name) i row s is g = by_tail told limbo (Renames k name) i row is g
 emptied told limbo (Publishes k store copied) i row s is g = by_tail told limbo (Publishes k store copied) i row is g
 emptied told limbo (Unlists k store to) i row s is g = by_tail told limbo (Unlists k store to) i row is g
 
@@ -63,7 +74,7 @@ made_durable m into change s t may i row here tail =
     let g = goes m.rule m.told m.rows m.limbo change s.each_row s.each_file may i row here in
     let plain : 0 + i ≡ i = omega arith in
     let there : slice_get (each (changed m.told m.limbo change) 0 m.rows) i ≡ Some new = each_forward (changed m.told m.limbo change) 0 m.rows i row here ∙ ap (λ n. Some (changed m.told m.limbo change n row)) plain in
-    let in_all : slice_get (changed_rows m.told m.limbo change m.rows) i ≡ Some new = append_forward (each (changed m.told m.limbo change) 0 m.rows) (added change) i new there in
+    let in_all : slice_get (changed_rows m.told m.limbo change m.rows) i ≡ Some new = append_forward (each (changed m.told m.limbo change) 0 m.rows) (added change m.rows) i new there in
     let none : new.tail ≡ [] = emptied m.told m.limbo change i row (s.each_row i row here) tail g in
     let all : accepted new ≡ durable new = ap (λ w. over (durable new) w) none ∙ append-nil (durable new) in
     durable_is (changed_rows m.told m.limbo change m.rows) i new in_all ∙ (sym all ∙ (g.same t ∙ ap (λ w. over (durable row) w) tail))

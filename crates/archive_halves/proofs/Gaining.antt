@@ -23,10 +23,10 @@ use Rattle.act_model.proofs.RowActs.{tried_is}
 use Rattle.act_model.proofs.Rows.{length-each}
 use Rattle.act_model.proofs.TailLaws.{at_bytes}
 
--- what becomes of a row
+-- what becomes of a row: one that runs may gain a sample
 pub data RowGains (row new : RowState) : Type 0 where
   same_row : new.tail ≡ row.tail → new.next ≡ row.next → IsHeld row.about.ty new.cell.held → RowGains row new
-  one_more : (s : Sample) → new.tail ≡ row.tail ++ s ∷ [] → new.next ≡ s.t + 1 → row.next ≤ s.t → IsEvent row.about.ty s → IsHeld row.about.ty new.cell.held → RowGains row new
+  one_more : (s : Sample) → is_running row.state ≡ true → new.tail ≡ row.tail ++ s ∷ [] → new.next ≡ s.t + 1 → row.next ≤ s.t → IsEvent row.about.ty s → IsHeld row.about.ty new.cell.held → RowGains row new
 
 pub record Gains (m : Machine) (after : Machine) : Type 0 where
   pub each_row : (i : ℕ) (row : RowState) → slice_get m.rows i ≡ Some row → (new : RowState) × (slice_get after.rows i ≡ Some new) × RowGains row new
@@ -80,15 +80,15 @@ one_type a b same = by_some (sym (own_number a) ∙ (ap (λ n. slice_get types n
     by_some : Some a ≡ Some b → a ≡ b
     by_some is = cc
 
--- the first three reasons don't apply: the type is the row's
-right_type : (row : RowState) (ty : PayloadType) → admit_before (Some (standing row)) (number_of ty) ≡ None → row.about.ty ≡ ty
+-- the first three reasons don't apply: the row runs, and the type is its own
+right_type : (row : RowState) (ty : PayloadType) → admit_before (Some (standing row)) (number_of ty) ≡ None → (is_running row.state ≡ true) × (row.about.ty ≡ ty)
 right_type row ty none = by_running (is_running row.state) refl none
   where
-    by_type : (b : Bool) → (number_of row.about.ty == number_of ty) ≡ b → is_running row.state ≡ true → admit_before (Some (standing row)) (number_of ty) ≡ None → row.about.ty ≡ ty
-    by_type true is up none = one_type row.about.ty ty (grind (arith, nat_tests))
+    by_type : (b : Bool) → (number_of row.about.ty == number_of ty) ≡ b → is_running row.state ≡ true → admit_before (Some (standing row)) (number_of ty) ≡ None → (is_running row.state ≡ true) × (row.about.ty ≡ ty)
+    by_type true is up none = (up, one_type row.about.ty ty (grind (arith, nat_tests)))
     by_type false is up none = absurd (let bad = rw (up, is) at none in cc)
 
-    by_running : (b : Bool) → is_running row.state ≡ b → admit_before (Some (standing row)) (number_of ty) ≡ None → row.about.ty ≡ ty
+    by_running : (b : Bool) → is_running row.state ≡ b → admit_before (Some (standing row)) (number_of ty) ≡ None → (is_running row.state ≡ true) × (row.about.ty ≡ ty)
     by_running true is none = by_type (number_of row.about.ty == number_of ty) refl is none
     by_running false is none = absurd (let bad = rw is at none in cc)
 
@@ -107,11 +107,11 @@ offered_to_gains m i row ty s now fits here event = by_reason (admit_before (Som
   where
     by_method : (d : Method) → row.about.method ≡ d → admit_before (Some (standing row)) (number_of ty) ≡ None → Good m (offered_to m i row ty s now)
     by_method Monitor is none =
-        let own : IsEvent row.about.ty s = subst (λ w. IsEvent w s) (sym (right_type row ty none)) event in
+        let own : IsEvent row.about.ty s = subst (λ w. IsEvent w s) (sym (right_type row ty none).1) event in
         rw (none, is) (tried_is (λ o. Good m o) m row s now (record { answer = Kept; after = with_rows m (at i (gains s)) }) (λ reason. gains_none m fits) (gains_none m fits)
-        (λ late room_for. gains_at m i (gains s) row fits here (one_more s refl refl late own (fits.held i row here)) (gains_bytes m i (gains s) s (λ r. refl) room_for)))
+        (λ late room_for. gains_at m i (gains s) row fits here (one_more s (right_type row ty none).0 refl refl late own (fits.held i row here)) (gains_bytes m i (gains s) s (λ r. refl) room_for)))
     by_method (Scan period) is none =
-        let own : IsEvent row.about.ty s = subst (λ w. IsEvent w s) (sym (right_type row ty none)) event in
+        let own : IsEvent row.about.ty s = subst (λ w. IsEvent w s) (sym (right_type row ty none).1) event in
         rw (none, is) (gains_at m i (with_held s) row fits here (same_row refl refl own) (same_bytes_at m i (with_held s) (λ r. refl) fits.bytes))
 
     by_reason : (o : Option Reason) → admit_before (Some (standing row)) (number_of ty) ≡ o → Good m (offered_to m i row ty s now)
@@ -138,8 +138,8 @@ moved_held row cell_of period now held = by_test (nat_le cell_of.cell.due now) h
     by_test true held = tt
     by_test false held = held
 
-ticked_due_gains : (m : Machine) (i : ℕ) (row : RowState) (period now : ℕ) → Fits m → slice_get m.rows i ≡ Some row → Good m (ticked_due m i row period now)
-ticked_due_gains m i row period now fits here = by_held row.cell.held refl
+ticked_due_gains : (m : Machine) (i : ℕ) (row : RowState) (period now : ℕ) → Fits m → slice_get m.rows i ≡ Some row → is_running row.state ≡ true → Good m (ticked_due m i row period now)
+ticked_due_gains m i row period now fits here up = by_held row.cell.held refl
   where
     moves : Gains m (with_rows m (at i (moved_on period now)))
     moves = gains_at m i (moved_on period now) row fits here (same_row refl refl (moved_held row row period now (fits.held i row here))) (same_bytes_at m i (moved_on period now) (λ r. refl) fits.bytes)
@@ -147,7 +147,7 @@ ticked_due_gains m i row period now fits here = by_held row.cell.held refl
     keeps : (s : Sample) → row.cell.held ≡ Some s → row.next ≤ s.t → held_bytes m.rows + (length s.line + 1) ≤ room → Gains m (with_rows m (at i (λ r. moved_on period now (gains s r))))
     keeps s is late room_for =
         let event : IsEvent row.about.ty s = subst (λ o. IsHeld row.about.ty o) is (fits.held i row here) in
-        gains_at m i (λ r. moved_on period now (gains s r)) row fits here (one_more s refl refl late event (moved_held row (gains s row) period now (fits.held i row here))) (gains_bytes m i (λ r. moved_on period now (gains s r)) s (λ r. refl) room_for)
+        gains_at m i (λ r. moved_on period now (gains s r)) row fits here (one_more s up refl refl late event (moved_held row (gains s row) period now (fits.held i row here))) (gains_bytes m i (λ r. moved_on period now (gains s r)) s (λ r. refl) room_for)
 
     by_reason : (s : Sample) → row.cell.held ≡ Some s → (o : Option Reason) → admit_after row.next s.t now ≡ o → Good m (ticked_due m i row period now)
     by_reason s is (Some reason) why = rw (is, why) moves
@@ -168,7 +168,7 @@ pub ticked_gains : (m : Machine) (i now : ℕ) → Fits m → Gains m (ticked m 
 ticked_gains m i now fits = by_row (slice_get m.rows i) refl
   where
     by_due : (row : RowState) (period : ℕ) → slice_get m.rows i ≡ Some row → period_of row.about.method ≡ Some period → is_running row.state ≡ true → (b : Bool) → nat_le row.cell.due now ≡ b → Good m (ticked m i now)
-    by_due row period here is up true due = rw (here, is, up, due) (ticked_due_gains m i row period now fits here)
+    by_due row period here is up true due = rw (here, is, up, due) (ticked_due_gains m i row period now fits here up)
     by_due row period here is up false due = rw (here, is, up, due) (gains_none m fits)
 
     by_state : (row : RowState) (period : ℕ) → slice_get m.rows i ≡ Some row → period_of row.about.method ≡ Some period → (b : Bool) → is_running row.state ≡ b → Good m (ticked m i now)

@@ -11,14 +11,14 @@ use Rattle.series_model.proofs.RisingLists.{rises_more}
 use Rattle.two_histories.specs.Histories.{left_by}
 use Rattle.two_histories.proofs.Halves.{left_by_more, WasAccepted}
 use Rattle.two_histories.proofs.Lists.{IsTail, prefix_same, prefix_of, prefix_through, prefix_rises, prefix_end, tail_trimmed, tail_more}
-use Rattle.archive_halves.specs.Intake.{IntakeHalf, tail_at}
+use Rattle.archive_halves.specs.Intake.{IntakeHalf, IntakeRow, known_at, tail_at}
 use Rattle.archive_halves.specs.IntakeStep.{IntakePart, Offers, Ticks, LooksForDoors, LooksForBatch, LooksAt, Takes, TakesFlush, IntakeEntry}
 use Rattle.archive_halves.specs.Store.{StoreHalf, StoreRow, Registered, registered, durable_at, doubted}
 use Rattle.archive_halves.specs.StoreStep.{StoreEntry}
 use Rattle.archive_halves.specs.TwoHistories.{IntakeAllowed, Once, WasRegistered, IntakeFits, intake_knows, added, first_accepted}
-use Rattle.archive_halves.proofs.IntakeLaws.{IntakeSound, RowDid, did_stay, did_gain, did_trim, AboutFrom, about_was, about_told, regs_of, trims, IntakeDid, intake_did}
-use Rattle.archive_halves.proofs.Joined.{A, T, D, accepted_more, KnowsRows, IsJoined}
-use Rattle.archive_halves.proofs.StoreMore.{Legal}
+use Rattle.archive_halves.proofs.IntakeLaws.{IntakeSound, RowDid, did_stay, did_gain, did_trim, AboutFrom, about_was, about_told, StateFrom, state_was, state_told, regs_of, trims, IntakeDid, intake_did}
+use Rattle.archive_halves.proofs.Joined.{A, T, D, Legal, accepted_more, KnowsRows, WasAt, IsIdle, IsJoined}
+use Rattle.archive_halves.proofs.Stepping.{IsClosedAt}
 use Rattle.archive_halves.proofs.Telling.{store_told, told_row}
 
 -- what a step leaves of a row
@@ -65,14 +65,22 @@ module _ (s0 : StoreHalf) (i0 : IntakeHalf) where
       let after : has.entry.after ≡ left_by s0 (has.front ++ has.entry ∷ []) = sym (left_by_more s0 has.front has.entry) in
       end_was s (has.front ++ has.entry ∷ []) i r (ends r) j (has.back ++ drop n s, cut ∙ sym (append_assoc has.front (has.entry ∷ []) (has.back ++ drop n s))) (told.0 r ∙ ap (λ (m : StoreHalf). end_of (durable_at m.rows r)) after)
 
-  -- a row that a Take names is one of the store, of its type
-  abbrev ToldRow : List StoreEntry → Registered → Type 0
-  ToldRow s reg = (row : StoreRow) × (slice_get (left_by s0 s).rows reg.row ≡ Some row) × (row.about ≡ reg.about)
+  -- a row that a Take names is one of the store, and was so once
+  record ToldRow (s : List StoreEntry) (reg : Registered) : Type 0 where
+    row : StoreRow
+    here : slice_get (left_by s0 s).rows reg.row ≡ Some row
+    same : (row.about ≡ reg.about) × (row.name ≡ reg.name)
+    was : WasAt s0 i0 s reg.row reg.changed reg.state
 
   was_there : (s front : List StoreEntry) (i : List IntakeEntry) (reg : Registered) → IsJoined s0 i0 s i → IsPrefix front s → WasRegistered reg (left_by s0 front) → ToldRow s reg
   was_there s front i reg j p was =
       let now = j.grown.rows front p reg.row was.0 was.1 in
-      (now.0, now.1, now.2 ∙ ap (λ (x : Registered). x.about) was.2)
+      record {
+        row = now.0;
+        here = now.1;
+        same = (now.2.about ∙ ap (λ (x : Registered). x.about) was.2, now.2.name ∙ ap (λ (x : Registered). x.name) was.2);
+        was = record { front = front; before = p; row = was.0; here = was.1; number = ap (λ (x : Registered). x.changed) was.2; state_is = ap (λ (x : Registered). x.state) was.2 };
+      }
 
   all_at : (P : Registered → Type 0) (front back : List Registered) (reg : Registered) (rows : List Registered) → rows ≡ front ++ reg ∷ back → AllByRecursion P rows → P reg
   all_at P front back reg rows is all = at_front front (subst (λ w. AllByRecursion P w) is all)
@@ -133,14 +141,65 @@ module _ (s0 : StoreHalf) (i0 : IntakeHalf) where
     sound_now : IntakeSound f.after (A s0 i0 all)
     sound_now =
         let own = did.sound in
-        record { up = own.up; next = λ r k here. own.next r k here ∙ ap end_of (sym (more_is r)); unknown = λ r none. more_is r ∙ own.unknown r none; lines = own.lines; bytes = own.bytes }
+        record { up = own.up; next = λ r k here. let low = own.next r k here in let same = ap end_of (more_is r) in omega arith; unknown = λ r none. more_is r ∙ own.unknown r none; lines = own.lines; bytes = own.bytes }
+
+    told_row_of : (reg : Registered) (front back : List Registered) → regs_of f.part ≡ front ++ reg ∷ back → ToldRow s reg
+    told_row_of = told_of s i f.other f.part l j fit.1
 
     knows_now : KnowsRows s0 i0 (left_by s0 s) f.after
     knows_now r k here = by_from (did.abouts r k here)
       where
-        by_from : AboutFrom (regs_of f.part) (left_by i0 i).rows r k → (row : StoreRow) × (slice_get (left_by s0 s).rows r ≡ Some row) × (row.about ≡ k.about)
-        by_from (about_was k' before about) = let own = j.joined.knows i (prefix_same i) r k' before in (own.0, own.1, own.2 ∙ sym about)
-        by_from (about_told reg front back is at about) = let own = told_of s i f.other f.part l j fit.1 reg front back is in (own.0, ap (λ n. slice_get (left_by s0 s).rows n) (sym at) ∙ own.1, own.2 ∙ sym about)
+        by_from : AboutFrom (regs_of f.part) (left_by i0 i).rows r k → (row : StoreRow) × (slice_get (left_by s0 s).rows r ≡ Some row) × ((row.about ≡ k.about) × (row.name ≡ k.name))
+        by_from (about_was k' before about name) = let own = j.joined.knows i (prefix_same i) r k' before in (own.0, own.1, (own.2.0 ∙ sym about, own.2.1 ∙ sym name))
+        by_from (about_told reg front back is at about name) =
+            let own = told_row_of reg front back is in (own.row, ap (λ n. slice_get (left_by s0 s).rows n) (sym at) ∙ own.here, (own.same.0 ∙ sym about, own.same.1 ∙ sym name))
+
+    -- a state that is known now was the store's
+    state_now : (r : ℕ) (k : IntakeRow) → known_at f.after.rows r ≡ Some k → WasAt s0 i0 s r k.changed k.state
+    state_now r k here = by_from (did.states r k here)
+      where
+        by_from : StateFrom (regs_of f.part) (left_by i0 i).rows r k.changed k.state → WasAt s0 i0 s r k.changed k.state
+        by_from (state_was k' before number state) =
+            let was = j.changes.was i (prefix_same i) r k' before in record { front = was.front; before = was.before; row = was.row; here = was.here; number = was.number ∙ number; state_is = was.state_is ∙ state }
+        by_from (state_told reg front back is at number state) =
+            let was = (told_row_of reg front back is).was in
+            record { front = was.front; before = was.before; row = was.row; here = ap (λ n. slice_get (left_by s0 was.front).rows n) (sym at) ∙ was.here; number = was.number ∙ number; state_is = was.state_is ∙ state }
+
+    rows_are : f.after.rows ≡ (left_by i0 all).rows
+    rows_are = ap (λ (m : IntakeHalf). m.rows) after_is
+
+    state_at : (ahead : List IntakeEntry) → FrontOfMore i f ahead → (r : ℕ) (k : IntakeRow) → known_at (left_by i0 ahead).rows r ≡ Some k → WasAt s0 i0 s r k.changed k.state
+    state_at ahead (shorter rest is) r k here = j.changes.was ahead (rest, is) r k here
+    state_at ahead (whole is) r k here = state_now r k (ap (λ w. known_at w r) rows_are ∙ (ap (λ w. known_at (left_by i0 w).rows r) (sym is) ∙ here))
+
+    -- what is known now of a row that was known
+    up_now : (r : ℕ) (k : IntakeRow) → known_at (left_by i0 i).rows r ≡ Some k → (now : IntakeRow) × (known_at (left_by i0 all).rows r ≡ Some now) × (k.changed ≤ now.changed)
+    up_now r k here = let on = did.up r k here in (on.0, ap (λ w. known_at w r) (sym rows_are) ∙ on.1, on.2)
+
+    onward_at : (ahead : List IntakeEntry) → FrontOfMore i f ahead → (r : ℕ) (k : IntakeRow) → known_at (left_by i0 ahead).rows r ≡ Some k → (now : IntakeRow) × (known_at (left_by i0 all).rows r ≡ Some now) × (k.changed ≤ now.changed)
+    onward_at ahead (shorter rest is) r k here =
+        let old = j.changes.onward ahead (rest, is) r k here in
+        let on = up_now r old.0 old.1 in
+        let one : k.changed ≤ old.0.changed = old.2 in
+        let two : old.0.changed ≤ on.0.changed = on.2 in
+        (on.0, on.1, omega arith)
+    onward_at ahead (whole is) r k here = (k, ap (λ w. known_at (left_by i0 w).rows r) (sym is) ∙ here, omega arith)
+
+    first_at : (ahead : List IntakeEntry) → FrontOfMore i f ahead → (r : ℕ) (row : StoreRow) → slice_get (left_by s0 s).rows r ≡ Some row → row.changed ≡ 0 → (k : IntakeRow) × (known_at (left_by i0 ahead).rows r ≡ Some k)
+    first_at ahead (shorter rest is) r row there zero = j.changes.first ahead (rest, is) r row there zero
+    first_at ahead (whole is) r row there zero =
+        let old = j.changes.first i (prefix_same i) r row there zero in let on = up_now r old.0 old.1 in (on.0, ap (λ w. known_at (left_by i0 w).rows r) is ∙ on.1)
+
+    -- of a row that isn't running nothing more is accepted
+    closed_now : (r : ℕ) → IsClosedAt (left_by s0 s) r → IsIdle s0 i0 (left_by s0 s) s all r
+    closed_now r c =
+        let o = j.closed r c in
+        let k = o.known.0 in
+        let on = up_now r k o.known.1 in
+        let one : o.from ≤ k.changed = o.known.2 in
+        let two : k.changed ≤ on.0.changed = on.2 in
+        let down = o.idle k.changed k.state (j.changes.was i (prefix_same i) r k o.known.1) one in
+        record { from = o.from; known = (on.0, on.1, omega arith); idle = o.idle; all = more_is r ∙ (did.idle r k o.known.1 down ∙ o.all) }
 
     was_at : (r : ℕ) (ahead : List IntakeEntry) → FrontOfMore i f ahead → WasAccepted (D s0 i0 s r) (A s0 i0 ahead r) (T s0 i0 ahead r) (A s0 i0 all r)
     was_at r ahead (shorter rest is) =
@@ -173,4 +232,10 @@ module _ (s0 : StoreHalf) (i0 : IntakeHalf) where
             knows = λ ahead p. knows_at ahead (front_of_more i f ahead p.0 p.1);
           };
           grown = j.grown;
+          changes = record {
+            was = λ ahead p r k here. state_at ahead (front_of_more i f ahead p.0 p.1) r k here;
+            onward = λ ahead p r k here. onward_at ahead (front_of_more i f ahead p.0 p.1) r k here;
+            first = λ ahead p r row there zero. first_at ahead (front_of_more i f ahead p.0 p.1) r row there zero;
+          };
+          closed = closed_now;
         }

@@ -4,16 +4,17 @@ use Rattle.std.specs.Prelude.{slice_get}
 use Rattle.std.proofs.lemmas.Option.{slice_get_within}
 use Rattle.event_types.specs.declared.about.About.{About}
 use Rattle.event_types.specs.declared.about.State.{State}
+use Rattle.event_types.specs.declared.about.State.TheVariants.{Retired}
 use Rattle.act_model.specs.Changes.{changed, changed_rows, added, each, at, without_held}
 use Rattle.act_model.specs.Growth.{RowsLike}
 use Rattle.act_model.specs.Limbo.{FileState}
-use Rattle.act_model.specs.Machine.{Machine, Change, AddsRow, SetsState, Publishes, Unlists}
+use Rattle.act_model.specs.Machine.{Machine, Change, AddsRow, SetsState, Renames, Publishes, Unlists}
 use Rattle.act_model.specs.MoveStep.{GoesOn, copies, has_copied, publishes, retires, again, damaged}
 use Rattle.act_model.specs.Reply.{Reply}
 use Rattle.act_model.specs.Rows.{RowState, durable}
 use Rattle.act_model.specs.Sound.{IsSound}
 use Rattle.act_model.proofs.ChangeLaws.{at_row}
-use Rattle.act_model.proofs.MadeLaws.{IsFresh, fresh, added_fresh}
+use Rattle.act_model.proofs.MadeLaws.{IsFresh, fresh, fresh_over, added_fresh}
 use Rattle.act_model.proofs.MoveLaws.{goes_like}
 use Rattle.act_model.proofs.Onward.{each_forward, append_forward}
 use Rattle.act_model.proofs.Rows.{Came, from_row, is_new, came, more_rows, there_is_row}
@@ -44,12 +45,13 @@ keep_like rows news like same i = by_row (slice_get rows i) refl (slice_get news
 pub past_durable : (told : Bool) (limbo : List FileState) (change : Change) (rows : List RowState) (i : ℕ) → slice_get rows i ≡ None → durable_in (changed_rows told limbo change rows) i ≡ []
 past_durable told limbo change rows i none = by_new (slice_get (changed_rows told limbo change rows) i) refl
   where
-    fresh_durable : (row : RowState) → IsFresh row → durable row ≡ []
-    fresh_durable row (fresh name about is) = ap durable is
+    fresh_durable : (row : RowState) → IsFresh change rows row → durable row ≡ []
+    fresh_durable row (fresh name about by is) = ap durable is
+    fresh_durable row (fresh_over k name old by here is) = ap durable is
 
     by_came : (new : RowState) → Came told limbo change rows i new → durable new ≡ []
     by_came new (from_row row here is) = absurd (let bad = sym none ∙ here in cc)
-    by_came new (is_new j past there) = fresh_durable new (added_fresh change j new there).0
+    by_came new (is_new j past there) = fresh_durable new (added_fresh change rows j new there).0
 
     by_new : (p : Option RowState) → slice_get (changed_rows told limbo change rows) i ≡ p → durable_in (changed_rows told limbo change rows) i ≡ []
     by_new None none' = none_durable (changed_rows told limbo change rows) i none'
@@ -64,7 +66,7 @@ made_keeps told limbo change rows same i = by_row (slice_get rows i) refl
     by_row (Some row) here =
         let plain : 0 + i ≡ i = omega arith in
         let on : slice_get (each (changed told limbo change) 0 rows) i ≡ Some (changed told limbo change i row) = each_forward (changed told limbo change) 0 rows i row here ∙ ap (λ n. Some (changed told limbo change n row)) plain in
-        durable_is (changed_rows told limbo change rows) i (changed told limbo change i row) (append_forward (each (changed told limbo change) 0 rows) (added change) i (changed told limbo change i row) on) ∙ (same i row here ∙ sym (durable_is rows i row here))
+        durable_is (changed_rows told limbo change rows) i (changed told limbo change i row) (append_forward (each (changed told limbo change) 0 rows) (added change rows) i (changed told limbo change i row) on) ∙ (same i row here ∙ sym (durable_is rows i row here))
     by_row None none = past_durable told limbo change rows i none ∙ sym (none_durable rows i none)
 
 pub adds_keeps : (told : Bool) (limbo : List FileState) (name : List ℕ) (about : About) (rows : List RowState) → KeepsDurable rows (changed_rows told limbo (AddsRow name about) rows)
@@ -72,6 +74,9 @@ adds_keeps told limbo name about rows = made_keeps told limbo (AddsRow name abou
 
 pub sets_keeps : (told : Bool) (limbo : List FileState) (k : ℕ) (state : State) (rows : List RowState) → KeepsDurable rows (changed_rows told limbo (SetsState k state) rows)
 sets_keeps told limbo k state rows = made_keeps told limbo (SetsState k state) rows (λ i row here. at_row k i (without_held state) row (λ r. durable r ≡ durable row) refl (λ is. refl))
+
+pub renames_keeps : (told : Bool) (limbo : List FileState) (k : ℕ) (name : List ℕ) (rows : List RowState) → KeepsDurable rows (changed_rows told limbo (Renames k name) rows)
+renames_keeps told limbo k name rows = made_keeps told limbo (Renames k name) rows (λ i row here. at_row k i (without_held Retired) row (λ r. durable r ≡ durable row) refl (λ is. refl))
 
 -- a step of a move
 pub goes_keeps : {n : ℕ} {mid new : Machine} {answer : Reply} → mid.told ≡ true → IsSound mid → GoesOn n mid answer new → KeepsDurable mid.rows new.rows

@@ -1,8 +1,9 @@
 -- The rows that the intake knows, after an offer or a tick, and after a Take.
 use Rattle.std.proofs.Common.{◌≡◌, ℕ, ◌+◌, ◌<◌, ◌≤◌, List, [], ◌∷◌, ◌++◌, length, map, Option, Some, None, Bool, true, false, cond, zero, suc, refl, ap, sym, ◌∙◌, subst, arith}
-use Rattle.std.specs.Prelude.{◌==◌, slice_get, nat_lt}
+use Rattle.std.specs.Prelude.{◌==◌, max, slice_get, nat_lt}
 use Rattle.std.specs.List.{AllByRecursion}
 use Rattle.std.proofs.lemmas.Bool.Decides.{nat_tests}
+use Rattle.event_types.specs.declared.about.State.{State}
 use Rattle.act_model.specs.Event.{IsEvent}
 use Rattle.act_model.specs.Machine.{held_bytes}
 use Rattle.act_model.specs.Rows.{RowState, size_of}
@@ -78,7 +79,7 @@ all_more P (y ∷ xs) x all one = (all.0, all_more P xs x all.1 one)
 
 kept_events : (k : IntakeRow) (row : RowState) → HasEvents k → RowGains (as_row k) row → HasEvents (kept_row k row)
 kept_events k row has (same_row tail next held) = (subst (λ w. AllByRecursion (IsEvent k.about.ty) w) (sym tail) has.0, held)
-kept_events k row has (one_more s tail next late event held) = (subst (λ w. AllByRecursion (IsEvent k.about.ty) w) (sym tail) (all_more (IsEvent k.about.ty) k.tail s has.0 event), held)
+kept_events k row has (one_more s up tail next late event held) = (subst (λ w. AllByRecursion (IsEvent k.about.ty) w) (sym tail) (all_more (IsEvent k.about.ty) k.tail s has.0 event), held)
 
 pub kept_lines : (ks : List IntakeRow) (rows : List RowState) → AreKept ks rows → AllByRecursion HasEvents ks → AllByRecursion HasEvents (kept_rows ks rows)
 kept_lines [] rows all lines = tt
@@ -123,10 +124,28 @@ pub trimmed_bytes : (ends : ℕ → ℕ) (ks : List IntakeRow) → held_bytes (m
 trimmed_bytes ends [] = omega arith
 trimmed_bytes ends (k ∷ ks) = let one = size_since (ends k.row) k.tail in let more = trimmed_bytes ends ks in omega arith
 
+-- a row that was known before is of the same variable, with what was accepted, and no change of it is forgotten
+pub record SameKnown (k new : IntakeRow) : Type 0 where
+  pub about : new.about ≡ k.about
+  pub name : new.name ≡ k.name
+  pub tail : new.tail ≡ k.tail
+  pub next : new.next ≡ k.next
+  pub up : k.changed ≤ new.changed
+
+same_known : (k : IntakeRow) → SameKnown k k
+same_known k = record { about = refl; name = refl; tail = refl; next = refl; up = omega arith }
+
+known_trans : (a b c : IntakeRow) → SameKnown a b → SameKnown b c → SameKnown a c
+known_trans a b c p q =
+    record { about = q.about ∙ p.about; name = q.name ∙ p.name; tail = q.tail ∙ p.tail; next = q.next ∙ p.next; up = (let one : a.changed ≤ b.changed = p.up in let two : b.changed ≤ c.changed = q.up in omega arith) }
+
+over_same : (reg : Registered) (k : IntakeRow) → SameKnown k (taken_over reg k)
+over_same reg k = record { about = refl; name = refl; tail = refl; next = refl; up = omega arith }
+
 -- where a row that is known afterwards comes from
 pub data FromTake (regs : List Registered) (ks : List IntakeRow) (r : ℕ) (new : IntakeRow) : Type 0 where
-  was_known : (k : IntakeRow) → known_at ks r ≡ Some k → new.about ≡ k.about → new.tail ≡ k.tail → new.next ≡ k.next → FromTake regs ks r new
-  is_told : (reg : Registered) (front back : List Registered) → regs ≡ front ++ reg ∷ back → reg.row ≡ r → known_at ks r ≡ None → new.about ≡ reg.about → new.tail ≡ [] → new.next ≡ 0 → FromTake regs ks r new
+  was_known : (k : IntakeRow) → known_at ks r ≡ Some k → SameKnown k new → FromTake regs ks r new
+  is_told : (reg : Registered) (front back : List Registered) → regs ≡ front ++ reg ∷ back → reg.row ≡ r → known_at ks r ≡ None → new.about ≡ reg.about → new.name ≡ reg.name → new.tail ≡ [] → FromTake regs ks r new
 
 -- the rows known afterwards, by number
 pub data TookAt (regs : List Registered) (ks news : List IntakeRow) (r : ℕ) : Type 0 where
@@ -134,50 +153,50 @@ pub data TookAt (regs : List Registered) (ks news : List IntakeRow) (r : ℕ) : 
   takes_one : (new : IntakeRow) → known_at news r ≡ Some new → FromTake regs ks r new → TookAt regs ks news r
 
 -- one row that is told
-pub data OneTook (reg : Registered) (ks news : List IntakeRow) (r : ℕ) : Type 0 where
-  same_as : known_at news r ≡ known_at ks r → OneTook reg ks news r
-  took_over : (k : IntakeRow) → known_at ks r ≡ Some k → known_at news r ≡ Some (taken_over reg k) → OneTook reg ks news r
-  came_new : reg.row ≡ r → known_at ks r ≡ None → known_at news r ≡ Some (first_known reg) → OneTook reg ks news r
+pub data OneTook (all : List IntakeRow) (reg : Registered) (ks news : List IntakeRow) (r : ℕ) : Type 0 where
+  same_as : known_at news r ≡ known_at ks r → OneTook all reg ks news r
+  took_over : (k : IntakeRow) → reg.row ≡ r → known_at ks r ≡ Some k → known_at news r ≡ Some (taken_over reg k) → OneTook all reg ks news r
+  came_new : reg.row ≡ r → known_at ks r ≡ None → known_at news r ≡ Some (first_known all reg) → OneTook all reg ks news r
 
-one_took : (n : ℕ) (reg : Registered) (ks : List IntakeRow) (r : ℕ) → Ascends n ks → OneTook reg ks (with_row reg ks) r
-one_took n reg [] r up = by_own (reg.row == r) refl
+one_took : (all : List IntakeRow) (n : ℕ) (reg : Registered) (ks : List IntakeRow) (r : ℕ) → Ascends n ks → OneTook all reg ks (with_row reg (first_known all reg) ks) r
+one_took all n reg [] r up = by_own (reg.row == r) refl
   where
-    by_own : (b : Bool) → (reg.row == r) ≡ b → OneTook reg [] (first_known reg ∷ []) r
+    by_own : (b : Bool) → (reg.row == r) ≡ b → OneTook all reg [] (first_known all reg ∷ []) r
     by_own true is = came_new (grind (arith, nat_tests)) refl (rw is refl)
     by_own false is = same_as (rw is refl)
-one_took n reg (k ∷ ks) r up = by_same (one_took (k.row + 1) reg ks r up.1) (k.row == reg.row) refl
+one_took all n reg (k ∷ ks) r up = by_same (one_took all (k.row + 1) reg ks r up.1) (k.row == reg.row) refl
   where
-    over_head : (b : Bool) → (k.row == r) ≡ b → OneTook reg (k ∷ ks) (taken_over reg k ∷ ks) r
-    over_head true is = took_over k (rw is refl) (rw is refl)
-    over_head false is = same_as (rw is refl)
+    over_head : (k.row == reg.row) ≡ true → (b : Bool) → (k.row == r) ≡ b → OneTook all reg (k ∷ ks) (taken_over reg k ∷ ks) r
+    over_head same true is = took_over k (grind (arith, nat_tests)) (rw is refl) (rw is refl)
+    over_head same false is = same_as (rw is refl)
 
-    before_head : reg.row < k.row → (b : Bool) → (reg.row == r) ≡ b → OneTook reg (k ∷ ks) (first_known reg ∷ (k ∷ ks)) r
+    before_head : reg.row < k.row → (b : Bool) → (reg.row == r) ≡ b → OneTook all reg (k ∷ ks) ((first_known all reg) ∷ (k ∷ ks)) r
     before_head low true is = let same : reg.row ≡ r = grind (arith, nat_tests) in came_new same (none_below k.row r (k ∷ ks) (omega arith, up.1) (omega arith)) (rw is refl)
     before_head low false is = same_as (rw is refl)
 
-    behind_head : (b : Bool) → (k.row == r) ≡ b → OneTook reg ks (with_row reg ks) r → OneTook reg (k ∷ ks) (k ∷ with_row reg ks) r
+    behind_head : (b : Bool) → (k.row == r) ≡ b → OneTook all reg ks (with_row reg (first_known all reg) ks) r → OneTook all reg (k ∷ ks) (k ∷ with_row reg (first_known all reg) ks) r
     behind_head true is rest = same_as (rw is refl)
     behind_head false is (same_as same) = same_as (rw is same)
-    behind_head false is (took_over k' a b) = took_over k' (rw is a) (rw is b)
+    behind_head false is (took_over k' own a b) = took_over k' own (rw is a) (rw is b)
     behind_head false is (came_new own a b) = came_new own (rw is a) (rw is b)
 
-    by_order : OneTook reg ks (with_row reg ks) r → (b : Bool) → nat_lt reg.row k.row ≡ b → (k.row == reg.row) ≡ false → OneTook reg (k ∷ ks) (with_row reg (k ∷ ks)) r
+    by_order : OneTook all reg ks (with_row reg (first_known all reg) ks) r → (b : Bool) → nat_lt reg.row k.row ≡ b → (k.row == reg.row) ≡ false → OneTook all reg (k ∷ ks) (with_row reg (first_known all reg) (k ∷ ks)) r
     by_order rest true is apart = rw (apart, is) (before_head (grind (arith, nat_tests)) (reg.row == r) refl)
     by_order rest false is apart = rw (apart, is) (behind_head (k.row == r) refl rest)
 
-    by_same : OneTook reg ks (with_row reg ks) r → (b : Bool) → (k.row == reg.row) ≡ b → OneTook reg (k ∷ ks) (with_row reg (k ∷ ks)) r
-    by_same rest true is = rw is (over_head (k.row == r) refl)
+    by_same : OneTook all reg ks (with_row reg (first_known all reg) ks) r → (b : Bool) → (k.row == reg.row) ≡ b → OneTook all reg (k ∷ ks) (with_row reg (first_known all reg) (k ∷ ks)) r
+    by_same rest true is = rw is (over_head is (k.row == r) refl)
     by_same rest false is = by_order rest (nat_lt reg.row k.row) refl is
 
-with_ascends : (n : ℕ) (reg : Registered) (ks : List IntakeRow) → n ≤ reg.row → Ascends n ks → Ascends n (with_row reg ks)
-with_ascends n reg [] low up = (low, tt)
-with_ascends n reg (k ∷ ks) low up = by_same (λ past. with_ascends (k.row + 1) reg ks past up.1) (k.row == reg.row) refl
+with_ascends : (all : List IntakeRow) (n : ℕ) (reg : Registered) (ks : List IntakeRow) → n ≤ reg.row → Ascends n ks → Ascends n (with_row reg (first_known all reg) ks)
+with_ascends all n reg [] low up = (low, tt)
+with_ascends all n reg (k ∷ ks) low up = by_same (λ past. with_ascends all (k.row + 1) reg ks past up.1) (k.row == reg.row) refl
   where
-    by_order : (k.row + 1 ≤ reg.row → Ascends (k.row + 1) (with_row reg ks)) → (b : Bool) → nat_lt reg.row k.row ≡ b → (k.row == reg.row) ≡ false → Ascends n (with_row reg (k ∷ ks))
+    by_order : (k.row + 1 ≤ reg.row → Ascends (k.row + 1) (with_row reg (first_known all reg) ks)) → (b : Bool) → nat_lt reg.row k.row ≡ b → (k.row == reg.row) ≡ false → Ascends n (with_row reg (first_known all reg) (k ∷ ks))
     by_order rest true is apart = rw (apart, is) (low, ((let less : reg.row < k.row = grind (arith, nat_tests) in omega arith), up.1))
     by_order rest false is apart = rw (apart, is) (up.0, rest (grind (arith, nat_tests)))
 
-    by_same : (k.row + 1 ≤ reg.row → Ascends (k.row + 1) (with_row reg ks)) → (b : Bool) → (k.row == reg.row) ≡ b → Ascends n (with_row reg (k ∷ ks))
+    by_same : (k.row + 1 ≤ reg.row → Ascends (k.row + 1) (with_row reg (first_known all reg) ks)) → (b : Bool) → (k.row == reg.row) ≡ b → Ascends n (with_row reg (first_known all reg) (k ∷ ks))
     by_same rest true is = rw is (up.0, up.1)
     by_same rest false is = by_order rest (nat_lt reg.row k.row) refl is
 
@@ -188,20 +207,20 @@ over_events reg k has = (has.0, by_test (nat_lt k.changed reg.changed))
     by_test true = tt
     by_test false = has.1
 
-with_lines : (reg : Registered) (ks : List IntakeRow) → AllByRecursion HasEvents ks → AllByRecursion HasEvents (with_row reg ks)
-with_lines reg [] lines = ((tt, tt), tt)
-with_lines reg (k ∷ ks) lines = by_tests (k.row == reg.row) (nat_lt reg.row k.row) (with_lines reg ks lines.1)
+with_lines : (all : List IntakeRow) (reg : Registered) (ks : List IntakeRow) → AllByRecursion HasEvents ks → AllByRecursion HasEvents (with_row reg (first_known all reg) ks)
+with_lines all reg [] lines = ((tt, tt), tt)
+with_lines all reg (k ∷ ks) lines = by_tests (k.row == reg.row) (nat_lt reg.row k.row) (with_lines all reg ks lines.1)
   where
-    by_tests : (b c : Bool) → AllByRecursion HasEvents (with_row reg ks) → AllByRecursion HasEvents (cond b (taken_over reg k ∷ ks) (cond c (first_known reg ∷ (k ∷ ks)) (k ∷ with_row reg ks)))
+    by_tests : (b c : Bool) → AllByRecursion HasEvents (with_row reg (first_known all reg) ks) → AllByRecursion HasEvents (cond b (taken_over reg k ∷ ks) (cond c ((first_known all reg) ∷ (k ∷ ks)) (k ∷ with_row reg (first_known all reg) ks)))
     by_tests true c more = (over_events reg k lines.0, lines.1)
     by_tests false true more = ((tt, tt), lines)
     by_tests false false more = (lines.0, more)
 
-with_bytes : (reg : Registered) (ks : List IntakeRow) → held_bytes (map as_row (with_row reg ks)) ≡ held_bytes (map as_row ks)
-with_bytes reg [] = refl
-with_bytes reg (k ∷ ks) = by_tests (k.row == reg.row) (nat_lt reg.row k.row) (with_bytes reg ks)
+with_bytes : (all : List IntakeRow) (reg : Registered) (ks : List IntakeRow) → held_bytes (map as_row (with_row reg (first_known all reg) ks)) ≡ held_bytes (map as_row ks)
+with_bytes all reg [] = refl
+with_bytes all reg (k ∷ ks) = by_tests (k.row == reg.row) (nat_lt reg.row k.row) (with_bytes all reg ks)
   where
-    by_tests : (b c : Bool) → held_bytes (map as_row (with_row reg ks)) ≡ held_bytes (map as_row ks) → held_bytes (map as_row (cond b (taken_over reg k ∷ ks) (cond c (first_known reg ∷ (k ∷ ks)) (k ∷ with_row reg ks)))) ≡ held_bytes (map as_row (k ∷ ks))
+    by_tests : (b c : Bool) → held_bytes (map as_row (with_row reg (first_known all reg) ks)) ≡ held_bytes (map as_row ks) → held_bytes (map as_row (cond b (taken_over reg k ∷ ks) (cond c ((first_known all reg) ∷ (k ∷ ks)) (k ∷ with_row reg (first_known all reg) ks)))) ≡ held_bytes (map as_row (k ∷ ks))
     by_tests true c more = refl
     by_tests false true more = omega arith
     by_tests false false more = ap (λ n. size_of k.tail + n) more
@@ -213,43 +232,60 @@ pub record Took (regs : List Registered) (ks news : List IntakeRow) : Type 0 whe
   pub bytes : held_bytes (map as_row news) ≡ held_bytes (map as_row ks)
   pub at : (r : ℕ) → TookAt regs ks news r
 
+some_same : {a b : IntakeRow} → Some a ≡ Some b → a ≡ b
+some_same is = cc
+
 pub took : (regs : List Registered) (ks : List IntakeRow) → Ascends 0 ks → AllByRecursion HasEvents ks → Took regs ks (with_rows regs ks)
 took [] ks up lines = record { ascends = up; lines = lines; bytes = refl; at = λ r. by_known r (known_at ks r) refl }
   where
     by_known : (r : ℕ) (o : Option IntakeRow) → known_at ks r ≡ o → TookAt [] ks ks r
     by_known r None is = takes_none is is
-    by_known r (Some k) is = takes_one k is (was_known k is refl refl refl)
+    by_known r (Some k) is = takes_one k is (was_known k is (same_known k))
 took (reg ∷ regs) ks up lines =
-    let rest = took regs (with_row reg ks) (with_ascends 0 reg ks (omega arith) up) (with_lines reg ks lines) in
-    record { ascends = rest.ascends; lines = rest.lines; bytes = rest.bytes ∙ with_bytes reg ks; at = λ r. by_rest r (rest.at r) (one_took 0 reg ks r up) }
+    let rest = took regs (with_row reg (first_known ks reg) ks) (with_ascends ks 0 reg ks (omega arith) up) (with_lines ks reg ks lines) in
+    record { ascends = rest.ascends; lines = rest.lines; bytes = rest.bytes ∙ with_bytes ks reg ks; at = λ r. by_rest r (rest.at r) (one_took ks 0 reg ks r up) }
   where
-    news : List IntakeRow
-    news = with_rows regs (with_row reg ks)
-
-    from_none : (r : ℕ) → known_at (with_row reg ks) r ≡ None → OneTook reg ks (with_row reg ks) r → known_at ks r ≡ None
+    from_none : (r : ℕ) → known_at (with_row reg (first_known ks reg) ks) r ≡ None → OneTook ks reg ks (with_row reg (first_known ks reg) ks) r → known_at ks r ≡ None
     from_none r none (same_as same) = sym same ∙ none
-    from_none r none (took_over k a b) = absurd (let bad = sym none ∙ b in cc)
+    from_none r none (took_over k own a b) = absurd (let bad = sym none ∙ b in cc)
     from_none r none (came_new own a b) = a
 
-    from_some : (r : ℕ) (new k' : IntakeRow) → known_at (with_row reg ks) r ≡ Some k' → new.about ≡ k'.about → new.tail ≡ k'.tail → new.next ≡ k'.next → OneTook reg ks (with_row reg ks) r → FromTake (reg ∷ regs) ks r new
-    from_some r new k' here about tail next (same_as same) = was_known k' (sym same ∙ here) about tail next
-    from_some r new k' here about tail next (took_over k a b) =
-        let is : k' ≡ taken_over reg k = some_same (sym here ∙ b) in
-        was_known k a (about ∙ ap (λ (x : IntakeRow). x.about) is) (tail ∙ ap (λ (x : IntakeRow). x.tail) is) (next ∙ ap (λ (x : IntakeRow). x.next) is)
-      where
-        some_same : {a b : IntakeRow} → Some a ≡ Some b → a ≡ b
-        some_same is = cc
-    from_some r new k' here about tail next (came_new own a b) =
-        let is : k' ≡ first_known reg = some_same (sym here ∙ b) in
-        is_told reg [] regs refl own a (about ∙ ap (λ (x : IntakeRow). x.about) is) (tail ∙ ap (λ (x : IntakeRow). x.tail) is) (next ∙ ap (λ (x : IntakeRow). x.next) is)
-      where
-        some_same : {a b : IntakeRow} → Some a ≡ Some b → a ≡ b
-        some_same is = cc
+    from_some : (r : ℕ) (new k' : IntakeRow) → known_at (with_row reg (first_known ks reg) ks) r ≡ Some k' → SameKnown k' new → OneTook ks reg ks (with_row reg (first_known ks reg) ks) r → FromTake (reg ∷ regs) ks r new
+    from_some r new k' here same (same_as is) = was_known k' (sym is ∙ here) same
+    from_some r new k' here same (took_over k own a b) =
+        let is : k' ≡ taken_over reg k = some_same (sym here ∙ b) in was_known k a (known_trans k (taken_over reg k) new (over_same reg k) (subst (λ x. SameKnown x new) is same))
+    from_some r new k' here same (came_new own a b) =
+        let is : k' ≡ first_known ks reg = some_same (sym here ∙ b) in
+        is_told reg [] regs refl own a (same.about ∙ ap (λ (x : IntakeRow). x.about) is) (same.name ∙ ap (λ (x : IntakeRow). x.name) is) (same.tail ∙ ap (λ (x : IntakeRow). x.tail) is)
 
-    by_from : (r : ℕ) (new : IntakeRow) → FromTake regs (with_row reg ks) r new → OneTook reg ks (with_row reg ks) r → FromTake (reg ∷ regs) ks r new
-    by_from r new (was_known k' here about tail next) one = from_some r new k' here about tail next one
-    by_from r new (is_told other front back is own none about tail next) one = is_told other (reg ∷ front) back (ap (λ w. reg ∷ w) is) own (from_none r none one) about tail next
+    by_from : (r : ℕ) (new : IntakeRow) → FromTake regs (with_row reg (first_known ks reg) ks) r new → OneTook ks reg ks (with_row reg (first_known ks reg) ks) r → FromTake (reg ∷ regs) ks r new
+    by_from r new (was_known k' here same) first = from_some r new k' here same first
+    by_from r new (is_told other front back is own none about name tail) first = is_told other (reg ∷ front) back (ap (λ w. reg ∷ w) is) own (from_none r none first) about name tail
 
-    by_rest : (r : ℕ) → TookAt regs (with_row reg ks) news r → OneTook reg ks (with_row reg ks) r → TookAt (reg ∷ regs) ks news r
-    by_rest r (takes_none none none') one = takes_none (from_none r none one) none'
-    by_rest r (takes_one new there from) one = takes_one new there (by_from r new from one)
+    by_rest : (r : ℕ) → TookAt regs (with_row reg (first_known ks reg) ks) (with_rows regs (with_row reg (first_known ks reg) ks)) r → OneTook ks reg ks (with_row reg (first_known ks reg) ks) r → TookAt (reg ∷ regs) ks (with_rows regs (with_row reg (first_known ks reg) ks)) r
+    by_rest r (takes_none none none') first = takes_none (from_none r none first) none'
+    by_rest r (takes_one new there from) first = takes_one new there (by_from r new from first)
+
+-- WHERE A STATE COMES FROM
+
+over_was : (P : ℕ → State → Type 0) (reg : Registered) (k : IntakeRow) → P reg.changed reg.state → P k.changed k.state → P (taken_over reg k).changed (taken_over reg k).state
+over_was P reg k told was = by_test (nat_lt k.changed reg.changed) refl
+  where
+    by_test : (b : Bool) → nat_lt k.changed reg.changed ≡ b → P (max k.changed reg.changed) (cond b reg.state k.state)
+    by_test true is = let low : k.changed < reg.changed = grind (arith, nat_tests) in let later : max k.changed reg.changed ≡ reg.changed = omega arith in subst (λ n. P n reg.state) (sym later) told
+    by_test false is = let low : reg.changed ≤ k.changed = grind (arith, nat_tests) in let same : max k.changed reg.changed ≡ k.changed = omega arith in subst (λ n. P n k.state) (sym same) was
+
+-- what holds of each state that was known or is told, with its change number, holds of each that is known afterwards
+pub took_was : (P : ℕ → ℕ → State → Type 0) (regs : List Registered) (ks : List IntakeRow) → Ascends 0 ks → ((reg : Registered) (front back : List Registered) → regs ≡ front ++ reg ∷ back → P reg.row reg.changed reg.state)
+    → ((r : ℕ) (k : IntakeRow) → known_at ks r ≡ Some k → P r k.changed k.state) → (r : ℕ) (k : IntakeRow) → known_at (with_rows regs ks) r ≡ Some k → P r k.changed k.state
+took_was P [] ks up told was r k here = was r k here
+took_was P (reg ∷ regs) ks up told was r k here =
+    took_was P regs (with_row reg (first_known ks reg) ks) (with_ascends ks 0 reg ks (omega arith) up) (λ other front back is. told other (reg ∷ front) back (ap (λ w. reg ∷ w) is)) (λ i x there. by_one i x there (one_took ks 0 reg ks i up)) r k here
+  where
+    own : (i : ℕ) → reg.row ≡ i → P i reg.changed reg.state
+    own i at = subst (λ n. P n reg.changed reg.state) at (told reg [] regs refl)
+
+    by_one : (i : ℕ) (x : IntakeRow) → known_at (with_row reg (first_known ks reg) ks) i ≡ Some x → OneTook ks reg ks (with_row reg (first_known ks reg) ks) i → P i x.changed x.state
+    by_one i x there (same_as same) = was i x (sym same ∙ there)
+    by_one i x there (took_over old at a b) = subst (λ (y : IntakeRow). P i y.changed y.state) (some_same (sym b ∙ there)) (over_was (P i) reg old (own i at) (was i old a))
+    by_one i x there (came_new at a b) = subst (λ (y : IntakeRow). P i y.changed y.state) (some_same (sym b ∙ there)) (own i at)

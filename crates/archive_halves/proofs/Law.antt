@@ -9,17 +9,18 @@ use Rattle.two_histories.specs.Histories.{left_by}
 use Rattle.two_histories.proofs.Lists.{IsTail, prefix_same, prefix_shorter, tail_over, tail_longer, has_later}
 use Rattle.archive_halves.specs.Intake.{IntakeHalf}
 use Rattle.archive_halves.specs.IntakeStep.{IntakeEntry}
-use Rattle.archive_halves.specs.Laws.{StoreStaysSound, NothingIsLost, ReportedIsDurable}
-use Rattle.archive_halves.specs.Store.{StoreHalf, machine_of as store_machine}
+use Rattle.archive_halves.specs.Laws.{StoreStaysSound, NothingIsLost, BasesAreDurable, ReportedIsDurable}
+use Rattle.archive_halves.specs.Store.{StoreHalf, doubted, machine_of as store_machine}
 use Rattle.archive_halves.specs.StoreStep.{StoreEntry}
 use Rattle.archive_halves.specs.TwoHistories.{BeginTogether, StoreFits, IntakeFits, store_knows, intake_knows, IsPair}
 use Rattle.archive_halves.proofs.Batches.{BatchFits}
 use Rattle.archive_halves.proofs.Beginning.{begun}
-use Rattle.archive_halves.proofs.Joined.{A, T, D, IsJoined}
+use Rattle.archive_halves.proofs.Closing.{is_base}
+use Rattle.archive_halves.proofs.Joined.{A, T, D, Legal, IsJoined}
 use Rattle.archive_halves.proofs.IntakeMore.{intake_more}
 use Rattle.archive_halves.proofs.Looking.{batch_whole}
-use Rattle.archive_halves.proofs.Stepping.{batch_of_part, flush_stored}
-use Rattle.archive_halves.proofs.StoreMore.{Legal, store_more, seen_of, fits_of, settled_at}
+use Rattle.archive_halves.proofs.Stepping.{batch_of_part, flush_stored, half_row, half_forth}
+use Rattle.archive_halves.proofs.StoreMore.{store_more, seen_of, fits_of, settled_at}
 use Rattle.archive_halves.proofs.Telling.{batch_told}
 
 legal_of : (s0 : StoreHalf) (i0 : IntakeHalf) (s : List StoreEntry) (i : List IntakeEntry) → IsPair s0 i0 s i → Legal s0 i0 s i
@@ -51,19 +52,26 @@ nothing_is_lost s0 i0 s i p t r =
       joined = tail_over durable accepted tail own ∙ (ap (λ w. over durable w) at.flushed.1 ∙ (over_front durable at.flushed.0 rises ∙ sym at.flushed.1));
     }
 
+pub bases_are_durable : BasesAreDurable
+bases_are_durable s0 i0 s i p t k row b here base =
+    let j = joined_of s0 i0 s i p.begins t (legal_of s0 i0 s i p) in
+    let m = left_by s0 s in
+    (j.closed b (is_base (record { at = k; row = half_row (doubted m.doubt) m.rows k row; here = half_forth (doubted m.doubt) m.rows k row here; base = base }))).all
+
 pub reported_is_durable : ReportedIsDurable
 reported_is_durable s0 i0 s i p t front back e is ahead behind look is' low doors upto batch saw part reply ends rows len answer r =
     let at = legal_at store_knows intake_knows (StoreFits s0) (IntakeFits s0 i0) s i (legal_of s0 i0 s i p) front back e is in
     let first = at.first in
     let within = at.low in
-    let j = (joined_of s0 i0 front first p.begins t at.pair).joined in
+    let joined = joined_of s0 i0 front first p.begins t at.pair in
+    let j = joined.joined in
     let there : IsPrefix ahead first = prefix_shorter ahead first i (look ∷ behind, is') (at.rest, at.is) (omega arith) in
     let told = batch_told (p.intake ahead behind look is').0 doors batch 0 upto saw in
     let left = told.left_is in
     let all : of_row r batch ≡ T s0 i0 ahead r = ap (λ b. of_row r b) told.batch_is ∙ batch_whole told.limit 0 r (left_by i0 ahead).rows 0 (j.sounds ahead there).up (omega arith) in
     let old = left_by s0 front in
     let seen = seen_of s0 i0 front first e.other e.part at.pair j at.fit.1 in
-    let fits = subst (λ b. BatchFits (store_machine 0 old).rows (batch_of_part b)) part (fits_of s0 i0 old first (batch_of_part e.part) j seen) in
+    let fits = subst (λ b. BatchFits (store_machine 0 old).rows old.doubt (batch_of_part b)) part (fits_of s0 i0 old first (batch_of_part e.part) j (λ k c. (joined.closed k c).all) seen) in
     let done = flush_stored at.fit.0 batch upto 0 doors part reply ends rows len answer j.sound j.told fits in
     let mid = done.mid r in
     let now = (settled_at s0 i0 old first done.mid r j (done.settled r)).1 in

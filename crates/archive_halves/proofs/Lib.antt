@@ -1,4 +1,5 @@
 pub mod Retailed
+pub mod Closing
 pub mod StoreSound
 pub mod Durables
 pub mod Keeping
@@ -6,6 +7,7 @@ pub mod Settling
 pub mod Going
 pub mod Batches
 pub mod Flushing
+pub mod Renaming
 pub mod Pinning
 pub mod Stepping
 pub mod Gaining
@@ -14,6 +16,7 @@ pub mod IntakeLaws
 pub mod Looking
 pub mod Telling
 pub mod Joined
+pub mod Idle
 pub mod StoreMore
 pub mod IntakeMore
 pub mod Beginning

@@ -13,7 +13,7 @@ use Rattle.act_model.specs.Details.{details_refused, Describes}
 use Rattle.act_model.specs.Limbo.{FileState, tier_at}
 use Rattle.act_model.specs.Machine.{Machine, MoveState, PinState, Change, find_row}
 use Rattle.act_model.specs.Outcome.{Acts, all_go}
-use Rattle.act_model.specs.Pin.{Pins, pins, IsListedPiece}
+use Rattle.act_model.specs.Pin.{Pins, pins, IsListedPiece, IsPieceOf}
 use Rattle.act_model.specs.Reply.{Reply}
 use Rattle.act_model.specs.Rows.{RowState, Store, Short, Medium, Long, tier, window, is_empty}
 use Rattle.act_model.specs.Rule.{Rule}
@@ -91,19 +91,21 @@ none_may look mid one s none free is = absurd cc
 
 pinned_sound : {who : ℕ} {name : List ℕ} {query : Query} {reply : Reply} (look : RowLook) (mid end new : Machine) → IsSound mid → Pins who name query (tail_of look mid) reply end → new ≡ record end { rows = mid.rows } → IsSound new
 pinned_sound {who} look mid end new s (pins i row pin pieces found here free least listed order gives few same) is =
-    let own = own_row mid look i row here in
     let made : PinState = record { owner = who; pieces = pieces } in
     let all : new ≡ record mid { pins = insert mid.pins pin made; faults = end.faults } = is ∙ ap (λ (m : Machine). record m { rows = mid.rows }) same in
-    let sound : IsSound (record mid { pins = insert mid.pins pin made }) = other_pins mid (insert mid.pins pin made) s (λ t n other there. by_case own made t n other (pin_inserted mid.pins pin n made other there) refl) in
+    let sound : IsSound (record mid { pins = insert mid.pins pin made }) = other_pins mid (insert mid.pins pin made) s (λ t n other there. by_case made t n other (pin_inserted mid.pins pin n made other there) refl) in
     subst (λ m. IsSound m) (sym all) sound
   where
-    by_case : (own : OwnRow mid look i row) (made : PinState) → mid.told ≡ true → (n : ℕ) (other : PinState) → ((n ≡ pin) × (other ≡ made)) ⊎ ((n ≢ pin) × (get mid.pins n ≡ Some other)) → made.pieces ≡ pieces → AllByRecursion (PieceSound mid.rule mid.rows mid.limbo) other.pieces
-    by_case own made t n other (inl same') has =
-        let each_listed : AllByRecursion (IsListedPiece mid.rule i (record own.own { tail = own.xs })) pieces = subst (λ r. AllByRecursion (IsListedPiece mid.rule i r) pieces) own.is (listed t) in
-        let sound = of_all (IsListedPiece mid.rule i (record own.own { tail = own.xs })) (PieceSound mid.rule mid.rows mid.limbo) pieces
-        (λ f l. listed_sound mid.rule mid.rows mid.limbo i own.own own.here s.each_unlisted f (listed_piece mid.rule i own.xs own.own f l)) each_listed in
+    own_sound : (f : FileState) → IsPieceOf mid.rule (tail_rows look mid) i row f → PieceSound mid.rule mid.rows mid.limbo f
+    own_sound f p =
+        let own = own_row mid look f.row p.own p.here in
+        listed_sound mid.rule mid.rows mid.limbo f.row own.own own.here s.each_unlisted f (listed_piece mid.rule f.row own.xs own.own f (subst (λ r. IsListedPiece mid.rule f.row r f) own.is p.listed))
+
+    by_case : (made : PinState) → mid.told ≡ true → (n : ℕ) (other : PinState) → ((n ≡ pin) × (other ≡ made)) ⊎ ((n ≢ pin) × (get mid.pins n ≡ Some other)) → made.pieces ≡ pieces → AllByRecursion (PieceSound mid.rule mid.rows mid.limbo) other.pieces
+    by_case made t n other (inl same') has =
+        let sound = of_all (IsPieceOf mid.rule (tail_rows look mid) i row) (PieceSound mid.rule mid.rows mid.limbo) pieces own_sound (listed t) in
         subst (λ (p : PinState). AllByRecursion (PieceSound mid.rule mid.rows mid.limbo) p.pieces) (sym same'.1) (subst (λ w. AllByRecursion (PieceSound mid.rule mid.rows mid.limbo) w) (sym has) sound)
-    by_case own made t n other (inr there) has = s.pinned t n other there.1
+    by_case made t n other (inr there) has = s.pinned t n other there.1
 
 all_fewer : (moves : FinMap nat_cmp MoveState) (n : ℕ) (move : MoveState) → get (all_go moves) n ≡ Some move → get moves n ≡ Some move
 all_fewer moves n move here = here

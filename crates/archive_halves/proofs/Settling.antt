@@ -1,11 +1,12 @@
 -- What an act that carries no samples leaves of what is durable, and what in doubt.
 use Rattle.std.proofs.Common.{◌≡◌, ℕ, List, [], Option, Some, None, true, refl, ap, sym, ◌∙◌, inl, inr}
 use Rattle.std.specs.Prelude.{◌⊎◌, slice_get}
+use Rattle.std.proofs.lemmas.Option.{same_Some}
 use Rattle.std.specs.Ordering.{nat_cmp}
 use Rattle.std.specs.FinMap.{FinMap}
 use Rattle.series_model.specs.Series.{over}
 use Rattle.act_model.specs.Changes.{Settles, no_doubt, as_not_made, as_made, made}
-use Rattle.act_model.specs.Machine.{Machine, MoveState, Change}
+use Rattle.act_model.specs.Machine.{Machine, MoveState, Change, Renames}
 use Rattle.act_model.specs.Outcome.{Acts, refused_at_once, refused, runs, faults_first, faults_between, faults_within, faults_removing, wants_memory, wants_memory_settled}
 use Rattle.act_model.specs.Reply.{Reply}
 use Rattle.act_model.specs.Rows.{RowState, durable}
@@ -13,7 +14,9 @@ use Rattle.act_model.specs.Sound.{IsSound}
 use Rattle.act_model.proofs.Onward.{onward_settled}
 use Rattle.act_model.proofs.StepLaws.{settled_sound, settled_none}
 use Rattle.archive_halves.specs.Store.{appended, doubted}
+use Rattle.archive_halves.proofs.Closing.{IsClosed, is_base, may_be_base, bases_same, closed_settled}
 use Rattle.archive_halves.proofs.Durables.{durable_in, made_durable}
+use Rattle.archive_halves.proofs.Retailed.{IsBase}
 use Rattle.archive_halves.proofs.Keeping.{KeepsDurable, keep_same, none_durable, past_durable}
 
 -- the machine's tails are the samples in doubt
@@ -55,32 +58,71 @@ further old mid news settled keeps i = by_kind (settled i)
     by_kind (inl same) = inl (keeps i ∙ same)
     by_kind (inr more) = inr (more.0, more.1, keeps i ∙ more.2)
 
+-- each row that is closed was so before
+abbrev pub ClosesNone : Machine → Machine → Type 0
+ClosesNone old new = (i : ℕ) → IsClosed new.rows new.doubt i → IsClosed old.rows old.doubt i
+
+pub closed_same : (old new : Machine) → new.rows ≡ old.rows → new.doubt ≡ old.doubt → ClosesNone old new
+closed_same old new rows doubt i (is_base b) = is_base (bases_same old.rows new.rows rows i b)
+closed_same old new rows doubt i (may_be_base name row here is) = may_be_base name row (ap (λ w. slice_get w i) (sym rows) ∙ here) (sym doubt ∙ is)
+
 -- nothing was settled
 pub went_nowhere : (old new : Machine) → new.rows ≡ old.rows → new.doubt ≡ old.doubt → Went old new
 went_nowhere old new rows doubt = record { settled = λ i. inl (keep_same old.rows new.rows rows i); doubt = inr (doubt, rows) }
 
-module _ (refuse : Machine → Option Reply) (run : Machine → Reply → Machine → Type 0) (change : Machine → Option Change) (stopped : FinMap nat_cmp MoveState → FinMap nat_cmp MoveState)
-    (run_keeps : (mid : Machine) (answer : Reply) (new : Machine) → IsSound mid → mid.told ≡ true → run mid answer new → KeepsDurable mid.rows new.rows × (new.doubt ≡ mid.doubt))
-    (no_batch : (m : Machine) (one : Change) → change m ≡ Some one → (i : ℕ) → appended one i ≡ []) where
+-- A row was closed before, or the act closes it, which isn't refused once a doubt is settled.
+pub data Closes (refuse : Machine → Option Reply) (closes : Machine → ℕ → Type 0) (old new : Machine) (i : ℕ) : Type 0 where
+  was_closed : IsClosed old.rows old.doubt i → Closes refuse closes old new i
+  is_closed : (mid : Machine) → Settles old mid → refuse mid ≡ None → closes mid i → durable_in new.rows i ≡ durable_in mid.rows i → Closes refuse closes old new i
+
+module _ (refuse : Machine → Option Reply) (run : Machine → Reply → Machine → Type 0) (change : Machine → Option Change) (stopped : FinMap nat_cmp MoveState → FinMap nat_cmp MoveState) (closes : Machine → ℕ → Type 0)
+    (run_keeps : (mid : Machine) (answer : Reply) (new : Machine) → IsSound mid → mid.told ≡ true → run mid answer new → KeepsDurable mid.rows new.rows × ((i : ℕ) → IsBase new.rows i → IsBase mid.rows i ⊎ closes mid i) × (new.doubt ≡ mid.doubt))
+    (no_batch : (m : Machine) (one : Change) → change m ≡ Some one → ((i : ℕ) → appended one i ≡ []) × ((k : ℕ) (name : List ℕ) → one ≡ Renames k name → closes m k)) where
+  abbrev ClosesEach : Machine → Machine → Type 0
+  ClosesEach old new = (i : ℕ) → IsClosed new.rows new.doubt i → Closes refuse closes old new i
+
   settled_to : {old mid : Machine} (new : Machine) → Settles old mid → IsSound old → old.told ≡ true → HasDoubtedTails old → KeepsDurable mid.rows new.rows → NoneDoubted new.doubt → Went old new
   settled_to {old} {mid} new settles s t tails keeps none = record { settled = further old mid.rows new.rows (settled_durable settles s t tails) keeps; doubt = inl none }
 
-  ran_to : {old mid : Machine} (answer : Reply) (new : Machine) → Settles old mid → IsSound old → old.told ≡ true → HasDoubtedTails old → run mid answer new → Went old new
-  ran_to {old} {mid} answer new settles s t tails ran =
-      let kept = run_keeps mid answer new (settled_sound settles s) ((onward_settled s settles).told ∙ t) ran in
-      settled_to new settles s t tails kept.0 (no_samples new.doubt (kept.1 ∙ settled_none settles))
+  ran_to : {old mid : Machine} (answer : Reply) (new : Machine) → Settles old mid → IsSound old → old.told ≡ true → HasDoubtedTails old → refuse mid ≡ None → run mid answer new → Went old new × ClosesEach old new
+  ran_to {old} {mid} answer new settles s t tails free ran = (settled_to new settles s t tails kept.0 (no_samples new.doubt none), by_kind)
+    where
+      kept : KeepsDurable mid.rows new.rows × ((i : ℕ) → IsBase new.rows i → IsBase mid.rows i ⊎ closes mid i) × (new.doubt ≡ mid.doubt)
+      kept = run_keeps mid answer new (settled_sound settles s) ((onward_settled s settles).told ∙ t) ran
 
-  same_to : {old mid : Machine} (new : Machine) → Settles old mid → IsSound old → old.told ≡ true → HasDoubtedTails old → new.rows ≡ mid.rows → new.doubt ≡ mid.doubt → Went old new
-  same_to {old} {mid} new settles s t tails rows doubt = settled_to new settles s t tails (keep_same mid.rows new.rows rows) (no_samples new.doubt (doubt ∙ settled_none settles))
+      none : new.doubt ≡ None
+      none = kept.2 ∙ settled_none settles
 
-  pub acts_went : {old new : Machine} {answer : Reply} → IsSound old → old.told ≡ true → HasDoubtedTails old → Acts refuse run change stopped old answer new → Went old new
-  acts_went {old} {new} s t tails (refused_at_once answer p) = went_nowhere old new refl refl
+      by_base : (i : ℕ) → IsBase mid.rows i ⊎ closes mid i → Closes refuse closes old new i
+      by_base i (inl was) = was_closed (closed_settled settles i (is_base was))
+      by_base i (inr now) = is_closed mid settles free now (kept.0 i)
+
+      by_kind : ClosesEach old new
+      by_kind i (is_base b) = by_base i (kept.1 i b)
+      by_kind i (may_be_base name row here is) = absurd (let bad = sym none ∙ is in cc)
+
+  same_to : {old mid : Machine} (new : Machine) → Settles old mid → IsSound old → old.told ≡ true → HasDoubtedTails old → new.rows ≡ mid.rows → new.doubt ≡ mid.doubt → Went old new × ClosesEach old new
+  same_to {old} {mid} new settles s t tails rows doubt =
+      (settled_to new settles s t tails (keep_same mid.rows new.rows rows) (no_samples new.doubt (doubt ∙ settled_none settles)), λ i c. was_closed (closed_settled settles i (closed_same mid new rows doubt i c)))
+
+  fails_to : {old mid : Machine} (one : Change) (new : Machine) → Settles old mid → IsSound old → old.told ≡ true → HasDoubtedTails old → refuse mid ≡ None → change mid ≡ Some one → new.rows ≡ mid.rows → new.doubt ≡ Some one → Went old new × ClosesEach old new
+  fails_to {old} {mid} one new settles s t tails free makes rows doubt =
+      (settled_to new settles s t tails (keep_same mid.rows new.rows rows) (λ i. ap (λ d. doubted d i) doubt ∙ (no_batch mid one makes).0 i), by_kind)
+    where
+      by_kind : ClosesEach old new
+      by_kind i (is_base b) = was_closed (closed_settled settles i (is_base (bases_same mid.rows new.rows rows i b)))
+      by_kind i (may_be_base name row here is) = is_closed mid settles free ((no_batch mid one makes).1 i name (same_Some one (Renames i name) (sym doubt ∙ is))) (keep_same mid.rows new.rows rows i)
+
+  nowhere : (old new : Machine) → new.rows ≡ old.rows → new.doubt ≡ old.doubt → Went old new × ClosesEach old new
+  nowhere old new rows doubt = (went_nowhere old new rows doubt, λ i c. was_closed (closed_same old new rows doubt i c))
+
+  pub acts_went : {old new : Machine} {answer : Reply} → IsSound old → old.told ≡ true → HasDoubtedTails old → Acts refuse run change stopped old answer new → Went old new × ClosesEach old new
+  acts_went {old} {new} s t tails (refused_at_once answer p) = nowhere old new refl refl
   acts_went {old} {new} s t tails (refused answer p settles q same r) = same_to new settles s t tails (ap (λ (m : Machine). m.rows) same) (ap (λ (m : Machine). m.doubt) same)
-  acts_went {old} {new} s t tails (runs answer p settles q ran r) = ran_to answer new settles s t tails ran
-  acts_went {old} {new} s t tails (faults_first p same q) = went_nowhere old new (ap (λ (m : Machine). m.rows) same) (ap (λ (m : Machine). m.doubt) same)
+  acts_went {old} {new} s t tails (runs answer p settles q ran r) = ran_to answer new settles s t tails q ran
+  acts_went {old} {new} s t tails (faults_first p same q) = nowhere old new (ap (λ (m : Machine). m.rows) same) (ap (λ (m : Machine). m.doubt) same)
   acts_went {old} {new} s t tails (faults_between p settles same q) = same_to new settles s t tails (ap (λ (m : Machine). m.rows) same) (ap (λ (m : Machine). m.doubt) same)
-  acts_went {old} {new} s t tails (faults_within {mid = mid} doubted' p settles q r same u) =
-      settled_to new settles s t tails (keep_same mid.rows new.rows (ap (λ (m : Machine). m.rows) same)) (λ i. ap (λ (m : Machine). doubted m.doubt i) same ∙ no_batch mid doubted' r i)
-  acts_went {old} {new} s t tails (faults_removing answer removes p settles q ran r) = ran_to answer new settles s t tails ran
-  acts_went {old} {new} s t tails (wants_memory same q) = went_nowhere old new (ap (λ (m : Machine). m.rows) same) (ap (λ (m : Machine). m.doubt) same)
+  acts_went {old} {new} s t tails (faults_within one p settles q r same u) = fails_to one new settles s t tails q r (ap (λ (m : Machine). m.rows) same) (ap (λ (m : Machine). m.doubt) same)
+  acts_went {old} {new} s t tails (faults_removing answer removes p settles q ran r) = ran_to answer new settles s t tails q ran
+  acts_went {old} {new} s t tails (wants_memory same q) = nowhere old new (ap (λ (m : Machine). m.rows) same) (ap (λ (m : Machine). m.doubt) same)
   acts_went {old} {new} s t tails (wants_memory_settled p settles same q) = same_to new settles s t tails (ap (λ (m : Machine). m.rows) same) (ap (λ (m : Machine). m.doubt) same)

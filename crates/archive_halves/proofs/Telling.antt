@@ -6,10 +6,10 @@ use Rattle.series_model.specs.Series.{end_of}
 use Rattle.act_model.specs.declared.acts.Answer.TheVariants.{Flushed}
 use Rattle.act_model.specs.Machine.{Machine, held_bytes}
 use Rattle.act_model.specs.Reply.{Reply}
-use Rattle.archive_halves.specs.Intake.{IntakeHalf, machine_of, batch_of, bytes_in}
-use Rattle.archive_halves.specs.IntakeStep.{IntakePart, IntakeAnswer, SawBatch, IntakeStep, offers, ticks, no_row, sees_doors, sees_batch, sees_row, takes, takes_flush}
+use Rattle.archive_halves.specs.Intake.{IntakeHalf, RowLook, look_at, known_as, machine_of, batch_of, bytes_in}
+use Rattle.archive_halves.specs.IntakeStep.{IntakePart, LooksAt, IntakeAnswer, SawBatch, SawRow, IntakeStep, offers, ticks, no_row, sees_doors, sees_batch, sees_row, takes, takes_flush}
 use Rattle.archive_halves.specs.Store.{StoreHalf, StoreRow, Registered, registered, changed_since, durable_at}
-use Rattle.archive_halves.specs.StoreStep.{StorePart, Does, BeginsMove, Flushes, PinsAt, DescribesAt, StoreAnswer, Stored, StoreStep, answer_of, ends_in}
+use Rattle.archive_halves.specs.StoreStep.{StorePart, Does, BeginsMove, Flushes, PinsAt, DescribesAt, RenamesAt, StoreAnswer, Stored, StoreStep, answer_of, ends_in}
 use Rattle.archive_halves.proofs.Batches.{ends_are}
 use Rattle.archive_halves.proofs.Durables.{in_left_rows}
 
@@ -30,6 +30,7 @@ told_by n (BeginsMove store now doors) new after reply told ends rows len is = a
 told_by n (Flushes batch upto left doors) new after reply told ends rows len is = told_flush n batch upto left doors new after reply told ends rows len is
 told_by n (PinsAt query look) new after reply told ends rows len is = absurd cc
 told_by n (DescribesAt look) new after reply told ends rows len is = absurd cc
+told_by n (RenamesAt newname look) new after reply told ends rows len is = absurd cc
 
 pub store_told : {who n : ℕ} {old new : StoreHalf} {part : StorePart} {answer : StoreAnswer} → StoreStep who n old part answer new → (told : Reply) (ends : ℕ → ℕ) (rows : List Registered) (len : ℕ) → answer ≡ Stored told ends rows len
     → ((i : ℕ) → ends i ≡ end_of (durable_at new.rows i)) × ((upto : ℕ) × (rows ≡ changed_since upto 0 new.rows))
@@ -60,6 +61,18 @@ pub record BatchTold (old : IntakeHalf) (batch : List RowSamples) (left : ℕ) :
   pub limit : ℕ
   pub batch_is : batch ≡ batch_of limit old
   pub left_is : left ≡ held_bytes (machine_of old).rows - bytes_in (batch_of limit old)
+
+-- what a Look at a row tells
+pub look_told : {who : ℕ} {old new : IntakeHalf} {part : IntakePart} {answer : IntakeAnswer} → IntakeStep who old part answer new → (name : List ℕ) (doors : ℕ) (look : RowLook) → part ≡ LooksAt name → answer ≡ SawRow doors look → look ≡ look_at name (known_as old.rows name)
+look_told (offers after act reply a b c) name doors look part is = absurd cc
+look_told (ticks after row now i reply a b) name doors look part is = absurd cc
+look_told (no_row row now a) name doors look part is = absurd cc
+look_told sees_doors name doors look part is = absurd cc
+look_told (sees_batch limit a) name doors look part is = absurd cc
+look_told {old = old} (sees_row other) name doors look part is =
+    let same : other ≡ name = cc in let told : look_at other (known_as old.rows other) ≡ look = cc in sym told ∙ ap (λ w. look_at w (known_as old.rows w)) same
+look_told (takes ends rows) name doors look part is = absurd cc
+look_told (takes_flush len ends rows) name doors look part is = absurd cc
 
 pub batch_told : {who : ℕ} {old new : IntakeHalf} {part : IntakePart} {answer : IntakeAnswer} → IntakeStep who old part answer new → (doors : ℕ) (batch : List RowSamples) (left upto : ℕ) → answer ≡ SawBatch doors batch left upto → BatchTold old batch left
 batch_told (offers after act reply a b c) doors batch left upto is = absurd cc

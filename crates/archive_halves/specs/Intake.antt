@@ -14,12 +14,14 @@ use Rattle.act_model.specs.Rule.{Rule}
 use Rattle.archive_halves.specs.Store.{Registered}
 
 -- A row that the intake knows, by its number in the store: with the change number that it knows, how many samples it accepted of it since
--- the archive was opened, `next`, the first moment later than all that was accepted, the tail, and what a sampled row holds.
+-- the archive was opened, `next`, the first moment later than all that was accepted of the variable under each of its names, the tail, and
+-- what a sampled row holds.
 pub record IntakeRow : Type 0 where
   pub row : ℕ
   pub name : List ℕ
   pub about : About
   pub state : State
+  pub base : Option ℕ
   pub changed : ℕ
   pub count : ℕ
   pub next : ℕ
@@ -52,12 +54,14 @@ tail_at rows i = of (known_at rows i)
 
 -- THE HALF AS A MACHINE
 
+-- an offer or a tick looks at no base: what it has to know of one is in `next`
 abbrev pub as_row : IntakeRow → RowState
 as_row row =
     record {
       name = row.name;
       about = row.about;
       state = row.state;
+      base = None;
       next = row.next;
       tail = row.tail;
       cell = row.cell;
@@ -137,7 +141,7 @@ look_at name (Some row) =
       name = name;
       tail = row.tail;
       count = row.count;
-      known = Some (record { row = row.row; name = row.name; about = row.about; state = row.state; changed = row.changed });
+      known = Some (record { row = row.row; name = row.name; about = row.about; state = row.state; base = row.base; changed = row.changed });
     }
 
 -- WHAT A TAKE LETS GO AND TAKES OVER
@@ -146,10 +150,30 @@ look_at name (Some row) =
 abbrev pub trimmed : (ℕ → ℕ) → IntakeRow → IntakeRow
 trimmed ends row = record row { tail = since (ends row.row) row.tail }
 
+-- where the samples end that were accepted under earlier names
+abbrev pub next_of : List IntakeRow → Option ℕ → ℕ
+next_of rows None = 0
+next_of rows (Some b) = of (known_at rows b)
+  where
+    of : Option IntakeRow → ℕ
+    of None = 0
+    of (Some row) = row.next
+
 -- a row that the intake doesn't know yet: nothing of it is accepted or held
-abbrev pub first_known : Registered → IntakeRow
-first_known r =
-    record { row = r.row; name = r.name; about = r.about; state = r.state; changed = r.changed; count = 0; next = 0; tail = []; cell = first_cell }
+abbrev pub first_known : List IntakeRow → Registered → IntakeRow
+first_known known r =
+    record {
+      row = r.row;
+      name = r.name;
+      about = r.about;
+      state = r.state;
+      base = r.base;
+      changed = r.changed;
+      count = 0;
+      next = next_of known r.base;
+      tail = [];
+      cell = first_cell;
+    }
 
 -- a change that is later than the known one sets the row's state, and clears what is held of it
 abbrev pub taken_over : Registered → IntakeRow → IntakeRow
@@ -161,17 +185,17 @@ taken_over r row =
       cell = if later then first_cell else row.cell;
     }
 
--- a row that is told goes to its place
-abbrev pub with_row : Registered → List IntakeRow → List IntakeRow
-with_row r [] = first_known r ∷ []
-with_row r (row ∷ rows) =
+-- a row that is told goes to its place, as this one where it isn't known yet
+abbrev pub with_row : Registered → IntakeRow → List IntakeRow → List IntakeRow
+with_row r new [] = new ∷ []
+with_row r new (row ∷ rows) =
     if row.row == r.row
     then taken_over r row ∷ rows
-    else if nat_lt r.row row.row then first_known r ∷ (row ∷ rows) else row ∷ with_row r rows
+    else if nat_lt r.row row.row then new ∷ (row ∷ rows) else row ∷ with_row r new rows
 
 abbrev pub with_rows : List Registered → List IntakeRow → List IntakeRow
 with_rows [] known = known
-with_rows (r ∷ rows) known = with_rows rows (with_row r known)
+with_rows (r ∷ rows) known = with_rows rows (with_row r (first_known known r) known)
 
 abbrev pub taken : (ℕ → ℕ) → List Registered → IntakeHalf → IntakeHalf
 taken ends rows m = record m { rows = with_rows rows (map (trimmed ends) m.rows) }

@@ -8,20 +8,22 @@ use Rattle.event_types.specs.declared.about.State.{State}
 use Rattle.event_types.specs.declared.about.State.TheVariants.{Running, Paused, Retired}
 use Rattle.series_model.specs.declared.sample.Sample.{Sample}
 use Rattle.series_model.specs.Sampling.{first_cell}
-use Rattle.series_model.specs.Series.{over, end_of, end_from}
-use Rattle.act_model.specs.Changes.{of_row}
+use Rattle.series_model.specs.Series.{over, end_of}
+use Rattle.act_model.specs.Changes.{each, of_row}
 use Rattle.act_model.specs.Limbo.{FileState}
-use Rattle.act_model.specs.Machine.{Machine, PinState, MoveState, Change, AddsRow, SetsState, Appends, Publishes, Unlists}
-use Rattle.act_model.specs.Rows.{RowState}
+use Rattle.act_model.specs.Machine.{Machine, PinState, MoveState, Change, AddsRow, SetsState, Renames, Appends, Publishes, Unlists}
+use Rattle.act_model.specs.Rows.{RowState, accepted}
 use Rattle.act_model.specs.Rule.{Rule}
+use Rattle.act_model.specs.Whole.{whole}
 use Rattle.two_histories.specs.Store.{Lists}
 
 -- A row as the store has it. `changed` is its change number: the length of the store's history with the row's last change in it, which is
--- that it was registered, paused or resumed; and 0 of a row as the archive was opened.
+-- that it was registered, paused, resumed or retired, or came as a variable's row of a new name; and 0 of a row as the archive was opened.
 pub record StoreRow : Type 0 where
   pub name : List ℕ
   pub about : About
   pub state : State
+  pub base : Option ℕ
   pub short : List Sample
   pub medium : List Sample
   pub long : List Sample
@@ -51,14 +53,15 @@ durable_at rows i = of (slice_get rows i)
 
 -- THE HALF AS A MACHINE
 
--- the row as the machine has it beside a tail
+-- the row as the machine has it beside a tail, before it is known where the whole of it ends
 abbrev pub row_with : List Sample → StoreRow → RowState
 row_with tail row =
     record {
       name = row.name;
       about = row.about;
       state = row.state;
-      next = end_from (end_of (durable_of row)) tail;
+      base = row.base;
+      next = 0;
       tail = tail;
       cell = first_cell;
       short = row.short;
@@ -71,12 +74,19 @@ abbrev pub rows_with : Lists → ℕ → List StoreRow → List RowState
 rows_with tails i [] = []
 rows_with tails i (row ∷ rows) = row_with (tails i) row ∷ rows_with tails (i + 1) rows
 
+-- admission takes what is later than the whole of the row
+abbrev pub with_end : List RowState → ℕ → RowState → RowState
+with_end rows i row = record row { next = end_of (whole accepted rows i) }
+
+abbrev pub with_ends : List RowState → List RowState
+with_ends rows = each (with_end rows) 0 rows
+
 -- the half as a machine beside these tails and so many open doors
 abbrev pub machine_with : Lists → ℕ → StoreHalf → Machine
 machine_with tails doors m =
     record {
       rule = m.rule;
-      rows = rows_with tails 0 m.rows;
+      rows = with_ends (rows_with tails 0 m.rows);
       limbo = m.limbo;
       pins = m.pins;
       moves = m.moves;
@@ -90,6 +100,7 @@ machine_with tails doors m =
 abbrev pub appended : Change → Lists
 appended (AddsRow name about) i = []
 appended (SetsState k state) i = []
+appended (Renames k name) i = []
 appended (Appends batch) i = of_row i batch
 appended (Publishes k store copied) i = []
 appended (Unlists k store to) i = []
@@ -122,6 +133,7 @@ left_row n old row =
       name = row.name;
       about = row.about;
       state = row.state;
+      base = row.base;
       short = row.short;
       medium = row.medium;
       long = row.long;
@@ -155,10 +167,11 @@ pub record Registered : Type 0 where
   pub name : List ℕ
   pub about : About
   pub state : State
+  pub base : Option ℕ
   pub changed : ℕ
 
 abbrev pub registered : ℕ → StoreRow → Registered
-registered i row = record { row = i; name = row.name; about = row.about; state = row.state; changed = row.changed }
+registered i row = record { row = i; name = row.name; about = row.about; state = row.state; base = row.base; changed = row.changed }
 
 -- the rows from a number on whose change number is greater
 abbrev pub changed_since : ℕ → ℕ → List StoreRow → List Registered

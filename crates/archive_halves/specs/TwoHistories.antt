@@ -11,7 +11,7 @@ use Rattle.two_histories.specs.Histories.{left_by}
 use Rattle.two_histories.specs.Store.{Lists}
 use Rattle.archive_halves.specs.Store.{StoreHalf, StoreRow, Registered, registered, durable_at, store_of}
 use Rattle.archive_halves.specs.Intake.{IntakeHalf, IntakeRow, tail_at}
-use Rattle.archive_halves.specs.StoreStep.{StorePart, StoreEntry, StoreStep, Does, BeginsMove, Flushes, PinsAt, DescribesAt, Stored}
+use Rattle.archive_halves.specs.StoreStep.{StorePart, StoreEntry, StoreStep, Does, BeginsMove, Flushes, PinsAt, DescribesAt, RenamesAt, Stored}
 use Rattle.archive_halves.specs.IntakeStep.{IntakePart, IntakeEntry, IntakeStep, Offers, Ticks, LooksForDoors, LooksForBatch}
 use Rattle.archive_halves.specs.IntakeStep.{LooksAt, Takes, TakesFlush, SawDoors, SawBatch, SawRow}
 
@@ -33,6 +33,7 @@ first_row i row =
       name = row.name;
       about = row.about;
       state = row.state;
+      base = row.base;
       changed = 0;
       count = length (accepted row);
       next = row.next;
@@ -69,6 +70,7 @@ StoreAllowed (Flushes batch upto left doors) known =
     (limit : ℕ) × Has (λ e. (e.part ≡ LooksForBatch limit) × (e.answer ≡ SawBatch doors batch left upto)) known
 StoreAllowed (PinsAt query look) known = (doors : ℕ) × Has (λ e. (e.part ≡ LooksAt look.name) × (e.answer ≡ SawRow doors look)) known
 StoreAllowed (DescribesAt look) known = (doors : ℕ) × Has (λ e. (e.part ≡ LooksAt look.name) × (e.answer ≡ SawRow doors look)) known
+StoreAllowed (RenamesAt newname look) known = (doors : ℕ) × Has (λ e. (e.part ≡ LooksAt look.name) × (e.answer ≡ SawRow doors look)) known
 
 -- it is so after some beginning of the history
 abbrev pub Once : (StoreHalf → Type 0) → StoreHalf → List StoreEntry → Type 0

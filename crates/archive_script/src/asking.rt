@@ -62,6 +62,14 @@ fn register(alloc: Global, words: &[&str]) -> Result<Act>
     Ok(Act::Register { name, about })
 }
 
+fn rename(alloc: Global, name: Blob, words: &[&str]) -> Result<Act>
+    ensures { IfOk result MayAsk }
+{
+    let newname = PvName::new(alloc, word(words, 2).as_bytes());
+    let newname = newname.ok().context("no name")?;
+    Ok(Act::Rename { name, newname })
+}
+
 // The sample of a line.
 fn sample(alloc: Global, ty: PayloadType, year: i32, line: Vec<u8>) -> Result<Sample>
     ensures { IfOk result (λ s. IsEvent ty s) }
@@ -111,6 +119,7 @@ pub(crate) fn act_of(alloc: Global, words: &[&str]) -> Result<Act>
         "offer" => return offer(alloc, name, words),
         "pause" => Act::Pause { name },
         "resume" => Act::Resume { name },
+        "rename" => return rename(alloc, name, words),
         "tick" => Act::Tick { row, now },
         "flush" => Act::Flush {
             limit: number(first).max(1),

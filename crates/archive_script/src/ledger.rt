@@ -65,21 +65,61 @@ impl Ledger {
         Ledger { alloc, rows }
     }
 
-    // A row is behind those in front of this place, if it is there. Those were made, and one in its place that was in doubt wasn't.
-    fn push(&mut self, name: &str, place: usize, is_there: bool) -> Result<()> {
-        self.rows.truncate(place);
-        for row in &mut self.rows {
-            row.is_there |= is_there;
-        }
-        self.rows.push(RowTold {
+    // A row that was registered, or is in doubt.
+    fn registered(&self, name: &str, is_there: bool) -> Result<RowTold> {
+        Ok(RowTold {
             name: String::from_str(self.alloc, name)?,
             is_there,
             state: Some(State::Running),
             held: None,
             lines: Vec::new(self.alloc),
             durable: 0,
-        })?;
+        })
+    }
+
+    // A row is behind those in front of this place, if it is there. Those were made, and one in its place that was in doubt wasn't.
+    fn push(&mut self, told: RowTold, place: usize) -> Result<()> {
+        self.rows.truncate(place);
+        for row in &mut self.rows {
+            row.is_there |= told.is_there;
+        }
+        self.rows.push(told)?;
         Ok(())
+    }
+
+    // A variable goes on under a new name in a row at this place, with all that was accepted of it, which is durable.
+    fn renamed(&mut self, name: &str, newname: &str, place: usize) -> Result<()> {
+        let mut told = self.registered(newname, true)?;
+        told.state = Some(State::Paused);
+        if let Some(old) = self.find(name) {
+            old.state = Some(State::Retired);
+            old.durable = old.lines.len();
+            told.lines = old.lines.clone()?;
+            told.durable = old.durable;
+        }
+        self.push(told, place)
+    }
+
+    // Whether a variable has its new name is in doubt.
+    fn doubt_name(&mut self, name: &str, newname: &str) -> Result<()> {
+        let mut told = self.registered(newname, false)?;
+        told.state = Some(State::Paused);
+        if let Some(old) = self.find(name) {
+            old.state = None;
+            told.lines = old.lines.clone()?;
+            told.durable = old.durable;
+        }
+        if self.find(newname).is_none() {
+            self.push(told, usize::MAX)?;
+        }
+        Ok(())
+    }
+
+    // A row has the name.
+    fn is_taken(&mut self, name: &str) {
+        if let Some(row) = self.find(name) {
+            row.is_there = true;
+        }
     }
 
     // Whole tails were taken, in the order of rows, of so many samples; nothing is left where no byte is.
@@ -108,22 +148,37 @@ impl Ledger {
 
     /// Takes note of what an act was answered.
     pub(crate) fn note(&mut self, words: &[&str], answer: &Answer<MemFile>) -> Result<()> {
-        let (act, name) = (word(words, 0), word(words, 1));
+        let (act, name, newname) = (word(words, 0), word(words, 1), word(words, 2));
         let line = Some(String::from_str(self.alloc, word(words, 4))?);
-        if let Answer::Registered { row } = answer {
-            return self.push(name, *row as usize, true);
-        }
-        if let Answer::Flushed { samples, left, .. } = answer {
-            self.flushed(*samples, *left);
+        match (act, answer) {
+            (_, Answer::Registered { row }) => {
+                let told = self.registered(name, true)?;
+                return self.push(told, *row as usize);
+            }
+            (_, Answer::Renamed { row }) => return self.renamed(name, newname, *row as usize),
+            ("register", Answer::NameTaken { .. }) => self.is_taken(name),
+            ("rename", Answer::NameTaken { .. }) => self.is_taken(newname),
+            (_, Answer::Flushed { samples, left, .. }) => self.flushed(*samples, *left),
+            ("rename", Answer::DiskFault) => return self.doubt_name(name, newname),
+            _ => {}
         }
         let Some(row) = self.find(name) else {
             if act == "register" && matches!(answer, Answer::DiskFault) {
-                return self.push(name, usize::MAX, false);
+                let told = self.registered(name, false)?;
+                return self.push(told, usize::MAX);
             }
             return Ok(());
         };
         match (act, answer) {
-            ("register", Answer::NameTaken { .. }) => row.is_there = true,
+            // Where the act found a doubt, it tells what the change has made; else a doubt may stand that it hasn't looked at.
+            (
+                "rename",
+                Answer::RenameNotPaused {
+                    state,
+                    change: 1,
+                    ..
+                },
+            ) => row.state = Some(*state),
             ("pause" | "resume", Answer::DiskFault) => row.state = None,
             ("pause", Answer::Done) => row.state = Some(State::Paused),
             ("resume", Answer::Done) => row.state = Some(State::Running),

@@ -109,6 +109,12 @@ fn put_reading(alloc: Global, text: &mut String, answer: Answer<MemFile>) -> Res
             }
         }
         Answer::Described(details) => put_details(text, &details)?,
+        Answer::RenameNotPaused {
+            state,
+            change,
+            seen,
+        } => write!(text, "rename not paused {state:?} {change} {seen}")?,
+        Answer::NotDurable { last, durable } => write!(text, "not durable {last} {durable:?}")?,
         Answer::Damaged { name, at } => put_damage(text, &name, at)?,
         Answer::Dropped(reason) => write!(text, "dropped: {reason:?}")?,
         _other => bail!("no answer"),
@@ -127,6 +133,7 @@ pub(crate) fn put_answer(alloc: Global, text: &mut String, answer: Answer<MemFil
         Answer::NotRunning => put(text, "not running", &[]),
         Answer::NotPaused => put(text, "not paused", &[]),
         Answer::Done => put(text, "done", &[]),
+        Answer::Renamed { row } => put(text, "renamed", &[u64::from(row)]),
         Answer::IntakeFull { held } => put(text, "intake full", &[held]),
         Answer::Kept => put(text, "kept", &[]),
         Answer::Held => put(text, "held", &[]),

@@ -36,18 +36,17 @@ use Rattle.store_reopen.specs.declared.adopted.AdoptErr.TheVariants as adopting
 use Rattle.store_reopen.specs.declared.error.ReopenErr.{ReopenErr}
 use Rattle.store_reopen.specs.declared.error.ReopenErr.TheVariants as reopening
 use Rattle.store_reopen.proofs.Adoptions.{adoption_extends}
-use Rattle.store_reopen.proofs.Verdicts.{held_whole}
 use Rattle.command_words.specs.declared.command.Command.TheVariants.{OverStore}
 use Rattle.command_words.specs.declared.command.StoreCommand.TheVariants as command
 use Rattle.command_words.specs.declared.status.Status.{Status}
 use Rattle.command_words.specs.declared.status.Status.TheVariants.{Done, SinkFault, DiskFault, OutOfMemory}
-use Rattle.archiver_appliance.specs.Adopting.{AdoptsInPlace, AdoptsInto, HoldsFront, IsWritten, TellsAdopted, TellsOf, adopted_text, beside, line_of, stop_of}
+use Rattle.archiver_appliance.specs.Adopting.{AdoptsInPlace, AdoptsInto, HoldsFront, IsWritten, TellsAdopted, adopted_text, beside, line_of, stop_of}
 use Rattle.archiver_appliance.specs.Judging.{Judges, refusal_of}
 use Rattle.archiver_appliance.specs.Run.{Does, EndsAs, Makes, MakesOfRead, NoDamage, Serves}
 use Rattle.archiver_appliance.proofs.Judgements.{OneVerdict, exactly, refusal_judges, whole_alone}
-use Rattle.archiver_appliance.proofs.Opening.{first_stands, opening_reads, reads_open}
+use Rattle.archiver_appliance.proofs.Opening.{opening_reads, reads_open}
 use Rattle.archiver_appliance.proofs.Outcomes.{refused_ends}
-use Rattle.archiver_appliance.proofs.Refusals.{refusal_cases, refused_makes}
+use Rattle.archiver_appliance.proofs.Refusals.{refusal_cuts, refusal_undamaged, refused_makes, unasked}
 
 -- THE LINE
 
@@ -93,11 +92,11 @@ module _ (gs : List Granularity) (image : Files) (held : Stores) (steps : List S
   to_last : (k : ℕ) → IsPrefix (samples_in row (stage steps held k)) (samples_in row (made_by steps held))
   to_last k = subst (λ (xs : List Step). IsPrefix (At k) (samples_in row (made_by xs held))) (take_all (length steps + k) steps (omega arith)) (onward k (length steps))
 
-holds_front : (gs : List Granularity) (image : Files) (held : Stores) (steps : List Step) (whole : Bool) → IsAdoption whole gs image held steps → IsTrue held.stands → (k : ℕ) (later : Files) → HoldsAll gs later (stage steps held k) → HoldsFront gs held steps later
-holds_front gs image held steps whole rule stands k later holds = record {
+holds_front : (gs : List Granularity) (image : Files) (held : Stores) (steps : List Step) (whole : Bool) → IsAdoption whole gs image held steps → (k : ℕ) (later : Files) → HoldsAll gs later (stage steps held k) → HoldsFront gs held steps later
+holds_front gs image held steps whole rule k later holds = record {
   made = k;
   holds = holds;
-  stands = made_stands (take k steps) held stands;
+  stands = made_stands (take k steps) held;
   extends = λ row. from_first gs image held steps whole rule row k;
   extended = λ row. to_last gs image held steps whole rule row k;
 }
@@ -112,16 +111,16 @@ same_listed files later old new i rows entries now ever =
 
 module _ {K D R : Type 0} (snk : OfSink K) (disk : Ghosts D R) (config : ConfigState) (first given : D) (adopts : Adopts disk (stores_of config) first given) (source : Option (List ℕ)) (clock : Option Moments) (reads : ℕ) (k k' : K) where
   -- what was made of what is held, once it is known what is written
-  into : (status : Status) (before after : Stores) (whole : Bool) (from : AdoptsFrom whole disk (stores_of config) first given before after) → IsTrue from.held.stands
+  into : (status : Status) (before after : Stores) (whole : Bool) (from : AdoptsFrom whole disk (stores_of config) first given before after)
       → TellsAdopted (stores_of config) (disk.files first) from.held from.steps (disk.past given) (snk.written k) (snk.written k') status ⊎ ((snk.written k' ≡ snk.written k) × ((status ≡ DiskFault) ⊎ (status ≡ OutOfMemory)))
       → AdoptsInto (HoldsEither (stores_of config) before after) (stores_of config) (disk.files first) from.held (disk.past first) (disk.past given) (snk.written k) (snk.written k') status
-  into status before after whole from stands told = record {
+  into status before after whole from told = record {
     steps = from.steps;
     rule = (whole, from.rule);
     any_moment = passes_weaker (λ a b. HoldsEither (stores_of config) before after b ⊎ ((n : ℕ) × HoldsAll (stores_of config) b (stage from.steps from.held n))) (λ a b. HoldsEither (stores_of config) before after b ⊎ HoldsFront (stores_of config) from.held from.steps b)
         (disk.past first) (disk.past given) from.any_moment (λ a b left holds. elim holds [
           | inl was ↦ inl was
-          | inr now ↦ inr (holds_front (stores_of config) (disk.files first) from.held from.steps whole from.rule stands now.0 b now.1)
+          | inr now ↦ inr (holds_front (stores_of config) (disk.files first) from.held from.steps whole from.rule now.0 b now.1)
         ]);
     leaves = from.opens;
     tells_adopted = told;
@@ -129,36 +128,20 @@ module _ {K D R : Type 0} (snk : OfSink K) (disk : Ghosts D R) (config : ConfigS
 
   -- whatever the listed files are
   in_place : (status : Status) → (IsWritten status → IsGone (disk.files given) (disk.past given) adoption_name)
-      → (IsWritten status → (before after : Stores) → OpensEither (stores_of config) (disk.past first) before after → TellsOf (stores_of config) before after (beside source clock reads snk disk k first) (beside source clock reads snk disk k' given) status)
       → ((IsWritten status → ⊥) → snk.written k' ≡ snk.written k)
       → AdoptsInPlace (stores_of config) (beside source clock reads snk disk k first) (beside source clock reads snk disk k' given) status
-  in_place status finished told quiet = record {
+  in_place status finished quiet = record {
     elsewhere = adopts.elsewhere;
     stores = adopts.stores;
     site = adopts.site;
     marked = adopts.marked;
     finished = finished;
-    told = told;
-    made = λ before after opens. elim (adopts.makes before after opens) [
-      | inl only ↦ inl record { any_moment = only.either before after opens; opens = only.opens before after opens }
-      | inr some ↦
-          let from = some.1 in
-          inr record {
-            held = from.held;
-            either = from.either;
-            read = from.read;
-            steps = from.steps;
-            rule = (some.0, from.rule);
-            any_moment = from.any_moment;
-            opens = from.opens;
-          }
-    ];
     quiet = quiet;
     found = adopts.found;
   }
 
   serves : (status : Status) → Judges (stores_of config) command.Adopt (disk.files first) status
-      → ((before after : Stores) → OpensEither (stores_of config) (disk.past first) before after → IsTrue before.stands → MakesOfRead config command.Adopt before after (beside source clock reads snk disk k first) (beside source clock reads snk disk k' given) status)
+      → ((before after : Stores) → OpensEither (stores_of config) (disk.past first) before after → MakesOfRead config command.Adopt before after (beside source clock reads snk disk k first) (beside source clock reads snk disk k' given) status)
       → AdoptsInPlace (stores_of config) (beside source clock reads snk disk k first) (beside source clock reads snk disk k' given) status
       → Serves config command.Adopt (beside source clock reads snk disk k first) (beside source clock reads snk disk k' given) status
   serves status judges makes places = record {
@@ -189,17 +172,16 @@ module _ {K D R : Type 0} (snk : OfSink K) (disk : Ghosts D R) (config : ConfigS
         line = line;
       }
 
-  done_makes : IsTrue disk.tells → Adopts disk (stores_of config) first store.disk → (before after : Stores) → OpensEither (stores_of config) (disk.past first) before after → HasAdopted disk (stores_of config) first store told before after → IsTrue before.stands
+  done_makes : IsTrue disk.tells → Adopts disk (stores_of config) first store.disk → (before after : Stores) → OpensEither (stores_of config) (disk.past first) before after → HasAdopted disk (stores_of config) first store told before after
       → MakesOfRead config command.Adopt before after (beside source clock reads snk disk k first) (beside source clock reads snk disk k' store.disk) status
-  done_makes tells adopts before after opens has stands =
+  done_makes tells adopts before after opens has =
       let from = has.adopts in
-      let standing = first_stands (stores_of config) (disk.past first) before after from.held opens stands from.either in
       record {
         first = from.held;
         either = from.either;
         read = from.read;
-        makes = inr (into snk disk config first store.disk adopts source clock reads k k' status before after true from standing (inl (tells_all tells before after has)));
-        undamaged = by_line NoDamage tt tt;
+        makes = inr (into snk disk config first store.disk adopts source clock reads k k' status before after true from (inl (tells_all tells before after has)));
+        undamaged = λ stand. by_line NoDamage tt tt;
       }
 
   pub adopted_does : (IsTrue disk.tells → IsWhole (stores_of config) (disk.files first)) → (IsTrue disk.tells → Adopts disk (stores_of config) first store.disk)
@@ -212,10 +194,7 @@ module _ {K D R : Type 0} (snk : OfSink K) (disk : Ghosts D R) (config : ConfigS
         let fine = whole_alone (stores_of config) (disk.files first) (whole tells) in
         let judges = by_line (Judges (stores_of config) command.Adopt (disk.files first)) fine fine in (
           serves snk disk config first store.disk (adopts tells) source clock reads k k' status judges (λ before after opens. done_makes tells (adopts tells) before after opens (has tells before after opens))
-              (in_place snk disk config first store.disk (adopts tells) source clock reads k k' status (λ written. gone tells) (λ written before after opens.
-              let made = has tells before after opens in
-              record { held = made.adopts.held; either = made.adopts.either; read = made.adopts.read; steps = made.adopts.steps; tells = tells_all tells before after made })
-              (λ none. absurd (none (by_line IsWritten (inl refl) (inr refl))))),
+              (in_place snk disk config first store.disk (adopts tells) source clock reads k k' status (λ written. gone tells) (λ none. absurd (none (by_line IsWritten (inl refl) (inr refl))))),
           exactly verdict (stores_of config) command.Adopt (disk.files first) status judges,
         ),
   )
@@ -230,26 +209,27 @@ refusal_unwritten {D} {R} (reopening.Memory d) written = elim written [ inl is �
 module _ {K D R : Type 0} (snk : OfSink K) (disk : Ghosts D R) (config : ConfigState) (first given : D) (verdict : OneVerdict) (source : Option (List ℕ)) (clock : Option Moments) (reads : ℕ) (k : K) (err : ReopenErr D R)
     (damaged : IsTrue disk.tells → (d : D) (name : Name) (at : ℕ) → err ≡ reopening.Damaged d name at → IsDamaged (stores_of config) (disk.files first) name at)
     (differs : IsTrue disk.tells → (d : D) (kept other : Granularity) → err ≡ reopening.GranularityDiffers d kept other → Differs (stores_of config) (disk.files first) kept other) where
-  cut_makes : IsTrue disk.tells → Adopts disk (stores_of config) first given → MayLeave (disk.past first) (disk.files first) → (before after : Stores) → OpensEither (stores_of config) (disk.past first) before after → IsTrue before.stands
+  cut_makes : IsTrue disk.tells → Adopts disk (stores_of config) first given → MayLeave (disk.past first) (disk.files first) → (before after : Stores) → OpensEither (stores_of config) (disk.past first) before after
       → MakesOfRead config command.Adopt before after (beside source clock reads snk disk k first) (beside source clock reads snk disk k given) (refusal_of err)
-  cut_makes tells adopts seen before after opens stands = elim (adopts.makes before after opens) [
+  cut_makes tells adopts seen before after opens = elim (adopts.makes before after opens) [
     | inl only ↦
         refused_makes config (beside source clock reads snk disk k first) (beside source clock reads snk disk k given) refl refl refl
-        (reads_open disk (stores_of config) first given only) verdict err (damaged tells) (differs tells) command.Adopt seen before after opens stands
-    | inr some ↦
-        let from = some.1 in
-        let standing = first_stands (stores_of config) (disk.past first) before after from.held opens stands from.either in
-        let whole = held_whole (stores_of config) (disk.files first) from.held refl from.read standing in
-        let made = into snk disk config first given adopts source clock reads k k in
-        record {
-          first = from.held;
-          either = from.either;
-          read = from.read;
-          makes = refusal_cases verdict (stores_of config) (disk.files first) err (damaged tells) (differs tells) (λ e. Makes config command.Adopt before after from.held (beside source clock reads snk disk k first) (beside source clock reads snk disk k given) (refusal_of e)) whole
-              (λ d. inr (made DiskFault before after some.0 from standing (inr (refl, inl refl)))) (λ d. inr (made OutOfMemory before after some.0 from standing (inr (refl, inr refl))));
-          undamaged = refusal_cases verdict (stores_of config) (disk.files first) err (damaged tells) (differs tells) (λ e. NoDamage (refusal_of e)) whole (λ d. tt) (λ d. tt);
-        }
+        (reads_open disk (stores_of config) first given only) verdict err (damaged tells) (differs tells) command.Adopt seen before after opens
+    | inr some ↦ record {
+      first = some.1.held;
+      either = some.1.either;
+      read = some.1.read;
+      makes = by_cut some.0 some.1 (refusal_cuts verdict (stores_of config) (disk.files first) err (damaged tells) (differs tells));
+      undamaged = refusal_undamaged verdict (stores_of config) (disk.files first) err (damaged tells) (differs tells) refl some.1.held some.1.read;
+    }
   ]
+    where
+      by_cut : (whole : Bool) (from : AdoptsFrom whole disk (stores_of config) first given before after) → (refusal_of err ≡ DiskFault) ⊎ (refusal_of err ≡ OutOfMemory) ⊎ (IsWhole (stores_of config) (disk.files first) → ⊥)
+          → Makes config command.Adopt before after from.held (beside source clock reads snk disk k first) (beside source clock reads snk disk k given) (refusal_of err)
+      by_cut whole from (inl fault) = inr (into snk disk config first given adopts source clock reads k k (refusal_of err) before after whole from (inr (refl, inl fault)))
+      by_cut whole from (inr (inl memory)) = inr (into snk disk config first given adopts source clock reads k k (refusal_of err) before after whole from (inr (refl, inr memory)))
+      by_cut whole from (inr (inr none)) =
+          inl (unasked config (beside source clock reads snk disk k first) (beside source clock reads snk disk k given) refl refl refl (reads_open disk (stores_of config) first given (adopts.only none).0) (refusal_of err) (inr (inr none)))
 
   cut_does : (IsTrue disk.tells → Adopts disk (stores_of config) first given) → (IsTrue disk.tells → MayLeave (disk.past first) (disk.files first))
       → Does config disk.tells (OverStore command.Adopt) (beside source clock reads snk disk k first) (beside source clock reads snk disk k given) (refusal_of err)
@@ -258,7 +238,7 @@ module _ {K D R : Type 0} (snk : OfSink K) (disk : Ghosts D R) (config : ConfigS
     λ tells.
         let judges = refusal_judges (stores_of config) command.Adopt (disk.files first) err (damaged tells) (differs tells) in (
           serves snk disk config first given (adopts tells) source clock reads k k (refusal_of err) judges (cut_makes tells (adopts tells) (seen tells))
-              (in_place snk disk config first given (adopts tells) source clock reads k k (refusal_of err) (λ written. absurd (refusal_unwritten err written)) (λ written. absurd (refusal_unwritten err written)) (λ none. refl)),
+              (in_place snk disk config first given (adopts tells) source clock reads k k (refusal_of err) (λ written. absurd (refusal_unwritten err written)) (λ none. refl)),
           exactly verdict (stores_of config) command.Adopt (disk.files first) (refusal_of err) judges,
         ),
   )

@@ -7,7 +7,8 @@ use Rattle.disk_model.specs.Files.{Name}
 use Rattle.etl_rules.specs.Config.{ConfigState}
 use Rattle.series_model.specs.declared.sample.Query.{Query}
 use Rattle.series_model.specs.Retrieval.{answer as answer_of}
-use Rattle.tier_store.specs.Stores.{Stores}
+use Rattle.series_model.specs.declared.sample.Sample.{Sample}
+use Rattle.tier_store.specs.Stores.{Stores, whole_in}
 use Rattle.act_model.specs.declared.acts.Act.TheVariants.{Pin}
 use Rattle.act_model.specs.declared.acts.Answer.TheVariants as answer
 use Rattle.act_model.specs.Event.{AreEvents}
@@ -15,6 +16,8 @@ use Rattle.act_model.specs.History.{Done, Entry, Runs, mine, own}
 use Rattle.act_model.specs.Machine.{Machine}
 use Rattle.act_model.specs.Out.{Subject}
 use Rattle.act_model.specs.Rows.{RowState, accepted}
+use Rattle.act_model.specs.Sound.{IsSound}
+use Rattle.act_model.specs.Whole.{whole}
 use Rattle.payload_info.specs.Info.{info_of}
 use Rattle.payload_info.specs.declared.info.PayloadInfo.{PayloadInfo}
 use Rattle.payload_info.specs.declared.error.InfoFault.{InfoFault}
@@ -30,7 +33,7 @@ use Rattle.command_words.specs.declared.status.Status.{Status}
 use Rattle.command_words.specs.declared.status.Status.TheVariants.{Done as IsDone, NoSuchVariable, SinkFault, DiskFault, Damaged, OutOfMemory}
 use Rattle.archiver_appliance.specs.Acting.{IsOpenedOn, header_by, rule_of}
 use Rattle.archiver_appliance.specs.Judging.{IsOneOf}
-use Rattle.archiver_appliance.specs.Retrieving.{Answers, EndsBy, Gets, GetsSome, HasAnswer, HasNone, IsPinless, IsRetrieved, WritesAccepted, WritesOfPin, subject_of}
+use Rattle.archiver_appliance.specs.Retrieving.{Answers, EndsBy, Gets, GetsSome, HasAnswer, HasNone, IsPinless, IsRetrieved, WritesAccepted, WritesEvents, WritesOfPin, subject_of}
 use Rattle.archiver_appliance.specs.Outside.{IsCausedBy}
 use Rattle.command_words.specs.Status.{number_of}
 use Rattle.command_words.specs.declared.command.StoreCommand.TheVariants as command
@@ -38,42 +41,47 @@ use Rattle.archiver_appliance.proofs.PinSteps.{IsPinnedRow, first_step, found_na
 
 -- OF WHAT IS HELD
 
-module _ {R : Type 0} (config : ConfigState) (held : Stores) (start : Machine) (opened : IsOpenedOn true config held start) (told : start.told ≡ true) (name : List ℕ) (query : Query) (a b : Option (List ℕ)) (result : Retrieved R) where
-  -- the text over what is accepted is the answer over what is held
-  answers : (Becomes : List ℕ → Type 0) (w : WritesAccepted start name query a b result) (text : List ℕ) → IsRaw (record { name = w.row.name; about = w.row.about; query = query }) (answer_of (accepted w.row) query) text → Becomes text → Answers held name query Becomes
+module _ {R : Type 0} (config : ConfigState) (held : Stores) (start : Machine) (sound : IsSound start) (opened : IsOpenedOn true config held start) (told : start.told ≡ true) (name : List ℕ) (query : Query) (a b : Option (List ℕ)) (result : Retrieved R) where
+  -- what is accepted of the variable as the pin leads to it
+  abbrev Accepted : WritesAccepted start name query a b result → List Sample
+  Accepted w = answer_of (whole accepted w.pinned.rows w.i) query
+
+  -- the text over that is the answer over what is held
+  answers : (Becomes : List ℕ → Type 0) (w : WritesAccepted start name query a b result) (text : List ℕ) → IsRaw (record { name = w.row.name; about = w.row.about; query = query }) (Accepted w) text → Becomes text → Answers held name query Becomes
   answers Becomes w text raw becomes =
       let rows = pin_rows 0 name query opened.settled w.step in
-      let r = held_row config held start opened told w.i w.row (ap (λ (rs : List RowState). slice_get rs w.i) (sym rows) ∙ w.here) in
+      let r = held_row config held start sound opened told w.i w.row (ap (λ (rs : List RowState). slice_get rs w.i) (sym rows) ∙ w.here) in
+      let whole_is : whole accepted w.pinned.rows w.i ≡ whole_in w.i held = ap (λ (rs : List RowState). whole accepted rs w.i) rows ∙ r.whole_is in
       record {
         id = w.i;
         row = r.own;
         here = r.here;
         is_named = sym r.name_is ∙ found_name w.pinned name w.i w.row w.found w.here;
         text = text;
-        raw = rw (← r.name_is, ← r.about_is, ← r.accepted_is) raw;
+        raw = rw (← r.name_is, ← r.about_is, ← whole_is) raw;
         becomes = becomes;
       }
 
-  front_of : (w : WritesAccepted start name query a b result) → (text : List ℕ) × IsRaw (record { name = w.row.name; about = w.row.about; query = query }) (answer_of (accepted w.row) query) text × AppendsFront a b text → Answers held name query (AppendsFront a b)
+  front_of : (w : WritesAccepted start name query a b result) → (text : List ℕ) × IsRaw (record { name = w.row.name; about = w.row.about; query = query }) (Accepted w) text × AppendsFront a b text → Answers held name query (AppendsFront a b)
   front_of w t = answers (AppendsFront a b) w t.0 t.1 t.2
 
-  whole_of : (w : WritesAccepted start name query a b result) → (text : List ℕ) × IsRaw (record { name = w.row.name; about = w.row.about; query = query }) (answer_of (accepted w.row) query) text × Appends a b text → Answers held name query (Appends a b)
+  whole_of : (w : WritesAccepted start name query a b result) → (text : List ℕ) × IsRaw (record { name = w.row.name; about = w.row.about; query = query }) (Accepted w) text × Appends a b text → Answers held name query (Appends a b)
   whole_of w t = answers (Appends a b) w t.0 t.1 t.2
 
 -- by how it ended
-pub gets_held : {R : Type 0} (config : ConfigState) (held : Stores) (start : Machine) → IsOpenedOn true config held start → start.told ≡ true → (name : List ℕ) (query : Query) (a b : Option (List ℕ)) (result : Retrieved R) (status : Status) (file : Option R)
+pub gets_held : {R : Type 0} (config : ConfigState) (held : Stores) (start : Machine) → IsSound start → IsOpenedOn true config held start → start.told ≡ true → (name : List ℕ) (query : Query) (a b : Option (List ℕ)) (result : Retrieved R) (status : Status) (file : Option R)
     → IsRetrieved result status file → (result ≡ got.NoSuchVariable → (b ≡ a) × HasNone held.rows name) → ((name : Name) (at : ℕ) → result ≡ got.Damaged name at → ⊥) → (IsPinless result × (b ≡ a)) ⊎ WritesAccepted start name query a b result → Gets held name query a b status
-gets_held {R} config held start opened told name query a b (got.Finished count) status file is unknown undamaged (inl none) = absurd none.0
-gets_held {R} config held start opened told name query a b (got.Finished count) status file is unknown undamaged (inr w) = subst (λ (s : Status). Gets held name query a b s) (sym is.0) (whole_of config held start opened told name query a b (got.Finished count) w w.writes)
-gets_held {R} config held start opened told name query a b got.NoSuchVariable status file is unknown undamaged w = subst (λ (s : Status). Gets held name query a b s) (sym is.0) (unknown refl)
-gets_held {R} config held start opened told name query a b (got.ReadFault failed) status file is unknown undamaged (inl none) = subst (λ (s : Status). Gets held name query a b s) (sym is.0) (inl none.1)
-gets_held {R} config held start opened told name query a b (got.ReadFault failed) status file is unknown undamaged (inr w) = subst (λ (s : Status). Gets held name query a b s) (sym is.0) (inr (front_of config held start opened told name query a b (got.ReadFault failed) w w.writes))
-gets_held {R} config held start opened told name query a b (got.Damaged bad at) status file is unknown undamaged w = absurd (undamaged bad at refl)
-gets_held {R} config held start opened told name query a b got.SinkFault status file is unknown undamaged (inl none) = absurd none.0
-gets_held {R} config held start opened told name query a b got.SinkFault status file is unknown undamaged (inr w) = subst (λ (s : Status). Gets held name query a b s) (sym is.0) (front_of config held start opened told name query a b got.SinkFault w w.writes)
-gets_held {R} config held start opened told name query a b got.Spent status file is unknown undamaged w = absurd is
-gets_held {R} config held start opened told name query a b got.Memory status file is unknown undamaged (inl none) = subst (λ (s : Status). Gets held name query a b s) (sym is.0) (inl none.1)
-gets_held {R} config held start opened told name query a b got.Memory status file is unknown undamaged (inr w) = subst (λ (s : Status). Gets held name query a b s) (sym is.0) (inr (front_of config held start opened told name query a b got.Memory w w.writes))
+gets_held {R} config held start sound opened told name query a b (got.Finished count) status file is unknown undamaged (inl none) = absurd none.0
+gets_held {R} config held start sound opened told name query a b (got.Finished count) status file is unknown undamaged (inr w) = subst (λ (s : Status). Gets held name query a b s) (sym is.0) (whole_of config held start sound opened told name query a b (got.Finished count) w w.writes)
+gets_held {R} config held start sound opened told name query a b got.NoSuchVariable status file is unknown undamaged w = subst (λ (s : Status). Gets held name query a b s) (sym is.0) (unknown refl)
+gets_held {R} config held start sound opened told name query a b (got.ReadFault failed) status file is unknown undamaged (inl none) = subst (λ (s : Status). Gets held name query a b s) (sym is.0) (inl none.1)
+gets_held {R} config held start sound opened told name query a b (got.ReadFault failed) status file is unknown undamaged (inr w) = subst (λ (s : Status). Gets held name query a b s) (sym is.0) (inr (front_of config held start sound opened told name query a b (got.ReadFault failed) w w.writes))
+gets_held {R} config held start sound opened told name query a b (got.Damaged bad at) status file is unknown undamaged w = absurd (undamaged bad at refl)
+gets_held {R} config held start sound opened told name query a b got.SinkFault status file is unknown undamaged (inl none) = absurd none.0
+gets_held {R} config held start sound opened told name query a b got.SinkFault status file is unknown undamaged (inr w) = subst (λ (s : Status). Gets held name query a b s) (sym is.0) (front_of config held start sound opened told name query a b got.SinkFault w w.writes)
+gets_held {R} config held start sound opened told name query a b got.Spent status file is unknown undamaged w = absurd is
+gets_held {R} config held start sound opened told name query a b got.Memory status file is unknown undamaged (inl none) = subst (λ (s : Status). Gets held name query a b s) (sym is.0) (inl none.1)
+gets_held {R} config held start sound opened told name query a b got.Memory status file is unknown undamaged (inr w) = subst (λ (s : Status). Gets held name query a b s) (sym is.0) (inr (front_of config held start sound opened told name query a b got.Memory w w.writes))
 
 -- OF ANY ROWS
 
@@ -98,15 +106,14 @@ module _ {R : Type 0} (tells : Bool) (p : Parts) (start : Machine) (stands : Sta
       (row, found_name start name row.i row.row row.found row.here)
 
   -- what was written is of events of the row
-  pub some_events : (result : Retrieved R) (status : Status) (file : Option R) → IsRetrieved result status file → (IsPinless result × (b ≡ a)) ⊎ WritesOfPin name query done a b result → GetsSome p.at.catalogue.rows name query a b status
-  some_events (got.Finished count) status file is (inl none) = absurd none.0
-  some_events (got.Finished count) status file is (inr w) =
-      let has = pinned_has (got.Finished count) w in
+  events_of : (Becomes : List ℕ → Type 0) (result : Retrieved R) (w : WritesOfPin name query done a b result) (text : List ℕ) → IsRaw (record { name = w.told_name; about = w.about; query = query }) w.samples text → Becomes text → WritesEvents p.at.catalogue.rows name query Becomes
+  events_of Becomes result w text raw becomes =
+      let has = pinned_has result w in
       let r = has.0 in
       let one = one_has tells p start name r.i r.row stands r.found r.here in
       let about_is : w.about ≡ one.0.row.about = r.about_is ∙ sym one.1 in
       let subject_is : ◌≡◌ {A = Subject} (record { name = w.told_name; about = w.about; query = query }) (subject_of one.0.row query) = same_subject query w.told_name one.0.row.name w.about one.0.row.about (r.name_is ∙ has.1 ∙ sym one.0.is) about_is in
-      subst (λ (s : Status). GetsSome p.at.catalogue.rows name query a b s) (sym is.0) (record {
+      record {
         id = r.i;
         row = one.0.row;
         here = one.0.here;
@@ -114,16 +121,25 @@ module _ {R : Type 0} (tells : Bool) (p : Parts) (start : Machine) (stands : Sta
         samples = w.samples;
         events = subst (λ (x : About). AreEvents x.ty w.samples) about_is w.events;
         rising = w.rising;
-        text = w.writes.0;
-        raw = subst (λ (s : Subject). IsRaw s w.samples w.writes.0) subject_is w.writes.1;
-        written = w.writes.2;
-      })
-  some_events got.NoSuchVariable status file is w = subst (λ (s : Status). GetsSome p.at.catalogue.rows name query a b s) (sym is.0) tt
-  some_events (got.ReadFault failed) status file is w = subst (λ (s : Status). GetsSome p.at.catalogue.rows name query a b s) (sym is.0) tt
-  some_events (got.Damaged bad at) status file is w = subst (λ (s : Status). GetsSome p.at.catalogue.rows name query a b s) (sym is.0) tt
-  some_events got.SinkFault status file is w = subst (λ (s : Status). GetsSome p.at.catalogue.rows name query a b s) (sym is.0) tt
+        text = text;
+        raw = subst (λ (s : Subject). IsRaw s w.samples text) subject_is raw;
+        becomes = becomes;
+      }
+
+  some_front : (result : Retrieved R) → ((w : WritesOfPin name query done a b result) → (text : List ℕ) × IsRaw (record { name = w.told_name; about = w.about; query = query }) w.samples text × AppendsFront a b text) → (IsPinless result × (b ≡ a)) ⊎ WritesOfPin name query done a b result
+      → (b ≡ a) ⊎ WritesEvents p.at.catalogue.rows name query (AppendsFront a b)
+  some_front result front (inl none) = inl none.1
+  some_front result front (inr w) = let t = front w in inr (events_of (AppendsFront a b) result w t.0 t.1 t.2)
+
+  pub some_events : (result : Retrieved R) (status : Status) (file : Option R) → IsRetrieved result status file → (IsPinless result × (b ≡ a)) ⊎ WritesOfPin name query done a b result → GetsSome p.at.catalogue.rows name query a b status
+  some_events (got.Finished count) status file is (inl none) = absurd none.0
+  some_events (got.Finished count) status file is (inr w) = subst (λ (s : Status). GetsSome p.at.catalogue.rows name query a b s) (sym is.0) (events_of (Appends a b) (got.Finished count) w w.writes.0 w.writes.1 w.writes.2)
+  some_events got.NoSuchVariable status file is w = subst (λ (s : Status). GetsSome p.at.catalogue.rows name query a b s) (sym is.0) (some_front got.NoSuchVariable (λ v. v.writes) w)
+  some_events (got.ReadFault failed) status file is w = subst (λ (s : Status). GetsSome p.at.catalogue.rows name query a b s) (sym is.0) (some_front (got.ReadFault failed) (λ v. v.writes) w)
+  some_events (got.Damaged bad at) status file is w = subst (λ (s : Status). GetsSome p.at.catalogue.rows name query a b s) (sym is.0) (some_front (got.Damaged bad at) (λ v. v.writes) w)
+  some_events got.SinkFault status file is w = subst (λ (s : Status). GetsSome p.at.catalogue.rows name query a b s) (sym is.0) (some_front got.SinkFault (λ v. v.writes) w)
   some_events got.Spent status file is w = absurd is
-  some_events got.Memory status file is w = subst (λ (s : Status). GetsSome p.at.catalogue.rows name query a b s) (sym is.0) tt
+  some_events got.Memory status file is w = subst (λ (s : Status). GetsSome p.at.catalogue.rows name query a b s) (sym is.0) (some_front got.Memory (λ v. v.writes) w)
 
   -- where no row has the name, it ends with 4, or with 7 or 9 before
   pub none_ends : (result : Retrieved R) (status : Status) (file : Option R) → IsRetrieved result status file → (IsPinless result × (b ≡ a)) ⊎ WritesOfPin name query done a b result → HasNone p.at.catalogue.rows name → IsOneOf (number_of status) 4 7 9

@@ -1,10 +1,12 @@
 -- What the reports tell of stores, by what the journals of an image list, whose listed files opening left as they were.
-use Rattle.std.proofs.Common.{◌≡◌, ◌≢◌, Bool, ℕ, ◌<◌, ◌+◌, true, List, [], ◌∷◌, ◌++◌, length, map, Option, Some, None, Result, Ok, Err, refl, sym, ◌∙◌, subst, arith}
+use Rattle.std.proofs.Common.{◌≡◌, ◌≢◌, Bool, ℕ, ◌<◌, ◌+◌, true, List, [], ◌∷◌, ◌++◌, length, map, Option, Some, None, Result, Ok, Err, refl, sym, ◌∙◌, ap, subst, arith}
+use Rattle.std.specs.List.{flat_map}
 use Rattle.std.specs.Prelude.{All, slice_get}
 use Rattle.std.specs.Io.KnownBytes.{Appends}
 use Rattle.std.proofs.lemmas.List.Elements.{All-append, All-cons, All-head, All-map, All-nil, All-tail}
 use Rattle.edge_io.specs.Stream.{AppendsFront}
 use Rattle.disk_model.specs.Files.{Name, Files}
+use Rattle.pv_catalog.specs.Lines.{line as line_of}
 use Rattle.pv_catalog.specs.declared.row.Row.{Row}
 use Rattle.store_manifest.specs.Manifest.{ManifestState}
 use Rattle.store_manifest.specs.declared.entry.Entry.{Entry}
@@ -12,6 +14,7 @@ use Rattle.piece_choice.specs.Choosing.{listed}
 use Rattle.piece_choice.specs.declared.choosing.Listed.{Listed}
 use Rattle.tier_store.specs.Pinning.{entries_of}
 use Rattle.tier_store.specs.Seen.{Seen}
+use Rattle.tier_store.specs.Tallying.{RiseFrom, listed_count}
 use Rattle.store_reopen.specs.Reopen.{entries_in, lists_of}
 use Rattle.store_reopen.specs.Verdict.{Listings}
 use Rattle.store_reports.specs.Check.{Checks, Inspected, Inspects, file_in, InspectsSome, IsFound, lines_of}
@@ -24,7 +27,7 @@ use Rattle.store_reports.specs.declared.summary.StatusErr.{StatusErr}
 use Rattle.store_reports.specs.declared.summary.StatusErr.TheVariants as summed
 use Rattle.command_words.specs.declared.status.Status.{Status}
 use Rattle.command_words.specs.declared.status.Status.TheVariants.{Done, SinkFault, DiskFault, Damaged, OutOfMemory}
-use Rattle.archiver_appliance.specs.Reporting.{AreRowLines, ChecksAll, IsFirstDamage, IsRowLine, TellsListed, TellsRows, checked_status, listed_files, own_entries, reported_status}
+use Rattle.archiver_appliance.specs.Reporting.{AreRowLines, ChecksAll, IsFirstDamage, IsRowLine, TellsListed, TellsRows, checked_status, entries_of_rows, listed_files, own_entries, reported_status, row_entries}
 
 -- THE LINES OF ROWS
 
@@ -46,12 +49,30 @@ module _ (tells : Bool) (at : Seen) where
   abbrev long : List Entry
   long = lists_of at.manifests 2
 
+  entries_are : (k : ℕ) → (entries_of k (slice_get at.manifests 2) ++ entries_of k (slice_get at.manifests 1)) ++ entries_of k (slice_get at.manifests 0) ≡ row_entries k short medium long
+  entries_are k =
+      let a = own_is k (slice_get at.manifests 0) in
+      let b = own_is k (slice_get at.manifests 1) in
+      let c = own_is k (slice_get at.manifests 2) in
+      rw (a, b, c) refl
+
+  all_entries_are : (ks : List ℕ) → flat_map (λ (k : ℕ). (entries_of k (slice_get at.manifests 2) ++ entries_of k (slice_get at.manifests 1)) ++ entries_of k (slice_get at.manifests 0)) ks ≡ entries_of_rows ks short medium long
+  all_entries_are [] = refl
+  all_entries_are (k ∷ ks) = ap (λ (es : List Entry). es ++ flat_map (λ (j : ℕ). (entries_of j (slice_get at.manifests 2) ++ entries_of j (slice_get at.manifests 1)) ++ entries_of j (slice_get at.manifests 0)) ks) (entries_are k)
+      ∙ ap (λ (es : List Entry). row_entries k short medium long ++ es) (all_entries_are ks)
+
   row_line_of : (i : ℕ) (line : List ℕ) → IsLine tells at i line → IsRowLine at.catalogue.rows short medium long i line
   row_line_of i line is =
       let a = own_is i (slice_get at.manifests 0) in
       let b = own_is i (slice_get at.manifests 1) in
       let c = own_is i (slice_get at.manifests 2) in
-      record { row = is.row; here = is.here; count = is.count; is = rw (← a, ← b, ← c) is.is.listed; text = rw (← a, ← b, ← c) is.text }
+      record {
+        row = is.row;
+        here = is.here;
+        count = is.count;
+        is = subst (λ (es : List Entry). RiseFrom 0 es → is.count ≡ listed_count es) (all_entries_are (line_of at.catalogue.rows i)) is.is.listed;
+        text = rw (← a, ← b, ← c) is.text;
+      }
 
   row_lines_of : (i : ℕ) (lines : List (List ℕ)) → AreLines tells at i lines → AreRowLines at.catalogue.rows short medium long i lines
   row_lines_of i [] are = tt

@@ -115,14 +115,14 @@ module _ {R : Type 0} (faults : R → ℕ) (old new : Outside) (status : Status)
 
 -- A COMMAND OVER THE ARCHIVE
 
-module _ (config : ConfigState) (before after first : Stores) (old new : Outside) (status : Status) (five : Unless status SourceFault) (six : Unless status SinkFault) (seven : Unless status DiskFault) where
+module _ (config : ConfigState) (before after first : Stores) (old new : Outside) (status : Status) (five : Unless status SourceFault) (six : Unless status SinkFault) (seven : Unless status DiskFault) (whole : IsWhole (stores_of config) old.files) where
   ends_as : (s : Status) → status ≡ s → EndsWell (number_of s) → EndsWell (number_of status)
   ends_as s is ends = subst (λ (x : Status). EndsWell (number_of x)) (sym is) ends
 
   unasked_well : IsUnasked (stores_of config) old new status → EndsWell (number_of status)
   unasked_well unasked = elim unasked.cut [
     | inl is ↦ absurd (seven is)
-    | inr is ↦ inr (ap number_of is)
+    | inr other ↦ elim other [ inl is ↦ inr (ap number_of is) | inr none ↦ absurd (none whole) ]
   ]
 
   ingest_well : IsGoodSource old.source → (items : List Item) (came : Fed) → IsIngested came status → ReadsOf came old.source items → EndsWell (number_of status)
@@ -164,7 +164,7 @@ module _ (config : ConfigState) (before after first : Stores) (old new : Outside
   makes_well (command.Get name query) stands undamaged can checks door (inr from) = get_done first name.now query old.sink new.sink status can.0 can.1 six seven (from.writes refl stands)
   makes_well command.Etl stands undamaged can checks door (inl unasked) = unasked_well unasked
   makes_well command.Etl stands undamaged can checks door (inr from) = moved_well from.came old.sink new.sink undamaged from.tells_moved
-  makes_well command.Status stands undamaged can checks door makes = status_done _ old.sink new.sink status six seven makes
+  makes_well command.Status stands undamaged can checks door makes = status_done _ old.sink new.sink status six seven (makes stands)
   makes_well command.Check stands undamaged can checks door makes = let all = checks refl in check_done all.0 old.files all.1 all.2 all.3 old.sink new.sink status undamaged six seven all.4
   makes_well command.Adopt stands undamaged can checks door (inl unasked) = unasked_well unasked
   makes_well command.Adopt stands undamaged can checks door (inr into) = adopted_well into.tells_adopted
@@ -180,10 +180,10 @@ able_first asked source before after first (inr is) can = subst (λ (h : Stores)
 served_well : (config : ConfigState) (asked : StoreCommand) (old new : Outside) (status : Status) → Serves config asked old new status → (before after : Stores) → OpensEither (stores_of config) old.past before after → IsTrue before.stands
     → IsServable asked old.source before × IsServable asked old.source after → Unless status SourceFault → Unless status SinkFault → Unless status DiskFault → (IsServe asked → status ≡ DoorFault → ⊥) → EndsWellBy (OverStore asked) (number_of status)
 served_well config asked old new status serves before after opens stands can five six seven door =
-    let made = serves.makes before after opens stands in
+    let made = serves.makes before after opens in
     let stand = first_stands (stores_of config) old.past before after made.first opens stands made.either in
     let whole = held_whole (stores_of config) old.files made.first refl made.read stand in
-    makes_well config before after made.first old new status five six seven asked stand made.undamaged (able_first asked old.source before after made.first made.either can) (λ is. (whole.rows, whole.lists 0, whole.lists 1, whole.lists 2, checks asked serves whole is)) door made.makes
+    makes_well config before after made.first old new status five six seven whole asked stand (made.undamaged stand) (able_first asked old.source before after made.first made.either can) (λ is. (whole.rows, whole.lists 0, whole.lists 1, whole.lists 2, checks asked serves whole is)) door made.makes
   where
     checks : (c : StoreCommand) → Serves config c old new status → (whole : IsWhole (stores_of config) old.files) → c ≡ command.Check → ChecksAll whole.rows old.files (whole.lists 0) (whole.lists 1) (whole.lists 2) old.sink new.sink status
     checks command.Check serves whole is = serves.tells whole

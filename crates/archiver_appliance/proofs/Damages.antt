@@ -1,10 +1,10 @@
 -- Which file a retrieval tells as damaged: one that a store lists for the row of the name. Where what is held stands, no such file is bad.
-use Rattle.std.proofs.Common.{◌≡◌, ℕ, ◌+◌, List, [], ◌∷◌, ◌++◌, take, map, Bool, Option, Some, None, refl, sym, ◌∙◌, ap, subst, arith}
+use Rattle.std.proofs.Common.{◌≡◌, inl, inr, ℕ, zero, suc, ◌+◌, ◌<◌, List, [], ◌∷◌, ◌++◌, take, map, Bool, Option, Some, None, refl, sym, ◌∙◌, ap, subst, arith}
 use Rattle.std.specs.FinMap.{get}
 use Rattle.std.specs.Prelude.{Contains, IsTrue, slice_get}
 use Rattle.std.specs.List.{AllByRecursion}
 use Rattle.std.proofs.lemmas.List.{take-take}
-use Rattle.std.proofs.lemmas.List.Elements.{All-contains, All-from_recursion}
+use Rattle.std.proofs.lemmas.List.Elements.{All-contains, All-from_recursion, Contains-push_cases}
 use Rattle.std.proofs.lemmas.Option.{same_Some}
 use Rattle.disk_model.specs.Files.{Name, Files, HasFile}
 use Rattle.disk_model.specs.Past.{MayLeave}
@@ -12,7 +12,9 @@ use Rattle.pb_wire.specs.declared.payload.PayloadType.{PayloadType}
 use Rattle.pinned_pieces.specs.Pieces.{PinOf}
 use Rattle.pinned_pieces.specs.declared.piece.PinnedFile.{PinnedFile}
 use Rattle.pv_catalog.specs.Catalogue.{CatalogueState}
-use Rattle.pv_catalog.specs.Rows.{HasName}
+use Rattle.pv_catalog.specs.Lines.{line, line_known, lines}
+use Rattle.pv_catalog.specs.Rows.{AreRows, HasName}
+use Rattle.pv_catalog.proofs.Lines.{line_over}
 use Rattle.pv_catalog.specs.declared.row.Row.{Row}
 use Rattle.pv_name.specs.Key.{key_of}
 use Rattle.event_types.specs.declared.about.About.{About}
@@ -67,14 +69,16 @@ opened_one tells p pin i t own told there o =
       bytes = record { bytes = f.bytes; file = f.file; holds = ap (take t.len) f.holds ∙ (take-take t.len t.len f.bytes (omega arith) ∙ ap (λ (n : ℕ). take n f.bytes) o.len_is) };
     }
 
--- a listed file of the row that has the name, whose listed bytes these are
+-- a listed file of the row that has the name, or of one under it, whose listed bytes these are
 pub record IsRowFile (at : Seen) (name : List ℕ) (n : NamedBytes) : Type 0 where
   pub place : ℕ
   pub manifest : ManifestState
   pub here : slice_get at.manifests place ≡ Some manifest
   pub entry : FileEntry
   pub listed : Contains manifest.entries entry
-  pub row : HasName at.catalogue.rows entry.series name
+  pub row : ℕ
+  pub own : HasName at.catalogue.rows row name
+  pub among : Contains (line at.catalogue.rows row) entry.series
   pub is_named : n.name ≡ file_of (place + 1, at.catalogue.rows) entry
   pub bytes : HasFile at.files n.name (λ b. n.bytes ≡ take entry.len b)
 
@@ -123,7 +127,9 @@ module _ {A : Type 0} (tells : Bool) (stands : A → Machine → Type 0) (see : 
           here = ap (λ (ms : List ManifestState). slice_get ms of.place) (sym same.1) ∙ of.here;
           entry = of.entry;
           listed = of.listed;
-          row = subst (λ (c : CatalogueState). HasName c.rows of.entry.series name) same.0 of.row;
+          row = of.row;
+          own = subst (λ (c : CatalogueState). HasName c.rows of.row name) same.0 of.named;
+          among = subst (λ (c : CatalogueState). Contains (line c.rows of.row) of.entry.series) same.0 of.among;
           is_named = is_named ∙ (ap (λ (x : PinnedFile). x.name) of.is ∙ ap (λ (c : CatalogueState). file_of (of.place + 1, c.rows) of.entry) same.0);
           bytes = record { bytes = f.bytes; file = f.file; holds = f.holds ∙ ap (λ (x : PinnedFile). take x.len f.bytes) of.is };
         }
@@ -147,14 +153,16 @@ pub bad_file : (tells : Bool) (at : Seen) (held : Stores) → Has tells at held 
     → IsDamagedFile at.files at.catalogue.rows (lists_of at.manifests) name n.name place
 bad_file tells at held has name n r i own ty ty_is place bad =
     let differ : KeysDiffer at.catalogue.rows = subst KeysDiffer (sym has.known.rows) (has.known.each r.place r.manifest r.here).valid.keys in
-    let same : own.row ≡ r.row.row = one_row at.catalogue.rows differ i r.entry.series name own r.row in
+    let same : own.row ≡ r.own.row = one_row at.catalogue.rows differ i r.row name own r.own in
     let f = r.bytes in
     record {
       place = r.place;
       within = low_of at held r.place r.manifest has.known r.here;
       entry = r.entry;
       listed = subst (λ (o : Option ManifestState). Contains (entries_in o) r.entry) (sym r.here) r.listed;
-      own = r.row;
+      row = r.row;
+      own = r.own;
+      among = r.among;
       named = r.is_named;
       bad = record {
         bytes = f.bytes;
@@ -163,9 +171,25 @@ bad_file tells at held has name n r i own ty ty_is place bad =
       };
     }
 
+-- the rows of a line are of one type
+line_abouts : (rows : List Row) → AreRows rows → (n i : ℕ) (row : Row) → i < n → slice_get rows i ≡ Some row → (k : ℕ) → Contains (line rows i) k → (other : Row) → slice_get rows k ≡ Some other → other.about ≡ row.about
+line_abouts rows are zero i row low here k among other there = absurd (omega (arith, low))
+line_abouts rows are (suc n) i row low here k among other there =
+    elim (Contains-push_cases (line_known (lines [] rows) row.base) i k (subst (λ (ks : List ℕ). Contains ks k) (line_over rows are i row here) among)) [
+      | inl under ↦ by_base row.base refl under (λ b base lower at within. line_abouts rows are n b base lower at k within other there)
+      | inr is ↦ ap (λ (r : Row). r.about) (same_Some other row (sym there ∙ (ap (λ (j : ℕ). slice_get rows j) (sym is) ∙ here)))
+    ]
+  where
+    by_base : (o : Option ℕ) → row.base ≡ o → Contains (line_known (lines [] rows) o) k → ((b : ℕ) (base : Row) → b < n → slice_get rows b ≡ Some base → Contains (line rows b) k → other.about ≡ base.about) → other.about ≡ row.about
+    by_base None is under deeper = let none = under.1 in absurd (omega (arith, none))
+    by_base (Some b) is under deeper =
+        let o = are.over i row b here is in
+        let lower : b < i = o.below in
+        deeper b o.base (omega (arith, lower, low)) o.here under ∙ o.about
+
 -- where what is held stands, the listed bytes are a file of the row's type
-pub none_damaged : (tells : Bool) (at : Seen) (held : Stores) → Has tells at held → IsTrue tells → IsTrue held.stands → MayLeave at.past at.files → (asked : List ℕ) (name : Name) (place : ℕ) → IsDamagedFile at.files at.catalogue.rows (lists_of at.manifests) asked name place → ⊥
-none_damaged tells at held has told stands seen asked name place d = by_list (slice_get at.manifests d.place) refl d.listed
+pub none_damaged : (tells : Bool) (at : Seen) (held : Stores) → AreRows at.catalogue.rows → Has tells at held → IsTrue tells → IsTrue held.stands → MayLeave at.past at.files → (asked : List ℕ) (name : Name) (place : ℕ) → IsDamagedFile at.files at.catalogue.rows (lists_of at.manifests) asked name place → ⊥
+none_damaged tells at held are has told stands seen asked name place d = by_list (slice_get at.manifests d.place) refl d.listed
   where
     by_list : (o : Option ManifestState) → slice_get at.manifests d.place ≡ o → Contains (entries_in o) d.entry → ⊥
     by_list None here within = let low = within.1 in absurd (omega (arith, low))
@@ -174,6 +198,7 @@ none_damaged tells at held has told stands seen asked name place d = by_list (sl
         let l : Listed at held (d.place + 1) d.entry name = listed_file tells at held (d.place + 1) d.entry name has lists d.named in
         let front : take d.entry.len d.bad.bytes ≡ bytes_of l.file = front_there tells at held (d.place + 1) d.entry name l d.bad.bytes has told stands seen d.bad.file in
         let filed : IsFiled l.manifest.granularity held.rows l.file = All-contains (IsFiled l.manifest.granularity held.rows) (list_at l.place held) l.file ((has.known.each l.place l.manifest l.here).valid.filed.filed stands) l.listed in
-        let row : filed.row ≡ d.own.row = same_Some filed.row d.own.row
-        (sym filed.stands ∙ (ap (λ (e : FileEntry). slice_get held.rows e.series) l.entry ∙ (ap (λ (rs : List Row). slice_get rs d.entry.series) (sym has.known.rows) ∙ d.own.here))) in
-        none_bad d.own.row.about.ty (bytes_of l.file) l.file.head filed.info l.file.samples place filed.file (filed.type ∙ ap (λ (r : Row). r.about.ty) row) (subst (λ (b : List ℕ). IsBadFor d.own.row.about.ty b place) front d.bad.holds)
+        let there : slice_get at.catalogue.rows d.entry.series ≡ Some filed.row =
+        ap (λ (rs : List Row). slice_get rs d.entry.series) has.known.rows ∙ (ap (λ (e : FileEntry). slice_get held.rows e.series) (sym l.entry) ∙ filed.stands) in
+        let about : filed.row.about ≡ d.own.row.about = line_abouts at.catalogue.rows are (suc d.row) d.row d.own.row (omega arith) d.own.here d.entry.series d.among filed.row there in
+        none_bad d.own.row.about.ty (bytes_of l.file) l.file.head filed.info l.file.samples place filed.file (filed.type ∙ ap (λ (a : About). a.ty) about) (subst (λ (b : List ℕ). IsBadFor d.own.row.about.ty b place) front d.bad.holds)

@@ -42,7 +42,7 @@ use Rattle.archiver_appliance.proofs.Acting.{acts_behind, same_end}
 use Rattle.archiver_appliance.proofs.Checking.{checks_in, first_in, with_lists}
 use Rattle.archiver_appliance.proofs.ReadFiles.{read_in}
 use Rattle.archiver_appliance.proofs.Judgements.{OneVerdict, check_judges, etl_judges, exactly, get_judges, ingest_judges, status_judges, whole_with}
-use Rattle.archiver_appliance.proofs.Opening.{first_stands, opened_listed, reads_listed, same_said, then_reads}
+use Rattle.archiver_appliance.proofs.Opening.{opened_listed, reads_listed, same_said, then_reads}
 
 -- STATUSES
 
@@ -110,9 +110,9 @@ module _ {S K C D R : Type 0} (src : OfSource S) (snk : OfSink K) (clk : OfClock
           let judges = status_judges (stores_of config) (disk.files first) (whole told) (src.left s) status (ends (src.left s)) not.0 not.1 in (
             record {
               judges = judges;
-              makes = λ before after opens stand.
+              makes = λ before after opens.
                   let read = stands told before after opens in
-                  record { first = read.held; either = read.either; read = read.read; makes = held read.held read.has (first_stands (stores_of config) (disk.past first) before after read.held opens stand read.either) told; undamaged = rows_undamaged store.catalogue.rows (lists_of store.manifests.items 0) (lists_of store.manifests.items 1) (lists_of store.manifests.items 2) (snk.written k) (snk.written k') status listed };
+                  record { first = read.held; either = read.either; read = read.read; makes = λ stand. held read.held read.has stand told; undamaged = λ stand. rows_undamaged store.catalogue.rows (lists_of store.manifests.items 0) (lists_of store.manifests.items 1) (lists_of store.manifests.items 2) (snk.written k) (snk.written k') status listed };
               tells = of_image told (λ rs x y z. TellsListed rs x y z (snk.written k) (snk.written k') status) listed;
               reads = λ reading. only told;
               listed = λ w keeps i low. reads_listed (stores_of config) (disk.files first) (disk.files given) (disk.past first) (disk.past given) i w.rows (w.lists i) (only told);
@@ -141,9 +141,9 @@ module _ {S K C D R : Type 0} (src : OfSource S) (snk : OfSink K) (clk : OfClock
           let judges = check_judges (stores_of config) (disk.files first) (whole told) (src.left s) status (ends (src.left s)) finds (checks_told rows short medium long a b (disk.files store.disk) status (checks told)) in (
             record {
               judges = judges;
-              makes = λ before after opens stand.
+              makes = λ before after opens.
                   let read = stands told before after opens in
-                  record { first = read.held; either = read.either; read = read.read; makes = tt; undamaged = held read.held read.has (first_stands (stores_of config) (disk.past first) before after read.held opens stand read.either) told };
+                  record { first = read.held; either = read.either; read = read.read; makes = tt; undamaged = λ stand. held read.held read.has stand told };
               tells = of_image told (λ rs x y z. ChecksAll rs (disk.files first) x y z a b status) (checks_in rows (disk.files store.disk) (disk.files first) same short medium long a b status (checks told));
               reads = λ reading. only told;
               listed = λ w keeps i low. reads_listed (stores_of config) (disk.files first) (disk.files given) (disk.past first) (disk.past given) i w.rows (w.lists i) (only told);
@@ -156,7 +156,7 @@ module _ {S K C D R : Type 0} (src : OfSource S) (snk : OfSink K) (clk : OfClock
   -- no archive was made, and nothing but the disk was read
   unasked : (s' ≡ s) × (k' ≡ k) × (c' ≡ c) → IsNotMade store.disk given status → IsTrue disk.tells → IsUnasked (stores_of config) (outside src snk clk disk s k c first) (outside src snk clk disk s' k' c' given) status
   unasked same not told = record {
-    cut = inr not.status_is;
+    cut = inr (inl not.status_is);
     source = ap src.left same.0;
     sink = ap snk.written same.1;
     clock = ap clk.coming same.2;
@@ -183,7 +183,7 @@ module _ {S K C D R : Type 0} (src : OfSource S) (snk : OfSink K) (clk : OfClock
         let judges = ingest_judges (stores_of config) (disk.files first) (whole told) (src.left s) status ends (not_damaged undamaged) (not_differs opened) in (
           record {
             judges = judges;
-            makes = λ before after opens stand. let read = stands told before after opens in record { first = read.held; either = read.either; read = read.read; makes = by_made told before after opens read.held read.has ingests; undamaged = undamaged };
+            makes = λ before after opens. let read = stands told before after opens in record { first = read.held; either = read.either; read = read.read; makes = by_made told before after opens read.held read.has ingests; undamaged = λ stand. undamaged };
             tells = λ w. tt;
             reads = λ none. absurd (none (whole told));
             listed = λ w keeps i low.
@@ -230,9 +230,9 @@ module _ {S K C D R : Type 0} (src : OfSource S) (snk : OfSink K) (clk : OfClock
         let judges = etl_judges (stores_of config) (disk.files first) (whole told) (src.left s) status (ends (src.left s)) (not_differs opened) in (
           record {
             judges = judges;
-            makes = λ before after opens stand.
+            makes = λ before after opens.
                 let read = stands told before after opens in
-                record { first = read.held; either = read.either; read = read.read; makes = by_made told before after opens read.held read.has moves; undamaged = undamaged told read.held read.has (first_stands (stores_of config) (disk.past first) before after read.held opens stand read.either) };
+                record { first = read.held; either = read.either; read = read.read; makes = by_made told before after opens read.held read.has moves; undamaged = undamaged told read.held read.has };
             tells = λ w. subst (λ (x : ConfigState). FindsPart (stores_of x) (disk.files given) status) settings (part told);
             reads = λ none. absurd (none (whole told));
             listed = λ w none i low. absurd none;
@@ -274,10 +274,9 @@ module _ {S K C D R : Type 0} (src : OfSource S) (snk : OfSink K) (clk : OfClock
           (λ file at is. moved (begun told).elsewhere file at (damaged told file at is)) (not_differs opened) in (
             record {
               judges = judges;
-              makes = λ before after opens stand.
+              makes = λ before after opens.
                   let was = stands told before after opens in
-                  let standing = first_stands (stores_of config) (disk.past first) before after was.held opens stand was.either in
-                  record { first = was.held; either = was.either; read = was.read; makes = by_made told before after opens was.held was.has retrieves; undamaged = by_writes told was.held was.has standing retrieves };
+                  record { first = was.held; either = was.either; read = was.read; makes = by_made told before after opens was.held was.has retrieves; undamaged = λ stand. by_writes told was.held was.has stand retrieves };
               tells = λ w.
                   let same = same_said (stores_of config) (disk.files first) store.catalogue.rows w.rows (lists_of store.manifests.items) w.lists (said told) w.said in (
                     of_image told (λ rs x y z. GetsSome rs name.now query (snk.written k) (snk.written k') status) some w,
@@ -297,7 +296,7 @@ module _ {S K C D R : Type 0} (src : OfSource S) (snk : OfSink K) (clk : OfClock
         moved : ((n : Name) → n.0 ≢ 0 → disk.files store.disk n ≡ disk.files first n) → (file : Name) (at : ℕ) → IsDamagedFile (disk.files store.disk) store.catalogue.rows (lists_of store.manifests.items) name.now file at → IsDamagedFile (disk.files first) store.catalogue.rows (lists_of store.manifests.items) name.now file at
         moved same file at one =
             let elsewhere : file.0 ≢ 0 = λ is. let number : one.place + 1 ≡ 0 = sym (ap (λ (n : Name). n.0) one.named) ∙ is in omega (arith, number) in
-            record { place = one.place; within = one.within; entry = one.entry; listed = one.listed; own = one.own; named = one.named; bad = record { bytes = one.bad.bytes; file = sym (same file elsewhere) ∙ one.bad.file; holds = one.bad.holds } }
+            record { place = one.place; within = one.within; entry = one.entry; listed = one.listed; row = one.row; own = one.own; among = one.among; named = one.named; bad = record { bytes = one.bad.bytes; file = sym (same file elsewhere) ∙ one.bad.file; holds = one.bad.holds } }
 
         by_made : IsTrue disk.tells → (before after : Stores) → OpensEither (stores_of config) (disk.past first) before after → (held : Stores) → Has disk.tells (seen disk store) held → Retrieves → Makes config (command.Get name query) before after held (outside src snk clk disk s k c first) (outside src snk clk disk s' k' c' given) status
         by_made told before after opens held has (inl not) = inl (unasked (quiet, not.1, still) not.0 told)

@@ -154,7 +154,7 @@ module _ (verdict : OneVerdict) (gs : List Granularity) (files : Files) (whole :
   named_by NoSuchVariable j = inl refl
   named_by DiskFault j = inr (inl refl)
   named_by (Damaged file at) (of_image one) = absurd (verdict.whole gs files file at whole one)
-  named_by (Damaged file at) (of_file one) = absurd (vain (record { whole = one.whole; holds = λ missing. missing one.holds.entry.series one.holds.own }))
+  named_by (Damaged file at) (of_file one) = absurd (vain (record { whole = one.whole; holds = λ missing. missing one.holds.row one.holds.own }))
   named_by OutOfMemory j = inr (inr refl)
   named_by (GranularityDiffers k a) j = absurd (verdict.same gs files k a whole j)
   named_by status j = absurd (vain j)

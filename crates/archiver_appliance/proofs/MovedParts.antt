@@ -27,7 +27,7 @@ use Rattle.act_model.specs.Machine.{Machine}
 use Rattle.act_model.specs.Reply.{Reply}
 use Rattle.act_model.specs.Step.{Step}
 use Rattle.act_model.specs.declared.acts.Act.{Act}
-use Rattle.act_model.specs.declared.acts.Act.TheVariants.{Register, Pause, Resume, Offer, Tick, Flush, MoveBegin, MoveStep, Sweep, Pin, OpenPiece, Unpin, Names, Details, Doors, DoorDone}
+use Rattle.act_model.specs.declared.acts.Act.TheVariants.{Register, Pause, Resume, Rename, Offer, Tick, Flush, MoveBegin, MoveStep, Sweep, Pin, OpenPiece, Unpin, Names, Details, Doors, DoorDone}
 use Rattle.act_model.specs.declared.acts.Answer.TheVariants.{Damaged}
 use Rattle.command_words.specs.declared.status.Status.{Status}
 use Rattle.command_words.specs.declared.status.Status.TheVariants as status
@@ -76,6 +76,7 @@ module _ (answers : AnswersAreOfActs) (undamaged : NoneIsDamaged) (tells : Bool)
   part_told who (Register x about) name at old new step left = absurd (other_act answers undamaged who (Register x about) name at old new refl step)
   part_told who (Pause x) name at old new step left = absurd (other_act answers undamaged who (Pause x) name at old new refl step)
   part_told who (Resume x) name at old new step left = absurd (other_act answers undamaged who (Resume x) name at old new refl step)
+  part_told who (Rename x newname) name at old new step left = absurd (other_act answers undamaged who (Rename x newname) name at old new refl step)
   part_told who (Offer x ty t line now) name at old new step left = absurd (other_act answers undamaged who (Offer x ty t line now) name at old new refl step)
   part_told who (Tick row now) name at old new step left = absurd (other_act answers undamaged who (Tick row now) name at old new refl step)
   part_told who (Flush limit) name at old new step left = absurd (other_act answers undamaged who (Flush limit) name at old new refl step)

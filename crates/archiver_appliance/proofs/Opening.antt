@@ -56,7 +56,7 @@ first_stands gs past before after first opens stands (inr is) = subst (λ (h : S
     by_change (inr one) = subst (λ (h : Stores). IsTrue h.stands) (sym one.2) stands
 
 -- opening only reads
-pub opening_reads : {D R : Type 0} (disk : Ghosts D R) (gs : List Granularity) (old new : D) → Reopens disk gs old new → LeavesSite disk old new → OnlyReads gs (disk.files old) (disk.files new) (disk.past old) (disk.past new)
+pub opening_reads : {D R : Type 0} (disk : Ghosts D R) (gs : List Granularity) (old new : D) → Reopens disk gs old new → LeavesSite disk gs old new → OnlyReads gs (disk.files old) (disk.files new) (disk.past old) (disk.past new)
 opening_reads {D} {R} disk gs old new reopens site = record { any_moment = reopens.any_moment; either = reopens.either; opens = reopens.opens; elsewhere = reopens.elsewhere; stores = reopens.stores; site = site }
 
 -- so it only opens
@@ -77,7 +77,7 @@ opening_opens {D} {R} disk gs old new sweeps = record { any_moment = sweeps.any_
 same_unwhole : (gs : List Granularity) (files a c : Files) → (IsWhole gs files → ⊥) → SweptStores gs files a c → SameStores a c
 same_unwhole gs files a c none swept n other = elim (swept n other) [ inl same ↦ same | inr gone ↦ absurd (none gone.0.whole) ]
 
-pub opens_unwhole : (gs : List Granularity) (files later : Files) (old new : Past) → (IsWhole gs files → ⊥) → OnlyOpens gs files later old new → KeepsSite files later × Passes KeepsSite old new → OnlyReads gs files later old new
+pub opens_unwhole : (gs : List Granularity) (files later : Files) (old new : Past) → (IsWhole gs files → ⊥) → OnlyOpens gs files later old new → KeepsSite gs files later × Passes (KeepsSite gs) old new → OnlyReads gs files later old new
 opens_unwhole gs files later old new none opens site = record {
   any_moment = opens.any_moment;
   either = opens.either;
@@ -120,8 +120,8 @@ then_reads gs files between later old mid new opening same passes = record {
   elsewhere = λ n other. ap (λ (f : Files). f n) same ∙ opening.elsewhere n other;
   stores = passes_then SameStores (λ a b. b ≡ a) old mid new opening.stores passes (λ a b c was step now is. same_image (λ (f : Files). SameStores a f) b c is step);
   site = (
-    same_image (KeepsSite files) between later same opening.site.0,
-    passes_then KeepsSite (λ a b. b ≡ a) old mid new opening.site.1 passes (λ a b c was step now is. same_image (KeepsSite a) b c is step),
+    same_image (KeepsSite gs files) between later same opening.site.0,
+    passes_then (KeepsSite gs) (λ a b. b ≡ a) old mid new opening.site.1 passes (λ a b c was step now is. same_image (KeepsSite gs a) b c is step),
   );
 }
 

@@ -1,5 +1,5 @@
 -- A pin that one who acts alone makes first: of an archive that was just opened it finds the rows and samples that are held.
-use Rattle.std.proofs.Common.{◌≡◌, ℕ, ◌≤◌, zero, suc, List, [], ◌∷◌, ◌++◌, length, map, cond, Bool, true, false, Option, Some, None, refl, sym, ◌∙◌, ap, subst, arith, append-nil}
+use Rattle.std.proofs.Common.{◌≡◌, ℕ, ◌+◌, ◌≤◌, zero, suc, List, [], ◌∷◌, ◌++◌, length, map, cond, Bool, true, false, Option, Some, None, refl, sym, ◌∙◌, ap, subst, arith, append-nil}
 use Rattle.std.specs.Prelude.{◌==◌, slice_get}
 use Rattle.std.proofs.lemmas.Bool.Decides.{nat_tests}
 use Rattle.std.proofs.lemmas.Option.{same_Some}
@@ -10,22 +10,26 @@ use Rattle.pv_catalog.specs.declared.row.Row.{Row}
 use Rattle.series_model.specs.Series.{over}
 use Rattle.series_model.specs.declared.sample.Query.{Query}
 use Rattle.series_model.specs.declared.sample.Sample.{Sample}
-use Rattle.tier_store.specs.Stores.{Stores, samples_in}
+use Rattle.tier_store.specs.Stores.{Stores, whole_in}
 use Rattle.act_model.specs.declared.acts.Act.{Act}
 use Rattle.act_model.specs.declared.acts.Answer.TheVariants as answer
-use Rattle.act_model.specs.Changes.{Settles, no_doubt, as_not_made, as_made}
-use Rattle.act_model.specs.Crash.{DurableRow, kept}
+use Rattle.act_model.specs.Changes.{Settles, each, no_doubt, as_not_made, as_made}
+use Rattle.act_model.specs.Crash.{DurableRow, kept, kept_of}
 use Rattle.act_model.specs.Details.{details_refused}
 use Rattle.act_model.specs.History.{Done, Entry, Runs, done_of, mine, own}
 use Rattle.act_model.specs.Machine.{Machine, find_row, same_bytes}
-use Rattle.act_model.specs.NextLife.{opened, opened_row}
+use Rattle.act_model.specs.NextLife.{listed_row, opened_rows, with_next}
 use Rattle.act_model.specs.Outcome.{refused_at_once, refused, runs, faults_first, faults_between, faults_within, faults_removing, wants_memory, wants_memory_settled}
 use Rattle.act_model.specs.Pin.{PinStep, Pins, pins}
 use Rattle.act_model.specs.Reply.{Reply}
 use Rattle.act_model.specs.Rows.{RowState, accepted}
+use Rattle.act_model.specs.Sound.{IsSound}
 use Rattle.act_model.specs.Step.{Step}
+use Rattle.act_model.specs.Whole.{whole}
 use Rattle.archive_core.specs.Parts.{Parts}
 use Rattle.archive_core.specs.Stands.{Stands}
+use Rattle.archive_core.proofs.Making.{kept_to}
+use Rattle.archive_core.proofs.Wholes.{accepted_held}
 use Rattle.archive_core.proofs.KeptRows.{Placed, placed, place_none, place_some, row_there, same_bytes_is, same_bytes_self}
 use Rattle.archiver_appliance.specs.Acting.{IsOpenedOn}
 use Rattle.archiver_appliance.specs.Retrieving.{HasNone}
@@ -174,32 +178,29 @@ one_has tells p m name i row stands found here =
 
 -- WHAT IS HELD
 
-opened_here : (ds : List DurableRow) (i : ℕ) (row : RowState) → slice_get (map opened_row ds) i ≡ Some row → (d : DurableRow) × (slice_get ds i ≡ Some d) × (row ≡ opened_row d)
-opened_here [] i row here = absurd (cc (here))
-opened_here (d ∷ ds) zero row here = (d, refl, sym (same_Some (opened_row d) row here))
-opened_here (d ∷ ds) (suc i) row here = opened_here ds i row here
+-- rows that were just opened have no tail
+tail_none : (rows : List RowState) (n : ℕ) (ds : List DurableRow) (i : ℕ) (row : RowState) → slice_get (each (with_next rows) n (map listed_row ds)) i ≡ Some row → row.tail ≡ []
+tail_none rows n [] i row here = absurd (cc (here))
+tail_none rows n (d ∷ ds) zero row here = sym (ap (λ (r : RowState). r.tail) (same_Some (with_next rows n (listed_row d)) row here))
+tail_none rows n (d ∷ ds) (suc i) row here = tail_none rows (n + 1) ds i row here
 
--- a row of what was opened has all that is held accepted
-pub record IsHeldRow (held : Stores) (i : ℕ) (row : RowState) : Type 0 where
+-- of a row of what was opened the whole that is held is accepted
+pub record IsHeldRow (held : Stores) (rows : List RowState) (i : ℕ) (row : RowState) : Type 0 where
   pub own : Row
   pub here : slice_get held.rows i ≡ Some own
   pub name_is : row.name ≡ own.name
   pub about_is : row.about ≡ own.about
-  pub accepted_is : accepted row ≡ samples_in i held
+  pub whole_is : whole accepted rows i ≡ whole_in i held
 
-pub held_row : (config : ConfigState) (held : Stores) (start : Machine) → IsOpenedOn true config held start → start.told ≡ true → (i : ℕ) (row : RowState) → slice_get start.rows i ≡ Some row → IsHeldRow held i row
-held_row config held start opened told i row here =
-    let is = opened.fresh told in
-    let rows : start.rows ≡ map opened_row (kept start) = rows_of is in
-    let one = opened_here (kept start) i row (ap (λ (rs : List RowState). slice_get rs i) (sym rows) ∙ here) in
-    let d = one.0 in
-    let at = opened.holds.each i d one.1 in
-    let all : accepted (opened_row d) ≡ over (over d.long d.medium) d.short = append-nil (over (over d.long d.medium) d.short) in
-    let durable_is : over (over d.long d.medium) d.short ≡ samples_in i held = rw (at.is.short told, at.is.medium told, at.is.long told) refl in
+pub held_row : (config : ConfigState) (held : Stores) (start : Machine) → IsSound start → IsOpenedOn true config held start → start.told ≡ true → (i : ℕ) (row : RowState) → slice_get start.rows i ≡ Some row → IsHeldRow held start.rows i row
+held_row config held start sound opened told i row here =
+    let rows : start.rows ≡ opened_rows (kept start) = rows_of (opened.fresh told) in
+    let none : row.tail ≡ [] = tail_none (map listed_row (kept start)) 0 (kept start) i row (ap (λ (rs : List RowState). slice_get rs i) (sym rows) ∙ here) in
+    let at = opened.holds.each i (kept_of row) (kept_to start.rows i row here) in
     record {
       own = at.row;
       here = at.here;
-      name_is = ap (λ (r : RowState). r.name) one.2 ∙ at.is.name;
-      about_is = ap (λ (r : RowState). r.about) one.2 ∙ at.is.about;
-      accepted_is = ap accepted one.2 ∙ (all ∙ durable_is);
+      name_is = at.is.name;
+      about_is = at.is.about;
+      whole_is = accepted_held start sound held opened.holds told i row here ∙ (ap (over (whole_in i held)) none ∙ append-nil (whole_in i held));
     }

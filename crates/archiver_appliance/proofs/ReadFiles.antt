@@ -90,7 +90,9 @@ listed_front tells at held has name n r = record {
   within = low_of at held r.place r.manifest has.known r.here;
   entry = r.entry;
   listed = subst (λ (o : Option ManifestState). Contains (entries_in o) r.entry) (sym r.here) r.listed;
-  own = r.row;
+  row = r.row;
+  own = r.own;
+  among = r.among;
   is_named = r.is_named;
   bytes = r.bytes;
 }
@@ -158,7 +160,9 @@ front_in files f₂ rows r₂ lists l₂ asked rows_are lists_are same piece f =
       within = f.within;
       entry = f.entry;
       listed = subst (λ (es : List FileEntry). Contains es f.entry) (lists_are f.place f.within) f.listed;
+      row = f.row;
       own = f.own;
+      among = f.among;
       is_named = f.is_named;
       bytes = record { bytes = f.bytes.bytes; file = sym (same piece.name elsewhere) ∙ f.bytes.file; holds = f.bytes.holds };
     } in

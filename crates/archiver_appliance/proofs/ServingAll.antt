@@ -66,7 +66,7 @@ module _ {S K C D R : Type 0} (src : OfSource S) (snk : OfSink K) (clk : OfClock
         (λ not. (not.1, unmade not.0)) of_service serves
       where
         of_service : (began : Bool) (told : AllServed) → Made began told → IsOfService config disk.tells doors Given (outside src snk clk disk s k c first) (outside src snk clk disk s k c' given) began told
-        of_service began told made tells before after opens stand =
+        of_service began told made tells before after opens =
             let read = stands tells before after opens in
             let Before : Files → Type 0 = λ image. HoldsEither (stores_of config) before after image in
             let from : ServesFrom Before disk.tells store.config read.held doors (Given told) began told (disk.past first) (disk.past given) =
@@ -87,7 +87,7 @@ module _ {S K C D R : Type 0} (src : OfSource S) (snk : OfSink K) (clk : OfClock
           let judges = serve_judges (stores_of config) (disk.files first) (whole told) numbers (src.left s) status (ends (src.left s)) undamaged opened in (
             record {
               judges = judges;
-              makes = λ before after opens stand. let read = stands told before after opens in record { first = read.held; either = read.either; read = read.read; makes = by_came told serves.came; undamaged = undamaged };
+              makes = λ before after opens. let read = stands told before after opens in record { first = read.held; either = read.either; read = read.read; makes = by_came told serves.came; undamaged = λ stand. undamaged };
               tells = λ w. tt;
               reads = λ none. absurd (none (whole told));
               listed = λ w none i low. absurd none;
@@ -99,4 +99,4 @@ module _ {S K C D R : Type 0} (src : OfSource S) (snk : OfSink K) (clk : OfClock
       where
         by_came : IsTrue disk.tells → CameOfPosts is_closed faults ledger Is Unmade Made status olds news → IsUnasked (stores_of config) (outside src snk clk disk s k c first) (outside src snk clk disk s k c' given) status ⊎ ((told : AllServed) × (status ≡ status_of told))
         by_came told (on_archive began end is left made) = inr (end, is)
-        by_came told (are_not not same un) = inl (record { cut = inr un.0.status_is; source = refl; sink = refl; clock = un.1; opens = unmade un.0 told })
+        by_came told (are_not not same un) = inl (record { cut = inr (inl un.0.status_is); source = refl; sink = refl; clock = un.1; opens = unmade un.0 told })

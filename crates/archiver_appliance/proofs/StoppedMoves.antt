@@ -2,7 +2,7 @@
 use Rattle.std.proofs.Common.{◌≡◌, inl, inr, ℕ, List, [], ◌∷◌, ◌++◌, true, false, Option, None, Result, Ok, Err, refl, sym, ◌∙◌, ap, subst, append_assoc}
 use Rattle.disk_model.specs.Files.{Name}
 use Rattle.act_model.specs.declared.acts.Act.{Act}
-use Rattle.act_model.specs.declared.acts.Act.TheVariants.{Register, Pause, Resume, Offer, Tick, Flush, MoveBegin, MoveStep, Sweep, Pin, OpenPiece, Unpin, Names, Details, Doors, DoorDone}
+use Rattle.act_model.specs.declared.acts.Act.TheVariants.{Register, Pause, Resume, Rename, Offer, Tick, Flush, MoveBegin, MoveStep, Sweep, Pin, OpenPiece, Unpin, Names, Details, Doors, DoorDone}
 use Rattle.act_model.specs.declared.acts.Answer.TheVariants as answer
 use Rattle.act_model.specs.Answers.{is_answer_to}
 use Rattle.act_model.specs.History.{Done, Entry, Runs, mine}
@@ -58,6 +58,7 @@ module _ (answers : AnswersAreOfActs) (undamaged : NoneIsDamaged) where
   no_damage who (Register x about) name at old new told step = other_act who (Register x about) name at old new refl step
   no_damage who (Pause x) name at old new told step = other_act who (Pause x) name at old new refl step
   no_damage who (Resume x) name at old new told step = other_act who (Resume x) name at old new refl step
+  no_damage who (Rename x newname) name at old new told step = other_act who (Rename x newname) name at old new refl step
   no_damage who (Offer x ty t line now) name at old new told step = other_act who (Offer x ty t line now) name at old new refl step
   no_damage who (Tick row now) name at old new told step = other_act who (Tick row now) name at old new refl step
   no_damage who (Flush limit) name at old new told step = other_act who (Flush limit) name at old new refl step

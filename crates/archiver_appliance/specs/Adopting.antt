@@ -35,12 +35,12 @@ line_of files samples rows skipped cut = codes "adopted " ++ (files ++ (codes " 
 abbrev pub adopted_text : Adopted → List ℕ
 adopted_text told = line_of (decimal told.files) (decimal told.samples) (decimal told.rows) (decimal told.skipped) (decimal told.cut)
 
--- The image holds what was held at first, with a front of the steps made. It stands. Of each row it has no less than was held at first, and no
--- more than all steps leave.
+-- The image holds what was held at first, with a front of the steps made, and stands where that did. Of each row it has no less than was held at first,
+-- and no more than all steps leave.
 pub record HoldsFront (gs : List Granularity) (held : Stores) (steps : List Step) (image : Files) : Type 0 where
   pub made : ℕ
   pub holds : HoldsAll gs image (stage steps held made)
-  pub stands : IsTrue (stage steps held made).stands
+  pub stands : IsTrue held.stands → IsTrue (stage steps held made).stands
   pub extends : (row : ℕ) → IsPrefix (samples_in row held) (samples_in row (stage steps held made))
   pub extended : (row : ℕ) → IsPrefix (samples_in row (stage steps held made)) (samples_in row (made_by steps held))
 
@@ -66,42 +66,16 @@ pub record AdoptsInto (Before : Files → Type 0) (gs : List Granularity) (image
 abbrev pub IsWritten : Status → Type 0
 IsWritten status = (status ≡ IsDone) ⊎ (status ≡ SinkFault)
 
--- what reads gave is what was before a change, or what is after it, and all that the rule asks for was made of it and told
-pub record TellsOf (gs : List Granularity) (before after : Stores) (old new : Outside) (status : Status) : Type 0 where
-  pub held : Stores
-  pub either : IsEither before after held
-  pub read : HoldsAll gs old.files held
-  pub steps : List Step
-  pub tells : TellsAdopted gs old.files held steps new.past old.sink new.sink status
-
--- A crash at any moment left what was held before a change or after it, and the disk can be opened again.
-pub record KeepsEither (gs : List Granularity) (before after : Stores) (old new : Past) : Type 0 where
-  pub any_moment : Passes (λ a b. HoldsEither gs before after b) old new
-  pub opens : OpensEither gs new before after
-
--- Steps by the rule were made of what reads gave, whether that stands or not: at each moment a crash left what was held before a change or after it, or
--- what reads gave with a front of the steps made; and the disk can be opened again.
-pub record MakesFront (gs : List Granularity) (before after : Stores) (old new : Outside) : Type 0 where
-  pub held : Stores
-  pub either : IsEither before after held
-  pub read : HoldsAll gs old.files held
-  pub steps : List Step
-  pub rule : (whole : Bool) × IsAdoption whole gs old.files held steps
-  pub any_moment : Passes (λ a b. HoldsEither gs before after b ⊎ ((k : ℕ) × HoldsAll gs b (stage steps held k))) old.past new.past
-  pub opens : OpensStage gs steps held new.past
-
 -- What `adopt` does whatever the listed files are, damaged inside or not. It works in place: no file of a store is changed, listed or not, and of the
 -- site's folder none but those of journals and the file `adopt`. While that is there it isn't finished: an image without it holds what was held at
--- first, where none had it then, or all that the rule makes. At 0 and 6 it is gone for good, and the numbers are those of all steps. Files that
--- aren't listed weren't opened.
+-- first, where none had it then, or all that the rule makes. At 0 and 6 it is gone for good, and else nothing is written. Files that aren't listed
+-- weren't opened.
 pub record AdoptsInPlace (gs : List Granularity) (old new : Outside) (status : Status) : Type 0 where
   pub elsewhere : SameStores old.files new.files
   pub stores : Passes SameStores old.past new.past
   pub site : OnlySite old.files new.files × Passes OnlySite old.past new.past
   pub marked : (before after : Stores) → OpensEither gs old.past before after → Passes (IsMarkedOf gs old.files before after) old.past new.past
   pub finished : IsWritten status → IsGone new.files new.past adoption_name
-  pub told : IsWritten status → (before after : Stores) → OpensEither gs old.past before after → TellsOf gs before after old new status
-  pub made : (before after : Stores) → OpensEither gs old.past before after → KeepsEither gs before after old.past new.past ⊎ MakesFront gs before after old new
   pub quiet : (IsWritten status → ⊥) → new.sink ≡ old.sink
   pub found : NoneFoundOpened gs new.files new.opened
 

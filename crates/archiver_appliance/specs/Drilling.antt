@@ -31,6 +31,7 @@ use Rattle.act_model.specs.History.{Done, Entry, Runs}
 use Rattle.act_model.specs.Machine.{Change, Machine, find_row}
 use Rattle.act_model.specs.Parts.{AreParts}
 use Rattle.act_model.specs.Rows.{RowState, Store, accepted, tier}
+use Rattle.act_model.specs.Whole.{whole}
 use Rattle.act_model.specs.Rule.{index_of}
 use Rattle.act_model.specs.Sound.{IsSound}
 use Rattle.archive_core.specs.Parts.{parts}
@@ -67,7 +68,7 @@ pub record HasTally (name : List ℕ) (query : Query) (tally : Option Tally) (m 
   pub row : RowState
   pub found : find_row m name ≡ Some i
   pub here : slice_get m.rows i ≡ Some row
-  pub tallied : AreTallied (answer (accepted row) query) tally
+  pub tallied : AreTallied (answer (whole accepted m.rows i) query) tally
 
 -- each store has so many partitions of the variable
 pub record HasFiles (name : List ℕ) (files : List ℕ) (m : Machine) : Type 0 where

@@ -2,6 +2,7 @@
 use Rattle.std.specs.Prelude.{◌≡◌, ◌⊎◌, ◌≤◌, ◌<◌, ◌+◌, ℕ, take, List, Contains}
 use Rattle.disk_model.specs.Files.{Name, Files, HasFile}
 use Rattle.partition_names.specs.declared.granularity.Granularity.{Granularity}
+use Rattle.pv_catalog.specs.Lines.{line}
 use Rattle.pv_catalog.specs.Rows.{HasName}
 use Rattle.pv_catalog.specs.declared.row.Row.{Row}
 use Rattle.store_manifest.specs.declared.entry.Entry.{Entry}
@@ -26,13 +27,16 @@ refusal_of {D} {R} (reopening.Damaged disk name at) = Damaged name at
 refusal_of {D} {R} (reopening.GranularityDiffers disk kept asked) = GranularityDiffers kept asked
 refusal_of {D} {R} (reopening.Memory disk) = OutOfMemory
 
--- a store lists the file of the row that has the name, and its listed bytes are no file of the row's type: the first bad line begins here
+-- a store lists the file of the row that has the name, or of one under it, as of a variable that was renamed, and its listed bytes are no file of the
+-- row's type: the first bad line begins here
 pub record IsDamagedFile (files : Files) (rows : List Row) (lists : Listings) (asked : List ℕ) (name : Name) (at : ℕ) : Type 0 where
   pub place : ℕ
   pub within : place < 3
   pub entry : Entry
   pub listed : Contains (lists place) entry
-  pub own : HasName rows entry.series asked
+  pub row : ℕ
+  pub own : HasName rows row asked
+  pub among : Contains (line rows row) entry.series
   pub named : name ≡ file_of (place + 1, rows) entry
   pub bad : HasFile files name (λ b. IsBadFor own.row.about.ty (take entry.len b) at)
 

@@ -6,6 +6,7 @@ use Rattle.edge_io.specs.Stream.{AppendsFront}
 use Rattle.disk_model.specs.Files.{Name, Files}
 use Rattle.piece_choice.specs.Choosing.{listed}
 use Rattle.piece_choice.specs.declared.choosing.Listed.{Listed}
+use Rattle.pv_catalog.specs.Lines.{line as line_of}
 use Rattle.pv_catalog.specs.declared.row.Row.{Row}
 use Rattle.store_manifest.specs.declared.entry.Entry.{Entry}
 use Rattle.tier_store.specs.Tallying.{RiseFrom, listed_count}
@@ -60,13 +61,17 @@ own_entries i entries = filter (λ (e : Entry). nat_eq e.series i) entries
 abbrev pub row_entries : ℕ → List Entry → List Entry → List Entry → List Entry
 row_entries i short medium long = (own_entries i long ++ own_entries i medium) ++ own_entries i short
 
--- The line of the row with this number. Where by their entries its files rise in the order in which they are read, the number of samples
--- is the one that the entries say.
+-- so they list it of rows, one after another
+abbrev pub entries_of_rows : List ℕ → List Entry → List Entry → List Entry → List Entry
+entries_of_rows ks short medium long = flat_map (λ (k : ℕ). row_entries k short medium long) ks
+
+-- The line of the row with this number. Where by their entries its files and those of the rows under it rise in the order in which they are read, the
+-- number of samples is the one that the entries say. The numbers of files are of the row's own.
 pub record IsRowLine (rows : List Row) (short medium long : List Entry) (i : ℕ) (line : List ℕ) : Type 0 where
   pub row : Row
   pub here : slice_get rows i ≡ Some row
   pub count : ℕ
-  pub is : RiseFrom 0 (row_entries i short medium long) → count ≡ listed_count (row_entries i short medium long)
+  pub is : let entries = entries_of_rows (line_of rows i) short medium long in RiseFrom 0 entries → count ≡ listed_count entries
   pub text : line ≡ row_line row count (length (own_entries i short)) (length (own_entries i medium)) (length (own_entries i long))
 
 -- those of the rows from this number on, one after another

@@ -11,12 +11,13 @@ use Rattle.durable_write.specs.Held.{file_of}
 use Rattle.store_manifest.specs.declared.entry.Entry.{Entry}
 use Rattle.store_reopen.specs.Verdict.{Listings}
 use Rattle.pv_catalog.specs.declared.row.Row.{Row}
+use Rattle.pv_catalog.specs.Lines.{line}
 use Rattle.pv_catalog.specs.Rows.{HasName}
 use Rattle.series_model.specs.declared.sample.Query.{Query}
 use Rattle.series_model.specs.declared.sample.Sample.{Sample}
 use Rattle.series_model.specs.Series.{IsRising}
 use Rattle.series_model.specs.Retrieval.{answer as answer_of}
-use Rattle.tier_store.specs.Stores.{Stores, samples_in}
+use Rattle.tier_store.specs.Stores.{Stores, whole_in}
 use Rattle.act_model.specs.declared.acts.Act.{Act}
 use Rattle.act_model.specs.declared.acts.Act.TheVariants.{Pin}
 use Rattle.act_model.specs.declared.acts.Answer.TheVariants as answer
@@ -27,6 +28,7 @@ use Rattle.act_model.specs.Out.{Subject}
 use Rattle.act_model.specs.Reply.{Reply}
 use Rattle.act_model.specs.Rows.{RowState, accepted}
 use Rattle.act_model.specs.Step.{Step}
+use Rattle.act_model.specs.Whole.{whole}
 use Rattle.archive_core.specs.Parts.{parts}
 use Rattle.archive_core.specs.Stands.{Stands}
 use Rattle.archive_core.specs.declared.archive.Archive.{Archive}
@@ -112,14 +114,14 @@ HasNone rows name = (i : ℕ) → HasName rows i name → ⊥
 abbrev pub subject_of : Row → Query → Subject
 subject_of row query = record { name = row.name; about = row.about; query = query }
 
--- this becomes of the raw text of the answer over what is held of the row that has the name
+-- this becomes of the raw text of the answer over the whole of the row that has the name, as it is held
 pub record Answers (held : Stores) (name : List ℕ) (query : Query) (Becomes : List ℕ → Type 0) : Type 0 where
   pub id : ℕ
   pub row : Row
   pub here : slice_get held.rows id ≡ Some row
   pub is_named : row.name ≡ name
   pub text : List ℕ
-  pub raw : IsRaw (subject_of row query) (answer_of (samples_in id held) query) text
+  pub raw : IsRaw (subject_of row query) (answer_of (whole_in id held) query) text
   pub becomes : Becomes text
 
 -- Of what is held and stands, `get` wrote the whole answer, or nothing where no row has the name. After a fault a front of the answer
@@ -165,7 +167,7 @@ IsPinless {R} (got.ReadFault None) = Unit {0}
 IsPinless {R} got.Memory = Unit {0}
 IsPinless {R} _ = ⊥
 
--- What was written is of all that was accepted of the row that has the name, in the state that the pin led to.
+-- What was written is of all that was accepted of the variable, under the name and under earlier ones, in the state that the pin led to.
 pub record WritesAccepted {R : Type 0} (m : Machine) (name : List ℕ) (query : Query) (a b : Option (List ℕ)) (result : Retrieved R) : Type 0 where
   pub reply : Reply
   pub pinned : Machine
@@ -174,7 +176,7 @@ pub record WritesAccepted {R : Type 0} (m : Machine) (name : List ℕ) (query : 
   pub row : RowState
   pub found : find_row pinned name ≡ Some i
   pub here : slice_get pinned.rows i ≡ Some row
-  pub writes : WritesRaw (record { name = row.name; about = row.about; query = query }) (answer_of (accepted row) query) a b result
+  pub writes : WritesRaw (record { name = row.name; about = row.about; query = query }) (answer_of (whole accepted pinned.rows i) query) a b result
 
 -- What a retrieval made of an archive on which nobody else acts.
 pub record Retrieves {D R : Type 0} (disk : Ghosts D R) (tells : Bool) (faults : R → ℕ) (rose : Type 0) (old : Archive D R) (name : List ℕ) (query : Query) (a b : Option (List ℕ)) (result : Retrieved R) (new : Archive D R) : Type 0 where
@@ -208,13 +210,15 @@ abbrev pub ReadsPinAt : {D R : Type 0} → Ghosts D R → Archive D R → List �
 ReadsPinAt {D} {R} disk old name query a b (got.Finished count) new = ReadsPin disk old name query a b new
 ReadsPinAt {D} {R} disk old name query a b _ new = Unit {0}
 
--- a store lists the file of the row that has the name, and these are the listed bytes of it
+-- a store lists the file of the row that has the name, or of one under it, and these are the listed bytes of it
 pub record IsListedFront (files : Files) (rows : List Row) (lists : Listings) (asked : List ℕ) (piece : NamedBytes) : Type 0 where
   pub place : ℕ
   pub within : place < 3
   pub entry : Entry
   pub listed : Contains (lists place) entry
-  pub own : HasName rows entry.series asked
+  pub row : ℕ
+  pub own : HasName rows row asked
+  pub among : Contains (line rows row) entry.series
   pub is_named : piece.name ≡ file_of (place + 1, rows) entry
   pub bytes : HasFile files piece.name (λ b. piece.bytes ≡ take entry.len b)
 
@@ -238,8 +242,8 @@ abbrev pub GetsRead : Files → List Row → Listings → List ℕ → Query →
 GetsRead files rows lists name query a b IsDone = ReadsListed files rows lists name query a b
 GetsRead files rows lists name query a b _ = Unit {0}
 
--- Whatever the listed files are, the text is the raw text of events of the row that has the name, whose moments rise.
-pub record WritesEvents (rows : List Row) (name : List ℕ) (query : Query) (a b : Option (List ℕ)) : Type 0 where
+-- Whatever the listed files are, this becomes of the raw text of events of the row that has the name, whose moments rise.
+pub record WritesEvents (rows : List Row) (name : List ℕ) (query : Query) (Becomes : List ℕ → Type 0) : Type 0 where
   pub id : ℕ
   pub row : Row
   pub here : slice_get rows id ≡ Some row
@@ -249,8 +253,9 @@ pub record WritesEvents (rows : List Row) (name : List ℕ) (query : Query) (a b
   pub rising : IsRising samples
   pub text : List ℕ
   pub raw : IsRaw (subject_of row query) samples text
-  pub written : Appends a b text
+  pub becomes : Becomes text
 
+-- the whole of such a text was written, or else nothing or a front of one
 abbrev pub GetsSome : List Row → List ℕ → Query → Option (List ℕ) → Option (List ℕ) → Status → Type 0
-GetsSome rows name query a b IsDone = WritesEvents rows name query a b
-GetsSome rows name query a b _ = Unit {0}
+GetsSome rows name query a b IsDone = WritesEvents rows name query (Appends a b)
+GetsSome rows name query a b _ = (b ≡ a) ⊎ WritesEvents rows name query (AppendsFront a b)

@@ -97,14 +97,14 @@ NoDamage (Damaged name at) = ⊥
 NoDamage _ = Unit {0}
 
 -- It only reads: a crash leaves what the disk held, in doubt or not, and no file of a store is changed, at any moment and whatever is in it. Of the
--- site's folder the file `adopt` isn't either, nor any other that is no journal's.
+-- site's folder the file `adopt` isn't either, nor any other that is no journal's. Journals keep their batches, also where the image is refused.
 pub record OnlyReads (gs : List Granularity) (files later : Files) (old new : Past) : Type 0 where
   pub any_moment : Passes (StillHolds gs) old new
   pub either : (before after : Stores) → OpensEither gs old before after → Passes (λ a b. HoldsEither gs before after b) old new
   pub opens : (before after : Stores) → OpensEither gs old before after → OpensEither gs new before after
   pub elsewhere : SameStores files later
   pub stores : Passes SameStores old new
-  pub site : KeepsSite files later × Passes KeepsSite old new
+  pub site : KeepsSite gs files later × Passes (KeepsSite gs) old new
 
 -- It only opens. A crash leaves what the disk held, in doubt or not, or from then on what reads gave alone. Of the files of stores only
 -- strays go, at any moment, and none where the image isn't whole.
@@ -115,16 +115,16 @@ pub record OnlyOpens (gs : List Granularity) (files later : Files) (old new : Pa
   pub elsewhere : SweptStores gs files files later
   pub stores : Passes (SweptStores gs files) old new
 
--- the disk failed, or memory was wanting, before any act: nothing was read but the disk, and nothing done but that it was opened
+-- the disk failed, memory was wanting or the image isn't whole, before any act: nothing was read but the disk, and nothing done but that it was opened
 pub record IsUnasked (gs : List Granularity) (old new : Outside) (status : Status) : Type 0 where
-  pub cut : (status ≡ DiskFault) ⊎ (status ≡ OutOfMemory)
+  pub cut : (status ≡ DiskFault) ⊎ (status ≡ OutOfMemory) ⊎ (IsWhole gs old.files → ⊥)
   pub source : new.source ≡ old.source
   pub sink : new.sink ≡ old.sink
   pub clock : new.clock ≡ old.clock
   pub opens : OnlyOpens gs old.files new.files old.past new.past
 
--- What a command makes of what reads give. Those that act open an archive on it, and what a crash left before is what was before a change
--- that stood in doubt, or what is after it. What a service makes of it is said with what it leaves of its posts (IsOfService).
+-- What a command makes of what reads give, whether that stands or not. Those that act open an archive on it, and what a crash left before is what was
+-- before a change that stood in doubt, or what is after it. What a service makes of it is said with what it leaves of its posts (IsOfService).
 abbrev pub Makes : ConfigState → StoreCommand → Stores → Stores → Stores → Outside → Outside → Status → Type 0
 Makes config command.Ingest before after first old new status =
     IsUnasked (stores_of config) old new status ⊎ IngestsInto (HoldsEither (stores_of config) before after) true config first old.source old.clock new.clock old.past new.past status
@@ -134,7 +134,7 @@ Makes config command.Etl before after first old new status =
     IsUnasked (stores_of config) old new status ⊎ MovesFrom (HoldsEither (stores_of config) before after) true config first old.clock new.clock old.sink new.sink old.past new.past status
 Makes config (command.Serve numbers) before after first old new status =
     IsUnasked (stores_of config) old new status ⊎ ((told : AllServed) × (status ≡ status_of told))
-Makes config command.Status before after first old new status = Tells (status_text first) old.sink new.sink status
+Makes config command.Status before after first old new status = IsTrue first.stands → Tells (status_text first) old.sink new.sink status
 Makes config command.Check before after first old new status = Unit {0}
 Makes config command.Adopt before after first old new status =
     IsUnasked (stores_of config) old new status ⊎ AdoptsInto (HoldsEither (stores_of config) before after) (stores_of config) old.files first old.past new.past old.sink new.sink status
@@ -146,7 +146,7 @@ pub record MakesOfRead (config : ConfigState) (asked : StoreCommand) (before aft
   pub either : IsEither before after first
   pub read : HoldsAll (stores_of config) old.files first
   pub makes : Makes config asked before after first old new status
-  pub undamaged : NoDamage status
+  pub undamaged : IsTrue first.stands → NoDamage status
 
 -- what a service with so many doors made of such a disk, and what it gave by its acts
 pub record MakesOfService (config : ConfigState) (doors : ℕ) (Given : Machine → List Entry → Type 0) (before after : Stores) (old new : Outside) (began : Bool) (told : AllServed) : Type 0 where
@@ -155,9 +155,9 @@ pub record MakesOfService (config : ConfigState) (doors : ℕ) (Given : Machine 
   pub read : HoldsAll (stores_of config) old.files first
   pub from : ServesFrom (HoldsEither (stores_of config) before after) true config first doors Given began told old.past new.past
 
--- so it is where the disk tells its files, and what they hold stands
+-- so it is where the disk tells its files
 abbrev pub IsOfService : ConfigState → Bool → ℕ → (AllServed → Machine → List Entry → Type 0) → Outside → Outside → Bool → AllServed → Type 0
-IsOfService config tells doors Given old new began told = IsTrue tells → (before after : Stores) → OpensEither (stores_of config) old.past before after → IsTrue before.stands → MakesOfService config doors (Given told) before after old new began told
+IsOfService config tells doors Given old new began told = IsTrue tells → (before after : Stores) → OpensEither (stores_of config) old.past before after → MakesOfService config doors (Given told) before after old new began told
 
 -- no archive was opened or made for a service
 abbrev pub IsUnopenedFor : ConfigState → Bool → Outside → Outside → Type 0
@@ -191,7 +191,7 @@ KeepsFiles _ = Unit {0}
 -- `adopt` lists files where they stand, and rewrites none.
 pub record Serves (config : ConfigState) (asked : StoreCommand) (old new : Outside) (status : Status) : Type 0 where
   pub judges : Judges (stores_of config) asked old.files status
-  pub makes : (before after : Stores) → OpensEither (stores_of config) old.past before after → IsTrue before.stands → MakesOfRead config asked before after old new status
+  pub makes : (before after : Stores) → OpensEither (stores_of config) old.past before after → MakesOfRead config asked before after old new status
   pub tells : (whole : IsWhole (stores_of config) old.files) → TellsSaid (stores_of config) asked old.files whole.rows whole.lists old new status
   pub reads : IsReading (stores_of config) asked old.files → OnlyReads (stores_of config) old.files new.files old.past new.past
   pub listed : (whole : IsWhole (stores_of config) old.files) → KeepsFiles asked → (i : ℕ) → i < 3 → LeavesListed ((i + 1, whole.rows), whole.lists i) old.files new.files old.past new.past

@@ -57,6 +57,10 @@ fn add_call(text: &mut String, call: &WebCall) -> Result<(), AllocError> {
         }
         WebCall::PausePv { pv } => add_named(text, "pause ", pv),
         WebCall::ResumePv { pv } => add_named(text, "resume ", pv),
+        WebCall::RenamePv { pv, newname } => {
+            add_named(text, "rename ", pv)?;
+            add_named(text, " ", newname)
+        }
         WebCall::FlushAll => text.push_str("flush"),
     }
 }

@@ -5,7 +5,7 @@ use Rattle.sample_bins.specs.declared.op.Op.{Op}
 use Rattle.sample_bins.specs.Bins.{IsInRange}
 use Rattle.sample_bins.proofs.Asking.{asked_wide}
 use Rattle.http_front.specs.declared.request.WebCall.{WebCall}
-use Rattle.http_front.specs.declared.request.WebCall.TheVariants.{Raw, Json, AllPvs, PvStatus, PvDetails, ArchivePv, PausePv, ResumePv, FlushAll}
+use Rattle.http_front.specs.declared.request.WebCall.TheVariants.{Raw, Json, AllPvs, PvStatus, PvDetails, ArchivePv, PausePv, ResumePv, RenamePv, FlushAll}
 use Rattle.http_front.specs.declared.request.Request.{Request}
 use Rattle.http_front.specs.Query.{IsAsked}
 use Rattle.http_front.specs.Calls.{Holds, IsWide}
@@ -24,6 +24,7 @@ call_wide query (PvDetails pv) holds = tt
 call_wide query (ArchivePv pv about) holds = tt
 call_wide query (PausePv pv) holds = tt
 call_wide query (ResumePv pv) holds = tt
+call_wide query (RenamePv pv newname) holds = tt
 call_wide query FlushAll holds = tt
 
 pub request_wide : (before after : Option (List ℕ)) (request : Request) → HasRead before after (Ok request) → IsWide request.call

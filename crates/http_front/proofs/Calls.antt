@@ -17,9 +17,9 @@ use Rattle.sample_bins.proofs.Asking.{one_asked}
 use Rattle.http_front.specs.declared.path.Path.{Path}
 use Rattle.http_front.specs.declared.path.Path.TheVariants as served
 use Rattle.http_front.specs.declared.request.Param.{Param}
-use Rattle.http_front.specs.declared.request.Param.TheVariants.{Pv, PvOrBins, From, To, SamplingMethod, SamplingPeriod}
+use Rattle.http_front.specs.declared.request.Param.TheVariants.{Pv, PvOrBins, From, To, SamplingMethod, SamplingPeriod, NewName}
 use Rattle.http_front.specs.declared.request.WebCall.{WebCall}
-use Rattle.http_front.specs.declared.request.WebCall.TheVariants.{Raw, Json, AllPvs, PvStatus, PvDetails, ArchivePv, PausePv, ResumePv, FlushAll}
+use Rattle.http_front.specs.declared.request.WebCall.TheVariants.{Raw, Json, AllPvs, PvStatus, PvDetails, ArchivePv, PausePv, ResumePv, RenamePv, FlushAll}
 use Rattle.http_front.specs.declared.request.Request.{Request}
 use Rattle.http_front.specs.declared.request.HttpErr.{HttpErr}
 use Rattle.http_front.specs.declared.request.HttpErr.TheVariants.{SourceFault, BadHead, HeadTooLong, BadMethod, BadPath, BadParameter, Memory}
@@ -136,7 +136,8 @@ path_at text =
     cond (bytes_eq text (codes "/mgmt/bpl/archivePV")) (Some served.ArchivePv) (
     cond (bytes_eq text (codes "/mgmt/bpl/pauseArchivingPV")) (Some served.PausePv) (
     cond (bytes_eq text (codes "/mgmt/bpl/resumeArchivingPV")) (Some served.ResumePv) (
-    Some served.FlushAll))))))))
+    cond (bytes_eq text (codes "/mgmt/bpl/renamePV")) (Some served.RenamePv) (
+    Some served.FlushAll)))))))))
 
 path_at_text : (path : Path) → path_at (paths.row_of path).text ≡ Some path
 unfolding path_at
@@ -148,6 +149,7 @@ path_at_text served.PvDetails = refl
 path_at_text served.ArchivePv = refl
 path_at_text served.PausePv = refl
 path_at_text served.ResumePv = refl
+path_at_text served.RenamePv = refl
 path_at_text served.FlushAll = refl
 
 one_path : (target : List ℕ) (p q : Path) → IsPathOf target p → IsPathOf target q → p ≡ q
@@ -175,6 +177,10 @@ one_call path query (ArchivePv pv about) (ArchivePv pv' about') x y =
     λ i. ArchivePv (name i) (same i)
 one_call path query (PausePv pv) (PausePv pv') x y = ap PausePv (one_name Pv query pv pv' x.1 y.1)
 one_call path query (ResumePv pv) (ResumePv pv') x y = ap ResumePv (one_name Pv query pv pv' x.1 y.1)
+one_call path query (RenamePv pv newname) (RenamePv pv' newname') x y =
+    let name = one_name Pv query pv pv' x.1.0 y.1.0 in
+    let other = one_name NewName query newname newname' x.1.1 y.1.1 in
+    λ i. RenamePv (name i) (other i)
 one_call path query FlushAll FlushAll x y = refl
 one_call path query a b x y = absurd (false≢true (eq-eqb (number_of a) (number_of b) (ap (λ (p : Path). (paths.row_of p).number) (sym x.0 ∙ y.0))))
 
@@ -213,6 +219,7 @@ all_good path query (PvDetails pv) x = rw x.0 ((pv, x.1), tt)
 all_good path query (ArchivePv pv about) x = rw x.0 ((pv, x.1.0), ((about.ty, x.1.1.ty), (method_good query about.method x.1.1.method, (period_good query about.method x.1.1.method, tt))))
 all_good path query (PausePv pv) x = rw x.0 ((pv, x.1), tt)
 all_good path query (ResumePv pv) x = rw x.0 ((pv, x.1), tt)
+all_good path query (RenamePv pv newname) x = rw x.0 ((pv, x.1.0), ((newname, x.1.1), tt))
 all_good path query FlushAll x = rw x.0 tt
 
 -- what a target is told, but for want of memory

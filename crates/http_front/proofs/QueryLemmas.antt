@@ -8,9 +8,9 @@ use Rattle.sample_bins.specs.declared.op.Op.{Op}
 use Rattle.sample_bins.specs.Words.{Asks}
 use Rattle.sample_bins.proofs.Asking.{one_asked}
 use Rattle.http_front.specs.declared.request.Param.{Param}
-use Rattle.http_front.specs.declared.request.Param.TheVariants.{PvOrBins, From, To}
+use Rattle.http_front.specs.declared.request.Param.TheVariants.{Pv, PvOrBins, From, To, NewName}
 use Rattle.http_front.specs.Param.{name_of}
-use Rattle.http_front.specs.Query.{text_of, first_of, value_of, IsMoment, IsGood}
+use Rattle.http_front.specs.Query.{text_of, first_of, value_of, IsNamed, IsMoment, IsGood}
 
 abbrev Pair : Type 0
 Pair = List ℕ × List ℕ
@@ -48,6 +48,18 @@ no_moment query which text (inr to) found none good =
 never_named : (name : List ℕ) (at : ℕ) → IsRefusedAt name at → IsName name → ⊥
 never_named name at (inl long) is = omega (arith, long.0, is.short)
 never_named name at (inr first) is = is.faultless at first.1.here
+
+-- a text that is no name
+not_a_name : (query : List ℕ) (which : Param) (text : List ℕ) (at : ℕ) → value_of (name_of which) query ≡ Some text → IsRefusedAt text at → (name : List ℕ) → IsNamed which query name → ⊥
+not_a_name query which text at found bad name n = never_named text at bad (subst IsName (one_some name text (sym n.0 ∙ found)) n.1)
+
+pub not_named : (query : List ℕ) (which : Param) (text : List ℕ) (at : ℕ) → (which ≡ Pv) ⊎ (which ≡ NewName) → value_of (name_of which) query ≡ Some text → IsRefusedAt text at → IsGood query which → ⊥
+not_named query which text at (inl pv) found bad good =
+    let n = subst (λ (w : Param). IsGood query w) pv good in
+    not_a_name query Pv text at (subst (λ (w : Param). value_of (name_of w) query ≡ Some text) pv found) bad n.0 n.1
+not_named query which text at (inr new) found bad good =
+    let n = subst (λ (w : Param). IsGood query w) new good in
+    not_a_name query NewName text at (subst (λ (w : Param). value_of (name_of w) query ≡ Some text) new found) bad n.0 n.1
 
 -- a text that asks for something whose name is refused
 pub not_asked : (query text name : List ℕ) (op : Option Op) (at : ℕ) → value_of (name_of PvOrBins) query ≡ Some text → Asks text op name → IsRefusedAt name at → IsGood query PvOrBins → ⊥

@@ -6,12 +6,13 @@ use Rattle.sample_bins.specs.Bins.{IsInRange}
 use Rattle.http_front.specs.declared.path.Path.{Path}
 use Rattle.http_front.specs.declared.path.Path.TheVariants as served
 use Rattle.http_front.specs.declared.request.WebCall.{WebCall}
-use Rattle.http_front.specs.declared.request.WebCall.TheVariants.{Raw, Json, AllPvs, PvStatus, PvDetails, ArchivePv, PausePv, ResumePv, FlushAll}
+use Rattle.http_front.specs.declared.request.WebCall.TheVariants.{Raw, Json, AllPvs, PvStatus, PvDetails, ArchivePv, PausePv, ResumePv, RenamePv, FlushAll}
 use Rattle.http_front.specs.declared.request.Request.{Request}
+use Rattle.http_front.specs.declared.request.Param.TheVariants.{NewName}
 use Rattle.http_front.specs.declared.request.HttpErr.{HttpErr}
 use Rattle.http_front.specs.declared.request.HttpErr.TheVariants.{BadMethod, BadPath, BadParameter, Memory}
 use Rattle.http_front.specs.Paths.{row_of}
-use Rattle.http_front.specs.Query.{IsPv, IsAsked, IsInterval, IsType, IsSampling, IsFirstBad}
+use Rattle.http_front.specs.Query.{IsNamed, IsPv, IsAsked, IsInterval, IsType, IsSampling, IsFirstBad}
 
 abbrev pub question_mark : ℕ
 question_mark = 63
@@ -39,6 +40,7 @@ served_at (PvDetails pv) = served.PvDetails
 served_at (ArchivePv pv about) = served.ArchivePv
 served_at (PausePv pv) = served.PausePv
 served_at (ResumePv pv) = served.ResumePv
+served_at (RenamePv pv newname) = served.RenamePv
 served_at FlushAll = served.FlushAll
 
 -- the number of its operator, if it has one, is in range
@@ -57,6 +59,7 @@ Holds query (PvDetails pv) = IsPv query pv
 Holds query (ArchivePv pv about) = IsPv query pv × IsAbout query about
 Holds query (PausePv pv) = IsPv query pv
 Holds query (ResumePv pv) = IsPv query pv
+Holds query (RenamePv pv newname) = IsPv query pv × IsNamed NewName query newname
 Holds query FlushAll = ⊤
 
 -- this call is what the path asks for with the query

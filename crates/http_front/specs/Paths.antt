@@ -2,9 +2,9 @@
 -- is told.
 use Rattle.std.specs.Prelude.{ℕ, List, [], ◌∷◌, codes}
 use Rattle.http_front.specs.declared.request.Param.{Param}
-use Rattle.http_front.specs.declared.request.Param.TheVariants.{Pv, PvOrBins, From, To, TypeName, SamplingMethod, SamplingPeriod}
+use Rattle.http_front.specs.declared.request.Param.TheVariants.{Pv, PvOrBins, From, To, TypeName, SamplingMethod, SamplingPeriod, NewName}
 use Rattle.http_front.specs.declared.path.Path.{Path}
-use Rattle.http_front.specs.declared.path.Path.TheVariants.{RawData, JsonData, AllPvs, PvStatus, PvDetails, ArchivePv, PausePv, ResumePv, FlushAll}
+use Rattle.http_front.specs.declared.path.Path.TheVariants.{RawData, JsonData, AllPvs, PvStatus, PvDetails, ArchivePv, PausePv, ResumePv, RenamePv, FlushAll}
 
 -- A row of the table: its number, the path's text, and the parameters that are read.
 pub record Row : Type 0 where
@@ -21,4 +21,5 @@ row_of PvDetails = record { number = 4; text = codes "/mgmt/bpl/getPVDetails"; c
 row_of ArchivePv = record { number = 5; text = codes "/mgmt/bpl/archivePV"; columns = Pv ∷ TypeName ∷ SamplingMethod ∷ SamplingPeriod ∷ [] }
 row_of PausePv = record { number = 6; text = codes "/mgmt/bpl/pauseArchivingPV"; columns = Pv ∷ [] }
 row_of ResumePv = record { number = 7; text = codes "/mgmt/bpl/resumeArchivingPV"; columns = Pv ∷ [] }
-row_of FlushAll = record { number = 8; text = codes "/mgmt/bpl/flush"; columns = [] }
+row_of RenamePv = record { number = 8; text = codes "/mgmt/bpl/renamePV"; columns = Pv ∷ NewName ∷ [] }
+row_of FlushAll = record { number = 9; text = codes "/mgmt/bpl/flush"; columns = [] }

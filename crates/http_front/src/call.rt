@@ -2,11 +2,11 @@
 ghost use Rattle.std.specs.Prelude.{◌≡◌, ◌∷◌, [], codes};
 ghost use Rattle.form_urlencoded.specs.Form.{split_once};
 ghost use Rattle.http_front.specs.Paths.{row_of};
-ghost use Rattle.http_front.specs.Query.{Reading, IsPv, IsAsked, IsInterval};
+ghost use Rattle.http_front.specs.Query.{Reading, IsNamed, IsPv, IsAsked, IsInterval};
 ghost use Rattle.http_front.specs.Calls.{IsAbout, Asks, path_in, query_in, CallOf, Answers};
 
 use crate::path::Path;
-use crate::query::{read_asked, read_interval, read_pv, read_sampling, read_type};
+use crate::query::{read_asked, read_interval, read_name, read_pv, read_sampling, read_type};
 use crate::request::{HttpErr, Param, Request, WebCall};
 use event_types::About;
 use pv_name::PvName;
@@ -84,6 +84,10 @@ fn read_call(alloc: Global, path: Path, query: &[u8]) -> Result<WebCall, HttpErr
         Path::ResumePv => Ok(WebCall::ResumePv {
             pv: read_pv(alloc, query)?,
         }),
+        Path::RenamePv => {
+            let (pv, newname) = read_renaming(alloc, query)?;
+            Ok(WebCall::RenamePv { pv, newname })
+        }
         Path::FlushAll => Ok(WebCall::FlushAll),
     }
 }
@@ -112,4 +116,13 @@ fn read_archiving(alloc: Global, query: &[u8]) -> Result<(PvName, About), HttpEr
         headers: Pairs::from(Vec::new(alloc)),
     };
     Ok((pv, about))
+}
+
+// The variable that gets another name, and that name.
+fn read_renaming(alloc: Global, query: &[u8]) -> Result<(PvName, PvName), HttpErr>
+    ensures { Reading query.now (Param.Pv ∷ Param.NewName ∷ []) (λ both. IsPv query.now both.0 × IsNamed Param.NewName query.now both.1) result }
+{
+    let pv = read_pv(alloc, query)?;
+    let newname = read_name(alloc, query, Param::NewName)?;
+    Ok((pv, newname))
 }

@@ -14,11 +14,12 @@ pub enum Path {
     ArchivePv,
     PausePv,
     ResumePv,
+    RenamePv,
     FlushAll,
 }
 
 impl Path {
-    const ALL: [Path; 9] = [
+    const ALL: [Path; 10] = [
         Path::RawData,
         Path::JsonData,
         Path::AllPvs,
@@ -27,6 +28,7 @@ impl Path {
         Path::ArchivePv,
         Path::PausePv,
         Path::ResumePv,
+        Path::RenamePv,
         Path::FlushAll,
     ];
 
@@ -43,6 +45,7 @@ impl Path {
             Path::ArchivePv => "/mgmt/bpl/archivePV",
             Path::PausePv => "/mgmt/bpl/pauseArchivingPV",
             Path::ResumePv => "/mgmt/bpl/resumeArchivingPV",
+            Path::RenamePv => "/mgmt/bpl/renamePV",
             Path::FlushAll => "/mgmt/bpl/flush",
         }
     }

@@ -2,7 +2,7 @@
 ghost use Rattle.std.specs.Prelude.{◌≡◌, ◌⊎◌, ◌∷◌, [], IfOk, option_map, codes};
 ghost use Rattle.std.specs.Cow.{cow_str_bytes};
 ghost use Rattle.http_front.specs.Param.{name_of};
-ghost use Rattle.http_front.specs.Query.{value_of, value_or, Reading, IsPv, IsAsked, IsMoment, IsInterval, IsType, IsSampling};
+ghost use Rattle.http_front.specs.Query.{value_of, value_or, Reading, IsNamed, IsPv, IsAsked, IsMoment, IsInterval, IsType, IsSampling};
 
 use crate::period::period_of;
 use crate::request::{HttpErr, Param};
@@ -50,8 +50,16 @@ fn value_or<'a>(
 pub fn read_pv(alloc: Global, query: &[u8]) -> Result<PvName, HttpErr>
     ensures { Reading query.now (Param.Pv ∷ []) (IsPv query.now) result }
 {
-    let bad = HttpErr::BadParameter { which: Param::Pv };
-    let Some(text) = value_of(alloc, query, Param::Pv.name())? else {
+    read_name(alloc, query, Param::Pv)
+}
+
+/// The name under `pv` or `newname`.
+pub fn read_name(alloc: Global, query: &[u8], which: Param) -> Result<PvName, HttpErr>
+    requires { (which ≡ Param.Pv) ⊎ (which ≡ Param.NewName) }
+    ensures { Reading query.now (which ∷ []) (IsNamed which query.now) result }
+{
+    let bad = HttpErr::BadParameter { which };
+    let Some(text) = value_of(alloc, query, which.name())? else {
         return Err(bad);
     };
     match PvName::new(alloc, text.as_str().as_bytes()) {

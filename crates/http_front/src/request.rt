@@ -26,7 +26,7 @@ pub enum Param {
     SamplingMethod,
     /// How often a variable is sampled, in seconds.
     SamplingPeriod,
-    /// The name that a variable gets. No path reads it yet.
+    /// The name that a variable gets.
     NewName,
 }
 
@@ -85,6 +85,11 @@ pub enum WebCall {
     /// `/mgmt/bpl/resumeArchivingPV`
     ResumePv {
         pv: PvName,
+    },
+    /// `/mgmt/bpl/renamePV`
+    RenamePv {
+        pv: PvName,
+        newname: PvName,
     },
     /// `/mgmt/bpl/flush`
     FlushAll,

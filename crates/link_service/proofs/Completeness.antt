@@ -209,6 +209,7 @@ module _ (answers : AnswersAreOfActs) {A : Type 0} (number : A → ℕ) (between
     call_completes version (call.ArchivePv pv about) end ended (e, by, s) = managed_completes (call.ArchivePv pv about) e (ended ∙ ap replied_as by) s
     call_completes version (call.PausePv pv) end ended (e, by, s) = managed_completes (call.PausePv pv) e (ended ∙ ap replied_as by) s
     call_completes version (call.ResumePv pv) end ended (e, by, s) = managed_completes (call.ResumePv pv) e (ended ∙ ap replied_as by) s
+    call_completes version (call.RenamePv pv newname) end ended (e, by, s) = managed_completes (call.RenamePv pv newname) e (ended ∙ ap replied_as by) s
     call_completes version call.FlushAll end ended (e, by, s) = managed_completes call.FlushAll e (ended ∙ ap replied_as by) s
 
     -- memory was wanting
@@ -221,6 +222,7 @@ module _ (answers : AnswersAreOfActs) {A : Type 0} (number : A → ℕ) (between
     lacks version (call.ArchivePv pv about) memory = inr memory
     lacks version (call.PausePv pv) memory = inr memory
     lacks version (call.ResumePv pv) memory = inr memory
+    lacks version (call.RenamePv pv newname) memory = inr memory
     lacks version call.FlushAll memory = inr memory
 
     module _ (bytes : List ℕ) (asked : Request) (later after : Option (List ℕ)) (asks : HasRead (Some bytes) after (Ok asked)) where

@@ -11,7 +11,7 @@ use Rattle.series_model.specs.declared.sample.Sample.{Sample}
 use Rattle.act_model.specs.Offer.{offered}
 use Rattle.act_model.specs.Tick.{ticked}
 use Rattle.act_model.specs.declared.acts.Act.{Act}
-use Rattle.act_model.specs.declared.acts.Act.TheVariants.{Register, Pause, Resume, Offer, Tick, Flush, MoveBegin, MoveStep, Sweep, Pin, OpenPiece, Unpin, Names, Details, Doors, DoorDone}
+use Rattle.act_model.specs.declared.acts.Act.TheVariants.{Register, Pause, Resume, Rename, Offer, Tick, Flush, MoveBegin, MoveStep, Sweep, Pin, OpenPiece, Unpin, Names, Details, Doors, DoorDone}
 use Rattle.act_model.specs.declared.acts.Answer.TheVariants.{DiskFault, CatalogueFull, NotYours}
 use Rattle.act_model.specs.Answers.{is_answer_to}
 use Rattle.act_model.specs.Details.{Describes, details_refused}
@@ -25,9 +25,10 @@ use Rattle.act_model.specs.Outcome.{Acts, Ends, Outcome, all_go, refused_at_once
 use Rattle.act_model.specs.Pause.{Sets, sets_of, state_refused, not_running}
 use Rattle.act_model.specs.Pin.{Pins, pins}
 use Rattle.act_model.specs.Register.{Registers, register_refused}
+use Rattle.act_model.specs.Rename.{IsRenamed, changed_within, rename_refused, renames_of}
 use Rattle.act_model.specs.Reply.{Reply}
 use Rattle.act_model.specs.Resume.{not_paused}
-use Rattle.act_model.specs.Rows.{RowState, Store}
+use Rattle.act_model.specs.Rows.{RowState, Store, is_empty, is_paused}
 use Rattle.act_model.specs.Sound.{IsSound}
 use Rattle.act_model.specs.Step.{MayAsk, Step, store_of}
 use Rattle.act_model.specs.Sweep.{Sweeps}
@@ -132,6 +133,30 @@ paused_none Running is = cc
 paused_none Paused is = cc
 paused_none Retired is = cc
 
+no_rename : (changed : ℕ) (found : Option ℕ) (name newname : List ℕ) (m : Machine) → rename_refused changed found name newname m ≡ Some DiskFault → ⊥
+unfolding NoFault
+no_rename changed found name newname m = by_name (find_row m name) refl
+  where
+    by_tail : (i : ℕ) (row : RowState) → find_row m name ≡ Some i → slice_get m.rows i ≡ Some row → is_paused row.state ≡ true → register_refused newname m ≡ None → (b : Bool) → is_empty row.tail ≡ b → NoFault (rename_refused changed found name newname m)
+    by_tail i row here there paused free true empty = rw (here, there, paused, free, empty) (λ is. cc)
+    by_tail i row here there paused free false some = rw (here, there, paused, free, some) (λ is. cc)
+
+    by_newname : (i : ℕ) (row : RowState) → find_row m name ≡ Some i → slice_get m.rows i ≡ Some row → is_paused row.state ≡ true → (o : Option Reply) → register_refused newname m ≡ o → NoFault (rename_refused changed found name newname m)
+    by_newname i row here there paused (Some reply) taken = rw (here, there, paused, taken) (λ is. no_register newname m (taken ∙ is))
+    by_newname i row here there paused None free = by_tail i row here there paused free (is_empty row.tail) refl
+
+    by_paused : (i : ℕ) (row : RowState) → find_row m name ≡ Some i → slice_get m.rows i ≡ Some row → (b : Bool) → is_paused row.state ≡ b → NoFault (rename_refused changed found name newname m)
+    by_paused i row here there true paused = by_newname i row here there paused (register_refused newname m) refl
+    by_paused i row here there false other = rw (here, there, other) (λ is. cc)
+
+    by_row : (i : ℕ) → find_row m name ≡ Some i → (o : Option RowState) → slice_get m.rows i ≡ o → NoFault (rename_refused changed found name newname m)
+    by_row i here (Some row) there = by_paused i row here there (is_paused row.state) refl
+    by_row i here None none = rw (here, none) (λ is. cc)
+
+    by_name : (o : Option ℕ) → find_row m name ≡ o → NoFault (rename_refused changed found name newname m)
+    by_name (Some i) here = by_row i here (slice_get m.rows i) refl
+    by_name None none = rw none (λ is. cc)
+
 no_details : (name : List ℕ) (m : Machine) → details_refused name m ≡ Some DiskFault → ⊥
 unfolding NoFault
 no_details name m = by_name (find_row m name) refl
@@ -203,6 +228,7 @@ step_counts : (who : ℕ) (act : Act) (old new : Machine) (reply : Reply) → Is
 step_counts who (Register name about) old new reply s may step = Acts-counts (register_refused name) (Registers name about) (λ m. Some (AddsRow name about)) all_go step
 step_counts who (Pause name) old new reply s may step = Acts-counts (state_refused not_running name) (Sets Paused name) (λ m. sets_of Paused (find_row m name)) all_go step
 step_counts who (Resume name) old new reply s may step = Acts-counts (state_refused not_paused name) (Sets Running name) (λ m. sets_of Running (find_row m name)) all_go step
+step_counts who (Rename name newname) old new reply s may step = Acts-counts (rename_refused (changed_within name old) step.0 name newname) (IsRenamed name newname) (λ m. renames_of newname (find_row m name)) all_go step.1
 step_counts who (Offer name ty t line now) old new reply s may step = let x : Sample = record { t = t; line = line } in ends_counts (offered old name ty x now) old new reply (row_counts old (offered old name ty x now) (offered_act old name ty x now s may)) step
 step_counts who (Tick row now) old new reply s may step = ends_counts (ticked old row now) old new reply (row_counts old (ticked old row now) (ticked_act old row now s)) step
 step_counts who (Flush limit) old new reply s may step = Acts-counts (λ m. None) (Flushes limit) (λ m. Some (Appends (batch_of limit m))) all_go step
@@ -226,6 +252,9 @@ step_rose : AnswersAreOfActs → (who : ℕ) (act : Act) (old new : Machine) →
 step_rose answers who (Register name about) old new step = Acts-rose (register_refused name) (Registers name about) (λ m. Some (AddsRow name about)) all_go (no_register name) (λ mid n answer ran is. let one = sym ran.0 ∙ is in cc) step refl
 step_rose answers who (Pause name) old new step = Acts-rose (state_refused not_running name) (Sets Paused name) (λ m. sets_of Paused (find_row m name)) all_go (no_state not_running running_none name) (λ mid n answer ran is. let one = sym ran.0 ∙ is in cc) step refl
 step_rose answers who (Resume name) old new step = Acts-rose (state_refused not_paused name) (Sets Running name) (λ m. sets_of Running (find_row m name)) all_go (no_state not_paused paused_none name) (λ mid n answer ran is. let one = sym ran.0 ∙ is in cc) step refl
+step_rose answers who (Rename name newname) old new step =
+    Acts-rose (rename_refused (changed_within name old) step.0 name newname) (IsRenamed name newname) (λ m. renames_of newname (find_row m name)) all_go (no_rename (changed_within name old) step.0 name newname)
+    (λ mid n answer ran is. let one = sym ran.0 ∙ is in cc) step.1 refl
 step_rose answers who (Offer name ty t line now) old new step = absurd (no_answer answers who (Offer name ty t line now) old new refl step)
 step_rose answers who (Tick row now) old new step = absurd (no_answer answers who (Tick row now) old new refl step)
 step_rose answers who (Flush limit) old new step = Acts-rose (λ m. None) (Flushes limit) (λ m. Some (Appends (batch_of limit m))) all_go no_none (λ mid n answer ran is. let one = sym ran.0.2 ∙ is in cc) step refl

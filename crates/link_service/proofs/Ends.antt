@@ -130,6 +130,7 @@ module _ {A R : Type 0} (number : A → ℕ) (between : A → List Entry → A �
   call_why version (call.ArchivePv pv about) result r = of_managed r.0 result r.1
   call_why version (call.PausePv pv) result r = of_managed r.0 result r.1
   call_why version (call.ResumePv pv) result r = of_managed r.0 result r.1
+  call_why version (call.RenamePv pv newname) result r = of_managed r.0 result r.1
   call_why version call.FlushAll result r = of_managed r.0 result r.1
 
   to_why : (request : Result Request HttpErr) (result : Replied R) → RepliesTo number between is_spent rose Data old request a result new b → IsWhy result

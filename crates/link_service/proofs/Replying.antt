@@ -143,6 +143,7 @@ manages number between is_spent Data version old new (call.PvDetails pv) a b res
 manages number between is_spent Data version old new (call.ArchivePv pv about) a b result end is ends s = (end, ends, s)
 manages number between is_spent Data version old new (call.PausePv pv) a b result end is ends s = (end, ends, s)
 manages number between is_spent Data version old new (call.ResumePv pv) a b result end is ends s = (end, ends, s)
+manages number between is_spent Data version old new (call.RenamePv pv newname) a b result end is ends s = (end, ends, s)
 manages number between is_spent Data version old new call.FlushAll a b result end is ends s = (end, ends, s)
 
 -- what is neither of the two retrievals
@@ -155,6 +156,7 @@ is_managed (call.PvDetails pv) raw json = refl
 is_managed (call.ArchivePv pv about) raw json = refl
 is_managed (call.PausePv pv) raw json = refl
 is_managed (call.ResumePv pv) raw json = refl
+is_managed (call.RenamePv pv newname) raw json = refl
 is_managed call.FlushAll raw json = refl
 
 -- just the acts of a call
@@ -169,6 +171,7 @@ module _ {A R : Type 0} (number : A → ℕ) (between : A → List Entry → A �
   call_acts version old new (call.ArchivePv pv about) a b result r = r
   call_acts version old new (call.PausePv pv) a b result r = r
   call_acts version old new (call.ResumePv pv) a b result r = r
+  call_acts version old new (call.RenamePv pv newname) a b result r = r
   call_acts version old new call.FlushAll a b result r = r
 
   to_acts : (old new : A) (request : Result Request HttpErr) (a b : Option (List ℕ)) (result : Replied R) → RepliesTo number between is_spent rose (AnswersData number between is_spent stands tells faults rose old a new b) old request a result new b
@@ -192,4 +195,5 @@ call_begins number between is_spent tells faults rose version old new (call.PvDe
 call_begins number between is_spent tells faults rose version old new (call.ArchivePv pv about) a b result (end, is, s) = subst (λ r. BeginsReply r a b) (sym is) (managed_begins _ number between is_spent (call.ArchivePv pv about) old new a b end s)
 call_begins number between is_spent tells faults rose version old new (call.PausePv pv) a b result (end, is, s) = subst (λ r. BeginsReply r a b) (sym is) (managed_begins _ number between is_spent (call.PausePv pv) old new a b end s)
 call_begins number between is_spent tells faults rose version old new (call.ResumePv pv) a b result (end, is, s) = subst (λ r. BeginsReply r a b) (sym is) (managed_begins _ number between is_spent (call.ResumePv pv) old new a b end s)
+call_begins number between is_spent tells faults rose version old new (call.RenamePv pv newname) a b result (end, is, s) = subst (λ r. BeginsReply r a b) (sym is) (managed_begins _ number between is_spent (call.RenamePv pv newname) old new a b end s)
 call_begins number between is_spent tells faults rose version old new call.FlushAll a b result (end, is, s) = subst (λ r. BeginsReply r a b) (sym is) (managed_begins _ number between is_spent call.FlushAll old new a b end s)

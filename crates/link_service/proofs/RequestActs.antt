@@ -3,7 +3,7 @@ use Rattle.std.proofs.Common.{◌≡◌, ◌⊎◌, inl, inr, ℕ, ◌+◌, ◌=
 use Rattle.pb_wire.specs.declared.payload.PayloadType.{PayloadType}
 use Rattle.series_model.specs.declared.sample.Query.{Query}
 use Rattle.act_model.specs.declared.acts.Act.{Act}
-use Rattle.act_model.specs.declared.acts.Act.TheVariants.{Register, Pause, Resume, Flush, Names, Details}
+use Rattle.act_model.specs.declared.acts.Act.TheVariants.{Register, Pause, Resume, Rename, Flush, Names, Details}
 use Rattle.act_model.specs.declared.acts.Answer.TheVariants as answer
 use Rattle.act_model.specs.History.{Done, Entry}
 use Rattle.act_model.specs.Reply.{Reply}
@@ -15,7 +15,7 @@ use Rattle.http_front.specs.declared.request.WebCall.{WebCall}
 use Rattle.http_front.specs.declared.request.WebCall.TheVariants as call
 use Rattle.admin_commands.specs.declared.end.AdminErr.{AdminErr}
 use Rattle.admin_commands.specs.declared.end.AdminErr.TheVariants as admin
-use Rattle.admin_commands.specs.Next.{Next, asks, details_told, flushes, names_from, next, once, page, registered, set, status_told}
+use Rattle.admin_commands.specs.Next.{Next, asks, details_told, flushes, names_from, next, once, page, registered, renamed, set, status_told}
 use Rattle.admin_commands.specs.Serving.{AsksMore, Follows, Proceeds, Serves}
 use Rattle.retrieval_query.specs.declared.retrieved.Retrieved.{Retrieved}
 use Rattle.retrieval_query.specs.declared.retrieved.Retrieved.TheVariants as retrieved
@@ -89,6 +89,17 @@ set_asks answer.NotPaused act is = absurd (cc)
 set_asks answer.DiskFault act is = absurd (cc)
 set_asks other act is = absurd (cc)
 
+renamed_asks : (reply : Reply) → AsksOfLink (renamed reply)
+renamed_asks (answer.Renamed row) act is = absurd (cc)
+renamed_asks answer.NoSuchVariable act is = absurd (cc)
+renamed_asks (answer.RenameNotPaused state change seen) act is = absurd (cc)
+renamed_asks (answer.NameTaken row) act is = absurd (cc)
+renamed_asks (answer.KeyTaken row) act is = absurd (cc)
+renamed_asks answer.CatalogueFull act is = absurd (cc)
+renamed_asks (answer.NotDurable last durable) act is = absurd (cc)
+renamed_asks answer.DiskFault act is = absurd (cc)
+renamed_asks other act is = absurd (cc)
+
 status_asks : (name : List ℕ) (reply : Reply) → AsksOfLink (status_told name reply)
 status_asks name (answer.Described details) act is = absurd (cc)
 status_asks name answer.NoSuchVariable act is = absurd (cc)
@@ -126,6 +137,7 @@ next_asks (call.PvDetails pv) seen act is = once_of_link (Details pv) details_to
 next_asks (call.ArchivePv pv about) seen act is = once_of_link (Register pv about) registered refl registered_asks seen act is
 next_asks (call.PausePv pv) seen act is = once_of_link (Pause pv) set refl set_asks seen act is
 next_asks (call.ResumePv pv) seen act is = once_of_link (Resume pv) set refl set_asks seen act is
+next_asks (call.RenamePv pv newname) seen act is = once_of_link (Rename pv newname) renamed refl renamed_asks seen act is
 next_asks call.FlushAll seen act is = flushes_ask 0 seen act is
 
 follows_of_link : (asked : WebCall) (seen : List Reply) (done : List Done) → Follows asked seen done → AreOfLink done
@@ -185,6 +197,7 @@ module _ {A : Type 0} (number : A → ℕ) (between : A → List Entry → A →
   call_makes telling faults rose version old new (call.ArchivePv pv about) a b result (end, is, s) = serves_makes (call.ArchivePv pv about) old new end a b s
   call_makes telling faults rose version old new (call.PausePv pv) a b result (end, is, s) = serves_makes (call.PausePv pv) old new end a b s
   call_makes telling faults rose version old new (call.ResumePv pv) a b result (end, is, s) = serves_makes (call.ResumePv pv) old new end a b s
+  call_makes telling faults rose version old new (call.RenamePv pv newname) a b result (end, is, s) = serves_makes (call.RenamePv pv newname) old new end a b s
   call_makes telling faults rose version old new call.FlushAll a b result (end, is, s) = serves_makes call.FlushAll old new end a b s
 
   to_makes : {R : Type 0} (telling : Bool) (faults : R → ℕ) (rose : Type 0) (old new : A) (request : Result Request HttpErr) (a b : Option (List ℕ)) (result : Replied R)

@@ -112,6 +112,7 @@ module _ {A : Type 0} (number : A → ℕ) (between : A → List Entry → A →
   call_spent {R} telling faults rose version old new (call.ArchivePv pv about) a b result (end, is, s) spent = serves_spent R (call.ArchivePv pv about) old new end a b s (sym is ∙ spent)
   call_spent {R} telling faults rose version old new (call.PausePv pv) a b result (end, is, s) spent = serves_spent R (call.PausePv pv) old new end a b s (sym is ∙ spent)
   call_spent {R} telling faults rose version old new (call.ResumePv pv) a b result (end, is, s) spent = serves_spent R (call.ResumePv pv) old new end a b s (sym is ∙ spent)
+  call_spent {R} telling faults rose version old new (call.RenamePv pv newname) a b result (end, is, s) spent = serves_spent R (call.RenamePv pv newname) old new end a b s (sym is ∙ spent)
   call_spent {R} telling faults rose version old new call.FlushAll a b result (end, is, s) spent = serves_spent R call.FlushAll old new end a b s (sym is ∙ spent)
 
   to_spent : {R : Type 0} (telling : Bool) (faults : R → ℕ) (rose : Type 0) (old new : A) (request : Result Request HttpErr) (a b : Option (List ℕ)) (result : Replied R)

@@ -25,6 +25,7 @@ use Rattle.act_model.specs.Pin.{over_pieces}
 use Rattle.act_model.specs.Pinned.{IsPinMade, PinStands}
 use Rattle.act_model.specs.Rows.{RowState, accepted}
 use Rattle.act_model.specs.Rule.{Rule}
+use Rattle.act_model.specs.Whole.{whole}
 use Rattle.act_model.specs.Sound.{IsSound, PieceSound}
 use Rattle.act_model.proofs.Histories.{runs_onward, runs_append}
 use Rattle.act_model.proofs.Onward.{onward_trans}
@@ -186,7 +187,7 @@ module _ {A : Type 0} (number : A → ℕ) (between : A → List Entry → A →
   rises : IsRising tail
   rises = subst (λ (xs : List Sample). IsRising xs) (sym pin_is.tail_is) (RisesFrom-lower 0 _ pin_is.row.tail (good.each_row pin_is.i pin_is.row pin_is.here).later zero-le)
 
-  answers : answer (over_all lists tail) query ≡ answer (accepted pin_is.row) query
+  answers : answer (over_all lists tail) query ≡ answer (whole accepted step.after.rows pin_is.i) query
   answers = ap (λ (xs : List Sample). answer (over xs tail) query) (over_same [] pin_is.pin.pieces) ∙ pin_is.gives (on_to.told ∙ told)
 
   events : AreEvents pin_is.row.about.ty (answer (over_all lists tail) query)
@@ -217,6 +218,6 @@ module _ {A : Type 0} (number : A → ℕ) (between : A → List Entry → A →
         row = row;
         found = pin_is.found;
         here = pin_is.here;
-        writes = subst (λ (n : List ℕ). Writes finished broke out (record { name = n; about = row.about; query = query }) (answer (accepted row) query) result out_new) pin_is.name_is
-            (subst (λ (k : About). Writes finished broke out (record { name = told_name; about = k; query = query }) (answer (accepted row) query) result out_new) pin_is.about_is (subst (λ (xs : List Sample). Writes finished broke out (record { name = told_name; about = about; query = query }) xs result out_new) answers wrote));
+        writes = subst (λ (n : List ℕ). Writes finished broke out (record { name = n; about = row.about; query = query }) (answer (whole accepted step.after.rows pin_is.i) query) result out_new) pin_is.name_is
+            (subst (λ (k : About). Writes finished broke out (record { name = told_name; about = k; query = query }) (answer (whole accepted step.after.rows pin_is.i) query) result out_new) pin_is.about_is (subst (λ (xs : List Sample). Writes finished broke out (record { name = told_name; about = about; query = query }) xs result out_new) answers wrote));
       }

@@ -16,6 +16,7 @@ use Rattle.act_model.specs.Machine.{Machine, find_row}
 use Rattle.act_model.specs.Out.{Subject}
 use Rattle.act_model.specs.Rows.{RowState, accepted}
 use Rattle.act_model.specs.Rule.{Rule, Header}
+use Rattle.act_model.specs.Whole.{whole}
 use Rattle.stream_merge.specs.Pieces.{Faulted, OutOfMemory}
 use Rattle.stream_merge.specs.Reading.{IsDamaged}
 use Rattle.stream_merge.specs.Reads.{AnswersRead}
@@ -113,8 +114,8 @@ pub record IsPinned {A O R : Type 0} (number : A → ℕ) (between : A → List 
 abbrev pub ReadsHeaders : Rule → Type 0
 ReadsHeaders rule = (message : List ℕ) (header : Header) → rule.header message ≡ Some header → (info : PayloadInfo) × (info_of message ≡ Ok info) × (info.ty ≡ header.ty) × (info.year ≡ header.year)
 
--- From this state on the actor's first act was its pin. What was written is the answer over all that was accepted of the row in the state
--- that the pin led to.
+-- From this state on the actor's first act was its pin. What was written is the answer over all that was accepted of the variable, under
+-- each of its names, in the state that the pin led to; the text has the name that was asked for.
 pub record WritesAnswer {A O R : Type 0} (number : A → ℕ) (between : A → List Entry → A → Type 0) (finished broke : O → Subject → List Sample → O → Type 0) (old : A) (m : Machine) (name : List ℕ) (query : Query) (out : O) (result : Retrieved R) (new : A) (out_new : O) : Type 0 where
   pub before_it : List Entry
   pub pin : Entry
@@ -129,7 +130,7 @@ pub record WritesAnswer {A O R : Type 0} (number : A → ℕ) (between : A → L
   pub row : RowState
   pub found : find_row pinned name ≡ Some i
   pub here : slice_get pinned.rows i ≡ Some row
-  pub writes : Writes finished broke out (record { name = row.name; about = row.about; query = query }) (answer (accepted row) query) result out_new
+  pub writes : Writes finished broke out (record { name = row.name; about = row.about; query = query }) (answer (whole accepted pinned.rows i) query) result out_new
 
 -- WHAT WAS READ
 

@@ -4,15 +4,16 @@ use Rattle.std.specs.Ordering.{nat_cmp}
 use Rattle.std.specs.FinMap.{FinMap, get}
 use Rattle.std.proofs.lemmas.List.{length-append}
 use Rattle.act_model.specs.declared.acts.Act.{Act}
-use Rattle.act_model.specs.declared.acts.Act.TheVariants.{Register, Pause, Resume, Offer, Tick, Flush, MoveBegin, MoveStep, Sweep, Pin, OpenPiece, Unpin, Names, Details, Doors, DoorDone}
+use Rattle.act_model.specs.declared.acts.Act.TheVariants.{Register, Pause, Resume, Rename, Offer, Tick, Flush, MoveBegin, MoveStep, Sweep, Pin, OpenPiece, Unpin, Names, Details, Doors, DoorDone}
 use Rattle.event_types.specs.declared.about.State.{State}
 use Rattle.act_model.specs.Reply.{Reply}
-use Rattle.act_model.specs.Machine.{Machine, MoveState, Change, AddsRow, SetsState, Appends, Publishes, Unlists, find_row}
+use Rattle.act_model.specs.Machine.{Machine, MoveState, Change, AddsRow, SetsState, Renames, Appends, Publishes, Unlists, find_row}
 use Rattle.act_model.specs.Changes.{made, changed, added, each, at, Settles, no_doubt, as_not_made, as_made}
 use Rattle.act_model.specs.Limbo.{FileState}
 use Rattle.act_model.specs.Outcome.{Outcome, Ends, Same, Acts, refused_at_once, refused, runs, faults_first, faults_between, faults_within, faults_removing, wants_memory, wants_memory_settled, all_go}
 use Rattle.act_model.specs.Register.{register_refused, Registers}
 use Rattle.act_model.specs.Pause.{state_refused, Sets, sets_of}
+use Rattle.act_model.specs.Rename.{IsRenamed, changed_within, rename_refused, renames_of}
 use Rattle.act_model.specs.Flush.{Flushes, batch_of}
 use Rattle.act_model.specs.Details.{Describes, details_refused}
 use Rattle.act_model.specs.MoveBegin.{Begins, begins, all_run, none_to_make}
@@ -49,7 +50,7 @@ keeps_counts old new same = keeps_same old new (ap (λ (m : Machine). m.rows) sa
 keeps_made : (into : List FileState) (change : Change) (m : Machine) → Keeps m (made into change m)
 keeps_made into change m =
     record {
-      rows = let long = length-append (each (changed m.told m.limbo change) 0 m.rows) (added change) in let same = length-each (changed m.told m.limbo change) 0 m.rows in omega arith;
+      rows = let long = length-append (each (changed m.told m.limbo change) 0 m.rows) (added change m.rows) in let same = length-each (changed m.told m.limbo change) 0 m.rows in omega arith;
       doors = refl;
     }
 
@@ -129,6 +130,8 @@ pub step_counts : (who : ℕ) (act : Act) (old new : Machine) (reply : Reply) �
 step_counts who (Register name about) old new reply s ask step = counted (Acts-keeps (register_refused name) (Registers name about) (λ m. Some (AddsRow name about)) all_go (λ mid answer new ran. makes_keeps [] (AddsRow name about) mid new ran.1) step)
 step_counts who (Pause name) old new reply s ask step = counted (state_keeps _ _ name old new reply step)
 step_counts who (Resume name) old new reply s ask step = counted (state_keeps _ _ name old new reply step)
+step_counts who (Rename name newname) old new reply s ask step =
+    counted (Acts-keeps (rename_refused (changed_within name old) step.0 name newname) (IsRenamed name newname) (λ m. renames_of newname (find_row m name)) all_go (λ mid answer new ran. makes_keeps [] (Renames ran.1.0 newname) mid new ran.1.2) step.1)
 step_counts who (Offer name ty t line now) old new reply s ask step = counted (ends_keeps _ old new reply (act_keeps old _ (offered_act old name ty (record { t = t; line = line }) now s ask)) step)
 step_counts who (Tick row now) old new reply s ask step = counted (ends_keeps _ old new reply (act_keeps old _ (ticked_act old row now s)) step)
 step_counts who (Flush limit) old new reply s ask step = counted (Acts-keeps (λ m. None) (Flushes limit) (λ m. Some (Appends (batch_of limit m))) all_go (λ mid answer new ran. makes_keeps [] (Appends (batch_of limit mid)) mid new ran.1) step)

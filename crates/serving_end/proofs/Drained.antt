@@ -11,10 +11,11 @@ use Rattle.series_model.specs.Admission.{admit_after}
 use Rattle.act_model.specs.declared.acts.Act.{Act}
 use Rattle.act_model.specs.declared.acts.Act.TheVariants.{MoveBegin, MoveStep, Sweep, Doors}
 use Rattle.act_model.specs.declared.acts.Answer.TheVariants.{NoRow, Flushed, Memory}
+use Rattle.event_types.specs.declared.about.State.TheVariants.{Retired}
 use Rattle.act_model.specs.Reply.{Reply}
 use Rattle.act_model.specs.Rows.{RowState, Store, Short, Medium, Long, durable, accepted, size_of, is_running, period_of, tier, with_tier, next_store}
 use Rattle.act_model.specs.Limbo.{FileState, files_of, put}
-use Rattle.act_model.specs.Machine.{Machine, MoveState, Change, AddsRow, SetsState, Appends, Publishes, Unlists, held_bytes}
+use Rattle.act_model.specs.Machine.{Machine, MoveState, Change, AddsRow, SetsState, Renames, Appends, Publishes, Unlists, held_bytes}
 use Rattle.act_model.specs.Changes.{made, changed, at, of_row, published, retired, without_held, Settles, no_doubt, as_not_made, as_made}
 use Rattle.act_model.specs.Outcome.{Outcome, Acts, refused_at_once, refused, runs, faults_first, faults_between, faults_within, faults_removing, wants_memory, wants_memory_settled, all_go}
 use Rattle.act_model.specs.Flush.{FlushStep}
@@ -26,7 +27,7 @@ use Rattle.act_model.specs.Sweep.{Sweeps}
 use Rattle.act_model.specs.Step.{Step, store_of}
 use Rattle.act_model.specs.History.{Entry, Runs}
 use Rattle.act_model.proofs.Rows.{Came, from_row, is_new, came}
-use Rattle.act_model.proofs.MadeLaws.{IsFresh, fresh, added_fresh}
+use Rattle.act_model.proofs.MadeLaws.{IsFresh, fresh, fresh_over, added_fresh}
 
 -- no row has a tail
 abbrev pub IsDrained : Machine → Type 0
@@ -62,6 +63,7 @@ retired_tail false store to row = refl
 changed_tail : (told : Bool) (limbo : List FileState) (change : Change) (i : ℕ) (row : RowState) → row.tail ≡ [] → (changed told limbo change i row).tail ≡ []
 changed_tail told limbo (AddsRow name about) i row none = none
 changed_tail told limbo (SetsState k state) i row none = at_tail k (without_held state) i row refl ∙ none
+changed_tail told limbo (Renames k name) i row none = at_tail k (without_held Retired) i row refl ∙ none
 changed_tail told limbo (Appends batch) i row none = ap (λ (w : List Sample). since (end_of (of_row i batch)) w) none
 changed_tail told limbo (Publishes k store copied) i row none =
     at_tail k (published told (files_of k (next_store store) limbo) (next_store store) copied) i row (published_tail told (files_of k (next_store store) limbo) (next_store store) copied row) ∙ none
@@ -70,12 +72,13 @@ changed_tail told limbo (Unlists k store to) i row none = at_tail k (retired tol
 drained_made : (m : Machine) (into : List FileState) (change : Change) → IsDrained m → IsDrained (made into change m)
 drained_made m into change d i new here = by_row (came m.told m.limbo change m.rows i new here)
   where
-    of_fresh : IsFresh new → new.tail ≡ []
-    of_fresh (fresh name about is) = rw is refl
+    of_fresh : IsFresh change m.rows new → new.tail ≡ []
+    of_fresh (fresh name about by is) = rw is refl
+    of_fresh (fresh_over k name old by here is) = rw is refl
 
     by_row : Came m.told m.limbo change m.rows i new → new.tail ≡ []
     by_row (from_row row there is) = ap (λ (r : RowState). r.tail) is ∙ changed_tail m.told m.limbo change i row (d i row there)
-    by_row (is_new j at there) = of_fresh (added_fresh change j new there).0
+    by_row (is_new j at there) = of_fresh (added_fresh change m.rows j new there).0
 
 drained_settled : {old mid : Machine} → Settles old mid → IsDrained old → IsDrained mid
 drained_settled (no_doubt is) d = d

@@ -6,7 +6,7 @@ use Rattle.std.proofs.lemmas.Bool.Decides.{nat_tests}
 use Rattle.std.proofs.lemmas.List.{map-append}
 use Rattle.std.proofs.lemmas.List.Elements.{recursion_from_All}
 use Rattle.act_model.specs.declared.acts.Act.{Act}
-use Rattle.act_model.specs.declared.acts.Act.TheVariants.{Register, Pause, Resume, Offer, Tick, Flush, MoveBegin, MoveStep, Sweep, Pin, OpenPiece, Unpin, Names, Details, Doors, DoorDone}
+use Rattle.act_model.specs.declared.acts.Act.TheVariants.{Register, Pause, Resume, Rename, Offer, Tick, Flush, MoveBegin, MoveStep, Sweep, Pin, OpenPiece, Unpin, Names, Details, Doors, DoorDone}
 use Rattle.act_model.specs.History.{Entry, Done, done_of, mine}
 use Rattle.act_model.specs.Roles.{is_of_link}
 use Rattle.serving_end.specs.Rounds.{IsShift}
@@ -24,6 +24,7 @@ abbrev pub drops : Act → ℕ
 drops (Register name about) = 0
 drops (Pause name) = 0
 drops (Resume name) = 0
+drops (Rename name newname) = 0
 drops (Offer name ty t line now) = 0
 drops (Tick row now) = 0
 drops (Flush limit) = 0
@@ -101,6 +102,7 @@ pub link_drops : (act : Act) → is_of_link act ≡ true → drops act ≡ 0
 link_drops (Register name about) is = refl
 link_drops (Pause name) is = refl
 link_drops (Resume name) is = refl
+link_drops (Rename name newname) is = refl
 link_drops (Offer name ty t line now) is = refl
 link_drops (Tick row now) is = refl
 link_drops (Flush limit) is = refl

@@ -40,6 +40,12 @@ start_sound n = record {
   few = omega arith;
   keys = λ i j a b here there same. absurd cc;
   each_row = λ i row here. absurd cc;
+  bases = record {
+    over = λ i row b here is. absurd cc;
+    one = λ i j b row other here there is same. absurd cc;
+    end = λ i row here. absurd cc;
+    exact = λ told i row here. absurd cc;
+  };
   lines = λ i row here. absurd cc;
   intake = omega arith;
   doubted = λ change is. absurd cc;

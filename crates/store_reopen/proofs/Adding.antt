@@ -19,7 +19,7 @@ use Rattle.pv_catalog.specs.Rows.{AreRows, HasKey, MayFollow, most_rows}
 use Rattle.pv_catalog.specs.declared.error.RegisterErr.{RegisterErr}
 use Rattle.pv_catalog.specs.declared.error.RegisterErr.TheVariants as of_register
 use Rattle.pv_catalog.specs.declared.row.Row.{Row}
-use Rattle.pv_catalog.proofs.Standing.{pushed_are}
+use Rattle.pv_catalog.proofs.Standing.{pushed_are, unfounded}
 use Rattle.store_manifest.specs.declared.entry.Entry.{Entry}
 use Rattle.store_manifest.specs.declared.entry.Change.{Change}
 use Rattle.store_manifest.specs.Entries.{AllCanFollow, AreEntries, all_changed, changed, place}
@@ -133,7 +133,7 @@ module _ (gs : List Granularity) (c made : CatalogueState) (ms : List ManifestSt
     sound_lists = ready.sound_lists;
     granularity = ready.granularity;
     nested = ready.nested;
-    rows = subst AreRows (sym is) (pushed_are c.rows (registered c.rows name about) ready.rows (may_follow free));
+    rows = subst AreRows (sym is) (pushed_are c.rows (registered c.rows name about) ready.rows (may_follow free) (unfounded c.rows (registered c.rows name about) refl));
     entries = ready.entries;
     of_rows = λ i m here. All-weaker (HasRow c.rows) (HasRow made.rows) (λ e low. subst (HasRowOf e) (sym is) (further e low)) m.entries (ready.of_rows i m here);
   }

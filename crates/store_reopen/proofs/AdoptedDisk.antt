@@ -91,7 +91,7 @@ module _ {D R : Type 0} (disk : Ghosts D R) (gs : List Granularity) (old mid new
 
 -- an opening that came to nothing more
 pub only_opens : {D R : Type 0} (disk : Ghosts D R) (gs : List Granularity) (old new : D) → Reopens disk gs old new → ((before after : Stores) → OpensEither gs (disk.past old) before after → Passes (IsMarkedOf gs (disk.files old) before after) (disk.past old) (disk.past new)) → NoneFoundOpened gs (disk.files new) (disk.opened new)
-    → OnlySite (disk.files old) (disk.files new) × Passes OnlySite (disk.past old) (disk.past new) → LeavesSite disk old new → Adopts disk gs old new
+    → OnlySite (disk.files old) (disk.files new) × Passes OnlySite (disk.past old) (disk.past new) → LeavesSite disk gs old new → Adopts disk gs old new
 only_opens {D} {R} disk gs old new reopens marked found site leaves = record {
   only = λ not. (reopens, leaves);
   makes = λ before after opens. inl reopens;
@@ -108,7 +108,7 @@ site_loaded : (gs : List Granularity) (old new : Past) → Passes (StillSay gs) 
 site_loaded gs old new passes = passes_weaker (StillSay gs) OnlySite old new passes (λ a c left step n apart other. step.others n apart)
 
 pub load_site : {D R : Type 0} (disk : Ghosts D R) (gs : List Granularity) (old mid : D) → KeepsSaid gs (disk.files old) (disk.opened old) (disk.past old) (disk.files mid) (disk.opened mid) (disk.past mid) → OnlySite (disk.files old) (disk.files mid) × Passes OnlySite (disk.past old) (disk.past mid)
-load_site {D} {R} disk gs old mid keeps = (λ n apart other. keeps.others n apart, site_loaded gs (disk.past old) (disk.past mid) keeps.passes)
+load_site {D} {R} disk gs old mid keeps = (λ n apart other. keeps.now.others n apart, site_loaded gs (disk.past old) (disk.past mid) keeps.passes)
 
 module _ {D R : Type 0} (disk : Ghosts D R) (gs : List Granularity) (old mid new : D) (c : CatalogueState) (ms : List ManifestState) (c₁ : CatalogueState) (m₁ : List ManifestState) (told : IsTrue disk.tells) (same : granularities ms ≡ gs) (begun : Reopens disk gs old mid) (left : MayLeave (disk.past new) (disk.files new)) where
   -- from what was held before the load or after it to a stage of the steps
@@ -149,7 +149,7 @@ module _ {D R : Type 0} (disk : Ghosts D R) (gs : List Granularity) (old mid new
 
     site : OnlySite (disk.files old) (disk.files new) × Passes OnlySite (disk.past old) (disk.past new)
     site = (
-      λ n apart other. changes.now n apart other ∙ keeps.others n apart,
+      λ n apart other. changes.now n apart other ∙ keeps.now.others n apart,
       passes_then OnlySite OnlySite (disk.past old) (disk.past mid) (disk.past new) (site_loaded gs (disk.past old) (disk.past mid) keeps.passes) changes.any_moment (λ a b c was one now two n apart other. two n apart other ∙ one n apart other),
     )
 
@@ -220,7 +220,7 @@ module _ {D R : Type 0} (disk : Ghosts D R) (gs : List Granularity) (old mid : D
         rows = subst (λ (rows : List Row). Says IsCatalogue rows catalogue_name (disk.files old)) has.known.rows said.rows_said;
         lists = subst (λ (es : List Entry). Says (Folds g) es (manifest_name (i + 1)) (disk.files old)) entries (said.lists_said i g here);
         filed = subst (λ (h : Granularity). AreFiled h (tier i held)) m.2 known.valid.filed;
-        files = in_out (disk.files mid) (disk.files old) (tier i held) numbered (λ n other. sym (keeps.elsewhere n other)) (((has.disk told).each i m.0 m.1).safe.left (disk.files mid) seen);
+        files = in_out (disk.files mid) (disk.files old) (tier i held) numbered (λ n other. sym (keeps.now.elsewhere n other)) (((has.disk told).each i m.0 m.1).safe.left (disk.files mid) seen);
       }
 
   -- files that aren't listed weren't opened by it either

@@ -36,7 +36,7 @@ use Rattle.store_reopen.proofs.OneJournal.{one_list_of_rows}
 use Rattle.store_reopen.specs.Verdict.{AreSaid, IsThere, Listings, HasRow}
 use Rattle.store_reopen.specs.Reopen.{IsReady, IsUnopened, OpensEither, HoldsEither, AllIn, StillHolds, Reopens, stores_of, lists_of, entries_in, SameStores}
 use Rattle.store_reopen.specs.Loading.{Catalogue, Manifest, granularity_at, StillSay, KeepsSaid}
-use Rattle.store_reopen.proofs.Keeping.{is_at}
+use Rattle.store_reopen.proofs.Keeping.{is_at, journal_says, no_more}
 
 -- no partition's file is a journal
 pub listed_elsewhere : (shelf : Shelf) (e : Entry) → 1 ≤ shelf.0 → (file_of shelf e).0 ≢ 0
@@ -253,14 +253,14 @@ has_read tells gs s files old before after held three ready opens either holds d
 
 -- a manifest still says what it said, in its own granularity
 list_step : (gs : List Granularity) (a c : Files) (i : ℕ) (g : Granularity) → slice_get gs i ≡ Some g → StillSay gs a c → StillSays (Folds g) (manifest_name (i + 1)) a c
-list_step gs a c i g here step = subst (λ (h : Granularity). StillSays (Folds h) (manifest_name (i + 1)) a c) (is_at gs i g here) (step.journals (Manifest i))
+list_step gs a c i g here step = subst (λ (h : Granularity). StillSays (Folds h) (manifest_name (i + 1)) a c) (is_at gs i g here) (journal_says gs (Manifest i) a c (step.journals (Manifest i)))
 
 -- an image goes on to hold what it held
 pub still_one : (gs : List Granularity) (a c : Files) → StillSay gs a c → StillHolds gs a c
 still_one gs a c step held holds i g here =
     let was = holds i g here in
     record {
-      rows = (step.journals Catalogue held.rows).0 was.rows;
+      rows = (journal_says gs Catalogue a c (step.journals Catalogue) held.rows).0 was.rows;
       lists = (list_step gs a c i g here step (listing held i)).0 was.lists;
       filed = was.filed;
       files = still_in (tier i held) a c (omega arith) step.elsewhere was.files;
@@ -321,8 +321,8 @@ still_unopened gs files later opened after old new keeps unopened = record {
   manifests = λ i low. keeps.none_opened (Manifest i) (unopened.manifests i low);
   listed = λ rows rows_said i low g entries said.
       let own = subst (λ (h : Granularity). Says (Folds h) entries (manifest_name (i + 1)) later) (sym (only_at g i low)) said in
-      let was = subst (λ (h : Granularity). Says (Folds h) entries (manifest_name (i + 1)) files) (only_at g i low) (keeps.no_more (only g) (Manifest i) entries own) in
-      unopened_later i rows entries opened after keeps.same_opened (unopened.listed rows (keeps.no_more gs Catalogue rows rows_said) i low g entries was);
+      let was = subst (λ (h : Granularity). Says (Folds h) entries (manifest_name (i + 1)) files) (only_at g i low) (no_more gs (only g) (Manifest i) files later entries (keeps.now.journals (Manifest i)) own) in
+      unopened_later i rows entries opened after keeps.same_opened (unopened.listed rows (no_more gs gs Catalogue files later rows (keeps.now.journals Catalogue) rows_said) i low g entries was);
 }
 
 pub loaded_again : (gs : List Granularity) (s : Seen) (files : Files) (opened : Name → ℕ) (old : Past) → length gs ≡ 3 → KeepsSaid gs files opened old s.files s.opened s.past → IsUnopened files opened → IsReady gs s.catalogue s.manifests → IsStored s.catalogue s.files s.opened s.past
@@ -333,7 +333,7 @@ loaded_again gs s files opened old three keeps unopened ready stored kept named 
   kept = kept;
   named = named;
   named_manifests = named_manifests;
-  there = λ i m here. all_there_in i files s.files s.catalogue.rows m.entries (λ n other. sym (keeps.elsewhere n other)) (there i m here);
+  there = λ i m here. all_there_in i files s.files s.catalogue.rows m.entries (λ n other. sym (keeps.now.elsewhere n other)) (there i m here);
   unopened = λ i m here.
       let g = own_granularity gs s.manifests i m ready.granularity here in
       let lists : Says (Folds m.granularity) m.entries (manifest_name (i + 1)) files = subst (λ (es : List Entry). Says (Folds m.granularity) es (manifest_name (i + 1)) files) (listed_at s.manifests i m here) (said.lists_said i m.granularity g) in
@@ -346,7 +346,7 @@ reopened {D} {R} disk gs old new unopened keeps = record {
   any_moment = still_holds gs (disk.past old) (disk.past new) keeps.passes;
   either = λ before after opens. still_either gs (disk.past old) (disk.past new) before after opens keeps.passes;
   opens = λ before after opens. opens_again gs (disk.past old) (disk.past new) before after keeps.passes opens;
-  elsewhere = keeps.elsewhere;
+  elsewhere = keeps.now.elsewhere;
   stores = passes_weaker (StillSay gs) SameStores (disk.past old) (disk.past new) keeps.passes (λ a c left step. step.elsewhere);
   unopened = still_unopened gs (disk.files old) (disk.files new) (disk.opened old) (disk.opened new) (disk.past old) (disk.past new) keeps unopened;
 }

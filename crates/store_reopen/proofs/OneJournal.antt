@@ -1,14 +1,12 @@
 -- One journal: what it says goes on through loads and reads, and where it is bad.
 use Rattle.std.proofs.Common.{◌≡◌, ◌≢◌, ◌+◌, ◌⊎◌, inl, inr, ℕ, List, [], get_or, refl, sym, ◌∙◌, ap, subst, arith, zero, suc, ◌∷◌, ◌++◌, length, take, None, Some, length-append, add-one}
-use Rattle.std.proofs.lemmas.Bool.{cases_eq}
 use Rattle.disk_model.specs.Files.{Name, Files, Content}
 use Rattle.disk_model.specs.Past.{Past, Passes}
-use Rattle.disk_model.proofs.Passing.{passes_weaker}
 use Rattle.gate_journal.specs.Generations.{IsOwn, AtOwn, KeepsBatches, at_name, generation_name, generation_batches, HasBatchesOf, IsBadOf}
 use Rattle.gate_journal.specs.Journal.{JournalState, IsSettledWith}
 use Rattle.gate_journal.specs.Kept.{Says, StillSays, IsKept}
-use Rattle.gate_journal.proofs.Keeping.{one_value, says_stays, keeps_says, load_says, kept_stays}
-use Rattle.gate_journal.proofs.Owning.{own_store, says_of}
+use Rattle.gate_journal.proofs.Keeping.{one_value, keeps_says, kept_stays}
+use Rattle.gate_journal.proofs.Owning.{says_of}
 use Rattle.partition_names.specs.declared.granularity.Granularity.{Granularity}
 use Rattle.store_manifest.specs.declared.entry.Entry.{Entry}
 use Rattle.store_manifest.specs.Batches.{Folds}
@@ -19,8 +17,7 @@ use Rattle.pv_catalog.specs.Catalogue.{catalogue_name}
 use Rattle.pv_catalog.specs.Rows.{IsCatalogue}
 use Rattle.pv_catalog.proofs.Meaning.{one_meaning}
 use Rattle.durable_write.proofs.Ending.{other_journal}
-use Rattle.durable_write.proofs.Three.{manifests_differ}
-use Rattle.store_reopen.specs.OneJournal.{Journal, Catalogue, Manifest, Value, Means, NoneOpened, name_of, StillSay, KeepsSaid, IsGate, IsBadFile}
+use Rattle.store_reopen.specs.OneJournal.{NoneOpened, IsGate, IsBadFile}
 use Rattle.std.specs.Prelude.{slice_get}
 use Rattle.std.proofs.lemmas.Option.{none-some, same_Some}
 use Rattle.std.specs.Int.{to_le_bytes, w32}
@@ -38,32 +35,6 @@ one_list_of_rows image a b one two = one_value IsCatalogue (one_meaning []) cata
 
 pub journals_differ : (store : ℕ) → catalogue_name ≢ manifest_name store
 journals_differ store is = let first : get_or catalogue_name.1 0 0 ≡ get_or (manifest_name store).1 0 0 = ap (λ (n : Name). get_or n.1 0 0) is in absurd (omega (arith, first))
-
-one_store : (s t : ℕ) → manifest_name s ≡ manifest_name t → s ≡ t
-one_store s t is = let digit : 48 + s ≡ 48 + t = ap (λ (n : Name). get_or n.1 8 0) is in omega (arith, digit)
-
-journal_cases : (i j : Journal) → (i ≡ j) ⊎ (i ≢ j)
-journal_cases Catalogue Catalogue = inl refl
-journal_cases Catalogue (Manifest t) = inr (λ is. journals_differ t (ap name_of is))
-journal_cases (Manifest s) Catalogue = inr (λ is. journals_differ s (sym (ap name_of is)))
-journal_cases (Manifest s) (Manifest t) = elim (cases_eq s t) [
-  | inl same ↦ inl (ap (λ (n : ℕ). Manifest n) same)
-  | inr apart ↦ inr (λ is. apart (one_store s t (ap name_of is)))
-]
-
-journals_apart : (i j : Journal) → i ≢ j → (n : Name) → IsOwn (name_of i) n → IsOwn (name_of j) n → ⊥
-journals_apart Catalogue Catalogue apart n own too = apart refl
-journals_apart Catalogue (Manifest t) apart n own too = other_journal t n own too
-journals_apart (Manifest s) Catalogue apart n own too = other_journal s n too own
-journals_apart (Manifest s) (Manifest t) apart n own too = manifests_differ s t (λ is. apart (ap (λ (k : ℕ). Manifest k) is)) n own too
-
-of_zero : (j : Journal) → (name_of j).0 ≡ 0
-of_zero Catalogue = refl
-of_zero (Manifest store) = refl
-
--- a name of another store is no journal's
-no_journal : (n : Name) (j : Journal) → n.0 ≢ 0 → IsOwn (name_of j) n → ⊥
-no_journal n j other own = other (own_store (name_of j) n own ∙ of_zero j)
 
 -- ONE CALL AFTER ANOTHER
 
@@ -84,66 +55,6 @@ catalogue_stays store R journal files opened old later after new rows named kept
     apart : (n : Name) → IsOwn journal.name n → IsOwn (manifest_name store) n → ⊥
     apart n own too = other_journal store n (subst (λ (m : Name). IsOwn m n) named own) too
 
--- ONE JOURNAL IS LOADED
-
--- the one says what it said, and every name that isn't one of its files is as it was
-record LoadsOne (g : Granularity) (j : Journal) (files : Files) (opened : Name → ℕ) (old : Past) (later : Files) (after : Name → ℕ) (new : Past) : Type 0 where
-  passes : Passes (AtOwn (name_of j) (StillSays (Means g j) (name_of j))) old new
-  others : (n : Name) → (IsOwn (name_of j) n → ⊥) → later n ≡ files n
-  said : (value : Value j) → Says (Means g j) value (name_of j) files → Says (Means g j) value (name_of j) later
-  no_more : (h : Granularity) (value : Value j) → Says (Means h j) value (name_of j) later → Says (Means h j) value (name_of j) files
-  others_opened : (n : Name) → (IsOwn (name_of j) n → ⊥) → after n ≡ opened n
-  is : NoneOpened (name_of j) after
-
--- what another journal says
-abbrev Goes : Granularity → Files → Files → Journal → Type 0
-Goes g files later j = (value : Value j) → Says (Means g j) value (name_of j) files → Says (Means g j) value (name_of j) later
-
-kept_load : (g : Granularity) (j : Journal) (files later : Files) (opened after : Name → ℕ) (old new : Past) → LoadsOne g j files opened old later after new → KeepsSaid g files opened old later after new
-kept_load g j files later opened after old new load = record {
-  passes = passes_weaker (AtOwn (name_of j) (StillSays (Means g j) (name_of j))) (StillSay g) old new load.passes (λ a c left step. record {
-    journals = λ i. still i a c step (journal_cases i j);
-    elsewhere = λ n other. step.elsewhere n (no_journal n j other);
-  });
-  elsewhere = λ n other. load.others n (no_journal n j other);
-  said = λ i. goes i (journal_cases i j);
-  no_more = λ h i. back h i (journal_cases i j);
-  same_opened = λ n other. load.others_opened n (no_journal n j other);
-  none_opened = λ i. unopened i (journal_cases i j);
-}
-  where
-    still : (i : Journal) (a c : Files) → AtOwn (name_of j) (StillSays (Means g j) (name_of j)) a c → (i ≡ j) ⊎ (i ≢ j) → StillSays (Means g i) (name_of i) a c
-    still i a c step (inl is) = subst (λ (k : Journal). StillSays (Means g k) (name_of k) a c) (sym is) step.here
-    still i a c step (inr apart) = λ value. (
-      says_stays (Means g i) value (name_of i) a c (λ n own. step.elsewhere n (journals_apart i j apart n own)),
-      says_stays (Means g i) value (name_of i) c a (λ n own. sym (step.elsewhere n (journals_apart i j apart n own))),
-    )
-
-    goes : (i : Journal) → (i ≡ j) ⊎ (i ≢ j) → Goes g files later i
-    goes i (inl is) = subst (Goes g files later) (sym is) load.said
-    goes i (inr apart) = λ value says. says_stays (Means g i) value (name_of i) files later (λ n own. load.others n (journals_apart i j apart n own)) says
-
-    back : (h : Granularity) (i : Journal) → (i ≡ j) ⊎ (i ≢ j) → Goes h later files i
-    back h i (inl is) = subst (Goes h later files) (sym is) (load.no_more h)
-    back h i (inr apart) = λ value says. says_stays (Means h i) value (name_of i) later files (λ n own. sym (load.others n (journals_apart i j apart n own))) says
-
-    unopened : (i : Journal) → (i ≡ j) ⊎ (i ≢ j) → NoneOpened (name_of i) opened → NoneOpened (name_of i) after
-    unopened i (inl is) none = subst (λ (k : Journal). NoneOpened (name_of k) after) (sym is) load.is
-    unopened i (inr apart) none = λ n own. load.others_opened n (journals_apart i j apart n own) ∙ none n own
-
--- THE CATALOGUE
-
-pub kept_catalogue : (g : Granularity) (files later : Files) (opened after : Name → ℕ) (old new : Past) → Passes (AtOwn catalogue_name (KeepsBatches catalogue_name)) old new → AtOwn catalogue_name (KeepsBatches catalogue_name) files later
-    → ((n : Name) → (IsOwn catalogue_name n → ⊥) → after n ≡ opened n) → NoneOpened catalogue_name after → KeepsSaid g files opened old later after new
-kept_catalogue g files later opened after old new passes kept others_opened is = kept_load g Catalogue files later opened after old new (record {
-  passes = load_says IsCatalogue catalogue_name old new passes;
-  others = kept.elsewhere;
-  said = λ rows says. (keeps_says IsCatalogue catalogue_name files later kept.here rows).0 says;
-  no_more = λ h rows says. (keeps_says IsCatalogue catalogue_name files later kept.here rows).1 says;
-  others_opened = others_opened;
-  is = is;
-})
-
 -- A MANIFEST
 
 -- it says what it said, also where it had no batch and lists nothing still
@@ -160,25 +71,11 @@ begins_says g name old new (inr begun) = λ entries. (onward entries, backward e
     backward : (entries : List Entry) → Says (Folds g) entries name new → Says (Folds g) entries name old
     backward entries says = subst (λ (es : List Entry). Says (Folds g) es name old) (sym (one_listing g g name new entries [] says begun.1)) nothing
 
-says_before : (g h : Granularity) (name : Name) (old new : Files) (entries : List Entry) → StaysOrBegins g name old new → Says (Folds h) entries name new → Says (Folds h) entries name old
+pub says_before : (g h : Granularity) (name : Name) (old new : Files) (entries : List Entry) → StaysOrBegins g name old new → Says (Folds h) entries name new → Says (Folds h) entries name old
 says_before g h name old new entries (inl keeps) says = (keeps_says (Folds h) name old new keeps entries).1 says
 says_before g h name old new entries (inr begun) says =
     let empty : entries ≡ [] = one_listing h g name new entries [] says begun.1 in
     record { batches = []; has = begun.0; means = empty }
-
-pub kept_manifest : (store : ℕ) (g : Granularity) (files later : Files) (opened after : Name → ℕ) (old new : Past) → Passes (AtOwn (manifest_name store) (StaysOrBegins g (manifest_name store))) old new → AtOwn (manifest_name store) (StaysOrBegins g (manifest_name store)) files later
-    → ((n : Name) → (IsOwn (manifest_name store) n → ⊥) → after n ≡ opened n) → NoneOpened (manifest_name store) after → KeepsSaid g files opened old later after new
-kept_manifest store g files later opened after old new passes kept others_opened is = kept_load g (Manifest store) files later opened after old new (record {
-  passes = passes_weaker (AtOwn (manifest_name store) (StaysOrBegins g (manifest_name store))) (AtOwn (manifest_name store) (StillSays (Folds g) (manifest_name store))) old new passes (λ a c was step. record {
-    here = begins_says g (manifest_name store) a c step.here;
-    elsewhere = step.elsewhere;
-  });
-  others = kept.elsewhere;
-  said = λ entries says. (begins_says g (manifest_name store) files later kept.here entries).0 says;
-  no_more = λ h entries says. says_before g h (manifest_name store) files later entries kept.here says;
-  others_opened = others_opened;
-  is = is;
-})
 
 -- A JOURNAL THAT IS LOADED ONCE MORE
 

@@ -29,7 +29,7 @@ use Rattle.store_reopen.specs.Following.{NoneUnlistedOpened}
 use Rattle.store_reopen.specs.Loading.{Catalogue, KeepsSaid, Manifest}
 use Rattle.store_reopen.specs.Reopen.{loaded}
 use Rattle.store_reopen.specs.Steps.{Lists, NewRow, Step, made_by, stepped}
-use Rattle.store_reopen.proofs.Keeping.{is_at}
+use Rattle.store_reopen.proofs.Keeping.{is_at, no_more}
 use Rattle.store_reopen.proofs.OneJournal.{one_list_of_rows}
 
 -- PLACES
@@ -187,8 +187,8 @@ found_loaded {D} {R} disk gs old mid keeps none s reads i n low store own = keep
         let is = is_at gs j g here in
         let es : List Entry = map entry_of (list_at j s) in
         record {
-          rows = keeps.no_more gs Catalogue s.rows read.rows;
-          lists = subst (λ (h : Granularity). Says (Folds h) es (manifest_name (j + 1)) (disk.files old)) is (keeps.no_more gs (Manifest j) es (subst (λ (h : Granularity). Says (Folds h) es (manifest_name (j + 1)) (disk.files mid)) (sym is) read.lists));
+          rows = no_more gs gs Catalogue (disk.files old) (disk.files mid) s.rows (keeps.now.journals Catalogue) read.rows;
+          lists = subst (λ (h : Granularity). Says (Folds h) es (manifest_name (j + 1)) (disk.files old)) is (no_more gs gs (Manifest j) (disk.files old) (disk.files mid) es (keeps.now.journals (Manifest j)) (subst (λ (h : Granularity). Says (Folds h) es (manifest_name (j + 1)) (disk.files mid)) (sym is) read.lists));
           filed = read.filed;
-          files = in_out (disk.files mid) (disk.files old) (tier j s) (numbered j) (λ m other. sym (keeps.elsewhere m other)) read.files;
+          files = in_out (disk.files mid) (disk.files old) (tier j s) (numbered j) (λ m other. sym (keeps.now.elsewhere m other)) read.files;
         }

@@ -196,7 +196,7 @@ module _ {D R : Type 0} (disk : Ghosts D R) (gs : List Granularity) (old mid new
           whole = whole;
           opens = subst (λ (g : List Granularity). Opens g (disk.past new) r.held) same (has_opens disk.tells (loaded disk catalogue ms new) r.held told (has_swept disk catalogue ms mid new (λ t. removes) r.held r.has));
         });
-    elsewhere = λ n other. swept_from finished (disk.files old) (disk.files mid) (disk.files new) (λ m apart. inl (keeps.elsewhere m apart)) removes.now n other;
+    elsewhere = λ n other. swept_from finished (disk.files old) (disk.files mid) (disk.files new) (λ m apart. inl (keeps.now.elsewhere m apart)) removes.now n other;
     stores = passes_then (SweptStores gs (disk.files old)) (OnlyGo (Goes catalogue ms)) (disk.past old) (disk.past mid) (disk.past new)
         (passes_weaker (StillSay gs) (SweptStores gs (disk.files old)) (disk.past old) (disk.past mid) keeps.passes (λ a c left step n other. inl (step.elsewhere n other))) removes.any_moment (λ a b c was one now two. swept_from finished a b c one two);
     unopened = open_unopened disk.tells (loaded disk catalogue ms new) some some told seen (inl (has_swept disk catalogue ms mid new (λ t. removes) some has));
@@ -206,7 +206,7 @@ module _ {D R : Type 0} (disk : Ghosts D R) (gs : List Granularity) (old mid new
   opening_swept gone n stray =
       let is = gone n (stray_in gs (disk.files old) catalogue ms three same count whole of_rows of_lists n stray) in
       let store = stray.stray.store in
-      let kept : disk.files mid n ≡ disk.files old n = keeps.elsewhere n (λ zero_store. absurd (omega (arith, store, zero_store))) in
+      let kept : disk.files mid n ≡ disk.files old n = keeps.now.elsewhere n (λ zero_store. absurd (omega (arith, store, zero_store))) in
       (is.0, λ some. is.1 (subst IsSome (sym kept) some))
 
 -- nothing was swept

@@ -60,6 +60,7 @@ module _ (c : CatalogueState) (ms : List ManifestState) (held : Stores) (rows : 
     stands = of.stands;
     name = of.name;
     type = of.type;
+    single = of.single;
     none = none_held c ms held known (place_of turn) (row_of turn) low_place (subst (λ (p : ℕ). ListNone p (row_of turn) ms) of.here of.none);
   }
 
@@ -70,6 +71,7 @@ module _ (c : CatalogueState) (ms : List ManifestState) (held : Stores) (rows : 
     stands = is.stands;
     name = is.name;
     type = is.type;
+    single = is.single;
     none = subst (λ (p : ℕ). ListNone p (row_of turn) ms) (sym is.here) (none_listed c ms held known (place_of turn) (row_of turn) low_place is.none);
   }
 

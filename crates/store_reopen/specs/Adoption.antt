@@ -8,6 +8,7 @@ use Rattle.disk_model.specs.declared.disk.Disk.{Ghosts}
 use Rattle.etl_rules.specs.Config.{ConfigState}
 use Rattle.event_types.specs.declared.about.About.{About}
 use Rattle.event_types.specs.declared.about.Method.TheVariants.{Monitor}
+use Rattle.event_types.specs.declared.about.State.TheVariants.{Retired}
 use Rattle.found_files.specs.Candidate.{IsCandidate}
 use Rattle.found_files.specs.Reading.{bytes_in}
 use Rattle.found_files.specs.declared.finding.Candidate.{Candidate}
@@ -118,7 +119,13 @@ pub data GetRows (whole : Bool) : List Row → List (List ℕ) → List Unlisted
 abbrev pub ListsNone : ℕ → ℕ → Stores → Type 0
 ListsNone place series s = (k : ℕ) → k ≤ place → All (λ (f : Filed). f.entry.series ≢ series) (list_at k s)
 
--- The row takes this file of the store at the place: it is of its variable and type, and the row lists nothing there and in the stores before.
+-- Only a row whose variable was never renamed takes files: it has no base, and isn't retired. So no row's list grows between those of others.
+pub record IsSingle (row : Row) : Type 0 where
+  pub base : row.base ≡ None
+  pub live : row.state ≢ Retired
+
+-- The row takes this file of the store at the place: it is of its variable and type, the variable was never renamed, and the row lists nothing
+-- there and in the stores before.
 pub record IsTakenBy (held : Stores) (rows : List Row) (series place : ℕ) (x : Unlisted) (c : Candidate) : Type 0 where
   pub found : x.candidate ≡ Some c
   pub here : x.place ≡ place
@@ -126,6 +133,7 @@ pub record IsTakenBy (held : Stores) (rows : List Row) (series place : ℕ) (x :
   pub stands : slice_get rows series ≡ Some row
   pub name : c.name ≡ row.name
   pub type : c.front.info.ty ≡ row.about.ty
+  pub single : IsSingle row
   pub none : ListsNone place series held
 
 -- of these files just those that a row takes of the store at a place, in their order
@@ -255,7 +263,7 @@ IsMarkedOf gs image before after a b = b adoption_name ≡ None → ((a adoption
 -- What a call makes of a disk that tells its files, whatever it answers: it opens it, or adopts too. No file of stores 1 to 3 changes, and of store 0
 -- none but those of journals and the file `adopt`. Files that aren't listed then weren't opened still, so files may be adopted once more.
 pub record Adopts {D R : Type 0} (disk : Ghosts D R) (gs : List Granularity) (old new : D) : Type 0 where
-  pub only : (IsWhole gs (disk.files old) → ⊥) → Reopens disk gs old new × LeavesSite disk old new
+  pub only : (IsWhole gs (disk.files old) → ⊥) → Reopens disk gs old new × LeavesSite disk gs old new
   pub makes : (before after : Stores) → OpensEither gs (disk.past old) before after
       → Reopens disk gs old new ⊎ ((whole : Bool) × AdoptsFrom whole disk gs old new before after)
   pub marked : (before after : Stores) → OpensEither gs (disk.past old) before after

@@ -4,11 +4,10 @@ use Rattle.partition_names.specs.declared.granularity.Granularity.{Granularity}
 use Rattle.partition_names.specs.declared.granularity.Granularity.TheVariants.{Hour}
 use Rattle.disk_model.specs.Files.{Name, Files}
 use Rattle.disk_model.specs.Past.{Past, Passes}
-use Rattle.gate_journal.specs.Generations.{IsOwn}
-use Rattle.gate_journal.specs.Kept.{Says, StillSays}
+use Rattle.gate_journal.specs.Generations.{IsOwn, KeepsBatches}
 use Rattle.store_manifest.specs.declared.entry.Entry.{Entry}
 use Rattle.store_manifest.specs.Batches.{Folds}
-use Rattle.store_manifest.specs.Manifest.{manifest_name}
+use Rattle.store_manifest.specs.Manifest.{StaysOrBegins, manifest_name}
 use Rattle.pv_catalog.specs.declared.row.Row.{Row}
 use Rattle.pv_catalog.specs.Catalogue.{catalogue_name}
 use Rattle.pv_catalog.specs.Rows.{IsCatalogue}
@@ -37,18 +36,20 @@ abbrev pub Means : List Granularity → (j : Journal) → List (List ℕ) → Va
 Means gs Catalogue = IsCatalogue
 Means gs (Manifest i) = Folds (granularity_at gs i)
 
--- each journal of an image still says what it said, and nothing else, and every file that is none of theirs is as it was
+-- A journal holds the batches that it held, and none where it held none. A manifest without a batch may have got its first: it lists nothing still.
+abbrev pub KeepsJournal : List Granularity → Journal → Files → Files → Type 0
+KeepsJournal gs Catalogue old new = KeepsBatches catalogue_name old new
+KeepsJournal gs (Manifest i) old new = StaysOrBegins (granularity_at gs i) (manifest_name (i + 1)) old new
+
+-- so it is of each journal of an image, and every file that is none of theirs is as it was
 pub record StillSay (gs : List Granularity) (old new : Files) : Type 0 where
-  pub journals : (j : Journal) → StillSays (Means gs j) (name_of j) old new
+  pub journals : (j : Journal) → KeepsJournal gs j old new
   pub elsewhere : (n : Name) → n.0 ≢ 0 → new n ≡ old n
   pub others : (n : Name) → ((j : Journal) → IsOwn (name_of j) n → ⊥) → new n ≡ old n
 
--- Whatever a crash leaves, the journals say what they said; reads give so too, and nothing more. Every file that is none of theirs is as it was.
+-- Whatever a crash leaves, the journals say what they said, and reads give so too. Every file that is none of theirs is as it was.
 pub record KeepsSaid (gs : List Granularity) (files : Files) (opened : Name → ℕ) (old : Past) (later : Files) (after : Name → ℕ) (new : Past) : Type 0 where
   pub passes : Passes (StillSay gs) old new
-  pub elsewhere : (n : Name) → n.0 ≢ 0 → later n ≡ files n
-  pub others : (n : Name) → ((j : Journal) → IsOwn (name_of j) n → ⊥) → later n ≡ files n
-  pub said : (j : Journal) (value : Value j) → Says (Means gs j) value (name_of j) files → Says (Means gs j) value (name_of j) later
-  pub no_more : (hs : List Granularity) (j : Journal) (value : Value j) → Says (Means hs j) value (name_of j) later → Says (Means hs j) value (name_of j) files
+  pub now : StillSay gs files later
   pub same_opened : (n : Name) → n.0 ≢ 0 → after n ≡ opened n
   pub none_opened : (j : Journal) → NoneOpened (name_of j) opened → NoneOpened (name_of j) after

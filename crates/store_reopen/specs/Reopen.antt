@@ -25,7 +25,7 @@ use Rattle.store_reopen.specs.OneJournal.{NoneOpened}
 use Rattle.store_reopen.specs.declared.error.ReopenErr.{ReopenErr}
 use Rattle.store_reopen.specs.declared.error.ReopenErr.TheVariants.{DiskFault, Damaged, GranularityDiffers, Memory}
 use Rattle.store_reopen.specs.Leaving.{Leaves}
-use Rattle.store_reopen.specs.Loading.{Journal, granularity_at, name_of}
+use Rattle.store_reopen.specs.Loading.{Journal, KeepsJournal, granularity_at, name_of}
 use Rattle.store_reopen.specs.Verdict.{Listings, HasRow, IsWhole}
 use Rattle.store_reopen.specs.Strays.{AreGone, IsStray, SweptStores, adoption_name}
 
@@ -107,14 +107,16 @@ OnlySite old new = (n : Name) → IsNoJournals n → n ≢ adoption_name → new
 abbrev pub ChangesSite : {D R : Type 0} → Ghosts D R → D → D → Type 0
 ChangesSite {D} {R} disk old new = Leaves disk OnlySite old new
 
--- of store 0 the file `adopt` is as it was, and so is every other one that is no journal's
-pub record KeepsSite (old new : Files) : Type 0 where
+-- Of store 0 the file `adopt` is as it was, and so is every other one that is no journal's. Each journal holds the batches that it held, and none where
+-- it held none; but a manifest without a batch may have got its first.
+pub record KeepsSite (gs : List Granularity) (old new : Files) : Type 0 where
   pub adoption : new adoption_name ≡ old adoption_name
   pub others : (n : Name) → n.0 ≡ 0 → IsNoJournals n → new n ≡ old n
+  pub journals : (j : Journal) → KeepsJournal gs j old new
 
 -- so reads give it, and so a crash leaves it at any moment
-abbrev pub LeavesSite : {D R : Type 0} → Ghosts D R → D → D → Type 0
-LeavesSite {D} {R} disk old new = KeepsSite (disk.files old) (disk.files new) × Passes KeepsSite (disk.past old) (disk.past new)
+abbrev pub LeavesSite : {D R : Type 0} → Ghosts D R → List Granularity → D → D → Type 0
+LeavesSite {D} {R} disk gs old new = KeepsSite gs (disk.files old) (disk.files new) × Passes (KeepsSite gs) (disk.past old) (disk.past new)
 
 -- none but those of journals change, and none is opened further
 abbrev pub ChangesJournals : {D R : Type 0} → Ghosts D R → D → D → Type 0

@@ -5,7 +5,7 @@ use Rattle.found_files.specs.declared.finding.Candidate.{Candidate}
 use Rattle.pv_catalog.specs.declared.row.Row.{Row}
 use Rattle.store_manifest.specs.Manifest.{ManifestState}
 use Rattle.store_manifest.specs.declared.entry.Entry.{Entry}
-use Rattle.store_reopen.specs.Adoption.{capped, place_of, row_of}
+use Rattle.store_reopen.specs.Adoption.{IsSingle, capped, place_of, row_of}
 use Rattle.store_reopen.specs.declared.adopted.Adopted.{Adopted}
 use Rattle.store_reopen.specs.declared.finding.Taken.{Taken}
 use Rattle.store_reopen.specs.declared.finding.Unlisted.{Unlisted}
@@ -21,6 +21,7 @@ pub record IsOfTurn (manifests : List ManifestState) (rows : List Row) (turn pla
   pub stands : slice_get rows (row_of turn) ≡ Some row
   pub name : c.name ≡ row.name
   pub type : c.front.info.ty ≡ row.about.ty
+  pub single : IsSingle row
   pub none : ListNone place (row_of turn) manifests
 
 -- what a turn has is what it had, with the file where it takes it

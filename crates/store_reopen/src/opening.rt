@@ -66,11 +66,12 @@ pub fn reopen<D: Disk>(
         → Differs (stores_of config.now) (D.files disk) kept asked }
 
     // No stray is left, where no adoption is unfinished. A crash at any moment leaves what the image held, and the disk can be opened again.
-    // Of store 0 the file `adopt` stays as it is, and so does every other one that is no journal's.
+    // Of store 0 the file `adopt` stays as it is, and so does every other one that is no journal's. Journals keep their batches, also where the image
+    // is refused.
     ensures swept { IsTrue D.tells → IfOk result (λ s. IsSwept (stores_of config.now) (D.files disk) (D.files s.disk) (D.past s.disk)) }
     ensures tidy { IsTrue D.tells → D.files disk adoption_name ≡ None → IfOk result (λ s. HaveNoStray (seen_all D.Disk s)) }
     ensures sweeps { IsTrue D.tells → Sweeps D.Disk (stores_of config.now) disk (disk_of result) }
-    ensures site { IsTrue D.tells → LeavesSite D.Disk disk (disk_of result) }
+    ensures site { IsTrue D.tells → LeavesSite D.Disk (stores_of config.now) disk (disk_of result) }
     ensures faults { D.faults disk ≤ D.faults (disk_of result) }
     ensures cause { (d : D) → result ≡ Err (DiskFault d) → Rose (D.faults disk) (D.faults d) }
 {
@@ -111,9 +112,9 @@ pub fn open_to_read<D: Disk>(
         → Differs (stores_of config.now) (D.files disk) kept asked }
 
     // A crash at any moment leaves what the image held, and the disk can be opened again. The file `adopt` and all others of store 0 that are
-    // no journals' stay.
+    // no journals' stay, and journals keep their batches.
     ensures reopens { IsTrue D.tells → Reopens D.Disk (stores_of config.now) disk (disk_of result) }
-    ensures site { IsTrue D.tells → LeavesSite D.Disk disk (disk_of result) }
+    ensures site { IsTrue D.tells → LeavesSite D.Disk (stores_of config.now) disk (disk_of result) }
     ensures faults { D.faults disk ≤ D.faults (disk_of result) }
     ensures cause { (d : D) → result ≡ Err (DiskFault d) → Rose (D.faults disk) (D.faults d) }
 {
@@ -148,7 +149,7 @@ fn open_stores<D: Disk>(
     ensures swept { IsTrue D.tells → OnOk result (IsSwept (stores_of config.now) (D.files disk.old) (D.files disk.new) (D.past disk.new)) }
     ensures gone { IsTrue D.tells → D.files disk.old adoption_name ≡ None → IfOk result (λ r. (n : Name) → IsStrayBelow 3 r.0.rows r.1.items n → D.files disk.new n ≡ None) }
     ensures sweeps { IsTrue D.tells → Sweeps D.Disk (stores_of config.now) disk.old disk.new }
-    ensures site { IsTrue D.tells → LeavesSite D.Disk disk.old disk.new }
+    ensures site { IsTrue D.tells → LeavesSite D.Disk (stores_of config.now) disk.old disk.new }
     ensures faults { D.faults disk.old ≤ D.faults disk.new }
     ensures cause { result ≡ Err (OfDisk Fault) → Rose (D.faults disk.old) (D.faults disk.new) }
 {
@@ -175,7 +176,7 @@ fn load_and_sweep<D: Disk>(
     ensures swept { IsTrue D.tells → OnOk result (IsSwept (stores_of config.now) (D.files disk.old) (D.files disk.new) (D.past disk.new)) }
     ensures gone { IsTrue D.tells → D.files disk.old adoption_name ≡ None → IfOk result (λ r. (n : Name) → IsStrayBelow 3 r.0.rows r.1.items n → D.files disk.new n ≡ None) }
     ensures sweeps { IsTrue D.tells → Sweeps D.Disk (stores_of config.now) disk.old disk.new }
-    ensures site { IsTrue D.tells → LeavesSite D.Disk disk.old disk.new }
+    ensures site { IsTrue D.tells → LeavesSite D.Disk (stores_of config.now) disk.old disk.new }
     ensures faults { D.faults disk.old ≤ D.faults disk.new }
     ensures cause { result ≡ Err (OfDisk Fault) → Rose (D.faults disk.old) (D.faults disk.new) }
 {

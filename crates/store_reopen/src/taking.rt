@@ -1,16 +1,18 @@
 // Which row takes which file that no manifest lists.
 ghost use Rattle.std.specs.Prelude.{◌≡◌, ◌≤◌, ◌<◌, ◌+◌, ◌*◌, ◌↔◌, ℕ, List, All, IfOk, IfSome, IsTrue, OnOk, Some, length, slice_get};
-ghost use Rattle.pv_catalog.specs.declared.row.Row.{Row};
+ghost use Rattle.pv_catalog.specs.declared.row.Row.{Row as RowValue};
 ghost use Rattle.store_manifest.specs.Manifest.{ManifestState};
+ghost use Rattle.store_reopen.specs.Adoption.{IsSingle};
 ghost use Rattle.store_reopen.specs.Finding.{IsOfPlace};
 ghost use Rattle.store_reopen.specs.Listing.{AtEachTurn, turns_of};
 ghost use Rattle.store_reopen.specs.Turns.{IsOfTurn, ListNone, TakesIn, TakesOf, all_taken};
 ghost use Rattle.store_reopen.specs.declared.finding.Taken.{Taken as TakenValue};
 
 use crate::finding::{Taken, Unlisted};
+use event_types::State;
 use found_files::Candidate;
 use pb_wire::PayloadType;
-use pv_catalog::Catalogue;
+use pv_catalog::{Catalogue, Row};
 use std::alloc::{AllocError, Global};
 use store_manifest::Manifest;
 
@@ -90,8 +92,11 @@ fn turn_of(
     ensures only { (turn : ℕ) → IsOfTurn manifests.now catalogue.now.rows turn place candidate.now → result ≡ Some turn }
 {
     let row = catalogue.find(candidate.name.bytes())?;
-    let ty = catalogue.rows()[row as usize].about.ty;
-    if !is_type(candidate.front.info.ty, ty) {
+    let found = &catalogue.rows()[row as usize];
+    if !is_type(candidate.front.info.ty, found.about.ty) {
+        return None;
+    }
+    if !is_single(found) {
         return None;
     }
     if !list_none(manifests, place, row) {
@@ -104,6 +109,13 @@ fn is_type(ty: PayloadType, other: PayloadType) -> bool
     ensures { IsTrue result ↔ (ty ≡ other) }
 {
     ty == other
+}
+
+// Whether a row's variable was never renamed.
+fn is_single(row: &Row) -> bool
+    ensures { IsTrue result ↔ IsSingle row.now }
+{
+    row.base.is_none() && row.state != State::Retired
 }
 
 // Whether no manifest at this place and before it lists a file of a row.

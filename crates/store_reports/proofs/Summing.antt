@@ -22,8 +22,8 @@ use Rattle.durable_write.specs.Plan.{of_row}
 use Rattle.tier_store.specs.Change.{Has}
 use Rattle.tier_store.specs.Pinning.{entries_of}
 use Rattle.tier_store.specs.Seen.{Seen, seen}
-use Rattle.tier_store.specs.Stores.{Stores, samples_in}
-use Rattle.tier_store.specs.Tallying.{RiseFrom, entries_in, listed_count}
+use Rattle.tier_store.specs.Stores.{Stores, whole_in}
+use Rattle.tier_store.specs.Tallying.{RiseFrom, entries_of_line, listed_count}
 use Rattle.tier_store.specs.declared.store.TierStore.{TierStore}
 use Rattle.store_reports.specs.declared.summary.StatusErr.{StatusErr}
 use Rattle.store_reports.specs.declared.summary.StatusErr.TheVariants.{SinkFault, DiskFault, OutOfMemory}
@@ -104,16 +104,16 @@ module _ (tells : Bool) (at : Seen) (held : Stores) (has : Has tells at held) (s
   held_is : (i : ℕ) (line : List ℕ) (row : Row) → slice_get at.catalogue.rows i ≡ Some row → IsLine tells at i line → line ≡ held_line held i row
   held_is i line row here is =
       let same : is.row ≡ row = same_Some is.row row (sym is.here ∙ here) in
-      let count : is.count ≡ length (samples_in i held) = is.is.held told held has stands in
+      let count : is.count ≡ length (whole_in i held) = is.is.held told held has stands in
       let short : files_of 0 i at ≡ length (of_row i held.short) = own_number tells at held has 0 i (omega arith) in
       let medium : files_of 1 i at ≡ length (of_row i held.medium) = own_number tells at held has 1 i (omega arith) in
       let long : files_of 2 i at ≡ length (of_row i held.long) = own_number tells at held has 2 i (omega arith) in
       is.text
       ∙ (ap (λ (r : Row). row_line r is.count (files_of 0 i at) (files_of 1 i at) (files_of 2 i at)) same
       ∙ (ap (λ (n : ℕ). row_line row n (files_of 0 i at) (files_of 1 i at) (files_of 2 i at)) count
-      ∙ (ap (λ (n : ℕ). row_line row (length (samples_in i held)) n (files_of 1 i at) (files_of 2 i at)) short
-      ∙ (ap (λ (n : ℕ). row_line row (length (samples_in i held)) (length (of_row i held.short)) n (files_of 2 i at)) medium
-      ∙ ap (λ (n : ℕ). row_line row (length (samples_in i held)) (length (of_row i held.short)) (length (of_row i held.medium)) n) long))))
+      ∙ (ap (λ (n : ℕ). row_line row (length (whole_in i held)) n (files_of 1 i at) (files_of 2 i at)) short
+      ∙ (ap (λ (n : ℕ). row_line row (length (whole_in i held)) (length (of_row i held.short)) n (files_of 2 i at)) medium
+      ∙ ap (λ (n : ℕ). row_line row (length (whole_in i held)) (length (of_row i held.short)) (length (of_row i held.medium)) n) long))))
 
   front_from : (i : ℕ) (rows : List Row) (lines : List (List ℕ)) → ((k : ℕ) → slice_get rows k ≡ slice_get at.catalogue.rows (i + k)) → AreLines tells at i lines → IsFront lines rows (lines_from i rows (held_line held))
   front_from i [] [] shift are = record { rest = []; is = refl; all = λ same. refl }
@@ -157,6 +157,8 @@ module _ {D R : Type 0} (disk : Ghosts D R) where
   pub line_before : {A E : Type 0} (old new : TierStore D R) (end : End A E) (i : ℕ) (line : List ℕ) → KeepsStores disk old new end → IsLine disk.tells (seen disk new) i line → IsLine disk.tells (seen disk old) i line
   line_before old new end i line kept is =
       let lists : ◌≡◌ {A = List ManifestState} new.manifests.items old.manifests.items = ap (λ m. m.items) kept.manifests in
+      let entries : entries_of_line i new.catalogue.rows new.manifests.items ≡ entries_of_line i old.catalogue.rows old.manifests.items =
+      ap (λ (c : CatalogueState). entries_of_line i c.rows new.manifests.items) kept.catalogue ∙ ap (entries_of_line i old.catalogue.rows) lists in
       let files : (k : ℕ) → files_of k i (seen disk new) ≡ files_of k i (seen disk old) = λ k. ap (λ (ms : List ManifestState). length (entries_of i (slice_get ms k))) lists in
       record {
         row = is.row;
@@ -164,7 +166,7 @@ module _ {D R : Type 0} (disk : Ghosts D R) where
         count = is.count;
         is = record {
           held = λ told held has stands. is.is.held told held (kept.has held has) stands;
-          listed = subst (λ (ms : List ManifestState). RiseFrom 0 (entries_in i ms) → is.count ≡ listed_count (entries_in i ms)) lists is.is.listed;
+          listed = subst (λ (es : List Entry). RiseFrom 0 es → is.count ≡ listed_count es) entries is.is.listed;
         };
         text =
             is.text

@@ -17,8 +17,8 @@ use Rattle.durable_write.specs.Plan.{of_row}
 use Rattle.tier_store.specs.Change.{Has}
 use Rattle.tier_store.specs.Pinning.{entries_of}
 use Rattle.tier_store.specs.Seen.{Seen}
-use Rattle.tier_store.specs.Stores.{Stores, samples_in}
-use Rattle.tier_store.specs.Tallying.{RiseFrom, entries_in, listed_count}
+use Rattle.tier_store.specs.Stores.{Stores, whole_in}
+use Rattle.tier_store.specs.Tallying.{RiseFrom, entries_of_line, listed_count}
 use Rattle.store_reports.specs.declared.summary.StatusErr.{StatusErr}
 use Rattle.store_reports.specs.declared.summary.StatusErr.TheVariants.{SinkFault, DiskFault, OutOfMemory}
 
@@ -29,7 +29,7 @@ state_name Running = codes "running"
 state_name Paused = codes "paused"
 state_name Retired = codes "retired"
 
--- the row's line, where so many samples are held of it, in so many files of stores 1, 2 and 3
+-- the row's line, where so many samples are held of its variable up to its name, and stores 1, 2 and 3 list so many files of the row itself
 abbrev pub row_line : Row → ℕ → ℕ → ℕ → ℕ → List ℕ
 row_line row samples short medium long =
     row.name ++ codes " " ++ (row_of row.about.ty).name ++ codes " " ++ state_name row.state ++ codes " samples " ++ decimal samples ++ codes " files " ++ decimal short ++ codes " " ++ decimal medium ++ codes " " ++ decimal long ++ codes "\n"
@@ -39,20 +39,20 @@ abbrev pub lines_from : ℕ → List Row → (ℕ → Row → List ℕ) → List
 lines_from id [] line = []
 lines_from id (row ∷ rows) line = line id row ++ lines_from (id + 1) rows line
 
--- by what is held: the samples that the three stores hold over one another, and the files that each lists
+-- by what is held: the samples of the whole of the row, and the files that each store lists of the row itself
 abbrev pub held_line : Stores → ℕ → Row → List ℕ
-held_line held id row = row_line row (length (samples_in id held)) (length (of_row id held.short)) (length (of_row id held.medium)) (length (of_row id held.long))
+held_line held id row = row_line row (length (whole_in id held)) (length (of_row id held.short)) (length (of_row id held.medium)) (length (of_row id held.long))
 
 abbrev pub status_text : Stores → List ℕ
 status_text held = lines_from 0 held.rows (held_line held)
 
 -- WHAT IS TOLD OF ANY STORES
 
--- The number that is told of a row's samples. Where a disk tells its files and what is held stands, it is that of those that are held.
--- Where by their entries the files rise in the order in which they are read, it is the one that the entries say.
+-- The number that is told of the samples of the whole of a row. Where a disk tells its files and what is held stands, it is that of those
+-- that are held. Where by their entries the files rise in the order in which they are read, it is the one that the entries say.
 pub record IsCount (tells : Bool) (at : Seen) (i n : ℕ) : Type 0 where
-  pub held : IsTrue tells → (held : Stores) → Has tells at held → IsTrue held.stands → n ≡ length (samples_in i held)
-  pub listed : RiseFrom 0 (entries_in i at.manifests) → n ≡ listed_count (entries_in i at.manifests)
+  pub held : IsTrue tells → (held : Stores) → Has tells at held → IsTrue held.stands → n ≡ length (whole_in i held)
+  pub listed : let entries = entries_of_line i at.catalogue.rows at.manifests in RiseFrom 0 entries → n ≡ listed_count entries
 
 -- how many files the store at a place lists of a row
 abbrev pub files_of : ℕ → ℕ → Seen → ℕ

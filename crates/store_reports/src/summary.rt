@@ -59,11 +59,11 @@ impl From<AllocError> for StatusErr {
 }
 
 /// Writes one line for each row, in the order of registration: `NAME TYPE STATE samples COUNT files F1 F2 F3`. COUNT is how many samples
-/// the three stores hold of the row over one another, so that one that two of them list counts once; F1 to F3 are the numbers of its
-/// files that they list. It needs that no change stands in doubt.
+/// the three stores hold of the variable under all its names up to the row's, one that two of them list counted once; F1 to F3 are the
+/// numbers of the row's own files that they list. It needs that no change stands in doubt.
 ///
-/// A file is read only where a later store's samples reach into it. So whatever somebody else has damaged, COUNT is what the entries say
-/// of a row of which each file begins behind those of the later stores, and behind those of its own store before it.
+/// A file is read only where samples that are read before it reach into it. So whatever somebody else has damaged, COUNT is what the entries
+/// say where each file begins behind those of the rows of earlier names, of the later stores, and of its own store before it.
 ///
 /// It stops at its first fault. What was gathered goes out, and where that fails it is told.
 pub fn status<D: Disk, K: Sink>(

@@ -47,4 +47,5 @@ pub mod Staying
 pub mod Strays
 pub mod There
 pub mod WholeCalls
+pub mod Wholes
 pub mod WithoutLimbo

@@ -1,45 +1,40 @@
--- Which files of a row are pinned: what the memory lists is what is held, and what is chosen of it is enough for a query.
-use Rattle.std.proofs.Common.{◌≡◌, Bool, true, false, ℕ, ◌+◌, ◌*◌, ◌^◌, ◌<◌, ◌≤◌, List, [], ◌∷◌, ◌++◌, length, arith, length-append, ◌⊎◌, inl, inr, max, cond, ap, sym, ◌∙◌, subst, append_assoc, map, get_or, Option, Some, None, take, refl, append-nil, replicate, Ok, Err}
-use Rattle.std.specs.Prelude.{All, nat_eq, if◌then◌else◌, nat_le, Contains, IsTrue, filter, nat_lt, ◌&&◌, slice_get, IsSome, IfOk, IfErr, Result}
+-- Which files of a variable are pinned: what the memory lists is what is held, and what is chosen of it is enough for a query.
+use Rattle.std.proofs.Common.{◌≡◌, Bool, true, false, ℕ, ◌+◌, ◌^◌, ◌<◌, ◌≤◌, List, [], ◌∷◌, ◌++◌, length, arith, length-append, ◌⊎◌, inl, inr, max, cond, ap, sym, ◌∙◌, subst, append_assoc, map, get_or, Option, Some, None, take, refl, append-nil, replicate, Ok, Err}
+use Rattle.std.specs.Prelude.{All, nat_eq, nat_le, Contains, IsTrue, filter, nat_lt, ◌&&◌, slice_get, IsSome, IfOk, IfErr, Result}
 use Rattle.std.specs.List.{AllByRecursion, flat_map}
 use Rattle.std.proofs.lemmas.Bool.Decides.{nat_tests, Decides-eqb}
-use Rattle.std.proofs.lemmas.List.{length-map, map-append, take_more, length-replicate, length-take}
+use Rattle.std.proofs.lemmas.List.{flat_map_more, map-append, take_more, length-replicate, length-take}
 use Rattle.std.proofs.lemmas.List.Elements.{All-filter, All-head, All-tail, All-append, All-contains, All-map, Contains-append_left, Contains-append_right, Contains-get_or, filter-append, filter_passes}
 use Rattle.act_model.specs.Rows.{Short, Medium, Long, Store}
-use Rattle.arch_time.specs.Calendar.{days_in_year, is_leap_year}
 use Rattle.partition_names.specs.declared.granularity.Granularity.{Granularity}
-use Rattle.partition_names.specs.declared.granularity.Granularity.TheVariants.{FiveMinutes, FifteenMinutes, ThirtyMinutes, Hour, Day, Month, Year}
-use Rattle.partition_names.specs.declared.part.Part.{Part}
-use Rattle.partition_names.specs.Part.{IsPart}
-use Rattle.partition_names.proofs.PartLemmas.{within}
 use Rattle.pv_catalog.specs.Catalogue.{CatalogueState}
+use Rattle.pv_catalog.specs.Lines.{line}
 use Rattle.pv_catalog.specs.declared.row.Row.{Row}
+use Rattle.pv_catalog.proofs.Lines.{line_low}
 use Rattle.store_manifest.specs.Manifest.{ManifestState}
-use Rattle.durable_write.specs.Held.{Filed, IsListed, IsFiled, bytes_of, entry_of, samples_of, file_of}
-use Rattle.durable_write.specs.Flush.{PlacesRise}
+use Rattle.durable_write.specs.Held.{Filed, IsFiled, bytes_of, entry_of, samples_of, file_of}
 use Rattle.durable_write.specs.Plan.{of_row}
-use Rattle.durable_write.proofs.Listed.{rise_filter}
-use Rattle.durable_write.proofs.PutFile.{Comes}
 use Rattle.tier_store.specs.Change.{IsKnown, IsKnownAt, Has, IsListedIn}
-use Rattle.tier_store.specs.Pinning.{files_in, placed, placed_at, AreEnough, Placed, entries_of, files_to, has_bytes, listed_in, listed_of, piece_of, state_of, HasNoName, IsPinned, PinsOf, SaysPinned, found, is_pinned, none_has, unknown}
-use Rattle.tier_store.specs.Stores.{Stores, tier, samples_in}
+use Rattle.tier_store.specs.Pinning.{files_in, files_of_line, placed, placed_at, AreEnough, Placed, entries_of, files_to, has_bytes, listed_in, listed_of, listed_of_line, piece_of, state_of, HasNoName, IsPinned, PinsOf, SaysPinned, found, is_pinned, none_has, unknown}
+use Rattle.tier_store.specs.Stores.{Stores, list_at, overs, samples_in, tier, whole_in}
 use Rattle.tier_store.proofs.Places.{manifest_at}
-use Rattle.tier_store.proofs.Rising.{own_series, parts_apart, row_rises}
+use Rattle.tier_store.proofs.Rising.{row_rises}
 use Rattle.std.proofs.lemmas.Grind.{flat_map-append}
 use Rattle.pb_lines.proofs.FileLines.{all-append, all_front, all_rest}
 use Rattle.series_model.specs.declared.sample.Sample.{Sample}
 use Rattle.series_model.specs.declared.sample.Query.{Query}
 use Rattle.series_model.specs.Series.{end_from, end_of, IsRising, RisesFrom, before, over, taken, taken_from}
 use Rattle.series_model.specs.Retrieval.{answer, reach}
-use Rattle.series_model.proofs.RisingLists.{end_from-append, RisesFrom-lower, RisesFrom-taken_from, taken_from-rising, taken_from-append, taken_over, taken_of_rising}
+use Rattle.series_model.proofs.RisingLists.{end_from-append, RisesFrom-lower, RisesFrom-taken_from, taken_from-rising, taken_from-append, taken_over}
 use Rattle.series_model.proofs.AnswerLemmas.{answer_of_front, answer_of_rest}
-use Rattle.series_model.proofs.OverLemmas.{end_from-since}
+use Rattle.series_model.proofs.OverLemmas.{end_from-since, over_assoc, over_rising}
 use Rattle.act_model.specs.Limbo.{FileState}
 use Rattle.act_model.specs.Pin.{over_pieces}
 use Rattle.std.proofs.lemmas.Bool.{cases_lt}
 use Rattle.act_model.specs.Rule.{index_of}
 use Rattle.pb_lines.specs.File.{lines_of}
-use Rattle.piece_choice.specs.Choosing.{IsChosen, StartsBehind, StartsPast, ends_before, listed}
+use Rattle.piece_choice.specs.Choosing.{IsChoice, IsChosen, StartsBehind, StartsPast, ends_before, listed}
+use Rattle.piece_choice.specs.declared.choosing.Choice.{Choice}
 use Rattle.piece_choice.specs.declared.choosing.Listed.{Listed}
 use Rattle.pinned_pieces.specs.declared.piece.PinnedFile.{PinnedFile}
 use Rattle.store_manifest.specs.declared.entry.Entry.{Entry}
@@ -64,81 +59,6 @@ use Rattle.tier_store.specs.declared.limbo.Retired.{Retired}
 use Rattle.tier_store.specs.Seen.{Seen}
 use Rattle.tier_store.specs.Telling.{SaysOf}
 use Rattle.tier_store.proofs.There.{file_there, listed_file}
-
--- A row has few files: in a store their partitions stand one behind another, and the calendar's years have only so many
-
-some_days : (y : ℕ) → 1 ≤ days_in_year y
-some_days y = by_test (is_leap_year y)
-  where
-    by_test : (b : Bool) → 1 ≤ (if b then 366 else 365)
-    by_test true = omega arith
-    by_test false = omega arith
-
--- a partition lasts five minutes at least
-part_lasts : (g : Granularity) (p : Part) → IsPart g p → p.start + 300_000_000_000 ≤ p.end
-part_lasts FiveMinutes p (from, is) = let end = is.end in omega (arith, end)
-part_lasts FifteenMinutes p (from, is) = let end = is.end in omega (arith, end)
-part_lasts ThirtyMinutes p (from, is) = let end = is.end in omega (arith, end)
-part_lasts Hour p (from, is) = let end = is.end in omega (arith, end)
-part_lasts Day p (from, is) = let end = is.end in omega (arith, end)
-part_lasts Month p (from, is) = let end = is.end in let day = is.unit.exists.date.day in omega (arith, end, day.0, day.1)
-part_lasts Year p (from, is) = let end = is.end in let days = some_days from.year in omega (arith, end, days)
-
--- the files start at n or behind it
-abbrev StartFrom : ℕ → List Filed → Type 0
-StartFrom n fs = AllByRecursion (λ (f : Filed). n ≤ f.entry.part.start) fs
-
-abbrev Own : ℕ → List Filed → Type 0
-Own row fs = AllByRecursion (λ (f : Filed). f.entry.series ≡ row) fs
-
-start_behind : (g : Granularity) (rows : List Row) (row : ℕ) (f : Filed) (fs : List Filed) → IsListed g rows f → f.entry.series ≡ row → All (IsListed g rows) fs → Own row fs → All (Comes f) fs → StartFrom f.entry.part.end fs
-start_behind g rows row f [] is own listed owns comes = tt
-start_behind g rows row f (h ∷ fs) is own listed owns comes =
-    let own₂ = owns.0 in
-    let behind : Comes f h = All-head (Comes f) h fs comes in
-    let lt : f.entry.part.start < h.entry.part.start = grind (arith, nat_tests) in
-    (parts_apart g f.entry.part h.entry.part is.part (All-head (IsListed g rows) h fs listed).part lt, start_behind g rows row f fs is own (All-tail (IsListed g rows) h fs listed) owns.1 (All-tail (Comes f) h fs comes))
-
-fit_behind : (g : Granularity) (rows : List Row) (row n : ℕ) (fs : List Filed) → All (IsListed g rows) fs → PlacesRise fs → Own row fs → StartFrom n fs → n ≤ 16_725_225_600_000_000_000 → n + length fs * 300_000_000_000 ≤ 16_725_225_600_000_000_000
-fit_behind g rows row n [] listed rise own low fits = omega (arith, fits)
-fit_behind g rows row n (f ∷ fs) listed rise own low fits =
-    let is = All-head (IsListed g rows) f fs listed in
-    let others = All-tail (IsListed g rows) f fs listed in
-    let lasts = part_lasts g f.entry.part is.part in
-    let ends = (within g f.entry.part is.part).2 in
-    let le = low.0 in
-    let rest : f.entry.part.end + length fs * 300_000_000_000 ≤ 16_725_225_600_000_000_000 = fit_behind g rows row f.entry.part.end fs others rise.1 own.1 (start_behind g rows row f fs is own.0 others own.1 rise.0) (omega (arith, ends)) in
-    omega (arith, rest, lasts, le)
-
-start_from_zero : (fs : List Filed) → StartFrom 0 fs
-start_from_zero [] = tt
-start_from_zero (f ∷ fs) = (omega arith, start_from_zero fs)
-
-few_of : (row : ℕ) (m : ManifestState) (place : ℕ) (held : Stores) → IsKnownAt m (tier place held) → length (of_row row (tier place held).files) * 300_000_000_000 ≤ 16_725_225_600_000_000_000
-few_of row m place held known =
-    let test : Filed → Bool = λ f. nat_eq f.entry.series row in
-    let files = (tier place held).files in
-    let fits = fit_behind m.granularity held.rows row 0 (of_row row files) (All-filter test (IsListed m.granularity held.rows) files known.valid.filed.listed) (rise_filter test files known.valid.apart) (own_series row files) (start_from_zero (of_row row files)) (omega arith) in
-    omega (arith, fits)
-
-pub few_files : (c : CatalogueState) (ms : List ManifestState) (held : Stores) (row : ℕ) → IsKnown c ms held → length (files_in row held) < 2 ^ 32
-few_files c ms held row known =
-    let three = known.three in
-    let m = manifest_at ms 2 (omega (arith, three)) in
-    let n = manifest_at ms 1 (omega (arith, three)) in
-    let o = manifest_at ms 0 (omega (arith, three)) in
-    let long : length (of_row row held.long) * 300_000_000_000 ≤ 16_725_225_600_000_000_000 = few_of row m.0 2 held (known.each 2 m.0 m.1) in
-    let medium : length (of_row row held.medium) * 300_000_000_000 ≤ 16_725_225_600_000_000_000 = few_of row n.0 1 held (known.each 1 n.0 n.1) in
-    let short : length (of_row row held.short) * 300_000_000_000 ≤ 16_725_225_600_000_000_000 = few_of row o.0 0 held (known.each 0 o.0 o.1) in
-    let a = placed Long row held.long in
-    let b = placed Medium row held.medium in
-    let d = placed Short row held.short in
-    let whole = length-append (a ++ b) d in
-    let both = length-append a b in
-    let one : length a ≡ length (of_row row held.long) = length-map (of_row row held.long) (placed_at Long) in
-    let two : length b ≡ length (of_row row held.medium) = length-map (of_row row held.medium) (placed_at Medium) in
-    let last : length d ≡ length (of_row row held.short) = length-map (of_row row held.short) (placed_at Short) in
-    omega (arith, whole, both, one, two, last, long, medium, short)
 
 -- Pieces over one another, and which of them may stay closed
 
@@ -269,31 +189,6 @@ listed_files : (store : Store) (fs : List Filed) → listed (index_of store + 1)
 listed_files store [] = refl
 listed_files store (f ∷ fs) = ap (λ (l : List Listed). listed_of (placed_at store f) ∷ l) (listed_files store fs)
 
-listed_here : (ms : List ManifestState) (k : ℕ) (m : ManifestState) (row : ℕ) (store : Store) (files : List Filed) → slice_get ms k ≡ Some m → m.entries ≡ map entry_of files → listed (index_of store + 1) (entries_of row (slice_get ms k)) ≡ map listed_of (placed store row files)
-listed_here ms k m row store files here entries =
-    let test : Entry → Bool = λ e. nat_eq e.series row in
-    ap (λ (o : Option ManifestState). listed (index_of store + 1) (entries_of row o)) here
-    ∙ ap (λ (es : List Entry). listed (index_of store + 1) (filter test es)) entries
-    ∙ ap (listed (index_of store + 1)) (filter-map test files)
-    ∙ listed_files store (of_row row files)
-
--- is what is held
-pub all_listed : (c : CatalogueState) (ms : List ManifestState) (held : Stores) (row : ℕ) → IsKnown c ms held → listed_in row ms ≡ map listed_of (files_in row held)
-all_listed c ms held row known =
-    let three = known.three in
-    let m = manifest_at ms 2 (omega (arith, three)) in
-    let n = manifest_at ms 1 (omega (arith, three)) in
-    let o = manifest_at ms 0 (omega (arith, three)) in
-    let long : listed 3 (entries_of row (slice_get ms 2)) ≡ map listed_of (placed Long row held.long) = listed_here ms 2 m.0 row Long held.long m.1 (known.each 2 m.0 m.1).entries in
-    let medium : listed 2 (entries_of row (slice_get ms 1)) ≡ map listed_of (placed Medium row held.medium) = listed_here ms 1 n.0 row Medium held.medium n.1 (known.each 1 n.0 n.1).entries in
-    let short : listed 1 (entries_of row (slice_get ms 0)) ≡ map listed_of (placed Short row held.short) = listed_here ms 0 o.0 row Short held.short o.1 (known.each 0 o.0 o.1).entries in
-    let a = placed Long row held.long in
-    let b = placed Medium row held.medium in
-    let d = placed Short row held.short in
-    let joined : map listed_of ((a ++ b) ++ d) ≡ (map listed_of a ++ map listed_of b) ++ map listed_of d = map-append listed_of (a ++ b) d ∙ ap (λ (l : List Listed). l ++ map listed_of d) (map-append listed_of a b) in
-    let same : listed_in row ms ≡ (map listed_of a ++ map listed_of b) ++ map listed_of d = λ i. (long i ++ medium i) ++ short i in
-    same ∙ sym joined
-
 -- WHAT IS CHOSEN OF IT
 
 -- what is true of all files is so of those that are opened
@@ -304,16 +199,22 @@ opened_all P from to all opened chosen is k d lt =
     let within = Contains-append_left opened chosen.behind x (Contains-get_or opened k d lt) in
     All-contains P all x is (subst (λ (l : List Listed). Contains l x) (sym rest.split) (Contains-append_right rest.closed (opened ++ chosen.behind) x within))
 
--- and what is true of each store's
-pub listed_all : (P : Listed → Type 0) (row : ℕ) (ms : List ManifestState) → ((place : ℕ) → All P (listed (place + 1) (entries_of row (slice_get ms place)))) → All P (listed_in row ms)
-listed_all P row ms each =
+pub all_none : {X : Type 0} (P : X → Type 0) → All P []
+all_none {X} P k d lt = absurd (omega (arith, lt))
+
+-- P is true of what each store lists of the row
+abbrev pub EachListed : (Listed → Type 0) → List ManifestState → ℕ → Type 0
+EachListed P ms row = (place : ℕ) → All P (listed (place + 1) (entries_of row (slice_get ms place)))
+
+-- and what is so of each of some rows
+listed_all : (P : Listed → Type 0) (ms : List ManifestState) (rows : List ℕ) → All (EachListed P ms) rows → All P (flat_map (λ (k : ℕ). listed_in k ms) rows)
+listed_all P ms [] each = all_none P
+listed_all P ms (row ∷ rows) each =
+    let own = All-head (EachListed P ms) row rows each in
     let a = listed 3 (entries_of row (slice_get ms 2)) in
     let b = listed 2 (entries_of row (slice_get ms 1)) in
     let d = listed 1 (entries_of row (slice_get ms 0)) in
-    All-append P (a ++ b) d (All-append P a b (each 2) (each 1)) (each 0)
-
-pub all_none : {X : Type 0} (P : X → Type 0) → All P []
-all_none {X} P k d lt = absurd (omega (arith, lt))
+    All-append P ((a ++ b) ++ d) (flat_map (λ (k : ℕ). listed_in k ms) rows) (All-append P (a ++ b) d (All-append P a b (own 2) (own 1)) (own 0)) (listed_all P ms rows (All-tail (EachListed P ms) row rows each))
 
 listed_series : (row place : ℕ) (o : Option ManifestState) → All (λ (l : Listed). l.entry.series ≡ row) (listed place (entries_of row o))
 listed_series row place None = all_none (λ (l : Listed). l.entry.series ≡ row)
@@ -323,11 +224,18 @@ listed_series row place (Some m) =
     (λ k d lt. (Decides-eqb (get_or (filter test m.entries) k d).series row).0 (filter_passes test m.entries k d lt))
 
 -- each file is of a row
-pub opened_rows : (row from rows : ℕ) (to : Option ℕ) (ms : List ManifestState) (opened : List Listed) → IsChosen from to (listed_in row ms) opened → row < rows → All (λ (l : Listed). l.entry.series < rows) opened
-opened_rows row from rows to ms opened chosen low k d lt =
-    let P : Listed → Type 0 = λ l. l.entry.series ≡ row in
-    let own : P (get_or opened k d) = opened_all P from to (listed_in row ms) opened chosen (listed_all P row ms (λ place. listed_series row (place + 1) (slice_get ms place))) k d lt in
-    omega (arith, own, low)
+pub opened_rows : (rows seen : List Row) (ms : List ManifestState) (i from : ℕ) (to : Option ℕ) (ids : List ℕ) (opened : List Listed) → seen ≡ rows → ids ≡ line rows i → IsChosen from to (flat_map (λ (k : ℕ). listed_in k ms) ids) opened → All (λ (l : Listed). l.entry.series < length seen) opened
+opened_rows rows seen ms i from to ids opened same along chosen =
+    let P : Listed → Type 0 = λ l. l.entry.series < length seen in
+    let low : All (λ (k : ℕ). k < length seen) ids = subst (All (λ (k : ℕ). k < length seen)) (ap (λ (rs : List Row). line rs i) same ∙ sym along) (line_low seen i) in
+    opened_all P from to (flat_map (λ (k : ℕ). listed_in k ms) ids) opened chosen (listed_all P ms ids (λ k d lt place j e le.
+    let own = listed_series (get_or ids k d) (place + 1) (slice_get ms place) j e le in
+    let few = low k d lt in omega (arith, own, few)))
+
+-- with one row more
+pub told_more : (ms : List ManifestState) (rows : List ℕ) (i : ℕ) (choice : Choice) → i < length rows → IsChoice (flat_map (λ (k : ℕ). listed_in k ms) (take i rows) ++ listed_in (get_or rows i 0) ms) choice → IsChoice (flat_map (λ (k : ℕ). listed_in k ms) (take (i + 1) rows)) choice
+told_more ms rows i choice low told =
+    subst (λ (l : List Listed). IsChoice l choice) (flat_map_more (λ (k : ℕ). listed_in k ms) [] (take i rows) (get_or rows i 0) ∙ ap (flat_map (λ (k : ℕ). listed_in k ms)) (sym (take_more rows i 0 low))) told
 
 -- WHAT IS PINNED OF IT
 
@@ -383,96 +291,59 @@ each_good : (store : Store) (g : Granularity) (rows : List Row) (fs : List Filed
 each_good store g rows [] filed = tt
 each_good store g rows (f ∷ fs) filed = ((g, All-head (IsFiled g rows) f fs filed), each_good store g rows fs (All-tail (IsFiled g rows) f fs filed))
 
-good_of : (store : Store) (row : ℕ) (m : ManifestState) (place : ℕ) (held : Stores) → IsKnownAt m (tier place held) → IsTrue held.stands → AllByRecursion (Good held.rows) (placed store row (tier place held).files)
-good_of store row m place held known stands =
-    let test : Filed → Bool = λ f. nat_eq f.entry.series row in
-    let files = (tier place held).files in
-    each_good store m.granularity held.rows (of_row row files) (All-filter test (IsFiled m.granularity held.rows) files (known.valid.filed.filed stands))
-
-rises_of : (row : ℕ) (m : ManifestState) (place : ℕ) (held : Stores) → IsKnownAt m (tier place held) → IsTrue held.stands → IsRising (samples_of row (tier place held).files)
-rises_of row m place held known stands = row_rises m.granularity held.rows row (tier place held).files (known.valid.filed.filed stands) known.valid.apart
-
-all_good : (c : CatalogueState) (ms : List ManifestState) (held : Stores) (row : ℕ) → IsKnown c ms held → IsTrue held.stands → AllByRecursion (Good held.rows) (files_in row held)
-all_good c ms held row known stands =
-    let three = known.three in
-    let m = manifest_at ms 2 (omega (arith, three)) in
-    let n = manifest_at ms 1 (omega (arith, three)) in
-    let o = manifest_at ms 0 (omega (arith, three)) in
-    let a = placed Long row held.long in
-    let b = placed Medium row held.medium in
-    let d = placed Short row held.short in
-    all-append (Good held.rows) (a ++ b) d
-    (all-append (Good held.rows) a b (good_of Long row m.0 2 held (known.each 2 m.0 m.1) stands) (good_of Medium row n.0 1 held (known.each 1 n.0 n.1) stands))
-    (good_of Short row o.0 0 held (known.each 0 o.0 o.1) stands)
-
-all_rise : (rows : List Row) (row : ℕ) (ps : List Placed) → AllByRecursion (Good rows) ps → AllByRecursion Rises (map (state_of row) ps)
-all_rise rows row [] good = tt
-all_rise rows row (p ∷ ps) good = (good.0.1.file.rising, all_rise rows row ps good.1)
+all_rise : (rows : List Row) (ps : List Placed) → AllByRecursion (Good rows) ps → AllByRecursion Rises (map state_of ps)
+all_rise rows [] good = tt
+all_rise rows (p ∷ ps) good = (good.0.1.file.rising, all_rise rows ps good.1)
 
 -- THEIR SAMPLES
 
-flat_placed : (row : ℕ) (store : Store) (fs : List Filed) → flat (map (state_of row) (map (placed_at store) fs)) ≡ flat_map (λ (f : Filed). f.samples) fs
-flat_placed row store [] = refl
-flat_placed row store (f ∷ fs) = ap (λ (xs : List Sample). f.samples ++ xs) (flat_placed row store fs)
+flat_placed : (store : Store) (fs : List Filed) → flat (map state_of (map (placed_at store) fs)) ≡ flat_map (λ (f : Filed). f.samples) fs
+flat_placed store [] = refl
+flat_placed store (f ∷ fs) = ap (λ (xs : List Sample). f.samples ++ xs) (flat_placed store fs)
 
-flat_both : (row : ℕ) (ps qs : List Placed) → flat (map (state_of row) (ps ++ qs)) ≡ flat (map (state_of row) ps) ++ flat (map (state_of row) qs)
-flat_both row ps qs = ap flat (map-append (state_of row) ps qs) ∙ flat_map-append (λ (f : FileState). f.samples) (map (state_of row) ps) (map (state_of row) qs)
+flat_both : (ps qs : List Placed) → flat (map state_of (ps ++ qs)) ≡ flat (map state_of ps) ++ flat (map state_of qs)
+flat_both ps qs = ap flat (map-append state_of ps qs) ∙ flat_map-append (λ (f : FileState). f.samples) (map state_of ps) (map state_of qs)
 
-flat_files : (row : ℕ) (s : Stores) → flat (map (state_of row) (files_in row s)) ≡ (samples_of row s.long ++ samples_of row s.medium) ++ samples_of row s.short
+flat_files : (row : ℕ) (s : Stores) → flat (map state_of (files_in row s)) ≡ (samples_of row s.long ++ samples_of row s.medium) ++ samples_of row s.short
 flat_files row s =
     let a = placed Long row s.long in
     let b = placed Medium row s.medium in
     let d = placed Short row s.short in
-    let long : flat (map (state_of row) a) ≡ samples_of row s.long = flat_placed row Long (of_row row s.long) in
-    let medium : flat (map (state_of row) b) ≡ samples_of row s.medium = flat_placed row Medium (of_row row s.medium) in
-    let short : flat (map (state_of row) d) ≡ samples_of row s.short = flat_placed row Short (of_row row s.short) in
-    let parts : (flat (map (state_of row) a) ++ flat (map (state_of row) b)) ++ flat (map (state_of row) d) ≡ (samples_of row s.long ++ samples_of row s.medium) ++ samples_of row s.short = λ i. (long i ++ medium i) ++ short i in
-    flat_both row (a ++ b) d ∙ ap (λ (xs : List Sample). xs ++ flat (map (state_of row) d)) (flat_both row a b) ∙ parts
-
--- what is held of a row is what is taken of them
-held_taken : (c : CatalogueState) (ms : List ManifestState) (held : Stores) (row : ℕ) → IsKnown c ms held → IsTrue held.stands → taken (flat (map (state_of row) (files_in row held))) ≡ samples_in row held
-held_taken c ms held row known stands =
-    let three = known.three in
-    let m = manifest_at ms 2 (omega (arith, three)) in
-    let n = manifest_at ms 1 (omega (arith, three)) in
-    let o = manifest_at ms 0 (omega (arith, three)) in
-    let long : IsRising (samples_of row held.long) = rises_of row m.0 2 held (known.each 2 m.0 m.1) stands in
-    let medium : IsRising (samples_of row held.medium) = rises_of row n.0 1 held (known.each 1 n.0 n.1) stands in
-    let short : IsRising (samples_of row held.short) = rises_of row o.0 0 held (known.each 0 o.0 o.1) stands in
-    ap taken (flat_files row held)
-    ∙ taken_over (samples_of row held.long ++ samples_of row held.medium) (samples_of row held.short) short
-    ∙ ap (λ (xs : List Sample). over xs (samples_of row held.short)) (taken_over (samples_of row held.long) (samples_of row held.medium) medium)
-    ∙ ap (λ (xs : List Sample). over (over xs (samples_of row held.medium)) (samples_of row held.short)) (taken_of_rising (samples_of row held.long) long)
+    let long : flat (map state_of a) ≡ samples_of row s.long = flat_placed Long (of_row row s.long) in
+    let medium : flat (map state_of b) ≡ samples_of row s.medium = flat_placed Medium (of_row row s.medium) in
+    let short : flat (map state_of d) ≡ samples_of row s.short = flat_placed Short (of_row row s.short) in
+    let parts : (flat (map state_of a) ++ flat (map state_of b)) ++ flat (map state_of d) ≡ (samples_of row s.long ++ samples_of row s.medium) ++ samples_of row s.short = λ i. (long i ++ medium i) ++ short i in
+    flat_both (a ++ b) d ∙ ap (λ (xs : List Sample). xs ++ flat (map state_of d)) (flat_both a b) ∙ parts
 
 -- ENOUGH
 
-all_end : (rows : List Row) (row n : ℕ) (ps : List Placed) → AllByRecursion (Good rows) ps → All (ends_before n) (map listed_of ps) → AllByRecursion (EndsBy n) (map (state_of row) ps)
-all_end rows row n [] good before = tt
-all_end rows row n (p ∷ ps) good before =
+all_end : (rows : List Row) (n : ℕ) (ps : List Placed) → AllByRecursion (Good rows) ps → All (ends_before n) (map listed_of ps) → AllByRecursion (EndsBy n) (map state_of ps)
+all_end rows n [] good before = tt
+all_end rows n (p ∷ ps) good before =
     let to : p.file.entry.last + 1 ≡ end_of p.file.samples = good.0.1.to in
     let here : p.file.entry.last < n = All-head (ends_before n) (listed_of p) (map listed_of ps) before in
-    ((good.0.1.file.rising, omega (arith, to, here)), all_end rows row n ps good.1 (All-tail (ends_before n) (listed_of p) (map listed_of ps) before))
+    ((good.0.1.file.rising, omega (arith, to, here)), all_end rows n ps good.1 (All-tail (ends_before n) (listed_of p) (map listed_of ps) before))
 
-leads : (rows : List Row) (row : ℕ) (q : Query) (closed files : List Placed) → AllByRecursion (Good rows) closed → AllByRecursion (Good rows) files → StartsBehind q.from (map listed_of closed) (map listed_of files) → Leads q (map (state_of row) closed) (map (state_of row) files)
-leads rows row q closed [] good good₂ behind = absurd behind
-leads rows row q closed (p ∷ ps) good good₂ behind =
+leads : (rows : List Row) (q : Query) (closed files : List Placed) → AllByRecursion (Good rows) closed → AllByRecursion (Good rows) files → StartsBehind q.from (map listed_of closed) (map listed_of files) → Leads q (map state_of closed) (map state_of files)
+leads rows q closed [] good good₂ behind = absurd behind
+leads rows q closed (p ∷ ps) good good₂ behind =
     let filed = good₂.0.1 in
     let early = behind.0 in
     let from = filed.from in
     record {
-      first = state_of row p;
-      others = map (state_of row) ps;
+      first = state_of p;
+      others = map state_of ps;
       are = refl;
       sample = filed.first;
       more = filed.others;
       samples = filed.some;
       early = omega (arith, early, from);
-      later = subst (λ (n : ℕ). AllByRecursion (EndsBy n) (map (state_of row) closed)) from (all_end rows row p.file.entry.first closed good behind.1);
+      later = subst (λ (n : ℕ). AllByRecursion (EndsBy n) (map state_of closed)) from (all_end rows p.file.entry.first closed good behind.1);
     }
 
-none_closed : (closed : List Placed) (row : ℕ) → map listed_of closed ≡ [] → map (state_of row) closed ≡ []
-none_closed [] row is = refl
-none_closed (p ∷ ps) row is = absurd (cc (is))
+none_closed : (closed : List Placed) → map listed_of closed ≡ [] → map state_of closed ≡ []
+none_closed [] is = refl
+none_closed (p ∷ ps) is = absurd (cc (is))
 
 have_bytes : (rows : List Row) (ps : List Placed) → AllByRecursion (Good rows) ps → filter has_bytes (map listed_of ps) ≡ map listed_of ps
 have_bytes rows [] good = refl
@@ -486,9 +357,9 @@ have_bytes rows (p ∷ ps) good =
 
 -- WHAT STAYS CLOSED BEHIND
 
-files_behind : (rows : List Row) (row : ℕ) (q : Query) (ps : List Placed) → AllByRecursion (Good rows) ps → All (StartsPast q.from (Some q.to)) (map listed_of ps) → AllByRecursion (LiesBehind q) (map (state_of row) ps)
-files_behind rows row q [] good past = tt
-files_behind rows row q (p ∷ ps) good past =
+files_behind : (rows : List Row) (q : Query) (ps : List Placed) → AllByRecursion (Good rows) ps → All (StartsPast q.from (Some q.to)) (map listed_of ps) → AllByRecursion (LiesBehind q) (map state_of ps)
+files_behind rows q [] good past = tt
+files_behind rows q (p ∷ ps) good past =
     let filed = good.0.1 in
     let first = All-head (StartsPast q.from (Some q.to)) (listed_of p) (map listed_of ps) past in
     let one = first.0 in
@@ -497,22 +368,22 @@ files_behind rows row q (p ∷ ps) good past =
     let low : reach q ≤ filed.first.t = omega (arith, one, two, from) in
     let rising : IsRising (filed.first ∷ filed.others) = subst IsRising filed.some filed.file.rising in (
       subst (NoneBefore (reach q)) (sym filed.some) (rising_none_before (reach q) (filed.first ∷ filed.others) (low, rising.1)),
-      files_behind rows row q ps good.1 (All-tail (StartsPast q.from (Some q.to)) (listed_of p) (map listed_of ps) past),
+      files_behind rows q ps good.1 (All-tail (StartsPast q.from (Some q.to)) (listed_of p) (map listed_of ps) past),
     )
 
 -- such files may stay closed
-module _ (rows : List Row) (row : ℕ) (q : Query) (files : List Placed) where
+module _ (rows : List Row) (q : Query) (files : List Placed) where
   abbrev AnswersSo : List Sample → List Placed → Type 0
-  AnswersSo tail behind = answer (over (over_pieces [] (map (state_of row) files)) tail) q ≡ answer (over (over_pieces [] (map (state_of row) (files ++ behind))) tail) q
+  AnswersSo tail behind = answer (over (over_pieces [] (map state_of files)) tail) q ≡ answer (over (over_pieces [] (map state_of (files ++ behind))) tail) q
 
   so_late : (tail : List Sample) (behind : List Placed) → AllByRecursion (Good rows) (files ++ behind) → IsRising tail → NoneBefore (reach q) tail → All (StartsPast q.from (Some q.to)) (map listed_of behind) → AnswersSo tail behind
   so_late tail behind good rising late past =
-      let rise : AllByRecursion Rises (map (state_of row) files ++ map (state_of row) behind) = subst (AllByRecursion Rises) (map-append (state_of row) files behind) (all_rise rows row (files ++ behind) good) in
-      without_behind (map (state_of row) files) (map (state_of row) behind) tail q rise rising (files_behind rows row q behind (all_rest (Good rows) files behind good) past) late
-      ∙ ap (λ (fs : List FileState). answer (over (over_pieces [] fs) tail) q) (sym (map-append (state_of row) files behind))
+      let rise : AllByRecursion Rises (map state_of files ++ map state_of behind) = subst (AllByRecursion Rises) (map-append state_of files behind) (all_rise rows (files ++ behind) good) in
+      without_behind (map state_of files) (map state_of behind) tail q rise rising (files_behind rows q behind (all_rest (Good rows) files behind good) past) late
+      ∙ ap (λ (fs : List FileState). answer (over (over_pieces [] fs) tail) q) (sym (map-append state_of files behind))
 
   pub closed_behind : (tail : List Sample) (behind : List Placed) → AllByRecursion (Good rows) (files ++ behind) → IsRising tail → All (StartsPast q.from (files_to q tail)) (map listed_of behind) → AnswersSo tail behind
-  closed_behind tail [] good rising past = ap (λ (ps : List Placed). answer (over (over_pieces [] (map (state_of row) ps)) tail) q) (sym (append-nil files))
+  closed_behind tail [] good rising past = ap (λ (ps : List Placed). answer (over (over_pieces [] (map state_of ps)) tail) q) (sym (append-nil files))
   closed_behind [] (p ∷ ps) good rising past = so_late [] (p ∷ ps) good rising tt past
   closed_behind (s ∷ rest) (p ∷ ps) good rising past = by_test (nat_lt q.from s.t && nat_lt q.to s.t) refl past
     where
@@ -524,50 +395,127 @@ module _ (rows : List Row) (row : ℕ) (q : Query) (files : List Placed) where
           so_late (s ∷ rest) (p ∷ ps) good rising (rising_none_before (reach q) (s ∷ rest) (low, rising.1)) past
       by_test false is past = absurd (All-head (StartsPast q.from None) (listed_of p) (map listed_of ps) past)
 
--- the files of what was chosen
-pub are_enough : (c : CatalogueState) (ms : List ManifestState) (held : Stores) (row : ℕ) (query : Query) (tail : List Sample) (opened : List Listed) → IsKnown c ms held → IsChosen query.from (files_to query tail) (map listed_of (files_in row held)) opened → AreEnough held row query tail opened
-are_enough c ms held row query tail opened known chosen =
-    let rest = chosen.rest in
-    let h = halves listed_of (files_in row held) rest.closed (opened ++ chosen.behind) rest.split in
-    let k = halves listed_of h.vs opened chosen.behind h.second in
-    let whole : files_in row held ≡ h.us ++ (k.us ++ k.vs) = h.split ∙ ap (λ (ps : List Placed). h.us ++ ps) k.split in
-    record {
-      closed = h.us;
-      files = k.us;
-      behind = k.vs;
-      split = whole;
-      are = k.first;
-      few =
-          let all = few_files c ms held row known in
-          let both = ap length whole in
-          let parts = length-append h.us (k.us ++ k.vs) in
-          let others = length-append k.us k.vs in
-          let own = length-map k.us listed_of in
-          let same = ap length k.first in
-          omega (arith, all, both, parts, others, own, same);
-      all = λ stands. subst (λ (l : List Listed). filter has_bytes l ≡ l) k.first (have_bytes held.rows k.us (all_front (Good held.rows) k.us k.vs (all_rest (Good held.rows) h.us (k.us ++ k.vs) (good h.us (k.us ++ k.vs) whole stands))));
-      answers = λ stands rising.
-          let all = good h.us (k.us ++ k.vs) whole stands in
-          closed_behind held.rows row query k.us tail k.vs (all_rest (Good held.rows) h.us (k.us ++ k.vs) all) rising (subst (All (StartsPast query.from (files_to query tail))) (sym k.second) chosen.past)
-          ∙ go h.us (k.us ++ k.vs) whole h.first (ap (map listed_of) (sym k.split) ∙ h.second) all stands rising;
-    }
-  where
-    good : (us vs : List Placed) → files_in row held ≡ us ++ vs → IsTrue held.stands → AllByRecursion (Good held.rows) (us ++ vs)
-    good us vs split stands = subst (AllByRecursion (Good held.rows)) split (all_good c ms held row known stands)
+-- WHAT IS HELD
 
-    go : (us vs : List Placed) → files_in row held ≡ us ++ vs → map listed_of us ≡ chosen.rest.closed → map listed_of vs ≡ opened ++ chosen.behind → AllByRecursion (Good held.rows) (us ++ vs) → IsTrue held.stands → IsRising tail
-        → answer (over (over_pieces [] (map (state_of row) vs)) tail) query ≡ answer (over (samples_in row held) tail) query
-    go us vs split first second good stands rising =
-        let one = all_front (Good held.rows) us vs good in
-        let two = all_rest (Good held.rows) us vs good in
-        let starts : (map (state_of row) us ≡ []) ⊎ Leads query (map (state_of row) us) (map (state_of row) vs) = elim chosen.rest.first [
-          | inl none ↦ inl (none_closed us row (first ∙ none))
-          | inr behind ↦ inr (leads held.rows row query us vs one two (subst (λ (l : List Listed). StartsBehind query.from l (map listed_of vs)) (sym first) (subst (StartsBehind query.from chosen.rest.closed) (sym second) behind)))
-        ] in
-        let files : flat (map (state_of row) us) ++ flat (map (state_of row) vs) ≡ flat (map (state_of row) (files_in row held)) = sym (flat_both row us vs) ∙ ap (λ (ps : List Placed). flat (map (state_of row) ps)) (sym split) in
-        enough (map (state_of row) us) (map (state_of row) vs) tail query (all_rise held.rows row vs two) rising starts
-        ∙ ap (λ (xs : List Sample). answer (taken (xs ++ tail)) query) files
-        ∙ ap (λ (xs : List Sample). answer xs query) (taken_over (flat (map (state_of row) (files_in row held))) tail rising ∙ ap (λ (xs : List Sample). over xs tail) (held_taken c ms held row known stands))
+module _ (c : CatalogueState) (ms : List ManifestState) (held : Stores) (known : IsKnown c ms held) where
+  manifest_of : (store : Store) → (m : ManifestState) × (slice_get ms (index_of store) ≡ Some m)
+  manifest_of store = manifest_at ms (index_of store) (low store)
+    where
+      low : (store : Store) → index_of store < length ms
+      low Short = let three = known.three in omega (arith, three)
+      low Medium = let three = known.three in omega (arith, three)
+      low Long = let three = known.three in omega (arith, three)
+
+  known_of : (store : Store) → IsKnownAt (manifest_of store).0 (tier (index_of store) held)
+  known_of store = let m = manifest_of store in known.each (index_of store) m.0 m.1
+
+  -- what the memory lists of a row is what is held of it
+  store_listed : (row : ℕ) (store : Store) → listed (index_of store + 1) (entries_of row (slice_get ms (index_of store))) ≡ map listed_of (placed store row (list_at (index_of store) held))
+  store_listed row store =
+      let files = list_at (index_of store) held in
+      let test : Entry → Bool = λ e. nat_eq e.series row in
+      ap (λ (o : Option ManifestState). listed (index_of store + 1) (entries_of row o)) (manifest_of store).1
+      ∙ ap (λ (es : List Entry). listed (index_of store + 1) (filter test es)) (known_of store).entries
+      ∙ ap (listed (index_of store + 1)) (filter-map test files)
+      ∙ listed_files store (of_row row files)
+
+  row_listed : (row : ℕ) → listed_in row ms ≡ map listed_of (files_in row held)
+  row_listed row =
+      let a = placed Long row held.long in
+      let b = placed Medium row held.medium in
+      let d = placed Short row held.short in
+      let parts : listed_in row ms ≡ (map listed_of a ++ map listed_of b) ++ map listed_of d = λ i. (store_listed row Long i ++ store_listed row Medium i) ++ store_listed row Short i in
+      parts ∙ sym (map-append listed_of (a ++ b) d ∙ ap (λ (l : List Listed). l ++ map listed_of d) (map-append listed_of a b))
+
+  -- and so of rows
+  all_listed : (rows : List ℕ) → flat_map (λ (k : ℕ). listed_in k ms) rows ≡ map listed_of (flat_map (λ (k : ℕ). files_in k held) rows)
+  all_listed [] = refl
+  all_listed (row ∷ rows) =
+      let joined : listed_in row ms ++ flat_map (λ (k : ℕ). listed_in k ms) rows ≡ map listed_of (files_in row held) ++ map listed_of (flat_map (λ (k : ℕ). files_in k held) rows) = λ i. row_listed row i ++ all_listed rows i in
+      joined ∙ sym (map-append listed_of (files_in row held) (flat_map (λ (k : ℕ). files_in k held) rows))
+
+  module _ (stands : IsTrue held.stands) where
+    store_good : (row : ℕ) (store : Store) → AllByRecursion (Good held.rows) (placed store row (list_at (index_of store) held))
+    store_good row store =
+        let test : Filed → Bool = λ f. nat_eq f.entry.series row in
+        let g = (manifest_of store).0.granularity in
+        let files = list_at (index_of store) held in
+        each_good store g held.rows (of_row row files) (All-filter test (IsFiled g held.rows) files ((known_of store).valid.filed.filed stands))
+
+    store_rises : (row : ℕ) (store : Store) → IsRising (samples_of row (list_at (index_of store) held))
+    store_rises row store = let valid = (known_of store).valid in row_rises (manifest_of store).0.granularity held.rows row (list_at (index_of store) held) (valid.filed.filed stands) valid.apart
+
+    all_good : (rows : List ℕ) → AllByRecursion (Good held.rows) (flat_map (λ (k : ℕ). files_in k held) rows)
+    all_good [] = tt
+    all_good (row ∷ rows) =
+        let a = placed Long row held.long in
+        let b = placed Medium row held.medium in
+        let d = placed Short row held.short in
+        all-append (Good held.rows) ((a ++ b) ++ d) (flat_map (λ (k : ℕ). files_in k held) rows)
+        (all-append (Good held.rows) (a ++ b) d (all-append (Good held.rows) a b (store_good row Long) (store_good row Medium)) (store_good row Short)) (all_good rows)
+
+    -- what is taken of a row's files, behind others, is what is held of it over those
+    row_taken : (row : ℕ) (xs : List Sample) → taken (xs ++ flat (map state_of (files_in row held))) ≡ over (taken xs) (samples_in row held)
+    row_taken row xs =
+        let a = samples_of row held.long in
+        let b = samples_of row held.medium in
+        let d = samples_of row held.short in
+        let long : IsRising a = store_rises row Long in
+        let medium : IsRising b = store_rises row Medium in
+        ap (λ (ys : List Sample). taken (xs ++ ys)) (flat_files row held)
+        ∙ ap taken (sym (append_assoc xs (a ++ b) d))
+        ∙ taken_over (xs ++ (a ++ b)) d (store_rises row Short)
+        ∙ ap (λ (ys : List Sample). over (taken ys) d) (sym (append_assoc xs a b))
+        ∙ ap (λ (ys : List Sample). over ys d) (taken_over (xs ++ a) b medium ∙ ap (λ (ys : List Sample). over ys b) (taken_over xs a long) ∙ over_assoc (taken xs) a b long)
+        ∙ over_assoc (taken xs) (over a b) d (over_rising a b long medium)
+
+    -- and so of rows, one after another
+    rows_taken : (rows : List ℕ) (xs : List Sample) → taken (xs ++ flat (map state_of (flat_map (λ (k : ℕ). files_in k held) rows))) ≡ overs held (taken xs) rows
+    rows_taken [] xs = ap taken (append-nil xs)
+    rows_taken (row ∷ rows) xs =
+        let own = files_in row held in
+        let others = flat_map (λ (k : ℕ). files_in k held) rows in
+        ap (λ (ys : List Sample). taken (xs ++ ys)) (flat_both own others)
+        ∙ ap taken (sym (append_assoc xs (flat (map state_of own)) (flat (map state_of others))))
+        ∙ rows_taken rows (xs ++ flat (map state_of own))
+        ∙ ap (λ (ys : List Sample). overs held ys rows) (row_taken row xs)
+
+  -- the files of what was chosen
+  are_enough : (row : ℕ) (query : Query) (tail : List Sample) (opened : List Listed) → IsChosen query.from (files_to query tail) (map listed_of (files_of_line row held)) opened → AreEnough held row query tail opened
+  are_enough row query tail opened chosen =
+      let h = halves listed_of (files_of_line row held) chosen.rest.closed (opened ++ chosen.behind) chosen.rest.split in
+      let k = halves listed_of h.vs opened chosen.behind h.second in
+      let whole : files_of_line row held ≡ h.us ++ (k.us ++ k.vs) = h.split ∙ ap (λ (ps : List Placed). h.us ++ ps) k.split in
+      record {
+        closed = h.us;
+        files = k.us;
+        behind = k.vs;
+        split = whole;
+        are = k.first;
+        all = λ stands. subst (λ (l : List Listed). filter has_bytes l ≡ l) k.first (have_bytes held.rows k.us (all_front (Good held.rows) k.us k.vs (all_rest (Good held.rows) h.us (k.us ++ k.vs) (good h.us (k.us ++ k.vs) whole stands))));
+        answers = λ stands rising.
+            let all = good h.us (k.us ++ k.vs) whole stands in
+            closed_behind held.rows query k.us tail k.vs (all_rest (Good held.rows) h.us (k.us ++ k.vs) all) rising (subst (All (StartsPast query.from (files_to query tail))) (sym k.second) chosen.past)
+            ∙ go h.us (k.us ++ k.vs) whole h.first (ap (map listed_of) (sym k.split) ∙ h.second) all stands rising;
+      }
+    where
+      good : (us vs : List Placed) → files_of_line row held ≡ us ++ vs → IsTrue held.stands → AllByRecursion (Good held.rows) (us ++ vs)
+      good us vs split stands = subst (AllByRecursion (Good held.rows)) split (all_good stands (line held.rows row))
+
+      go : (us vs : List Placed) → files_of_line row held ≡ us ++ vs → map listed_of us ≡ chosen.rest.closed → map listed_of vs ≡ opened ++ chosen.behind → AllByRecursion (Good held.rows) (us ++ vs) → IsTrue held.stands → IsRising tail
+          → answer (over (over_pieces [] (map state_of vs)) tail) query ≡ answer (over (whole_in row held) tail) query
+      go us vs split first second good stands rising =
+          let one = all_front (Good held.rows) us vs good in
+          let two = all_rest (Good held.rows) us vs good in
+          let starts : (map state_of us ≡ []) ⊎ Leads query (map state_of us) (map state_of vs) = elim chosen.rest.first [
+            | inl none ↦ inl (none_closed us (first ∙ none))
+            | inr behind ↦ inr (leads held.rows query us vs one two (subst (λ (l : List Listed). StartsBehind query.from l (map listed_of vs)) (sym first) (subst (StartsBehind query.from chosen.rest.closed) (sym second) behind)))
+          ] in
+          let all = flat (map state_of (files_of_line row held)) in
+          let files : flat (map state_of us) ++ flat (map state_of vs) ≡ all = sym (flat_both us vs) ∙ ap (λ (ps : List Placed). flat (map state_of ps)) (sym split) in
+          enough (map state_of us) (map state_of vs) tail query (all_rise held.rows vs two) rising starts
+          ∙ ap (λ (xs : List Sample). answer (taken (xs ++ tail)) query) files
+          ∙ ap (λ (xs : List Sample). answer xs query) (taken_over all tail rising ∙ ap (λ (xs : List Sample). over xs tail) (rows_taken stands (line held.rows row) []))
 
 -- What is pinned of listed files stands, and what is told of a pin is so of what is held
 
@@ -616,7 +564,7 @@ shown_listed tells at limbo held l has lists some =
 -- WHAT WAS CHOSEN
 
 -- each is listed in its store
-each_listed : (ms : List ManifestState) (row place : ℕ) → All (λ (l : Listed). IsListedIn ms l.store l.entry) (listed (place + 1) (entries_of row (slice_get ms place)))
+each_listed : (ms : List ManifestState) (row : ℕ) → EachListed (λ (l : Listed). IsListedIn ms l.store l.entry) ms row
 each_listed ms row place = go (slice_get ms place) refl
   where
     test : Entry → Bool
@@ -628,10 +576,11 @@ each_listed ms row place = go (slice_get ms place) refl
         All-map (λ (l : Listed). IsListedIn ms l.store l.entry) (λ (e : Entry). let l : Listed = record { store = place + 1; entry = e } in l) (filter test m.entries)
         (λ k d lt. record { place = place; manifest = m; is = refl; here = here; listed = All-filter test (Contains m.entries) m.entries (λ j e low. Contains-get_or m.entries j e low) k d lt })
 
-pieces_shown : (tells : Bool) (at : Seen) (limbo : List Retired) (held : Stores) (row from : ℕ) (to : Option ℕ) (opened : List Listed) → Has tells at held → IsChosen from to (listed_in row at.manifests) opened → All (IsShown tells (beside at limbo)) (map (piece_of at.catalogue.rows) (filter has_bytes opened))
+pieces_shown : (tells : Bool) (at : Seen) (limbo : List Retired) (held : Stores) (row from : ℕ) (to : Option ℕ) (opened : List Listed) → Has tells at held → IsChosen from to (listed_of_line at.catalogue.rows at.manifests row) opened → All (IsShown tells (beside at limbo)) (map (piece_of at.catalogue.rows) (filter has_bytes opened))
 pieces_shown tells at limbo held row from to opened has chosen =
+    let rows = at.catalogue.rows in
     let P : Listed → Type 0 = λ l. IsListedIn at.manifests l.store l.entry in
-    let all : All P opened = opened_all P from to (listed_in row at.manifests) opened chosen (listed_all P row at.manifests (λ place. each_listed at.manifests row place)) in
+    let all : All P opened = opened_all P from to (listed_of_line rows at.manifests row) opened chosen (listed_all P at.manifests (line rows row) (λ k d lt. each_listed at.manifests (get_or (line rows row) k d))) in
     All-map (IsShown tells (beside at limbo)) (piece_of at.catalogue.rows) (filter has_bytes opened)
     (λ k d lt. shown_listed tells at limbo held (get_or (filter has_bytes opened) k d) has (All-filter has_bytes P opened all k d lt) (filter_passes has_bytes opened k d lt))
 
@@ -642,7 +591,7 @@ all_at {X} P xs i x all here =
     subst P (same_Some (get_or xs i x) x (sym (slice_get-get_or xs i x low) ∙ here)) (all i x low)
 
 -- so a pin more stands as those before it
-stand_more : (tells : Bool) (at : Seen) (limbo : List Retired) (held : Stores) (who i : ℕ) (query : Query) (tail : List Sample) (old new : FinMap nat_cmp PinOf) (pin : ℕ) (name : List ℕ) (about : About) (count : ℕ) (told : List Sample) → Has tells at held → IsPinned at.catalogue.rows (listed_in i at.manifests) who i query tail old new pin name about count told → PinsStand tells (beside at limbo) old → PinsStand tells (beside at limbo) new
+stand_more : (tells : Bool) (at : Seen) (limbo : List Retired) (held : Stores) (who i : ℕ) (query : Query) (tail : List Sample) (old new : FinMap nat_cmp PinOf) (pin : ℕ) (name : List ℕ) (about : About) (count : ℕ) (told : List Sample) → Has tells at held → IsPinned at.catalogue.rows (listed_of_line at.catalogue.rows at.manifests i) who i query tail old new pin name about count told → PinsStand tells (beside at limbo) old → PinsStand tells (beside at limbo) new
 stand_more tells at limbo held who i query tail old new pin name about count told has p stand n j q piece here there = go (eq_by_cmp nat_cmp n pin) (sym (get-insert nat_cmp_total old pin made n) ∙ sym (ap (λ (m : FinMap nat_cmp PinOf). get m n) p.made) ∙ here)
   where
     made : PinOf
@@ -667,12 +616,13 @@ chosen_for query tail told from to all opened same_from same_to same_tail chosen
     subst (λ (n : ℕ). IsChosen n (files_to query tail) all opened) same_from (subst (λ (o : Option ℕ). IsChosen from o all opened) (same_to ∙ ap (files_to query) same_tail) chosen)
 
 -- a row's files are pinned
-pub pinned_row : {R : Type 0} (rows seen : List Row) (ms shown : List ManifestState) (who i : ℕ) (asked : List ℕ) (query : Query) (tail : List Sample) (old new : FinMap nat_cmp PinOf) (row : Row) (pin count : ℕ) (name : List ℕ) (about : About) (opened : List Listed) (pieces : List PinnedFile)
-    → seen ≡ rows → shown ≡ ms → i < length rows → row ≡ get_or seen i row → name ≡ row.name → about ≡ row.about → IsChosen query.from (files_to query tail) (listed_in i shown) opened → pieces ≡ map (piece_of seen) (filter has_bytes opened) → count ≡ length pieces
+pub pinned_row : {R : Type 0} (rows seen : List Row) (ms shown : List ManifestState) (who i : ℕ) (asked : List ℕ) (query : Query) (tail : List Sample) (old new : FinMap nat_cmp PinOf) (row : Row) (pin count : ℕ) (name : List ℕ) (about : About) (ids : List ℕ) (opened : List Listed) (pieces : List PinnedFile)
+    → seen ≡ rows → shown ≡ ms → i < length rows → row ≡ get_or seen i row → name ≡ row.name → about ≡ row.about → IsChosen query.from (files_to query tail) (flat_map (λ (k : ℕ). listed_in k shown) ids) opened → ids ≡ line rows i → length opened < 2 ^ 32 → pieces ≡ map (piece_of seen) (filter has_bytes opened) → count ≡ length pieces
     → get old pin ≡ None → ((lower : ℕ) → lower < pin → IsSome (get old lower)) → (let made : PinOf = record { owner = who; pieces = pieces } in new ≡ insert old pin made) → HasName rows i asked
-    → PinsOf {R = R} rows (λ k. listed_in k ms) who asked query tail old new (Pinned pin name about count tail)
-pinned_row {R} rows seen ms shown who i asked query tail old new row pin count name about opened pieces same same_ms low is name_is about_is chosen are number free least made named =
+    → PinsOf {R = R} rows ms who asked query tail old new (Pinned pin name about count tail)
+pinned_row {R} rows seen ms shown who i asked query tail old new row pin count name about ids opened pieces same same_ms low is name_is about_is chosen along few are number free least made named =
     let here : slice_get seen i ≡ Some row = slice_get-get_or seen i row (omega (arith, low, ap length same)) ∙ ap (λ (r : Row). Some r) (sym is) in
+    let all : flat_map (λ (k : ℕ). listed_in k shown) ids ≡ listed_of_line rows ms i = λ j. flat_map (λ (k : ℕ). listed_in k (same_ms j)) (along j) in
     found i pin count name about tail named (record {
       row = row;
       here = ap (λ (rs : List Row). slice_get rs i) (sym same) ∙ here;
@@ -682,7 +632,8 @@ pinned_row {R} rows seen ms shown who i asked query tail old new row pin count n
       free = free;
       least = least;
       opened = opened;
-      chosen = subst (λ (l : List ManifestState). IsChosen query.from (files_to query tail) (listed_in i l) opened) same_ms chosen;
+      chosen = subst (λ (l : List Listed). IsChosen query.from (files_to query tail) l opened) all chosen;
+      few = few;
       pieces = pieces;
       are = are ∙ ap (λ (rs : List Row). map (piece_of rs) (filter has_bytes opened)) same;
       number = number;
@@ -693,24 +644,24 @@ pinned_row {R} rows seen ms shown who i asked query tail old new row pin count n
 pub no_name : (rows : List Row) (name : List ℕ) (i : ℕ) (r : Option ℕ) → r ≡ None → ((i : ℕ) → HasName rows i name → r ≡ Some i) → HasName rows i name → ⊥
 no_name rows name i r none only has = let both : ◌≡◌ {A = Option ℕ} None (Some i) = sym none ∙ only i has in cc (both)
 
-pub none_named : {R : Type 0} (rows : List Row) (all : ℕ → List Listed) (who : ℕ) (name : List ℕ) (query : Query) (tail : List Sample) (pins : FinMap nat_cmp PinOf) (r : Option ℕ) → r ≡ None → ((i : ℕ) → HasName rows i name → r ≡ Some i) → PinsOf {R = R} rows all who name query tail pins pins NoSuchVariable
-none_named {R} rows all who name query tail pins r none only = unknown (λ i has. no_name rows name i r none only has) refl
+pub none_named : {R : Type 0} (rows : List Row) (ms : List ManifestState) (who : ℕ) (name : List ℕ) (query : Query) (tail : List Sample) (pins : FinMap nat_cmp PinOf) (r : Option ℕ) → r ≡ None → ((i : ℕ) → HasName rows i name → r ≡ Some i) → PinsOf {R = R} rows ms who name query tail pins pins NoSuchVariable
+none_named {R} rows ms who name query tail pins r none only = unknown (λ i has. no_name rows name i r none only has) refl
 
 pub row_within : (rows : List Row) (i : ℕ) (name : List ℕ) → HasName rows i name → i < length rows
 row_within rows i name has = slice_get_within rows i has.row has.here
 
 module _ {R : Type 0} (tells : Bool) (at : Seen) (held : Stores) (who : ℕ) (name : List ℕ) (query : Query) (tail : List Sample) (old new : FinMap nat_cmp PinOf) (has : Has tells at held) where
   abbrev Pins : Answer R → Type 0
-  Pins a = PinsOf at.catalogue.rows (λ i. listed_in i at.manifests) who name query tail old new a
+  Pins a = PinsOf at.catalogue.rows at.manifests who name query tail old new a
 
   says_answer : (a : Answer R) → Pins a → SaysOf (SaysPinned who name query tail old new) (end_of_answer a) held
   says_answer _ (unknown none same) = none_has (subst (λ (rows : List Row). HasNoName rows name) has.known.rows none) same
   says_answer _ (found i pin count told about rest named p) =
-      let as_held : IsPinned held.rows (map listed_of (files_in i held)) who i query tail old new pin told about count rest =
-      subst (λ (all : List Listed). IsPinned held.rows all who i query tail old new pin told about count rest) (all_listed at.catalogue at.manifests held i has.known)
-      (subst (λ (rows : List Row). IsPinned rows (listed_in i at.manifests) who i query tail old new pin told about count rest) has.known.rows p) in
+      let as_held : IsPinned held.rows (map listed_of (files_of_line i held)) who i query tail old new pin told about count rest =
+      subst (λ (all : List Listed). IsPinned held.rows all who i query tail old new pin told about count rest) (all_listed at.catalogue at.manifests held has.known (line held.rows i))
+      (subst (λ (rows : List Row). IsPinned rows (listed_of_line rows at.manifests i) who i query tail old new pin told about count rest) has.known.rows p) in
       is_pinned i pin count told about rest (subst (λ (rows : List Row). HasName rows i name) has.known.rows named) as_held
-      (are_enough at.catalogue at.manifests held i query tail as_held.opened has.known as_held.chosen)
+      (are_enough at.catalogue at.manifests held has.known i query tail as_held.opened as_held.chosen)
 
   pub says : (r : Result (Answer R) DiskErr) → IfOk r Pins → IfErr r (λ e. (e ≡ Memory) × (new ≡ old)) → SaysOf (SaysPinned who name query tail old new) (end_of_answer (answer_of r)) held
   says (Ok a) ok err = says_answer a ok

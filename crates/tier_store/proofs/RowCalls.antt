@@ -15,32 +15,42 @@ use Rattle.gate_journal.specs.Kept.{Says, SaysEither}
 use Rattle.gate_journal.proofs.Keeping.{says_stays}
 use Rattle.partition_names.specs.declared.granularity.Granularity.{Granularity}
 use Rattle.pv_catalog.specs.Catalogue as catalogue
-use Rattle.pv_catalog.specs.Catalogue.{CatalogueState, HasState, Refuses, IsRefusal, IsOfRows, registered, catalogue_name}
+use Rattle.pv_catalog.specs.Catalogue.{CatalogueState, HasState, Refuses, IsRefusal, IsNameRefusal, IsOfRows, RefusesName, registered, renamed, catalogue_name}
 use Rattle.pv_catalog.specs.Rows.{IsCatalogue, KeepsRows, switched}
 use Rattle.pv_catalog.specs.declared.error.RegisterErr.{RegisterErr}
 use Rattle.pv_catalog.specs.declared.error.RegisterErr.TheVariants as of_register
+use Rattle.pv_catalog.specs.declared.error.RenameErr.{RenameErr}
+use Rattle.pv_catalog.specs.declared.error.RenameErr.TheVariants as of_rename
 use Rattle.pv_catalog.specs.declared.error.StateErr.{StateErr}
 use Rattle.pv_catalog.specs.declared.error.StateErr.TheVariants as of_state
 use Rattle.pv_catalog.specs.declared.row.Row.{Row}
+use Rattle.pv_catalog.proofs.Refusing.{same_name_err}
 use Rattle.pv_catalog.proofs.Standing.{keeps_more, keeps_switched}
 use Rattle.store_manifest.specs.Batches.{Folds}
 use Rattle.store_manifest.specs.Manifest.{ManifestState, manifest_name}
 use Rattle.durable_write.specs.Held.{Held, AreIn, entry_of}
-use Rattle.durable_write.specs.Ends.{End, Done, Refused, Failed, Spent, IsFailed, end_of_register, end_of_switch}
+use Rattle.durable_write.specs.Ends.{End, Done, Refused, Failed, Spent, IsFailed, end_of_register, end_of_rename, end_of_switch}
 use Rattle.durable_write.specs.Stored.{Holds, KeysDiffer, AreHeld, CatalogueStored, TierStored}
 use Rattle.durable_write.proofs.Ending.{other_journal}
 use Rattle.durable_write.proofs.Frame.{tier_stays}
 use Rattle.durable_write.proofs.Growing.{filed_still, held_grows, in_grows, safe_grows}
 use Rattle.durable_write.proofs.Holding.{not_in}
-use Rattle.durable_write.proofs.RowCalls.{keys_pushed, keys_switched, of_disk, has_state}
+use Rattle.durable_write.proofs.RowCalls.{keeps_renamed, keys_pushed, keys_renamed, keys_switched, of_disk, has_state}
 use Rattle.durable_write.proofs.Stays.{own_stay, own_long, safe_stays}
 use Rattle.tier_store.specs.Stores.{Stores, tier, with_rows}
 use Rattle.tier_store.specs.Seen.{Seen, seen_on, AtEach, granularities}
-use Rattle.tier_store.specs.Change.{IsKnown, Has, HoldsBy, Call, EndsFrom, Changes, registering, pausing, resuming, Registers, Switches}
+use Rattle.tier_store.specs.Change.{IsKnown, Has, HoldsBy, Call, EndsFrom, Changes, registering, renaming, pausing, resuming, Registers, Renames, Switches}
 use Rattle.tier_store.proofs.Left.{all_left, has_left}
 
 registers : (c : List Row) (name : List ℕ) (about : About) → ((e : RegisterErr) → Refuses c name e → ⊥) → (held : Stores) → held.rows ≡ c → Registers name about held (with_rows held (c ++ registered c name about ∷ []))
 registers c name about free held same = (λ e refuses. free e (subst (λ (rs : List Row). Refuses rs name e) same refuses), ap (λ (rs : List Row). with_rows held (rs ++ registered rs name about ∷ [])) (sym same))
+
+renames : (row : ℕ) (name : List ℕ) (c : List Row) → HasState c row Paused → ((e : RenameErr) → RefusesName c row name e → ⊥) → (held : Stores) → held.rows ≡ c → Renames row name held (with_rows held (renamed row name c))
+renames row name c has free held same = (
+  subst (λ (rs : List Row). HasState rs row Paused) (sym same) has,
+  λ e refuses. free e (subst (λ (rs : List Row). RefusesName rs row name e) same refuses),
+  ap (λ (rs : List Row). with_rows held (renamed row name rs)) (sym same),
+)
 
 switches : (row : ℕ) (from to : State) (c : List Row) (held : Stores) → held.rows ≡ c → HasState c row from → Switches row from to held (with_rows held (switched row to c))
 switches row from to c held same has = (subst (λ (rs : List Row). HasState rs row from) (sym same) has, ap (λ (rs : List Row). with_rows held (switched row to rs)) (sym same))
@@ -224,6 +234,43 @@ module _ {S : Type 0} (files_of : S → Files) (opened_of : S → Name → ℕ) 
       rows_failed (c.rows ++ registered c.rows name about ∷ []) (keeps_more c.rows (registered c.rows name about ∷ [])) named passes elsewhere opened faults (registering name about) (registers c.rows name about free) (keys_pushed c.rows name about free) kept (next refl) (fault refl).0 (λ told. doubt told refl) (fault refl).1
   register_changes name about (Err (of_register.Disk Memory)) named passes elsewhere opened faults is_id rows sound stored refusal exactly unchanged kept doubt next fault memory =
       rows_same (registering name about) Spent (memory refl).0 kept (memory refl).1 (λ held has same. has) (λ failed. failed)
+
+  -- RENAMING
+
+  module _ (row : ℕ) (within : row < length c.rows) (name : List ℕ) (r : Result ℕ RenameErr) (named : made.journal.name ≡ c.journal.name)
+      (passes : IsTrue tells → Passes (AtOwn c.journal.name (SaysEither IsCatalogue c.rows (renamed row name c.rows) c.journal.name)) (past_of d) (past_of after))
+      (elsewhere : IsTrue tells → (n : Name) → (IsOwn c.journal.name n → ⊥) → files_of after n ≡ files_of d n) (opened : IsTrue tells → opened_of after ≡ opened_of d) (faults : faults_of d ≤ faults_of after)
+      (exactly : (e : RenameErr) → RefusesName c.rows row name e → (r ≡ Err e) × (made ≡ c) × (after ≡ d)) where
+    -- where the name was not refused, the change is made
+    taken : ((e : RenameErr) → r ≡ Err e → RefusesName c.rows row name e → ⊥) → HasState c.rows row Paused × ((e : RenameErr) → RefusesName c.rows row name e → ⊥)
+    taken not =
+        let free : (e : RenameErr) → RefusesName c.rows row name e → ⊥ = λ e refuses. not e (exactly e refuses).0 refuses in
+        (elim (has_state c.rows row Paused within) [ inl has ↦ has | inr other ↦ absurd (free of_rename.NotPaused other) ], free)
+
+    refused : (e : RenameErr) → made.rows ≡ c.rows → RefusesName c.rows row name e → Changes tells (renaming row name) before behind (Refused e)
+    refused e kept refuses =
+        let same = exactly e refuses in
+        rows_same (renaming row name) (Refused e) (ap (λ (s : CatalogueState). s.journal) same.1) kept same.2 (λ held has rows. (has, subst (λ (rs : List Row). RefusesName rs row name e) (sym rows) refuses)) (λ failed. failed)
+
+    pub rename_changes : IfOk r (λ id. id ≡ length c.rows) → OnOk r (made.rows ≡ renamed row name c.rows) → OnOk r (made.journal.sound ≡ true) → (IsTrue tells → OnOk r (catalogue.IsStored made (files_of after) (opened_of after) (past_of after)))
+        → IfErr r (IsNameRefusal c.rows row name) → OnErr r (made.rows ≡ c.rows) → (IsTrue tells → r ≡ Err (of_rename.Disk Fault) → catalogue.IsInDoubt made (files_of after) (opened_of after) (past_of after)) → (r ≡ Err (of_rename.Disk Fault) → made.next ≡ renamed row name c.rows)
+        → (r ≡ Err (of_rename.Disk Fault) → (made.journal.sound ≡ false) × Rose (faults_of d) (faults_of after)) → (r ≡ Err (of_rename.Disk Memory) → (made.journal ≡ c.journal) × (after ≡ d)) → Changes tells (renaming row name) before behind (end_of_rename r)
+    rename_changes is_id rows sound stored refusal kept doubt next fault memory = go r refl is_id rows sound stored refusal kept
+      where
+        go : (x : Result ℕ RenameErr) → r ≡ x → IfOk x (λ id. id ≡ length c.rows) → OnOk x (made.rows ≡ renamed row name c.rows) → OnOk x (made.journal.sound ≡ true) → (IsTrue tells → OnOk x (catalogue.IsStored made (files_of after) (opened_of after) (past_of after)))
+            → IfErr x (IsNameRefusal c.rows row name) → OnErr x (made.rows ≡ c.rows) → Changes tells (renaming row name) before behind (end_of_rename x)
+        go (Ok id) is is_id rows sound stored refusal kept =
+            let may = taken (λ e not. let wrong : ◌≡◌ {A = Result ℕ RenameErr} (Ok id) (Err e) = sym is ∙ not in absurd (cc wrong)) in
+            rows_done (renamed row name c.rows) (keeps_renamed c.rows row name may.0) named passes elsewhere opened faults (renaming row name) (renames row name c.rows may.0 may.1) (keys_renamed c.rows row name may.0 may.1) id
+            (λ held same. is_id ∙ ap (λ (rs : List Row). length rs) (sym same)) rows sound stored
+        go (Err of_rename.NotPaused) is is_id rows sound stored refusal kept = refused of_rename.NotPaused kept refusal
+        go (Err (of_rename.NameTaken i)) is is_id rows sound stored refusal kept = refused (of_rename.NameTaken i) kept refusal
+        go (Err (of_rename.KeyTaken i)) is is_id rows sound stored refusal kept = refused (of_rename.KeyTaken i) kept refusal
+        go (Err of_rename.Full) is is_id rows sound stored refusal kept = refused of_rename.Full kept refusal
+        go (Err (of_rename.Disk Fault)) is is_id rows sound stored refusal kept =
+            let may = taken (λ e not refuses. subst (RefusesName c.rows row name) (same_name_err e (of_rename.Disk Fault) (sym not ∙ is)) refuses) in
+            rows_failed (renamed row name c.rows) (keeps_renamed c.rows row name may.0) named passes elsewhere opened faults (renaming row name) (renames row name c.rows may.0 may.1) (keys_renamed c.rows row name may.0 may.1) kept (next is) (fault is).0 (λ told. doubt told is) (fault is).1
+        go (Err (of_rename.Disk Memory)) is is_id rows sound stored refusal kept = rows_same (renaming row name) Spent (memory is).0 kept (memory is).1 (λ held has same. has) (λ failed. failed)
 
   -- SWITCHING
 

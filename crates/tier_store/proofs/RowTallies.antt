@@ -1,5 +1,5 @@
 -- The samples of a row are tallied store by store, and told.
-use Rattle.std.proofs.Common.{◌≡◌, ℕ, ◌+◌, ◌≤◌, ◌<◌, List, [], ◌∷◌, ◌++◌, length, map, take, drop, get_or, max, Option, Some, None, refl, sym, ◌∙◌, ap, subst, arith, append-nil, ◌-◌, Bool}
+use Rattle.std.proofs.Common.{◌≡◌, ℕ, ◌+◌, ◌≤◌, ◌<◌, List, [], ◌∷◌, ◌++◌, length, map, take, drop, get_or, max, Option, Some, None, refl, sym, ◌∙◌, ap, subst, arith, append-nil, Bool}
 use Rattle.std.specs.Prelude.{Contains, IfOk, Result, Ok, Err, All, IsTrue, filter, nat_eq, slice_get}
 use Rattle.std.specs.List.{flat_map}
 use Rattle.std.proofs.lemmas.Grind.{flat_map-append}
@@ -12,7 +12,7 @@ use Rattle.pb_lines.specs.File.{IsFile}
 use Rattle.series_model.specs.declared.sample.Sample.{Sample}
 use Rattle.series_model.specs.Series.{IsRising, RisesFrom, end_of, over, since, end_from}
 use Rattle.series_model.proofs.OverLemmas.{end_of-over, over_flushed}
-use Rattle.series_model.proofs.RisingLists.{RisesFrom-front, since_all, since_none, end_from-append, end_of_last}
+use Rattle.series_model.proofs.RisingLists.{RisesFrom-front, since_all, since_none, end_from-append}
 use Rattle.store_manifest.specs.declared.entry.Entry.{Entry}
 use Rattle.durable_write.specs.Held.{Filed, Shelf, bytes_of, entry_of, file_of, Held, IsFiled, IsIn, samples_of, shelf_of}
 use Rattle.tier_store.specs.Counting.{behind}
@@ -23,11 +23,12 @@ use Rattle.std.proofs.lemmas.List.Sums.{sum_by-append, sum_by_more}
 use Rattle.tier_store.specs.Tallying.{Adds, RiseFrom, end_of_files, listed_count}
 use Rattle.std.proofs.lemmas.Bool.Decides.{Decides-eqb}
 use Rattle.disk_model.specs.Past.{MayLeave}
+use Rattle.pv_catalog.specs.Catalogue.{CatalogueState}
 use Rattle.pv_catalog.specs.declared.row.Row.{Row}
 use Rattle.store_manifest.specs.Manifest.{ManifestState}
 use Rattle.durable_write.proofs.Ending.{filter-map}
 use Rattle.durable_write.specs.Plan.{of_row}
-use Rattle.tier_store.specs.Change.{Has}
+use Rattle.tier_store.specs.Change.{Has, IsKnown}
 use Rattle.tier_store.specs.Pinning.{entries_of}
 use Rattle.tier_store.specs.Seen.{Seen}
 use Rattle.tier_store.specs.Stores.{Stores, list_at, tier}
@@ -90,6 +91,18 @@ module _ (g : Granularity) (shelf : Shelf) (files : Files) (f : Filed) (is : IsW
           let mine : first ≡ x.t = some x.t (was.first ∙ ap first_time (sym same)) in
           ap (λ (n : ℕ). Some n) mine ∙ ap (λ (l : List Sample). first_time (over l f.samples)) same
 
+-- one sample behind those before it
+pub tally_push : (samples : List Sample) (t : Tally) (x : Sample) (count first : ℕ) → IsTally samples t → count ≡ t.count + 1 → ((f : ℕ) → t.first ≡ Some f → first ≡ f) → (t.first ≡ None → first ≡ x.t) → IsTally (samples ++ x ∷ []) (record { count = count; first = Some first; last = Some x.t })
+tally_push samples t x count first was sum some none = record {
+  count = let old = was.count in omega (arith, sum, old, length-append samples (x ∷ []));
+  first = first_is samples refl;
+  last = sym (end_from-append 0 samples (x ∷ []));
+}
+  where
+    first_is : (xs : List Sample) → xs ≡ samples → Some first ≡ first_time (samples ++ x ∷ [])
+    first_is [] same = ap (λ (n : ℕ). Some n) (none (was.first ∙ ap first_time (sym same))) ∙ ap (λ (l : List Sample). first_time (l ++ x ∷ [])) same
+    first_is (y ∷ ys) same = ap (λ (n : ℕ). Some n) (some y.t (was.first ∙ ap first_time (sym same))) ∙ ap (λ (l : List Sample). first_time (l ++ x ∷ [])) same
+
 -- ONE AFTER ANOTHER
 
 abbrev pub flat : List Filed → List Sample
@@ -125,15 +138,15 @@ file_at files entries i e samples are low is rises = go files refl
 
 -- Tallies by what the entries alone say
 
-rise_both : (n : ℕ) (xs ys : List Entry) → RiseFrom n (xs ++ ys) → RiseFrom n xs × RiseFrom (end_of_files n xs) ys
+pub rise_both : (n : ℕ) (xs ys : List Entry) → RiseFrom n (xs ++ ys) → RiseFrom n xs × RiseFrom (end_of_files n xs) ys
 rise_both n [] ys rise = (tt, rise)
 rise_both n (x ∷ xs) ys rise = let both = rise_both (max n (x.last + 1)) xs ys rise.1 in ((rise.0, both.0), both.1)
 
-end_both : (n : ℕ) (xs ys : List Entry) → end_of_files n (xs ++ ys) ≡ end_of_files (end_of_files n xs) ys
+pub end_both : (n : ℕ) (xs ys : List Entry) → end_of_files n (xs ++ ys) ≡ end_of_files (end_of_files n xs) ys
 end_both n [] ys = refl
 end_both n (x ∷ xs) ys = end_both (max n (x.last + 1)) xs ys
 
-count_both : (xs ys : List Entry) → listed_count (xs ++ ys) ≡ listed_count xs + listed_count ys
+pub count_both : (xs ys : List Entry) → listed_count (xs ++ ys) ≡ listed_count xs + listed_count ys
 count_both xs ys = sum_by-append (λ (e : Entry). e.count) xs ys
 
 -- the file at a place of the list
@@ -168,31 +181,23 @@ adds_more old was new es i e within is before step rise =
     let count = next.count in
     (omega (arith, sum, more, count), made.1 ∙ ap (λ (n : ℕ). max n (e.last + 1)) end ∙ sym next.end)
 
-pub ends_more : (n : ℕ) (es : List Entry) (i : ℕ) (e : Entry) (was new : Tally) → i < length es → e ≡ get_or es i e → behind was.last ≡ end_of_files n (take i es) → behind new.last ≡ max (behind was.last) (e.last + 1) → behind new.last ≡ end_of_files n (take (i + 1) es)
-ends_more n es i e was new within is before step =
+pub ends_more : (n : ℕ) (es : List Entry) (i : ℕ) (e : Entry) (was now : ℕ) → i < length es → e ≡ get_or es i e → was ≡ end_of_files n (take i es) → now ≡ max was (e.last + 1) → now ≡ end_of_files n (take (i + 1) es)
+ends_more n es i e was now within is before step =
     let one : take (i + 1) es ≡ take i es ++ e ∷ [] = take_more es i e within ∙ ap (λ (x : Entry). take i es ++ x ∷ []) (sym is) in
     step ∙ (ap (λ (k : ℕ). max k (e.last + 1)) before ∙ sym (ap (end_of_files n) one ∙ end_both n (take i es) (e ∷ [])))
 
--- three lists, one after another
-pub ends_three : (none one two three : Tally) (xs ys zs : List Entry) → behind none.last ≡ 0 → behind one.last ≡ end_of_files (behind none.last) xs → behind two.last ≡ end_of_files (behind one.last) ys → behind three.last ≡ end_of_files (behind two.last) zs → behind three.last ≡ end_of_files 0 ((xs ++ ys) ++ zs)
-ends_three none one two three xs ys zs zero first second third =
-    let a : behind one.last ≡ end_of_files 0 xs = first ∙ ap (λ (n : ℕ). end_of_files n xs) zero in
-    let b : behind two.last ≡ end_of_files 0 (xs ++ ys) = second ∙ (ap (λ (n : ℕ). end_of_files n ys) a ∙ sym (end_both 0 xs ys)) in
-    third ∙ (ap (λ (n : ℕ). end_of_files n zs) b ∙ sym (end_both 0 (xs ++ ys) zs))
+-- one list after another
+pub ends_both : (n mid last : ℕ) (xs ys : List Entry) → mid ≡ end_of_files n xs → last ≡ end_of_files mid ys → last ≡ end_of_files n (xs ++ ys)
+ends_both n mid last xs ys first second = second ∙ (ap (λ (k : ℕ). end_of_files k ys) first ∙ sym (end_both n xs ys))
 
-pub adds_three : (none one two three : Tally) (xs ys zs : List Entry) → none.count ≡ 0 → behind none.last ≡ 0 → Adds none xs one → Adds one ys two → Adds two zs three → RiseFrom 0 ((xs ++ ys) ++ zs) → three.count ≡ listed_count ((xs ++ ys) ++ zs)
-adds_three none one two three xs ys zs zero start first second third rise =
-    let outer = rise_both 0 (xs ++ ys) zs rise in
-    let inner = rise_both 0 xs ys outer.0 in
-    let a = first (subst (λ (n : ℕ). RiseFrom n xs) (sym start) inner.0) in
-    let a_end : behind one.last ≡ end_of_files 0 xs = a.1 ∙ ap (λ (n : ℕ). end_of_files n xs) start in
-    let b = second (subst (λ (n : ℕ). RiseFrom n ys) (sym a_end) inner.1) in
-    let b_end : behind two.last ≡ end_of_files 0 (xs ++ ys) = b.1 ∙ (ap (λ (n : ℕ). end_of_files n ys) a_end ∙ sym (end_both 0 xs ys)) in
-    let c = third (subst (λ (n : ℕ). RiseFrom n zs) (sym b_end) outer.1) in
-    let one_count = a.0 in
-    let two_count = b.0 in
-    let three_count = c.0 in
-    omega (arith, zero, one_count, two_count, three_count, count_both xs ys, count_both (xs ++ ys) zs)
+pub adds_both : (old mid new : Tally) (xs ys : List Entry) → Adds old xs mid → Adds mid ys new → Adds old (xs ++ ys) new
+adds_both old mid new xs ys first second rise =
+    let both = rise_both (behind old.last) xs ys rise in
+    let a = first both.0 in
+    let b = second (subst (λ (n : ℕ). RiseFrom n ys) (sym a.1) both.1) in
+    let one = a.0 in
+    let two = b.0 in
+    (omega (arith, one, two, count_both xs ys), ends_both (behind old.last) (behind mid.last) (behind new.last) xs ys a.1 b.1)
 
 pub ok_weaker : {A E : Type 0} (P Q : A → Type 0) (r : Result A E) → ((a : A) → P a → Q a) → IfOk r P → IfOk r Q
 ok_weaker P Q (Ok a) step is = step a is
@@ -210,13 +215,6 @@ ends_last None (x ∷ xs) is = let l = last_from x xs in let end = l.2 in absurd
 ends_last (Some t) [] is = absurd (omega (arith, is))
 ends_last (Some t) (x ∷ xs) is = let l = last_from x xs in let end = l.2 in let same : t ≡ l.0 = omega (arith, is, end) in ap (λ (n : ℕ). let o : Option ℕ = Some n in o) same ∙ sym l.1
 
-pub last_behind : (samples tail : List Sample) (x : Sample) → slice_get tail (length tail - 1) ≡ Some x → ◌≡◌ {A = Option ℕ} (Some x.t) (last_time (samples ++ tail))
-last_behind samples tail x here = ends_last (Some x.t) (samples ++ tail) (sym (end_from-append 0 samples tail ∙ go tail refl))
-  where
-    go : (ys : List Sample) → ys ≡ tail → end_from (end_of samples) tail ≡ x.t + 1
-    go [] same = let none : ◌≡◌ {A = Option Sample} None (Some x) = ap (λ (l : List Sample). slice_get l (length l - 1)) same ∙ here in absurd (cc (none))
-    go (y ∷ ys) same = ap (λ (l : List Sample). end_from (end_of samples) l) (sym same) ∙ (ap end_of same ∙ end_of_last tail x here)
-
 -- WHAT A STORE LISTS OF A ROW
 
 -- each is of the row
@@ -230,15 +228,18 @@ own_rows ms k row n low = go (slice_get ms k)
     go None = all_none (λ (e : Entry). e.series < n)
     go (Some m) = λ j d lt. let own = (Decides-eqb (get_or (filter test m.entries) j d).series row).0 (filter_passes test m.entries j d lt) in omega (arith, own, low)
 
+pub known_files : (catalogue : CatalogueState) (ms : List ManifestState) (held : Stores) → IsKnown catalogue ms held → (k row : ℕ) → k < 3 → entries_of row (slice_get ms k) ≡ map entry_of (of_row row (list_at k held))
+known_files catalogue ms held known k row low =
+    let m = manifest_at ms k (let three = known.three in omega (arith, three, low)) in
+    let test : Entry → Bool = λ e. nat_eq e.series row in
+    ap (entries_of row) m.1 ∙ (ap (filter test) (known.each k m.0 m.1).entries ∙ filter-map test (list_at k held))
+
 module _ (tells : Bool) (at : Seen) (held : Stores) (has : Has tells at held) (k row : ℕ) (low : k < 3) where
   manifest : (m : ManifestState) × (slice_get at.manifests k ≡ Some m)
   manifest = let three = has.known.three in manifest_at at.manifests k (omega (arith, three, low))
 
   pub own_files : entries_of row (slice_get at.manifests k) ≡ map entry_of (of_row row (list_at k held))
-  own_files =
-      let m = manifest in
-      let test : Entry → Bool = λ e. nat_eq e.series row in
-      ap (entries_of row) m.1 ∙ (ap (filter test) (has.known.each k m.0 m.1).entries ∙ filter-map test (list_at k held))
+  own_files = known_files at.catalogue at.manifests held has.known k row low
 
   -- and at least as long as it is listed
   pub own_long : IsTrue tells → (later : Files) (rows : List Row) → later ≡ at.files → rows ≡ at.catalogue.rows → All (IsLong later (k + 1, rows)) (entries_of row (slice_get at.manifests k))

@@ -8,7 +8,7 @@ use Rattle.event_types.specs.declared.about.About.{About}
 use Rattle.event_types.specs.declared.about.State.{State}
 use Rattle.gate_journal.specs.Generations.{IsOwn}
 use Rattle.gate_journal.proofs.Owning.{own_store}
-use Rattle.pv_catalog.specs.Catalogue.{CatalogueState, registered}
+use Rattle.pv_catalog.specs.Catalogue.{CatalogueState, registered, renamed}
 use Rattle.pv_catalog.specs.Rows.{KeepsRows, switched}
 use Rattle.pv_catalog.specs.declared.row.Row.{Row}
 use Rattle.pv_catalog.proofs.Standing.{keeps_more, keeps_same, keeps_switched}
@@ -17,12 +17,13 @@ use Rattle.store_manifest.specs.declared.entry.Entry.{Entry}
 use Rattle.store_manifest.specs.Manifest.{ManifestState}
 use Rattle.durable_write.specs.Ends.{End, Done, Refused, Failed, Spent}
 use Rattle.durable_write.specs.Held.{Filed, Held, Listing, IsListed, IsListedTo, ListsStill, entry_of, file_of, listing_of}
+use Rattle.durable_write.proofs.RowCalls.{keeps_renamed}
 use Rattle.durable_write.proofs.Growing.{file_grows}
 use Rattle.durable_write.proofs.There.{contains_map}
 use Rattle.durable_write.proofs.Three.{same_cases}
 use Rattle.tier_store.specs.Stores.{Stores, list_at, tier, with_rows}
 use Rattle.tier_store.specs.Seen.{Seen, seen_on}
-use Rattle.tier_store.specs.Change.{IsKnown, Has, Doubts, IsOpen, HasEither, Call, EndsFrom, Changes, Registers, Switches}
+use Rattle.tier_store.specs.Change.{IsKnown, Has, Doubts, IsOpen, HasEither, Call, EndsFrom, Changes, Registers, Renames, Switches}
 use Rattle.tier_store.specs.Pinned.{SeenAll, beside, listing_at, IsHeldTo, NoneShorter, IsNoShorter, IsRetiredTo, IsThereTo, KeepsShown, KeepsFronts}
 use Rattle.tier_store.specs.declared.limbo.Retired.{Retired}
 use Rattle.tier_store.proofs.Places.{within_three, one_manifest, tier_other}
@@ -387,6 +388,11 @@ pub registers_on : (name : List ℕ) (about : About) (held made : Stores) → Re
 registers_on name about held made by =
     let rows : made.rows ≡ held.rows ++ registered held.rows name about ∷ [] = ap (λ (s : Stores). s.rows) by.1 in
     (by.1 ∙ ap (with_rows held) (sym rows), subst (KeepsRows held.rows) (sym rows) (keeps_more held.rows (registered held.rows name about ∷ [])))
+
+pub renames_on : (row : ℕ) (name : List ℕ) (held made : Stores) → Renames row name held made → (made ≡ with_rows held made.rows) × KeepsRows held.rows made.rows
+renames_on row name held made by =
+    let rows : made.rows ≡ renamed row name held.rows = ap (λ (s : Stores). s.rows) by.2 in
+    (by.2 ∙ ap (with_rows held) (sym rows), subst (KeepsRows held.rows) (sym rows) (keeps_renamed held.rows row name by.0))
 
 pub switches_on : (row : ℕ) (from to : State) (held made : Stores) → Switches row from to held made → (made ≡ with_rows held made.rows) × KeepsRows held.rows made.rows
 switches_on row from to held made by =

@@ -1,4 +1,5 @@
--- How a row is pinned for a query: which of its files, in which order, and that they answer the query.
+-- How a variable is pinned for a query: which files of its rows, in which order, and that they answer the query.
+use Rattle.std.specs.List.{flat_map}
 use Rattle.std.specs.FinMap.{FinMap, get, insert}
 use Rattle.std.specs.Ordering.{nat_cmp}
 use Rattle.std.specs.Prelude.{◌≡◌, ◌<◌, ◌^◌, ◌+◌, ◌++◌, ℕ, List, [], ◌∷◌, length, map, filter, nat_eq, nat_lt, ◌&&◌, if◌then◌else◌, Bool, Option, None, Some, IsSome, IsTrue, slice_get}
@@ -13,6 +14,7 @@ use Rattle.piece_choice.specs.Choosing.{IsChosen, listed}
 use Rattle.piece_choice.specs.declared.choosing.Listed.{Listed}
 use Rattle.pinned_pieces.specs.Pieces.{PinOf}
 use Rattle.pinned_pieces.specs.declared.piece.PinnedFile.{PinnedFile}
+use Rattle.pv_catalog.specs.Lines.{line}
 use Rattle.pv_catalog.specs.Rows.{HasName}
 use Rattle.pv_catalog.specs.declared.row.Row.{Row}
 use Rattle.series_model.specs.Retrieval.{answer}
@@ -23,9 +25,9 @@ use Rattle.store_manifest.specs.Manifest.{ManifestState}
 use Rattle.store_manifest.specs.declared.entry.Entry.{Entry}
 use Rattle.durable_write.specs.Held.{Filed, file_of}
 use Rattle.durable_write.specs.Plan.{of_row}
-use Rattle.tier_store.specs.Stores.{Stores, samples_in}
+use Rattle.tier_store.specs.Stores.{Stores, whole_in}
 
--- THE FILES OF A ROW
+-- THE FILES OF A VARIABLE
 
 -- a file, and the store that lists it
 pub record Placed : Type 0 where
@@ -43,13 +45,17 @@ placed store row files = map (placed_at store) (of_row row files)
 abbrev pub files_in : ℕ → Stores → List Placed
 files_in row s = (placed Long row s.long ++ placed Medium row s.medium) ++ placed Short row s.short
 
+-- all files of the variable that a row stands for: those of its first base come first, and the row's own last
+abbrev pub files_of_line : ℕ → Stores → List Placed
+files_of_line row s = flat_map (λ (k : ℕ). files_in k s) (line s.rows row)
+
 -- a file's store, by its number, and its entry
 abbrev pub listed_of : Placed → Listed
 listed_of p = record { store = index_of p.store + 1; entry = p.file.entry }
 
--- the file as one of a row
-abbrev pub state_of : ℕ → Placed → FileState
-state_of row p = record { row = row; store = p.store; part = p.file.entry.part; head = p.file.head; samples = p.file.samples }
+-- the file as one of its own row
+abbrev pub state_of : Placed → FileState
+state_of p = record { row = p.file.entry.series; store = p.store; part = p.file.entry.part; head = p.file.head; samples = p.file.samples }
 
 -- what a manifest lists of a row
 abbrev pub entries_of : ℕ → Option ManifestState → List Entry
@@ -59,6 +65,10 @@ entries_of row (Some m) = filter (λ (e : Entry). nat_eq e.series row) m.entries
 -- what the manifests list of a row, in the same order
 abbrev pub listed_in : ℕ → List ManifestState → List Listed
 listed_in row ms = (listed 3 (entries_of row (slice_get ms 2)) ++ listed 2 (entries_of row (slice_get ms 1))) ++ listed 1 (entries_of row (slice_get ms 0))
+
+-- and of the variable that a row stands for
+abbrev pub listed_of_line : List Row → List ManifestState → ℕ → List Listed
+listed_of_line rows ms row = flat_map (λ (k : ℕ). listed_in k ms) (line rows row)
 
 -- PINS
 
@@ -76,8 +86,9 @@ has_bytes l = nat_lt 0 l.entry.len
 abbrev pub piece_of : List Row → Listed → PinnedFile
 piece_of rows l = record { name = file_of (l.store, rows) l.entry; head_len = l.entry.head_len; len = l.entry.len }
 
--- An owner has one pin more: of a row, under the least number that was free. Of all files that are listed of the row, those are pinned that
--- are chosen for the query, in their order; a file of which no byte is listed can't be one, and isn't pinned.
+-- An owner has one pin more: of a row, under the least number that was free. Of all files that are listed of the variable, those are pinned
+-- that are chosen for the query, in their order, so few that each has a number of 32 bits; a file of which no byte is listed can't be one, and
+-- isn't pinned.
 pub record IsPinned (rows : List Row) (all : List Listed) (who i : ℕ) (query : Query) (tail : List Sample) (old new : FinMap nat_cmp PinOf) (pin : ℕ) (name : List ℕ) (about : About) (count : ℕ) (told : List Sample) : Type 0 where
   pub row : Row
   pub here : slice_get rows i ≡ Some row
@@ -88,37 +99,37 @@ pub record IsPinned (rows : List Row) (all : List Listed) (who i : ℕ) (query :
   pub least : (lower : ℕ) → lower < pin → IsSome (get old lower)
   pub opened : List Listed
   pub chosen : IsChosen query.from (files_to query tail) all opened
+  pub few : length opened < 2 ^ 32
   pub pieces : List PinnedFile
   pub are : pieces ≡ map (piece_of rows) (filter has_bytes opened)
   pub number : count ≡ length pieces
   pub made : new ≡ insert old pin (record { owner = who; pieces = pieces })
 
--- The files that are opened stand behind one another among the row's, and are so few that each has a number of 32 bits. Where what is held stands, all of them are pinned, and with a
--- tail over them they answer the query as all that is held of the row does with that tail.
+-- The files that are opened stand behind one another among the variable's. Where what is held stands, all of them are pinned, and with a tail
+-- over them they answer the query as all that is held of the variable does with that tail.
 pub record AreEnough (held : Stores) (i : ℕ) (query : Query) (tail : List Sample) (opened : List Listed) : Type 0 where
   pub closed : List Placed
   pub files : List Placed
   pub behind : List Placed
-  pub split : files_in i held ≡ closed ++ (files ++ behind)
+  pub split : files_of_line i held ≡ closed ++ (files ++ behind)
   pub are : map listed_of files ≡ opened
-  pub few : length opened < 2 ^ 32
   pub all : IsTrue held.stands → filter has_bytes opened ≡ opened
   pub answers : IsTrue held.stands → IsRising tail
-      → answer (over (over_pieces [] (map (state_of i) files)) tail) query ≡ answer (over (samples_in i held) tail) query
+      → answer (over (over_pieces [] (map state_of files)) tail) query ≡ answer (over (whole_in i held) tail) query
 
 -- no row has the name
 abbrev pub HasNoName : List Row → List ℕ → Type 0
 HasNoName rows name = (i : ℕ) → HasName rows i name → ⊥
 
--- How one is answered who asks for a pin, by the rows and by what the memory lists of each: no row has the name, or it is pinned.
-pub data PinsOf {R : Type 0} (rows : List Row) (all : ℕ → List Listed) (who : ℕ) (name : List ℕ) (query : Query) (tail : List Sample) (old new : FinMap nat_cmp PinOf) : Answer R → Type 0 where
-  unknown : HasNoName rows name → new ≡ old → PinsOf rows all who name query tail old new NoSuchVariable
+-- How one is answered who asks for a pin, by the rows and by what the memory lists: no row has the name, or it is pinned.
+pub data PinsOf {R : Type 0} (rows : List Row) (ms : List ManifestState) (who : ℕ) (name : List ℕ) (query : Query) (tail : List Sample) (old new : FinMap nat_cmp PinOf) : Answer R → Type 0 where
+  unknown : HasNoName rows name → new ≡ old → PinsOf rows ms who name query tail old new NoSuchVariable
   found : (i pin count : ℕ) (told : List ℕ) (about : About) (rest : List Sample) → HasName rows i name
-      → IsPinned rows (all i) who i query tail old new pin told about count rest → PinsOf rows all who name query tail old new (Pinned pin told about count rest)
+      → IsPinned rows (listed_of_line rows ms i) who i query tail old new pin told about count rest → PinsOf rows ms who name query tail old new (Pinned pin told about count rest)
 
 -- And by what is held: the files that are pinned are enough for the query.
 pub data SaysPinned {R : Type 0} (who : ℕ) (name : List ℕ) (query : Query) (tail : List Sample) (old new : FinMap nat_cmp PinOf) : Answer R → Stores → Type 0 where
   none_has : {held : Stores} → HasNoName held.rows name → new ≡ old → SaysPinned who name query tail old new NoSuchVariable held
   is_pinned : {held : Stores} (i pin count : ℕ) (told : List ℕ) (about : About) (rest : List Sample) → HasName held.rows i name
-      → (p : IsPinned held.rows (map listed_of (files_in i held)) who i query tail old new pin told about count rest) → AreEnough held i query tail p.opened
+      → (p : IsPinned held.rows (map listed_of (files_of_line i held)) who i query tail old new pin told about count rest) → AreEnough held i query tail p.opened
       → SaysPinned who name query tail old new (Pinned pin told about count rest) held

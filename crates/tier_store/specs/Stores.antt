@@ -1,7 +1,8 @@
 -- What the three stores hold together: the rows, and in each store the partition files that are listed.
-use Rattle.std.specs.Prelude.{ℕ, zero, suc, ◌+◌, List, Bool, nat_eq, if◌then◌else◌}
+use Rattle.std.specs.Prelude.{ℕ, zero, suc, ◌+◌, List, [], ◌∷◌, Bool, nat_eq, if◌then◌else◌}
 use Rattle.series_model.specs.declared.sample.Sample.{Sample}
 use Rattle.series_model.specs.Series.{over}
+use Rattle.pv_catalog.specs.Lines.{line}
 use Rattle.pv_catalog.specs.declared.row.Row.{Row}
 use Rattle.durable_write.specs.Held.{Filed, Held, samples_of}
 
@@ -41,6 +42,16 @@ with_list i files s = record {
 abbrev pub with_rows : Stores → List Row → Stores
 with_rows s rows = record { rows = rows; short = s.short; medium = s.medium; long = s.long; stands = s.stands }
 
--- What is held of a row: a later store's samples go before an earlier one's, which are held where they are later than all of those.
+-- What is held of a row itself: a later store's samples go before an earlier one's, which are held where they are later than all of those.
 abbrev pub samples_in : ℕ → Stores → List Sample
 samples_in row s = over (over (samples_of row s.long) (samples_of row s.medium)) (samples_of row s.short)
+
+-- over samples those of rows, one row after another
+abbrev pub overs : Stores → List Sample → List ℕ → List Sample
+overs s xs [] = xs
+overs s xs (row ∷ rows) = overs s (over xs (samples_in row s)) rows
+
+-- The whole of a row: what is held of the variable under all its names up to the row's, the first one's before. A variable that was renamed
+-- has a row for each name, over the one before it.
+abbrev pub whole_in : ℕ → Stores → List Sample
+whole_in row s = overs s [] (line s.rows row)

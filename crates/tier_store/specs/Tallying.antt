@@ -1,6 +1,8 @@
 -- What the entries alone say of the samples of files that are read one after another.
 use Rattle.std.specs.Prelude.{◌≡◌, ◌≤◌, ◌+◌, ℕ, List, [], ◌∷◌, ◌++◌, max, slice_get}
-use Rattle.std.specs.List.{sum_by}
+use Rattle.std.specs.List.{flat_map, sum_by}
+use Rattle.pv_catalog.specs.Lines.{line}
+use Rattle.pv_catalog.specs.declared.row.Row.{Row}
 use Rattle.store_manifest.specs.Manifest.{ManifestState}
 use Rattle.store_manifest.specs.declared.entry.Entry.{Entry}
 use Rattle.tier_store.specs.Counting.{behind}
@@ -28,3 +30,7 @@ Adds old entries new = RiseFrom (behind old.last) entries → (new.count ≡ old
 -- what the stores list of a row, in the order in which it is read: of store 3, of store 2 and of store 1
 abbrev pub entries_in : ℕ → List ManifestState → List Entry
 entries_in row ms = (entries_of row (slice_get ms 2) ++ entries_of row (slice_get ms 1)) ++ entries_of row (slice_get ms 0)
+
+-- what they list of the rows of a row's line, in the order in which it is read: of the first one, and at last of the row itself
+abbrev pub entries_of_line : ℕ → List Row → List ManifestState → List Entry
+entries_of_line row rows ms = flat_map (λ k. entries_in k ms) (line rows row)

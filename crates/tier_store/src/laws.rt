@@ -18,13 +18,13 @@ ghost use Rattle.durable_write.specs.Flush.{put_all, with_batch};
 ghost use Rattle.durable_write.specs.Held.{Filed, Held, entry_of, samples_of};
 ghost use Rattle.durable_write.specs.Plan.{IsLastOf};
 ghost use Rattle.durable_write.specs.Stored.{AreHeld};
-ghost use Rattle.tier_store.specs.Stores.{Stores, list_at, samples_in, with_list};
+ghost use Rattle.tier_store.specs.Stores.{Stores, list_at, samples_in, whole_in, with_list};
 ghost use Rattle.tier_store.specs.Seen.{seen_on, AtEach, granularities};
 ghost use Rattle.tier_store.specs.Stored.{HoldsAll};
 ghost use Rattle.std.specs.FinMap.{FinMap, empty, remove};
 ghost use Rattle.std.specs.Ordering.{nat_cmp};
 ghost use Rattle.pinned_pieces.specs.Pieces.{PinOf};
-ghost use Rattle.pv_catalog.specs.Rows.{KeepsRows};
+ghost use Rattle.pv_catalog.specs.Rows.{AreRows, KeepsRows};
 ghost use Rattle.tier_store.specs.Copied.{IsPartFile, WritesNext, end_after};
 ghost use Rattle.tier_store.specs.Copying.{CopiesBeside, KnowsHeads};
 ghost use Rattle.tier_store.specs.Finding.{SplitsAt};
@@ -33,7 +33,7 @@ ghost use Rattle.tier_store.specs.Limbo.{LimboStands, LeavesKept};
 ghost use Rattle.tier_store.specs.Moving.{GoesBeside, LeavesNames, RunsBeside, names_of};
 ghost use Rattle.tier_store.specs.Pinned.{beside, NoneOf, PinsStand, KeepsShown};
 ghost use Rattle.tier_store.specs.declared.limbo.Retired.{Retired};
-ghost use Rattle.tier_store.specs.Change.{IsKnown, Has, HasEither, IsOpen, Changes, Flushes, CanList, flushing, SameFiles};
+ghost use Rattle.tier_store.specs.Change.{IsKnown, Has, HasEither, IsOpen, Changes, Flushes, Renames, CanList, flushing, SameFiles};
 ghost use Rattle.tier_store.specs.Given.{ChangesGiven};
 ghost use Rattle.tier_store.specs.Revival.{AreWhole, FlushesOver, flushing_over, revived, fresh};
 
@@ -65,6 +65,13 @@ pub fn one_journal_is_in_doubt<D: Disk>()
 pub fn a_flush_adds_the_batch()
     ensures { (catalogue : CatalogueState) (ms : List ManifestState) (batch : List RowSamples) (old new : Stores) → IsKnown catalogue ms old → IsTrue old.stands → All (λ (p : RowSamples). IsRising p.samples) batch → Flushes batch old new
         → (row : ℕ) → samples_in row new ≡ with_batch row (samples_in row old) batch }
+{}
+
+/// A variable keeps what is held of it under its new name, and each row that was there keeps its whole.
+pub fn a_rename_keeps_the_whole()
+    ensures new { (catalogue : CatalogueState) (ms : List ManifestState) (row : ℕ) (name : List ℕ) (old made : Stores)
+        → IsKnown catalogue ms old → IsTrue old.stands → AreRows old.rows → AreRows made.rows → Renames row name old made → whole_in (length old.rows) made ≡ whole_in row old }
+    ensures others { (row : ℕ) (name : List ℕ) (old made : Stores) → AreRows old.rows → Renames row name old made → (i : ℕ) → i < length old.rows → whole_in i made ≡ whole_in i old }
 {}
 
 /// A flush puts behind what store 1 lists of a row those samples of the batch that are later than all that it lists and has in limbo of the

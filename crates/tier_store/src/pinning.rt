@@ -1,5 +1,6 @@
-// The pinning of a row's files for a query.
+// The pinning of a variable's files for a query.
 ghost use Rattle.std.specs.Prelude.{◌≡◌, ◌<◌, ◌++◌, ◌∷◌, [], ℕ, List, All, Ok, length, map, filter, IfOk, OnOk, OnErr, IfErr};
+ghost use Rattle.std.specs.List.{flat_map};
 ghost use Rattle.act_model.specs.declared.acts.Answer.TheVariants.{NoSuchVariable};
 ghost use Rattle.disk_model.specs.declared.disk.DiskErr.TheVariants.{Memory};
 ghost use Rattle.piece_choice.specs.Choosing.{IsChoice};
@@ -39,24 +40,37 @@ fn needed_to(query: Query, tail: &[Sample]) -> Option<u64>
     }
 }
 
-// Of what is listed of a row, the files that an answer needs over which the tail stands.
+// Tells a choice what is listed of a row, behind what was told.
+fn add_row(choice: &mut Choice, manifests: &[Manifest], row: u32) -> Result<(), AllocError>
+    requires three { length manifests.now ≡ 3 }
+
+    ensures chosen { (told : List ListedValue) → IsChoice told choice.old → OnOk result (IsChoice (told ++ listed_in row manifests.now) choice.new) }
+    ensures from { choice.new.from ≡ choice.old.from }
+    ensures to { choice.new.to ≡ choice.old.to }
+{
+    choice.add(3, manifests[2].entries(row))?;
+    choice.add(2, manifests[1].entries(row))?;
+    choice.add(1, manifests[0].entries(row))
+}
+
+// Of what is listed of these rows, one after another, the files that an answer needs over which the tail stands.
 fn chosen(
     alloc: Global,
     manifests: &[Manifest],
-    row: u32,
+    rows: &[u32],
     query: Query,
     tail: &[Sample],
 ) -> Result<Choice, AllocError>
     requires three { length manifests.now ≡ 3 }
 
-    ensures told { IfOk result (IsChoice (listed_in row manifests.now)) }
+    ensures told { IfOk result (IsChoice (flat_map (λ (k : ℕ). listed_in k manifests.now) rows.now)) }
     ensures from { IfOk result (λ choice. choice.from ≡ query.from) }
     ensures to { IfOk result (λ choice. choice.to ≡ files_to query tail.now) }
 {
     let mut choice = Choice::new(alloc, query.from, needed_to(query, tail));
-    choice.add(3, manifests[2].entries(row))?;
-    choice.add(2, manifests[1].entries(row))?;
-    choice.add(1, manifests[0].entries(row))?;
+    for row in rows {
+        add_row(&mut choice, manifests, *row)?;
+    }
     Ok(choice)
 }
 
@@ -110,7 +124,7 @@ fn pieces_of(alloc: Global, rows: &[Row], files: &[Listed]) -> Result<Vec<Pinned
 }
 
 impl<D: Disk> TierStore<D> {
-    // Pins the files of a row.
+    // Pins the files of the variable that a row stands for. So many that one had no number of 32 bits are more than can be kept.
     fn pin_row(
         &mut self,
         who: u64,
@@ -122,7 +136,7 @@ impl<D: Disk> TierStore<D> {
         requires three { length self.old.manifests.items ≡ 3 }
 
         ensures pinned { (name : List ℕ) → HasName self.old.catalogue.rows row name
-            → IfOk result (PinsOf self.old.catalogue.rows (λ i. listed_in i self.old.manifests.items) who name query tail self.old.pinned self.new.pinned) }
+            → IfOk result (PinsOf self.old.catalogue.rows self.old.manifests.items who name query tail self.old.pinned self.new.pinned) }
         ensures unchanged { OnErr result (self.new.pinned ≡ self.old.pinned) }
         ensures same { (self.new.catalogue ≡ self.old.catalogue) × (self.new.manifests ≡ self.old.manifests) × (self.new.disk ≡ self.old.disk) }
         ensures limbo { self.new.limbo ≡ self.old.limbo }
@@ -131,8 +145,13 @@ impl<D: Disk> TierStore<D> {
         let found = &rows[row as usize];
         let name = found.name.clone()?;
         let about = copied(&found.about)?;
-        let choice = chosen(self.alloc, &self.manifests, row, query, tail.items())?;
-        let pieces = pieces_of(self.alloc, rows, choice.opened())?;
+        let line = self.catalogue.line(self.alloc, row)?;
+        let choice = chosen(self.alloc, &self.manifests, &line, query, tail.items())?;
+        let opened = choice.opened();
+        if opened.len() > u32::MAX as usize {
+            return Err(AllocError);
+        }
+        let pieces = pieces_of(self.alloc, rows, opened)?;
         let count = pieces.len() as u64;
         let pin = self.pinned.pin(who, pieces)?;
         Ok(Answer::Pinned {
@@ -154,7 +173,7 @@ impl<D: Disk> TierStore<D> {
     ) -> Result<Answer<D::Reader>, DiskErr>
         requires three { length self.old.manifests.items ≡ 3 }
 
-        ensures pinned { IfOk result (PinsOf self.old.catalogue.rows (λ i. listed_in i self.old.manifests.items) who name.now query tail self.old.pinned self.new.pinned) }
+        ensures pinned { IfOk result (PinsOf self.old.catalogue.rows self.old.manifests.items who name.now query tail self.old.pinned self.new.pinned) }
         ensures unknown { HasNoName self.old.catalogue.rows name.now → (result ≡ Ok NoSuchVariable) × (self.new ≡ self.old) }
         ensures memory { IfErr result (λ e. (e ≡ Memory) × (self.new.pinned ≡ self.old.pinned)) }
         ensures same { (self.new.catalogue ≡ self.old.catalogue) × (self.new.manifests ≡ self.old.manifests) × (self.new.disk ≡ self.old.disk) }
@@ -168,13 +187,15 @@ impl<D: Disk> TierStore<D> {
     }
 
     /// Pins the files of a variable that its samples of an interval need, as long as they are listed now, for an owner: under the least
-    /// number that no pin has. It tells how many these are; `tail` is told with them, and stands for the samples that no store lists yet.
-    /// The files, read in the order in which they are pinned, and the tail over them answer the query as all samples do. Where the tail is
-    /// empty or begins later than both ends of the interval, the last files stay closed, as many as begin so late. A file of which no byte
-    /// is listed, as only damaged stores have one, isn't pinned.
+    /// number that no pin has. These are files of the row that has the name and of its bases, those of the first base first. It tells how many
+    /// they are; `tail` is told with them, and stands for the samples that no store lists yet. The files, read in the order in which they are
+    /// pinned, and the tail over them answer the query as all samples do. Where the tail is empty or begins later than both ends of the
+    /// interval, the last files stay closed, as many as begin so late. A file of which no byte is listed, as only damaged stores have one,
+    /// isn't pinned.
     ///
     /// It needs that nothing stands in doubt, as after `review`, and calls no disk. `NoSuchVariable` comes exactly where no row has the name,
-    /// and else only want of memory is answered in place of `Pinned`; the pins are as they were after both.
+    /// and else only want of memory is answered in place of `Pinned`, as it is where the files are 2^32 or more; the pins are as they were
+    /// after both.
     pub fn pin(&mut self, who: u64, name: &[u8], query: Query, tail: Samples) -> Answer<D::Reader>
         requires has { (held : Stores) × Has D.tells (seen D.Disk self.old) held }
 

@@ -1,11 +1,11 @@
 // How many samples are held of a row, by what the stores list of it. Where a later store's samples reach into an earlier store's file, as
 // while a move is half done, that file is read.
-ghost use Rattle.std.specs.Prelude.{◌≡◌, ◌≤◌, ◌<◌, ◌+◌, List, [], All, Some, length, map, max, IfOk, IsErrOf, IsTrue};
+ghost use Rattle.std.specs.Prelude.{◌≡◌, ◌≤◌, ◌<◌, ◌+◌, ◌++◌, ◌∷◌, ◌↔◌, List, [], All, Some, length, map, max, IfOk, IfSome, IsErrOf, IsTrue};
 ghost use Rattle.std.specs.List.{flat_map};
 ghost use Rattle.disk_model.specs.Files.{Rose};
 ghost use Rattle.partition_names.specs.declared.granularity.Granularity.{Granularity};
 ghost use Rattle.series_model.specs.Series.{since, over, IsRising};
-ghost use Rattle.series_model.specs.declared.sample.Sample.{Sample};
+ghost use Rattle.series_model.specs.declared.sample.Sample.{Sample as SampleValue};
 ghost use Rattle.store_manifest.specs.declared.entry.Entry.{Entry as EntryValue};
 ghost use Rattle.durable_write.specs.Held.{Filed, entry_of};
 ghost use Rattle.tier_store.specs.Counting.{ReadsDisk, behind};
@@ -16,6 +16,7 @@ use crate::counting::count_later;
 use disk_model::{Disk, DiskErr};
 use durable_write::file_name;
 use pv_catalog::Row;
+use series_model::Sample;
 use std::alloc::Global;
 use store_manifest::Entry;
 
@@ -49,6 +50,17 @@ fn later(before: Option<u64>, last: u64) -> Option<u64>
         Some(t) => Some(t.max(last)),
         None => Some(last),
     }
+}
+
+// The moment of the last sample by these entries, but no earlier one than that given.
+pub(crate) fn last_listed(before: Option<u64>, entries: &[Entry]) -> Option<u64>
+    ensures { behind result ≡ end_of_files (behind before) entries.now }
+{
+    let mut last = before;
+    for entry in entries {
+        last = later(last, entry.last);
+    }
+    last
 }
 
 // How many samples of a listed file are later than a moment.
@@ -92,7 +104,7 @@ fn add_file<D: Disk>(
 ) -> Result<Tally, DiskErr>
     requires row { entry.now.series < length rows.now }
     requires there { IsTrue D.tells → IsLong (D.files disk.old) (store, rows.now) entry.now }
-    ensures tally { IsTrue D.tells → (g : Granularity) (f : Filed) (samples : List Sample) → f.entry ≡ entry.now → IsWhole g (store, rows.now) (D.files disk.old) f → IsTally samples tally → IfOk result (IsTally (over samples f.samples)) }
+    ensures tally { IsTrue D.tells → (g : Granularity) (f : Filed) (samples : List SampleValue) → f.entry ≡ entry.now → IsWhole g (store, rows.now) (D.files disk.old) f → IsTally samples tally → IfOk result (IsTally (over samples f.samples)) }
     ensures listed { behind tally.last ≤ entry.now.first → IfOk result (λ t. (t.count ≡ tally.count + entry.now.count) × (behind t.last ≡ max (behind tally.last) (entry.now.last + 1))) }
     ensures ends { IfOk result (λ t. behind t.last ≡ max (behind tally.last) (entry.now.last + 1)) }
     ensures reads { IsTrue D.tells → ReadsDisk (D.files disk.old) (D.files disk.new) (D.opened disk.old) (D.opened disk.new) (D.past disk.old) (D.past disk.new) }
@@ -125,7 +137,7 @@ pub(crate) fn add_files<D: Disk>(
 ) -> Result<Tally, DiskErr>
     requires rows { All (λ (e : EntryValue). e.series < length rows.now) entries.now }
     requires there { IsTrue D.tells → All (IsLong (D.files disk.old) (store, rows.now)) entries.now }
-    ensures tally { IsTrue D.tells → (g : Granularity) (files : List Filed) (samples : List Sample) → entries.now ≡ map entry_of files → All (IsWhole g (store, rows.now) (D.files disk.old)) files → IsRising (flat_map (λ (f : Filed). f.samples) files) → IsTally samples tally
+    ensures tally { IsTrue D.tells → (g : Granularity) (files : List Filed) (samples : List SampleValue) → entries.now ≡ map entry_of files → All (IsWhole g (store, rows.now) (D.files disk.old)) files → IsRising (flat_map (λ (f : Filed). f.samples) files) → IsTally samples tally
         → IfOk result (IsTally (over samples (flat_map (λ (f : Filed). f.samples) files))) }
     ensures listed { IfOk result (Adds tally entries.now) }
     ensures ends { IfOk result (λ t. behind t.last ≡ end_of_files (behind tally.last) entries.now) }
@@ -138,4 +150,44 @@ pub(crate) fn add_files<D: Disk>(
         tally = add_file(alloc, disk, store, rows, entry, tally)?;
     }
     Ok(tally)
+}
+
+// Adds the samples of a tail that are later than those before it. `None` where no `u64` has their number.
+pub(crate) fn with_tail(durable: Tally, tail: &[Sample]) -> Option<Tally>
+    ensures { (samples : List SampleValue) → IsTally samples durable → IfSome result (IsTally (over samples tail.now)) }
+{
+    let mut all = durable;
+    for sample in tail {
+        all = with_later(all, sample, durable.last)?;
+    }
+    Some(all)
+}
+
+// Adds a sample where it is later than a moment, which may be none.
+fn with_later(all: Tally, sample: &Sample, last: Option<u64>) -> Option<Tally>
+    ensures { (samples : List SampleValue) → IsTally samples all → IfSome result (IsTally (samples ++ since (behind last) (sample.now ∷ []))) }
+{
+    if !is_later(last, sample.t) {
+        return Some(all);
+    }
+    let count = all.count.checked_add(1)?;
+    let first = match all.first {
+        Some(first) => first,
+        None => sample.t,
+    };
+    Some(Tally {
+        count,
+        first: Some(first),
+        last: Some(sample.t),
+    })
+}
+
+// Whether a moment is later than another, which may be none.
+fn is_later(before: Option<u64>, t: u64) -> bool
+    ensures { IsTrue result ↔ (behind before ≤ t) }
+{
+    match before {
+        Some(last) => last < t,
+        None => true,
+    }
 }

@@ -1,5 +1,5 @@
 -- What a board does is a step of each machine that it stands for.
-use Rattle.std.proofs.Common.{◌≡◌, ◌≢◌, ◌∙◌, ap, sym, refl, subst, ℕ, ◌-◌, List, [], ◌∷◌, zero, suc, arith, inl, inr, true, false, Option, Some, None}
+use Rattle.std.proofs.Common.{◌≡◌, ◌≢◌, ◌∙◌, ap, sym, refl, subst, ℕ, ◌-◌, ◌≤◌, List, [], ◌∷◌, zero, suc, arith, inl, inr, true, false, Option, Some, None}
 use Rattle.std.specs.Prelude.{◌==◌, filter, nat_le, slice_get, if◌then◌else◌, Bool}
 use Rattle.std.specs.FinMap.{FinMap, empty, get, insert, remove, get-empty, gets}
 use Rattle.std.specs.Ordering.{nat_cmp}
@@ -8,7 +8,7 @@ use Rattle.event_types.specs.declared.about.About.{About}
 use Rattle.event_types.specs.declared.about.Method.TheVariants.{Monitor}
 use Rattle.series_model.specs.declared.sample.Query.{Query}
 use Rattle.act_model.specs.declared.acts.Act.{Act}
-use Rattle.act_model.specs.declared.acts.Act.TheVariants.{Register, Pause, Resume, Offer, Tick, Flush, MoveBegin, MoveStep, Sweep, Pin, OpenPiece, Unpin, Names, Details, Doors, DoorDone}
+use Rattle.act_model.specs.declared.acts.Act.TheVariants.{Register, Pause, Resume, Rename, Offer, Tick, Flush, MoveBegin, MoveStep, Sweep, Pin, OpenPiece, Unpin, Names, Details, Doors, DoorDone}
 use Rattle.act_model.specs.declared.acts.Answer.TheVariants.{NoRow, TickNone, Flushed, Nothing, Swept, Pinned, NoPin, NotYours, Unpinned, DoorsLeft, Memory}
 use Rattle.act_model.specs.Answers.{is_answer_to}
 use Rattle.act_model.specs.Changes.{made, no_doubt}
@@ -21,8 +21,10 @@ use Rattle.act_model.specs.OpenPiece.{wants_memory_opening}
 use Rattle.act_model.specs.Outcome.{runs, wants_memory}
 use Rattle.act_model.specs.Pin.{pins}
 use Rattle.act_model.specs.Reply.{Reply}
-use Rattle.act_model.specs.Rows.{RowState, fresh_row}
-use Rattle.act_model.specs.Sound.{IsSound, LinesSound, RowSound}
+use Rattle.series_model.specs.Series.{end_of}
+use Rattle.act_model.specs.Whole.{whole}
+use Rattle.act_model.specs.Rows.{RowState, fresh_row, accepted}
+use Rattle.act_model.specs.Sound.{BasesSound, IsSound, LinesSound, RowSound}
 use Rattle.act_model.specs.Step.{MayAsk, Step, store_of}
 use Rattle.act_model.specs.Unpin.{pin_refused, refused_unpin, unpins}
 use Rattle.act_model.proofs.StepSound.{step_sound}
@@ -44,13 +46,29 @@ no_moves = empty
 no_move : (n : ℕ) (move : MoveState) → get no_moves n ≡ Some move → ⊥
 no_move n move here = let none : get no_moves n ≡ None = get-empty nat_cmp n in let bad = sym none ∙ here in absurd cc
 
+-- the one row has no base
+first_bases : (name : List ℕ) (about : About) → BasesSound false (fresh_row name about ∷ [])
+first_bases name about =
+    let own = fresh_row name about in
+    record {
+      over = λ i row b here is. absurd (let bad : None ≡ Some b = ap (λ (r : RowState). r.base) (only_row own row i here).1 ∙ is in cc);
+      one = λ i j b row other here there is is'. (only_row own row i here).0 ∙ sym (only_row own other j there).0;
+      end = λ i row here. first_end i row here;
+      exact = λ t. absurd cc;
+    }
+  where
+    first_end : (i : ℕ) (row : RowState) → slice_get (fresh_row name about ∷ []) i ≡ Some row → end_of (whole accepted (fresh_row name about ∷ []) i) ≤ row.next
+    first_end zero row here = omega arith
+    first_end (suc i) row here = absurd cc
+
 first_sound : (name : List ℕ) (about : About) (doors : ℕ) → IsSound (first_state (fresh_row name about) doors)
 first_sound name about doors =
     let own = fresh_row name about in
     record {
       few = omega arith;
       keys = λ i j a b here there same. (only_row own a i here).0 ∙ sym (only_row own b j there).0;
-      each_row = λ i row here. subst (λ (r : RowState). RowSound false r) (only_row own row i here).1 (record { short = tt; medium = tt; long = tt; later = tt; next = omega arith; exact = λ t. absurd cc });
+      each_row = λ i row here. subst (λ (r : RowState). RowSound false r) (only_row own row i here).1 (record { short = tt; medium = tt; long = tt; later = tt; next = omega arith });
+      bases = first_bases name about;
       lines = λ i row here. subst (λ (r : RowState). LinesSound r) (only_row own row i here).1 (record { tail = tt; held = tt });
       intake = omega arith;
       doubted = λ change is. absurd cc;
@@ -79,6 +97,7 @@ memory_step : (who : ℕ) (act : Act) (m : Machine) → is_answer_to act Memory 
 memory_step who (Register name about) m may = wants_memory refl (omega arith)
 memory_step who (Pause name) m may = wants_memory refl (omega arith)
 memory_step who (Resume name) m may = wants_memory refl (omega arith)
+memory_step who (Rename name newname) m may = (None, wants_memory refl (omega arith))
 memory_step who (Offer name ty t line now) m may = inr (refl, refl)
 memory_step who (Tick row now) m may = inr (refl, refl)
 memory_step who (Flush limit) m may = wants_memory refl (omega arith)

@@ -173,6 +173,7 @@ impl Applies for Board {
             Act::Register { .. } => Answer::Memory,
             Act::Pause { .. } => Answer::Memory,
             Act::Resume { .. } => Answer::Memory,
+            Act::Rename { .. } => Answer::Memory,
             Act::Offer { .. } => Answer::Memory,
             Act::MoveStep { .. } => Answer::Memory,
             Act::OpenPiece { .. } => Answer::Memory,

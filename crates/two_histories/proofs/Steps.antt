@@ -39,7 +39,7 @@ module _ (i0 : IntakeHalf) (i : List IntakeEntry) where
 
   settled_as_made : (n : ℕ) (m : StoreHalf) (change : Change) → m.doubt ≡ Some change → Agrees m.durable i0 i → DoubtAgrees m accepted → Settled m (record (made n change m) { doubt = None })
   settled_as_made n m (Appends batch) is a d = record { agrees = appended m batch a (d batch is); none = refl; grows = λ r. (since (end_of (m.durable r)) (batch r), refl) }
-  settled_as_made n m (Alters row) is a d = record { agrees = a; none = refl; grows = λ r. prefix_same (m.durable r) }
+  settled_as_made n m (Alters rows) is a d = record { agrees = a; none = refl; grows = λ r. prefix_same (m.durable r) }
 
   pub settled : {n : ℕ} {old mid : StoreHalf} → Settles n old mid → Agrees old.durable i0 i → DoubtAgrees old accepted → Settled old mid
   settled (no_doubt {m = m} none) a d = record { agrees = a; none = none; grows = λ r. prefix_same (m.durable r) }
@@ -49,13 +49,13 @@ module _ (i0 : IntakeHalf) (i : List IntakeEntry) where
   -- what a flush carries may be appended to all that agrees
   abbrev pub Carries : StorePart → Type 0
   Carries (Flush batch upto) = (durable : Lists) → Agrees durable i0 i → MayAppend durable batch accepted
-  Carries (Alter row) = Unit {0}
+  Carries (Alter rows) = Unit {0}
   Carries (Pin row tail) = Unit {0}
   Carries Rest = Unit {0}
 
   own_change : (part : StorePart) (batch : Lists) → change_by part ≡ Some (Appends batch) → Carries part → (durable : Lists) → Agrees durable i0 i → MayAppend durable batch accepted
   own_change (Flush batch' upto) batch is c durable a = let same : batch' ≡ batch = cc in subst (λ w. MayAppend durable w accepted) same (c durable a)
-  own_change (Alter row) batch is c durable a = absurd cc
+  own_change (Alter rows) batch is c durable a = absurd cc
   own_change (Pin row tail) batch is c durable a = absurd cc
   own_change Rest batch is c durable a = absurd cc
 
@@ -66,7 +66,7 @@ module _ (i0 : IntakeHalf) (i : List IntakeEntry) where
       let same : (λ (k : ℕ). since (end_of (m.durable k)) (whole k)) ≡ batch = cc in
       let own : IsPrefix (m.durable r ++ since n (whole r)) (accepted r) = own_change part whole by c m.durable a r in
       subst (λ (f : Lists). IsPrefix (over (m.durable r) (f r)) (accepted r)) same (subst (λ (w : List Sample). IsPrefix (m.durable r ++ w) (accepted r)) (sym (since-since n n (whole r) (omega arith))) own)
-  written_may m (Alters row) part by c a batch is = absurd cc
+  written_may m (Alters rows) part by c a batch is = absurd cc
 
   pub store_keeps : {n : ℕ} {old new : StoreHalf} {part : StorePart} {answer : StoreAnswer} → StoreStep n old part answer new → Carries part → Agrees old.durable i0 i → DoubtAgrees old accepted → StoreKeeps old new
   store_keeps {old = old} stays c a d = record { agrees = a; doubted = d; grows = λ r. prefix_same (old.durable r) }
@@ -81,7 +81,7 @@ module _ (i0 : IntakeHalf) (i : List IntakeEntry) where
         doubted = λ b is. no_batch (made 0 (Appends batch) m) mid.none b is;
         grows = λ r. prefix_through (old.durable r) (m.durable r) (over (m.durable r) (batch r)) (mid.grows r) (since (end_of (m.durable r)) (batch r), refl);
       }
-  store_keeps (alters {mid = m} row s) c a d = let mid = settled s a d in record { agrees = mid.agrees; doubted = λ b is. no_batch (made 0 (Alters row) m) mid.none b is; grows = mid.grows }
+  store_keeps (alters {mid = m} rows s) c a d = let mid = settled s a d in record { agrees = mid.agrees; doubted = λ b is. no_batch (made 0 (Alters rows) m) mid.none b is; grows = mid.grows }
   store_keeps {new = new} (pins row tail s) c a d = let mid = settled s a d in record { agrees = mid.agrees; doubted = no_batch new mid.none; grows = mid.grows }
   store_keeps {new = new} (rests s) c a d = let mid = settled s a d in record { agrees = mid.agrees; doubted = no_batch new mid.none; grows = mid.grows }
 

@@ -1,5 +1,5 @@
--- The store half. Of its tiers only what they make durable stands here: moves, sweeps and files change nothing of it.
-use Rattle.std.specs.Prelude.{◌≡◌, ℕ, List, Option, Some, None, ◌==◌, nat_lt, if◌then◌else◌}
+-- The store half. Of its tiers only what they make durable stands here: moves, sweeps and files change nothing of it. Each list is a row's own.
+use Rattle.std.specs.Prelude.{◌≡◌, ℕ, Bool, List, Option, Some, None, nat_lt, if◌then◌else◌}
 use Rattle.series_model.specs.declared.sample.Sample.{Sample}
 use Rattle.series_model.specs.Series.{over, since, end_of}
 use Rattle.two_histories.specs.Histories.{Entry}
@@ -12,10 +12,10 @@ Lists = ℕ → List Sample
 abbrev pub Numbers : Type 0
 Numbers = ℕ → Option ℕ
 
--- what a failed write may have done: appended a batch, or added or altered a row
+-- what a failed write may have done: appended a batch, or added or altered rows
 pub data Change : Type 0 where
   Appends : (batch : Lists) → Change
-  Alters : (row : ℕ) → Change
+  Alters : (rows : ℕ → Bool) → Change
 
 -- what is durable of each row, its change number, and the change in doubt
 pub record StoreHalf : Type 0 where
@@ -23,10 +23,11 @@ pub record StoreHalf : Type 0 where
   pub changed : Numbers
   pub doubt : Option Change
 
--- Flush carries the batch and the number that a Look told, Alter is Register, Pause and Resume, and Pin and Details carry a Look's tail
+-- Flush carries the batch and the number that a Look told, Alter is Register, Pause and Resume of a row, or Rename, which adds one and retires
+-- another, and Pin and Details carry a Look's tail
 pub data StorePart : Type 0 where
   Flush : (batch : Lists) → (upto : ℕ) → StorePart
-  Alter : (row : ℕ) → StorePart
+  Alter : (rows : ℕ → Bool) → StorePart
   Pin : (row : ℕ) → (tail : List Sample) → StorePart
   Rest : StorePart
 
@@ -41,14 +42,14 @@ pub data StoreAnswer : Type 0 where
 abbrev pub StoreEntry : Type 0
 StoreEntry = Entry StorePart StoreAnswer StoreHalf
 
--- the row has this number
-abbrev pub with_number : ℕ → ℕ → Numbers → Numbers
-with_number row n numbers r = if r == row then Some n else numbers r
+-- these rows have this number
+abbrev pub with_number : (ℕ → Bool) → ℕ → Numbers → Numbers
+with_number rows n numbers r = if rows r then Some n else numbers r
 
 -- the half with the change made, by the entry with which its history has this length
 abbrev pub made : ℕ → Change → StoreHalf → StoreHalf
 made n (Appends batch) m = record m { durable = λ r. over (m.durable r) (batch r) }
-made n (Alters row) m = record m { changed = with_number row n m.changed }
+made n (Alters rows) m = record m { changed = with_number rows n m.changed }
 
 -- a doubt is settled, as not made or as made
 pub data Settles (n : ℕ) : StoreHalf → StoreHalf → Type 0 where
@@ -59,14 +60,14 @@ pub data Settles (n : ℕ) : StoreHalf → StoreHalf → Type 0 where
 -- the change that a part makes
 abbrev pub change_by : StorePart → Option Change
 change_by (Flush batch upto) = Some (Appends batch)
-change_by (Alter row) = Some (Alters row)
+change_by (Alter rows) = Some (Alters rows)
 change_by (Pin row tail) = None
 change_by Rest = None
 
 -- what is written of a change: of a batch, the samples later than each row's last
 abbrev pub written : Change → StoreHalf → Change
 written (Appends batch) m = Appends (λ r. since (end_of (m.durable r)) (batch r))
-written (Alters row) m = Alters row
+written (Alters rows) m = Alters rows
 
 abbrev pub ends_of : StoreHalf → ℕ → ℕ
 ends_of m r = end_of (m.durable r)
@@ -84,6 +85,6 @@ pub data StoreStep (n : ℕ) : StoreHalf → StorePart → StoreAnswer → Store
       → StoreStep n old part Refused (record mid { doubt = Some (written change mid) })
   flushes : {old mid : StoreHalf} (batch : Lists) (upto : ℕ) → Settles n old mid
       → StoreStep n old (Flush batch upto) (Flushed (ends_of (made n (Appends batch) mid)) (λ r. newer upto (mid.changed r)) n) (made n (Appends batch) mid)
-  alters : {old mid : StoreHalf} (row : ℕ) → Settles n old mid → StoreStep n old (Alter row) Altered (made n (Alters row) mid)
+  alters : {old mid : StoreHalf} (rows : ℕ → Bool) → Settles n old mid → StoreStep n old (Alter rows) Altered (made n (Alters rows) mid)
   pins : {old mid : StoreHalf} (row : ℕ) (tail : List Sample) → Settles n old mid → StoreStep n old (Pin row tail) (Pinned (over (mid.durable row) tail)) mid
   rests : {old mid : StoreHalf} → Settles n old mid → StoreStep n old Rest Rested mid

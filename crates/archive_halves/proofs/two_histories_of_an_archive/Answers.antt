@@ -8,5 +8,8 @@ returns-clause-store_stays_sound c = law.store_stays_sound
 pub returns-clause-nothing_is_lost : goal.returns-clause-nothing_is_lost
 returns-clause-nothing_is_lost c = law.nothing_is_lost
 
+pub returns-clause-bases_are_durable : goal.returns-clause-bases_are_durable
+returns-clause-bases_are_durable c = law.bases_are_durable
+
 pub returns-clause-reported_is_durable : goal.returns-clause-reported_is_durable
 returns-clause-reported_is_durable c = law.reported_is_durable

@@ -1,4 +1,4 @@
-use Rattle.std.proofs.Common.{◌≡◌, inr, ℕ, List, Bool, sym, ◌∙◌, ap, subst}
+use Rattle.std.proofs.Common.{◌≡◌, inl, inr, ℕ, List, Bool, refl, sym, ◌∙◌, ap, subst}
 use Rattle.disk_model.specs.Files.{Name}
 use Rattle.edge_io.specs.Stream.{Rose}
 use Rattle.store_reopen.specs.Reopen.{lists_of}
@@ -10,6 +10,7 @@ use Rattle.archiver_appliance.specs.Acting.{IsOpenedOn}
 use Rattle.archiver_appliance.specs.Judging.{IsDamagedFile, IsOneOf}
 use Rattle.archiver_appliance.specs.Retrieving.{EndsBy, Gets, GetsRead, GetsSome, HasNone, IsRetrieval}
 use Rattle.command_words.specs.Status.{number_of}
+use Rattle.command_words.specs.declared.status.Status.{Status}
 use Rattle.archiver_appliance.proofs.Acting.{acts_from, acts_given, begins, both_hold, count_given, handed, has_not_fallen, has_risen_within, nested_in, ran, rose_given, stands_at_first, unopened_back, unopened_given}
 use Rattle.archiver_appliance.proofs.Answering.{found_damaged, found_none, gets_held, none_ends, reads_headers, retrieved_caused, some_events, unknown_none}
 use Rattle.archiver_appliance.proofs.Chained.{retrieval_looking}
@@ -54,12 +55,17 @@ returns-clause-retrieves g c = inr (λ held has.
           ) in
           let undamaged : (file : Name) (at : ℕ) → c.get_alone-got.result ≡ got.Damaged file at → ⊥ = λ file at is.
           let ends = subst (λ x. EndsBy g.D.Reader.ReadAt.tells g.D.Reader.ReadAt.faults (Rose (g.K.Sink.write_faults c.args.sink.now) (g.K.Sink.write_faults c.get_alone-got.new.sink)) name c.args.query x r.done) is r.ends in
-          none_damaged disk.tells (seen disk c.args.store) held has told stands (g.met.D.Disk.seen c.args.store.disk told) name file at
+          none_damaged disk.tells (seen disk c.args.store) held c.requires.fresh.ready.rows has told stands (g.met.D.Disk.seen c.args.store.disk told) name file at
           (damaged_given disk old new r.done r.made c.args.store c.in-Ok.ensures.store begun.start run.after begun.stands begun.opened.settled run.runs held has name c.args.query r.are g.D.Reader.ReadAt.tells file at ends told (g.met.D.Disk.readers_tell told)) in
           subst (λ (n : List ℕ). Gets held n c.args.query a b c.got_status-status.result.0) c.as_bytes.ensures.value
-          (gets_held config held begun.start (subst (λ (t : Bool). IsOpenedOn t config held begun.start) told begun.opened) is_told name c.args.query a b c.get_alone-got.result c.got_status-status.result.0 c.got_status-status.result.1 c.got_status-status.ensures unknown
+          (gets_held config held begun.start begun.stands.sound (subst (λ (t : Bool). IsOpenedOn t config held begun.start) told begun.opened) is_told name c.args.query a b c.get_alone-got.result c.got_status-status.result.0 c.got_status-status.result.1 c.got_status-status.ensures unknown
           undamaged (r.whole (g.met.D.Disk.readers_tell told) begun.start begun.stands is_told (subst ReadsHeaders (sym begun.opened.rule) (reads_headers config))));
     })
+
+pub returns-in-Err-clause-some : goal.returns-in-Err-clause-some
+returns-in-Err-clause-some g c =
+    let written = g.K.Sink.written c.args.sink.now in
+    subst (λ (s : Status). GetsSome c.args.store.catalogue.rows c.args.name.now c.args.query written written s) (sym c.out_of_memory.ensures.status) (inl refl)
 
 pub returns-clause-some : goal.returns-clause-some
 returns-clause-some g c =

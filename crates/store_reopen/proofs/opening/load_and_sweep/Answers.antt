@@ -75,10 +75,10 @@ returns-in_err-catalogue-clause-site g c tells = site_loaded g.D.Disk (stores_of
 
 pub returns-in_err-sweep_finished-clause-site : goal.returns-in_err-sweep_finished-clause-site
 returns-in_err-sweep_finished-clause-site g c tells =
-    site_then g.D.Disk c.args.disk.now c.load_stores.new.disk c.sweep_finished.new.disk (site_loaded g.D.Disk (stores_of c.args.config.now) c.args.disk.now c.load_stores.new.disk (c.load_stores.ensures.keeps tells))
-    (site_swept g.D.Disk _ _ c.load_stores.new.disk c.sweep_finished.new.disk (c.sweep_finished.ensures.removes tells))
+    site_then g.D.Disk (stores_of c.args.config.now) c.args.disk.now c.load_stores.new.disk c.sweep_finished.new.disk (site_loaded g.D.Disk (stores_of c.args.config.now) c.args.disk.now c.load_stores.new.disk (c.load_stores.ensures.keeps tells))
+    (site_swept g.D.Disk (stores_of c.args.config.now) _ _ c.load_stores.new.disk c.sweep_finished.new.disk (c.sweep_finished.ensures.removes tells))
 
 pub returns-clause-site : goal.returns-clause-site
 returns-clause-site g c tells =
-    site_then g.D.Disk c.args.disk.now c.load_stores.new.disk c.sweep_finished.new.disk (site_loaded g.D.Disk (stores_of c.args.config.now) c.args.disk.now c.load_stores.new.disk (c.load_stores.ensures.keeps tells))
-    (site_swept g.D.Disk _ _ c.load_stores.new.disk c.sweep_finished.new.disk (c.sweep_finished.ensures.removes tells))
+    site_then g.D.Disk (stores_of c.args.config.now) c.args.disk.now c.load_stores.new.disk c.sweep_finished.new.disk (site_loaded g.D.Disk (stores_of c.args.config.now) c.args.disk.now c.load_stores.new.disk (c.load_stores.ensures.keeps tells))
+    (site_swept g.D.Disk (stores_of c.args.config.now) _ _ c.load_stores.new.disk c.sweep_finished.new.disk (c.sweep_finished.ensures.removes tells))

@@ -63,7 +63,7 @@ returns-in_err-check_rows-clause-keeps g c tells = (kept_then (stores_of c.args.
 pub returns-in_err-check_files-clause-told : goal.returns-in_err-check_files-clause-told
 returns-in_err-check_files-clause-told g c tells =
     let p = err_from_is_err_and c.from_residual-in_err-check_files.result c.from_residual-in_err-check_files.ensures.1 in
-    rw (p.1, p.2) (c.in_err-check_files.ensures.told tells (stores_of c.args.config.now) (g.D.Disk.files c.args.disk.now) refl (said_as (stores_of c.args.config.now) (g.D.Disk.files c.args.disk.now) c.in_ok-catalogue.catalogue.rows c.rows-rows.result.now c.in_ok-manifests.manifests.items c.deref-2.result.now c.rows-rows.ensures.value c.deref-2.ensures.value (are_said (stores_of c.args.config.now) (g.D.Disk.files c.load_catalogue.new.disk) (g.D.Disk.files c.args.disk.now) c.in_ok-catalogue.catalogue.rows c.in_ok-manifests.manifests.items refl c.in_ok-manifests.ensures.three (c.in_ok-catalogue.ensures.rows tells) (c.in_ok-manifests.ensures.said tells) c.in_ok-manifests.ensures.granularity (λ i n low own. c.load_catalogue.ensures.others tells n (λ too. other_journal (i + 1) n too own)))) (λ n other. (c.load_manifests.ensures.keeps tells).elsewhere n other ∙ (c.load_catalogue.ensures.keeps tells (stores_of c.args.config.now)).elsewhere n other))
+    rw (p.1, p.2) (c.in_err-check_files.ensures.told tells (stores_of c.args.config.now) (g.D.Disk.files c.args.disk.now) refl (said_as (stores_of c.args.config.now) (g.D.Disk.files c.args.disk.now) c.in_ok-catalogue.catalogue.rows c.rows-rows.result.now c.in_ok-manifests.manifests.items c.deref-2.result.now c.rows-rows.ensures.value c.deref-2.ensures.value (are_said (stores_of c.args.config.now) (g.D.Disk.files c.load_catalogue.new.disk) (g.D.Disk.files c.args.disk.now) c.in_ok-catalogue.catalogue.rows c.in_ok-manifests.manifests.items refl c.in_ok-manifests.ensures.three (c.in_ok-catalogue.ensures.rows tells) (c.in_ok-manifests.ensures.said tells) c.in_ok-manifests.ensures.granularity (λ i n low own. c.load_catalogue.ensures.others tells n (λ too. other_journal (i + 1) n too own)))) (λ n other. (c.load_manifests.ensures.keeps tells).now.elsewhere n other ∙ (c.load_catalogue.ensures.keeps tells (stores_of c.args.config.now)).now.elsewhere n other))
 
 pub returns-in_err-check_files-clause-keeps : goal.returns-in_err-check_files-clause-keeps
 returns-in_err-check_files-clause-keeps g c tells = (kept_then (stores_of c.args.config.now) (g.D.Disk.files c.args.disk.now) (g.D.Disk.opened c.args.disk.now) (g.D.Disk.past c.args.disk.now) (g.D.Disk.files c.load_manifests.new.disk) (g.D.Disk.opened c.load_manifests.new.disk) (g.D.Disk.past c.load_manifests.new.disk) (g.D.Disk.files c.check_files.new.disk) (g.D.Disk.opened c.check_files.new.disk) (g.D.Disk.past c.check_files.new.disk) (kept_then (stores_of c.args.config.now) (g.D.Disk.files c.args.disk.now) (g.D.Disk.opened c.args.disk.now) (g.D.Disk.past c.args.disk.now) (g.D.Disk.files c.load_catalogue.new.disk) (g.D.Disk.opened c.load_catalogue.new.disk) (g.D.Disk.past c.load_catalogue.new.disk) (g.D.Disk.files c.load_manifests.new.disk) (g.D.Disk.opened c.load_manifests.new.disk) (g.D.Disk.past c.load_manifests.new.disk) (c.load_catalogue.ensures.keeps tells (stores_of c.args.config.now)) (c.load_manifests.ensures.keeps tells)) (kept_reading (stores_of c.args.config.now) (g.D.Disk.files c.load_manifests.new.disk) (g.D.Disk.files c.check_files.new.disk) (g.D.Disk.opened c.load_manifests.new.disk) (g.D.Disk.opened c.check_files.new.disk) (g.D.Disk.past c.load_manifests.new.disk) (g.D.Disk.past c.check_files.new.disk) (c.check_files.ensures.same tells) (c.check_files.ensures.any_moment tells) (c.check_files.ensures.opened tells)))
@@ -83,7 +83,7 @@ pub returns-clause-there : goal.returns-clause-there
 returns-clause-there g c tells i m here =
     let passed = ap (λ (l : List ManifestState). slice_get l i) c.deref-2.ensures.value ∙ here in
     let there = subst (λ (r : List Row). All (IsThere i (g.D.Disk.files c.load_manifests.new.disk) r) m.entries) c.rows-rows.ensures.value (c.in_ok-check_files.ensures.there tells i m passed) in
-    all_there_in i (g.D.Disk.files c.load_manifests.new.disk) (g.D.Disk.files c.args.disk.now) c.in_ok-catalogue.catalogue.rows m.entries (λ n other. (c.load_manifests.ensures.keeps tells).elsewhere n other ∙ (c.load_catalogue.ensures.keeps tells (stores_of c.args.config.now)).elsewhere n other) there
+    all_there_in i (g.D.Disk.files c.load_manifests.new.disk) (g.D.Disk.files c.args.disk.now) c.in_ok-catalogue.catalogue.rows m.entries (λ n other. (c.load_manifests.ensures.keeps tells).now.elsewhere n other ∙ (c.load_catalogue.ensures.keeps tells (stores_of c.args.config.now)).now.elsewhere n other) there
 
 pub returns-clause-ready : goal.returns-clause-ready
 returns-clause-ready g c = record {

@@ -58,9 +58,9 @@ pub returns-clause-gone : goal.returns-clause-gone
 returns-clause-gone g c tells finished = c.load_and_sweep.ensures.gone tells (ap (λ (f : Files). f adoption_name) (c.is_unfinished.ensures.same tells) ∙ finished)
 
 pub returns-in_err-unfinished-clause-site : goal.returns-in_err-unfinished-clause-site
-returns-in_err-unfinished-clause-site g c tells = site_read g.D.Disk c.args.disk.now c.is_unfinished.new.disk (c.is_unfinished.ensures.same tells) (c.is_unfinished.ensures.any_moment tells)
+returns-in_err-unfinished-clause-site g c tells = site_read g.D.Disk (stores_of c.args.config.now) c.args.disk.now c.is_unfinished.new.disk (c.is_unfinished.ensures.same tells) (c.is_unfinished.ensures.any_moment tells)
 
 pub returns-clause-site : goal.returns-clause-site
 returns-clause-site g c tells =
-    site_then g.D.Disk c.args.disk.now c.is_unfinished.new.disk c.load_and_sweep.new.disk (site_read g.D.Disk c.args.disk.now c.is_unfinished.new.disk (c.is_unfinished.ensures.same tells) (c.is_unfinished.ensures.any_moment tells))
+    site_then g.D.Disk (stores_of c.args.config.now) c.args.disk.now c.is_unfinished.new.disk c.load_and_sweep.new.disk (site_read g.D.Disk (stores_of c.args.config.now) c.args.disk.now c.is_unfinished.new.disk (c.is_unfinished.ensures.same tells) (c.is_unfinished.ensures.any_moment tells))
     (c.load_and_sweep.ensures.site tells)

@@ -56,7 +56,7 @@ pub returns-in-Err-GranularityDiffers-clause-reopens : goal.returns-in-Err-Granu
 returns-in-Err-GranularityDiffers-clause-reopens g c tells = reopened g.D.Disk (stores_of c.args.config.now) c.args.disk c.load_stores.new.disk (c.requires.unopened tells) (c.load_stores.ensures.keeps tells)
 
 pub returns-in-Ok-clause-site : goal.returns-in-Ok-clause-site
-returns-in-Ok-clause-site g c tells = subst (λ d. LeavesSite g.D.Disk c.args.disk d) (sym c.new.ensures.disk) (site_loaded g.D.Disk (stores_of c.args.config.now) c.args.disk c.load_stores.new.disk (c.load_stores.ensures.keeps tells))
+returns-in-Ok-clause-site g c tells = subst (λ d. LeavesSite g.D.Disk (stores_of c.args.config.now) c.args.disk d) (sym c.new.ensures.disk) (site_loaded g.D.Disk (stores_of c.args.config.now) c.args.disk c.load_stores.new.disk (c.load_stores.ensures.keeps tells))
 
 pub returns-in-Err-Disk-Fault-clause-site : goal.returns-in-Err-Disk-Fault-clause-site
 returns-in-Err-Disk-Fault-clause-site g c tells = site_loaded g.D.Disk (stores_of c.args.config.now) c.args.disk c.load_stores.new.disk (c.load_stores.ensures.keeps tells)

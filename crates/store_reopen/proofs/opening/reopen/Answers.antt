@@ -28,7 +28,7 @@ pub returns-in-Ok-clause-sweeps : goal.returns-in-Ok-clause-sweeps
 returns-in-Ok-clause-sweeps g c tells = subst (λ d. Sweeps g.D.Disk (stores_of c.args.config.now) c.args.disk d) (sym c.new.ensures.disk) (c.open_stores.ensures.sweeps tells)
 
 pub returns-in-Ok-clause-site : goal.returns-in-Ok-clause-site
-returns-in-Ok-clause-site g c tells = subst (λ d. LeavesSite g.D.Disk c.args.disk d) (sym c.new.ensures.disk) (c.open_stores.ensures.site tells)
+returns-in-Ok-clause-site g c tells = subst (λ d. LeavesSite g.D.Disk (stores_of c.args.config.now) c.args.disk d) (sym c.new.ensures.disk) (c.open_stores.ensures.site tells)
 
 pub returns-in-Ok-clause-tidy : goal.returns-in-Ok-clause-tidy
 returns-in-Ok-clause-tidy g c tells finished place manifest n series part here store file stray =

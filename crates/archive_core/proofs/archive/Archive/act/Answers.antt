@@ -1,5 +1,5 @@
 use Rattle.std.proofs.Common.{ℕ, List, ap, sym, ◌∙◌}
-use Rattle.act_model.specs.declared.acts.Act.TheVariants.{Register, Pause, Resume, Offer, Tick, Flush, MoveBegin, MoveStep, Sweep, Pin, OpenPiece, Unpin, Names, Details, Doors, DoorDone}
+use Rattle.act_model.specs.declared.acts.Act.TheVariants.{Register, Pause, Resume, Rename, Offer, Tick, Flush, MoveBegin, MoveStep, Sweep, Pin, OpenPiece, Unpin, Names, Details, Doors, DoorDone}
 use Rattle.archive_core.specs.Parts.{parts}
 use Rattle.archive_core.proofs.Acting.{acted_as}
 use Rattle.archive_core.proofs.archive.Archive.act.Goals as goal
@@ -12,6 +12,9 @@ returns-in-Pause g c = acted_as g.D.Disk.tells c.args.who c.args.act (Pause c.by
 
 pub returns-in-Resume : goal.returns-in-Resume
 returns-in-Resume g c = acted_as g.D.Disk.tells c.args.who c.args.act (Resume c.bytes-in-Resume.result.now) (parts g.D.Disk c.args.self.now) _ _ (c.in-Resume.is ∙ ap (λ (n : List ℕ). Resume n) (sym c.bytes-in-Resume.ensures)) (c.resume.ensures c.args.who)
+
+pub returns-in-Rename : goal.returns-in-Rename
+returns-in-Rename g c = acted_as g.D.Disk.tells c.args.who c.args.act (Rename c.bytes-in-Rename.result.now c.in-Rename.newname) (parts g.D.Disk c.args.self.now) _ _ (c.in-Rename.is ∙ ap (λ (n : List ℕ). Rename n c.in-Rename.newname) (sym c.bytes-in-Rename.ensures)) (c.rename.ensures c.args.who)
 
 pub returns-in-Offer : goal.returns-in-Offer
 returns-in-Offer g c = acted_as g.D.Disk.tells c.args.who c.args.act (Offer c.bytes-in-Offer.result.now c.in-Offer.ty c.in-Offer.t c.in-Offer.line c.in-Offer.now) (parts g.D.Disk c.args.self.now) _ _ (c.in-Offer.is ∙ ap (λ (n : List ℕ). Offer n c.in-Offer.ty c.in-Offer.t c.in-Offer.line c.in-Offer.now) (sym c.bytes-in-Offer.ensures)) (c.offer.ensures.acted c.args.who)

@@ -21,7 +21,7 @@ use Rattle.archive_core.specs.declared.memory.Doubt.TheVariants as kind
 use Rattle.archive_core.specs.declared.memory.RowMemory.{RowMemory}
 use Rattle.archive_core.proofs.After.{with_same, frame_with}
 use Rattle.archive_core.proofs.Changing.{call_done, call_failed, call_spent, call_tidy, called, not_called}
-use Rattle.archive_core.proofs.Registered.{makes_row, more_kept, row_number, row_unclear, row_unkept, row_unrefused}
+use Rattle.archive_core.proofs.Registered.{makes_row, more_kept, row_number, row_unclear, row_unrefused, rows_cut_short}
 use Rattle.archive_core.proofs.Settled.{rests_has}
 use Rattle.archive_core.proofs.archive.Archive.add_row.Goals.{After-register}
 use Rattle.archive_core.proofs.archive.Archive.add_row.Goals as goal
@@ -55,7 +55,7 @@ returns-in_err-add_memory-clause-changed g c =
     let left = c.in_err-add_memory.ensures.err ∙ ap (λ (rs : List Row). take (length rs) old) rows in
     let end = err_from_is_err_and c.from_residual.result c.from_residual.ensures.1 in
     subst (λ (x : Result ℕ DiskErr). Changed g.D.Disk.tells (AddsRow c.args.name.now c.args.about.now) p (record p { kept = c.add_memory.new.kept.items }) x) (sym (end.1 ∙ ap (λ (d : DiskErr). Err d) end.2)) (record {
-      changes = λ m r. subst (λ (k : List RowMemory). ChangesTo {A = ℕ} g.D.Disk.tells (AddsRow c.args.name.now c.args.about.now) p m (record p { kept = k }) (Err Memory)) (sym left) (not_called g.D.Disk.tells (AddsRow c.args.name.now c.args.about.now) p m r (take (length p.at.catalogue.rows) old) (row_unkept g.D.Disk.tells p m r c.args.name.now c.args.about.now c.requires.free));
+      changes = λ m r. subst (λ (k : List RowMemory). ChangesTo {A = ℕ} g.D.Disk.tells (AddsRow c.args.name.now c.args.about.now) p m (record p { kept = k }) (Err Memory)) (sym left) (not_called g.D.Disk.tells (AddsRow c.args.name.now c.args.about.now) p m r (take (length p.at.catalogue.rows) old) (rows_cut_short p.at.catalogue.rows old p.tails m.rows r.stands.rows));
       fronts = nothing_fronts g.D.Disk.tells (files_of p);
       tidy = tt;
     })

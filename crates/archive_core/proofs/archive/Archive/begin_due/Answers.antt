@@ -18,7 +18,7 @@ use Rattle.archive_core.proofs.archive.Archive.begin_due.Goals as goal
 
 -- the act of the machine
 begins_act : (who store now : ℕ) → IsAct who (MoveBegin store now) (Begins (store_of store) now)
-begins_act who store now = record { refuses = λ m f. refl; changes = λ m f. refl; goes = begins_goes (store_of store) now; never = λ m none. cc (none); tells_more = begins_tell (store_of store) now; steps = λ m given new acts. acts; wants = λ m n none. tt }
+begins_act who store now = record { refuse = λ old m. None; passes = λ old m is. is; counts = λ old m f. refl; refuses = λ m f. refl; changes = λ m f. refl; goes = begins_goes (store_of store) now; never = λ old m none. cc (none); tells_more = begins_tell (store_of store) now; steps = λ m given new acts. acts; wants = λ m n none. tt }
 
 pub returns-in_err-settle-clause-acted : goal.returns-in_err-settle-clause-acted
 returns-in_err-settle-clause-acted g c who =

@@ -58,7 +58,7 @@ returns-in_default-find-clause-acted g c who =
     let q = parts g.D.Disk c.settle.new.self in
     let some = subst (λ (o : Option ℕ). IsFound p.at.catalogue.rows c.args.name.now o) c.in-Some.is (found g (goal.at.returns-in_default-find-clause-acted g c).After-find) in
     let none = subst (λ (o : Option ℕ). IsFound q.at.catalogue.rows c.args.name.now o) c.in_default-find.is (found_then g (goal.at.returns-in_default-find-clause-acted g c).After-find-2) in
-    acted g.D.Disk.tells who (Details c.args.name.now) p NoSuchVariable q (refused_then g.D.Disk.tells who (Details c.args.name.now) (Describes c.args.name.now) (describes_act who c.args.name.now) p q c.settle.result c.settle.ensures.settling (λ settled. ap (seen_all g.D.Disk) (c.settle.ensures.quiet settled)) (known g.D.Disk.tells c.args.name.now p c.in-Some.field-0 some) c.in_ok-settle.ensures.settled NoSuchVariable (unknown g.D.Disk.tells c.args.name.now q none))
+    acted g.D.Disk.tells who (Details c.args.name.now) p NoSuchVariable q (refused_then g.D.Disk.tells who (Details c.args.name.now) (Describes c.args.name.now) (describes_act who c.args.name.now) p q c.settle.result c.settle.ensures.settling (λ settled. ap (seen_all g.D.Disk) (c.settle.ensures.quiet settled)) (known g.D.Disk.tells c.args.name.now p c.in-Some.field-0 some) c.in_ok-settle.ensures.settled NoSuchVariable (λ old was. unknown g.D.Disk.tells c.args.name.now q none))
     (reads_settling g.D.Disk.tells p q (end_of_disk c.settle.result) c.settle.ensures.settling (λ settled. ap (seen_all g.D.Disk) (c.settle.ensures.quiet settled))) tt tt
 
 pub returns-in_err-tail-clause-acted : goal.returns-in_err-tail-clause-acted

@@ -54,7 +54,7 @@ returns-in_err-refuse_taken-2 g c who =
     let refuses = subst (λ (x : CatalogueState). Refuses x.rows c.args.name.now c.in_err-refuse_taken-2.field-0.0) c.catalogue-2.ensures c.in_err-refuse_taken-2.ensures.refuses in
     subst (λ (x : Result ℕ RegisterErr). RegisterEnds g.D.Disk.tells who c.args.name.now c.args.about.now p x q) (sym (e.1 ∙ ap (λ (d : RegisterErr). Err d) e.2))
     (registered_so g.D.Disk.tells who c.args.name.now c.args.about.now p q (Err c.in_err-refuse_taken-2.field-0.0) (refused_then g.D.Disk.tells who (Register c.args.name.now c.args.about.now) (Registers c.args.name.now c.args.about.now) (registers_act who c.args.name.now c.args.about.now) p q c.settle.result c.settle.ensures.settling (λ settled. ap (seen_all g.D.Disk) (c.settle.ensures.quiet settled))
-    (λ m s. free_as g.D.Disk.tells p m s c.args.name.now free_now) c.in_ok-settle.ensures.settled (register_reply (Err c.in_err-refuse_taken-2.field-0.0)) (λ m s. refused_as g.D.Disk.tells q m s c.args.name.now c.in_err-refuse_taken-2.field-0.0 refuses)))
+    (λ m s. free_as g.D.Disk.tells p m s c.args.name.now free_now) c.in_ok-settle.ensures.settled (register_reply (Err c.in_err-refuse_taken-2.field-0.0)) (λ old was m s. refused_as g.D.Disk.tells q m s c.args.name.now c.in_err-refuse_taken-2.field-0.0 refuses)))
 
 pub add_row-requires-clause-rests : goal.add_row-requires-clause-rests
 add_row-requires-clause-rests g c =

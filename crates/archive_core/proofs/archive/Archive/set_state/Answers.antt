@@ -51,7 +51,7 @@ returns-in_err-row g c who =
     let is = subst (λ (x : CatalogueState). IsUnset x.rows c.args.name.now c.args.switch c.in_err-row.field-0.0) c.catalogue-2.ensures c.in_err-row.ensures.refused in
     subst (λ (x : Result (Unit {0}) Unset). SetEnds g.D.Disk.tells who c.args.switch c.args.name.now p x q) (sym (e.1 ∙ ap (λ (d : Unset). Err d) e.2))
     (set_so g.D.Disk.tells who c.args.switch c.args.name.now p q (Err c.in_err-row.field-0.0) (refused_then g.D.Disk.tells who (act_of c.args.switch c.args.name.now) (Sets (to_of c.args.switch) c.args.name.now) (sets_act who c.args.switch c.args.name.now) p q c.settle.result c.settle.ensures.settling (λ settled. ap (seen_all g.D.Disk) (c.settle.ensures.quiet settled))
-    (can_set g.D.Disk.tells c.args.switch c.args.name.now p c.in_ok-row_to_switch.field-0 can_now) c.in_ok-settle.ensures.settled (switch_reply c.args.switch (Err c.in_err-row.field-0.0)) (refused_set g.D.Disk.tells c.args.switch c.args.name.now q c.in_err-row.field-0.0 is)))
+    (can_set g.D.Disk.tells c.args.switch c.args.name.now p c.in_ok-row_to_switch.field-0 can_now) c.in_ok-settle.ensures.settled (switch_reply c.args.switch (Err c.in_err-row.field-0.0)) (λ old was. refused_set g.D.Disk.tells c.args.switch c.args.name.now q c.in_err-row.field-0.0 is)))
 
 pub switch-requires-clause-rests : goal.switch-requires-clause-rests
 switch-requires-clause-rests g c =

@@ -1,17 +1,18 @@
-use Rattle.std.proofs.Common.{◌≡◌, ◌<◌, ◌++◌, List, Some, length, refl, sym, ◌∙◌, ap, subst, arith}
+use Rattle.std.proofs.Common.{◌≡◌, ◌<◌, List, Some, length, refl, sym, ◌∙◌, ap, subst, arith}
 use Rattle.std.specs.Prelude.{slice_get}
-use Rattle.std.proofs.lemmas.List.{length-append, length-map}
+use Rattle.std.proofs.lemmas.List.{length-map}
 use Rattle.std.proofs.lemmas.Option.{slice_get-get_or}
-use Rattle.act_model.specs.Details.{first_time, last_time}
 use Rattle.pv_catalog.specs.Catalogue.{CatalogueState}
 use Rattle.pv_catalog.specs.declared.row.Row.{Row}
+use Rattle.series_model.specs.Series.{over}
 use Rattle.series_model.specs.declared.sample.Sample.{Sample}
 use Rattle.store_manifest.specs.Manifest.{ManifestState}
 use Rattle.durable_write.specs.Held.{entry_of}
 use Rattle.durable_write.specs.Plan.{of_row}
+use Rattle.tier_store.specs.Details.{IsTally}
 use Rattle.tier_store.specs.Pinning.{entries_of}
 use Rattle.tier_store.specs.Seen.{seen_on}
-use Rattle.tier_store.specs.Stores.{samples_in}
+use Rattle.tier_store.specs.Stores.{whole_in}
 use Rattle.tier_store.proofs.RowTallies.{ends_last, own_files}
 use Rattle.tier_store.proofs.store.TierStore.describe.Goals as goal
 
@@ -27,7 +28,7 @@ returns-clause-described g c held has =
     let found = c.index-rows-row.result in
     let here : slice_get c.rows.result.now row ≡ Some found = slice_get-get_or c.rows.result.now row found low ∙ ap (λ (r : Row). Some r) (sym c.index-rows-row.is) in
     let lists = ap (λ m. m.items) same.1 in
-    let tail : c.items-tail.result.now ≡ c.args.tail.now = c.items-tail.ensures in
+    let tail : c.items.result.now ≡ c.args.tail.now = c.items.ensures in
     let t = c.in_ok-durable.durable in
     record {
       row = found;
@@ -37,15 +38,13 @@ returns-clause-described g c held has =
       medium = ap length (c.own_entries-2.ensures ∙ (ap (λ (ms : List ManifestState). entries_of row (slice_get ms 1)) (c.deref-2.ensures.value ∙ lists) ∙ own_files disk.tells at held has 1 row (omega arith))) ∙ length-map (of_row row held.medium) entry_of;
       long = ap length (c.own_entries-3.ensures ∙ (ap (λ (ms : List ManifestState). entries_of row (slice_get ms 2)) (c.deref-3.ensures.value ∙ lists) ∙ own_files disk.tells at held has 2 row (omega arith))) ∙ length-map (of_row row held.long) entry_of;
       counted = λ told stands.
-          let all = samples_in row held in
+          let whole = whole_in row held in
           let tally = c.in_ok-durable.ensures.tally told held has stands in
-          let count = tally.count in
-          let sum = c.in-Some.ensures.1 in
-          let long = ap length tail in
+          let all : IsTally (over whole c.args.tail.now) c.in-Some.accepted = subst (λ (l : List Sample). IsTally (over whole l) c.in-Some.accepted) tail (c.in-Some.ensures whole tally) in
           record {
-            durable_is = count;
-            accepted_is = omega (arith, count, sum, long, length-append all c.args.tail.now);
-            first = c.first_of.ensures all tally.first ∙ ap (λ (l : List Sample). first_time (all ++ l)) tail;
-            last = c.last_of.ensures all (ends_last t.last all tally.last) ∙ ap (λ (l : List Sample). last_time (all ++ l)) tail;
+            durable_is = tally.count;
+            accepted_is = all.count;
+            first = all.first;
+            last = ends_last c.in-Some.accepted.last (over whole c.args.tail.now) all.last;
           };
     }

@@ -1,5 +1,5 @@
 use Rattle.std.proofs.Common.{refl}
-use Rattle.act_model.specs.declared.acts.Act.TheVariants.{Register, Pause, Resume, Offer, MoveStep, OpenPiece, Names, Details}
+use Rattle.act_model.specs.declared.acts.Act.TheVariants.{Register, Pause, Resume, Rename, Offer, MoveStep, OpenPiece, Names, Details}
 use Rattle.turn_tests.proofs.OnBoards.{doors_told, flushed_none, no_move_begun, swept_none, wants}
 use Rattle.turn_tests.proofs.board.BoardApplies.apply.Goals as goal
 
@@ -17,6 +17,9 @@ returns-in-Pause c = rw c.in-Pause.is (record { step = wants c.args.who (Pause c
 
 pub returns-in-Resume : goal.returns-in-Resume
 returns-in-Resume c = rw c.in-Resume.is (record { step = wants c.args.who (Resume c.in-Resume.name) c.args.self.now refl; leaves = tt })
+
+pub returns-in-Rename : goal.returns-in-Rename
+returns-in-Rename c = rw c.in-Rename.is (record { step = wants c.args.who (Rename c.in-Rename.name c.in-Rename.newname) c.args.self.now refl; leaves = tt })
 
 pub returns-in-Offer : goal.returns-in-Offer
 returns-in-Offer c = rw c.in-Offer.is (record { step = wants c.args.who (Offer c.in-Offer.name c.in-Offer.ty c.in-Offer.t c.in-Offer.line c.in-Offer.now) c.args.self.now refl; leaves = tt })

@@ -1,0 +1,11 @@
+use Rattle.act_model.proofs.WholeLaws.{whole_list, whole_over_base, whole_grows}
+use Rattle.act_model.proofs.laws.wholes_grow.Goals as goal
+
+pub returns-clause-list : goal.returns-clause-list
+returns-clause-list c = whole_list
+
+pub returns-clause-over_base : goal.returns-clause-over_base
+returns-clause-over_base c = whole_over_base
+
+pub returns-clause-run : goal.returns-clause-run
+returns-clause-run c = whole_grows
