@@ -47,6 +47,8 @@ WORDS = {
     "E29": "only GET is served",
     "E30": "nothing is served at this path",
     "E31": "a parameter is missing or not of its form",
+    "E32": "the variable isn't paused",
+    "E33": "the variable's last sample isn't durable yet",
     "disk": "the disk failed",
     "spent": "no act is left",
 }
@@ -189,7 +191,7 @@ def names(server):
 
 
 def status(server, pv):
-    """`Being archived`, `Paused`, or `Not being archived`."""
+    """`Being archived`, `Paused`, `Retired`, as a variable under a name that it has no more, or `Not being archived`."""
     return asked(server, "getPVStatus", pv=pv)[0]["status"]
 
 
@@ -212,6 +214,58 @@ def pause(server, pv):
 def resume(server, pv):
     """Takes samples of a variable again."""
     asked(server, "resumeArchivingPV", pv=pv)
+
+
+def rename(server, pv, new_name):
+    """Gives a paused variable a new name, all of whose samples are durable. It keeps them, and stays paused."""
+    asked(server, "renamePV", pv=pv, newname=new_name)
+
+
+def renamed(server, pv, new_name, resumed=False):
+    """Pauses a variable, makes its samples durable, and gives it a new name. Where it was running and gets none, it is resumed under
+    the old one. A renamed one is paused, or resumed on wish."""
+    was_running = status(server, pv) == "Being archived"
+    if was_running:
+        pause(server, pv)
+    try:
+        flush(server)
+        rename(server, pv, new_name)
+    except Refused:
+        if was_running:
+            resume(server, pv)
+        raise
+    if resumed:
+        resume(server, new_name)
+
+
+def newest_name(server, pv):
+    """The name that a variable has now which was renamed, None where it can't be told.
+
+    A service doesn't tell it. That name has all that there was under the old one; so it is told where just one does.
+    """
+    if status(server, pv) != "Retired":
+        return pv
+    old, samples, everyone = details(server, pv), newest(server, pv), names(server)
+    if not len(samples):
+        return None
+    moment = int(samples.times[-1].astype("int64"))
+    found = [name for name in everyone[everyone.index(pv) + 1 :] if goes_on(server, name, old, moment)]
+    return found[0] if len(found) == 1 else None
+
+
+def goes_on(server, name, old, moment):
+    """Whether a variable whose name this is still has what one had under another name, whose last sample is of a moment."""
+    known = details(server, name)
+    is_alike = known["status"] != "Retired" and known["type"] == old["type"] and known["accepted"] >= old["accepted"]
+    return is_alike and ends(server, name, moment) == ends(server, old["pvName"], moment)
+
+
+def ends(server, pv, moment):
+    """The lines of a variable's first sample and of its last one up to a moment."""
+    with raw(server, pv, FIRST, moment) as stream:
+        front = list(islice(stream, 2))
+    with raw(server, pv, moment, moment) as stream:
+        return front[1:], stream.read().splitlines()[-1]
 
 
 def flush(server):
@@ -585,7 +639,7 @@ def run_silent(options):
     def write_silent(pv):
         found = status(options.server, pv)
         times = newest(options.server, pv).times if found == "Being archived" else ()
-        if len(times) and int(times[-1].astype("int64")) >= since or found == "Paused":
+        if len(times) and int(times[-1].astype("int64")) >= since or found in ("Paused", "Retired"):
             return
         each.status = 1
         print(pv, f"{times[-1]}Z" if len(times) else "none" if found == "Being archived" else "not archived")
@@ -607,6 +661,12 @@ def run_each(options):
     each = Each(options.pv)
     each.do(lambda pv: print(pv, acts[options.word](pv) or "ok"))
     return each.status
+
+
+def run_rename(options):
+    """Gives a variable a new name under which it keeps its samples: pauses it, renames it, and resumes it on wish."""
+    renamed(options.server, options.old, options.new, options.resume)
+    print(options.old, options.new, "resumed" if options.resume else "paused")
 
 
 def run_archive(options):
@@ -660,6 +720,10 @@ def add_words(command):
     archive_words = command("archive", run_archive)
     archive_words.add_argument("--type", required=True, choices=pb_stream.TYPES, metavar="TYPE", help="as SCALAR_INT")
     archive_words.add_argument("--scan", metavar="SECONDS", help="sample at this period, and not at each change")
+    rename_words = command("rename", run_rename)
+    rename_words.add_argument("--resume", action="store_true", help="take samples under the new name at once")
+    rename_words.add_argument("old", help="the variable's name")
+    rename_words.add_argument("new", help="the one that it gets")
     each = [command(word, run_each) for word in ("status", "pause", "resume")]
     for found in (get_words, plot_words, watch_words, archive_words, command("details", run_details), *each):
         found.add_argument("pv", nargs="+", help="names of variables")

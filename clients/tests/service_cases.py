@@ -145,6 +145,45 @@ def management(_, service):
     refused(lambda: archappl.get(server, "M:A", "yesterday", ALL[1]), 400, "E31")
 
 
+def renamed(_, service):
+    """A variable gets a new name, keeps its samples, and goes on where that is wished; refusals leave it as it was."""
+    server, start = service.address, 1_704_067_200
+    environment = dict(os.environ, ARCHAPPL_SERVER=server)
+
+    def fed(name, *seconds):
+        samples = [((start + second) * SECOND, second) for second in seconds]
+        return archappl.send(server, [pb_stream.chunk(pb_stream.Header(5, name, 2024), samples)]).chunks
+
+    def moments(name):
+        return [int(t.astype("int64")) // SECOND - start for t in archappl.get(server, name, *ALL).times]
+
+    for name in ("N:A", "N:X"):
+        archappl.archive(server, name, "SCALAR_INT")
+    fed("N:A", 1, 5)
+    fed("N:X", 1, 7)
+    want("its own name", archappl.newest_name(server, "N:A"), "N:A")
+    refused(lambda: archappl.rename(server, "N:A", "N:B"), 409, "E32")
+    refused(lambda: archappl.renamed(server, "N:A", "N-A"), 409, "E19")
+    refused(lambda: archappl.renamed(server, "N:NO", "N:B"), 404, "E26")
+    refused(lambda: archappl.renamed(server, "N:A", "N:"), 400, "E31")
+    want("what was refused runs again", archappl.status(server, "N:A"), "Being archived")
+    want("a new name", run("archappl.py", "rename", "N:A", "N:B", environment=environment)[0], b"N:A N:B paused\n")
+    want("the states", [archappl.status(server, name) for name in ("N:A", "N:B")], ["Retired", "Paused"])
+    want("what is paused drops", fed("N:B", 9), [(0, 0, 1)])
+    want("another new name", run("archappl.py", "rename", "--resume", "N:B", "N:C", environment=environment)[0], b"N:B N:C resumed\n")
+    want("what came under the old name is late", fed("N:C", 5, 9), [(1, 0, 1)])
+    want("what comes under an old name is dropped", fed("N:A", 11), [(0, 0, 1)])
+    want("samples by name", [moments(name) for name in ("N:A", "N:B", "N:C")], [[1, 5], [1, 5], [1, 5, 9]])
+    want("the newest names", [archappl.newest_name(server, name) for name in ("N:A", "N:B", "N:C", "N:X")], ["N:C", "N:C", "N:C", "N:X"])
+    want("a name of no samples", archappl.archive(server, "N:E", "SCALAR_INT"), 4)
+    archappl.renamed(server, "N:E", "N:F")
+    want("what can't be told", archappl.newest_name(server, "N:E"), None)
+    archappl.archive(server, "N:Y", "SCALAR_INT")
+    fed("N:Y", 1, 5)
+    want("one of two that have the same", [archappl.newest_name(server, name) for name in ("N:A", "N:C")], [None, "N:C"])
+    want("silent ones", run("archappl.py", "silent", "N:A", "N:E", "N:F", environment=environment)[0], b"")
+
+
 def bad_feeds(_, service):
     """Feeds that are refused, with what was told before, and one whose source fails."""
     archappl.archive(service.address, "F:A", "SCALAR_INT")
@@ -372,6 +411,8 @@ def numbers_for_prometheus(_, service):
         if count:
             samples = [(moment - at * SECOND, at) for at in reversed(range(count))]
             archappl.send(service.address, [pb_stream.chunk(header, samples)])
+    archappl.archive(service.address, "E:NEW", "SCALAR_INT")
+    archappl.renamed(service.address, "E:NEW", "E:NEWER")
     damage(service, "E:BAD")
     log = service.folder / "log"
     at = "archappl: 2024-01-01T08:00:00Z "
@@ -398,6 +439,9 @@ def numbers_for_prometheus(_, service):
                 ('archappl_samples_durable_total{pv="E:B"}', 0),
                 ("archappl_all_samples_durable_total", 4),
                 ('archappl_variables{status="Being archived"}', 3),
+                ('archappl_variables{status="Paused"}', 1),
+                ('archappl_variables{status="Retired"}', 1),
+                ('archappl_samples_accepted_total{pv="E:NEWER"}', 0),
                 ('archappl_samples_durable_total{pv="E:BAD"}', 1),
                 ("archappl_unanswered", 1),
                 ("archappl_faults_total", 2),
@@ -475,6 +519,6 @@ def cases(program):
         case.__name__ = work.__name__
         return case
 
-    return [(over(work), 1) for work in (fed_and_got, long_answer, management, bad_feeds, bad_peers, progress,
+    return [(over(work), 1) for work in (fed_and_got, long_answer, management, renamed, bad_feeds, bad_peers, progress,
                                          continued, words, watched, silent, numbers_for_prometheus, units_drawn,
                                          units_fed)]
